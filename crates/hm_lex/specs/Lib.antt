@@ -1,0 +1,16 @@
+pub mod Bytes
+pub mod Runs
+pub mod Names
+pub mod Symbols
+pub mod Integers
+pub mod Comments
+pub mod Quotes
+pub mod Shapes
+pub mod Cut
+pub mod Texts
+pub mod Faults
+pub mod Next
+pub mod Nesting
+pub mod Scan
+pub mod Quoting
+pub mod Examples

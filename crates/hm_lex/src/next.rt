@@ -1,0 +1,37 @@
+//! The longest item at the front of a text.
+ghost use Rattle.std.specs.Prelude.{◌≡◌, ◌<◌, length};
+ghost use Rattle.hm_lex.specs.Next.{IsNext};
+
+use crate::byte_class::ByteClass;
+use crate::comments::special;
+use crate::integers::integer;
+use crate::item::Item;
+use crate::names::name;
+use crate::quotes::{character, string};
+use crate::symbols::symbols;
+
+/// What stands at the front of a text.
+#[derive(Clone, Copy, Debug, PartialEq, Eq)]
+pub enum Next {
+    /// An item of so many bytes.
+    Item(Item, usize),
+    OpenComment,
+    Nothing,
+}
+
+/// The longest item at the front of a text, which is not empty.
+pub fn next_item(bytes: &[u8]) -> Next
+    requires { 0 < length bytes.now }
+    ensures { IsNext bytes.now result }
+{
+    match ByteClass::of(bytes[0]) {
+        ByteClass::White => Next::Item(Item::White, 1),
+        ByteClass::Small | ByteClass::Capital => name(bytes),
+        ByteClass::Digit => integer(bytes),
+        ByteClass::Symbol => symbols(bytes),
+        ByteClass::Special => special(bytes),
+        ByteClass::Quote => character(bytes),
+        ByteClass::DoubleQuote => string(bytes),
+        ByteClass::Other => Next::Nothing,
+    }
+}
