@@ -1,0 +1,15 @@
+pub mod Parts
+pub mod Holds
+pub mod Rows
+pub mod Lists
+pub mod Words
+pub mod HeaderLaws
+pub mod ThinLaws
+pub mod ModuleLaws
+pub mod Whole
+pub mod Loops
+pub mod Texts
+pub mod Both
+pub mod TypeLaws
+pub mod OnlyTypes
+pub mod TypeLoops

@@ -1,0 +1,67 @@
+-- The loops and calls of the parser of types.
+use Rattle.std.proofs.Common.{◌≡◌, ◌+◌, ◌<◌, ◌≤◌, List, [], ◌∷◌, ◌++◌, length, true, Some, None, ap, arith}
+use Rattle.hm_parse.specs.Names.{Identifier}
+use Rattle.hm_parse.specs.Trees.{TypeTree}
+use Rattle.hm_parse.specs.declared.symbol.Symbol.TheVariants.{OpenSquare, Comma}
+use Rattle.hm_parse.specs.Tokens.{Terminal, name_of}
+use Rattle.hm_parse.specs.Reading.Basics.{peek, is_at, tail, name_at, loop, behind}
+use Rattle.hm_parse.specs.Reading.Types.{next_type, next_atype, btype_with, atypes_with, type_at}
+use Rattle.hm_parse.proofs.Rows.{falls, goes_on, ends, fails, starts}
+use Rattle.hm_parse.proofs.TypeLaws as types
+use Rattle.hm_parse.proofs.TypeLaws.{type_short, btype_short, type_agree}
+use Rattle.hm_parse.proofs.OnlyTypes.{type_steps, atype_steps}
+
+pub type_is : (ts : List Terminal) → type_at ts ≡ Rattle.hm_parse.specs.Reading.Types.type_step type_at ts
+type_is ts = types.type_is ts
+
+pub square_shorter : (ts : List Terminal) → peek ts ≡ OpenSquare → length (tail ts) < length ts
+square_shorter [] h = cc
+square_shorter (k ∷ ts) h = omega arith
+
+pub comma_shorter : (ts : List Terminal) → is_at Comma ts ≡ true → length (tail ts) < length ts
+comma_shorter [] h = cc
+comma_shorter (k ∷ ts) h = omega arith
+
+pub tail_length : (ts : List Terminal) → length (tail ts) ≤ length ts
+tail_length [] = omega arith
+tail_length (k ∷ ts) = omega arith
+
+pub name_shorter : (ts us : List Terminal) (n : Identifier) → name_at ts ≡ Some (n, us) → length us < length ts
+name_shorter [] us n h = cc
+name_shorter (k ∷ ts) us n h = let same : ◌≡◌ {A = Identifier × List Terminal} (n, us) (name_of k, ts) = cc in omega (arith, ap (λ x. length x.1) same)
+
+pub type_shorter : (ts us : List Terminal) (t : TypeTree) → type_at ts ≡ Some (t, us) → length us < length ts
+type_shorter ts us t e = type_short (((type_agree (length ts + 1)).reads ts (omega arith)).holds (t, us) e)
+
+pub btype_shorter : (ts us : List Terminal) (t : TypeTree) → btype_with type_at ts ≡ Some (t, us) → length us < length ts
+btype_shorter ts us t e = btype_short ((types.btype_found (length ts) type_at type_at (type_agree (length ts)) ts (omega arith)).holds (t, us) e)
+
+pub types_go_on : (xs : List TypeTree) (x : TypeTree) (ts us : List Terminal) → next_type type_at ts ≡ Some (Some x, us) → behind (xs ++ x ∷ []) (loop (next_type type_at) us) ≡ behind xs (loop (next_type type_at) ts)
+types_go_on xs x ts us e = goes_on type_steps xs x ts us e
+
+pub types_end : (xs : List TypeTree) (ts us : List Terminal) → next_type type_at ts ≡ Some (None, us) → behind xs (loop (next_type type_at) ts) ≡ Some (xs, us)
+types_end xs ts us e = ends type_steps xs ts us e
+
+pub types_fail : (xs : List TypeTree) (ts : List Terminal) → next_type type_at ts ≡ None → behind xs (loop (next_type type_at) ts) ≡ None
+types_fail xs ts e = fails type_steps xs ts e
+
+pub types_start : (ts : List Terminal) → behind [] (loop (next_type type_at) ts) ≡ loop (next_type type_at) ts
+types_start ts = starts (loop (next_type type_at) ts)
+
+pub types_shorter : (ts us : List Terminal) (x : TypeTree) → next_type type_at ts ≡ Some (Some x, us) → length us < length ts
+types_shorter ts us x e = falls type_steps ts us x e
+
+pub atypes_go_on : (xs : List TypeTree) (x : TypeTree) (ts us : List Terminal) → next_atype type_at ts ≡ Some (Some x, us) → behind (xs ++ x ∷ []) (loop (next_atype type_at) us) ≡ behind xs (loop (next_atype type_at) ts)
+atypes_go_on xs x ts us e = goes_on atype_steps xs x ts us e
+
+pub atypes_end : (xs : List TypeTree) (ts us : List Terminal) → next_atype type_at ts ≡ Some (None, us) → behind xs (loop (next_atype type_at) ts) ≡ Some (xs, us)
+atypes_end xs ts us e = ends atype_steps xs ts us e
+
+pub atypes_fail : (xs : List TypeTree) (ts : List Terminal) → next_atype type_at ts ≡ None → behind xs (loop (next_atype type_at) ts) ≡ None
+atypes_fail xs ts e = fails atype_steps xs ts e
+
+pub atypes_start : (ts : List Terminal) → behind [] (loop (next_atype type_at) ts) ≡ loop (next_atype type_at) ts
+atypes_start ts = starts (loop (next_atype type_at) ts)
+
+pub atypes_shorter : (ts us : List Terminal) (x : TypeTree) → next_atype type_at ts ≡ Some (Some x, us) → length us < length ts
+atypes_shorter ts us x e = falls atype_steps ts us x e
