@@ -1,0 +1,14 @@
+use Rattle.std.proofs.Common.{◌≡◌, take}
+use Rattle.hm_types.specs.Monotypes.{size, arguments_of}
+use Rattle.hm_types.specs.Shape.{type_of, types_of}
+use Rattle.hm_types.specs.Schemes.{variables_after, variables_after_all}
+use Rattle.hm_types.proofs.numbering.+collect.Given as goal
+
+abbrev pub decreases-collect : goal.decreases-collect
+decreases-collect l = size (type_of l.t.now)
+
+abbrev pub invariant-loop-argument : goal.invariant-loop-argument
+invariant-loop-argument l = record {
+  whole : variables_after l.initial.seen.items (type_of l.t) ≡ variables_after_all l.initial.seen.items (arguments_of (types_of l.argument-items));
+  done : l.seen.items ≡ variables_after_all l.initial.seen.items (arguments_of (take l.argument-index (types_of l.argument-items)));
+}

@@ -1,0 +1,9 @@
+pub mod Types
+pub mod Monotypes
+pub mod Shape
+pub mod Falls
+pub mod Substitution
+pub mod Schemes
+pub mod Matching
+pub mod Texts
+pub mod Laws

@@ -1,0 +1,160 @@
+//! The texts of types and schemes.
+
+ghost use Rattle.std.specs.Prelude.{◌≡◌, ◌++◌, IfOk, OnOk, string_bytes};
+ghost use Rattle.hm_types.specs.Monotypes.{arguments_of};
+ghost use Rattle.hm_types.specs.Types.{App as app};
+ghost use Rattle.hm_types.specs.Shape.{type_of, types_of};
+ghost use Rattle.hm_types.specs.Texts.{applied_bracketed, entity_text, function_bracketed, parted_text, rest_text, scheme_text_of, type_text, variable_text};
+
+use crate::{Entity, Head, Scheme, Ty};
+use std::alloc::{AllocError, Global};
+
+/// The text of a scheme.
+pub fn scheme_text(alloc: Global, scheme: &Scheme) -> Result<String, AllocError>
+    ensures { IfOk result (λ text. string_bytes text ≡ scheme_text_of scheme.now) }
+{
+    let mut out = String::new(alloc);
+    write_type(alloc, &mut out, scheme.body(), Position::Whole)?;
+    Ok(out)
+}
+
+/// Where a type stands in a text.
+#[derive(Clone, Copy)]
+enum Position {
+    Whole,
+    Left,
+    Argument,
+}
+
+impl Position {
+    fn brackets_function(self) -> bool
+        ensures { result ≡ function_bracketed self }
+    {
+        !matches!(self, Position::Whole)
+    }
+
+    fn brackets_applied(self) -> bool
+        ensures { result ≡ applied_bracketed self }
+    {
+        matches!(self, Position::Argument)
+    }
+}
+
+fn write_variable(alloc: Global, out: &mut String, n: usize) -> Result<(), AllocError>
+    ensures { OnOk result (string_bytes out.new ≡ string_bytes out.old ++ variable_text n) }
+{
+    out.push((b'a' + (n % 26) as u8) as char)?;
+    if n >= 26 {
+        let number = format!(in alloc; "{}", n / 26)?;
+        out.push_str(number.as_str())?;
+    }
+    Ok(())
+}
+
+fn write_entity(out: &mut String, entity: &Entity) -> Result<(), AllocError>
+    ensures { OnOk result (string_bytes out.new ≡ string_bytes out.old ++ entity_text entity.now) }
+{
+    if entity.module.is_prelude() {
+        entity.name.push_to(out)?;
+        return Ok(());
+    }
+    entity.module.push_to(out)?;
+    out.push_str(".")?;
+    entity.name.push_to(out)?;
+    Ok(())
+}
+
+#[cycle(text)]
+fn write_type(alloc: Global, out: &mut String, t: &Ty, position: Position) -> Result<(), AllocError>
+    ensures { OnOk result (string_bytes out.new ≡ string_bytes out.old ++ type_text position (type_of t.now)) }
+{
+    match t {
+        Ty::Var(n) => write_variable(alloc, out, *n)?,
+        Ty::Rigid(n) => write_variable(alloc, out, *n)?,
+        Ty::App(head, arguments) => {
+            write_applied(alloc, out, head, arguments.as_slice(), position)?
+        }
+    }
+    Ok(())
+}
+
+#[cycle(text)]
+fn write_applied(
+    alloc: Global,
+    out: &mut String,
+    head: &Head,
+    arguments: &[Ty],
+    position: Position,
+) -> Result<(), AllocError>
+    ensures { OnOk result (string_bytes out.new ≡ string_bytes out.old ++ type_text position (app head.now (arguments_of (types_of arguments.now)))) }
+{
+    match head {
+        Head::Arrow => {
+            if position.brackets_function() {
+                out.push_str("(")?;
+                write_parted(alloc, out, arguments, Position::Left, " -> ")?;
+                out.push_str(")")?;
+            } else {
+                write_parted(alloc, out, arguments, Position::Left, " -> ")?;
+            }
+        }
+        Head::List => {
+            out.push_str("[")?;
+            write_parted(alloc, out, arguments, Position::Whole, ", ")?;
+            out.push_str("]")?;
+        }
+        Head::Unit => out.push_str("()")?,
+        Head::Tuple(_) => {
+            out.push_str("(")?;
+            write_parted(alloc, out, arguments, Position::Whole, ", ")?;
+            out.push_str(")")?;
+        }
+        Head::Named(entity) => {
+            if position.brackets_applied() && !arguments.is_empty() {
+                out.push_str("(")?;
+                write_entity(out, entity)?;
+                write_rest(alloc, out, arguments, Position::Argument, " ")?;
+                out.push_str(")")?;
+            } else {
+                write_entity(out, entity)?;
+                write_rest(alloc, out, arguments, Position::Argument, " ")?;
+            }
+        }
+    }
+    Ok(())
+}
+
+#[cycle(text)]
+fn write_parted(
+    alloc: Global,
+    out: &mut String,
+    types: &[Ty],
+    position: Position,
+    between: &str,
+) -> Result<(), AllocError>
+    ensures { OnOk result (string_bytes out.new ≡ string_bytes out.old ++ parted_text position between.now (arguments_of (types_of types.now))) }
+{
+    if types.is_empty() {
+        return Ok(());
+    }
+    write_type(alloc, out, &types[0], position)?;
+    write_rest(alloc, out, &types[1..], Position::Whole, between)?;
+    Ok(())
+}
+
+#[cycle(text)]
+fn write_rest(
+    alloc: Global,
+    out: &mut String,
+    types: &[Ty],
+    position: Position,
+    between: &str,
+) -> Result<(), AllocError>
+    ensures { OnOk result (string_bytes out.new ≡ string_bytes out.old ++ rest_text position between.now (arguments_of (types_of types.now))) }
+{
+    for t in types {
+        out.push_str(between)?;
+        write_type(alloc, out, t, position)?;
+    }
+    Ok(())
+}
