@@ -1,4 +1,6 @@
 //! The trees of modules. Parentheses leave no trace in them. Contracts see a tree as a value of a family of `specs/Trees`.
+ghost use Rattle.std.specs.Prelude.{◌≡◌};
+
 use hm_lex::Place;
 use std::marker::Model;
 
@@ -377,4 +379,22 @@ pub enum List {
 pub enum Item {
     Var(Name),
     Con(Name, Subs),
+}
+
+impl Name {
+    /// The text, without its qualifier.
+    pub fn as_str(&self) -> &str
+        ensures { result.now ≡ self.now.text }
+    {
+        self.text.as_str()
+    }
+}
+
+impl<T> Row<T> {
+    /// The elements in order.
+    pub fn as_slice(&self) -> &[T]
+        ensures { result.now ≡ self.now }
+    {
+        self.items.as_slice()
+    }
 }

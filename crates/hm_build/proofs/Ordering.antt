@@ -1,0 +1,76 @@
+-- Lists in order under a view of their elements.
+use Rattle.std.proofs.Common.{◌≡◌, ℕ, ◌+◌, ◌<◌, Bool, List, [], ◌∷◌, ◌++◌, Some, length, map, take, get_or, string_bytes, slice_get, arith, sym, ap, subst, ◌∙◌, inl, inr}
+use Rattle.std.proofs.lemmas.List.{get_or-map, length-map, map-append, take_more, length-append, get_or_append_left, get_or_at}
+use Rattle.std.proofs.lemmas.Bool.{cases_lt}
+use Rattle.std.specs.List.Sorted.{IsSortedBy}
+use Rattle.hm_parse.specs.declared.ast.Header.{Header}
+use Rattle.hm_graph.specs.Outline.{outline, outlines}
+use Rattle.hm_parse.specs.declared.ast.Import.{Import}
+use Rattle.hm_graph.specs.Closure.{one, more}
+use Rattle.hm_graph.specs.Imports.{Modules, ImportReaches, IsImportPlan, imports_at, name_at}
+use Rattle.hm_graph.specs.Refusal.{IsFirstInCycle}
+use Rattle.hm_build.specs.Names.{import_at}
+use Rattle.std.specs.Prelude.{All}
+use Rattle.std.proofs.lemmas.List.Elements.{All-from_get_or, Contains-get_or}
+use Rattle.std.proofs.lemmas.Option.{get_or_from_slice_get, slice_get-get_or, slice_get-map}
+use Rattle.std.specs.Prelude.{option_map}
+
+pub sorted_map : {X Y : Type 0} (f : X → Y) (lt : Y → Y → Bool) (xs : List X) → IsSortedBy (λ x y. lt (f x) (f y)) xs → IsSortedBy lt (map f xs)
+sorted_map f lt [] h k d low high = absurd (omega arith)
+sorted_map f lt (x ∷ xs) h k d low high =
+    let within : k + 1 < length (x ∷ xs) = omega (arith, length-map (x ∷ xs) f) in
+    rw (get_or-map f (x ∷ xs) (k + 1) x d within, get_or-map f (x ∷ xs) k x d (omega arith)) (h k x low within)
+
+-- a header's name by its place
+pub name_at_map : (hs : List Header) (j : ℕ) (d : Header) → j < length hs → name_at (outlines hs) j ≡ (get_or hs j d).name.text
+name_at_map hs j d h = ap (λ o. o.name) (get_or-map outline hs j d (record { name = []; imports = [] }) h)
+
+-- what hm_graph calls the imports of a module, by its place
+imports_at_map : (hs : List Header) (m : ℕ) (d : Header) → m < length hs → imports_at (outlines hs) m ≡ map (λ i. i.name.text) (get_or hs m d).imports
+imports_at_map hs m d h = ap (λ o. o.imports) (get_or-map outline hs m d (record { name = []; imports = [] }) h)
+
+pub import_within : (hs : List Header) (m i : ℕ) (d : Header) → m < length hs → i < length (imports_at (outlines hs) m) → i < length (get_or hs m d).imports
+import_within hs m i d h within = omega (arith, within, ap length (imports_at_map hs m d h), length-map (get_or hs m d).imports (λ j. j.name.text))
+
+pub import_at_map : (hs : List Header) (m i : ℕ) (d : Header) (e : Import) → m < length hs → i < length (get_or hs m d).imports → import_at (outlines hs) m i ≡ (get_or (get_or hs m d).imports i e).name.text
+import_at_map hs m i d e h within = ap (λ l. get_or l i []) (imports_at_map hs m d h) ∙ get_or-map (λ j. j.name.text) (get_or hs m d).imports i e [] within
+
+pub outlines_below : (hs : List Header) (m : ℕ) → m < length (outlines hs) → m < length hs
+outlines_below hs m h = omega (arith, h, length-map hs outline)
+
+reached_below : (modules : Modules) (a b : ℕ) → ImportReaches modules a b → b < length modules
+reached_below modules a b (one step) = step.0
+reached_below modules a b (more steps step) = step.0
+
+pub cycle_below : (hs : List Header) (m : ℕ) → IsFirstInCycle (outlines hs) m → m < length hs
+cycle_below hs m h = outlines_below hs m (reached_below (outlines hs) m m h.cycle)
+
+-- the numbers in a row of a plan are those of modules
+pub row_within : (hs : List Header) (plan : List (List ℕ)) (m : ℕ) (row : List ℕ) → IsImportPlan (outlines hs) plan → m < length hs → row ≡ get_or plan m [] → All (λ i. i < length hs) row
+row_within hs plan m row p below same =
+    let here : m < length (outlines hs) = omega (arith, below, length-map hs outline) in
+    subst (λ r. All (λ i. i < length hs) r) (sym same)
+    (All-from_get_or (λ i. i < length hs) (get_or plan m []) 0
+    (λ k within. outlines_below hs (get_or (get_or plan m []) k 0) (((p.each m here).members (get_or (get_or plan m []) k 0)).0 (Contains-get_or (get_or plan m []) k 0 within)).0))
+
+-- one more name
+pub names_more : {X : Type 0} (view : X → List ℕ) (f : ℕ → List ℕ) (xs new : List X) (x : X) (row : List ℕ) (i : ℕ) → i < length row → new ≡ xs ++ x ∷ []
+    → map view xs ≡ map f (take i row) → view x ≡ f (get_or row i 0) → map view new ≡ map f (take (i + 1) row)
+names_more view f xs new x row i within pushed before here =
+    let front : map view xs ++ view x ∷ [] ≡ map f (take i row) ++ f (get_or row i 0) ∷ [] = cc in
+    ap (map view) pushed ∙ map-append view xs (x ∷ []) ∙ front ∙ sym (ap (map f) (take_more row i 0 within) ∙ map-append f (take i row) (get_or row i 0 ∷ []))
+
+-- one more block
+pub each_more : {X B : Type 0} (f : X → B) (P : ℕ → B → Type 0) (xs new : List X) (x : X) (m : ℕ) → new ≡ xs ++ x ∷ [] → length (map f xs) ≡ m
+    → ((k : ℕ) (d : B) → k < length (map f xs) → P k (get_or (map f xs) k d)) → P m (f x)
+    → (length (map f new) ≡ m + 1) × ((k : ℕ) (d : B) → k < length (map f new) → P k (get_or (map f new) k d))
+each_more {X} {B} f P xs new x m pushed long before here =
+    let mapped : map f new ≡ map f xs ++ f x ∷ [] = ap (map f) pushed ∙ map-append f xs (x ∷ []) in
+    let count : length (map f xs ++ f x ∷ []) ≡ m + 1 = length-append (map f xs) (f x ∷ []) ∙ omega arith in
+    let each : (k : ℕ) (d : B) → k < length (map f xs ++ f x ∷ []) → P k (get_or (map f xs ++ f x ∷ []) k d) =
+    λ k d h. elim (cases_lt k m) [
+      | inl low ↦ subst (P k) (sym (get_or_append_left (map f xs) (f x ∷ []) d k (omega arith))) (before k d (omega arith))
+      | inr high ↦ let same : k ≡ m = omega arith in
+          subst (λ j. P j (get_or (map f xs ++ f x ∷ []) j d)) (sym same) (subst (P m) (sym (get_or_at (map f xs) (f x) [] d m long)) here)
+    ] in
+    (ap length mapped ∙ count, λ k d h. subst (λ l. P k (get_or l k d)) (sym mapped) (each k d (subst (λ l. k < length l) mapped h)))
