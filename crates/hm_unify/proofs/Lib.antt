@@ -1,0 +1,4 @@
+pub mod Unifiers
+pub mod WellFormed
+pub mod Work
+pub mod Loop
