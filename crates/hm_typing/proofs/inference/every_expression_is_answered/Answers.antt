@@ -1,0 +1,10 @@
+use Rattle.hm_typing.proofs.Ordering.{layout}
+use Rattle.hm_typing.specs.Laws.{EveryExpressionIsAnswered}
+use Rattle.hm_typing.proofs.Principal.{check_expression}
+use Rattle.hm_typing.proofs.inference.every_expression_is_answered.Goals as goal
+
+proof : EveryExpressionIsAnswered
+proof solve e A t n E b c d = check_expression solve layout e A t n E b c d
+
+pub returns : goal.returns
+returns c = proof

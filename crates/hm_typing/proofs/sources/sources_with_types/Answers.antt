@@ -1,0 +1,12 @@
+use Rattle.hm_typing.proofs.WorkedSources.{polymorphic_let_typed, narrow_signature_typed, through_signature_typed, mutual_recursion_typed, partly_polymorphic_typed}
+use Rattle.hm_typing.proofs.sources.sources_with_types.Goals as goal
+
+pub returns : goal.returns
+returns c = record {
+  polymorphic_let = polymorphic_let_typed;
+  narrow_signature = narrow_signature_typed;
+  through_signature = through_signature_typed;
+  mutual_recursion_first = mutual_recursion_typed.0;
+  mutual_recursion_second = mutual_recursion_typed.1;
+  partly_polymorphic = partly_polymorphic_typed;
+}

@@ -1,0 +1,141 @@
+-- The laws that the crate's functions prove, as statements.
+use Rattle.std.specs.Prelude.{◌≡◌, ℕ, List, [], Bool, true, ◌⊎◌, ◌↔◌, ◌<◌, ◌+◌}
+use Rattle.hm_types.specs.Types.{In, put}
+use Rattle.hm_typing.specs.Names.{Identifier, IsOneOf, IsDistinct}
+use Rattle.hm_typing.specs.Schemes.{Monotype, Scheme, Free, closed, scheme_put}
+use Rattle.hm_typing.specs.Assumptions.{Assumptions, FreeIn, IsClosed, assumptions_put, AreAtMostAsGeneral}
+use Rattle.hm_typing.specs.Generalisation.{quantify, quantify_but, KeepsEnough}
+use Rattle.hm_typing.specs.Syntax.{Expression, Bindings, names}
+use Rattle.hm_typing.specs.Typing.{HasType}
+use Rattle.hm_typing.specs.BindingLists.{HasSchemes, HasPrincipalSchemes}
+use Rattle.hm_typing.specs.Assignments.{Module, Assignment, outer, IsPrincipal}
+use Rattle.hm_typing.specs.Verdicts.{AreTypeFaults, Verdict, Good, Faulty, IsVerdict, InClosure, IsImportedBy, IsGood, IsFaulty, IsLawful}
+use Rattle.hm_typing.specs.SecondForm.{Derives}
+use Rattle.hm_typing.specs.Problems.{Fact, Unifies, IsBelow, FactsBelow, MostGeneralUnifier, Solved, Answer}
+use Rattle.hm_typing.specs.Orders.{Layout, UnitHas, AreGroups, AreTestsOf}
+
+-- What some laws are handed: unification
+
+abbrev pub Unification : Type 0
+Unification = (E : List Fact) → MostGeneralUnifier E ⊎ ((r : ℕ → Monotype) → Unifies r E → ⊥)
+
+-- Typing
+
+-- typing survives more general assumptions
+abbrev pub Survives : Type 0
+Survives = (e : Expression) (A A' : Assumptions) (t : Monotype) → AreAtMostAsGeneral A A' → HasType A e t → HasType A' e t
+
+-- and substitutions
+abbrev pub Substitutes : Type 0
+Substitutes = (e : Expression) (r : ℕ → Monotype) (A : Assumptions) (t : Monotype) → HasType A e t → HasType (assumptions_put r A) e (put r t)
+
+-- the two forms agree
+abbrev pub FormsAgree : Type 0
+FormsAgree = (e : Expression) (A : Assumptions) (t : Monotype) → HasType A e t ↔ Derives A e t
+
+-- Inference
+
+-- every expression has an answer under every unification problem
+abbrev pub EveryExpressionIsAnswered : Type 0
+EveryExpressionIsAnswered =
+    Unification → (e : Expression) (A : Assumptions) (t : Monotype) (n : ℕ) (E : List Fact) →
+    ((a : ℕ) → FreeIn a A → a < n) → IsBelow n t → FactsBelow n E → Answer (λ r. HasType (assumptions_put r A) e (put r t)) n E
+
+-- a list under closed assumptions has principal schemes, or none
+abbrev pub PrincipalOrNone : Type 0
+PrincipalOrNone =
+    Unification → (ds : Bindings) (A : Assumptions) → IsClosed A →
+    ((B : Identifier → Scheme) × HasPrincipalSchemes A ds B) ⊎ ((B : Identifier → Scheme) → ¬ (HasSchemes A ds B))
+
+-- generalisation over any set of variables that has those free in the assumptions after solving, and only such as stand in the outer problem, gives the same scheme: of an expression
+abbrev pub ExpressionsGeneraliseAlike : Type 0
+ExpressionsGeneraliseAlike =
+    (e : Expression) (A : Assumptions) (n : ℕ) (E : List Fact) (n1 : ℕ) (E1 : List Fact) (kept : ℕ → Bool) →
+    ((a : ℕ) → FreeIn a A → a < n) → FactsBelow n E → Solved (λ r. HasType (assumptions_put r A) e (r n)) (n + 1) E n1 E1 →
+    (m : MostGeneralUnifier E1) → KeepsEnough A n m.map kept → quantify_but kept (m.map n) ≡ quantify (assumptions_put m.map A) (m.map n)
+
+-- and of the names of a unit, whose types are the variables from n on
+abbrev pub UnitsGeneraliseAlike : Type 0
+UnitsGeneraliseAlike =
+    (g : Identifier → Bool) (xs : List Identifier) (A : Assumptions) (B : Identifier → Scheme) (ds : Bindings) (place : Identifier → ℕ) (n k : ℕ) (E : List Fact) (n1 : ℕ) (E1 : List Fact) (kept : ℕ → Bool) →
+    ((a : ℕ) → FreeIn a A → a < n) → ((y : Identifier) (a : ℕ) → In (Free a) (B y) → a < n) → FactsBelow n E →
+    Solved (λ r. UnitHas g xs (assumptions_put r A) (λ y. scheme_put r (B y)) (λ y. r (n + place y)) ds) (n + k) E n1 E1 →
+    (m : MostGeneralUnifier E1) → ((y : Identifier) (a : ℕ) → In (Free a) (scheme_put m.map (B y)) → FreeIn a (assumptions_put m.map A)) → KeepsEnough A n m.map kept →
+    (y : Identifier) → place y < k → quantify_but kept (m.map (n + place y)) ≡ quantify (assumptions_put m.map A) (m.map (n + place y))
+
+-- The order of units
+
+-- the groups of mutual reach, in an order in which each comes after all others that it reaches, are an order of a list's units
+abbrev pub GroupsGiveOrder : Type 0
+GroupsGiveOrder = (ds : Bindings) → IsDistinct (names ds) → (gs : List (List Identifier)) → AreGroups ds gs → (order : Layout ds) × AreTestsOf order.groups gs
+
+-- each list has them
+abbrev pub HasGroups : Type 0
+HasGroups = (ds : Bindings) → (gs : List (List Identifier)) × AreGroups ds gs
+
+-- Verdicts of a list
+
+-- the type faults of a list are found
+abbrev pub FaultsAreFound : Type 0
+FaultsAreFound = Unification → (ds : Bindings) (A : Assumptions) → IsDistinct (names ds) → IsClosed A → (xs : List Identifier) × AreTypeFaults A ds xs
+
+-- a list has no type faults exactly where it is typed
+abbrev pub TypedWithoutFaults : Type 0
+TypedWithoutFaults = Unification → (ds : Bindings) (A : Assumptions) → IsDistinct (names ds) → IsClosed A → AreTypeFaults A ds [] ↔ ((B : Identifier → Scheme) × HasSchemes A ds B)
+
+-- a list is good or faulty
+abbrev pub HasVerdict : Type 0
+HasVerdict = Unification → (ds : Bindings) (A : Assumptions) → IsDistinct (names ds) → IsClosed A → (v : Verdict) × IsVerdict A ds v
+
+-- and not both
+abbrev pub HasOneVerdict : Type 0
+HasOneVerdict = Unification → (ds : Bindings) (A : Assumptions) → IsDistinct (names ds) → IsClosed A → (B : Identifier → Scheme) (xs : List Identifier) → IsVerdict A ds (Good B) → ¬ (IsVerdict A ds (Faulty xs))
+
+-- Modules
+
+-- principal assignments compose over the import order
+abbrev pub Composes : Type 0
+Composes =
+    (set : ℕ → Module) (M : ℕ → Bool) (prelude : List Identifier) (table : Assignment) (rank : ℕ → ℕ) (S : Assignment) →
+    ((i : ℕ) (x : Identifier) → M i ≡ true → IsOneOf x (set i).scope → IsOneOf x prelude ⊎ ((j : ℕ) × (M j ≡ true) × (rank j < rank i) × IsOneOf x (names (set j).bindings))) →
+    ((x : Identifier) → IsOneOf x prelude → S x ≡ table x) → ((i : ℕ) → M i ≡ true → HasPrincipalSchemes (outer (set i) S) (set i).bindings (λ x. closed (S x))) → IsPrincipal set (λ i. M i ≡ true) prelude table S
+
+-- where its list has principal schemes under the principal assignment of what it imports, a module's closure has a principal assignment, which gives its names these schemes
+abbrev pub Extends : Type 0
+Extends =
+    (set : ℕ → Module) (prelude : List Identifier) (table : Assignment) (i : ℕ) (S : Assignment) (B : Identifier → Scheme) →
+    IsLawful set prelude → IsPrincipal set (IsImportedBy set i) prelude table S → HasPrincipalSchemes (outer (set i) S) (set i).bindings B →
+    (S' : Assignment) × IsPrincipal set (InClosure set i) prelude table S' × ((x : Identifier) → IsOneOf x (names (set i).bindings) → B x ≡ closed (S' x)) × ((x : Identifier) → ¬ (IsOneOf x (names (set i).bindings)) → S' x ≡ S x)
+
+-- Verdicts in a set
+
+-- all imports of a module are good
+abbrev pub ImportsAreGood : (ℕ → Module) → (ℕ → Bool) → List Identifier → Assignment → ℕ → Type 0
+ImportsAreGood set well prelude table i = (j : ℕ) → IsOneOf j (set i).imports → IsGood set (λ k. well k ≡ true) prelude table j
+
+-- a module is good exactly when it is well-formed, its imports are good, and its own list is typed under their principal assignment
+abbrev pub GoodWhereTyped : Type 0
+GoodWhereTyped =
+    (set : ℕ → Module) (prelude : List Identifier) (well : ℕ → Bool) (table : Assignment) (i : ℕ) (S : Assignment) →
+    IsLawful set prelude → IsPrincipal set (IsImportedBy set i) prelude table S →
+    IsGood set (λ k. well k ≡ true) prelude table i ↔ ((well i ≡ true) × ImportsAreGood set well prelude table i × ((B : Identifier → Scheme) × HasSchemes (outer (set i) S) (set i).bindings B))
+
+-- it is faulty exactly when it is well-formed, its imports are good, and its own list has type faults under their principal assignment, whichever that is
+abbrev pub FaultyWhereFaults : Type 0
+FaultyWhereFaults =
+    (set : ℕ → Module) (prelude : List Identifier) (well : ℕ → Bool) (table : Assignment) (i : ℕ) (S : Assignment) (xs : List Identifier) →
+    IsLawful set prelude → IsDistinct (names (set i).bindings) → IsPrincipal set (IsImportedBy set i) prelude table S →
+    IsFaulty set (λ k. well k ≡ true) prelude table i xs ↔ (ImportsAreGood set well prelude table i × (well i ≡ true) × IsVerdict (outer (set i) S) (set i).bindings (Faulty xs))
+
+-- a well-formed module whose imports are good is good or faulty
+abbrev pub GoodOrFaulty : Type 0
+GoodOrFaulty =
+    Unification → (set : ℕ → Module) (prelude : List Identifier) (well : ℕ → Bool) (table : Assignment) (i : ℕ) (S : Assignment) →
+    IsLawful set prelude → IsDistinct (names (set i).bindings) → IsPrincipal set (IsImportedBy set i) prelude table S → (well i ≡ true) → ImportsAreGood set well prelude table i →
+    IsGood set (λ k. well k ≡ true) prelude table i ⊎ ((xs : List Identifier) × IsFaulty set (λ k. well k ≡ true) prelude table i xs)
+
+-- and not both
+abbrev pub NotGoodAndFaulty : Type 0
+NotGoodAndFaulty =
+    Unification → (set : ℕ → Module) (prelude : List Identifier) (well : ℕ → Bool) (table : Assignment) (i : ℕ) (xs : List Identifier) →
+    IsLawful set prelude → IsDistinct (names (set i).bindings) → IsGood set (λ k. well k ≡ true) prelude table i → ¬ (IsFaulty set (λ k. well k ≡ true) prelude table i xs)

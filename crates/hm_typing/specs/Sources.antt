@@ -1,0 +1,146 @@
+-- Worked sources, as trees, and what is said of them.
+use Rattle.hm_types.specs.declared.Head.TheVariants as head
+use Rattle.std.specs.Prelude.{codes}
+use Rattle.hm_types.specs.Types.{Var, App, done, more}
+use Rattle.hm_typing.specs.Names.{Identifier, local}
+use Rattle.hm_typing.specs.Schemes.{Monotype, Scheme, arrow, monomorphic, closed, IsAtMostAsGeneral}
+use Rattle.hm_typing.specs.Assumptions.{Assumptions, empty, bind, bind_all}
+use Rattle.hm_typing.specs.Syntax.{Integer, Character, VariablePattern, no_pattern, pattern, Expression, Variable, Literal, Apply, Lambda, Let, Tuple, no_expression, expression, Clauses, no_clause, clause, no_right_side, plain, Bindings, no_binding, unsigned, signed, literal_type, names}
+use Rattle.hm_typing.specs.Typing.{HasType, HasClauses}
+use Rattle.hm_typing.specs.BindingLists.{HasSchemes}
+
+-- names: here every name is a local one
+abbrev pub f : Identifier
+f = local (codes "f")
+
+abbrev pub g : Identifier
+g = local (codes "g")
+
+abbrev pub x : Identifier
+x = local (codes "x")
+
+abbrev pub y : Identifier
+y = local (codes "y")
+
+abbrev pub const : Identifier
+const = local (codes "const")
+
+abbrev pub as_type_of : Identifier
+as_type_of = local (codes "asTypeOf")
+
+-- types
+abbrev pub int : Monotype
+int = literal_type Integer
+
+abbrev pub char : Monotype
+char = literal_type Character
+
+abbrev pub pair_type : Monotype → Monotype → Monotype
+pair_type t u = App (head.Tuple 2) (more t (more u done))
+
+-- a -> a, a -> b, a -> a -> a, a -> b -> a
+abbrev pub identity : Monotype
+identity = arrow (Var 0) (Var 0)
+
+abbrev pub anything : Monotype
+anything = arrow (Var 0) (Var 1)
+
+abbrev pub same_type : Monotype
+same_type = arrow (Var 0) (arrow (Var 0) (Var 0))
+
+abbrev pub first_of_two : Monotype
+first_of_two = arrow (Var 0) (arrow (Var 1) (Var 0))
+
+-- a -> ((a, Int), (a, Char))
+abbrev pub partly_type : Monotype
+partly_type = arrow (Var 0) (pair_type (pair_type (Var 0) int) (pair_type (Var 0) char))
+
+-- .. v = e
+abbrev pub maps : Identifier → Expression → Clauses
+maps v e = clause (pattern (VariablePattern v) no_pattern) (plain e no_right_side) no_binding no_clause
+
+abbrev pub pair : Expression → Expression → Expression
+pair a b = Tuple (expression a (expression b no_expression))
+
+-- (h 1, h 'c')
+abbrev pub used_twice : Identifier → Expression
+used_twice h = pair (Apply (Variable h) (Literal Integer)) (Apply (Variable h) (Literal Character))
+
+-- Expressions
+
+-- let { g x = x } in (g 1, g 'c')
+abbrev pub polymorphic_let : Expression
+polymorphic_let = Let (unsigned g (maps x (Variable x)) no_binding) (used_twice g)
+
+-- \g -> (g 1, g 'c')
+abbrev pub polymorphic_lambda : Expression
+polymorphic_lambda = Lambda (pattern (VariablePattern g) no_pattern) (used_twice g)
+
+-- g 'c'
+abbrev pub misuse : Expression
+misuse = Apply (Variable g) (Literal Character)
+
+-- Lists
+
+-- f x = x x
+abbrev pub self_application : Bindings
+self_application = unsigned f (maps x (Apply (Variable x) (Variable x))) no_binding
+
+-- f x = g x ; g :: a -> a ; g x = const x (f 1, f 'c')
+abbrev pub through_signature : Bindings
+through_signature = unsigned f (maps x (Apply (Variable g) (Variable x))) (signed g identity (maps x (Apply (Apply (Variable const) (Variable x)) (used_twice f))) no_binding)
+
+-- f x = g x ; g y = f y
+abbrev pub mutual_recursion : Bindings
+mutual_recursion = unsigned f (maps x (Apply (Variable g) (Variable x))) (unsigned g (maps y (Apply (Variable f) (Variable y))) no_binding)
+
+-- f x = let { g y = (x, y) } in (g 1, g 'c')
+abbrev pub partly_polymorphic : Bindings
+partly_polymorphic = unsigned f (maps x (Let (unsigned g (maps y (pair (Variable x) (Variable y))) no_binding) (used_twice g))) no_binding
+
+-- g :: Int -> Int ; g x = x
+abbrev pub narrow_signature : Bindings
+narrow_signature = signed g (arrow int int) (maps x (Variable x)) no_binding
+
+-- f :: a -> b ; f x = x
+abbrev pub too_general_signature : Bindings
+too_general_signature = signed f anything (maps x (Variable x)) no_binding
+
+-- f x = let { g :: a -> a ; g y = asTypeOf y x } in g
+abbrev pub escaping_signature : Bindings
+escaping_signature = unsigned f (maps x (Let (signed g identity (maps y (Apply (Apply (Variable as_type_of) (Variable y)) (Variable x))) no_binding) (Variable g))) no_binding
+
+-- What is said of them
+
+-- under A some schemes type the list, that of v being at least as general as σ
+abbrev pub IsTypedWith : Assumptions → Bindings → Identifier → Scheme → Type 0
+IsTypedWith A ds v σ = (B : Identifier → Scheme) × HasSchemes A ds B × IsAtMostAsGeneral σ (B v)
+
+abbrev pub IsTyped : Assumptions → Expression → Monotype → Type 0
+IsTyped A e t = HasType A e t
+
+abbrev pub HasNoType : Assumptions → Expression → Type 0
+HasNoType A e = (t : Monotype) → ¬ (HasType A e t)
+
+abbrev pub HasNoSchemes : Assumptions → Bindings → Type 0
+HasNoSchemes A ds = (B : Identifier → Scheme) → ¬ (HasSchemes A ds B)
+
+-- the bindings of D have their types where every name of the list is known by its type alone
+abbrev pub AreInOneGroup : Assumptions → (Identifier → Monotype) → Bindings → Type 0
+AreInOneGroup C ts no_binding = Unit {0}
+AreInOneGroup C ts (unsigned v cs D) = HasClauses C cs (ts v) × AreInOneGroup C ts D
+AreInOneGroup C ts (signed v s cs D) = HasClauses C cs (ts v) × AreInOneGroup C ts D
+
+-- the whole list as one group: no types, one for each name, do
+abbrev pub HasNoTypesAsOneGroup : Assumptions → Bindings → Type 0
+HasNoTypesAsOneGroup A ds = (ts : Identifier → Monotype) → ¬ (AreInOneGroup (bind_all (names ds) (λ v. monomorphic (ts v)) A) ts ds)
+
+-- const :: a -> b -> a, asTypeOf :: a -> a -> a, g :: Int -> Int
+abbrev pub with_const : Assumptions
+with_const = bind const (closed first_of_two) empty
+
+abbrev pub with_as_type_of : Assumptions
+with_as_type_of = bind as_type_of (closed same_type) empty
+
+abbrev pub with_narrow : Assumptions
+with_narrow = bind g (closed (arrow int int)) empty

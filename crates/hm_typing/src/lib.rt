@@ -1,0 +1,18 @@
+//! The laws of typing: what a type of an expression is, which schemes type a list of bindings or a set of modules, and what is proved of
+//! these definitions. The functions do nothing; each has a law as its contract.
+#![tactic(auto)]
+
+mod inference;
+mod modules;
+mod sources;
+mod typing;
+mod verdicts;
+
+pub use inference::{
+    every_expression_is_answered, generalisation_may_keep_outer_variables, groups_are_an_order,
+    principal_or_none,
+};
+pub use modules::principal_assignments_compose;
+pub use sources::{sources_with_types, sources_without_types};
+pub use typing::typing_is_stable;
+pub use verdicts::{lists_have_verdicts, modules_have_verdicts};

@@ -1,0 +1,53 @@
+//! Worked sources: which of them are typed, and which have no typing.
+
+ghost use Rattle.hm_typing.specs.Assumptions.{empty};
+ghost use Rattle.hm_typing.specs.Schemes.{arrow, closed};
+ghost use Rattle.hm_typing.specs.Sources.{
+  HasNoSchemes,
+  HasNoType,
+  HasNoTypesAsOneGroup,
+  IsTypedWith,
+  IsTyped,
+  anything,
+  char,
+  escaping_signature,
+  f,
+  g,
+  identity,
+  int,
+  misuse,
+  mutual_recursion,
+  narrow_signature,
+  pair_type,
+  partly_polymorphic,
+  partly_type,
+  polymorphic_lambda,
+  polymorphic_let,
+  self_application,
+  through_signature,
+  too_general_signature,
+  with_as_type_of,
+  with_const,
+  with_narrow,
+};
+
+/// Sources that are typed, with the scheme that a name of theirs has at least.
+pub fn sources_with_types()
+    ensures polymorphic_let { IsTyped empty polymorphic_let (pair_type int char) }
+    ensures narrow_signature { IsTypedWith empty narrow_signature g (closed (arrow int int)) }
+    ensures through_signature { IsTypedWith with_const through_signature f (closed identity) }
+    ensures mutual_recursion_first { IsTypedWith empty mutual_recursion f (closed anything) }
+    ensures mutual_recursion_second { IsTypedWith empty mutual_recursion g (closed anything) }
+    ensures partly_polymorphic { IsTypedWith empty partly_polymorphic f (closed partly_type) }
+{}
+
+/// Sources that have no typing: a lambda's variable isn't generalised, no type contains itself, a signature isn't more general than its
+/// binding, its variables don't escape, and its scheme is the one that is used.
+pub fn sources_without_types()
+    ensures lambda_is_monomorphic { HasNoType empty polymorphic_lambda }
+    ensures no_infinite_type { HasNoSchemes empty self_application }
+    ensures signature_too_general { HasNoSchemes empty too_general_signature }
+    ensures signature_escapes { HasNoSchemes with_as_type_of escaping_signature }
+    ensures signature_is_used { HasNoType with_narrow misuse }
+    ensures not_one_group { HasNoTypesAsOneGroup with_const through_signature }
+{}
