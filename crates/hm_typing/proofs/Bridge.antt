@@ -14,7 +14,7 @@ use Rattle.hm_typing.specs.BindingLists.{HasSchemes}
 use Rattle.hm_typing.specs.SecondForm.{Derives, DeriveAll, DeriveClauses, DeriveRightSides, DeriveBindings, seen_at}
 use Rattle.hm_typing.proofs.Variables.{occurs, vars_bound}
 use Rattle.hm_typing.proofs.Types.{put-agree, put-put, In-put}
-use Rattle.hm_typing.proofs.Schemes.{scheme_put_mono, scheme_put-agree, scheme_put_Var, assumptions_put_Var, assumptions_put-agree, AssumptionsBelow, SchemeBelow, assumptions_bound}
+use Rattle.hm_typing.proofs.SchemeLaws.{scheme_put_mono, scheme_put-agree, scheme_put_Var, assumptions_put_Var, assumptions_put-agree, AssumptionsBelow, SchemeBelow, assumptions_bound}
 use Rattle.hm_typing.proofs.Bind.{Has-bind_all, bind_all-agree, assumptions_put-bind_all, instance_closed, FreeIn-bind_all-in, FreeIn-bind_all-out}
 use Rattle.hm_typing.proofs.Quantified.{opened, opened_free, quantified_instance, general_quantify, In_quantify}
 use Rattle.hm_typing.proofs.Put.{Derives-put, DeriveClauses-put}

@@ -8,7 +8,7 @@ use Rattle.hm_typing.specs.Decisions.{is_free_in, IsFree}
 use Rattle.hm_typing.specs.Generalisation.{quantified_unless, quantify}
 use Rattle.hm_typing.specs.Problems.{Fact, Unifies, IsBelow, FactsBelow, MostGeneralUnifier, Answer, unsolvable}
 use Rattle.hm_typing.proofs.Types.{put-agree, put-put, In-put}
-use Rattle.hm_typing.proofs.Schemes.{split, split_below, instance_put, put_instance, assumptions_put-agree, assumptions_put_put, AssumptionsBelow, SchemeBelow, FreeIn_put, assumptions_put_FreeIn, put_fixed, put_split}
+use Rattle.hm_typing.proofs.SchemeLaws.{split, split_below, instance_put, put_instance, assumptions_put-agree, assumptions_put_put, AssumptionsBelow, SchemeBelow, FreeIn_put, assumptions_put_FreeIn, put_fixed, put_split}
 use Rattle.hm_typing.proofs.Names.{name_discrete}
 use Rattle.hm_typing.proofs.Solve.{FactsBelow-more, put-below, same, some_types, equal}
 

@@ -11,7 +11,7 @@ use Rattle.hm_typing.specs.Units.{IsUnsigned, IsSigned, BindingMentions, seen, A
 use Rattle.hm_typing.specs.Typing.{InUnits}
 use Rattle.hm_typing.specs.Verdicts.{UnitsHave, IsTypable}
 use Rattle.hm_typing.specs.SecondForm.{DeriveClauses, seen_at}
-use Rattle.hm_typing.proofs.Schemes.{assumptions_bound, AssumptionsBelow}
+use Rattle.hm_typing.proofs.SchemeLaws.{assumptions_bound, AssumptionsBelow}
 use Rattle.hm_typing.proofs.Quantified.{opened, In_quantify}
 use Rattle.hm_typing.proofs.Bind.{Has-bind_all, bind_all-agree, FreeIn-bind_all, FreeIn-bind_all-in, FreeIn-bind_all-out}
 use Rattle.hm_typing.proofs.More.{DeriveClauses-more}

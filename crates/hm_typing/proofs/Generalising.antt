@@ -13,7 +13,7 @@ use Rattle.hm_typing.specs.Typing.{HasType}
 use Rattle.hm_typing.specs.Orders.{UnitHas}
 use Rattle.hm_typing.specs.Problems.{Fact, Unifies, FactsBelow, MostGeneralUnifier, Solved}
 use Rattle.hm_typing.proofs.Types.{put-agree, put-Var}
-use Rattle.hm_typing.proofs.Schemes.{split, split_below, split_from, assumptions_put-agree, assumptions_put_Var, scheme_put-agree, scheme_put_Var, AssumptionsBelow, SchemeBelow}
+use Rattle.hm_typing.proofs.SchemeLaws.{split, split_below, split_from, assumptions_put-agree, assumptions_put_Var, scheme_put-agree, scheme_put_Var, AssumptionsBelow, SchemeBelow}
 use Rattle.hm_typing.proofs.Put.{Derives-put}
 use Rattle.hm_typing.proofs.Bridge.{HasType-Derives, Derives-HasType, HasClauses-Derives, DeriveClauses-Has}
 use Rattle.hm_typing.proofs.Groups.{over, GroupHas}

@@ -11,7 +11,7 @@ use Rattle.hm_typing.specs.Units.{IsSigned, AreUnits}
 use Rattle.hm_typing.specs.SecondForm.{DeriveClauses, seen_at}
 use Rattle.hm_typing.specs.Problems.{Fact, Unifies, FactsBelow, MostGeneralUnifier, Solved, Answer, solved, unsolvable, IsLocal}
 use Rattle.hm_typing.specs.Orders.{within, IsReady, IsNext, SignedAre}
-use Rattle.hm_typing.proofs.Schemes.{split, split_below, split_from, scheme_put_mono, scheme_put-agree, scheme_put_put, assumptions_put-agree, AssumptionsBelow, SchemeBelow, assumptions_bound, FreeIn_put, scheme_put_In}
+use Rattle.hm_typing.proofs.SchemeLaws.{split, split_below, split_from, scheme_put_mono, scheme_put-agree, scheme_put_put, assumptions_put-agree, AssumptionsBelow, SchemeBelow, assumptions_bound, FreeIn_put, scheme_put_In}
 use Rattle.hm_typing.proofs.Bind.{Has-bind_all, bind_all-agree, assumptions_put-bind_all, scheme_put_closed, FreeIn-bind_all-in, FreeIn-bind_all-out}
 use Rattle.hm_typing.proofs.Quantified.{In_quantify}
 use Rattle.hm_typing.proofs.Solve.{Unifies-local}

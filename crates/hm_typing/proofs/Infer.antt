@@ -12,7 +12,7 @@ use Rattle.hm_typing.specs.Typing.{HasLocal, HasFunction}
 use Rattle.hm_typing.specs.SecondForm.{DerivedSchemes, Derives, DeriveAll, DeriveClauses, DeriveRightSides}
 use Rattle.hm_typing.specs.Problems.{Fact, Unifies, IsBelow, FactsBelow, MostGeneralUnifier, Answer, unsolvable, IsLocal}
 use Rattle.hm_typing.specs.Orders.{within, Layout}
-use Rattle.hm_typing.proofs.Schemes.{scheme_put_mono, scheme_put-agree, assumptions_put-agree, AssumptionsBelow, SchemeBelow, scheme_put_In, In_mono}
+use Rattle.hm_typing.proofs.SchemeLaws.{scheme_put_mono, scheme_put-agree, assumptions_put-agree, AssumptionsBelow, SchemeBelow, scheme_put_In, In_mono}
 use Rattle.hm_typing.proofs.Bind.{bind_all-agree, assumptions_put-bind_all, FreeIn-bind_all}
 use Rattle.hm_typing.proofs.Solve.{FactsBelow-more, put-below, same, both, some_type, nothing, equal}
 use Rattle.hm_typing.proofs.Check.{IsBelow-more, Var-below, below_more, arrow-below, check_name, found}

@@ -1,7 +1,7 @@
 pub mod Names
 pub mod Types
 pub mod Variables
-pub mod Schemes
+pub mod SchemeLaws
 pub mod Quantified
 pub mod Solve
 pub mod Check
@@ -28,3 +28,4 @@ pub mod ModuleSets
 pub mod SetVerdicts
 pub mod Generalising
 pub mod WorkedSources
+pub mod Programs

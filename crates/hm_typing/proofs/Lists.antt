@@ -11,7 +11,7 @@ use Rattle.hm_typing.specs.Typing.{HasLocal}
 use Rattle.hm_typing.specs.SecondForm.{DerivedSchemes, DeriveClauses, DeriveBindings, seen_at}
 use Rattle.hm_typing.specs.Problems.{Fact, Unifies, FactsBelow, MostGeneralUnifier, Answer, solved, unsolvable, IsLocal}
 use Rattle.hm_typing.specs.Orders.{IsNext, SignedAre, IsOrder, Layout}
-use Rattle.hm_typing.proofs.Schemes.{split, split_below, split_from, scheme_put-agree, assumptions_put-agree, AssumptionsBelow, SchemeBelow}
+use Rattle.hm_typing.proofs.SchemeLaws.{split, split_below, split_from, scheme_put-agree, assumptions_put-agree, AssumptionsBelow, SchemeBelow}
 use Rattle.hm_typing.proofs.Bind.{is_one_of, bind_all-agree, assumptions_put-bind_all, scheme_put_closed, instance_closed, FreeIn-bind_all}
 use Rattle.hm_typing.proofs.Solve.{Unifies-local, same, both}
 use Rattle.hm_typing.proofs.Check.{below_more}

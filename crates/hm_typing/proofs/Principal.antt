@@ -12,7 +12,7 @@ use Rattle.hm_typing.specs.BindingLists.{HasSchemes, HasPrincipalSchemes}
 use Rattle.hm_typing.specs.SecondForm.{DerivedSchemes}
 use Rattle.hm_typing.specs.Problems.{Fact, Unifies, IsBelow, FactsBelow, MostGeneralUnifier, Solved, Answer, solved, unsolvable, IsLocal}
 use Rattle.hm_typing.specs.Orders.{Layout}
-use Rattle.hm_typing.proofs.Schemes.{put_instance, fill-agree, assumptions_put_Var, assumptions_put-agree, AssumptionsBelow, assumptions_bound}
+use Rattle.hm_typing.proofs.SchemeLaws.{put_instance, fill-agree, assumptions_put_Var, assumptions_put-agree, AssumptionsBelow, assumptions_bound}
 use Rattle.hm_typing.proofs.Bind.{Has-Sees, Sees-Has, FreeIn-bind_all-in}
 use Rattle.hm_typing.proofs.Solve.{same, both, nothing, FactsBelow-more}
 use Rattle.hm_typing.proofs.Check.{below_more, Var-below, check_name, found, let-covers, open_with, quantified_put}

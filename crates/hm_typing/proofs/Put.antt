@@ -9,7 +9,7 @@ use Rattle.hm_typing.specs.Syntax.{LiteralKind, Integer, Character, Text, Patter
 use Rattle.hm_typing.specs.Patterns.{arguments, arrows, Matches, MatchesAll}
 use Rattle.hm_typing.specs.SecondForm.{Derives, DeriveAll, DeriveClauses, DeriveRightSides, DeriveBindings, seen_at}
 use Rattle.hm_typing.proofs.Types.{put-agree, put-put}
-use Rattle.hm_typing.proofs.Schemes.{split, split_below, split_from, instance_put, scheme_put_mono, scheme_put-agree, assumptions_put-agree, SchemeBelow, AssumptionsBelow, assumptions_bound, Has_put, put_split}
+use Rattle.hm_typing.proofs.SchemeLaws.{split, split_below, split_from, instance_put, scheme_put_mono, scheme_put-agree, assumptions_put-agree, SchemeBelow, AssumptionsBelow, assumptions_bound, Has_put, put_split}
 use Rattle.hm_typing.proofs.Bind.{bind_all-agree, assumptions_put-bind_all, scheme_put_closed, FreeIn-bind_all-in, FreeIn-bind_all-out}
 
 pub put-arrows : (r : ℕ → Monotype) (k : ℕ) (ts : ℕ → Monotype) (i : ℕ) (u : Monotype) → put r (arrows k ts i u) ≡ arrows k (λ j. put r (ts j)) i (put r u)

@@ -6,7 +6,7 @@ use Rattle.hm_typing.specs.Assumptions.{FreeIn, Assumptions}
 use Rattle.hm_typing.specs.Decisions.{is_free_in, number_or, IsFree}
 use Rattle.hm_typing.specs.Generalisation.{quantified_unless, quantify}
 use Rattle.hm_typing.proofs.Types.{put-agree, put-put, In-put}
-use Rattle.hm_typing.proofs.Schemes.{split, split_below, put_split, AssumptionsBelow, instance_quantify}
+use Rattle.hm_typing.proofs.SchemeLaws.{split, split_below, put_split, AssumptionsBelow, instance_quantify}
 
 -- what a name has where the variables that are not free in A are open
 abbrev pub opened : {P : Type 0} → Dec P → (ℕ → Monotype) → ℕ → Monotype

@@ -7,7 +7,7 @@ use Rattle.hm_typing.specs.Assumptions.{Assumptions, assumptions_put, FreeIn}
 use Rattle.hm_typing.specs.Decisions.{is_free_in}
 use Rattle.hm_typing.specs.Problems.{Fact, Equal, Rigid, Unifies, IsBelow, FactsBelow, MostGeneralUnifier, Solved, Answer, solved, unsolvable}
 use Rattle.hm_typing.proofs.Types.{put-agree, put-put}
-use Rattle.hm_typing.proofs.Schemes.{split, split_below, split_from, assumptions_put-agree, assumptions_put_put, AssumptionsBelow, assumptions_bound, assumptions_put_FreeIn, FreeIn_put}
+use Rattle.hm_typing.proofs.SchemeLaws.{split, split_below, split_from, assumptions_put-agree, assumptions_put_put, AssumptionsBelow, assumptions_bound, assumptions_put_FreeIn, FreeIn_put}
 use Rattle.hm_typing.proofs.Solve.{FactsBelow-more, Unifies-local}
 use Rattle.hm_typing.proofs.Check.{assumptions_put_unifier}
 

@@ -4,7 +4,7 @@ use Rattle.hm_types.specs.Types.{put}
 use Rattle.hm_typing.specs.Schemes.{Monotype}
 use Rattle.hm_typing.specs.Problems.{Fact, Equal, Rigid, Unifies, IsBelow, FactsBelow, MostGeneralUnifier, Solved, Answer, solved, unsolvable, IsLocal}
 use Rattle.hm_typing.proofs.Types.{put-agree}
-use Rattle.hm_typing.proofs.Schemes.{split, split_below, split_from}
+use Rattle.hm_typing.proofs.SchemeLaws.{split, split_below, split_from}
 
 pub FactsBelow-more : (n m : ℕ) (E : List Fact) → n ≤ m → FactsBelow n E → FactsBelow m E
 FactsBelow-more n m [] l h = tt

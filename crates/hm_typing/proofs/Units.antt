@@ -12,7 +12,7 @@ use Rattle.hm_typing.specs.Units.{IsUnsigned, IsSigned, BindingMentions, AreUnit
 use Rattle.hm_typing.specs.SecondForm.{DeriveClauses, seen_at}
 use Rattle.hm_typing.specs.Problems.{Fact, Unifies, MostGeneralUnifier, Answer, solved, unsolvable}
 use Rattle.hm_typing.specs.Orders.{within, Layout, IsNext, IsReady, SignedAre}
-use Rattle.hm_typing.proofs.Schemes.{scheme_put-agree, scheme_put_Var, instance_quantify}
+use Rattle.hm_typing.proofs.SchemeLaws.{scheme_put-agree, scheme_put_Var, instance_quantify}
 use Rattle.hm_typing.proofs.Bind.{Has-bind_all, bind_all-agree}
 use Rattle.hm_typing.proofs.Quantified.{In_quantify}
 use Rattle.hm_typing.proofs.More.{DeriveClauses-more}

@@ -11,7 +11,7 @@ use Rattle.hm_typing.specs.Typing.{HasType, HasClauses}
 use Rattle.hm_typing.specs.SecondForm.{Derives, DeriveClauses, DerivedSchemes, seen_at}
 use Rattle.hm_typing.specs.Sources.{f, g, x, y, const, as_type_of, int, char, pair_type, identity, anything, maps, pair, used_twice, with_const, with_as_type_of, with_narrow, polymorphic_let, polymorphic_lambda, self_application, through_signature, mutual_recursion, partly_polymorphic, narrow_signature, too_general_signature, escaping_signature, IsTypedWith, HasNoType, HasNoSchemes, HasNoTypesAsOneGroup, partly_type, misuse, same_type, first_of_two}
 use Rattle.hm_typing.proofs.Names.{name_discrete}
-use Rattle.hm_typing.proofs.Schemes.{instance_mono}
+use Rattle.hm_typing.proofs.SchemeLaws.{instance_mono}
 use Rattle.hm_typing.proofs.Bind.{instance_closed}
 use Rattle.hm_typing.proofs.Bridge.{HasType-Derives, own_unsigned, own_signed, not_true}
 use Rattle.hm_typing.proofs.Groups.{cond_true, cond_false}

@@ -1,8 +1,10 @@
 -- The laws that the crate's functions prove, as statements.
 use Rattle.std.specs.Prelude.{◌≡◌, ℕ, List, [], Bool, true, ◌⊎◌, ◌↔◌, ◌<◌, ◌+◌}
 use Rattle.hm_types.specs.Types.{In, put}
+use Rattle.hm_types.specs.Schemes.{TypeScheme, IsAtLeastAsGeneral, HasNoRigid}
+use Rattle.hm_typing.specs.Programs.{scheme_of}
 use Rattle.hm_typing.specs.Names.{Identifier, IsOneOf, IsDistinct}
-use Rattle.hm_typing.specs.Schemes.{Monotype, Scheme, Free, closed, scheme_put}
+use Rattle.hm_typing.specs.Schemes.{Monotype, Scheme, IsAtMostAsGeneral, Free, closed, scheme_put}
 use Rattle.hm_typing.specs.Assumptions.{Assumptions, FreeIn, IsClosed, assumptions_put, AreAtMostAsGeneral}
 use Rattle.hm_typing.specs.Generalisation.{quantify, quantify_but, KeepsEnough}
 use Rattle.hm_typing.specs.Syntax.{Expression, Bindings, names}
@@ -32,6 +34,12 @@ Substitutes = (e : Expression) (r : ℕ → Monotype) (A : Assumptions) (t : Mon
 -- the two forms agree
 abbrev pub FormsAgree : Type 0
 FormsAgree = (e : Expression) (A : Assumptions) (t : Monotype) → HasType A e t ↔ Derives A e t
+
+-- Schemes
+
+-- of closed schemes without rigid variables, generality as hm_types defines and decides it is generality here
+abbrev pub ProgramsDecideGenerality : Type 0
+ProgramsDecideGenerality = (special general : TypeScheme) → HasNoRigid special.body → HasNoRigid general.body → IsAtLeastAsGeneral general special ↔ IsAtMostAsGeneral (scheme_of special) (scheme_of general)
 
 -- Inference
 

@@ -15,4 +15,5 @@ pub mod SecondForm
 pub mod Problems
 pub mod Orders
 pub mod Sources
+pub mod Programs
 pub mod Laws

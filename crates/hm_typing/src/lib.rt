@@ -4,6 +4,7 @@
 
 mod inference;
 mod modules;
+mod schemes;
 mod sources;
 mod typing;
 mod verdicts;
@@ -13,6 +14,7 @@ pub use inference::{
     principal_or_none,
 };
 pub use modules::principal_assignments_compose;
+pub use schemes::programs_decide_generality;
 pub use sources::{sources_with_types, sources_without_types};
 pub use typing::typing_is_stable;
 pub use verdicts::{lists_have_verdicts, modules_have_verdicts};
