@@ -1,0 +1,107 @@
+//! Readers and writers that misbehave.
+use std::alloc::Global;
+use std::io;
+use std::io::{ErrorKind, Read, Write};
+
+/// Gives one byte a read, each after an interrupted read, and fails at one read for good.
+#[derive(Drop)]
+pub struct Slow {
+    bytes: &'static [u8],
+    is_ready: bool,
+    asked: u64,
+    fails_at: u64,
+}
+
+impl Slow {
+    /// Reads are counted from 1, so 0 never fails.
+    pub fn new(bytes: &'static [u8], fails_at: u64) -> Slow {
+        Slow {
+            bytes,
+            is_ready: false,
+            asked: 0,
+            fails_at,
+        }
+    }
+}
+
+impl Read for Slow {
+    fn read(&mut self, buf: &mut [u8]) -> io::Result<usize> {
+        self.asked = self.asked.saturating_add(1);
+        if self.asked == self.fails_at {
+            return Err(io::Error::from(ErrorKind::Other));
+        }
+        self.is_ready = !self.is_ready;
+        if self.is_ready {
+            return Err(io::Error::from(ErrorKind::Interrupted));
+        }
+        match self.bytes.split_first() {
+            Some((first, rest)) if !buf.is_empty() => {
+                buf[0] = *first;
+                self.bytes = rest;
+                Ok(1)
+            }
+            _ => Ok(0),
+        }
+    }
+}
+
+/// Is interrupted at each read.
+#[derive(Drop)]
+pub struct Never;
+
+impl Read for Never {
+    fn read(&mut self, _buf: &mut [u8]) -> io::Result<usize> {
+        Err(io::Error::from(ErrorKind::Interrupted))
+    }
+}
+
+/// What a writer does once it has taken its bytes.
+#[derive(Clone, Copy)]
+pub enum Then {
+    Fails,
+    TakesNone,
+    IsInterrupted,
+    FailsToFlush,
+}
+
+/// Takes some bytes, one a write, and then no more.
+#[derive(Drop)]
+pub struct Short {
+    pub taken: Vec<u8>,
+    room: usize,
+    then: Then,
+}
+
+impl Short {
+    pub fn new(alloc: Global, room: usize, then: Then) -> Short {
+        let taken = Vec::new(alloc);
+        Short { taken, room, then }
+    }
+}
+
+impl Write for Short {
+    fn write(&mut self, buf: &[u8]) -> io::Result<usize> {
+        if self.room == 0 {
+            return match self.then {
+                Then::TakesNone => Ok(0),
+                Then::IsInterrupted => Err(io::Error::from(ErrorKind::Interrupted)),
+                _ => Err(io::Error::from(ErrorKind::Other)),
+            };
+        }
+        match buf.first() {
+            Some(byte) => {
+                self.taken.push(*byte)?;
+                self.room -= 1;
+                Ok(1)
+            }
+            None => Ok(0),
+        }
+    }
+
+    fn flush(&mut self) -> io::Result<()> {
+        match self.then {
+            Then::FailsToFlush => Err(io::Error::from(ErrorKind::Other)),
+            _ => Ok(()),
+        }
+    }
+}

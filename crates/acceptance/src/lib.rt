@@ -1,0 +1,9 @@
+//! Tests that cross crates, as tables: what a run prints of its sources.
+#![tactic(auto)]
+
+#[cfg(test)]
+mod devices;
+#[cfg(test)]
+mod plans;
+#[cfg(test)]
+mod transfers;
