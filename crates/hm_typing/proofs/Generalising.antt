@@ -22,15 +22,15 @@ use Rattle.hm_typing.proofs.Solve.{Unifies-local}
 
 -- two substitutions that give one type agree on its variables
 
-abbrev arguments_of : {V : Type 0} → Args V → Ty V → Args V
+abbrev pub arguments_of : {V : Type 0} → Args V → Ty V → Args V
 arguments_of d (Var v) = d
 arguments_of d (App h ts) = ts
 
-abbrev first_of : {V : Type 0} → Ty V → Args V → Ty V
+abbrev pub first_of : {V : Type 0} → Ty V → Args V → Ty V
 first_of d done = d
 first_of d (more t ts) = t
 
-abbrev rest_of : {V : Type 0} → Args V → Args V
+abbrev pub rest_of : {V : Type 0} → Args V → Args V
 rest_of done = done
 rest_of (more t ts) = ts
 

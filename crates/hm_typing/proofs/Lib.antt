@@ -27,5 +27,6 @@ pub mod ListVerdicts
 pub mod ModuleSets
 pub mod SetVerdicts
 pub mod Generalising
+pub mod Unifying
 pub mod WorkedSources
 pub mod Programs

@@ -321,14 +321,14 @@ module _ (ds : Bindings) where
           reach_x (inr p) = Reaches-trans ds r p
 
 -- the members for which something is decided, fewer where it fails for one
-abbrev Chosen : (Identifier → Type 0) → List Identifier → List Identifier → Type 0
-Chosen P xs zs = ((x : Identifier) → IsOneOf x zs ↔ (IsOneOf x xs × P x)) × (length zs ≤ length xs) × ((x : Identifier) → IsOneOf x xs → ¬ (P x) → length zs < length xs)
+abbrev pub Chosen : {X : Type 0} → (X → Type 0) → List X → List X → Type 0
+Chosen {X} P xs zs = ((x : X) → IsOneOf x zs ↔ (IsOneOf x xs × P x)) × (length zs ≤ length xs) × ((x : X) → IsOneOf x xs → ¬ (P x) → length zs < length xs)
 
-chosen : {P : Identifier → Type 0} → ((x : Identifier) → Dec (P x)) → (xs : List Identifier) → (zs : List Identifier) × Chosen P xs zs
+pub chosen : {X : Type 0} {P : X → Type 0} → ((x : X) → Dec (P x)) → (xs : List X) → (zs : List X) × Chosen P xs zs
 chosen d [] = ([], ((λ x. ((λ o. absurd o), (λ o. absurd o.0))), omega arith, (λ x o n. absurd o)))
-chosen {P} d (y ∷ ys) = go (d y) (chosen d ys)
+chosen {X} {P} d (y ∷ ys) = go (d y) (chosen d ys)
   where
-    go : Dec (P y) → (zs : List Identifier) × Chosen P ys zs → (zs : List Identifier) × Chosen P (y ∷ ys) zs
+    go : Dec (P y) → (zs : List X) × Chosen P ys zs → (zs : List X) × Chosen P (y ∷ ys) zs
     go (yes p) (zs, c) = (
       y ∷ zs,
       (

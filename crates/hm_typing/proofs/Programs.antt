@@ -1,10 +1,10 @@
 -- Generality of schemes, as programs decide it, is that of the schemes here.
-use Rattle.std.proofs.Common.{◌≡◌, ℕ, ◌↔◌, refl, sym, ap, ap₂, ◌∙◌, subst}
-use Rattle.hm_types.specs.Types.{Ty, Args, Var, App, done, more, put, put_all}
+use Rattle.std.proofs.Common.{◌≡◌, ℕ, ◌↔◌, refl, sym, ap, ap₂, ◌∙◌}
+use Rattle.hm_types.specs.Types.{Args, Var, App, done, more, put, put_all}
 use Rattle.hm_types.specs.Monotypes.{Leaf, Mono, var, rigid}
 use Rattle.hm_types.specs.Substitution.{Substitution, substitute}
-use Rattle.hm_types.specs.Schemes.{TypeScheme, IsInstance, IsAtLeastAsGeneral, HasNoRigid, AllHaveNoRigid}
-use Rattle.hm_typing.specs.Schemes.{Monotype, IsAtMostAsGeneral, closed}
+use Rattle.hm_types.specs.Schemes.{TypeScheme, IsAtLeastAsGeneral, HasNoRigid, AllHaveNoRigid}
+use Rattle.hm_typing.specs.Schemes.{Monotype, IsAtMostAsGeneral}
 use Rattle.hm_typing.specs.Programs.{variable_of, monotype_of, scheme_of}
 use Rattle.hm_typing.proofs.Types.{put-put, put-Var}
 use Rattle.hm_typing.proofs.Bind.{instance_closed}

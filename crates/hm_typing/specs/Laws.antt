@@ -16,11 +16,6 @@ use Rattle.hm_typing.specs.SecondForm.{Derives}
 use Rattle.hm_typing.specs.Problems.{Fact, Unifies, IsBelow, FactsBelow, MostGeneralUnifier, Solved, Answer}
 use Rattle.hm_typing.specs.Orders.{Layout, UnitHas, AreGroups, AreTestsOf}
 
--- What some laws are handed: unification
-
-abbrev pub Unification : Type 0
-Unification = (E : List Fact) → MostGeneralUnifier E ⊎ ((r : ℕ → Monotype) → Unifies r E → ⊥)
-
 -- Typing
 
 -- typing survives more general assumptions
@@ -43,16 +38,20 @@ ProgramsDecideGenerality = (special general : TypeScheme) → HasNoRigid special
 
 -- Inference
 
+-- each unification problem has a most general unifier, or none
+abbrev pub UnificationIsDecided : Type 0
+UnificationIsDecided = (E : List Fact) → MostGeneralUnifier E ⊎ ((r : ℕ → Monotype) → ¬ (Unifies r E))
+
 -- every expression has an answer under every unification problem
 abbrev pub EveryExpressionIsAnswered : Type 0
 EveryExpressionIsAnswered =
-    Unification → (e : Expression) (A : Assumptions) (t : Monotype) (n : ℕ) (E : List Fact) →
+    (e : Expression) (A : Assumptions) (t : Monotype) (n : ℕ) (E : List Fact) →
     ((a : ℕ) → FreeIn a A → a < n) → IsBelow n t → FactsBelow n E → Answer (λ r. HasType (assumptions_put r A) e (put r t)) n E
 
 -- a list under closed assumptions has principal schemes, or none
 abbrev pub PrincipalOrNone : Type 0
 PrincipalOrNone =
-    Unification → (ds : Bindings) (A : Assumptions) → IsClosed A →
+    (ds : Bindings) (A : Assumptions) → IsClosed A →
     ((B : Identifier → Scheme) × HasPrincipalSchemes A ds B) ⊎ ((B : Identifier → Scheme) → ¬ (HasSchemes A ds B))
 
 -- generalisation over any set of variables that has those free in the assumptions after solving, and only such as stand in the outer problem, gives the same scheme: of an expression
@@ -85,19 +84,19 @@ HasGroups = (ds : Bindings) → (gs : List (List Identifier)) × AreGroups ds gs
 
 -- the type faults of a list are found
 abbrev pub FaultsAreFound : Type 0
-FaultsAreFound = Unification → (ds : Bindings) (A : Assumptions) → IsDistinct (names ds) → IsClosed A → (xs : List Identifier) × AreTypeFaults A ds xs
+FaultsAreFound = (ds : Bindings) (A : Assumptions) → IsDistinct (names ds) → IsClosed A → (xs : List Identifier) × AreTypeFaults A ds xs
 
 -- a list has no type faults exactly where it is typed
 abbrev pub TypedWithoutFaults : Type 0
-TypedWithoutFaults = Unification → (ds : Bindings) (A : Assumptions) → IsDistinct (names ds) → IsClosed A → AreTypeFaults A ds [] ↔ ((B : Identifier → Scheme) × HasSchemes A ds B)
+TypedWithoutFaults = (ds : Bindings) (A : Assumptions) → IsDistinct (names ds) → IsClosed A → AreTypeFaults A ds [] ↔ ((B : Identifier → Scheme) × HasSchemes A ds B)
 
 -- a list is good or faulty
 abbrev pub HasVerdict : Type 0
-HasVerdict = Unification → (ds : Bindings) (A : Assumptions) → IsDistinct (names ds) → IsClosed A → (v : Verdict) × IsVerdict A ds v
+HasVerdict = (ds : Bindings) (A : Assumptions) → IsDistinct (names ds) → IsClosed A → (v : Verdict) × IsVerdict A ds v
 
 -- and not both
 abbrev pub HasOneVerdict : Type 0
-HasOneVerdict = Unification → (ds : Bindings) (A : Assumptions) → IsDistinct (names ds) → IsClosed A → (B : Identifier → Scheme) (xs : List Identifier) → IsVerdict A ds (Good B) → ¬ (IsVerdict A ds (Faulty xs))
+HasOneVerdict = (ds : Bindings) (A : Assumptions) → IsDistinct (names ds) → IsClosed A → (B : Identifier → Scheme) (xs : List Identifier) → IsVerdict A ds (Good B) → ¬ (IsVerdict A ds (Faulty xs))
 
 -- Modules
 
@@ -138,12 +137,12 @@ FaultyWhereFaults =
 -- a well-formed module whose imports are good is good or faulty
 abbrev pub GoodOrFaulty : Type 0
 GoodOrFaulty =
-    Unification → (set : ℕ → Module) (prelude : List Identifier) (well : ℕ → Bool) (table : Assignment) (i : ℕ) (S : Assignment) →
+    (set : ℕ → Module) (prelude : List Identifier) (well : ℕ → Bool) (table : Assignment) (i : ℕ) (S : Assignment) →
     IsLawful set prelude → IsDistinct (names (set i).bindings) → IsPrincipal set (IsImportedBy set i) prelude table S → (well i ≡ true) → ImportsAreGood set well prelude table i →
     IsGood set (λ k. well k ≡ true) prelude table i ⊎ ((xs : List Identifier) × IsFaulty set (λ k. well k ≡ true) prelude table i xs)
 
 -- and not both
 abbrev pub NotGoodAndFaulty : Type 0
 NotGoodAndFaulty =
-    Unification → (set : ℕ → Module) (prelude : List Identifier) (well : ℕ → Bool) (table : Assignment) (i : ℕ) (xs : List Identifier) →
+    (set : ℕ → Module) (prelude : List Identifier) (well : ℕ → Bool) (table : Assignment) (i : ℕ) (xs : List Identifier) →
     IsLawful set prelude → IsDistinct (names (set i).bindings) → IsGood set (λ k. well k ≡ true) prelude table i → ¬ (IsFaulty set (λ k. well k ≡ true) prelude table i xs)

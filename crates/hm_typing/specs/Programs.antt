@@ -1,5 +1,4 @@
 -- The types of programs, which hm_types keeps with plain and rigid variables, as types over numbered variables.
-use Rattle.std.specs.Prelude.{ℕ}
 use Rattle.hm_types.specs.Types.{Var, put}
 use Rattle.hm_types.specs.Monotypes.{Leaf, Mono, var, rigid}
 use Rattle.hm_typing.specs.Schemes.{Monotype, Scheme, closed}

@@ -6,8 +6,14 @@ ghost use Rattle.hm_typing.specs.Laws.{
   GroupsGiveOrder,
   HasGroups,
   PrincipalOrNone,
+  UnificationIsDecided,
   UnitsGeneraliseAlike,
 };
+
+/// Each unification problem has a most general unifier, or none (Damas and Milner 1982, section 6, after Robinson).
+pub fn unification_is_decided()
+    ensures { UnificationIsDecided }
+{}
 
 /// Every expression has an answer under every unification problem, sound and complete.
 pub fn every_expression_is_answered()

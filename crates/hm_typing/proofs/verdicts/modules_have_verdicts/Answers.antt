@@ -1,5 +1,6 @@
 use Rattle.std.specs.Prelude.{◌≡◌, true}
 use Rattle.hm_typing.proofs.Ordering.{layout}
+use Rattle.hm_typing.proofs.Unifying.{unification}
 use Rattle.hm_typing.specs.Laws.{GoodWhereTyped, FaultyWhereFaults, GoodOrFaulty, NotGoodAndFaulty}
 use Rattle.hm_typing.proofs.ModuleSets.{good_typed, import_good, typed_good}
 use Rattle.hm_typing.proofs.SetVerdicts.{faulty_where, good_or_faulty, not_both}
@@ -16,10 +17,10 @@ faulty : FaultyWhereFaults
 faulty set prelude well table i S xs law d p = faulty_where layout set prelude law (λ k. well k ≡ true) table i d S p xs
 
 either : GoodOrFaulty
-either solve set prelude well table i S law d p w g = good_or_faulty solve layout set prelude law (λ k. well k ≡ true) table i d S p w g
+either set prelude well table i S law d p w g = good_or_faulty unification layout set prelude law (λ k. well k ≡ true) table i d S p w g
 
 one : NotGoodAndFaulty
-one solve set prelude well table i xs law d g f = not_both solve layout set prelude law (λ k. well k ≡ true) table i d xs g f
+one set prelude well table i xs law d g f = not_both unification layout set prelude law (λ k. well k ≡ true) table i d xs g f
 
 pub returns : goal.returns
 returns c = record { good_where_typed = good; faulty_where_faults = faulty; good_or_faulty = either; not_both = one }
