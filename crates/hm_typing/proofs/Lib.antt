@@ -28,5 +28,6 @@ pub mod ModuleSets
 pub mod SetVerdicts
 pub mod Generalising
 pub mod Unifying
+pub mod Settling
 pub mod WorkedSources
 pub mod Programs

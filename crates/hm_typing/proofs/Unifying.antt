@@ -299,7 +299,7 @@ turned R t u Q (inr never) = inr (λ r k m. never r k (sym m.0, m.1))
 abbrev IsCovered : Equations → List ℕ → Type 0
 IsCovered Q vs = (a : ℕ) → Occurs a Q → IsOneOf a vs
 
-is_member : (a : ℕ) (R : List ℕ) → Dec (IsOneOf a R)
+pub is_member : (a : ℕ) (R : List ℕ) → Dec (IsOneOf a R)
 is_member a [] = no (λ o. o)
 is_member a (b ∷ bs) = Rattle.hm_typing.specs.Decisions.either (ℕ_discrete a b) (is_member a bs)
 

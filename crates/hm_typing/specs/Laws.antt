@@ -11,7 +11,7 @@ use Rattle.hm_typing.specs.Syntax.{Expression, Bindings, names}
 use Rattle.hm_typing.specs.Typing.{HasType}
 use Rattle.hm_typing.specs.BindingLists.{HasSchemes, HasPrincipalSchemes}
 use Rattle.hm_typing.specs.Assignments.{Module, Assignment, outer, IsPrincipal}
-use Rattle.hm_typing.specs.Verdicts.{AreTypeFaults, Verdict, Good, Faulty, IsVerdict, InClosure, IsImportedBy, IsGood, IsFaulty, IsLawful}
+use Rattle.hm_typing.specs.Verdicts.{AreTypeFaults, Verdict, Good, Faulty, IsVerdict, InClosure, IsImportedBy, IsGood, IsSkipped, IsFaulty, IsLawful}
 use Rattle.hm_typing.specs.SecondForm.{Derives}
 use Rattle.hm_typing.specs.Problems.{Fact, Unifies, IsBelow, FactsBelow, MostGeneralUnifier, Solved, Answer}
 use Rattle.hm_typing.specs.Orders.{Layout, UnitHas, AreGroups, AreTestsOf}
@@ -114,6 +114,19 @@ Extends =
     IsLawful set prelude → IsPrincipal set (IsImportedBy set i) prelude table S → HasPrincipalSchemes (outer (set i) S) (set i).bindings B →
     (S' : Assignment) × IsPrincipal set (InClosure set i) prelude table S' × ((x : Identifier) → IsOneOf x (names (set i).bindings) → B x ≡ closed (S' x)) × ((x : Identifier) → ¬ (IsOneOf x (names (set i).bindings)) → S' x ≡ S x)
 
+-- where the imports of a module are good, all that it imports has a principal assignment
+abbrev pub ImportsHavePrincipal : Type 0
+ImportsHavePrincipal =
+    (set : ℕ → Module) (prelude : List Identifier) (well : ℕ → Bool) (table : Assignment) (i : ℕ) →
+    IsLawful set prelude → ((j : ℕ) → IsOneOf j (set i).imports → IsGood set (λ k. well k ≡ true) prelude table j) →
+    (S : Assignment) × IsPrincipal set (IsImportedBy set i) prelude table S
+
+-- and so has the closure of a good module
+abbrev pub GoodHasPrincipal : Type 0
+GoodHasPrincipal =
+    (set : ℕ → Module) (prelude : List Identifier) (well : ℕ → Bool) (table : Assignment) (i : ℕ) →
+    IsLawful set prelude → IsGood set (λ k. well k ≡ true) prelude table i → (S : Assignment) × IsPrincipal set (InClosure set i) prelude table S
+
 -- Verdicts in a set
 
 -- all imports of a module are good
@@ -134,14 +147,32 @@ FaultyWhereFaults =
     IsLawful set prelude → IsDistinct (names (set i).bindings) → IsPrincipal set (IsImportedBy set i) prelude table S →
     IsFaulty set (λ k. well k ≡ true) prelude table i xs ↔ (ImportsAreGood set well prelude table i × (well i ≡ true) × IsVerdict (outer (set i) S) (set i).bindings (Faulty xs))
 
--- a well-formed module whose imports are good is good or faulty
-abbrev pub GoodOrFaulty : Type 0
-GoodOrFaulty =
-    (set : ℕ → Module) (prelude : List Identifier) (well : ℕ → Bool) (table : Assignment) (i : ℕ) (S : Assignment) →
-    IsLawful set prelude → IsDistinct (names (set i).bindings) → IsPrincipal set (IsImportedBy set i) prelude table S → (well i ≡ true) → ImportsAreGood set well prelude table i →
-    IsGood set (λ k. well k ≡ true) prelude table i ⊎ ((xs : List Identifier) × IsFaulty set (λ k. well k ≡ true) prelude table i xs)
+-- whether a module is good is decided
+abbrev pub GoodIsDecided : Type 0
+GoodIsDecided =
+    (set : ℕ → Module) (prelude : List Identifier) (well : ℕ → Bool) (table : Assignment) (i : ℕ) →
+    IsLawful set prelude → IsGood set (λ k. well k ≡ true) prelude table i ⊎ ¬ (IsGood set (λ k. well k ≡ true) prelude table i)
 
--- and not both
+-- a well-formed module is good, skipped or faulty
+abbrev pub IsOneOfThree : Type 0
+IsOneOfThree =
+    (set : ℕ → Module) (prelude : List Identifier) (well : ℕ → Bool) (table : Assignment) (i : ℕ) →
+    IsLawful set prelude → IsDistinct (names (set i).bindings) → (well i ≡ true) →
+    IsGood set (λ k. well k ≡ true) prelude table i ⊎ (IsSkipped set (λ k. well k ≡ true) prelude table i ⊎ ((xs : List Identifier) × IsFaulty set (λ k. well k ≡ true) prelude table i xs))
+
+-- not good and skipped
+abbrev pub NotGoodAndSkipped : Type 0
+NotGoodAndSkipped =
+    (set : ℕ → Module) (prelude : List Identifier) (well : ℕ → Bool) (table : Assignment) (i : ℕ) →
+    IsGood set (λ k. well k ≡ true) prelude table i → ¬ (IsSkipped set (λ k. well k ≡ true) prelude table i)
+
+-- not skipped and faulty
+abbrev pub NotSkippedAndFaulty : Type 0
+NotSkippedAndFaulty =
+    (set : ℕ → Module) (prelude : List Identifier) (well : ℕ → Bool) (table : Assignment) (i : ℕ) (xs : List Identifier) →
+    IsSkipped set (λ k. well k ≡ true) prelude table i → ¬ (IsFaulty set (λ k. well k ≡ true) prelude table i xs)
+
+-- and not good and faulty
 abbrev pub NotGoodAndFaulty : Type 0
 NotGoodAndFaulty =
     (set : ℕ → Module) (prelude : List Identifier) (well : ℕ → Bool) (table : Assignment) (i : ℕ) (xs : List Identifier) →

@@ -13,8 +13,10 @@ pub use inference::{
     every_expression_is_answered, generalisation_may_keep_outer_variables, groups_are_an_order,
     principal_or_none,
 };
-pub use modules::principal_assignments_compose;
+pub use modules::{good_modules_have_principal_assignments, principal_assignments_compose};
 pub use schemes::programs_decide_generality;
 pub use sources::{sources_with_types, sources_without_types};
 pub use typing::typing_is_stable;
-pub use verdicts::{lists_have_verdicts, modules_have_verdicts};
+pub use verdicts::{
+    lists_have_verdicts, modules_are_judged_by_their_imports, modules_have_verdicts,
+};

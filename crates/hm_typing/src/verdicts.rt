@@ -3,11 +3,14 @@
 ghost use Rattle.hm_typing.specs.Laws.{
   FaultsAreFound,
   FaultyWhereFaults,
-  GoodOrFaulty,
+  GoodIsDecided,
   GoodWhereTyped,
   HasOneVerdict,
   HasVerdict,
+  IsOneOfThree,
   NotGoodAndFaulty,
+  NotGoodAndSkipped,
+  NotSkippedAndFaulty,
   TypedWithoutFaults,
 };
 
@@ -21,10 +24,17 @@ pub fn lists_have_verdicts()
 {}
 
 /// A module of a lawful set is good exactly where it is well-formed, all its imports are good and its own list is typed under their
-/// principal assignment; where instead that list has type faults it is faulty; so, where its imports are good, it is one of the two.
-pub fn modules_have_verdicts()
+/// principal assignment; it is faulty exactly where instead that list has type faults.
+pub fn modules_are_judged_by_their_imports()
     ensures good_where_typed { GoodWhereTyped }
     ensures faulty_where_faults { FaultyWhereFaults }
-    ensures good_or_faulty { GoodOrFaulty }
-    ensures not_both { NotGoodAndFaulty }
+{}
+
+/// Whether a module of a lawful set is good is decided. A well-formed one is good, skipped or faulty, and no two of these.
+pub fn modules_have_verdicts()
+    ensures good_is_decided { GoodIsDecided }
+    ensures one_of_three { IsOneOfThree }
+    ensures not_good_and_skipped { NotGoodAndSkipped }
+    ensures not_skipped_and_faulty { NotSkippedAndFaulty }
+    ensures not_good_and_faulty { NotGoodAndFaulty }
 {}

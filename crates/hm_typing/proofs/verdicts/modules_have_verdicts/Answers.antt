@@ -1,26 +1,34 @@
-use Rattle.std.specs.Prelude.{◌≡◌, true}
+use Rattle.std.proofs.Common.{◌≡◌, Bool, true, false, inl, inr, refl, sym, true≢false}
+use Rattle.hm_typing.specs.Laws.{GoodIsDecided, IsOneOfThree, NotGoodAndSkipped, NotSkippedAndFaulty, NotGoodAndFaulty}
+use Rattle.hm_typing.specs.Verdicts.{imported}
 use Rattle.hm_typing.proofs.Ordering.{layout}
 use Rattle.hm_typing.proofs.Unifying.{unification}
-use Rattle.hm_typing.specs.Laws.{GoodWhereTyped, FaultyWhereFaults, GoodOrFaulty, NotGoodAndFaulty}
-use Rattle.hm_typing.proofs.ModuleSets.{good_typed, import_good, typed_good}
-use Rattle.hm_typing.proofs.SetVerdicts.{faulty_where, good_or_faulty, not_both}
-use Rattle.hm_typing.specs.Verdicts.{itself}
+use Rattle.hm_typing.proofs.SetVerdicts.{not_both}
+use Rattle.hm_typing.proofs.Settling.{is_good, verdict_of}
 use Rattle.hm_typing.proofs.verdicts.modules_have_verdicts.Goals as goal
 
-good : GoodWhereTyped
-good set prelude well table i S law p = (
-  (λ g. (g.well_formed i itself, import_good set prelude law (λ k. well k ≡ true) table i S p g, good_typed set prelude law (λ k. well k ≡ true) table i S p g)),
-  (λ h. typed_good set prelude law (λ k. well k ≡ true) table i S p h.0 h.1 h.2),
-)
+is_true : (b : Bool) → Dec (b ≡ true)
+is_true true = yes refl
+is_true false = no (λ e. true≢false (sym e))
 
-faulty : FaultyWhereFaults
-faulty set prelude well table i S xs law d p = faulty_where layout set prelude law (λ k. well k ≡ true) table i d S p xs
+decided : GoodIsDecided
+decided set prelude well table i law = elim (is_good set prelude law (λ k. well k ≡ true) table (λ k. is_true (well k)) i) [ yes g ↦ inl g | no n ↦ inr n ]
 
-either : GoodOrFaulty
-either set prelude well table i S law d p w g = good_or_faulty unification layout set prelude law (λ k. well k ≡ true) table i d S p w g
+three : IsOneOfThree
+three set prelude well table i law d w = verdict_of set prelude law (λ k. well k ≡ true) table (λ k. is_true (well k)) i d w
 
-one : NotGoodAndFaulty
-one set prelude well table i xs law d g f = not_both unification layout set prelude law (λ k. well k ≡ true) table i d xs g f
+good_skipped : NotGoodAndSkipped
+good_skipped set prelude well table i g s = s.2 (record {
+  well_formed = λ k q. g.well_formed k (imported s.1 q);
+  assignment = g.assignment;
+  valid = record { given = g.valid.given; typed = λ k q. g.valid.typed k (imported s.1 q) };
+})
+
+skipped_faulty : NotSkippedAndFaulty
+skipped_faulty set prelude well table i xs s f = s.2 (f.imports_good s.0 s.1)
+
+good_faulty : NotGoodAndFaulty
+good_faulty set prelude well table i xs law d g f = not_both unification layout set prelude law (λ k. well k ≡ true) table i d xs g f
 
 pub returns : goal.returns
-returns c = record { good_where_typed = good; faulty_where_faults = faulty; good_or_faulty = either; not_both = one }
+returns c = record { good_is_decided = decided; one_of_three = three; not_good_and_skipped = good_skipped; not_skipped_and_faulty = skipped_faulty; not_good_and_faulty = good_faulty }
