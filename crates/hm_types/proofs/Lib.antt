@@ -5,3 +5,4 @@ pub mod Quantified
 pub mod Matched
 pub mod Written
 pub mod Renamed
+pub mod Table

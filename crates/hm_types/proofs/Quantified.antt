@@ -23,7 +23,7 @@ abbrev pub IsDistinct : List ℕ → Type 0
 IsDistinct [] = Unit {0}
 IsDistinct (x ∷ xs) = (is_among x xs ≡ false) × IsDistinct xs
 
-contains_append : (n : ℕ) (xs ys : List ℕ) → is_among n (xs ++ ys) ≡ (is_among n xs || is_among n ys)
+pub contains_append : (n : ℕ) (xs ys : List ℕ) → is_among n (xs ++ ys) ≡ (is_among n xs || is_among n ys)
 contains_append n [] ys = refl
 contains_append n (x ∷ xs) ys = ap (λ b. n == x || b) (contains_append n xs ys) ∙ or_assoc (n == x) (is_among n xs) (is_among n ys)
   where

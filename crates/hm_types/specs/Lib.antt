@@ -5,5 +5,6 @@ pub mod Falls
 pub mod Substitution
 pub mod Schemes
 pub mod Matching
+pub mod Numbers
 pub mod Texts
 pub mod Laws
