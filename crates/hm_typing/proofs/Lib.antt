@@ -30,4 +30,6 @@ pub mod Generalising
 pub mod Unifying
 pub mod Settling
 pub mod WorkedSources
+pub mod FormsOfSources
+pub mod FaultsOfSources
 pub mod Programs

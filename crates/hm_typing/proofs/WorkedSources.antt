@@ -24,19 +24,19 @@ first_code (local []) = 0
 first_code (local (c ∷ cs)) = c
 first_code (global a) = 0
 
-differ : (v w : Identifier) → ¬ (first_code v ≡ first_code w) → ¬ (v ≡ w)
+pub differ : (v w : Identifier) → ¬ (first_code v ≡ first_code w) → ¬ (v ≡ w)
 differ v w n e = n (ap first_code e)
 
-f≢g : ¬ (f ≡ g)
+pub f≢g : ¬ (f ≡ g)
 f≢g = differ f g (λ e. omega arith)
 
-g≢f : ¬ (g ≡ f)
+pub g≢f : ¬ (g ≡ f)
 g≢f e = f≢g (sym e)
 
-x≢g : ¬ (x ≡ g)
+pub x≢g : ¬ (x ≡ g)
 x≢g = differ x g (λ e. omega arith)
 
-x≢y : ¬ (x ≡ y)
+pub x≢y : ¬ (x ≡ y)
 x≢y = differ x y (λ e. omega arith)
 
 g≢x : ¬ (g ≡ x)
@@ -45,7 +45,7 @@ g≢x e = x≢g (sym e)
 g≢y : ¬ (g ≡ y)
 g≢y = differ g y (λ e. omega arith)
 
-f≢x : ¬ (f ≡ x)
+pub f≢x : ¬ (f ≡ x)
 f≢x = differ f x (λ e. omega arith)
 
 f≢y : ¬ (f ≡ y)
@@ -74,24 +74,24 @@ as≢g = differ as_type_of g (λ e. omega arith)
 
 -- What a name has
 
-its_type : (t : Monotype) → IsInstance t (monomorphic t)
+pub its_type : (t : Monotype) → IsInstance t (monomorphic t)
 its_type t = (Var, sym (instance_mono t Var))
 
-at_type : (s : Monotype) (us : ℕ → Monotype) → IsInstance (put us s) (closed s)
+pub at_type : (s : Monotype) (us : ℕ → Monotype) → IsInstance (put us s) (closed s)
 at_type s us = (us, sym (instance_closed s us))
 
-found : {v : Identifier} {P X : Type 0} → ((v ≡ v) × P) ⊎ (¬ (v ≡ v) × X) → P
+pub found : {v : Identifier} {P X : Type 0} → ((v ≡ v) × P) ⊎ (¬ (v ≡ v) × X) → P
 found (inl p) = p.1
 found (inr p) = absurd (p.0 refl)
 
-behind : {v w : Identifier} {P X : Type 0} → ¬ (v ≡ w) → ((v ≡ w) × P) ⊎ (¬ (v ≡ w) × X) → X
+pub behind : {v w : Identifier} {P X : Type 0} → ¬ (v ≡ w) → ((v ≡ w) × P) ⊎ (¬ (v ≡ w) × X) → X
 behind n (inl p) = absurd (n p.0)
 behind n (inr p) = p.1
 
-only : (t u : Monotype) → IsInstance u (monomorphic t) → u ≡ t
+pub only : (t u : Monotype) → IsInstance u (monomorphic t) → u ≡ t
 only t u i = i.1 ∙ instance_mono t i.0
 
-only_at : (s u : Monotype) → IsInstance u (closed s) → (us : ℕ → Monotype) × (u ≡ put us s)
+pub only_at : (s u : Monotype) → IsInstance u (closed s) → (us : ℕ → Monotype) × (u ≡ put us s)
 only_at s u i = (i.0, i.1 ∙ instance_closed s i.0)
 
 -- Units
@@ -141,11 +141,11 @@ no_units = (tt, λ a b. ((λ e. absurd (true≢false (sym e))), (λ h. absurd h.
 
 -- Lists of one binding
 
-nothing_listed : (A : Assumptions) (B : Identifier → Scheme) → DerivedSchemes A no_binding B
+pub nothing_listed : (A : Assumptions) (B : Identifier → Scheme) → DerivedSchemes A no_binding B
 nothing_listed A B = record { own = λ a b. false; units = no_units; bindings = tt }
 
 -- v alone, unsigned
-alone : (v : Identifier) (cs : Clauses) (A : Assumptions) (B : Identifier → Scheme) →
+pub alone : (v : Identifier) (cs : Clauses) (A : Assumptions) (B : Identifier → Scheme) →
     ((us : ℕ → Monotype) → DeriveClauses (bind v (monomorphic (instance (B v) us)) A) cs (instance (B v) us)) → DerivedSchemes A (unsigned v cs no_binding) B
 alone v cs A B d =
     let units = units_one (unsigned v cs no_binding) v ((λ o. o), tt) (λ a u. ⊎_elim (λ e. e) (λ o. absurd o) u) (inl refl) in
@@ -156,7 +156,7 @@ alone v cs A B d =
     }
 
 -- v alone, signed
-signed_alone : (v : Identifier) (s : Monotype) (cs : Clauses) (A : Assumptions) →
+pub signed_alone : (v : Identifier) (s : Monotype) (cs : Clauses) (A : Assumptions) →
     ((us : ℕ → Monotype) → DeriveClauses (bind v (closed s) A) cs (put us s)) → DerivedSchemes A (signed v s cs no_binding) (λ w. closed s)
 signed_alone v s cs A d = record {
   own = λ a b. false;
@@ -178,13 +178,13 @@ maps_derived v e A t u d = (
   tt,
 )
 
-maps_typed : (v : Identifier) (e : Expression) (A : Assumptions) (w : Monotype) → HasClauses A (maps v e) w → (t : Monotype) × (u : Monotype) × (w ≡ arrow t u) × HasType (bind v (monomorphic t) A) e u
+pub maps_typed : (v : Identifier) (e : Expression) (A : Assumptions) (w : Monotype) → HasClauses A (maps v e) w → (t : Monotype) × (u : Monotype) × (w ≡ arrow t u) × HasType (bind v (monomorphic t) A) e u
 maps_typed v e A w d = (d.0.variables v, d.0.result, d.0.function ∙ ap (λ z. arrow z d.0.result) d.0.matched.0, d.0.body.body.0)
 
-abbrev always : Monotype → ℕ → Monotype
+abbrev pub always : Monotype → ℕ → Monotype
 always t i = t
 
-abbrev two : Monotype → Monotype → ℕ → Monotype
+abbrev pub two : Monotype → Monotype → ℕ → Monotype
 two t u zero = t
 two t u (suc i) = u
 
@@ -206,7 +206,7 @@ polymorphic_let_typed = HasType-Derives polymorphic_let empty empty _ (λ v t h.
 })
 
 -- from the second form
-typed_with : (A : Assumptions) (ds : Bindings) (B : Identifier → Scheme) (v : Identifier) → IsOneOf v (names ds) → DerivedSchemes A ds B → IsTypedWith A ds v (B v)
+pub typed_with : (A : Assumptions) (ds : Bindings) (B : Identifier → Scheme) (v : Identifier) → IsOneOf v (names ds) → DerivedSchemes A ds B → IsTypedWith A ds v (B v)
 typed_with A ds B v o d = let k = Has-DerivedUnits ds A B d in (k.0, k.1, k.2 v o)
 
 -- g :: Int -> Int ; g x = x
@@ -350,24 +350,28 @@ partly_polymorphic_typed = typed_with empty partly_polymorphic (λ v. closed par
 -- No typings
 
 mutual
-  size : Monotype → ℕ
+  pub size : Monotype → ℕ
   size (Var a) = 0
   size (App h ts) = suc (sizes ts)
 
-  sizes : Args ℕ → ℕ
+  pub sizes : Args ℕ → ℕ
   sizes done = 0
   sizes (more t ts) = size t + sizes ts
 
-no_self_arrow : (t u : Monotype) → ¬ (arrow t u ≡ t)
+pub no_self_arrow : (t u : Monotype) → ¬ (arrow t u ≡ t)
 unfolding size
 no_self_arrow t u e = let h : suc (size t + (size u + 0)) ≡ size t = ap size e in omega arith
 
-abbrev argument : Monotype → Monotype
+pub not_own_pair : (t : Monotype) → ¬ (t ≡ pair_type t t)
+unfolding size
+not_own_pair t e = let h : size t ≡ suc (size t + (size t + 0)) = ap size e in omega arith
+
+abbrev pub argument : Monotype → Monotype
 argument (Var a) = Var a
 argument (App h done) = App h done
 argument (App h (more t ts)) = t
 
-abbrev result_of : Monotype → Monotype
+abbrev pub result_of : Monotype → Monotype
 result_of (Var a) = Var a
 result_of (App h done) = App h done
 result_of (App h (more t done)) = t
@@ -377,11 +381,11 @@ abbrev number : Monotype → ℕ
 number (Var a) = a
 number (App h ts) = 0
 
-abbrev first_letter : List ℕ → ℕ
+abbrev pub first_letter : List ℕ → ℕ
 first_letter [] = 0
 first_letter (c ∷ cs) = c
 
-abbrev type_letter : Monotype → ℕ
+abbrev pub type_letter : Monotype → ℕ
 type_letter (Var a) = 0
 type_letter (App (head.Named e) ts) = first_letter e.name
 type_letter (App head.Arrow ts) = 0
@@ -389,7 +393,7 @@ type_letter (App head.List ts) = 0
 type_letter (App head.Unit ts) = 0
 type_letter (App (head.Tuple n) ts) = 0
 
-int≢char : ¬ (int ≡ char)
+pub int≢char : ¬ (int ≡ char)
 int≢char e = let h : type_letter int ≡ type_letter char = ap type_letter e in absurd (omega arith)
 
 -- h isn't used at two types where it has one
@@ -410,7 +414,7 @@ self_application_untyped A B l =
     let p = m.3 in
     no_self_arrow p.0 m.1 (only m.0 (arrow p.0 m.1) (found p.1.0) ∙ sym (only m.0 p.0 (found p.1.1)))
 
-zero≢one : (a b : ℕ) → a ≡ 0 → b ≡ 1 → ¬ (a ≡ b)
+pub zero≢one : (a b : ℕ) → a ≡ 0 → b ≡ 1 → ¬ (a ≡ b)
 zero≢one a b p q e = absurd (omega arith)
 
 -- f :: a -> b ; f x = x

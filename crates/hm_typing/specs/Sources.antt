@@ -5,7 +5,8 @@ use Rattle.hm_types.specs.Types.{Var, App, done, more}
 use Rattle.hm_typing.specs.Names.{Identifier, local}
 use Rattle.hm_typing.specs.Schemes.{Monotype, Scheme, arrow, monomorphic, closed, IsAtMostAsGeneral}
 use Rattle.hm_typing.specs.Assumptions.{Assumptions, empty, bind, bind_all}
-use Rattle.hm_typing.specs.Syntax.{Integer, Character, VariablePattern, no_pattern, pattern, Expression, Variable, Literal, Apply, Lambda, Let, Tuple, no_expression, expression, Clauses, no_clause, clause, no_right_side, plain, Bindings, no_binding, unsigned, signed, literal_type, names}
+use Rattle.hm_typing.specs.Patterns.{list}
+use Rattle.hm_typing.specs.Syntax.{Integer, Character, Text, VariablePattern, ConstructorPattern, WildcardPattern, no_pattern, pattern, Expression, Variable, Literal, Apply, Lambda, Let, Case, Tuple, Typed, no_expression, expression, Clauses, no_clause, clause, no_right_side, plain, guarded, Bindings, no_binding, unsigned, signed, bool, literal_type, names}
 use Rattle.hm_typing.specs.Typing.{HasType, HasClauses}
 use Rattle.hm_typing.specs.BindingLists.{HasSchemes}
 
@@ -21,6 +22,18 @@ x = local (codes "x")
 
 abbrev pub y : Identifier
 y = local (codes "y")
+
+abbrev pub s : Identifier
+s = local (codes "s")
+
+abbrev pub t : Identifier
+t = local (codes "t")
+
+abbrev pub not : Identifier
+not = local (codes "not")
+
+abbrev pub otherwise : Identifier
+otherwise = local (codes "otherwise")
 
 abbrev pub const : Identifier
 const = local (codes "const")
@@ -55,6 +68,26 @@ first_of_two = arrow (Var 0) (arrow (Var 1) (Var 0))
 abbrev pub partly_type : Monotype
 partly_type = arrow (Var 0) (pair_type (pair_type (Var 0) int) (pair_type (Var 0) char))
 
+-- the type constructor Nest, and the types of the constructors Flat :: a -> Nest a, Deep :: Nest (a, a) -> Nest a, (:) and []
+abbrev pub nest : Monotype → Monotype
+nest a = App (head.Named (record { «module» = codes "A"; name = codes "Nest" })) (more a done)
+
+abbrev pub flat_type : Monotype
+flat_type = arrow (Var 0) (nest (Var 0))
+
+abbrev pub deep_type : Monotype
+deep_type = arrow (nest (pair_type (Var 0) (Var 0))) (nest (Var 0))
+
+abbrev pub cons_type : Monotype
+cons_type = arrow (Var 0) (arrow (list (Var 0)) (list (Var 0)))
+
+abbrev pub nil_type : Monotype
+nil_type = list (Var 0)
+
+-- .. = e
+abbrev pub is : Expression → Clauses
+is e = clause no_pattern (plain e no_right_side) no_binding no_clause
+
 -- .. v = e
 abbrev pub maps : Identifier → Expression → Clauses
 maps v e = clause (pattern (VariablePattern v) no_pattern) (plain e no_right_side) no_binding no_clause
@@ -75,6 +108,17 @@ polymorphic_let = Let (unsigned g (maps x (Variable x)) no_binding) (used_twice 
 -- \g -> (g 1, g 'c')
 abbrev pub polymorphic_lambda : Expression
 polymorphic_lambda = Lambda (pattern (VariablePattern g) no_pattern) (used_twice g)
+
+-- \x -> x :: Int
+abbrev pub typed_body : Expression
+typed_body = Lambda (pattern (VariablePattern x) no_pattern) (Typed (Variable x) int)
+
+-- case "s" of { x : _ -> x ; [] -> 'z' }
+abbrev pub case_of_text : Expression
+case_of_text =
+    Case (Literal Text)
+    (clause (pattern (ConstructorPattern cons_type (pattern (VariablePattern x) (pattern WildcardPattern no_pattern))) no_pattern) (plain (Variable x) no_right_side) no_binding
+    (clause (pattern (ConstructorPattern nil_type no_pattern) no_pattern) (plain (Literal Character) no_right_side) no_binding no_clause))
 
 -- g 'c'
 abbrev pub misuse : Expression
@@ -97,6 +141,35 @@ mutual_recursion = unsigned f (maps x (Apply (Variable g) (Variable x))) (unsign
 -- f x = let { g y = (x, y) } in (g 1, g 'c')
 abbrev pub partly_polymorphic : Bindings
 partly_polymorphic = unsigned f (maps x (Let (unsigned g (maps y (pair (Variable x) (Variable y))) no_binding) (used_twice g))) no_binding
+
+-- f x | x = y | otherwise = 2 where { y = 1 }
+abbrev pub guarded_clause : Bindings
+guarded_clause =
+    unsigned f
+    (clause (pattern (VariablePattern x) no_pattern) (guarded (Variable x) (Variable y) (guarded (Variable otherwise) (Literal Integer) no_right_side)) (unsigned y (is (Literal Integer)) no_binding) no_clause)
+    no_binding
+
+-- f (Flat x) = 0 ; f (Deep x) = f x
+abbrev pub nested_clauses : Clauses
+nested_clauses =
+    clause (pattern (ConstructorPattern flat_type (pattern (VariablePattern x) no_pattern)) no_pattern) (plain (Literal Integer) no_right_side) no_binding
+    (clause (pattern (ConstructorPattern deep_type (pattern (VariablePattern x) no_pattern)) no_pattern) (plain (Apply (Variable f) (Variable x)) no_right_side) no_binding no_clause)
+
+-- f :: Nest a -> Int, and without a signature
+abbrev pub nested_type : Monotype
+nested_type = arrow (nest (Var 0)) int
+
+abbrev pub polymorphic_recursion : Bindings
+polymorphic_recursion = signed f nested_type nested_clauses no_binding
+
+abbrev pub unsigned_recursion : Bindings
+unsigned_recursion = unsigned f nested_clauses no_binding
+
+-- f x = x x ; g = f 1 ; s :: Int ; s = 'c' ; t = not s
+abbrev pub some_faults : Bindings
+some_faults =
+    unsigned f (maps x (Apply (Variable x) (Variable x)))
+    (unsigned g (is (Apply (Variable f) (Literal Integer))) (signed s int (is (Literal Character)) (unsigned t (is (Apply (Variable not) (Variable s))) no_binding)))
 
 -- g :: Int -> Int ; g x = x
 abbrev pub narrow_signature : Bindings
@@ -135,9 +208,15 @@ AreInOneGroup C ts (signed v s cs D) = HasClauses C cs (ts v) × AreInOneGroup C
 abbrev pub HasNoTypesAsOneGroup : Assumptions → Bindings → Type 0
 HasNoTypesAsOneGroup A ds = (ts : Identifier → Monotype) → ¬ (AreInOneGroup (bind_all (names ds) (λ v. monomorphic (ts v)) A) ts ds)
 
--- const :: a -> b -> a, asTypeOf :: a -> a -> a, g :: Int -> Int
+-- const :: a -> b -> a, otherwise :: Bool, not :: Bool -> Bool, asTypeOf :: a -> a -> a, g :: Int -> Int
 abbrev pub with_const : Assumptions
 with_const = bind const (closed first_of_two) empty
+
+abbrev pub with_otherwise : Assumptions
+with_otherwise = bind otherwise (closed bool) empty
+
+abbrev pub with_not : Assumptions
+with_not = bind not (closed (arrow bool bool)) empty
 
 abbrev pub with_as_type_of : Assumptions
 with_as_type_of = bind as_type_of (closed same_type) empty

@@ -15,7 +15,7 @@ pub use inference::{
 };
 pub use modules::{good_modules_have_principal_assignments, principal_assignments_compose};
 pub use schemes::programs_decide_generality;
-pub use sources::{sources_with_types, sources_without_types};
+pub use sources::{sources_with_faults, sources_with_types, sources_without_types};
 pub use typing::typing_is_stable;
 pub use verdicts::{
     lists_have_verdicts, modules_are_judged_by_their_imports, modules_have_verdicts,

@@ -6,30 +6,44 @@ ghost use Rattle.hm_typing.specs.Sources.{
   HasNoSchemes,
   HasNoType,
   HasNoTypesAsOneGroup,
-  IsTypedWith,
   IsTyped,
+  IsTypedWith,
   anything,
+  case_of_text,
   char,
   escaping_signature,
   f,
   g,
+  guarded_clause,
   identity,
   int,
   misuse,
   mutual_recursion,
   narrow_signature,
+  nested_type,
   pair_type,
   partly_polymorphic,
   partly_type,
   polymorphic_lambda,
   polymorphic_let,
+  polymorphic_recursion,
+  s,
   self_application,
+  some_faults,
+  t,
   through_signature,
   too_general_signature,
+  typed_body,
+  unsigned_recursion,
   with_as_type_of,
   with_const,
   with_narrow,
+  with_not,
+  with_otherwise,
 };
+ghost use Rattle.hm_typing.specs.Syntax.{bool};
+ghost use Rattle.hm_typing.specs.Verdicts.{AreTypeFaults};
+ghost use Rattle.std.specs.Prelude.{[], ◌∷◌};
 
 /// Sources that are typed, with the scheme that a name of theirs has at least.
 pub fn sources_with_types()
@@ -39,6 +53,10 @@ pub fn sources_with_types()
     ensures mutual_recursion_first { IsTypedWith empty mutual_recursion f (closed anything) }
     ensures mutual_recursion_second { IsTypedWith empty mutual_recursion g (closed anything) }
     ensures partly_polymorphic { IsTypedWith empty partly_polymorphic f (closed partly_type) }
+    ensures typed_body { IsTyped empty typed_body (arrow int int) }
+    ensures case_of_text { IsTyped empty case_of_text char }
+    ensures guarded_clause { IsTypedWith with_otherwise guarded_clause f (closed (arrow bool int)) }
+    ensures polymorphic_recursion { IsTypedWith empty polymorphic_recursion f (closed nested_type) }
 {}
 
 /// Sources that have no typing: a lambda's variable isn't generalised, no type contains itself, a signature isn't more general than its
@@ -50,4 +68,11 @@ pub fn sources_without_types()
     ensures signature_escapes { HasNoSchemes with_as_type_of escaping_signature }
     ensures signature_is_used { HasNoType with_narrow misuse }
     ensures not_one_group { HasNoTypesAsOneGroup with_const through_signature }
+    ensures recursion_is_monomorphic { HasNoSchemes empty unsigned_recursion }
+{}
+
+/// A source with type faults: `f x = x x ; g = f 1 ; s :: Int ; s = 'c' ; t = not s`. They are exactly `f`, `s` and `t`: `g` depends on
+/// `f`, and `t` sees the scheme that is declared of `s`.
+pub fn sources_with_faults()
+    ensures some_faults { AreTypeFaults with_not some_faults (f ∷ s ∷ t ∷ []) }
 {}

@@ -1,4 +1,5 @@
 use Rattle.hm_typing.proofs.WorkedSources.{polymorphic_let_typed, narrow_signature_typed, through_signature_typed, mutual_recursion_typed, partly_polymorphic_typed}
+use Rattle.hm_typing.proofs.FormsOfSources.{typed_body_typed, case_of_text_typed, guarded_clause_typed, polymorphic_recursion_typed}
 use Rattle.hm_typing.proofs.sources.sources_with_types.Goals as goal
 
 pub returns : goal.returns
@@ -9,4 +10,8 @@ returns c = record {
   mutual_recursion_first = mutual_recursion_typed.0;
   mutual_recursion_second = mutual_recursion_typed.1;
   partly_polymorphic = partly_polymorphic_typed;
+  typed_body = typed_body_typed;
+  case_of_text = case_of_text_typed;
+  guarded_clause = guarded_clause_typed;
+  polymorphic_recursion = polymorphic_recursion_typed;
 }

@@ -1,5 +1,6 @@
 use Rattle.hm_typing.specs.Assumptions.{empty}
 use Rattle.hm_typing.proofs.WorkedSources.{polymorphic_lambda_untyped, self_application_untyped, too_general_signature_untyped, escaping_signature_untyped, misuse_untyped, one_group_untyped}
+use Rattle.hm_typing.proofs.FormsOfSources.{unsigned_recursion_untyped}
 use Rattle.hm_typing.proofs.sources.sources_without_types.Goals as goal
 
 pub returns : goal.returns
@@ -10,4 +11,5 @@ returns c = record {
   signature_escapes = escaping_signature_untyped;
   signature_is_used = misuse_untyped;
   not_one_group = one_group_untyped;
+  recursion_is_monomorphic = unsigned_recursion_untyped empty;
 }
