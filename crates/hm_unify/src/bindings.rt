@@ -16,11 +16,19 @@ pub struct Binding {
     pub target: Ty,
 }
 
-/// The type with all bindings applied.
+/// A copy of the type with all bindings applied.
 pub fn resolve(alloc: Global, bindings: &[Binding], t: &Ty) -> Result<Ty, AllocError>
     ensures { IfOk result (λ u. type_of u ≡ substitute (solution (equations_of bindings.now)) (type_of t.now)) }
 {
-    let mut resolved = t.copy(alloc)?;
+    let copied = t.copy(alloc)?;
+    Ok(apply_all(alloc, bindings, copied)?)
+}
+
+/// The type with all bindings applied. Where none applies it is not copied.
+pub fn apply_all(alloc: Global, bindings: &[Binding], t: Ty) -> Result<Ty, AllocError>
+    ensures { IfOk result (λ u. type_of u ≡ substitute (solution (equations_of bindings.now)) (type_of t)) }
+{
+    let mut resolved = t;
     for binding in bindings {
         resolved = apply(alloc, resolved, binding)?;
     }

@@ -7,7 +7,7 @@ ghost use Rattle.hm_types.specs.Monotypes.{var};
 ghost use Rattle.hm_unify.specs.Bindings.{IsTriangular};
 ghost use Rattle.hm_unify.specs.Steps.{equations_of, pending_of, pendings_of, Resolves, pair_up, Compares, Finds, AlwaysUnifies, NeverUnifies, Solves};
 
-use crate::bindings::{Binding, resolve};
+use crate::bindings::{Binding, apply_all, resolve};
 use crate::faults::UnifyFault;
 use hm_types::Ty;
 use std::alloc::{AllocError, Global};
@@ -36,8 +36,9 @@ fn resolve_both(
 ) -> Result<Pending, AllocError>
     ensures { IfOk result (λ p. Resolves (equations_of bindings.now) (pending_of pending) p) }
 {
-    let left = resolve(alloc, bindings, &pending.left)?;
-    let right = resolve(alloc, bindings, &pending.right)?;
+    let Pending { left, right } = pending;
+    let left = apply_all(alloc, bindings, left)?;
+    let right = apply_all(alloc, bindings, right)?;
     Ok(Pending { left, right })
 }
 
