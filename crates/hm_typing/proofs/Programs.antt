@@ -1,11 +1,13 @@
 -- Generality of schemes, as programs decide it, is that of the schemes here.
-use Rattle.std.proofs.Common.{◌≡◌, ℕ, ◌↔◌, refl, sym, ap, ap₂, ◌∙◌}
+use Rattle.std.proofs.Common.{◌≡◌, ℕ, Bool, true, cond, List, [], ◌∷◌, ◌↔◌, refl, sym, ap, ap₂, ◌∙◌}
 use Rattle.hm_types.specs.Types.{Args, Var, App, done, more, put, put_all}
 use Rattle.hm_types.specs.Monotypes.{Leaf, Mono, var, rigid}
-use Rattle.hm_types.specs.Substitution.{Substitution, substitute}
+use Rattle.hm_types.specs.Substitution.{Substitution, substitute, substitute_all}
 use Rattle.hm_types.specs.Schemes.{TypeScheme, IsAtLeastAsGeneral, HasNoRigid, AllHaveNoRigid}
 use Rattle.hm_typing.specs.Schemes.{Monotype, IsAtMostAsGeneral}
-use Rattle.hm_typing.specs.Programs.{variable_of, monotype_of, scheme_of}
+use Rattle.hm_typing.specs.Programs.{variable_of, monotype_of, scheme_of, HasKinds, AllHaveKinds, program_type, EquationsHaveKinds, MakesEqual, problem_of, LeavesRigid}
+use Rattle.hm_typing.specs.Problems.{Unifies}
+use Rattle.hm_typing.proofs.Groups.{cond_true, cond_false}
 use Rattle.hm_typing.proofs.Types.{put-put, put-Var}
 use Rattle.hm_typing.proofs.Bind.{instance_closed}
 
@@ -71,3 +73,43 @@ decided special general ns ng = (forth, back)
               ∙ ap (substitute (λ n. substitute i.0 (embed (us n)))) (embed_back general.body ng))
               ∙ (ap (λ b. substitute i.0 (substitute (λ n. embed (us n)) b)) (embed_back general.body ng) ∙ (ap (substitute i.0) (sym same) ∙ i.1)),
         )
+
+-- Equations
+
+module _ (is_rigid : ℕ → Bool) where
+  abbrev pub here : Substitution → ℕ → Monotype
+  here f n = cond (is_rigid n) (Var n) (monotype_of (f n))
+
+  abbrev pub there : (ℕ → Monotype) → Substitution
+  there r n = program_type is_rigid (r n)
+
+  mutual
+    to_here : (f : Substitution) (t : Mono) → HasKinds is_rigid t → monotype_of (substitute f t) ≡ put (here f) (monotype_of t)
+    to_here f (Var (var n)) h = sym (cond_false (is_rigid n) _ _ h)
+    to_here f (Var (rigid n)) h = sym (cond_true (is_rigid n) _ _ h)
+    to_here f (App k ts) h = ap (App k) (all_to_here f ts h)
+
+    all_to_here : (f : Substitution) (ts : Args Leaf) → AllHaveKinds is_rigid ts → put_all variable_of (substitute_all f ts) ≡ put_all (here f) (put_all variable_of ts)
+    all_to_here f done h = refl
+    all_to_here f (more t ts) h = ap₂ more (to_here f t h.0) (all_to_here f ts h.1)
+
+  mutual
+    to_there : (r : ℕ → Monotype) → LeavesRigid is_rigid r → (t : Mono) → HasKinds is_rigid t → substitute (there r) t ≡ program_type is_rigid (put r (monotype_of t))
+    to_there r k (Var (var n)) h = refl
+    to_there r k (Var (rigid n)) h = sym (ap (program_type is_rigid) (k n h) ∙ ap Var (cond_true (is_rigid n) _ _ h))
+    to_there r k (App c ts) h = ap (App c) (all_to_there r k ts h)
+
+    all_to_there : (r : ℕ → Monotype) → LeavesRigid is_rigid r → (ts : Args Leaf) → AllHaveKinds is_rigid ts → substitute_all (there r) ts ≡ put_all (λ n. Var (cond (is_rigid n) (rigid n) (var n))) (put_all r (put_all variable_of ts))
+    all_to_there r k done h = refl
+    all_to_there r k (more t ts) h = ap₂ more (to_there r k t h.0) (all_to_there r k ts h.1)
+
+  pub here_leaves : (f : Substitution) → LeavesRigid is_rigid (here f)
+  here_leaves f n e = cond_true (is_rigid n) _ _ e
+
+  pub here_unifies : (f : Substitution) (es : List (Mono × Mono)) → EquationsHaveKinds is_rigid es → MakesEqual f es → Unifies (here f) (problem_of es)
+  here_unifies f [] k m = tt
+  here_unifies f (e ∷ es) k m = (sym (to_here f e.0 k.0.0) ∙ (ap monotype_of m.0 ∙ to_here f e.1 k.0.1), here_unifies f es k.1 m.1)
+
+  pub there_makes : (r : ℕ → Monotype) → LeavesRigid is_rigid r → (es : List (Mono × Mono)) → EquationsHaveKinds is_rigid es → Unifies r (problem_of es) → MakesEqual (there r) es
+  there_makes r l [] k u = tt
+  there_makes r l (e ∷ es) k u = (to_there r l e.0 k.0.0 ∙ (ap (program_type is_rigid) u.0 ∙ sym (to_there r l e.1 k.0.1)), there_makes r l es k.1 u.1)

@@ -20,7 +20,7 @@ Assignment = Identifier → Monotype
 abbrev pub outer : Module → Assignment → Assumptions
 outer m S = bind_all m.scope (λ x. closed (S x)) empty
 
--- each of the modules M is typed by S, in which Prelude's variables have their schemes of the table
+-- each of the modules for which M holds is typed by S, in which Prelude's variables have their schemes of the table
 pub record IsValid (set : ℕ → Module) (M : ℕ → Type 0) (prelude : List Identifier) (table : Assignment) (S : Assignment) : Type 0 where
   pub given : (x : Identifier) → IsOneOf x prelude → S x ≡ table x
   pub typed : (i : ℕ) → M i → HasSchemes (outer (set i) S) (set i).bindings (λ x. closed (S x))

@@ -18,7 +18,7 @@ abbrev pub Has : Assumptions → Identifier → Monotype → Type 0
 Has empty x t = ⊥
 Has (bind y σ A) x t = ((x ≡ y) × IsInstance t σ) ⊎ (¬ (x ≡ y) × Has A x t)
 
--- the type variable a is free in A
+-- the type variable a is free in A, in whichever scheme
 abbrev pub FreeIn : ℕ → Assumptions → Type 0
 FreeIn a empty = ⊥
 FreeIn a (bind x σ A) = In (Free a) σ ⊎ FreeIn a A

@@ -9,7 +9,7 @@ use Rattle.hm_typing.specs.Typing.{InUnits, HasBindings}
 abbrev pub HasSchemes : Assumptions → Bindings → (Identifier → Scheme) → Type 0
 HasSchemes A ds B = InUnits A ds B (λ sees ts. HasBindings A sees ts B ds)
 
--- B types the list, and no other schemes that do are more general anywhere
+-- B types the list, and is at least as general, name by name, as all other schemes that do
 pub record HasPrincipalSchemes (A : Assumptions) (ds : Bindings) (B : Identifier → Scheme) : Type 0 where
   pub typed : HasSchemes A ds B
   pub most : (B' : Identifier → Scheme) → HasSchemes A ds B' → (x : Identifier) → IsOneOf x (names ds) → IsAtMostAsGeneral (B' x) (B x)

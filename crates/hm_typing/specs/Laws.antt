@@ -1,8 +1,10 @@
 -- The laws that the crate's functions prove, as statements.
-use Rattle.std.specs.Prelude.{◌≡◌, ℕ, List, [], Bool, true, ◌⊎◌, ◌↔◌, ◌<◌, ◌+◌}
+use Rattle.std.specs.Prelude.{◌≡◌, ℕ, List, [], Bool, true, false, ◌⊎◌, ◌↔◌, ◌<◌, ◌+◌}
 use Rattle.hm_types.specs.Types.{In, put}
 use Rattle.hm_types.specs.Schemes.{TypeScheme, IsAtLeastAsGeneral, HasNoRigid}
-use Rattle.hm_typing.specs.Programs.{scheme_of}
+use Rattle.hm_types.specs.Monotypes.{Mono}
+use Rattle.hm_types.specs.Substitution.{Substitution}
+use Rattle.hm_typing.specs.Programs.{scheme_of, monotype_of, program_type, problem_of, EquationsHaveKinds, MakesEqual, LeavesRigid}
 use Rattle.hm_typing.specs.Names.{Identifier, IsOneOf, IsDistinct}
 use Rattle.hm_typing.specs.Schemes.{Monotype, Scheme, IsAtMostAsGeneral, Free, closed, scheme_put}
 use Rattle.hm_typing.specs.Assumptions.{Assumptions, FreeIn, IsClosed, assumptions_put, AreAtMostAsGeneral}
@@ -35,6 +37,13 @@ FormsAgree = (e : Expression) (A : Assumptions) (t : Monotype) → HasType A e t
 -- of closed schemes without rigid variables, generality as hm_types defines and decides it is generality here
 abbrev pub ProgramsDecideGenerality : Type 0
 ProgramsDecideGenerality = (special general : TypeScheme) → HasNoRigid special.body → HasNoRigid general.body → IsAtLeastAsGeneral general special ↔ IsAtMostAsGeneral (scheme_of special) (scheme_of general)
+
+-- equations between types of programs have a unifier, which leaves rigid variables alone, exactly where the problem here has one: from each a unifier of the other is made
+abbrev pub ProgramsUnifyAlike : Type 0
+ProgramsUnifyAlike =
+    (is_rigid : ℕ → Bool) (es : List (Mono × Mono)) → EquationsHaveKinds is_rigid es →
+    ((f : Substitution) → MakesEqual f es → (r : ℕ → Monotype) × LeavesRigid is_rigid r × Unifies r (problem_of es) × ((n : ℕ) → is_rigid n ≡ false → r n ≡ monotype_of (f n)))
+    × ((r : ℕ → Monotype) → LeavesRigid is_rigid r → Unifies r (problem_of es) → MakesEqual (λ n. program_type is_rigid (r n)) es)
 
 -- Inference
 

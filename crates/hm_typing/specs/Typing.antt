@@ -39,7 +39,7 @@ pub record HasLocal (A : Assumptions) (ds : Bindings) (Listed : (Identifier → 
   pub listed : Listed schemes
   pub body : Body (bind_all (names ds) schemes A)
 
--- the schemes B type the list: each name has a type in its own unit, and each binding is judged in what it sees. No order is mentioned
+-- the schemes B type the list: each name has a type in its own unit, and the binding of x is judged in what it sees. No order is mentioned
 pub record InUnits (A : Assumptions) (ds : Bindings) (B : Identifier → Scheme) (Each : (Identifier → Assumptions) → (Identifier → Monotype) → Type 0) : Type 0 where
   pub own : Identifier → Identifier → Bool
   pub units : AreUnits ds own
@@ -71,7 +71,10 @@ abbrev mutual
   -- each clause has the function type v
   pub HasClauses : Assumptions → Clauses → Monotype → Type 0
   HasClauses A no_clause v = Unit {0}
-  HasClauses A (clause ps gs ds cs) v = HasFunction A ps v (λ C u. HasLocal C ds (λ B. InUnits C ds B (λ sees ts. HasBindings C sees ts B ds)) (λ D. HasRightSides D gs u)) × HasClauses A cs v
+  HasClauses A (clause ps gs ds cs) v =
+      HasFunction A ps v (λ C u.
+      HasLocal C ds (λ B. InUnits C ds B (λ sees ts. HasBindings C sees ts B ds)) (λ D. HasRightSides D gs u))
+      × HasClauses A cs v
 
   -- each right side has the type u, and each guard is a Bool
   pub HasRightSides : Assumptions → RightSides → Monotype → Type 0

@@ -40,7 +40,7 @@ SameUnit ds x y = (x ≡ y) ⊎ (Reaches ds x y × Reaches ds y x)
 abbrev pub DependsOn : Bindings → Identifier → Identifier → Type 0
 DependsOn ds x y = Reaches ds x y × ¬ (SameUnit ds x y)
 
--- the names are distinct, and own x y says whether both are in one unsigned unit
+-- the names of the list are distinct, and own x y says whether x and y are in one unsigned unit
 abbrev pub AreUnits : Bindings → (Identifier → Identifier → Bool) → Type 0
 AreUnits ds own = IsDistinct (names ds) × ((x y : Identifier) → Decides (own x y) (IsUnsigned x ds × IsUnsigned y ds × SameUnit ds x y))
 

@@ -14,7 +14,7 @@ pub use inference::{
     principal_or_none,
 };
 pub use modules::{good_modules_have_principal_assignments, principal_assignments_compose};
-pub use schemes::programs_decide_generality;
+pub use schemes::{programs_decide_generality, programs_unify_alike};
 pub use sources::{sources_with_faults, sources_with_types, sources_without_types};
 pub use typing::typing_is_stable;
 pub use verdicts::{
