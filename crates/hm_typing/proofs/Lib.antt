@@ -23,6 +23,7 @@ pub mod Judge
 pub mod Faults
 pub mod FaultLists
 pub mod Ordering
+pub mod Numbering
 pub mod ListVerdicts
 pub mod ModuleSets
 pub mod SetVerdicts

@@ -1,5 +1,5 @@
 -- The laws that the crate's functions prove, as statements.
-use Rattle.std.specs.Prelude.{◌≡◌, ℕ, List, [], Bool, true, false, ◌⊎◌, ◌↔◌, ◌<◌, ◌+◌}
+use Rattle.std.specs.Prelude.{◌≡◌, ℕ, List, [], Bool, true, false, ◌⊎◌, ◌↔◌, ◌<◌, ◌+◌, map}
 use Rattle.hm_types.specs.Types.{In, put}
 use Rattle.hm_types.specs.Schemes.{TypeScheme, IsAtLeastAsGeneral, HasNoRigid}
 use Rattle.hm_types.specs.Monotypes.{Mono}
@@ -16,7 +16,7 @@ use Rattle.hm_typing.specs.Assignments.{Module, Assignment, outer, IsPrincipal}
 use Rattle.hm_typing.specs.Verdicts.{AreTypeFaults, Verdict, Good, Faulty, IsVerdict, InClosure, IsImportedBy, IsGood, IsSkipped, IsFaulty, IsLawful}
 use Rattle.hm_typing.specs.SecondForm.{Derives}
 use Rattle.hm_typing.specs.Problems.{Fact, Unifies, IsBelow, FactsBelow, MostGeneralUnifier, Solved, Answer}
-use Rattle.hm_typing.specs.Orders.{Layout, UnitHas, AreGroups, AreTestsOf}
+use Rattle.hm_typing.specs.Orders.{Layout, UnitHas, AreGroups, AreTestsOf, AreNumberedGroups}
 
 -- Typing
 
@@ -85,7 +85,11 @@ UnitsGeneraliseAlike =
 abbrev pub GroupsGiveOrder : Type 0
 GroupsGiveOrder = (ds : Bindings) → IsDistinct (names ds) → (gs : List (List Identifier)) → AreGroups ds gs → (order : Layout ds) × AreTestsOf order.groups gs
 
--- each list has them
+-- the groups of a graph of numbered names, as they are given one after the other, are such groups
+abbrev pub NumberedGroupsAreGroups : Type 0
+NumberedGroupsAreGroups = (ds : Bindings) (name : ℕ → Identifier) (n : ℕ) (gs : List (List ℕ)) → AreNumberedGroups ds name n gs → AreGroups ds (map (map name) gs)
+
+-- each list has groups
 abbrev pub HasGroups : Type 0
 HasGroups = (ds : Bindings) → (gs : List (List Identifier)) × AreGroups ds gs
 

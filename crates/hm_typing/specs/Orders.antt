@@ -1,5 +1,5 @@
 -- An order of the units of a list, in which each depends on those before it.
-use Rattle.std.specs.Prelude.{◌≡◌, ℕ, List, [], ◌∷◌, Bool, true, false, cond, ◌||◌, ◌⊎◌, ◌↔◌}
+use Rattle.std.specs.Prelude.{◌≡◌, ℕ, List, [], ◌∷◌, Bool, true, false, cond, ◌||◌, ◌⊎◌, ◌↔◌, ◌<◌, ◌++◌}
 use Rattle.std.specs.Bool.{Decides}
 use Rattle.hm_types.specs.Types.{In}
 use Rattle.hm_typing.specs.Names.{IsOneOf, Identifier}
@@ -77,3 +77,24 @@ AreTestsOf [] [] = Unit {0}
 AreTestsOf [] (g ∷ gs) = ⊥
 AreTestsOf (t ∷ ts) [] = ⊥
 AreTestsOf (t ∷ ts) (g ∷ gs) = ((y : Identifier) → Decides (t y) (IsOneOf y g)) × AreTestsOf ts gs
+
+-- The same of numbered names, as the groups of a graph are given: name tells the name of each number below n
+
+-- g may come after the numbers before: it is the group of its first, which is not there, and all else that this reaches is
+pub record NumberedGroup (ds : Bindings) (name : ℕ → Identifier) (n : ℕ) (before g : List ℕ) : Type 0 where
+  pub first : ℕ
+  pub number : first < n
+  pub absent : ¬ (IsOneOf first before)
+  pub after : (y : ℕ) → y < n → Reaches ds (name first) (name y) → IsOneOf y before ⊎ Reaches ds (name y) (name first)
+  pub members : (y : ℕ) → IsOneOf y g ↔ ((y < n) × ((first ≡ y) ⊎ (Reaches ds (name first) (name y) × Reaches ds (name y) (name first))))
+
+abbrev pub NumberedInOrder : Bindings → (ℕ → Identifier) → ℕ → List ℕ → List (List ℕ) → Type 0
+NumberedInOrder ds name n before [] = Unit {0}
+NumberedInOrder ds name n before (g ∷ gs) = NumberedGroup ds name n before g × NumberedInOrder ds name n (before ++ g) gs
+
+pub record AreNumberedGroups (ds : Bindings) (name : ℕ → Identifier) (n : ℕ) (gs : List (List ℕ)) : Type 0 where
+  pub unsigned_names : (i : ℕ) → i < n → IsUnsigned (name i) ds
+  pub named : (x : Identifier) → IsUnsigned x ds → (i : ℕ) × (i < n) × (x ≡ name i)
+  pub one_number : (i j : ℕ) → i < n → j < n → name i ≡ name j → i ≡ j
+  pub all : (i : ℕ) → i < n → (g : List ℕ) × IsOneOf g gs × IsOneOf i g
+  pub in_order : NumberedInOrder ds name n [] gs

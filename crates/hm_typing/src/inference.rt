@@ -5,6 +5,7 @@ ghost use Rattle.hm_typing.specs.Laws.{
   ExpressionsGeneraliseAlike,
   GroupsGiveOrder,
   HasGroups,
+  NumberedGroupsAreGroups,
   PrincipalOrNone,
   UnificationIsDecided,
   UnitsGeneraliseAlike,
@@ -33,8 +34,9 @@ pub fn generalisation_may_keep_outer_variables()
 {}
 
 /// The groups of mutual reach of a list of bindings, in an order in which each comes after all others that it reaches, are an order in
-/// which its units can be inferred; and each list has them.
+/// which its units can be inferred; a graph's groups, over numbered names, are such groups; and each list has some.
 pub fn groups_are_an_order()
     ensures groups_give_order { GroupsGiveOrder }
+    ensures numbered_groups { NumberedGroupsAreGroups }
     ensures has_groups { HasGroups }
 {}
