@@ -36,12 +36,14 @@ impl Model for Text {
 }
 
 impl Text {
+    /// The name of a `String`, and takes no memory.
     pub fn new(text: String) -> Text
         ensures { result ≡ string_bytes text }
     {
         Text { text }
     }
 
+    /// The name, lent.
     pub fn as_str(&self) -> &str
         ensures { result.now ≡ self.now }
     {
@@ -56,6 +58,7 @@ impl Text {
         text
     }
 
+    /// A copy, where memory allows.
     pub fn copy(&self) -> Result<Text, AllocError>
         ensures { IfOk result (λ text. text ≡ self.now) }
     {
@@ -64,6 +67,7 @@ impl Text {
         })
     }
 
+    /// Whether both have the same bytes.
     pub fn is_same(&self, other: &Text) -> bool
         ensures { IsTrue result ↔ (self.now ≡ other.now) }
     {
@@ -92,6 +96,7 @@ pub struct Entity {
 }
 
 impl Entity {
+    /// A copy, where memory allows.
     pub fn copy(&self) -> Result<Entity, AllocError>
         ensures { IfOk result (λ entity. entity ≡ self.now) }
     {
@@ -101,6 +106,7 @@ impl Entity {
         })
     }
 
+    /// Whether both have the same module and name.
     pub fn is_same(&self, other: &Entity) -> bool
         ensures { IsTrue result ↔ (self.now ≡ other.now) }
     {
@@ -120,6 +126,7 @@ pub enum Head {
 }
 
 impl Head {
+    /// A copy, where memory allows.
     pub fn copy(&self) -> Result<Head, AllocError>
         ensures { IfOk result (λ head. head ≡ self.now) }
     {
@@ -132,6 +139,7 @@ impl Head {
         })
     }
 
+    /// Whether both are the same type constructor. Tuples of two sizes are not.
     pub fn is_same(&self, other: &Head) -> bool
         ensures { IsTrue result ↔ (self.now ≡ other.now) }
     {

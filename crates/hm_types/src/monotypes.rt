@@ -48,6 +48,7 @@ impl Model for Types {
 }
 
 impl Types {
+    /// The arguments of a `Vec`, in its order, and takes no memory.
     pub fn new(items: Vec<Ty>) -> Types
         ensures { result ≡ types_of items.items }
     {
@@ -62,6 +63,7 @@ impl Types {
         items
     }
 
+    /// The arguments, lent.
     pub fn as_slice(&self) -> &[Ty]
         ensures { types_of result.now ≡ self.now }
     {
@@ -80,6 +82,7 @@ impl Ty {
         Ok(Ty::App(Head::Arrow, Types::new(arguments)))
     }
 
+    /// A copy, where memory allows.
     pub fn copy(&self, alloc: Global) -> Result<Ty, AllocError>
         ensures { IfOk result (λ t. type_of t ≡ type_of self.now) }
     {
@@ -137,6 +140,7 @@ impl Ty {
         }
     }
 
+    /// Whether both are the same type, variables by number.
     pub fn is_same(&self, other: &Ty) -> bool
         ensures { IsTrue result ↔ (type_of self.now ≡ type_of other.now) }
     {

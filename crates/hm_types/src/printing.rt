@@ -9,7 +9,8 @@ ghost use Rattle.hm_types.specs.Texts.{applied_bracketed, entity_text, function_
 use crate::{Entity, Head, Scheme, Ty};
 use std::alloc::{AllocError, Global};
 
-/// The text of a scheme.
+/// The text of a scheme, in the notation of the Haskell 98 Report, section 4.1.2: variables are
+/// `a` to `z`, then `a1` to `z1` and so on, and names of Prelude stand bare.
 pub fn scheme_text(alloc: Global, scheme: &Scheme) -> Result<String, AllocError>
     ensures { IfOk result (λ text. string_bytes text ≡ scheme_text_of scheme.now) }
 {

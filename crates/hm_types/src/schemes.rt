@@ -55,6 +55,7 @@ impl Scheme {
         &self.body
     }
 
+    /// A copy, where memory allows.
     pub fn copy(&self, alloc: Global) -> Result<Scheme, AllocError>
         ensures { IfOk result (λ scheme. scheme ≡ self.now) }
     {

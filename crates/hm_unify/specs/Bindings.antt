@@ -1,4 +1,4 @@
--- The map that a list of bindings stands for.
+-- The substitution that a list of bindings stands for. Of these, public clauses name `solution` alone, and promise laws of it.
 use Rattle.std.specs.Prelude.{◌≡◌, ℕ, zero, suc, ◌+◌, ◌≤◌, Bool, false, ◌||◌, if◌then◌else◌, List, [], ◌∷◌}
 use Rattle.hm_types.specs.Types.{App as app, done as none, more, Var as leaf}
 use Rattle.hm_types.specs.Monotypes.{Mono, Monos, var, rigid, size}

@@ -1,4 +1,4 @@
--- What the steps of the solver do, on its own data.
+-- What the steps of the solver do, on its own data. No public clause names these.
 use Rattle.std.specs.Prelude.{◌≡◌, ℕ, true, false, List, [], ◌∷◌, ◌++◌, ◌⊎◌, ◌↔◌, map, length}
 use Rattle.hm_types.specs.declared.Head.{Head}
 use Rattle.hm_types.specs.Types.{App as app, Var as leaf}
