@@ -87,10 +87,6 @@ assumptions_put_unifier A E m r u = assumptions_put_put r m.map A ∙ assumption
 pub assumptions_put-below : (n : ℕ) (A : Assumptions) (m : ℕ → Monotype) → AssumptionsBelow n A → ((x : ℕ) → x < n → IsBelow n (m x)) → AssumptionsBelow n (assumptions_put m A)
 assumptions_put-below n A m b k a f = let h = assumptions_put_FreeIn m a A f in k h.0 (b h.0 h.1) a h.2
 
-pub bind-below : (n : ℕ) (x : Identifier) (σ : Scheme) (A : Assumptions) → SchemeBelow n σ → AssumptionsBelow n A → AssumptionsBelow n (bind x σ A)
-bind-below n x σ A b c a (inl i) = b a i
-bind-below n x σ A b c a (inr f) = c a f
-
 pub below_more : (n m : ℕ) (A : Assumptions) → n ≤ m → AssumptionsBelow n A → AssumptionsBelow m A
 below_more n m A l b a f = let h = b a f in omega arith
 

@@ -12,9 +12,6 @@ use Rattle.hm_typing.proofs.Bridge.{HasType-Derives, own_unsigned}
 use Rattle.hm_typing.proofs.Groups.{cond_true}
 use Rattle.hm_typing.proofs.WorkedSources.{differ, its_type, at_type, found, behind, only, nothing_listed, alone, signed_alone, typed_with, always, two, f≢x, x≢y, argument, not_own_pair}
 
-y≢x : ¬ (y ≡ x)
-y≢x e = x≢y (sym e)
-
 otherwise≢f : ¬ (otherwise ≡ f)
 otherwise≢f = differ otherwise f (λ e. omega arith)
 
@@ -66,9 +63,6 @@ case_of_text_typed = HasType-Derives case_of_text empty empty _ (λ v u h. h) (
 )
 
 -- f x | x = y | otherwise = 2 where { y = 1 }
-guarded_body : (A : Assumptions) → Assumptions
-guarded_body A = bind y (closed int) A
-
 number_derived : (A : Assumptions) → DeriveClauses A (is (Literal Integer)) int
 number_derived A = (
   record {

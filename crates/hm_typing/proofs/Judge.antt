@@ -47,27 +47,6 @@ Reaches-unsigned ds (through r p) = Reaches-unsigned ds p
 abbrev pub Closure : Bindings → Identifier → Identifier → Type 0
 Closure ds x y = DependsOn ds x y ⊎ SameUnit ds x y
 
-module _ (ds : Bindings) (own : Identifier → Identifier → Bool) (units : AreUnits ds own) (x : Identifier) (ux : IsUnsigned x ds) where
-  reached : (y : Identifier) → Closure ds x y → (x ≡ y) ⊎ Reaches ds x y
-  reached y (inl d) = inr d.0
-  reached y (inr (inl e)) = inl e
-  reached y (inr (inr p)) = inr p.0
-
-  pub in_closure : (y : Identifier) → Reaches ds x y → Closure ds x y
-  in_closure y r = ⊎_elim (λ e. inr ((units.1 x y).0 e).2) (λ e. inl (r, λ s. opposite ((units.1 x y).1 (ux, Reaches-unsigned ds r, s)) e)) (bools (own x y))
-
-  pub closure_unsigned : (y : Identifier) → Closure ds x y → IsUnsigned y ds
-  closure_unsigned y c = ⊎_elim (λ e. subst (λ z. IsUnsigned z ds) e ux) (λ r. Reaches-unsigned ds r) (reached y c)
-
-  pub closure_down : IsDown ds own (Closure ds x)
-  closure_down = record {
-    mentioned = λ v y c m u. ⊎_elim (λ e. in_closure y (directly (subst (λ z. BindingMentions z y ds) (sym e) m, u))) (λ r. in_closure y (Reaches-trans ds r (directly (m, u)))) (reached v c);
-    whole = λ v y o c.
-        let s = ((units.1 v y).0 o).2 in
-        ⊎_elim (λ e. subst (Closure ds x) e c)
-        (λ p. in_closure y (⊎_elim (λ e. subst (λ z. Reaches ds z y) (sym e) p.0) (λ r. Reaches-trans ds r p.0) (reached v c))) s;
-  }
-
 -- The two forms of a set of bindings, under closed schemes
 
 module _ (ds : Bindings) (own : Identifier → Identifier → Bool) (units : AreUnits ds own) (A : Assumptions) (shutA : IsClosed A) (U : Identifier → Type 0) (down : IsDown ds own U) where

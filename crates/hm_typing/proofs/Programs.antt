@@ -1,5 +1,5 @@
 -- Generality of schemes, as programs decide it, is that of the schemes here.
-use Rattle.std.proofs.Common.{◌≡◌, ℕ, Bool, true, cond, List, [], ◌∷◌, ◌↔◌, refl, sym, ap, ap₂, ◌∙◌}
+use Rattle.std.proofs.Common.{◌≡◌, ℕ, Bool, cond, List, [], ◌∷◌, ◌↔◌, refl, sym, ap, ap₂, ◌∙◌}
 use Rattle.hm_types.specs.Types.{Args, Var, App, done, more, put, put_all}
 use Rattle.hm_types.specs.Monotypes.{Leaf, Mono, var, rigid}
 use Rattle.hm_types.specs.Substitution.{Substitution, substitute, substitute_all}

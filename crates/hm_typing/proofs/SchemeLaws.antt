@@ -88,9 +88,6 @@ assumptions_put_put q r empty = refl
 assumptions_put_put q r (bind x σ A) = ap₂ (bind x) (scheme_put_put q r σ) (assumptions_put_put q r A)
 
 -- a bound of the variables
-abbrev pub Below : ℕ → Monotype → Type 0
-Below n t = (a : ℕ) → In a t → a < n
-
 abbrev pub SchemeBelow : ℕ → Scheme → Type 0
 SchemeBelow n σ = (a : ℕ) → In (Free a) σ → a < n
 

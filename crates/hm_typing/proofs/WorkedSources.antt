@@ -42,9 +42,6 @@ x≢y = differ x y (λ e. omega arith)
 g≢x : ¬ (g ≡ x)
 g≢x e = x≢g (sym e)
 
-g≢y : ¬ (g ≡ y)
-g≢y = differ g y (λ e. omega arith)
-
 pub f≢x : ¬ (f ≡ x)
 f≢x = differ f x (λ e. omega arith)
 
