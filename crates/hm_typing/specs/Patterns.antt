@@ -26,7 +26,7 @@ abbrev pub arrows : ℕ → (ℕ → Monotype) → ℕ → Monotype → Monotype
 arrows zero ts i u = u
 arrows (suc k) ts i u = arrow (ts i) (arrows k ts (suc i) u)
 
--- the pattern has the type t where its variables have the types τ; a constructor is fully applied
+-- the pattern has the type t where its variables have the types τ. That a constructor has all its arguments is asked before (Report 3.17.1)
 abbrev mutual
   pub Matches : (Identifier → Monotype) → Pattern → Monotype → Type 0
   Matches τ (VariablePattern x) t = t ≡ τ x
