@@ -7,6 +7,7 @@
 
 mod directed;
 mod faults;
+pub mod laws;
 mod planning;
 
 pub use directed::Digraph;
