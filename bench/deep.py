@@ -16,7 +16,7 @@ LIMIT = 1_048_576
 
 # what stands before the nesting, one level of it, what is innermost, the close of each level, and what follows
 KINDS = {
-    "lambdas": ("x = ", "\\x->", "1", "", ""),
+    "lambdas": ("x = ", "\\x-> ", "1", "", ""),
     "lets": ("x = ", "let{}in ", "1", "", ""),
     "ifs behind else": ("x = ", "if a then a else ", "1", "", ""),
     "ifs within conditions": ("x = ", "if ", "1", " then a else a", ""),

@@ -2,7 +2,11 @@
 #![tactic(auto)]
 
 #[cfg(test)]
+mod check;
+#[cfg(test)]
 mod devices;
+#[cfg(test)]
+mod grammar;
 #[cfg(test)]
 mod plans;
 #[cfg(test)]

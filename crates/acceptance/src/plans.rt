@@ -1,7 +1,6 @@
 //! What `run_plan` prints of sources.
+use crate::check::check;
 use hm_build::{RunFault, Status, Watched, run_plan};
-use std::alloc::{AllocError, Global};
-use std::process::Abort;
 use std::test::Fail;
 
 /// A source, how the run ends, and what it prints.
@@ -127,23 +126,6 @@ const REFUSED_SOURCES: [Row; 13] = [
         b"refused: source 1 at 1:23: syntax\n",
     ),
 ];
-
-/// Runs one source, and compares how the run ends and what it prints.
-fn check(
-    rt: &(impl Abort + AllocGlobal),
-    source: &[u8],
-    status: Status,
-    text: &[u8],
-) -> Result<(), AllocError> {
-    let alloc: Global = rt.alloc();
-    let mut readers = [Watched::new(source)];
-    let mut printed = Vec::new(alloc);
-    let mut writer = Watched::new(&mut printed);
-    let ended = run_plan(alloc, readers.as_mut_slice(), &mut writer);
-    assert_eq!(rt; ended, Ok(status));
-    assert!(rt; printed.as_slice() == text);
-    Ok(())
-}
 
 #[test]
 fn plans(rt: HostRuntime) -> Result<(), Fail> {

@@ -1,6 +1,7 @@
 //! The tokens that are left of a source, and the steps that every part of the parser takes on them.
 ghost use Rattle.std.specs.Prelude.{◌≡◌};
 ghost use Rattle.hm_parse.specs.Reading.Basics.{peek, is_at, is_done, is_at_word, tail, expect, name_at, module_name_at, modid_at, item_end, past_semicolons};
+ghost use Rattle.hm_parse.specs.Reading.Constructors.{IsPlaceAt};
 ghost use Rattle.hm_parse.specs.Outcome.{Gives};
 
 use crate::ast::Name;
@@ -43,6 +44,19 @@ impl Parser<'_> {
         }
     }
 
+    /// What stands behind what stands next.
+    pub(crate) fn second(&self) -> Symbol
+        ensures { result ≡ peek (tail self.now) }
+    {
+        match self.tokens.split_first() {
+            Some((_, rest)) => match rest.split_first() {
+                Some((token, _)) => symbol_of(token.kind, text_of(self.source, token)),
+                None => Symbol::End,
+            },
+            None => Symbol::End,
+        }
+    }
+
     pub(crate) fn at(&self, symbol: Symbol) -> bool
         ensures { result ≡ is_at symbol self.now }
     {
@@ -69,7 +83,9 @@ impl Parser<'_> {
     }
 
     /// The place of what stands next.
-    pub(crate) fn place(&self) -> Place {
+    pub(crate) fn place(&self) -> Place
+        ensures { IsPlaceAt self.now result }
+    {
         match self.tokens.first() {
             Some(token) => token.place,
             None => self.end,

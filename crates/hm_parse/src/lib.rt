@@ -3,12 +3,15 @@
 
 mod ast;
 mod cursor;
+mod data;
 mod declarations;
+mod expressions;
 mod fault;
 mod headers;
 pub mod laws;
 mod modules;
 mod parser;
+mod patterns;
 mod symbol;
 #[cfg(test)]
 mod tests;

@@ -1,0 +1,27 @@
+use Rattle.std.proofs.Common.{◌≡◌, ◌<◌, List, [], ◌∷◌, ◌++◌, length, Some, ap, sym, ◌∙◌, rules, arith, refl}
+use Rattle.hm_parse.specs.Trees.{Expression}
+use Rattle.hm_parse.specs.Reading.Basics.{tail, loop, behind, next_of}
+use Rattle.hm_parse.specs.Reading.Expressions.{exp_with, guarded_in, all_expressions}
+use Rattle.hm_parse.proofs.ExpressionLoops.{elements_end, chain_shorter, expect_shorter, first_guard_shorter}
+use Rattle.hm_parse.proofs.cursor.Parser.+exprs.Goals as goal
+
+pub bodies-guards-init : goal.bodies-guards-init
+bodies-guards-init t c =
+    let read : guarded_in all_expressions c.args.mark (tail c.args.self.now) ≡ Some (c.in_ok-guarded.field-0, c.guarded.new.self) =
+    ap (guarded_in all_expressions c.args.mark) (sym c.skip-2.ensures) ∙ c.in_ok-guarded.ensures in
+    record {
+      read = refl;
+      left = first_guard_shorter c.args.mark c.args.self.now c.guarded.new.self c.in_ok-guarded.field-0 (search rules) read;
+    }
+
+pub exp_list-returns : goal.exp_list-returns
+exp_list-returns t c =
+    let start : ◌≡◌ {A = List Expression} c.push.new.self.items (c.in_ok-first.first ∷ []) = c.in_ok-push.ensures.items ∙ ap (λ (z : List Expression). z ++ c.in_ok-first.first ∷ []) c.new-found.ensures.items in
+    elements_end c.in_ok-first.first c.elements.found.items c.args.self.now c.exp.new.self c.elements.self c.expect.new.self
+    c.in_ok-first.ensures (c.elements.invariant.read ∙ ap (λ (z : List Expression). behind z (loop (next_of (exp_with all_expressions)) c.exp.new.self)) start) (search rules) c.in_ok-expect.ensures
+
+pub guarded-exp-requires : goal.guarded-exp-requires
+guarded-exp-requires t c =
+    let guard_read : length c.chain.new.self < length c.args.self.now = chain_shorter c.args.self.now c.chain.new.self (c.in_ok-guard.guard, c.in_ok-guard.field-0-1) c.in_ok-guard.ensures in
+    let mark_read : length c.expect.new.self < length c.chain.new.self = expect_shorter c.args.mark c.chain.new.self c.expect.new.self c.in_ok-expect.ensures in
+    (omega (arith, c.decreases, guard_read, mark_read), tt)

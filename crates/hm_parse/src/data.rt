@@ -1,0 +1,89 @@
+//! Data declarations (Haskell 98 Report, section 4.2.1).
+ghost use Rattle.std.specs.Prelude.{◌≡◌, length, [], ◌∷◌};
+ghost use Rattle.hm_parse.specs.Reading.Basics.{tail, loop, behind};
+ghost use Rattle.hm_parse.specs.Reading.Data.{next_tyvar, constr_at, next_constr, constrs_at, data_in};
+ghost use Rattle.hm_parse.specs.Outcome.{Gives};
+
+use crate::ast::{Constr, Decl, DeclKind, Name};
+use crate::cursor::Parser;
+use crate::fault::ParseFault;
+use crate::symbol::Symbol;
+use std::alloc::Global;
+
+impl Parser<'_> {
+    #[tactic(auto, unfolding(crate::specs::Reading::Data::next_tyvar))]
+    fn next_tyvar(&mut self, alloc: Global) -> Result<Option<Name>, ParseFault>
+        ensures { Gives (λ n. (n, self.new)) result (next_tyvar self.old) }
+    {
+        if self.at(Symbol::Var) {
+            Ok(Some(self.name(alloc)?))
+        } else {
+            Ok(None)
+        }
+    }
+
+    /// The parameters of a data type.
+    #[tactic(auto, using(crate::proofs::DataLoops::tyvars_go_on, crate::proofs::DataLoops::tyvars_end, crate::proofs::DataLoops::tyvars_fail, crate::proofs::DataLoops::tyvars_start, crate::proofs::DataLoops::tyvars_shorter))]
+    fn tyvars(&mut self, alloc: Global) -> Result<Vec<Name>, ParseFault>
+        ensures { Gives (λ v. (v.items, self.new)) result (loop next_tyvar self.old) }
+    {
+        let mut found = Vec::new(alloc);
+        'tyvars: while let Some(tyvar) = self.next_tyvar(alloc)? {
+            found.push(tyvar)?;
+        }
+        Ok(found)
+    }
+
+    /// A constructor with the types of its arguments.
+    #[tactic(auto, unfolding(crate::specs::Reading::Data::constr_at))]
+    fn constr(&mut self, alloc: Global) -> Result<Constr, ParseFault>
+        ensures { Gives (λ c. (c, self.new)) result (constr_at self.old) }
+    {
+        let name = self.con(alloc)?;
+        let args = self.atypes(alloc)?;
+        Ok(Constr { name, args })
+    }
+
+    #[tactic(auto, unfolding(crate::specs::Reading::Data::next_constr))]
+    fn next_constr(&mut self, alloc: Global) -> Result<Option<Constr>, ParseFault>
+        ensures { Gives (λ c. (c, self.new)) result (next_constr self.old) }
+    {
+        if self.at(Symbol::Bar) {
+            self.skip();
+            Ok(Some(self.constr(alloc)?))
+        } else {
+            Ok(None)
+        }
+    }
+
+    /// Constructors with bars between, at least one.
+    #[tactic(auto, using(crate::proofs::DataLoops::constrs_go_on, crate::proofs::DataLoops::constrs_end, crate::proofs::DataLoops::constrs_fail, crate::proofs::DataLoops::constrs_shorter), unfolding(crate::specs::Reading::Data::constrs_at))]
+    fn constrs(&mut self, alloc: Global) -> Result<Vec<Constr>, ParseFault>
+        ensures { Gives (λ v. (v.items, self.new)) result (constrs_at self.old) }
+    {
+        let mut found = Vec::new(alloc);
+        found.push(self.constr(alloc)?)?;
+        'constrs: while let Some(constr) = self.next_constr(alloc)? {
+            found.push(constr)?;
+        }
+        Ok(found)
+    }
+
+    /// What follows `data`.
+    #[tactic(auto, unfolding(crate::specs::Reading::Data::data_in))]
+    pub(crate) fn data(&mut self, alloc: Global) -> Result<Decl, ParseFault>
+        ensures { Gives (λ d. (d, self.new)) result (data_in self.old) }
+    {
+        let name = self.con(alloc)?;
+        let params = self.tyvars(alloc)?;
+        self.expect(Symbol::Equals)?;
+        let constrs = self.constrs(alloc)?;
+        Ok(Decl {
+            kind: DeclKind::DataType {
+                name,
+                params,
+                constrs,
+            },
+        })
+    }
+}

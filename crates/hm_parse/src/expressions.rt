@@ -1,0 +1,465 @@
+//! Expressions and declarations (Haskell 98 Report, sections 3 and 4.4).
+ghost use Rattle.std.specs.Prelude.{◌≡◌, ◌≤◌, length, [], ◌∷◌, false};
+ghost use Rattle.hm_parse.specs.Lists.{bodies};
+ghost use Rattle.hm_parse.specs.Reading.Basics.{peek, tail, is_at, loop, behind, next_of, closing, tuple_behind, list_in};
+ghost use Rattle.hm_parse.specs.Reading.Expressions.{tuple_of_expressions, list_of_expressions, next_item_of, var_at, exp_with, aexp_step, args_from, guarded_in, next_guarded, bodies_with, where_with, rhs_with, alt_with, alts_with, case_with, opd_with, link, open_by, lambda_with, let_with, if_with, signature_with, clause_with, decl_with, all_expressions};
+ghost use Rattle.hm_parse.specs.Outcome.{Gives};
+
+use crate::ast::{Alt, Decl, DeclKind, Expr, ExprKind, Name, Rhs};
+use crate::cursor::Parser;
+use crate::fault::ParseFault;
+use crate::symbol::Symbol;
+use crate::types::MAX_COMPONENTS;
+use std::alloc::Global;
+
+impl Parser<'_> {
+    /// An expression. A type may stand behind it, where it is closed.
+    #[cycle(exprs)]
+    #[tactic(auto, using(crate::proofs::ExpressionLoops::chain_shorter), unfolding(crate::specs::Reading::Expressions::exp_with))]
+    pub(crate) fn exp(&mut self, alloc: Global) -> Result<Expr, ParseFault>
+        ensures { Gives (λ e. (e, self.new)) result (exp_with all_expressions self.old) }
+    {
+        let (e, is_open) = self.chain(alloc)?;
+        if is_open || !self.at(Symbol::OfType) {
+            return Ok(e);
+        }
+        self.skip();
+        let ty = self.type_expr(alloc)?;
+        Ok(Expr {
+            kind: ExprKind::Typed(Box::new(alloc, e)?, ty),
+        })
+    }
+
+    /// Operands with colons between, or what extends as far right as it can; true where it is open.
+    #[cycle(exprs)]
+    #[tactic(auto, using(crate::proofs::ExpressionLoops::chain_is, crate::proofs::ExpressionLoops::opd_shorter), unfolding(crate::specs::Reading::Expressions::chain_step))]
+    fn chain(&mut self, alloc: Global) -> Result<(Expr, bool), ParseFault>
+        ensures { Gives (λ x. (x, self.new)) result (all_expressions.chain self.old) }
+    {
+        if self.symbol().begins_open() {
+            let e = self.open_exp(alloc)?;
+            return Ok((e, true));
+        }
+        let first = self.operand(alloc)?;
+        Ok(self.link(alloc, first)?)
+    }
+
+    /// A lambda, a `let` or an `if`.
+    #[cycle(exprs)]
+    #[tactic(auto, using(crate::proofs::ExpressionLoops::backslash_shorter, crate::proofs::ExpressionLoops::let_shorter, crate::proofs::ExpressionLoops::if_shorter))]
+    fn open_exp(&mut self, alloc: Global) -> Result<Expr, ParseFault>
+        ensures { Gives (λ e. (e, self.new)) result (open_by all_expressions (peek self.old) self.old) }
+    {
+        match self.symbol() {
+            Symbol::Backslash => {
+                self.skip();
+                Ok(self.lambda(alloc)?)
+            }
+            Symbol::Let => {
+                self.skip();
+                Ok(self.let_in(alloc)?)
+            }
+            Symbol::If => {
+                self.skip();
+                Ok(self.if_then_else(alloc)?)
+            }
+            _ => Err(ParseFault::Syntax(self.place())),
+        }
+    }
+
+    /// What follows an operand.
+    #[cycle(exprs)]
+    #[tactic(auto, using(crate::proofs::ExpressionLoops::colon_shorter), unfolding(crate::specs::Reading::Expressions::link))]
+    fn link(&mut self, alloc: Global, first: Expr) -> Result<(Expr, bool), ParseFault>
+        ensures { Gives (λ x. (x, self.new)) result (link all_expressions first self.old) }
+    {
+        if !self.at(Symbol::Colon) {
+            return Ok((first, false));
+        }
+        let colon = Expr {
+            kind: ExprKind::Con(self.colon(alloc)?),
+        };
+        let (rest, is_open) = self.chain(alloc)?;
+        let half = Expr {
+            kind: ExprKind::Apply(Box::new(alloc, colon)?, Box::new(alloc, first)?),
+        };
+        let whole = Expr {
+            kind: ExprKind::Apply(Box::new(alloc, half)?, Box::new(alloc, rest)?),
+        };
+        Ok((whole, is_open))
+    }
+
+    /// What follows a backslash.
+    #[cycle(exprs)]
+    #[tactic(auto, using(crate::proofs::ExpressionLoops::apat_shorter, crate::proofs::ExpressionLoops::apats_shorter, crate::proofs::ExpressionLoops::expect_shorter), unfolding(crate::specs::Reading::Expressions::lambda_with))]
+    fn lambda(&mut self, alloc: Global) -> Result<Expr, ParseFault>
+        ensures { Gives (λ e. (e, self.new)) result (lambda_with all_expressions self.old) }
+    {
+        let first = self.apat(alloc)?;
+        let mut params = self.apats(alloc)?;
+        params.insert(0, first)?;
+        self.expect(Symbol::Arrow)?;
+        let body = self.exp(alloc)?;
+        Ok(Expr {
+            kind: ExprKind::Lambda(params, Box::new(alloc, body)?),
+        })
+    }
+
+    /// What follows `let`.
+    #[cycle(exprs)]
+    #[tactic(auto, using(crate::proofs::ExpressionLoops::decls_shorter, crate::proofs::ExpressionLoops::expect_shorter), unfolding(crate::specs::Reading::Expressions::let_with))]
+    fn let_in(&mut self, alloc: Global) -> Result<Expr, ParseFault>
+        ensures { Gives (λ e. (e, self.new)) result (let_with all_expressions self.old) }
+    {
+        let local = self.decls(alloc)?;
+        self.expect(Symbol::In)?;
+        let body = self.exp(alloc)?;
+        Ok(Expr {
+            kind: ExprKind::Let(local, Box::new(alloc, body)?),
+        })
+    }
+
+    /// What follows `if`.
+    #[cycle(exprs)]
+    #[tactic(auto, using(crate::proofs::ExpressionLoops::exp_shorter, crate::proofs::ExpressionLoops::expect_shorter), unfolding(crate::specs::Reading::Expressions::if_with))]
+    fn if_then_else(&mut self, alloc: Global) -> Result<Expr, ParseFault>
+        ensures { Gives (λ e. (e, self.new)) result (if_with all_expressions self.old) }
+    {
+        let test = self.exp(alloc)?;
+        self.expect(Symbol::Then)?;
+        let consequence = self.exp(alloc)?;
+        self.expect(Symbol::Else)?;
+        let alternative = self.exp(alloc)?;
+        Ok(Expr {
+            kind: ExprKind::If(
+                Box::new(alloc, test)?,
+                Box::new(alloc, consequence)?,
+                Box::new(alloc, alternative)?,
+            ),
+        })
+    }
+
+    /// An application, or a `case`.
+    #[cycle(exprs)]
+    #[tactic(auto, using(crate::proofs::ExpressionLoops::aexp_shorter, crate::proofs::ExpressionLoops::case_shorter, crate::proofs::ExpressionLoops::args_go_on, crate::proofs::ExpressionLoops::args_end, crate::proofs::ExpressionLoops::args_fail), unfolding(crate::specs::Reading::Expressions::opd_with))]
+    fn operand(&mut self, alloc: Global) -> Result<Expr, ParseFault>
+        ensures { Gives (λ e. (e, self.new)) result (opd_with all_expressions self.old) }
+    {
+        if self.at(Symbol::Case) {
+            self.skip();
+            return Ok(self.case_of(alloc)?);
+        }
+        let mut head = self.aexp(alloc)?;
+        'apply: while self.symbol().begins_aexp() {
+            let arg = self.aexp(alloc)?;
+            head = Expr {
+                kind: ExprKind::Apply(Box::new(alloc, head)?, Box::new(alloc, arg)?),
+            };
+        }
+        Ok(head)
+    }
+
+    /// What follows `case`.
+    #[cycle(exprs)]
+    #[tactic(auto, using(crate::proofs::ExpressionLoops::exp_shorter, crate::proofs::ExpressionLoops::expect_shorter), unfolding(crate::specs::Reading::Expressions::case_with))]
+    fn case_of(&mut self, alloc: Global) -> Result<Expr, ParseFault>
+        ensures { Gives (λ e. (e, self.new)) result (case_with all_expressions self.old) }
+    {
+        let subject = self.exp(alloc)?;
+        self.expect(Symbol::Of)?;
+        self.expect(Symbol::LeftBrace)?;
+        let alts = self.alts(alloc)?;
+        Ok(Expr {
+            kind: ExprKind::Case(Box::new(alloc, subject)?, alts),
+        })
+    }
+
+    /// The alternatives of a `case`, at least one, through the brace that ends them.
+    #[cycle(exprs)]
+    #[tactic(auto, using(crate::proofs::ExpressionLoops::past_shorter, crate::proofs::ExpressionLoops::alts_go_on, crate::proofs::ExpressionLoops::alts_end, crate::proofs::ExpressionLoops::alts_fail, crate::proofs::ExpressionLoops::alts_start, crate::proofs::ExpressionLoops::next_alts_shorter), unfolding(crate::specs::Reading::Expressions::alts_with))]
+    fn alts(&mut self, alloc: Global) -> Result<Vec<Alt>, ParseFault>
+        ensures { Gives (λ v. (v.items, self.new)) result (alts_with all_expressions self.old) }
+    {
+        self.past_semicolons();
+        if self.at(Symbol::RightBrace) {
+            return Err(ParseFault::Syntax(self.place()));
+        }
+        let mut found = Vec::new(alloc);
+        'alts: while let Some(alt) = self.next_alt(alloc)? {
+            found.push(alt)?;
+        }
+        Ok(found)
+    }
+
+    /// One more alternative, or none at the brace that ends them.
+    #[cycle(exprs)]
+    #[tactic(auto, using(crate::proofs::ExpressionLoops::past_shorter, crate::proofs::ExpressionLoops::pattern_shorter), unfolding(crate::specs::Reading::Expressions::next_item_of, crate::specs::Reading::Expressions::alt_with))]
+    fn next_alt(&mut self, alloc: Global) -> Result<Option<Alt>, ParseFault>
+        ensures { Gives (λ a. (a, self.new)) result (next_item_of (alt_with all_expressions) self.old) }
+    {
+        self.past_semicolons();
+        if self.at(Symbol::RightBrace) {
+            self.skip();
+            return Ok(None);
+        }
+        let pat = self.pat(alloc)?;
+        let rhs = self.rhs(alloc, Symbol::Arrow)?;
+        self.item_end(Symbol::Semicolon, Symbol::RightBrace)?;
+        Ok(Some(Alt { pat, rhs }))
+    }
+
+    /// A right side, behind this mark or behind guards and this mark, with its local declarations.
+    #[cycle(exprs)]
+    #[tactic(auto, using(crate::proofs::ExpressionLoops::bodies_shorter, crate::proofs::ExpressionLoops::where_shorter), unfolding(crate::specs::Reading::Expressions::rhs_with, crate::specs::Reading::Expressions::where_with))]
+    fn rhs(&mut self, alloc: Global, mark: Symbol) -> Result<Rhs, ParseFault>
+        requires { is_at mark [] ≡ false }
+        ensures { Gives (λ b. (b, self.new)) result (rhs_with all_expressions mark self.old) }
+    {
+        let parts = self.bodies(alloc, mark)?;
+        let local = if self.at(Symbol::Where) {
+            self.skip();
+            self.decls(alloc)?
+        } else {
+            Vec::new(alloc)
+        };
+        Ok(Rhs { parts, local })
+    }
+
+    /// The expressions of a right side, each behind its guard, if it has one.
+    #[cycle(exprs)]
+    #[tactic(auto, using(crate::proofs::ExpressionLoops::symbol_shorter, crate::proofs::ExpressionLoops::bar_shorter, crate::proofs::ExpressionLoops::guards_go_on, crate::proofs::ExpressionLoops::guards_end, crate::proofs::ExpressionLoops::guards_fail, crate::proofs::ExpressionLoops::next_guarded_shorter), unfolding(crate::specs::Reading::Expressions::bodies_with))]
+    fn bodies(
+        &mut self,
+        alloc: Global,
+        mark: Symbol,
+    ) -> Result<Vec<(Option<Expr>, Expr)>, ParseFault>
+        requires { is_at mark [] ≡ false }
+        ensures { Gives (λ v. (v.items, self.new)) result (bodies_with all_expressions mark self.old) }
+    {
+        let mut found = Vec::new(alloc);
+        if self.at(mark) {
+            self.skip();
+            let body = self.exp(alloc)?;
+            found.push((None, body))?;
+            return Ok(found);
+        }
+        if !self.at(Symbol::Bar) {
+            return Err(ParseFault::Syntax(self.place()));
+        }
+        self.skip();
+        found.push(self.guarded(alloc, mark)?)?;
+        'guards: while let Some(next) = self.next_guarded(alloc, mark)? {
+            found.push(next)?;
+        }
+        Ok(found)
+    }
+
+    /// What follows a bar: a guard, the mark and an expression.
+    #[cycle(exprs)]
+    #[tactic(auto, using(crate::proofs::ExpressionLoops::chain_shorter, crate::proofs::ExpressionLoops::expect_shorter), unfolding(crate::specs::Reading::Expressions::guarded_in))]
+    fn guarded(&mut self, alloc: Global, mark: Symbol) -> Result<(Option<Expr>, Expr), ParseFault>
+        ensures { Gives (λ x. (x, self.new)) result (guarded_in all_expressions mark self.old) }
+    {
+        let (guard, _) = self.chain(alloc)?;
+        self.expect(mark)?;
+        let body = self.exp(alloc)?;
+        Ok((Some(guard), body))
+    }
+
+    #[cycle(exprs)]
+    #[tactic(auto, using(crate::proofs::ExpressionLoops::bar_shorter), unfolding(crate::specs::Reading::Expressions::next_guarded))]
+    fn next_guarded(
+        &mut self,
+        alloc: Global,
+        mark: Symbol,
+    ) -> Result<Option<(Option<Expr>, Expr)>, ParseFault>
+        ensures { Gives (λ x. (x, self.new)) result (next_guarded all_expressions mark self.old) }
+    {
+        if self.at(Symbol::Bar) {
+            self.skip();
+            Ok(Some(self.guarded(alloc, mark)?))
+        } else {
+            Ok(None)
+        }
+    }
+
+    /// An expression that needs no parentheses.
+    #[cycle(exprs)]
+    #[tactic(auto, using(crate::proofs::Loops::open_shorter, crate::proofs::TypeLoops::square_shorter, crate::proofs::ExpressionLoops::exp_shorter), unfolding(crate::specs::Reading::Expressions::aexp_step))]
+    pub(crate) fn aexp(&mut self, alloc: Global) -> Result<Expr, ParseFault>
+        ensures { Gives (λ e. (e, self.new)) result (aexp_step all_expressions self.old) }
+    {
+        if self.begins_gcon() {
+            let name = self.gcon(alloc)?;
+            return Ok(Expr {
+                kind: ExprKind::Con(name),
+            });
+        }
+        match self.symbol() {
+            Symbol::Var | Symbol::QVar => {
+                let name = self.name(alloc)?;
+                Ok(Expr {
+                    kind: ExprKind::Var(name),
+                })
+            }
+            Symbol::Integer | Symbol::Character | Symbol::Text => {
+                let literal = self.literal(alloc)?;
+                Ok(Expr {
+                    kind: ExprKind::Literal(literal),
+                })
+            }
+            Symbol::Open => {
+                self.skip();
+                let first = self.exp(alloc)?;
+                Ok(self.exp_closing(alloc, first)?)
+            }
+            Symbol::OpenSquare => {
+                self.skip();
+                Ok(self.exp_list(alloc)?)
+            }
+            _ => Err(ParseFault::Syntax(self.place())),
+        }
+    }
+
+    /// What follows `(` and an expression. A comma behind the last component that is allowed is a fault.
+    #[cycle(exprs)]
+    #[tactic(auto, using(crate::proofs::TypeLoops::comma_shorter, crate::proofs::ExpressionLoops::exp_shorter, crate::proofs::ExpressionLoops::components_go_on, crate::proofs::ExpressionLoops::components_end, crate::proofs::ExpressionLoops::components_open, crate::proofs::ExpressionLoops::components_fail, crate::proofs::ExpressionLoops::components_many), unfolding(crate::specs::Reading::Basics::closing))]
+    fn exp_closing(&mut self, alloc: Global, first: Expr) -> Result<Expr, ParseFault>
+        ensures { Gives (λ e. (e, self.new)) result (closing (exp_with all_expressions) tuple_of_expressions first self.old) }
+    {
+        if !self.at(Symbol::Comma) {
+            self.expect(Symbol::Close)?;
+            return Ok(first);
+        }
+        let mut found = Vec::new(alloc);
+        found.push(first)?;
+        'components: while self.at(Symbol::Comma) {
+            if found.len() == MAX_COMPONENTS {
+                return Err(ParseFault::Syntax(self.place()));
+            }
+            self.skip();
+            found.push(self.exp(alloc)?)?;
+        }
+        self.expect(Symbol::Close)?;
+        Ok(Expr {
+            kind: ExprKind::Tuple(found),
+        })
+    }
+
+    /// What follows `[`.
+    #[cycle(exprs)]
+    #[tactic(auto, using(crate::proofs::TypeLoops::comma_shorter, crate::proofs::ExpressionLoops::exp_shorter, crate::proofs::ExpressionLoops::components_go_on, crate::proofs::ExpressionLoops::elements_none, crate::proofs::ExpressionLoops::elements_open, crate::proofs::ExpressionLoops::elements_fail))]
+    fn exp_list(&mut self, alloc: Global) -> Result<Expr, ParseFault>
+        ensures { Gives (λ e. (e, self.new)) result (list_in (exp_with all_expressions) list_of_expressions self.old) }
+    {
+        let first = self.exp(alloc)?;
+        let mut found = Vec::new(alloc);
+        found.push(first)?;
+        'elements: while self.at(Symbol::Comma) {
+            self.skip();
+            found.push(self.exp(alloc)?)?;
+        }
+        self.expect(Symbol::CloseSquare)?;
+        Ok(Expr {
+            kind: ExprKind::List(found),
+        })
+    }
+
+    /// Declarations between braces.
+    #[cycle(exprs)]
+    #[tactic(auto, using(crate::proofs::ExpressionLoops::decls_is, crate::proofs::ExpressionLoops::expect_shorter, crate::proofs::ExpressionLoops::decls_go_on, crate::proofs::ExpressionLoops::decls_end, crate::proofs::ExpressionLoops::decls_fail, crate::proofs::ExpressionLoops::decls_start, crate::proofs::ExpressionLoops::next_decls_shorter), unfolding(crate::specs::Reading::Expressions::decls_step))]
+    fn decls(&mut self, alloc: Global) -> Result<Vec<Decl>, ParseFault>
+        ensures { Gives (λ v. (v.items, self.new)) result (all_expressions.decls self.old) }
+    {
+        self.expect(Symbol::LeftBrace)?;
+        let mut found = Vec::new(alloc);
+        'decls: while let Some(decl) = self.next_decl(alloc)? {
+            found.push(decl)?;
+        }
+        Ok(found)
+    }
+
+    /// One more declaration, or none at the brace that ends them.
+    #[cycle(exprs)]
+    #[tactic(auto, using(crate::proofs::ExpressionLoops::past_shorter), unfolding(crate::specs::Reading::Expressions::next_item_of))]
+    fn next_decl(&mut self, alloc: Global) -> Result<Option<Decl>, ParseFault>
+        ensures { Gives (λ d. (d, self.new)) result (next_item_of (decl_with all_expressions) self.old) }
+    {
+        self.past_semicolons();
+        if self.at(Symbol::RightBrace) {
+            self.skip();
+            return Ok(None);
+        }
+        let decl = self.decl(alloc)?;
+        self.item_end(Symbol::Semicolon, Symbol::RightBrace)?;
+        Ok(Some(decl))
+    }
+
+    /// A signature or a clause.
+    #[cycle(exprs)]
+    #[tactic(auto, using(crate::proofs::ExpressionLoops::variable_shorter, crate::proofs::ExpressionLoops::apats_shorter), unfolding(crate::specs::Reading::Expressions::decl_with, crate::specs::Reading::Expressions::clause_with))]
+    pub(crate) fn decl(&mut self, alloc: Global) -> Result<Decl, ParseFault>
+        ensures { Gives (λ d. (d, self.new)) result (decl_with all_expressions self.old) }
+    {
+        let name = self.var(alloc)?;
+        if self.symbol().begins_signature() {
+            return Ok(self.signature(alloc, name)?);
+        }
+        let pats = self.apats(alloc)?;
+        let rhs = self.rhs(alloc, Symbol::Equals)?;
+        Ok(Decl {
+            kind: DeclKind::Clause { name, pats, rhs },
+        })
+    }
+
+    /// The name of a variable.
+    #[tactic(auto, unfolding(crate::specs::Reading::Expressions::var_at))]
+    fn var(&mut self, alloc: Global) -> Result<Name, ParseFault>
+        ensures { Gives (λ n. (n, self.new)) result (var_at self.old) }
+    {
+        if self.at(Symbol::Var) {
+            Ok(self.name(alloc)?)
+        } else {
+            Err(ParseFault::Syntax(self.place()))
+        }
+    }
+
+    /// A comma and a variable.
+    #[tactic(auto, unfolding(crate::specs::Reading::Basics::next_of))]
+    fn next_var(&mut self, alloc: Global) -> Result<Option<Name>, ParseFault>
+        ensures { Gives (λ n. (n, self.new)) result (next_of var_at self.old) }
+    {
+        if self.at(Symbol::Comma) {
+            self.skip();
+            Ok(Some(self.var(alloc)?))
+        } else {
+            Ok(None)
+        }
+    }
+
+    /// A variable that was read, and those behind it.
+    #[tactic(auto, using(crate::proofs::ExpressionLoops::vars_go_on, crate::proofs::ExpressionLoops::vars_end, crate::proofs::ExpressionLoops::vars_fail, crate::proofs::ExpressionLoops::next_vars_shorter))]
+    fn vars(&mut self, alloc: Global, first: Name) -> Result<Vec<Name>, ParseFault>
+        ensures { Gives (λ v. (v.items, self.new)) result (behind (first ∷ []) (loop (next_of var_at) self.old)) }
+    {
+        let mut found = Vec::new(alloc);
+        found.push(first)?;
+        'vars: while let Some(var) = self.next_var(alloc)? {
+            found.push(var)?;
+        }
+        Ok(found)
+    }
+
+    /// What follows the first variable of a signature.
+    #[tactic(auto, unfolding(crate::specs::Reading::Expressions::signature_with))]
+    fn signature(&mut self, alloc: Global, first: Name) -> Result<Decl, ParseFault>
+        ensures { Gives (λ d. (d, self.new)) result (signature_with all_expressions first self.old) }
+    {
+        let names = self.vars(alloc, first)?;
+        self.expect(Symbol::OfType)?;
+        let ty = self.type_expr(alloc)?;
+        Ok(Decl {
+            kind: DeclKind::Signature { names, ty },
+        })
+    }
+}
