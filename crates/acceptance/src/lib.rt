@@ -11,3 +11,5 @@ mod grammar;
 mod plans;
 #[cfg(test)]
 mod transfers;
+#[cfg(test)]
+mod trees;

@@ -1,5 +1,6 @@
-use crate::{ParseFault, parse};
+//! How many modules and declarations the parser finds, and the places of its faults.
 use hm_lex::{Place, lex};
+use hm_parse::{ParseFault, parse};
 use std::alloc::Global;
 use std::test::Fail;
 
