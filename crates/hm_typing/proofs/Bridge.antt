@@ -7,7 +7,7 @@ use Rattle.hm_typing.specs.Schemes.{Monotype, Scheme, Free, Quantified, instance
 use Rattle.hm_typing.specs.Assumptions.{Assumptions, assumptions_put, FreeIn, AreAtMostAsGeneral, bind_all}
 use Rattle.hm_typing.specs.Decisions.{is_free_in, IsFree}
 use Rattle.hm_typing.specs.Generalisation.{quantify}
-use Rattle.hm_typing.specs.Syntax.{Expression, Variable, Constructor, Literal, Apply, Lambda, Let, If, Case, Tuple, Listing, Typed, Expressions, no_expression, expression, Clauses, no_clause, clause, RightSides, no_right_side, plain, guarded, Bindings, no_binding, unsigned, signed, patterns_names, names}
+use Rattle.hm_typing.specs.Syntax.{Expression, Variable, Constructor, Literal, Apply, Lambda, Let, If, Case, Tuple, Listing, Typed, Expressions, no_expression, expression, Clauses, no_clause, clause, RightSides, no_right_side, plain, guarded, Bindings, no_binding, unsigned, signed, matched, patterns_names, matched_names, names}
 use Rattle.hm_typing.specs.Units.{IsUnsigned, IsSigned, AreUnits, seen}
 use Rattle.hm_typing.specs.Typing.{AreNew, HasType, HasTypes, HasClauses, HasRightSides, HasBindings}
 use Rattle.hm_typing.specs.BindingLists.{HasSchemes}
@@ -17,7 +17,9 @@ use Rattle.hm_typing.proofs.Types.{put-agree, put-put, In-put}
 use Rattle.hm_typing.proofs.SchemeLaws.{scheme_put_mono, scheme_put-agree, scheme_put_Var, assumptions_put_Var, assumptions_put-agree, AssumptionsBelow, SchemeBelow, assumptions_bound}
 use Rattle.hm_typing.proofs.Bind.{Has-bind_all, bind_all-agree, assumptions_put-bind_all, instance_closed, FreeIn-bind_all-in, FreeIn-bind_all-out}
 use Rattle.hm_typing.proofs.Quantified.{opened, opened_free, quantified_instance, general_quantify, In_quantify}
-use Rattle.hm_typing.proofs.Put.{Derives-put, DeriveClauses-put}
+use Rattle.hm_typing.proofs.Put.{Matches-put, Derives-put, DeriveClauses-put}
+use Rattle.hm_typing.proofs.Local.{IsOneOf-left, IsOneOf-right}
+use Rattle.hm_typing.proofs.Matching.{one_of, distinct_rest, distinct_apart, own_name, Matches-named}
 
 pub more-all : (xs : List Identifier) (s s' : Identifier → Scheme) (A A' : Assumptions) → ((x : Identifier) → IsOneOf x xs → IsAtMostAsGeneral (s x) (s' x)) → AreAtMostAsGeneral A A' → AreAtMostAsGeneral (bind_all xs s A) (bind_all xs s' A')
 more-all xs s s' A A' c m x = Has-bind_all xs s s' A A' x (λ o t. c x o t) (λ o t. m x t)
@@ -59,12 +61,15 @@ unsigned_name no_binding x u = u
 unsigned_name (unsigned y cs ds) x (inl e) = inl e
 unsigned_name (unsigned y cs ds) x (inr u) = inr (unsigned_name ds x u)
 unsigned_name (signed y s cs ds) x u = inr (unsigned_name ds x u)
+unsigned_name (matched k p cs ds) x (inl o) = IsOneOf-left x (matched_names k p) (names ds) o
+unsigned_name (matched k p cs ds) x (inr u) = IsOneOf-right x (matched_names k p) (names ds) (unsigned_name ds x u)
 
 pub signed_name : (ds : Bindings) (x : Identifier) → IsSigned x ds → IsOneOf x (names ds)
 signed_name no_binding x u = u
 signed_name (unsigned y cs ds) x u = inr (signed_name ds x u)
 signed_name (signed y s cs ds) x (inl e) = inl e
 signed_name (signed y s cs ds) x (inr u) = inr (signed_name ds x u)
+signed_name (matched k p cs ds) x u = IsOneOf-right x (matched_names k p) (names ds) (signed_name ds x u)
 
 pub one_kind : (ds : Bindings) → IsDistinct (names ds) → (x : Identifier) → IsSigned x ds → ¬ (IsUnsigned x ds)
 one_kind no_binding d x s u = s
@@ -72,6 +77,8 @@ one_kind (unsigned y cs ds) d x s (inl e) = d.0 (subst (λ z. IsOneOf z (names d
 one_kind (unsigned y cs ds) d x s (inr u) = one_kind ds d.1 x s u
 one_kind (signed y t cs ds) d x (inl e) u = d.0 (subst (λ z. IsOneOf z (names ds)) e (unsigned_name ds x u))
 one_kind (signed y t cs ds) d x (inr s) u = one_kind ds d.1 x s u
+one_kind (matched k p cs ds) d x s (inl o) = distinct_apart (matched_names k p) (names ds) d x o (signed_name ds x s)
+one_kind (matched k p cs ds) d x s (inr u) = one_kind ds (distinct_rest (matched_names k p) (names ds) d) x s u
 
 pub own_signed : (ds : Bindings) (own : Identifier → Identifier → Bool) → AreUnits ds own → (x y : Identifier) → IsSigned x ds → own x y ≡ false
 own_signed ds own units x y u = not_true (own x y) (λ e. one_kind ds units.0 x u ((units.1 x y).0 e).0)
@@ -166,6 +173,14 @@ mutual
     ),
     HasBindings-Derives ds A A' own xs B n m b f (λ y i. g y (inr i)) d.1,
   )
+  HasBindings-Derives (matched k p cs ds) A A' own xs B n m b f g d = (
+    record {
+      fits = (d.0 (fresh n)).0;
+      right_sides = HasClauses-Derives cs _ _ _ (more-all xs _ _ A A' (λ y o. general_seen own A' n B k y (λ a i. b a (FreeIn-bind_all-in xs B A' a y o i)) (λ a i. b a (FreeIn-bind_all-out xs B A' a i))) m) (d.0 (fresh n)).1;
+      quantified = λ x o. ap (λ c. cond c (quantify A' (instance (B x) (fresh n))) (B x)) (f x (inl o));
+    },
+    HasBindings-Derives ds A A' own xs B n m b (λ y i. f y (inr i)) g d.1,
+  )
 
 -- What the second form makes of the first: substitutions that leave the variables free in A alone
 
@@ -222,6 +237,8 @@ is_quantified no_binding A sees ts B h x u = absurd u
 is_quantified (unsigned y cs ds) A sees ts B h x (inl e) = subst (λ z. B z ≡ quantify A (ts z)) (sym e) h.0.0
 is_quantified (unsigned y cs ds) A sees ts B h x (inr u) = is_quantified ds A sees ts B h.1 x u
 is_quantified (signed y s cs ds) A sees ts B h x u = is_quantified ds A sees ts B h.1 x u
+is_quantified (matched k p cs ds) A sees ts B h x (inl o) = h.0.quantified x o
+is_quantified (matched k p cs ds) A sees ts B h x (inr u) = is_quantified ds A sees ts B h.1 x u
 
 pub no_others : (ds : Bindings) (A : Assumptions) (sees : Identifier → Assumptions) (ts : Identifier → Monotype) (B : Identifier → Scheme) → HasBindings A sees ts B ds → (x : Identifier) → IsOneOf x (names ds) → (a : ℕ) → In (Free a) (B x) → FreeIn a A
 no_others no_binding A sees ts B h x o a i = absurd o
@@ -229,6 +246,7 @@ no_others (unsigned y cs ds) A sees ts B h x (inl e) a i = In_quantify A (ts y) 
 no_others (unsigned y cs ds) A sees ts B h x (inr o) a i = no_others ds A sees ts B h.1 x o a i
 no_others (signed y s cs ds) A sees ts B h x (inl e) a i = absurd (In_closed s a (subst (In (Free a)) (ap B e ∙ h.0.0) i))
 no_others (signed y s cs ds) A sees ts B h x (inr o) a i = no_others ds A sees ts B h.1 x o a i
+no_others (matched k p cs ds) A sees ts B h x o a i = ⊎_elim (λ q. In_quantify A (ts x) a (subst (In (Free a)) (h.0.quantified x q) i)) (λ q. no_others ds A sees ts B h.1 x q a i) (one_of x (matched_names k p) (names ds) o)
 
 -- what an unsigned binding sees, opened
 pub env_seen : (own : Identifier → Identifier → Bool) (ts : Identifier → Monotype) (B : Identifier → Scheme) (x : Identifier) (xs : List Identifier) (A : Assumptions) (us : ℕ → Monotype) →
@@ -339,6 +357,14 @@ mutual
           (DeriveClauses-put cs (λ a. opened (is_free_in a A) (λ b. us (index s d.0.1.variables b)) a) _ _ (DeriveClauses-Has cs _ _ d.0.1.typed)),
     ),
     DeriveBindings-Has ds A own xs ts B q f (λ y z i. g y z (inr i)) d.1,
+  )
+  DeriveBindings-Has (matched k p cs ds) A own xs ts B q f g d = (
+    (λ us.
+        let at : (x : Identifier) → IsOneOf x (matched_names k p) → put (λ a. opened (is_free_in a A) us a) (ts x) ≡ instance (B x) us = λ x o. quantified_instance A (ts x) us ∙ ap (λ σ. instance σ us) (sym (d.0.quantified x o)) in (
+          Matches-named k p _ _ at (Matches-put p (λ a. opened (is_free_in a A) us a) ts (ts k) d.0.fits),
+          subst₂ (λ C v. DeriveClauses C cs v) (env_seen own ts B k xs A us f (q k)) (at k (own_name k p)) (DeriveClauses-put cs (λ a. opened (is_free_in a A) us a) _ _ (DeriveClauses-Has cs _ _ d.0.right_sides)),
+        )),
+    DeriveBindings-Has ds A own xs ts B q f g d.1,
   )
 
 -- a list under more general assumptions is typed by schemes that are no less general

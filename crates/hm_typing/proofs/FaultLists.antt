@@ -4,7 +4,7 @@ use Rattle.hm_types.specs.Types.{Var, put}
 use Rattle.hm_typing.specs.Names.{Identifier, IsOneOf, IsDistinct}
 use Rattle.hm_typing.specs.Schemes.{Monotype, Scheme, instance}
 use Rattle.hm_typing.specs.Assumptions.{AreAtMostAsGeneral, Assumptions, bind_all, IsClosed, assumptions_put}
-use Rattle.hm_typing.specs.Syntax.{Bindings, no_binding, unsigned, signed, names}
+use Rattle.hm_typing.specs.Syntax.{Bindings, no_binding, unsigned, signed, matched, names}
 use Rattle.hm_typing.specs.Units.{IsUnsigned, IsSigned, BindingMentions, Reaches, directly, through, SameUnit, DependsOn, AreUnits}
 use Rattle.hm_typing.specs.Typing.{HasBindings}
 use Rattle.hm_typing.specs.BindingLists.{HasSchemes}
@@ -138,6 +138,7 @@ pub UnitsHave-weaker : (D : Bindings) (U V : Identifier → Type 0) (A : Assumpt
 UnitsHave-weaker no_binding U V A sees ts B f d = tt
 UnitsHave-weaker (unsigned x cs D) U V A sees ts B f d = ((λ v. d.0 (f x v)), UnitsHave-weaker D U V A sees ts B f d.1)
 UnitsHave-weaker (signed x s cs D) U V A sees ts B f d = ((d.0.0, λ v. d.0.1 (f x v)), UnitsHave-weaker D U V A sees ts B f d.1)
+UnitsHave-weaker (matched k p cs D) U V A sees ts B f d = ((λ v. d.0 (f k v)), UnitsHave-weaker D U V A sees ts B f d.1)
 
 pub typable_weaker : (A : Assumptions) (ds : Bindings) (U V : Identifier → Type 0) → ((y : Identifier) → V y → U y) → IsTypable A ds U → IsTypable A ds V
 typable_weaker A ds U V f p = record {
@@ -157,6 +158,7 @@ whole_list : (D : Bindings) (A : Assumptions) (sees : Identifier → Assumptions
 whole_list no_binding A sees ts B h = tt
 whole_list (unsigned x cs D) A sees ts B h = (h.0 tt, whole_list D A sees ts B h.1)
 whole_list (signed x s cs D) A sees ts B h = ((h.0.0, h.0.1 tt), whole_list D A sees ts B h.1)
+whole_list (matched k p cs D) A sees ts B h = (h.0 tt, whole_list D A sees ts B h.1)
 
 pub typed_whole : (A : Assumptions) (ds : Bindings) → IsTypable A ds (λ y. Unit {0}) → (B : Identifier → Scheme) × HasSchemes A ds B
 typed_whole A ds p = (p.schemes, record { own = p.units.own; units = p.units.units; types = p.units.types; bindings = whole_list ds A _ p.units.types p.schemes p.units.bindings })
@@ -165,10 +167,12 @@ derives_all : (D : Bindings) (A : Assumptions) (own : Identifier → Identifier 
 derives_all no_binding A own xs B d = tt
 derives_all (unsigned x cs D) A own xs B d = ((λ u. d.0), derives_all D A own xs B d.1)
 derives_all (signed x s cs D) A own xs B d = (d.0.0, derives_all D A own xs B d.1)
+derives_all (matched k p cs D) A own xs B d = ((λ u. d.0), derives_all D A own xs B d.1)
 
 signed_all : (D : Bindings) (A : Assumptions) (own : Identifier → Identifier → Bool) (xs : List Identifier) (B : Identifier → Scheme) → ((x y : Identifier) → IsSigned x D → own x y ≡ false) → DeriveBindings A own xs B D → SignedOf (λ y. Unit {0}) (bind_all xs B A) D
 signed_all no_binding A own xs B f d = tt
 signed_all (unsigned x cs D) A own xs B f d = signed_all D A own xs B f d.1
+signed_all (matched k p cs D) A own xs B f d = signed_all D A own xs B f d.1
 signed_all (signed x s cs D) A own xs B f d = (
   (λ u us. subst₂ (λ C v. DeriveClauses C cs v) (bind_all-agree xs _ _ A A (λ y o. cond_false (own x y) _ _ (f x y (inl refl))) refl) (ap (λ σ. instance σ us) d.0.0 ∙ Rattle.hm_typing.proofs.Bind.instance_closed s us) (d.0.1 us)),
   signed_all D A own xs B (λ y z i. f y z (inr i)) d.1,
@@ -188,6 +192,7 @@ module _ (solve : (E : List Fact) → MostGeneralUnifier E ⊎ ((r : ℕ → Mon
     signed_decided : (x : Identifier) (D : Bindings) → Dec (SignedOf (λ y. x ≡ y) C D)
     signed_decided x no_binding = yes tt
     signed_decided x (unsigned z cs D) = signed_decided x D
+    signed_decided x (matched k p cs D) = signed_decided x D
     signed_decided x (signed z s cs D) = also (go (name_discrete x z)) (signed_decided x D)
       where
         at : Dec ((us : ℕ → Monotype) → DeriveClauses (assumptions_put Var C) cs (put us s))

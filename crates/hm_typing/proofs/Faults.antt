@@ -6,7 +6,7 @@ use Rattle.hm_typing.specs.Schemes.{Monotype, Scheme, Free, instance, IsAtMostAs
 use Rattle.hm_typing.specs.Assumptions.{AreAtMostAsGeneral, Assumptions, bind_all, IsClosed}
 use Rattle.hm_typing.specs.Decisions.{is_free_in}
 use Rattle.hm_typing.specs.Generalisation.{quantify}
-use Rattle.hm_typing.specs.Syntax.{Bindings, no_binding, unsigned, signed, names}
+use Rattle.hm_typing.specs.Syntax.{Bindings, no_binding, unsigned, signed, matched, names}
 use Rattle.hm_typing.specs.Units.{IsUnsigned, IsSigned, BindingMentions, seen, AreUnits}
 use Rattle.hm_typing.specs.Typing.{InUnits}
 use Rattle.hm_typing.specs.Verdicts.{UnitsHave, IsTypable}
@@ -17,6 +17,7 @@ use Rattle.hm_typing.proofs.Bind.{Has-bind_all, bind_all-agree, FreeIn-bind_all,
 use Rattle.hm_typing.proofs.More.{DeriveClauses-more}
 use Rattle.hm_typing.proofs.Put.{DeriveClauses-put}
 use Rattle.hm_typing.proofs.Groups.{cond_false}
+use Rattle.hm_typing.proofs.Matching.{own_name, together}
 use Rattle.hm_typing.proofs.Bridge.{more-all, fresh, remade, general_remade, general_seen, is_new, index, put_new, own_unsigned, own_signed, env_signed, HasClauses-Derives, DeriveClauses-Has}
 use Rattle.hm_typing.proofs.Lists.{kind_of, same_units}
 use Rattle.hm_typing.proofs.Units.{AreClosed, DerivesOf, IsDown, declared_same}
@@ -27,23 +28,27 @@ abbrev pub SignedOf : (Identifier → Type 0) → Assumptions → Bindings → T
 SignedOf U C no_binding = Unit {0}
 SignedOf U C (unsigned x cs D) = SignedOf U C D
 SignedOf U C (signed x s cs D) = (U x → (us : ℕ → Monotype) → DeriveClauses C cs (put us s)) × SignedOf U C D
+SignedOf U C (matched k p cs D) = SignedOf U C D
 
 pub SignedOf-weaker : (D : Bindings) (U V : Identifier → Type 0) (C : Assumptions) → ((y : Identifier) → V y → U y) → SignedOf U C D → SignedOf V C D
 SignedOf-weaker no_binding U V C f d = tt
 SignedOf-weaker (unsigned x cs D) U V C f d = SignedOf-weaker D U V C f d
 SignedOf-weaker (signed x s cs D) U V C f d = ((λ v. d.0 (f x v)), SignedOf-weaker D U V C f d.1)
+SignedOf-weaker (matched k p cs D) U V C f d = SignedOf-weaker D U V C f d
 
 -- from each name alone
 pub SignedOf-all : (D : Bindings) (U : Identifier → Type 0) (C : Assumptions) → ((x : Identifier) → IsSigned x D → U x → SignedOf (λ y. x ≡ y) C D) → SignedOf U C D
 SignedOf-all no_binding U C f = tt
 SignedOf-all (unsigned x cs D) U C f = SignedOf-all D U C (λ y i u. f y i u)
 SignedOf-all (signed x s cs D) U C f = ((λ u. (f x (inl refl) u).0 refl), SignedOf-all D U C (λ y i u. (f y (inr i) u).1))
+SignedOf-all (matched k p cs D) U C f = SignedOf-all D U C (λ y i u. f y i u)
 
 -- under assumptions that have more of what is mentioned
 pub SignedOf-more : (D : Bindings) (U : Identifier → Type 0) (xs : List Identifier) (A : Assumptions) (B B' : Identifier → Scheme) →
     ((x y : Identifier) → U x → BindingMentions x y D → IsOneOf y xs → IsAtMostAsGeneral (B y) (B' y)) → SignedOf U (bind_all xs B A) D → SignedOf U (bind_all xs B' A) D
 SignedOf-more no_binding U xs A B B' f d = tt
 SignedOf-more (unsigned x cs D) U xs A B B' f d = SignedOf-more D U xs A B B' (λ y z u m. f y z u (inr m)) d
+SignedOf-more (matched k p cs D) U xs A B B' f d = SignedOf-more D U xs A B B' (λ y z u m. f y z u (inr m)) d
 SignedOf-more (signed x s cs D) U xs A B B' f d = (
   (λ u us. DeriveClauses-more cs _ _ _ (λ y i t h. Has-bind_all xs B B' A A y (λ o v. f x y u (inl (refl, i)) o v) (λ o v k. k) t h) (d.0 u us)),
   SignedOf-more D U xs A B B' (λ y z u m. f y z u (inr m)) d.1,
@@ -55,6 +60,7 @@ module _ (ds : Bindings) (own : Identifier → Identifier → Bool) (units : Are
       UnitsHave U A (λ x. bind_all (names ds) (seen own ts B x) A) ts B D → SignedOf U (bind_all (names ds) B A) D
   signed_of U no_binding ts B shut sub b = tt
   signed_of U (unsigned x cs D) ts B shut sub b = signed_of U D ts B shut sub b.1
+  signed_of U (matched k p cs D) ts B shut sub b = signed_of U D ts B shut sub b.1
   signed_of U (signed x s cs D) ts B shut sub b = (
     (λ u us.
         let h = b.0.1 u in
@@ -95,6 +101,14 @@ module _ (ds : Bindings) (own : Identifier → Identifier → Bool) (units : Are
     )),
     units_of U D B n b (λ y i. f y (inr i)) g d.1 e,
   )
+  units_of U (matched k p cs D) B n b f g d e = (
+    (λ u. record {
+      fits = (d.0 u (fresh n)).0;
+      right_sides = HasClauses-Derives cs _ _ _ (more-all (names ds) _ _ A A (λ y o. general_seen own A n B k y (λ a i. b a (FreeIn-bind_all-in (names ds) B A a y o i)) (λ a i. b a (FreeIn-bind_all-out (names ds) B A a i))) (λ y t h. h)) (d.0 u (fresh n)).1;
+      quantified = λ x o. ap (λ c. cond c (quantify A (instance (B x) (fresh n))) (B x)) (own_unsigned ds own units x (f x (inl o)));
+    }),
+    units_of U D B n b (λ y i. f y (inr i)) g d.1 e,
+  )
 
   -- what is typable, of what was judged
   module _ (j : Judged ds A own) where
@@ -114,7 +128,7 @@ module _ (ds : Bindings) (own : Identifier → Identifier → Bool) (units : Are
             (λ i. subst (IsAtMostAsGeneral (B y)) (declared_same ds U A own (names ds) j.schemes B j.state.declared derived y i) (λ t k. k)) (kind_of ds y o)
 
     pub typable_to : (U : Identifier → Type 0) → IsDown ds own U → IsTypable A ds U → ((y : Identifier) → IsUnsigned y ds → U y → j.status y ≡ true) × SignedOf U (bind_all (names ds) j.schemes A) ds
-    typable_to U down p = derived_to U p.schemes down (derives_of ds own units A shutA U down ds w.types p.schemes p.are_closed (quantified_of ds own units A shutA U down ds _ w.types p.schemes shifted) shifted)
+    typable_to U down p = derived_to U p.schemes down (derives_of ds own units A shutA U down ds w.types p.schemes p.are_closed (quantified_of ds own units A shutA U down ds _ w.types p.schemes (together ds own units) shifted) shifted)
         (signed_of U ds w.types p.schemes p.are_closed (λ y i. i) shifted)
       where
         w : InUnits A ds p.schemes (λ sees ts. UnitsHave U A sees ts p.schemes ds)
@@ -145,6 +159,7 @@ module _ (ds : Bindings) (own : Identifier → Identifier → Bool) (units : Are
         kept no_binding sub d = tt
         kept (unsigned x cs D) sub d = ((λ u. d.0 (f x (sub x (inl refl)) u)), kept D (λ y i. sub y (inr i)) d.1)
         kept (signed x s cs D) sub d = (d.0, kept D sub d.1)
+        kept (matched k p cs D) sub d = ((λ u. d.0 (f k (sub k (inl (own_name k p))) u)), kept D (λ y i. sub y (inr i)) d.1)
 
         shut : (y : Identifier) (a : ℕ) (k : Bool) → ¬ (In (Free a) (cond k (quantify A (instance (j.schemes y) (fresh n))) (j.schemes y)))
         shut y a true h = shutA a (In_quantify A (instance (j.schemes y) (fresh n)) a h)
@@ -159,10 +174,15 @@ DerivesOf-more (unsigned x cs D) U A A' own xs B m d = (
   DerivesOf-more D U A A' own xs B m d.1,
 )
 DerivesOf-more (signed x s cs D) U A A' own xs B m d = (d.0, DerivesOf-more D U A A' own xs B m d.1)
+DerivesOf-more (matched k p cs D) U A A' own xs B m d = (
+  (λ u us. ((d.0 u us).0, DeriveClauses-more cs _ _ _ (λ y i t h. Has-bind_all xs (seen_at own B us k) (seen_at own B us k) A A' y (λ o v q. q) (λ o v q. m y v q) t h) (d.0 u us).1)),
+  DerivesOf-more D U A A' own xs B m d.1,
+)
 
 pub SignedOf-under : (D : Bindings) (U : Identifier → Type 0) (A A' : Assumptions) (xs : List Identifier) (B : Identifier → Scheme) → AreAtMostAsGeneral A A' → SignedOf U (bind_all xs B A) D → SignedOf U (bind_all xs B A') D
 SignedOf-under no_binding U A A' xs B m d = tt
 SignedOf-under (unsigned x cs D) U A A' xs B m d = SignedOf-under D U A A' xs B m d
+SignedOf-under (matched k p cs D) U A A' xs B m d = SignedOf-under D U A A' xs B m d
 SignedOf-under (signed x s cs D) U A A' xs B m d = (
   (λ u us. DeriveClauses-more cs _ _ _ (λ y i t h. Has-bind_all xs B B A A' y (λ o v k. k) (λ o v k. m y v k) t h) (d.0 u us)),
   SignedOf-under D U A A' xs B m d.1,
@@ -177,7 +197,7 @@ typable_more ds own units A A' shutA shutA' m U down p = record {
     units = units;
     types = λ z. instance (p.schemes z) (fresh n);
     bindings = units_of ds own units A' shutA' U ds p.schemes n b.1 (λ y i. i) (λ y i. i)
-        (DerivesOf-more ds U A A' own (names ds) p.schemes m (derives_of ds own units A shutA U down ds w.types p.schemes p.are_closed (quantified_of ds own units A shutA U down ds _ w.types p.schemes shifted) shifted))
+        (DerivesOf-more ds U A A' own (names ds) p.schemes m (derives_of ds own units A shutA U down ds w.types p.schemes p.are_closed (quantified_of ds own units A shutA U down ds _ w.types p.schemes (together ds own units) shifted) shifted))
         (SignedOf-under ds U A A' (names ds) p.schemes m (signed_of ds own units A shutA U ds w.types p.schemes p.are_closed (λ y i. i) shifted));
   };
 }

@@ -3,7 +3,7 @@ use Rattle.std.proofs.Common.{◌≡◌, [], ◌∷◌, inl, inr, ◌⊎◌, ⊎
 use Rattle.hm_typing.specs.Names.{Identifier, IsDistinct}
 use Rattle.hm_typing.specs.Schemes.{Monotype, Scheme, arrow, closed}
 use Rattle.hm_typing.specs.Assumptions.{Assumptions, bind_all}
-use Rattle.hm_typing.specs.Syntax.{Bindings, no_binding, unsigned, signed, names, bool, Apply, Variable}
+use Rattle.hm_typing.specs.Syntax.{Bindings, no_binding, unsigned, signed, matched, names, bool, Apply, Variable}
 use Rattle.hm_typing.specs.Units.{seen, IsUnsigned, RefersTo, Reaches, directly, through, SameUnit, DependsOn}
 use Rattle.hm_typing.specs.Verdicts.{UnitsHave, IsTypable, IsTypeFault, IsFirstIn, AreTypeFaults}
 use Rattle.hm_typing.specs.Orders.{SignedAre}
@@ -99,14 +99,15 @@ no_units_have : (U : Identifier → Type 0) (A : Assumptions) (sees : Identifier
 no_units_have U A sees ts B none no_binding d = tt
 no_units_have U A sees ts B none (unsigned v cs D) d = ((λ u. absurd (none v u)), no_units_have U A sees ts B none D d)
 no_units_have U A sees ts B none (signed v w cs D) d = ((d.0, λ u. absurd (none v u)), no_units_have U A sees ts B none D d.1)
+no_units_have U A sees ts B none (matched k p cs D) d = ((λ u. absurd (none k u)), no_units_have U A sees ts B none D d)
 
-nothing_typable : (U : Identifier → Type 0) → ((y : Identifier) → ¬ (U y)) → IsTypable with_not some_faults U
-nothing_typable U none =
-    let order = layout some_faults distinct in
+pub nothing_typable : (A : Assumptions) (ds : Bindings) → IsDistinct (names ds) → (U : Identifier → Type 0) → ((y : Identifier) → ¬ (U y)) → IsTypable A ds U
+nothing_typable A ds distinct U none =
+    let order = layout ds distinct in
     record {
       schemes = order.declared;
       are_closed = order.are_closed;
-      units = record { own = order.own; units = order.units; types = λ y. int; bindings = no_units_have U with_not (λ v. bind_all (names some_faults) (seen order.own (λ y. int) order.declared v) with_not) (λ y. int) order.declared none some_faults order.are_declared };
+      units = record { own = order.own; units = order.units; types = λ y. int; bindings = no_units_have U A (λ v. bind_all (names ds) (seen order.own (λ y. int) order.declared v) A) (λ y. int) order.declared none ds order.are_declared };
     }
 
 -- the bindings that have no type
@@ -120,7 +121,7 @@ f_untyped U u p =
 s_untyped : (U : Identifier → Type 0) → U s → ¬ (IsTypable with_not some_faults U)
 s_untyped U u p = let d = (p.units.bindings.1.1.0.1 u).typed.0 in int≢char (d.function ∙ d.body.body.0)
 
-bool≢int : ¬ (bool ≡ int)
+pub bool≢int : ¬ (bool ≡ int)
 bool≢int e = let h : type_letter bool ≡ type_letter int = ap type_letter e in absurd (omega arith)
 
 t_untyped : (U : Identifier → Type 0) → U t → ¬ (IsTypable with_not some_faults U)
@@ -145,13 +146,13 @@ first_t : IsFirstIn some_faults t (names some_faults)
 first_t = inr ((λ u. f≢t (sym (one_unit t f u))), inr ((λ u. g≢t (sym (one_unit t g u))), inr ((λ u. s≢t (sym (one_unit t s u))), inl refl)))
 
 f_fault : IsTypeFault with_not some_faults f
-f_fault = (nothing_typable (DependsOn some_faults f) (nothing_above f f≢g), f_untyped _ (inr (inl refl)))
+f_fault = (nothing_typable with_not some_faults distinct (DependsOn some_faults f) (nothing_above f f≢g), f_untyped _ (inr (inl refl)))
 
 s_fault : IsTypeFault with_not some_faults s
-s_fault = (nothing_typable (DependsOn some_faults s) (nothing_above s (λ e. g≢s (sym e))), s_untyped _ (inr (inl refl)))
+s_fault = (nothing_typable with_not some_faults distinct (DependsOn some_faults s) (nothing_above s (λ e. g≢s (sym e))), s_untyped _ (inr (inl refl)))
 
 t_fault : IsTypeFault with_not some_faults t
-t_fault = (nothing_typable (DependsOn some_faults t) (nothing_above t (λ e. g≢t (sym e))), t_untyped _ (inr (inl refl)))
+t_fault = (nothing_typable with_not some_faults distinct (DependsOn some_faults t) (nothing_above t (λ e. g≢t (sym e))), t_untyped _ (inr (inl refl)))
 
 g_no_fault : ¬ (IsTypeFault with_not some_faults g)
 g_no_fault k = f_untyped (DependsOn some_faults g) g_depends k.0

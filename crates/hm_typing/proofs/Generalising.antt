@@ -8,7 +8,7 @@ use Rattle.hm_typing.specs.Schemes.{Monotype, Scheme, Free, Quantified, scheme_p
 use Rattle.hm_typing.specs.Assumptions.{Assumptions, FreeIn, assumptions_put}
 use Rattle.hm_typing.specs.Decisions.{is_free_in}
 use Rattle.hm_typing.specs.Generalisation.{quantified_unless, quantify, quantify_but, KeepsEnough}
-use Rattle.hm_typing.specs.Syntax.{Expression, Bindings, no_binding, unsigned, signed}
+use Rattle.hm_typing.specs.Syntax.{Expression, Bindings, no_binding, unsigned, signed, matched}
 use Rattle.hm_typing.specs.Typing.{HasType}
 use Rattle.hm_typing.specs.Orders.{UnitHas}
 use Rattle.hm_typing.specs.Problems.{Fact, Unifies, FactsBelow, MostGeneralUnifier, Solved}
@@ -138,11 +138,13 @@ UnitHas-GroupHas : (D : Bindings) (g : Identifier → Bool) (xs : List Identifie
 UnitHas-GroupHas no_binding g xs A B τ h = tt
 UnitHas-GroupHas (unsigned x cs D) g xs A B τ h = ((λ e. DeriveClauses-Has cs _ _ (h.0 e)), UnitHas-GroupHas D g xs A B τ h.1)
 UnitHas-GroupHas (signed x s cs D) g xs A B τ h = UnitHas-GroupHas D g xs A B τ h
+UnitHas-GroupHas (matched k p cs D) g xs A B τ h = ((λ e. ((h.0 e).0, DeriveClauses-Has cs _ _ (h.0 e).1)), UnitHas-GroupHas D g xs A B τ h.1)
 
 GroupHas-UnitHas : (D : Bindings) (g : Identifier → Bool) (xs : List Identifier) (A : Assumptions) (B : Identifier → Scheme) (τ : Identifier → Monotype) → GroupHas g xs A B τ D → UnitHas g xs A B τ D
 GroupHas-UnitHas no_binding g xs A B τ h = tt
 GroupHas-UnitHas (unsigned x cs D) g xs A B τ h = ((λ e. HasClauses-Derives cs _ _ _ (λ y t k. k) (h.0 e)), GroupHas-UnitHas D g xs A B τ h.1)
 GroupHas-UnitHas (signed x s cs D) g xs A B τ h = GroupHas-UnitHas D g xs A B τ h
+GroupHas-UnitHas (matched k p cs D) g xs A B τ h = ((λ e. ((h.0 e).0, HasClauses-Derives cs _ _ _ (λ y t i. i) (h.0 e).1)), GroupHas-UnitHas D g xs A B τ h.1)
 
 pub unit_alike : (g : Identifier → Bool) (xs : List Identifier) (A : Assumptions) (B : Identifier → Scheme) (D : Bindings) (place : Identifier → ℕ) (n k : ℕ) (E : List Fact) (n1 : ℕ) (E1 : List Fact) (kept : ℕ → Bool) →
     AssumptionsBelow n A → ((y : Identifier) → SchemeBelow n (B y)) → FactsBelow n E → Solved (λ r. UnitHas g xs (assumptions_put r A) (λ y. scheme_put r (B y)) (λ y. r (n + place y)) D) (n + k) E n1 E1 →

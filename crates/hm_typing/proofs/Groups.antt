@@ -6,8 +6,9 @@ use Rattle.hm_typing.specs.Schemes.{Monotype, Scheme, Free, instance, IsInstance
 use Rattle.hm_typing.specs.Assumptions.{Assumptions, assumptions_put, FreeIn, AreAtMostAsGeneral, bind_all}
 use Rattle.hm_typing.specs.Decisions.{is_free_in}
 use Rattle.hm_typing.specs.Generalisation.{quantify}
-use Rattle.hm_typing.specs.Syntax.{Bindings, no_binding, unsigned, signed, names}
+use Rattle.hm_typing.specs.Syntax.{Bindings, no_binding, unsigned, signed, matched, matched_names, names}
 use Rattle.hm_typing.specs.Units.{IsSigned, AreUnits}
+use Rattle.hm_typing.specs.Patterns.{Matches}
 use Rattle.hm_typing.specs.SecondForm.{DeriveClauses, seen_at}
 use Rattle.hm_typing.specs.Problems.{Fact, Unifies, FactsBelow, MostGeneralUnifier, Solved, Answer, solved, unsolvable, IsLocal}
 use Rattle.hm_typing.specs.Orders.{within, IsReady, IsNext, SignedAre}
@@ -17,8 +18,9 @@ use Rattle.hm_typing.proofs.Quantified.{In_quantify}
 use Rattle.hm_typing.proofs.Solve.{Unifies-local}
 use Rattle.hm_typing.proofs.Check.{open_with, open_with-free, quantified_put, assumptions_put_unifier, assumptions_put-below, let-covers}
 use Rattle.hm_typing.proofs.More.{DeriveClauses-more}
-use Rattle.hm_typing.proofs.Put.{DeriveClauses-put}
-use Rattle.hm_typing.proofs.Local.{names_block, put-block}
+use Rattle.hm_typing.proofs.Put.{Matches-put, DeriveClauses-put}
+use Rattle.hm_typing.proofs.Local.{IsOneOf-left, IsOneOf-right, names_block, put-block}
+use Rattle.hm_typing.proofs.Matching.{own_name, Matches-named, AreTogether, together}
 use Rattle.hm_typing.proofs.Bridge.{more-all, fresh, own_signed}
 use Rattle.hm_typing.proofs.Names.{code, by_number, by_number_code}
 
@@ -31,6 +33,7 @@ abbrev pub GroupHas : (Identifier → Bool) → List Identifier → Assumptions 
 GroupHas g xs A B τ no_binding = Unit {0}
 GroupHas g xs A B τ (unsigned x cs D) = (g x ≡ true → DeriveClauses (bind_all xs (within g B τ) A) cs (τ x)) × GroupHas g xs A B τ D
 GroupHas g xs A B τ (signed x s cs D) = GroupHas g xs A B τ D
+GroupHas g xs A B τ (matched k p cs D) = (g k ≡ true → Matches τ p (τ k) × DeriveClauses (bind_all xs (within g B τ) A) cs (τ k)) × GroupHas g xs A B τ D
 
 abbrev pub GroupQ : (Identifier → Bool) → List Identifier → Assumptions → (Identifier → Scheme) → (Identifier → Monotype) → Bindings → (ℕ → Monotype) → Type 0
 GroupQ g xs A B τ D r = GroupHas g xs (assumptions_put r A) (over r B) (λ y. put r (τ y)) D
@@ -40,6 +43,8 @@ abbrev pub Remaining : (Identifier → Identifier → Bool) → List Identifier 
 Remaining own xs finished A B no_binding = Unit {0}
 Remaining own xs finished A B (unsigned x cs D) = (finished x ≡ false → (us : ℕ → Monotype) → DeriveClauses (bind_all xs (seen_at own B us x) A) cs (instance (B x) us)) × Remaining own xs finished A B D
 Remaining own xs finished A B (signed x s cs D) = ((B x ≡ closed s) × ((us : ℕ → Monotype) → DeriveClauses (bind_all xs (seen_at own B us x) A) cs (instance (B x) us))) × Remaining own xs finished A B D
+Remaining own xs finished A B (matched k p cs D) =
+    (finished k ≡ false → (us : ℕ → Monotype) → Matches (λ x. instance (B x) us) p (instance (B k) us) × DeriveClauses (bind_all xs (seen_at own B us k) A) cs (instance (B k) us)) × Remaining own xs finished A B D
 
 -- some schemes, those given for what is done, answer what is left and type the body
 abbrev pub Stage : (Identifier → Identifier → Bool) → Bindings → (Assumptions → (ℕ → Monotype) → Type 0) → Assumptions → (Identifier → Bool) → (Identifier → Scheme) → (ℕ → Monotype) → Type 0
@@ -57,6 +62,7 @@ signed_same no_binding own xs finished A B B' r s m y i = absurd i
 signed_same (unsigned x cs D) own xs finished A B B' r s m y i = signed_same D own xs finished A B B' r s m.1 y i
 signed_same (signed x t cs D) own xs finished A B B' r s m y (inl e) = subst (λ z. B' z ≡ scheme_put r (B z)) (sym e) (m.0.0 ∙ (sym (scheme_put_closed r t) ∙ ap (scheme_put r) (sym s.0)))
 signed_same (signed x t cs D) own xs finished A B B' r s m y (inr i) = signed_same D own xs finished A B B' r s.1 m.1 y i
+signed_same (matched k p cs D) own xs finished A B B' r s m y i = signed_same D own xs finished A B B' r s m.1 y i
 
 bool_cases : (b : Bool) → (b ≡ true) ⊎ (b ≡ false)
 bool_cases true = inl refl
@@ -91,6 +97,13 @@ module _ (ds : Bindings) (own : Identifier → Identifier → Bool) (finished g 
     group_guess D k.1 f m.1,
   )
   group_guess (signed x s cs D) k f m = group_guess D k f m.1
+  group_guess (matched v p cs D) k f m = (
+    (λ gv. let h = m.0 (next.open_yet v gv) us in (
+      h.0,
+      DeriveClauses-more cs _ _ _ (λ y i. Has-bind_all (names ds) (seen_at own B' us v) (within g B (λ z. instance (B' z) us)) A' A' y (λ o t. guess_seen v y gv (⊎_elim inl (λ e. inr (f y e)) (k.0 v (own_name v p) gv y (inr i) o)) t) (λ o t e. e)) h.1,
+    )),
+    group_guess D k.1 f m.1,
+  )
 
 -- a group at other types for names that are not of the list
 pub GroupHas-agree : (D : Bindings) (g : Identifier → Bool) (xs : List Identifier) (A A' : Assumptions) (B C : Identifier → Scheme) (τ ρ : Identifier → Monotype) → A ≡ A' → ((y : Identifier) → IsOneOf y xs → B y ≡ C y) → ((y : Identifier) → IsOneOf y xs → τ y ≡ ρ y) → ((y : Identifier) → IsOneOf y (names D) → IsOneOf y xs) → GroupHas g xs A B τ D → GroupHas g xs A' C ρ D
@@ -100,15 +113,23 @@ GroupHas-agree (unsigned x cs D) g xs A A' B C τ ρ e b t sub h = (
   GroupHas-agree D g xs A A' B C τ ρ e b t (λ y o. sub y (inr o)) h.1,
 )
 GroupHas-agree (signed x s cs D) g xs A A' B C τ ρ e b t sub h = GroupHas-agree D g xs A A' B C τ ρ e b t (λ y o. sub y (inr o)) h
+GroupHas-agree (matched k p cs D) g xs A A' B C τ ρ e b t sub h = (
+  (λ gk.
+      let at : (x : Identifier) → IsOneOf x (matched_names k p) → τ x ≡ ρ x = λ x o. t x (sub x (IsOneOf-left x (matched_names k p) (names D) o)) in (
+        Matches-named k p τ ρ at (h.0 gk).0,
+        subst₂ (λ Γ v. DeriveClauses Γ cs v) (bind_all-agree xs _ _ A A' (λ y o. ap₂ (λ v w. cond (g y) (monomorphic v) w) (t y o) (b y o)) e) (at k (own_name k p)) (h.0 gk).1,
+      )),
+  GroupHas-agree D g xs A A' B C τ ρ e b t (λ y o. sub y (IsOneOf-right y (matched_names k p) (names D) o)) h.1,
+)
 
 -- what is left stays answered where the group has better schemes
 pub Remaining-more : (D ds : Bindings) (own : Identifier → Identifier → Bool) (finished g : Identifier → Bool) → AreUnits ds own → ((x y : Identifier) → own x y ≡ true → g x ≡ g y) → (A' : Assumptions) (B' B'' : Identifier → Scheme) →
-    ((y : Identifier) → g y ≡ false → B'' y ≡ B' y) → ((y : Identifier) → IsOneOf y (names ds) → IsAtMostAsGeneral (B' y) (B'' y)) → ((y : Identifier) → IsSigned y D → g y ≡ false) → ((y : Identifier) → IsSigned y D → IsSigned y ds) →
+    ((y : Identifier) → g y ≡ false → B'' y ≡ B' y) → ((y : Identifier) → IsOneOf y (names ds) → IsAtMostAsGeneral (B' y) (B'' y)) → ((y : Identifier) → IsSigned y D → g y ≡ false) → ((y : Identifier) → IsSigned y D → IsSigned y ds) → AreTogether own D →
     Remaining own (names ds) finished A' B' D → Remaining own (names ds) (λ y. finished y || g y) A' B'' D
-Remaining-more no_binding ds own finished g units whole A' B' B'' keep cov sg sd m = tt
-Remaining-more (unsigned x cs D) ds own finished g units whole A' B' B'' keep cov sg sd m = (
+Remaining-more no_binding ds own finished g units whole A' B' B'' keep cov sg sd to m = tt
+Remaining-more (unsigned x cs D) ds own finished g units whole A' B' B'' keep cov sg sd to m = (
   (λ e us. step e us (both_false (finished x) (g x) e)),
-  Remaining-more D ds own finished g units whole A' B' B'' keep cov sg sd m.1,
+  Remaining-more D ds own finished g units whole A' B' B'' keep cov sg sd to m.1,
 )
   where
     both_false : (a b : Bool) → (a || b) ≡ false → (a ≡ false) × (b ≡ false)
@@ -122,18 +143,40 @@ Remaining-more (unsigned x cs D) ds own finished g units whole A' B' B'' keep co
     step : (finished x || g x) ≡ false → (us : ℕ → Monotype) → (finished x ≡ false) × (g x ≡ false) → DeriveClauses (bind_all (names ds) (seen_at own B'' us x) A') cs (instance (B'' x) us)
     step e us p = subst (λ σ. DeriveClauses (bind_all (names ds) (seen_at own B'' us x) A') cs (instance σ us)) (sym (keep x p.1))
         (DeriveClauses-more cs _ _ _ (λ y i. Has-bind_all (names ds) (seen_at own B' us x) (seen_at own B'' us x) A' A' y (λ o t. sees us y p.1 o (own x y) refl t) (λ o t h. h)) (m.0 p.0 us))
-Remaining-more (signed x s cs D) ds own finished g units whole A' B' B'' keep cov sg sd m = (
+Remaining-more (signed x s cs D) ds own finished g units whole A' B' B'' keep cov sg sd to m = (
   (
     keep x (sg x (inl refl)) ∙ m.0.0,
     λ us. subst (λ σ. DeriveClauses (bind_all (names ds) (seen_at own B'' us x) A') cs (instance σ us)) (sym (keep x (sg x (inl refl))))
         (DeriveClauses-more cs _ _ _ (λ y i. Has-bind_all (names ds) (seen_at own B' us x) (seen_at own B'' us x) A' A' y (λ o t. sees us y o (own x y) (own_signed ds own units x y (sd x (inl refl))) t) (λ o t h. h)) (m.0.1 us)),
   ),
-  Remaining-more D ds own finished g units whole A' B' B'' keep cov (λ y i. sg y (inr i)) (λ y i. sd y (inr i)) m.1,
+  Remaining-more D ds own finished g units whole A' B' B'' keep cov (λ y i. sg y (inr i)) (λ y i. sd y (inr i)) to m.1,
 )
   where
     sees : (us : ℕ → Monotype) (y : Identifier) → IsOneOf y (names ds) → (b : Bool) → b ≡ false → IsAtMostAsGeneral (cond b (monomorphic (instance (B' y) us)) (B' y)) (cond b (monomorphic (instance (B'' y) us)) (B'' y))
     sees us y o true e = absurd (true≢false e)
     sees us y o false e = cov y o
+Remaining-more (matched v p cs D) ds own finished g units whole A' B' B'' keep cov sg sd to m = (
+  (λ e us. step us (both_false (finished v) (g v) e)),
+  Remaining-more D ds own finished g units whole A' B' B'' keep cov sg sd to.1 m.1,
+)
+  where
+    both_false : (a b : Bool) → (a || b) ≡ false → (a ≡ false) × (b ≡ false)
+    both_false true b e = absurd (true≢false e)
+    both_false false b e = (refl, e)
+
+    sees : (us : ℕ → Monotype) (y : Identifier) → g v ≡ false → IsOneOf y (names ds) → (b : Bool) → own v y ≡ b → IsAtMostAsGeneral (cond b (monomorphic (instance (B' y) us)) (B' y)) (cond b (monomorphic (instance (B'' y) us)) (B'' y))
+    sees us y gv o true e = λ t i. subst (λ σ. IsInstance t (monomorphic (instance σ us))) (sym (keep y (sym (whole v y e) ∙ gv))) i
+    sees us y gv o false e = cov y o
+
+    same : (us : ℕ → Monotype) → g v ≡ false → (x : Identifier) → IsOneOf x (matched_names v p) → instance (B' x) us ≡ instance (B'' x) us
+    same us gv x o = ap (λ σ. instance σ us) (sym (keep x (sym (whole v x (to.0 v x (own_name v p) o)) ∙ gv)))
+
+    step : (us : ℕ → Monotype) → (finished v ≡ false) × (g v ≡ false) → Matches (λ x. instance (B'' x) us) p (instance (B'' v) us) × DeriveClauses (bind_all (names ds) (seen_at own B'' us v) A') cs (instance (B'' v) us)
+    step us q = let h = m.0 q.0 us in (
+      Matches-named v p _ _ (same us q.1) h.0,
+      subst (DeriveClauses (bind_all (names ds) (seen_at own B'' us v) A') cs) (same us q.1 v (own_name v p))
+          (DeriveClauses-more cs _ _ _ (λ y i. Has-bind_all (names ds) (seen_at own B' us v) (seen_at own B'' us v) A' A' y (λ o t. sees us y q.1 o (own v y) refl t) (λ o t e. e)) h.1),
+    )
 
 -- the schemes after a group
 abbrev pub made : (Identifier → Bool) → Assumptions → ℕ → (Identifier → Scheme) → (E : List Fact) → MostGeneralUnifier E → Identifier → Scheme
@@ -231,7 +274,7 @@ module _ (ds : Bindings) (own : Identifier → Identifier → Bool) (units : Are
               (or_true (finished x) (g x) e)
 
           remaining : Remaining own (names ds) after rA B'' ds
-          remaining = Remaining-more ds ds own finished g units next.whole rA B' B'' (λ y e. cond_false (g y) _ _ e) covers signed_out (λ y i. i) p.1.1.0
+          remaining = Remaining-more ds ds own finished g units next.whole rA B' B'' (λ y e. cond_false (g y) _ _ e) covers signed_out (λ y i. i) (together ds own units) p.1.1.0
 
           body : Body (bind_all (names ds) B'' (assumptions_put q A)) q
           body = body_local _ r q agree (body_more r _ _ (subst (λ C. AreAtMostAsGeneral (bind_all (names ds) B' rA) (bind_all (names ds) B'' C)) env (more-all (names ds) B' B'' rA rA covers (λ x t h. h))) p.1.1.1)
@@ -264,6 +307,7 @@ module _ (ds : Bindings) (own : Identifier → Identifier → Bool) (units : Are
       declared no_binding f d = tt
       declared (unsigned x cs D) f d = declared D f d
       declared (signed x t cs D) f d = (cond_false (g x) _ _ (f x (inl refl)) ∙ d.0, declared D (λ y i. f y (inr i)) d.1)
+      declared (matched v q cs D) f d = declared D f d
 
   module _ (m : MostGeneralUnifier E1) (r : ℕ → Monotype) (u : Unifies r E1) (B' : Identifier → Scheme) (pinned : (x : Identifier) → after x ≡ true → B' x ≡ scheme_put r (made g A n B E1 m x)) where
     opening : (ℕ → Monotype) → ℕ → Monotype
@@ -306,10 +350,10 @@ module _ (ds : Bindings) (own : Identifier → Identifier → Bool) (units : Are
         outside (inl k) = absurd (not_both _ (sym (next.whole x y k) ∙ gx) gy)
         outside (inr k) = k
 
-    pub remaining_sound : (D : Bindings) → GroupHas g (names ds) (assumptions_put m.map A) (over m.map B) (λ y. put m.map (names_block n k y)) D → IsReady ds (names ds) finished g D → ((y : Identifier) → IsOneOf y (names D) → IsOneOf y (names ds)) →
+    pub remaining_sound : (D : Bindings) → GroupHas g (names ds) (assumptions_put m.map A) (over m.map B) (λ y. put m.map (names_block n k y)) D → IsReady ds (names ds) finished g D → AreTogether own D → ((y : Identifier) → IsOneOf y (names D) → IsOneOf y (names ds)) →
         ((y : Identifier) → IsSigned y ds → B' y ≡ scheme_put r (B y)) → Remaining own (names ds) after (assumptions_put r A) B' D → Remaining own (names ds) finished (assumptions_put r A) B' D
-    remaining_sound no_binding h k sub sg p = tt
-    remaining_sound (unsigned x cs D) h k sub sg p = (
+    remaining_sound no_binding h k to sub sg p = tt
+    remaining_sound (unsigned x cs D) h k to sub sg p = (
       (λ f us. ⊎_elim
           (λ gx. DeriveClauses-more cs _ _ _
           (λ y i t z. Has-bind_all (names ds) _ (seen_at own B' us x) (assumptions_put r A) (assumptions_put r A) y
@@ -321,15 +365,34 @@ module _ (ds : Bindings) (own : Identifier → Identifier → Bool) (units : Are
           (DeriveClauses-put cs (λ a. open_with (is_free_in a (assumptions_put m.map A)) r us a) _ _ (h.0 gx))))
           (λ gx. p.0 (ap₂ ◌||◌ f gx) us)
           (bool_cases (g x))),
-      remaining_sound D h.1 k.1 (λ y o. sub y (inr o)) sg p.1,
+      remaining_sound D h.1 k.1 to (λ y o. sub y (inr o)) sg p.1,
     )
-    remaining_sound (signed x t cs D) h k sub sg p = (p.0, remaining_sound D h k (λ y o. sub y (inr o)) sg p.1)
+    remaining_sound (signed x t cs D) h k to sub sg p = (p.0, remaining_sound D h k to (λ y o. sub y (inr o)) sg p.1)
+    remaining_sound (matched v w cs D) h ready to sub sg p = (
+      (λ f us. ⊎_elim
+          (λ gv.
+          let at : (x : Identifier) → IsOneOf x (matched_names v w) → put (λ a. open_with (is_free_in a (assumptions_put m.map A)) r us a) (put m.map (names_block n k x)) ≡ instance (B' x) us =
+          λ x o. type_at us x (sub x (IsOneOf-left x (matched_names v w) (names D) o)) (sym (next.whole v x (to.0 v x (own_name v w) o)) ∙ gv) in (
+            Matches-named v w _ _ at (Matches-put w (λ a. open_with (is_free_in a (assumptions_put m.map A)) r us a) _ _ (h.0 gv).0),
+            DeriveClauses-more cs _ _ _
+                (λ y i t z. Has-bind_all (names ds) _ (seen_at own B' us v) (assumptions_put r A) (assumptions_put r A) y
+                (λ o u. subst (IsInstance u) (sees_at us v y gv o (⊎_elim inl (λ e. inr (⊎_elim (λ c. (finished_out y c, kept y c)) (λ c. (signed_out y c, sg y c)) e)) (ready.0 v (own_name v w) gv y (inr i) o))))
+                (λ o u j. j) t z)
+                (subst₂ (λ C u. DeriveClauses C cs u)
+                (assumptions_put-bind_all _ (names ds) _ _ ∙ ap (bind_all (names ds) _) (env_at us))
+                (at v (own_name v w))
+                (DeriveClauses-put cs (λ a. open_with (is_free_in a (assumptions_put m.map A)) r us a) _ _ (h.0 gv).1)),
+          ))
+          (λ gv. p.0 (ap₂ ◌||◌ f gv) us)
+          (bool_cases (g v))),
+      remaining_sound D h.1 ready.1 to.1 (λ y o. sub y (IsOneOf-right y (matched_names v w) (names D) o)) sg p.1,
+    )
 
   pub step_sound : (m : MostGeneralUnifier E1) (r : ℕ → Monotype) → Unifies r E1 → Stage own ds Body A after (made g A n B E1 m) r → Stage own ds Body A finished B r
   step_sound m r u p =
       let sg : (y : Identifier) → IsSigned y ds → p.0 y ≡ scheme_put r (B y) =
       λ y i. signed_same ds own (names ds) after (assumptions_put r A) (made g A n B E1 m) p.0 r (made_schemes m).declared p.1.1.0 y i ∙ ap (scheme_put r) (cond_false (g y) _ _ (signed_out y i)) in
-      (p.0, ((λ x f. kept m r u p.0 p.1.0 x f), (remaining_sound m r u p.0 p.1.0 ds (s.sound m.map m.unifies).1 next.ready (λ y o. o) sg p.1.1.0, p.1.1.1)))
+      (p.0, ((λ x f. kept m r u p.0 p.1.0 x f), (remaining_sound m r u p.0 p.1.0 ds (s.sound m.map m.unifies).1 next.ready (together ds own units) (λ y o. o) sg p.1.1.0, p.1.1.1)))
 
   -- the stage is answered by the next
   pub step : (m : MostGeneralUnifier E1) → Answer (Stage own ds Body A after (made g A n B E1 m)) n1 E1 → Answer (Stage own ds Body A finished B) n E

@@ -6,8 +6,8 @@ use Rattle.hm_types.specs.Types.{Var, App, In, put}
 use Rattle.hm_typing.specs.Names.{IsDistinct, Identifier}
 use Rattle.hm_typing.specs.Schemes.{Monotype, Scheme, Free, arrow, monomorphic, scheme_put}
 use Rattle.hm_typing.specs.Assumptions.{Assumptions, assumptions_put, AreAtMostAsGeneral, bind_all}
-use Rattle.hm_typing.specs.Syntax.{Patterns, Expression, Variable, Constructor, Literal, Apply, Lambda, Let, If, Case, Tuple, Listing, Typed, Expressions, no_expression, expression, Clauses, no_clause, clause, RightSides, no_right_side, plain, guarded, Bindings, no_binding, unsigned, signed, bool, literal_type, patterns_names, names, pattern_count, expression_count}
-use Rattle.hm_typing.specs.Patterns.{tuple, list, arrows, MatchesAll}
+use Rattle.hm_typing.specs.Syntax.{Pattern, Patterns, Expression, Variable, Constructor, Literal, Apply, Lambda, Let, If, Case, Tuple, Listing, Typed, Expressions, no_expression, expression, Clauses, no_clause, clause, RightSides, no_right_side, plain, guarded, Bindings, no_binding, unsigned, signed, matched, bool, literal_type, patterns_names, names, pattern_count, expression_count}
+use Rattle.hm_typing.specs.Patterns.{tuple, list, arrows, Matches, MatchesAll}
 use Rattle.hm_typing.specs.Typing.{HasLocal, HasFunction}
 use Rattle.hm_typing.specs.SecondForm.{DerivedSchemes, Derives, DeriveAll, DeriveClauses, DeriveRightSides}
 use Rattle.hm_typing.specs.Problems.{Fact, Unifies, IsBelow, FactsBelow, MostGeneralUnifier, Answer, unsolvable, IsLocal}
@@ -20,7 +20,7 @@ use Rattle.hm_typing.proofs.More.{Derives-more, DeriveRightSides-more}
 use Rattle.hm_typing.proofs.Put.{put-arrows, put-arguments, put-lit, assumptions_put-bind_mono, Derives-put, DeriveClauses-put}
 use Rattle.hm_typing.proofs.Local.{arrows-agree, arguments-agree, MatchesAll-agree, DeriveAll-agree, block, block-below, some_block, some_names, names_block, arrows-below, arguments-below, lit-below, fresh-below, bool-below, names_bound}
 use Rattle.hm_typing.proofs.Variables.{vars_bound}
-use Rattle.hm_typing.proofs.Patterns.{AreBelow, AreBelow-more, under, MatchesAll-local, declared, match_all}
+use Rattle.hm_typing.proofs.Patterns.{AreBelow, AreBelow-more, under, MatchesAll-local, declared, match, match_all}
 use Rattle.hm_typing.proofs.Signed.{rigids, rigids_below, signed as at_each}
 use Rattle.hm_typing.proofs.Groups.{over, GroupHas, GroupQ, AreSchemes}
 use Rattle.hm_typing.proofs.Lists.{SignedHas, ListQ, ListQ-Stage, Stage-ListQ, is_distinct, check_stage}
@@ -141,6 +141,16 @@ module _ (solve : (E : List Fact) → MostGeneralUnifier E ⊎ ((r : ℕ → Mon
       at : (b : Bool) → g x ≡ b → Answer (λ r. g x ≡ true → DeriveClauses (bind_all xs (within g (over r B) (under r τ)) (assumptions_put r A)) cs (put r (τ x))) n E
       at true e = same n E (λ r p k. subst (λ Γ. DeriveClauses Γ cs (put r (τ x))) (assumptions_put-within r g xs B τ A) p) (λ r p. subst (λ Γ. DeriveClauses Γ cs (put r (τ x))) (sym (assumptions_put-within r g xs B τ A)) (p e)) a
       at false e = same n E (λ r p k. absurd (true≢false (sym k ∙ e))) (λ r p. tt) (nothing n E d)
+
+  -- and a pattern binding of a group, or none
+  pub group_matched : (g : Identifier → Bool) (k : Identifier) (p : Pattern) (cs : Clauses) (xs : List Identifier) (A : Assumptions) (B : Identifier → Scheme) (τ : Identifier → Monotype) (n : ℕ) (E : List Fact) → FactsBelow n E →
+      Answer (λ r. Matches (under r τ) p (put r (τ k)) × DeriveClauses (assumptions_put r (bind_all xs (within g B τ) A)) cs (put r (τ k))) n E →
+      Answer (λ r. g k ≡ true → Matches (under r τ) p (put r (τ k)) × DeriveClauses (bind_all xs (within g (over r B) (under r τ)) (assumptions_put r A)) cs (put r (τ k))) n E
+  group_matched g k p cs xs A B τ n E d a = at (g k) refl
+    where
+      at : (b : Bool) → g k ≡ b → Answer (λ r. g k ≡ true → Matches (under r τ) p (put r (τ k)) × DeriveClauses (bind_all xs (within g (over r B) (under r τ)) (assumptions_put r A)) cs (put r (τ k))) n E
+      at true e = same n E (λ r h q. (h.0, subst (λ Γ. DeriveClauses Γ cs (put r (τ k))) (assumptions_put-within r g xs B τ A) h.1)) (λ r h. let q = h e in (q.0, subst (λ Γ. DeriveClauses Γ cs (put r (τ k))) (sym (assumptions_put-within r g xs B τ A)) q.1)) a
+      at false e = same n E (λ r h q. absurd (true≢false (sym q ∙ e))) (λ r h. tt) (nothing n E d)
 
   -- a declared type at each instance
   pub each : (J : Assumptions → Monotype → Type 0) → ((r : ℕ → Monotype) (A : Assumptions) (t : Monotype) → J A t → J (assumptions_put r A) (put r t)) → (s : Monotype) (A : Assumptions) (n : ℕ) (E : List Fact) → AssumptionsBelow n A → FactsBelow n E →
@@ -268,10 +278,19 @@ module _ (solve : (E : List Fact) → MostGeneralUnifier E ⊎ ((r : ℕ → Mon
           (group_binding g x cs xs A B τ n E d (check_clauses cs (bind_all xs (within g B τ) A) (τ x) n E (within-below n g xs B τ A b s c) (c x) d))
           (λ n1 E1 l h. check_group D g xs A B τ n1 E1 (below_more n n1 A l b) (λ y a i. (let k = s y a i in omega arith)) (AreBelow-more n n1 τ l c) h)
       check_group (signed x t cs D) g xs A B τ n E b s c d = check_group D g xs A B τ n E b s c d
+      check_group (matched k p cs D) g xs A B τ n E b s c d =
+          let C = bind_all xs (within g B τ) A in
+          let bC : AssumptionsBelow n C = within-below n g xs B τ A b s c in
+          both n E (GroupQ-local g xs A B τ D n b s c)
+          (group_matched g k p cs xs A B τ n E d
+          (both n E (local (λ Γ v. DeriveClauses Γ cs v) C (τ k) n bC (c k)) (match solve p τ (τ k) n E c (c k) d)
+          (λ n1 E1 l h. check_clauses cs C (τ k) n1 E1 (below_more n n1 C l bC) (IsBelow-more n n1 (τ k) l (c k)) h)))
+          (λ n1 E1 l h. check_group D g xs A B τ n1 E1 (below_more n n1 A l b) (λ y a i. (let e = s y a i in omega arith)) (AreBelow-more n n1 τ l c) h)
 
       pub check_signeds : (D : Bindings) (C : Assumptions) (n : ℕ) (E : List Fact) → AssumptionsBelow n C → FactsBelow n E → Answer (λ r. SignedHas (assumptions_put r C) D) n E
       check_signeds no_binding C n E b d = nothing n E d
       check_signeds (unsigned x cs D) C n E b d = check_signeds D C n E b d
+      check_signeds (matched k p cs D) C n E b d = check_signeds D C n E b d
       check_signeds (signed x s cs D) C n E b d =
           both n E (env_local (λ Γ. SignedHas Γ D) C n b) (each (λ Γ v. DeriveClauses Γ cs v) (DeriveClauses-put cs) s C n E b d (λ v m F. check_clauses cs C v m F))
           (λ n1 E1 l h. check_signeds D C n1 E1 (below_more n n1 C l b) h)

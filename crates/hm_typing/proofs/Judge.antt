@@ -1,17 +1,19 @@
 -- A unit is typed in the end where the set of it and of all that it depends on is typable.
 use Rattle.std.proofs.Common.{◌≡◌, ℕ, List, [], ◌∷◌, Bool, true, false, cond, ◌||◌, inl, inr, ◌⊎◌, ⊎_elim, refl, sym, ap, ◌∙◌, subst, subst₂, true≢false}
+use Rattle.hm_types.specs.Types.{put}
 use Rattle.hm_typing.specs.Names.{IsOneOf, IsDistinct, Identifier}
 use Rattle.hm_typing.specs.Schemes.{Monotype, Scheme, instance}
 use Rattle.hm_typing.specs.Assumptions.{IsClosed, Assumptions, bind_all}
 use Rattle.hm_typing.specs.Decisions.{is_free_in}
 use Rattle.hm_typing.specs.Generalisation.{quantify}
-use Rattle.hm_typing.specs.Syntax.{Bindings, no_binding, unsigned, signed, names}
+use Rattle.hm_typing.specs.Syntax.{Bindings, no_binding, unsigned, signed, matched, matched_names, names}
 use Rattle.hm_typing.specs.Units.{IsUnsigned, BindingMentions, Reaches, directly, through, SameUnit, DependsOn, seen, AreUnits}
 use Rattle.hm_typing.specs.Verdicts.{UnitsHave}
 use Rattle.hm_typing.specs.SecondForm.{DeriveClauses}
 use Rattle.hm_typing.specs.Problems.{Fact, Unifies, MostGeneralUnifier}
 use Rattle.hm_typing.specs.Orders.{Layout, IsOrder}
-use Rattle.hm_typing.proofs.Put.{DeriveClauses-put}
+use Rattle.hm_typing.proofs.Put.{Matches-put, DeriveClauses-put}
+use Rattle.hm_typing.proofs.Matching.{own_name, Matches-named, AreTogether}
 use Rattle.hm_typing.proofs.Quantified.{opened, quantified_instance}
 use Rattle.hm_typing.proofs.Bridge.{own_unsigned, one_kind, unsigned_name, env_seen, DeriveClauses-Has}
 use Rattle.hm_typing.proofs.Units.{AreClosed, DerivesOf, IsDown, Unit_typed, check_unit, State, skipped, untyped, typed}
@@ -50,11 +52,13 @@ Closure ds x y = DependsOn ds x y ⊎ SameUnit ds x y
 -- The two forms of a set of bindings, under closed schemes
 
 module _ (ds : Bindings) (own : Identifier → Identifier → Bool) (units : AreUnits ds own) (A : Assumptions) (shutA : IsClosed A) (U : Identifier → Type 0) (down : IsDown ds own U) where
-  pub quantified_of : (D : Bindings) (sees : Identifier → Assumptions) (ts : Identifier → Monotype) (B : Identifier → Scheme) → UnitsHave U A sees ts B D → (y : Identifier) → IsUnsigned y D → U y → B y ≡ quantify A (ts y)
-  quantified_of no_binding sees ts B b y i u = absurd i
-  quantified_of (unsigned x cs D) sees ts B b y (inl e) u = subst (λ z. B z ≡ quantify A (ts z)) (sym e) (b.0 (subst U e u)).0
-  quantified_of (unsigned x cs D) sees ts B b y (inr i) u = quantified_of D sees ts B b.1 y i u
-  quantified_of (signed x s cs D) sees ts B b y i u = quantified_of D sees ts B b.1 y i u
+  pub quantified_of : (D : Bindings) (sees : Identifier → Assumptions) (ts : Identifier → Monotype) (B : Identifier → Scheme) → AreTogether own D → UnitsHave U A sees ts B D → (y : Identifier) → IsUnsigned y D → U y → B y ≡ quantify A (ts y)
+  quantified_of no_binding sees ts B to b y i u = absurd i
+  quantified_of (unsigned x cs D) sees ts B to b y (inl e) u = subst (λ z. B z ≡ quantify A (ts z)) (sym e) (b.0 (subst U e u)).0
+  quantified_of (unsigned x cs D) sees ts B to b y (inr i) u = quantified_of D sees ts B to b.1 y i u
+  quantified_of (signed x s cs D) sees ts B to b y i u = quantified_of D sees ts B to b.1 y i u
+  quantified_of (matched k p cs D) sees ts B to b y (inl o) u = (b.0 (down.whole y k (to.0 y k o (own_name k p)) u)).quantified y o
+  quantified_of (matched k p cs D) sees ts B to b y (inr i) u = quantified_of D sees ts B to.1 b.1 y i u
 
   pub derives_of : (D : Bindings) (ts : Identifier → Monotype) (B : Identifier → Scheme) → AreClosed B → ((y : Identifier) → IsUnsigned y ds → U y → B y ≡ quantify A (ts y)) → UnitsHave U A (λ x. bind_all (names ds) (seen own ts B x) A) ts B D → DerivesOf U A own (names ds) B D
   derives_of no_binding ts B shut q b = tt
@@ -66,11 +70,23 @@ module _ (ds : Bindings) (own : Identifier → Identifier → Bool) (units : Are
         (DeriveClauses-put cs (λ a. opened (is_free_in a A) us a) _ _ (DeriveClauses-Has cs _ _ (b.0 u).1))),
     derives_of D ts B shut q b.1,
   )
+  derives_of (matched k p cs D) ts B shut q b = (
+    (λ u us.
+        let at : (x : Identifier) → IsOneOf x (matched_names k p) → put (λ a. opened (is_free_in a A) us a) (ts x) ≡ instance (B x) us = λ x o. quantified_instance A (ts x) us ∙ ap (λ σ. instance σ us) (sym ((b.0 u).quantified x o)) in (
+          Matches-named k p _ _ at (Matches-put p (λ a. opened (is_free_in a A) us a) ts (ts k) (b.0 u).fits),
+          subst₂ (λ C v. DeriveClauses C cs v)
+              (env_seen own ts B k (names ds) A us (λ y o a i. absurd (shut y a i)) (λ y e. q y ((units.1 k y).0 e).1 (down.whole k y e u)))
+              (at k (own_name k p))
+              (DeriveClauses-put cs (λ a. opened (is_free_in a A) us a) _ _ (DeriveClauses-Has cs _ _ (b.0 u).right_sides)),
+        )),
+    derives_of D ts B shut q b.1,
+  )
 
 pub DerivesOf-weaker : (D : Bindings) (U V : Identifier → Type 0) (A : Assumptions) (own : Identifier → Identifier → Bool) (xs : List Identifier) (B : Identifier → Scheme) → ((y : Identifier) → V y → U y) → DerivesOf U A own xs B D → DerivesOf V A own xs B D
 DerivesOf-weaker no_binding U V A own xs B f d = tt
 DerivesOf-weaker (unsigned x cs D) U V A own xs B f d = ((λ v. d.0 (f x v)), DerivesOf-weaker D U V A own xs B f d.1)
 DerivesOf-weaker (signed x s cs D) U V A own xs B f d = (d.0, DerivesOf-weaker D U V A own xs B f d.1)
+DerivesOf-weaker (matched k p cs D) U V A own xs B f d = ((λ v. d.0 (f k v)), DerivesOf-weaker D U V A own xs B f d.1)
 
 pub reach_typed : (ds : Bindings) (own : Identifier → Identifier → Bool) (status : Identifier → Bool) → IsDown ds own (λ x. status x ≡ true) → {v w : Identifier} → status v ≡ true → Reaches ds v w → status w ≡ true
 reach_typed ds own status down s (directly r) = down.mentioned _ _ s r.0 r.1

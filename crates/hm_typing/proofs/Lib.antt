@@ -11,6 +11,7 @@ pub mod Put
 pub mod Bridge
 pub mod Closure
 pub mod Local
+pub mod Matching
 pub mod Patterns
 pub mod Signed
 pub mod Groups
@@ -33,4 +34,5 @@ pub mod Settling
 pub mod WorkedSources
 pub mod FormsOfSources
 pub mod FaultsOfSources
+pub mod PatternsOfSources
 pub mod Programs

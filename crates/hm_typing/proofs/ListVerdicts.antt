@@ -3,7 +3,7 @@ use Rattle.std.proofs.Common.{◌≡◌, ℕ, List, [], ◌∷◌, Bool, true, f
 use Rattle.hm_typing.specs.Names.{Identifier, IsDistinct}
 use Rattle.hm_typing.specs.Schemes.{Monotype, Scheme}
 use Rattle.hm_typing.specs.Assumptions.{Assumptions, IsClosed}
-use Rattle.hm_typing.specs.Syntax.{Bindings, no_binding, unsigned, signed, names}
+use Rattle.hm_typing.specs.Syntax.{Bindings, no_binding, unsigned, signed, matched, names}
 use Rattle.hm_typing.specs.BindingLists.{HasSchemes, HasPrincipalSchemes}
 use Rattle.hm_typing.specs.Verdicts.{IsTypeFault, AreTypeFaults, Verdict, Good, Faulty, IsVerdict}
 use Rattle.hm_typing.specs.Problems.{Fact, Unifies, MostGeneralUnifier}
@@ -22,6 +22,7 @@ module _ (solve : (E : List Fact) → MostGeneralUnifier E ⊎ ((r : ℕ → Mon
   nothing_derived no_binding own xs B d = tt
   nothing_derived (unsigned x cs D) own xs B d = ((λ e. absurd (opposite e refl)), nothing_derived D own xs B d)
   nothing_derived (signed x s cs D) own xs B d = (d.0, nothing_derived D own xs B d.1)
+  nothing_derived (matched k p cs D) own xs B d = ((λ e. absurd (opposite e refl)), nothing_derived D own xs B d)
 
   start : State ds A order.own (λ x. false) (λ x. false) order.declared
   start = record {

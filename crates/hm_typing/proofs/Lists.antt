@@ -5,7 +5,7 @@ use Rattle.hm_types.specs.Types.{Var, put}
 use Rattle.hm_typing.specs.Names.{IsOneOf, IsDistinct, Identifier}
 use Rattle.hm_typing.specs.Schemes.{Monotype, Scheme, instance, scheme_put, closed}
 use Rattle.hm_typing.specs.Assumptions.{Assumptions, assumptions_put, AreAtMostAsGeneral, bind_all}
-use Rattle.hm_typing.specs.Syntax.{Bindings, no_binding, unsigned, signed, names}
+use Rattle.hm_typing.specs.Syntax.{Bindings, no_binding, unsigned, signed, matched, matched_names, names}
 use Rattle.hm_typing.specs.Units.{IsUnsigned, IsSigned, AreUnits}
 use Rattle.hm_typing.specs.Typing.{HasLocal}
 use Rattle.hm_typing.specs.SecondForm.{DerivedSchemes, DeriveClauses, DeriveBindings, seen_at}
@@ -16,6 +16,7 @@ use Rattle.hm_typing.proofs.Bind.{is_one_of, bind_all-agree, assumptions_put-bin
 use Rattle.hm_typing.proofs.Solve.{Unifies-local, same, both}
 use Rattle.hm_typing.proofs.Check.{below_more}
 use Rattle.hm_typing.proofs.Local.{names_block, put-block}
+use Rattle.hm_typing.proofs.Matching.{one_of, own_name}
 use Rattle.hm_typing.proofs.Bridge.{own_signed}
 use Rattle.hm_typing.proofs.Groups.{over, GroupQ, Remaining, Stage, AreSchemes, signed_same, group_guess, GroupHas-agree, made, made_schemes, step, step_guess, cond_false}
 use Rattle.hm_typing.proofs.Names.{code, by_number, by_number_code}
@@ -24,6 +25,7 @@ abbrev pub SignedHas : Assumptions → Bindings → Type 0
 SignedHas C no_binding = Unit {0}
 SignedHas C (unsigned x cs D) = SignedHas C D
 SignedHas C (signed x s cs D) = ((us : ℕ → Monotype) → DeriveClauses C cs (put us s)) × SignedHas C D
+SignedHas C (matched k p cs D) = SignedHas C D
 
 pub kind_of : (ds : Bindings) (y : Identifier) → IsOneOf y (names ds) → IsUnsigned y ds ⊎ IsSigned y ds
 kind_of no_binding y o = absurd o
@@ -31,6 +33,7 @@ kind_of (unsigned x cs ds) y (inl e) = inl (inl e)
 kind_of (unsigned x cs ds) y (inr o) = ⊎_elim (λ u. inl (inr u)) inr (kind_of ds y o)
 kind_of (signed x s cs ds) y (inl e) = inr (inl e)
 kind_of (signed x s cs ds) y (inr o) = ⊎_elim inl (λ u. inr (inr u)) (kind_of ds y o)
+kind_of (matched k p cs ds) y o = ⊎_elim (λ q. inl (inl q)) (λ q. ⊎_elim (λ u. inl (inr u)) inr (kind_of ds y q)) (one_of y (matched_names k p) (names ds) o)
 
 -- the guess at a group's question, without its answer
 pub asked_guess : (ds : Bindings) (own : Identifier → Identifier → Bool) (finished g : Identifier → Bool) → IsNext ds own finished g → (A : Assumptions) (n k : ℕ) (E : List Fact) (B : Identifier → Scheme) → AreSchemes ds A n E B → ((x : Identifier) → IsOneOf x (names ds) → code x < k) → AssumptionsBelow n A → FactsBelow n E →
@@ -75,6 +78,7 @@ module _ (ds : Bindings) (own : Identifier → Identifier → Bool) (units : Are
       (λ us. subst₂ (λ C v. DeriveClauses C cs v) (sees_last B' e us x (sub x (inl refl))) (ap (λ σ. instance σ us) m.0.0 ∙ instance_closed s us) (m.0.1 us)),
       to_last D B' e (λ y i. sub y (inr i)) m.1,
     )
+    to_last (matched k p cs D) B' e sub m = to_last D B' e sub m.1
 
     from_last : (D : Bindings) → ((y : Identifier) → IsSigned y D → IsSigned y ds) → ((y : Identifier) → IsUnsigned y D → IsUnsigned y ds) → SignedAre B D → SignedHas (assumptions_put r (bind_all (names ds) B A)) D → Remaining own (names ds) finished (assumptions_put r A) (over r B) D
     from_last no_binding sub sup d h = tt
@@ -84,6 +88,7 @@ module _ (ds : Bindings) (own : Identifier → Identifier → Bool) (units : Are
           (declared, λ us. subst₂ (λ C v. DeriveClauses C cs v) (sym (sees_last (over r B) (λ y o. refl) us x (sub x (inl refl)))) (sym (ap (λ σ. instance σ us) declared ∙ instance_closed s us)) (h.0 us)),
           from_last D (λ y i. sub y (inr i)) sup d.1 h.1,
         )
+    from_last (matched k p cs D) sub sup d h = ((λ f. absurd (true≢false (sym (done k (sup k (inl (own_name k p)))) ∙ f))), from_last D sub (λ y i. sup y (inr i)) d h)
 
     pub last_stage : Last B r → Stage own ds Body A finished B r
     last_stage h = (over r B, ((λ x f. refl), (from_last ds (λ y i. i) (λ y i. i) are h.0, subst (λ C. Body C r) (assumptions_put-bind_all r (names ds) B A) h.1)))
@@ -143,11 +148,13 @@ pub to_remaining : (D : Bindings) (own : Identifier → Identifier → Bool) (xs
 to_remaining no_binding own xs A B d = tt
 to_remaining (unsigned x cs D) own xs A B d = ((λ e. d.0), to_remaining D own xs A B d.1)
 to_remaining (signed x s cs D) own xs A B d = (d.0, to_remaining D own xs A B d.1)
+to_remaining (matched k p cs D) own xs A B d = ((λ e. d.0), to_remaining D own xs A B d.1)
 
 pub from_remaining : (D : Bindings) (own : Identifier → Identifier → Bool) (xs : List Identifier) (A : Assumptions) (B : Identifier → Scheme) → Remaining own xs (λ x. false) A B D → DeriveBindings A own xs B D
 from_remaining no_binding own xs A B d = tt
 from_remaining (unsigned x cs D) own xs A B d = (d.0 refl, from_remaining D own xs A B d.1)
 from_remaining (signed x s cs D) own xs A B d = (d.0, from_remaining D own xs A B d.1)
+from_remaining (matched k p cs D) own xs A B d = (d.0 refl, from_remaining D own xs A B d.1)
 
 -- there is one grouping into units
 pub same_units : (ds : Bindings) (own other : Identifier → Identifier → Bool) → AreUnits ds own → AreUnits ds other → other ≡ own

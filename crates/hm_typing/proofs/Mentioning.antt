@@ -1,7 +1,7 @@
 -- Whether a name is mentioned is decided.
 use Rattle.hm_typing.specs.Names.{Identifier}
 use Rattle.hm_typing.specs.Decisions.{either}
-use Rattle.hm_typing.specs.Syntax.{Expression, Variable, Constructor, Literal, Apply, Lambda, Let, If, Case, Tuple, Listing, Typed, Expressions, no_expression, expression, Clauses, no_clause, clause, RightSides, no_right_side, plain, guarded, Bindings, no_binding, unsigned, signed, patterns_names, names}
+use Rattle.hm_typing.specs.Syntax.{Expression, Variable, Constructor, Literal, Apply, Lambda, Let, If, Case, Tuple, Listing, Typed, Expressions, no_expression, expression, Clauses, no_clause, clause, RightSides, no_right_side, plain, guarded, Bindings, no_binding, unsigned, signed, matched, patterns_names, matched_names, names}
 use Rattle.hm_typing.specs.Mentions.{Mentions, ExpressionsMention, ClausesMention, RightSidesMention, BindingsMention}
 use Rattle.hm_typing.specs.Units.{BindingMentions, IsUnsigned}
 use Rattle.hm_typing.proofs.Names.{name_discrete}
@@ -47,13 +47,16 @@ mutual
   bindings_mention y no_binding = no (λ h. h)
   bindings_mention y (unsigned x cs ds) = either (clauses_mention y cs) (bindings_mention y ds)
   bindings_mention y (signed x s cs ds) = either (clauses_mention y cs) (bindings_mention y ds)
+  bindings_mention y (matched k p cs ds) = either (clauses_mention y cs) (bindings_mention y ds)
 
 pub binding_mentions : (x y : Identifier) (ds : Bindings) → Dec (BindingMentions x y ds)
 binding_mentions x y no_binding = no (λ h. h)
 binding_mentions x y (unsigned z cs ds) = either (also (name_discrete x z) (clauses_mention y cs)) (binding_mentions x y ds)
 binding_mentions x y (signed z s cs ds) = either (also (name_discrete x z) (clauses_mention y cs)) (binding_mentions x y ds)
+binding_mentions x y (matched k p cs ds) = either (also (is_one_of x (matched_names k p)) (either (is_one_of y (matched_names k p)) (clauses_mention y cs))) (binding_mentions x y ds)
 
 pub is_unsigned : (x : Identifier) (ds : Bindings) → Dec (IsUnsigned x ds)
 is_unsigned x no_binding = no (λ h. h)
 is_unsigned x (unsigned z cs ds) = either (name_discrete x z) (is_unsigned x ds)
 is_unsigned x (signed z s cs ds) = is_unsigned x ds
+is_unsigned x (matched k p cs ds) = either (is_one_of x (matched_names k p)) (is_unsigned x ds)

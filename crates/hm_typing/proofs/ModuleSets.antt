@@ -1,19 +1,21 @@
 -- A module is good where its imports are and its own list is typed under their principal assignment.
-use Rattle.std.proofs.Common.{◌≡◌, ℕ, List, ◌∷◌, inl, inr, ⊎_elim, refl, sym, ap, ◌∙◌, subst, ◌<◌, ◌≤◌, arith}
+use Rattle.std.proofs.Common.{◌≡◌, ℕ, List, ◌∷◌, inl, inr, ◌⊎◌, ⊎_elim, refl, sym, ap, ◌∙◌, subst, ◌<◌, ◌≤◌, arith}
 use Rattle.hm_types.specs.Types.{Var, put}
 use Rattle.hm_typing.specs.Names.{Identifier, IsOneOf}
 use Rattle.hm_typing.specs.Schemes.{Monotype, Scheme, Free, Quantified, IsAtMostAsGeneral, closed}
 use Rattle.hm_typing.specs.Assumptions.{Assumptions, empty, bind_all, IsClosed, FreeIn, AreAtMostAsGeneral}
 use Rattle.hm_typing.specs.Decisions.{is_free_in}
 use Rattle.hm_typing.specs.Generalisation.{quantified_unless, quantify}
-use Rattle.hm_typing.specs.Syntax.{Bindings, no_binding, unsigned, signed, names}
+use Rattle.hm_typing.specs.Syntax.{Bindings, no_binding, unsigned, signed, matched, matched_names, names}
 use Rattle.hm_typing.specs.Typing.{HasClauses, HasBindings}
 use Rattle.hm_typing.specs.BindingLists.{HasSchemes, HasPrincipalSchemes}
 use Rattle.hm_typing.specs.Assignments.{Module, Assignment, outer, IsValid, IsPrincipal}
 use Rattle.hm_typing.specs.Verdicts.{InClosure, itself, imported, IsImportedBy, IsGood, IsLawful}
 use Rattle.hm_typing.proofs.Types.{put-agree}
 use Rattle.hm_typing.proofs.Names.{name_discrete}
-use Rattle.hm_typing.proofs.Bind.{bind_all-agree, FreeIn-bind_all}
+use Rattle.hm_typing.proofs.Bind.{is_one_of, bind_all-agree, FreeIn-bind_all}
+use Rattle.hm_typing.proofs.Local.{IsOneOf-left, IsOneOf-right}
+use Rattle.hm_typing.proofs.Matching.{one_of, own_name}
 use Rattle.hm_typing.proofs.Bridge.{more-all, In_closed, HasSchemes-more}
 
 -- Closed assumptions
@@ -44,6 +46,14 @@ list_same A sees sees' ts B B' (signed x s cs D) e f h = (
   (sym (f x (inl refl)) ∙ h.0.0, record { variables = h.0.1.variables; are_new = h.0.1.are_new; typed = subst (λ C. HasClauses C cs (put (λ i. Var (h.0.1.variables i)) s)) (e x (inl refl)) h.0.1.typed }),
   list_same A sees sees' ts B B' D (λ y o. e y (inr o)) (λ y o. f y (inr o)) h.1,
 )
+list_same A sees sees' ts B B' (matched k p cs D) e f h = (
+  record {
+    fits = h.0.fits;
+    right_sides = subst (λ C. HasClauses C cs (ts k)) (e k (IsOneOf-left k (matched_names k p) (names D) (own_name k p))) h.0.right_sides;
+    quantified = λ x o. sym (f x (IsOneOf-left x (matched_names k p) (names D) o)) ∙ h.0.quantified x o;
+  },
+  list_same A sees sees' ts B B' D (λ y o. e y (IsOneOf-right y (matched_names k p) (names D) o)) (λ y o. f y (IsOneOf-right y (matched_names k p) (names D) o)) h.1,
+)
 
 pub HasSchemes-agree : (A A' : Assumptions) (ds : Bindings) (B B' : Identifier → Scheme) → A ≡ A' → ((x : Identifier) → IsOneOf x (names ds) → B x ≡ B' x) → HasSchemes A ds B → HasSchemes A' ds B'
 HasSchemes-agree A A' ds B B' e f l = subst (λ C. HasSchemes C ds B') e (record {
@@ -59,6 +69,7 @@ abbrev pub body_of : Bindings → (Identifier → Monotype) → Assignment → A
 body_of no_binding ts S x = S x
 body_of (unsigned z cs D) ts S x = elim (name_discrete x z) [ yes e ↦ ts x | no n ↦ body_of D ts S x ]
 body_of (signed z s cs D) ts S x = elim (name_discrete x z) [ yes e ↦ s | no n ↦ body_of D ts S x ]
+body_of (matched k p cs D) ts S x = elim (is_one_of x (matched_names k p)) [ yes o ↦ ts x | no n ↦ body_of D ts S x ]
 
 pub body_out : (D : Bindings) (ts : Identifier → Monotype) (S : Assignment) (x : Identifier) → ¬ (IsOneOf x (names D)) → body_of D ts S x ≡ S x
 body_out no_binding ts S x n = refl
@@ -71,6 +82,11 @@ body_out (signed z s cs D) ts S x n = go (name_discrete x z) (body_out D ts S x 
   where
     go : (d : Dec (x ≡ z)) → body_of D ts S x ≡ S x → elim d [ yes e ↦ s | no m ↦ body_of D ts S x ] ≡ S x
     go (yes e) ih = absurd (n (inl e))
+    go (no m) ih = ih
+body_out (matched k p cs D) ts S x n = go (is_one_of x (matched_names k p)) (body_out D ts S x (λ o. n (IsOneOf-right x (matched_names k p) (names D) o)))
+  where
+    go : (d : Dec (IsOneOf x (matched_names k p))) → body_of D ts S x ≡ S x → elim d [ yes o ↦ ts x | no m ↦ body_of D ts S x ] ≡ S x
+    go (yes o) ih = absurd (n (IsOneOf-left x (matched_names k p) (names D) o))
     go (no m) ih = ih
 
 pub body_in : (A : Assumptions) → IsClosed A → (sees : Identifier → Assumptions) (ts : Identifier → Monotype) (B : Identifier → Scheme) (S : Assignment) (D : Bindings) → HasBindings A sees ts B D → (x : Identifier) → IsOneOf x (names D) → B x ≡ closed (body_of D ts S x)
@@ -87,6 +103,12 @@ body_in A shut sees ts B S (signed z s cs D) h x o = go (name_discrete x z) o (b
     go (yes e) p ih = ap B e ∙ h.0.0
     go (no m) (inl e) ih = absurd (m e)
     go (no m) (inr p) ih = ih p
+body_in A shut sees ts B S (matched k p cs D) h x o = go (is_one_of x (matched_names k p)) (one_of x (matched_names k p) (names D) o) (body_in A shut sees ts B S D h.1 x)
+  where
+    go : (d : Dec (IsOneOf x (matched_names k p))) → IsOneOf x (matched_names k p) ⊎ IsOneOf x (names D) → (IsOneOf x (names D) → B x ≡ closed (body_of D ts S x)) → B x ≡ closed (elim d [ yes q ↦ ts x | no m ↦ body_of D ts S x ])
+    go (yes q) s ih = h.0.quantified x q ∙ quantify_closed A shut (ts x)
+    go (no m) (inl q) ih = absurd (m q)
+    go (no m) (inr q) ih = ih q
 
 -- Closures
 

@@ -3,7 +3,7 @@ use Rattle.std.proofs.Common.{ℕ, suc, List, Bool, inl, inr, ◌⊎◌, refl}
 use Rattle.hm_typing.specs.Names.{IsOneOf, Identifier}
 use Rattle.hm_typing.specs.Schemes.{Monotype, Scheme, monomorphic}
 use Rattle.hm_typing.specs.Assumptions.{Assumptions, Has, bind_all}
-use Rattle.hm_typing.specs.Syntax.{Expression, Variable, Constructor, Literal, Apply, Lambda, Let, If, Case, Tuple, Listing, Typed, Expressions, no_expression, expression, Clauses, no_clause, clause, RightSides, no_right_side, plain, guarded, Bindings, no_binding, unsigned, signed, patterns_names, names}
+use Rattle.hm_typing.specs.Syntax.{Expression, Variable, Constructor, Literal, Apply, Lambda, Let, If, Case, Tuple, Listing, Typed, Expressions, no_expression, expression, Clauses, no_clause, clause, RightSides, no_right_side, plain, guarded, Bindings, no_binding, unsigned, signed, matched, patterns_names, names}
 use Rattle.hm_typing.specs.Mentions.{Mentions, ExpressionsMention, ClausesMention, RightSidesMention, BindingsMention}
 use Rattle.hm_typing.specs.SecondForm.{Derives, DeriveAll, DeriveClauses, DeriveRightSides, DeriveBindings, seen_at}
 use Rattle.hm_typing.proofs.Bind.{Has-bind_all}
@@ -80,4 +80,8 @@ mutual
   DeriveBindings-more (signed x s cs ds) A A' own xs B m d = (
     (d.0.0, λ us. DeriveClauses-more cs _ _ _ (more-bind_all (λ y. ClausesMention y cs) (λ y. BindingsMention y (signed x s cs ds) × ¬ (IsOneOf y xs)) xs (seen_at own B us x) A A' (λ y i o. (inl i, o)) m) (d.0.1 us)),
     DeriveBindings-more ds A A' own xs B (λ y p. m y (inr p.0, p.1)) d.1,
+  )
+  DeriveBindings-more (matched k p cs ds) A A' own xs B m d = (
+    (λ us. ((d.0 us).0, DeriveClauses-more cs _ _ _ (more-bind_all (λ y. ClausesMention y cs) (λ y. BindingsMention y (matched k p cs ds) × ¬ (IsOneOf y xs)) xs (seen_at own B us k) A A' (λ y i o. (inl i, o)) m) (d.0 us).1)),
+    DeriveBindings-more ds A A' own xs B (λ y q. m y (inr q.0, q.1)) d.1,
   )

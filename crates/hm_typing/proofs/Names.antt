@@ -1,6 +1,6 @@
 -- Names are equal where their texts are, and each has a number.
 use Rattle.std.proofs.Common.{◌≡◌, ℕ, zero, suc, ◌+◌, ◌*◌, ◌/◌, ◌%◌, ◌<◌, ◌≤◌, true, false, cond, ◌==◌, List, [], ◌∷◌, refl, sym, ap, ◌∙◌, arith}
-use Rattle.hm_typing.specs.Names.{Identifier, local, global}
+use Rattle.hm_typing.specs.Names.{Identifier, local, global, binding}
 use native.Mathlib.Decide.{ℕ_discrete}
 
 -- a text as a number, and back
@@ -62,12 +62,15 @@ back_code_text xs = back_code_in xs (code_text xs) (omega arith)
 
 unfoldable pub code : Identifier → ℕ
 code (local x) = code_text (0 ∷ x)
-code (global a) = code_text (suc (code_text a.«module») ∷ a.name)
+code (binding m n) = code_text (1 ∷ n ∷ m)
+code (global a) = code_text (suc (suc (code_text a.«module»)) ∷ a.name)
 
 abbrev ident_of : List ℕ → Identifier
 ident_of [] = local []
 ident_of (zero ∷ x) = local x
-ident_of (suc n ∷ x) = global (record { «module» = back_text n; name = x })
+ident_of (suc zero ∷ []) = local []
+ident_of (suc zero ∷ n ∷ m) = binding m n
+ident_of (suc (suc n) ∷ x) = global (record { «module» = back_text n; name = x })
 
 unfoldable pub back : ℕ → Identifier
 back n = ident_of (back_text n)
@@ -76,7 +79,8 @@ back n = ident_of (back_text n)
 pub back_code : (x : Identifier) → back (code x) ≡ x
 unfolding code back
 back_code (local x) = ap ident_of (back_code_text (0 ∷ x))
-back_code (global a) = ap ident_of (back_code_text (suc (code_text a.«module») ∷ a.name)) ∙ ap (λ t. global (record { «module» = t; name = a.name })) (back_code_text a.«module»)
+back_code (binding m n) = ap ident_of (back_code_text (1 ∷ n ∷ m))
+back_code (global a) = ap ident_of (back_code_text (suc (suc (code_text a.«module»)) ∷ a.name)) ∙ ap (λ t. global (record { «module» = t; name = a.name })) (back_code_text a.«module»)
 
 pub code_inj : (x y : Identifier) → code x ≡ code y → x ≡ y
 code_inj x y e = sym (back_code x) ∙ (ap back e ∙ back_code y)

@@ -1,14 +1,15 @@
 -- Groups of mutual reach give the order of a list's units, and each list has them.
-use Rattle.std.proofs.Common.{◌≡◌, ℕ, zero, suc, List, [], ◌∷◌, Bool, true, false, ◌||◌, inl, inr, ◌⊎◌, ⊎_elim, ◌↔◌, refl, sym, ◌∙◌, subst, ◌<◌, ◌≤◌, length, arith, true≢false}
+use Rattle.std.proofs.Common.{◌≡◌, ℕ, zero, suc, List, [], ◌∷◌, ◌++◌, Bool, true, false, ◌||◌, inl, inr, ◌⊎◌, ⊎_elim, ◌↔◌, refl, sym, ◌∙◌, subst, ◌<◌, ◌≤◌, length, arith, true≢false}
 use Rattle.hm_types.specs.Types.{In}
 use Rattle.hm_typing.specs.Names.{Identifier, IsOneOf, IsDistinct}
 use Rattle.hm_typing.specs.Schemes.{Scheme, Free, closed, monomorphic}
-use Rattle.hm_typing.specs.Syntax.{Bindings, no_binding, unsigned, signed, bool, names}
-use Rattle.hm_typing.specs.Mentions.{ClausesMention}
+use Rattle.hm_typing.specs.Syntax.{Bindings, no_binding, unsigned, signed, matched, bool, matched_names, names}
 use Rattle.hm_typing.specs.Units.{IsUnsigned, IsSigned, BindingMentions, RefersTo, Reaches, directly, through, SameUnit, AreUnits}
 use Rattle.hm_typing.specs.Orders.{IsReady, SignedAre, IsOrder, Layout, IsInSome, ComeInOrder, AreGroups, AreTestsOf}
 use Rattle.hm_typing.proofs.Names.{name_discrete}
 use Rattle.hm_typing.proofs.Bind.{is_one_of}
+use Rattle.hm_typing.proofs.Local.{IsOneOf-left, IsOneOf-right}
+use Rattle.hm_typing.proofs.Matching.{one_of, distinct_rest}
 use Rattle.hm_typing.proofs.Bridge.{In_closed}
 use Rattle.hm_typing.proofs.Lists.{kind_of}
 use Rattle.hm_typing.proofs.Judge.{Reaches-trans, Reaches-unsigned}
@@ -42,6 +43,7 @@ pub declared_in : Bindings → Identifier → Scheme
 declared_in no_binding x = closed bool
 declared_in (unsigned z cs D) x = declared_in D x
 declared_in (signed z s cs D) x = elim (name_discrete x z) [ yes e ↦ closed s | no n ↦ declared_in D x ]
+declared_in (matched k p cs D) x = declared_in D x
 
 declared_closed : (D : Bindings) (x : Identifier) (a : ℕ) → ¬ (In (Free a) (declared_in D x))
 unfolding declared_in
@@ -52,6 +54,7 @@ declared_closed (signed z s cs D) x a i = go (name_discrete x z) (declared_close
     go : (d : Dec (x ≡ z)) → ¬ (In (Free a) (declared_in D x)) → ¬ (In (Free a) (elim d [ yes e ↦ closed s | no n ↦ declared_in D x ]))
     go (yes e) ih h = In_closed s a h
     go (no n) ih h = ih h
+declared_closed (matched k p cs D) x a i = declared_closed D x a i
 
 declared_same : (z : Identifier) (s : Rattle.hm_typing.specs.Schemes.Monotype) (D : Bindings) (x : Identifier) (d : Dec (x ≡ z)) → x ≡ z → elim d [ yes e ↦ closed s | no n ↦ declared_in D x ] ≡ closed s
 declared_same z s D x (yes e) p = refl
@@ -69,6 +72,7 @@ are_declared_by B (signed z s cs D) d f = (
   f z (inl refl) ∙ declared_same z s D z (name_discrete z z) refl,
   are_declared_by B D d.1 (λ x o. f x (inr o) ∙ declared_other z s D x (name_discrete x z) (λ e. d.0 (subst (λ v. IsOneOf v (names D)) e o))),
 )
+are_declared_by B (matched k p cs D) d f = are_declared_by B D (distinct_rest (matched_names k p) (names D) d) (λ x o. f x (IsOneOf-right x (matched_names k p) (names D) o))
 
 -- From groups to a layout
 
@@ -177,15 +181,16 @@ module _ (ds : Bindings) (distinct : IsDistinct (names ds)) (all_groups : List (
       not_finished x p true e = absurd ((o.0 x p).0 ((f x).0 e))
       not_finished x p false e = refl
 
-      at : (x : Identifier) (cs : Rattle.hm_typing.specs.Syntax.Clauses) → ((y : Identifier) → ClausesMention y cs → BindingMentions x y ds) → in_group g x ≡ true → (y : Identifier) → ClausesMention y cs → IsOneOf y (names ds) → (in_group g y ≡ true) ⊎ ((finished y ≡ true) ⊎ IsSigned y ds)
-      at x cs sub_m p y m q = ⊎_elim
-          (λ u. ⊎_elim (λ k. inl (holds-test (is_one_of y g) k)) (λ k. inr (inl ((f y).1 k))) ((o.0 x (test-holds (is_one_of x g) p)).1 y (mentioned_reach ds x y (sub_m y m) u)))
+      at : (x y : Identifier) → in_group g x ≡ true → BindingMentions x y ds → IsOneOf y (names ds) → (in_group g y ≡ true) ⊎ ((finished y ≡ true) ⊎ IsSigned y ds)
+      at x y p m q = ⊎_elim
+          (λ u. ⊎_elim (λ k. inl (holds-test (is_one_of y g) k)) (λ k. inr (inl ((f y).1 k))) ((o.0 x (test-holds (is_one_of x g) p)).1 y (mentioned_reach ds x y m u)))
           (λ i. inr (inr i)) (kind_of ds y q)
 
       ready : (D : Bindings) → ((x y : Identifier) → BindingMentions x y D → BindingMentions x y ds) → IsReady ds (names ds) finished (in_group g) D
       ready no_binding s = tt
-      ready (unsigned x cs D) s = (at x cs (λ y m. s x y (inl (refl, m))), ready D (λ v w m. s v w (inr m)))
+      ready (unsigned x cs D) s = ((λ p y m q. at x y p (s x y (inl (refl, m))) q), ready D (λ v w m. s v w (inr m)))
       ready (signed x t cs D) s = ready D (λ v w m. s v w (inr m))
+      ready (matched k b cs D) s = ((λ x i p y m q. at x y p (s x y (inl (i, m))) q), ready D (λ v w m. s v w (inr m)))
 
   pub layout_of : Layout ds
   layout_of = record {
@@ -252,6 +257,7 @@ module _ (ds : Bindings) where
   unsigned_names no_binding = []
   unsigned_names (unsigned x cs D) = x ∷ unsigned_names D
   unsigned_names (signed x s cs D) = unsigned_names D
+  unsigned_names (matched k p cs D) = matched_names k p ++ unsigned_names D
 
   is_unsigned_name : (D : Bindings) (x : Identifier) → IsUnsigned x D → IsOneOf x (unsigned_names D)
   unfolding unsigned_names
@@ -259,6 +265,8 @@ module _ (ds : Bindings) where
   is_unsigned_name (unsigned z cs D) x (inl e) = inl e
   is_unsigned_name (unsigned z cs D) x (inr u) = inr (is_unsigned_name D x u)
   is_unsigned_name (signed z s cs D) x u = is_unsigned_name D x u
+  is_unsigned_name (matched k p cs D) x (inl o) = IsOneOf-left x (matched_names k p) (unsigned_names D) o
+  is_unsigned_name (matched k p cs D) x (inr u) = IsOneOf-right x (matched_names k p) (unsigned_names D) (is_unsigned_name D x u)
 
   name_unsigned : (D : Bindings) (x : Identifier) → IsOneOf x (unsigned_names D) → IsUnsigned x D
   unfolding unsigned_names
@@ -266,6 +274,7 @@ module _ (ds : Bindings) where
   name_unsigned (unsigned z cs D) x (inl e) = inl e
   name_unsigned (unsigned z cs D) x (inr u) = inr (name_unsigned D x u)
   name_unsigned (signed z s cs D) x u = name_unsigned D x u
+  name_unsigned (matched k p cs D) x o = ⊎_elim inl (λ q. inr (name_unsigned D x q)) (one_of x (matched_names k p) (unsigned_names D) o)
 
   abbrev us : List Identifier
   us = unsigned_names ds

@@ -5,11 +5,12 @@ use Rattle.hm_types.specs.Types.{Var, App, more, put, put_all}
 use Rattle.hm_typing.specs.Names.{IsOneOf, Identifier}
 use Rattle.hm_typing.specs.Schemes.{Monotype, Scheme, arrow, instance, monomorphic, scheme_put}
 use Rattle.hm_typing.specs.Assumptions.{Assumptions, bind, assumptions_put, bind_all}
-use Rattle.hm_typing.specs.Syntax.{LiteralKind, Integer, Character, Text, Pattern, VariablePattern, AsPattern, ConstructorPattern, LiteralPattern, WildcardPattern, TuplePattern, ListPattern, LazyPattern, Patterns, no_pattern, pattern, Expression, Variable, Constructor, Literal, Apply, Lambda, Let, If, Case, Tuple, Listing, Typed, Expressions, no_expression, expression, Clauses, no_clause, clause, RightSides, no_right_side, plain, guarded, Bindings, no_binding, unsigned, signed, bool, literal_type, patterns_names, names, pattern_count, expression_count}
+use Rattle.hm_typing.specs.Syntax.{LiteralKind, Integer, Character, Text, Pattern, VariablePattern, AsPattern, ConstructorPattern, LiteralPattern, WildcardPattern, TuplePattern, ListPattern, LazyPattern, Patterns, no_pattern, pattern, Expression, Variable, Constructor, Literal, Apply, Lambda, Let, If, Case, Tuple, Listing, Typed, Expressions, no_expression, expression, Clauses, no_clause, clause, RightSides, no_right_side, plain, guarded, Bindings, no_binding, unsigned, signed, matched, bool, literal_type, patterns_names, matched_names, names, pattern_count, expression_count}
 use Rattle.hm_typing.specs.Patterns.{arguments, arrows, Matches, MatchesAll}
 use Rattle.hm_typing.specs.SecondForm.{Derives, DeriveAll, DeriveClauses, DeriveRightSides, DeriveBindings, seen_at}
 use Rattle.hm_typing.proofs.Types.{put-agree, put-put}
 use Rattle.hm_typing.proofs.SchemeLaws.{split, split_below, split_from, instance_put, scheme_put_mono, scheme_put-agree, assumptions_put-agree, SchemeBelow, AssumptionsBelow, assumptions_bound, Has_put, put_split}
+use Rattle.hm_typing.proofs.Matching.{own_name, Matches-named}
 use Rattle.hm_typing.proofs.Bind.{bind_all-agree, assumptions_put-bind_all, scheme_put_closed, FreeIn-bind_all-in, FreeIn-bind_all-out}
 
 pub put-arrows : (r : ℕ → Monotype) (k : ℕ) (ts : ℕ → Monotype) (i : ℕ) (u : Monotype) → put r (arrows k ts i u) ≡ arrows k (λ j. put r (ts j)) i (put r u)
@@ -60,6 +61,12 @@ assumptions_put-seen_at own B r us x xs A n b =
 -- a bound for what a binding sees and for its scheme
 pub list_bound : (xs : List Identifier) (B : Identifier → Scheme) (A : Assumptions) (x : Identifier) → (n : ℕ) × AssumptionsBelow n (bind_all xs B A) × SchemeBelow n (B x)
 list_bound xs B A x = let b = assumptions_bound (bind x (B x) (bind_all xs B A)) in (b.0, (λ a f. b.1 a (inr f)), (λ a i. b.1 a (inl i)))
+
+-- the same for the names of a pattern binding
+pub matched_bound : (xs ys : List Identifier) (B : Identifier → Scheme) (A : Assumptions) → (n : ℕ) × AssumptionsBelow n (bind_all xs B A) × ((x : Identifier) → IsOneOf x ys → SchemeBelow n (B x))
+matched_bound xs ys B A =
+    let b = assumptions_bound (bind_all ys B (bind_all xs B A)) in
+    (b.0, (λ a f. b.1 a (FreeIn-bind_all-out ys B (bind_all xs B A) a f)), (λ x o a i. b.1 a (FreeIn-bind_all-in ys B (bind_all xs B A) a x o i)))
 
 mutual
   pub Derives-put : (e : Expression) (r : ℕ → Monotype) (A : Assumptions) (t : Monotype) → Derives A e t → Derives (assumptions_put r A) e (put r t)
@@ -144,5 +151,16 @@ mutual
           λ us. subst₂ (λ C v. DeriveClauses C cs v) (assumptions_put-seen_at own B r us x xs A n b.1) (put_split n r us (B x) b.2 ∙ sym (instance_put r us (B x)))
               (DeriveClauses-put cs (split n r us) _ (instance (B x) (λ i. Var (n + i))) (d.0.1 (λ i. Var (n + i)))),
         ),
+        DeriveBindings-put ds r A own xs B d.1,
+      )
+  DeriveBindings-put (matched k p cs ds) r A own xs B d =
+      let b = matched_bound xs (matched_names k p) B A in
+      let n = b.0 in (
+        (λ us.
+            let at : (x : Identifier) → IsOneOf x (matched_names k p) → put (split n r us) (instance (B x) (λ i. Var (n + i))) ≡ instance (scheme_put r (B x)) us = λ x o. put_split n r us (B x) (b.2 x o) ∙ sym (instance_put r us (B x)) in
+            let given = d.0 (λ i. Var (n + i)) in (
+              Matches-named k p _ _ at (Matches-put p (split n r us) (λ x. instance (B x) (λ i. Var (n + i))) _ given.0),
+              subst₂ (λ C v. DeriveClauses C cs v) (assumptions_put-seen_at own B r us k xs A n b.1) (at k (own_name k p)) (DeriveClauses-put cs (split n r us) _ (instance (B k) (λ i. Var (n + i))) given.1),
+            )),
         DeriveBindings-put ds r A own xs B d.1,
       )

@@ -5,7 +5,7 @@ use Rattle.hm_types.specs.declared.Entity.{Entity}
 use Rattle.std.proofs.Common.{◌≡◌, ℕ, zero, suc, List, [], ◌∷◌, inl, inr, ◌⊎◌, ⊎_elim, refl, sym, ap, ap₂, ◌∙◌, subst, ◌+◌, ◌<◌, ◌≤◌, length, arith}
 use native.Mathlib.Decide.{ℕ_discrete}
 use Rattle.hm_types.specs.Types.{Args, Var, App, done, more, In, InArgs, put, put_all}
-use Rattle.hm_typing.specs.Names.{Identifier, IsOneOf, local, global}
+use Rattle.hm_typing.specs.Names.{Identifier, IsOneOf, local, global, binding}
 use Rattle.hm_typing.specs.Schemes.{Monotype}
 use Rattle.hm_typing.specs.Problems.{Fact, Equal, Rigid, Unifies, IsBelow, FactsBelow, MostGeneralUnifier}
 use Rattle.hm_typing.proofs.Types.{put-agree, put-put, put-Var, In-put}
@@ -41,6 +41,7 @@ entity_or d (head.Tuple n) = d
 abbrev entity_of : Entity → Identifier → Entity
 entity_of d (local x) = d
 entity_of d (global e) = e
+entity_of d (binding m n) = d
 
 differ : (h k : Head) → ¬ (kind h ≡ kind k) → Dec (h ≡ k)
 differ h k n = no (λ e. n (ap kind e))

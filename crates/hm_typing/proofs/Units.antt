@@ -6,9 +6,10 @@ use Rattle.hm_typing.specs.Names.{IsOneOf, IsDistinct, Identifier}
 use Rattle.hm_typing.specs.Schemes.{Monotype, Scheme, Free, instance, IsInstance, monomorphic, IsAtMostAsGeneral, closed}
 use Rattle.hm_typing.specs.Assumptions.{IsClosed, Assumptions, assumptions_put, FreeIn, bind_all}
 use Rattle.hm_typing.specs.Generalisation.{quantify}
-use Rattle.hm_typing.specs.Syntax.{Bindings, no_binding, unsigned, signed, names}
+use Rattle.hm_typing.specs.Syntax.{Bindings, no_binding, unsigned, signed, matched, matched_names, names}
 use Rattle.hm_typing.specs.Mentions.{ClausesMention}
 use Rattle.hm_typing.specs.Units.{IsUnsigned, IsSigned, BindingMentions, AreUnits}
+use Rattle.hm_typing.specs.Patterns.{Matches}
 use Rattle.hm_typing.specs.SecondForm.{DeriveClauses, seen_at}
 use Rattle.hm_typing.specs.Problems.{Fact, Unifies, MostGeneralUnifier, Answer, solved, unsolvable}
 use Rattle.hm_typing.specs.Orders.{within, Layout, IsNext, IsReady, SignedAre}
@@ -16,7 +17,8 @@ use Rattle.hm_typing.proofs.SchemeLaws.{scheme_put-agree, scheme_put_Var, instan
 use Rattle.hm_typing.proofs.Bind.{Has-bind_all, bind_all-agree}
 use Rattle.hm_typing.proofs.Quantified.{In_quantify}
 use Rattle.hm_typing.proofs.More.{DeriveClauses-more}
-use Rattle.hm_typing.proofs.Put.{DeriveClauses-put}
+use Rattle.hm_typing.proofs.Put.{Matches-put, DeriveClauses-put}
+use Rattle.hm_typing.proofs.Matching.{own_name, Matches-named, AreTogether, together}
 use Rattle.hm_typing.proofs.Local.{names_block, put-block, block-below, names_bound}
 use Rattle.hm_typing.proofs.Groups.{over, GroupHas, GroupQ, GroupHas-agree, cond_true, cond_false}
 use Rattle.hm_typing.proofs.Lists.{kind_of}
@@ -43,12 +45,17 @@ pub GroupHas-put : (D : Bindings) (w : ℕ → Monotype) (g : Identifier → Boo
 GroupHas-put no_binding w g xs A B τ h = tt
 GroupHas-put (unsigned x cs D) w g xs A B τ h = ((λ gx. subst (λ Γ. DeriveClauses Γ cs (put w (τ x))) (assumptions_put-within w g xs B τ A) (DeriveClauses-put cs w _ (τ x) (h.0 gx))), GroupHas-put D w g xs A B τ h.1)
 GroupHas-put (signed x s cs D) w g xs A B τ h = GroupHas-put D w g xs A B τ h
+GroupHas-put (matched k p cs D) w g xs A B τ h = (
+  (λ gk. (Matches-put p w τ (τ k) (h.0 gk).0, subst (λ Γ. DeriveClauses Γ cs (put w (τ k))) (assumptions_put-within w g xs B τ A) (DeriveClauses-put cs w _ (τ k) (h.0 gk).1))),
+  GroupHas-put D w g xs A B τ h.1,
+)
 
 -- the bindings of the names in U at each instance, and every signed name has its scheme
 abbrev pub DerivesOf : (Identifier → Type 0) → Assumptions → (Identifier → Identifier → Bool) → List Identifier → (Identifier → Scheme) → Bindings → Type 0
 DerivesOf U A own xs B no_binding = Unit {0}
 DerivesOf U A own xs B (unsigned x cs D) = (U x → (us : ℕ → Monotype) → DeriveClauses (bind_all xs (seen_at own B us x) A) cs (instance (B x) us)) × DerivesOf U A own xs B D
 DerivesOf U A own xs B (signed x s cs D) = (B x ≡ closed s) × DerivesOf U A own xs B D
+DerivesOf U A own xs B (matched k p cs D) = (U k → (us : ℕ → Monotype) → Matches (λ x. instance (B x) us) p (instance (B k) us) × DeriveClauses (bind_all xs (seen_at own B us k) A) cs (instance (B k) us)) × DerivesOf U A own xs B D
 
 -- U has what its members mention, and whole units
 pub record IsDown (ds : Bindings) (own : Identifier → Identifier → Bool) (U : Identifier → Type 0) : Type 0 where
@@ -130,6 +137,7 @@ declared_same no_binding U A own xs B B' s d y i = absurd i
 declared_same (unsigned x cs D) U A own xs B B' s d y i = declared_same D U A own xs B B' s d.1 y i
 declared_same (signed x t cs D) U A own xs B B' s d y (inl e) = subst (λ z. B' z ≡ B z) (sym e) (d.0 ∙ sym s.0)
 declared_same (signed x t cs D) U A own xs B B' s d y (inr i) = declared_same D U A own xs B B' s.1 d.1 y i
+declared_same (matched k p cs D) U A own xs B B' s d y i = declared_same D U A own xs B B' s d.1 y i
 
 module _ (ds : Bindings) (A : Assumptions) (own : Identifier → Identifier → Bool) (units : AreUnits ds own) (finished g : Identifier → Bool) (next : IsNext ds own finished g) where
   out_signed : (w : Identifier) → IsSigned w ds → g w ≡ false
@@ -145,6 +153,8 @@ module _ (ds : Bindings) (A : Assumptions) (own : Identifier → Identifier → 
   ready_mention (unsigned z cs D) k f x y gx (inr m) o = ready_mention D k.1 f x y gx m o
   ready_mention (signed z s cs D) k f x y gx (inl m) o = absurd (clash gx (subst (λ w. g w ≡ false) (sym m.0) (f z (inl refl))))
   ready_mention (signed z s cs D) k f x y gx (inr m) o = ready_mention D k (λ w i. f w (inr i)) x y gx m o
+  ready_mention (matched z p cs D) k f x y gx (inl m) o = k.0 x m.0 gx y m.1 o
+  ready_mention (matched z p cs D) k f x y gx (inr m) o = ready_mention D k.1 f x y gx m o
 
   pub mention_of : (x y : Identifier) → g x ≡ true → BindingMentions x y ds → IsOneOf y (names ds) → (g y ≡ true) ⊎ ((finished y ≡ true) ⊎ IsSigned y ds)
   mention_of x y gx m o = ready_mention ds next.ready out_signed x y gx m o
@@ -165,6 +175,17 @@ module _ (ds : Bindings) (A : Assumptions) (own : Identifier → Identifier → 
       at : g x ≡ true → (y : Identifier) → ClausesMention y cs → IsOneOf y (names ds) → (g y ≡ true) ⊎ (g y ≡ false) → IsAtMostAsGeneral (seen_at own B' us x y) (within g B (λ z. instance (B' z) us) y)
       at gx y i o (inl gy) = λ t. subst (IsInstance t) (cond_true (own x y) _ _ (next.unit x y gx gy) ∙ sym (cond_true (g y) _ _ gy))
       at gx y i o (inr gy) = λ t k. subst (IsInstance t) (sym (cond_false (g y) _ _ gy)) (c x y gx (sub x y (inl (refl, i))) o gy t (subst (IsInstance t) (cond_false (own x y) _ _ (apart x y gx gy)) k))
+  guess_of (matched k p cs D) U B B' sub u c us d = (
+    (λ gk. let e = d.0 (u k gk) us in (
+      e.0,
+      DeriveClauses-more cs _ _ _ (λ y i t h. Has-bind_all (names ds) (seen_at own B' us k) (within g B (λ z. instance (B' z) us)) A A y (λ o v. at gk y i o (cases (g y)) v) (λ o v q. q) t h) e.1,
+    )),
+    guess_of D U B B' (λ v w m. sub v w (inr m)) u c us d.1,
+  )
+    where
+      at : g k ≡ true → (y : Identifier) → ClausesMention y cs → IsOneOf y (names ds) → (g y ≡ true) ⊎ (g y ≡ false) → IsAtMostAsGeneral (seen_at own B' us k y) (within g B (λ z. instance (B' z) us) y)
+      at gk y i o (inl gy) = λ t. subst (IsInstance t) (cond_true (own k y) _ _ (next.unit k y gk gy) ∙ sym (cond_true (g y) _ _ gy))
+      at gk y i o (inr gy) = λ t q. subst (IsInstance t) (sym (cond_false (g y) _ _ gy)) (c k y gk (sub k y (inl (own_name k p, inr i))) o gy t (subst (IsInstance t) (cond_false (own k y) _ _ (apart k y gk gy)) q))
 
   module _ (status : Identifier → Bool) (B : Identifier → Scheme) (state : State ds A own finished status B) where
     -- what is of no unit judged before is not mentioned there
@@ -213,7 +234,7 @@ module _ (ds : Bindings) (A : Assumptions) (own : Identifier → Identifier → 
           mentioned = λ x y s m u. ⊎_elim (λ e. or_left (status y) (g y) (state.down.mentioned x y e m u)) (λ gx. ⊎_elim (λ gy. or_right (status y) (g y) gy) (λ gy. or_left (status y) (g y) (free x y gx m u gy)) (cases (g y))) (or_case (status x) (g x) s);
           whole = λ x y o s. ⊎_elim (λ e. or_left (status y) (g y) (state.down.whole x y o e)) (λ gx. or_right (status y) (g y) (sym (next.whole x y o) ∙ gx)) (or_case (status x) (g x) s);
         };
-        sound = sound ds (λ x y m. m) out_signed state.sound (t.each);
+        sound = sound ds (λ x y m. m) out_signed (together ds own units) state.sound (t.each);
         most = λ U B' down d x f u. ⊎_elim
             (λ e. let k = state.most U B' down d x e u in (or_left (status x) (g x) k.0, subst (IsAtMostAsGeneral (B' x)) (sym (cond_false (g x) _ _ (out_finished x e))) k.1))
             (λ gx. (
@@ -238,6 +259,7 @@ module _ (ds : Bindings) (A : Assumptions) (own : Identifier → Identifier → 
           declared no_binding f d = tt
           declared (unsigned x cs D) f d = declared D f d
           declared (signed x s cs D) f d = (cond_false (g x) _ _ (f x (inl refl)) ∙ d.0, declared D (λ y i. f y (inr i)) d.1)
+          declared (matched k p cs D) f d = declared D f d
 
           in_group : (us : ℕ → Monotype) (x y : Identifier) → g x ≡ true → (g y ≡ true) ⊎ (g y ≡ false) → within g B (λ z. instance (t.schemes z) us) y ≡ seen_at own B2 us x y
           in_group us x y gx (inl gy) = cond_true (g y) _ _ gy ∙ (ap (λ σ. monomorphic (instance σ us)) (sym (cond_true (g y) _ _ gy)) ∙ sym (cond_true (own x y) _ _ (next.unit x y gx gy)))
@@ -246,16 +268,33 @@ module _ (ds : Bindings) (A : Assumptions) (own : Identifier → Identifier → 
           kept : (us : ℕ → Monotype) (x y : Identifier) → g y ≡ false → seen_at own B us x y ≡ seen_at own B2 us x y
           kept us x y gy = ap (λ σ. cond (own x y) (monomorphic (instance σ us)) σ) (sym (cond_false (g y) _ _ gy))
 
-          sound : (D : Bindings) → ((x y : Identifier) → BindingMentions x y D → BindingMentions x y ds) → ((y : Identifier) → IsSigned y D → g y ≡ false) → DerivesOf (λ x. status x ≡ true) A own (names ds) B D →
+          sound : (D : Bindings) → ((x y : Identifier) → BindingMentions x y D → BindingMentions x y ds) → ((y : Identifier) → IsSigned y D → g y ≡ false) → AreTogether own D → DerivesOf (λ x. status x ≡ true) A own (names ds) B D →
               ((us : ℕ → Monotype) → GroupHas g (names ds) A B (λ y. instance (t.schemes y) us) D) → DerivesOf (λ x. status x || g x ≡ true) A own (names ds) B2 D
-          sound no_binding sub f d e = tt
-          sound (signed x s cs D) sub f d e = (cond_false (g x) _ _ (f x (inl refl)) ∙ d.0, sound D (λ v w m. sub v w (inr m)) (λ y i. f y (inr i)) d.1 e)
-          sound (unsigned x cs D) sub f d e = (
+          sound no_binding sub f to d e = tt
+          sound (signed x s cs D) sub f to d e = (cond_false (g x) _ _ (f x (inl refl)) ∙ d.0, sound D (λ v w m. sub v w (inr m)) (λ y i. f y (inr i)) to d.1 e)
+          sound (unsigned x cs D) sub f to d e = (
             (λ s us. ⊎_elim
                 (λ gx. subst₂ (λ Γ v. DeriveClauses Γ cs v) (bind_all-agree (names ds) _ _ A A (λ y o. in_group us x y gx (cases (g y))) refl) (ap (λ σ. instance σ us) (sym (cond_true (g x) _ _ gx))) ((e us).0 gx))
                 (λ gx. subst (λ σ. DeriveClauses (bind_all (names ds) (seen_at own B2 us x) A) cs (instance σ us)) (sym (cond_false (g x) _ _ gx))
                 (let old = ⊎_elim (λ k. k) (λ k. absurd (clash k gx)) (or_case (status x) (g x) s) in
                 DeriveClauses-more cs _ _ _ (λ y i v h. Has-bind_all (names ds) (seen_at own B us x) (seen_at own B2 us x) A A y (λ o w. subst (IsInstance w) (kept us x y (quiet x y old (sub x y (inl (refl, i))) o))) (λ o w k. k) v h) (d.0 old us)))
                 (cases (g x))),
-            sound D (λ v w m. sub v w (inr m)) f d.1 (λ us. (e us).1),
+            sound D (λ v w m. sub v w (inr m)) f to d.1 (λ us. (e us).1),
+          )
+          sound (matched k p cs D) sub f to d e = (
+            (λ s us. ⊎_elim
+                (λ gk.
+                let at : (x : Identifier) → IsOneOf x (matched_names k p) → instance (t.schemes x) us ≡ instance (B2 x) us = λ x o. ap (λ σ. instance σ us) (sym (cond_true (g x) _ _ (sym (next.whole k x (to.0 k x (own_name k p) o)) ∙ gk))) in (
+                  Matches-named k p _ _ at ((e us).0 gk).0,
+                  subst₂ (λ Γ v. DeriveClauses Γ cs v) (bind_all-agree (names ds) _ _ A A (λ y o. in_group us k y gk (cases (g y))) refl) (at k (own_name k p)) ((e us).0 gk).1,
+                ))
+                (λ gk.
+                let old = ⊎_elim (λ q. q) (λ q. absurd (clash q gk)) (or_case (status k) (g k) s) in
+                let at : (x : Identifier) → IsOneOf x (matched_names k p) → instance (B x) us ≡ instance (B2 x) us = λ x o. ap (λ σ. instance σ us) (sym (cond_false (g x) _ _ (sym (next.whole k x (to.0 k x (own_name k p) o)) ∙ gk))) in (
+                  Matches-named k p _ _ at (d.0 old us).0,
+                  subst (DeriveClauses (bind_all (names ds) (seen_at own B2 us k) A) cs) (at k (own_name k p))
+                      (DeriveClauses-more cs _ _ _ (λ y i v h. Has-bind_all (names ds) (seen_at own B us k) (seen_at own B2 us k) A A y (λ o w. subst (IsInstance w) (kept us k y (quiet k y old (sub k y (inl (own_name k p, inr i))) o))) (λ o w q. q) v h) (d.0 old us).1),
+                ))
+                (cases (g k))),
+            sound D (λ v w m. sub v w (inr m)) f to.1 d.1 (λ us. (e us).1),
           )

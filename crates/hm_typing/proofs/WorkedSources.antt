@@ -2,7 +2,7 @@
 use Rattle.hm_types.specs.declared.Head.TheVariants as head
 use Rattle.std.proofs.Common.{◌≡◌, ℕ, zero, suc, List, [], ◌∷◌, Bool, true, false, ◌&&◌, ◌||◌, inl, inr, ◌⊎◌, ⊎_elim, refl, sym, ap, ap₂, ◌∙◌, subst, subst₂, ◌+◌, arith, true≢false}
 use Rattle.hm_types.specs.Types.{Args, Var, App, done, more, In, put}
-use Rattle.hm_typing.specs.Names.{Identifier, local, global, IsOneOf, IsDistinct}
+use Rattle.hm_typing.specs.Names.{Identifier, local, global, binding, IsOneOf, IsDistinct}
 use Rattle.hm_typing.specs.Schemes.{Monotype, Scheme, Free, Quantified, arrow, instance, monomorphic, closed, IsInstance}
 use Rattle.hm_typing.specs.Assumptions.{Assumptions, empty, bind, bind_all, Has}
 use Rattle.hm_typing.specs.Syntax.{Expression, Variable, Literal, Apply, Let, Integer, Character, Clauses, Bindings, no_binding, unsigned, signed, names}
@@ -19,10 +19,11 @@ use Rattle.hm_typing.proofs.Principal.{Has-DerivedUnits}
 
 -- Names
 
-abbrev first_code : Identifier → ℕ
+abbrev pub first_code : Identifier → ℕ
 first_code (local []) = 0
 first_code (local (c ∷ cs)) = c
 first_code (global a) = 0
+first_code (binding m n) = n
 
 pub differ : (v w : Identifier) → ¬ (first_code v ≡ first_code w) → ¬ (v ≡ w)
 differ v w n e = n (ap first_code e)
@@ -185,7 +186,7 @@ abbrev pub two : Monotype → Monotype → ℕ → Monotype
 two t u zero = t
 two t u (suc i) = u
 
-pair_derived : (A : Assumptions) (a b : Expression) (t u : Monotype) → Derives A a t → Derives A b u → Derives A (pair a b) (pair_type t u)
+pub pair_derived : (A : Assumptions) (a b : Expression) (t u : Monotype) → Derives A a t → Derives A b u → Derives A (pair a b) (pair_type t u)
 pair_derived A a b t u p q = (two t u, (refl, (p, (q, tt))))
 
 -- (h 1, h 'c') where h has what it needs

@@ -1,7 +1,7 @@
 -- A name occurs free (Report 3 and 4.5.1: what a reference is, with the scopes of patterns, let and where).
 use Rattle.std.specs.Prelude.{◌≡◌, ◌⊎◌}
 use Rattle.hm_typing.specs.Names.{Identifier, IsOneOf}
-use Rattle.hm_typing.specs.Syntax.{Expression, Variable, Constructor, Literal, Apply, Lambda, Let, If, Case, Tuple, Listing, Typed, Expressions, no_expression, expression, Clauses, no_clause, clause, RightSides, no_right_side, plain, guarded, Bindings, no_binding, unsigned, signed, patterns_names, names}
+use Rattle.hm_typing.specs.Syntax.{Expression, Variable, Constructor, Literal, Apply, Lambda, Let, If, Case, Tuple, Listing, Typed, Expressions, no_expression, expression, Clauses, no_clause, clause, RightSides, no_right_side, plain, guarded, Bindings, no_binding, unsigned, signed, matched, patterns_names, names}
 
 abbrev mutual
   pub Mentions : Identifier → Expression → Type 0
@@ -34,3 +34,4 @@ abbrev mutual
   BindingsMention y no_binding = ⊥
   BindingsMention y (unsigned x cs ds) = ClausesMention y cs ⊎ BindingsMention y ds
   BindingsMention y (signed x s cs ds) = ClausesMention y cs ⊎ BindingsMention y ds
+  BindingsMention y (matched k p cs ds) = ClausesMention y cs ⊎ BindingsMention y ds

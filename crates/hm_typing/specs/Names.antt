@@ -1,10 +1,12 @@
 -- Names whose meaning is settled (Report 5.5.1): a local binding by its text, the innermost one of that text being meant, or an entity.
+-- Each pattern binding has a name too, by its module and its number there, which no source can mention.
 use Rattle.std.specs.Prelude.{◌≡◌, ℕ, List, [], ◌∷◌, ◌⊎◌}
 use Rattle.hm_types.specs.declared.Entity.{Entity}
 
 pub data Identifier : Type 0 where
   local : List ℕ → Identifier
   global : Entity → Identifier
+  binding : List ℕ → ℕ → Identifier
 
 -- x is in the list
 abbrev pub IsOneOf : {X : Type 0} → X → List X → Type 0

@@ -5,8 +5,9 @@ use Rattle.hm_types.specs.Types.{In}
 use Rattle.hm_typing.specs.Names.{IsOneOf, Identifier}
 use Rattle.hm_typing.specs.Schemes.{Monotype, monomorphic, Scheme, Free, closed}
 use Rattle.hm_typing.specs.Assumptions.{Assumptions, bind_all}
+use Rattle.hm_typing.specs.Patterns.{Matches}
 use Rattle.hm_typing.specs.Typing.{HasClauses}
-use Rattle.hm_typing.specs.Syntax.{Bindings, no_binding, unsigned, signed, names}
+use Rattle.hm_typing.specs.Syntax.{Bindings, no_binding, unsigned, signed, matched, matched_names, names}
 use Rattle.hm_typing.specs.Mentions.{ClausesMention}
 use Rattle.hm_typing.specs.Units.{IsUnsigned, IsSigned, Reaches, SameUnit, AreUnits}
 
@@ -15,6 +16,8 @@ abbrev pub IsReady : Bindings → List Identifier → (Identifier → Bool) → 
 IsReady ds xs finished g no_binding = Unit {0}
 IsReady ds xs finished g (unsigned x cs D) = (g x ≡ true → (y : Identifier) → ClausesMention y cs → IsOneOf y xs → (g y ≡ true) ⊎ ((finished y ≡ true) ⊎ IsSigned y ds)) × IsReady ds xs finished g D
 IsReady ds xs finished g (signed x s cs D) = IsReady ds xs finished g D
+IsReady ds xs finished g (matched k p cs D) =
+    ((x : Identifier) → IsOneOf x (matched_names k p) → g x ≡ true → (y : Identifier) → IsOneOf y (matched_names k p) ⊎ ClausesMention y cs → IsOneOf y xs → (g y ≡ true) ⊎ ((finished y ≡ true) ⊎ IsSigned y ds)) × IsReady ds xs finished g D
 
 -- g is one unit, that comes next
 pub record IsNext (ds : Bindings) (own : Identifier → Identifier → Bool) (finished g : Identifier → Bool) : Type 0 where
@@ -27,6 +30,7 @@ abbrev pub SignedAre : (Identifier → Scheme) → Bindings → Type 0
 SignedAre B no_binding = Unit {0}
 SignedAre B (unsigned x cs D) = SignedAre B D
 SignedAre B (signed x s cs D) = (B x ≡ closed s) × SignedAre B D
+SignedAre B (matched k p cs D) = SignedAre B D
 
 abbrev pub IsOrder : (ds : Bindings) → (Identifier → Identifier → Bool) → (Identifier → Bool) → List (Identifier → Bool) → Type 0
 IsOrder ds own finished [] = (x : Identifier) → IsUnsigned x ds → finished x ≡ true
@@ -52,6 +56,7 @@ abbrev pub UnitHas : (Identifier → Bool) → List Identifier → Assumptions �
 UnitHas g xs A B τ no_binding = Unit {0}
 UnitHas g xs A B τ (unsigned x cs D) = (g x ≡ true → HasClauses (bind_all xs (within g B τ) A) cs (τ x)) × UnitHas g xs A B τ D
 UnitHas g xs A B τ (signed x s cs D) = UnitHas g xs A B τ D
+UnitHas g xs A B τ (matched k p cs D) = (g k ≡ true → Matches τ p (τ k) × HasClauses (bind_all xs (within g B τ) A) cs (τ k)) × UnitHas g xs A B τ D
 
 -- Groups of mutual reach, as lists of names
 

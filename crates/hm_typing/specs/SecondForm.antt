@@ -5,9 +5,9 @@ use Rattle.hm_types.specs.Types.{put}
 use Rattle.hm_typing.specs.Names.{Identifier}
 use Rattle.hm_typing.specs.Schemes.{Monotype, Scheme, arrow, instance, monomorphic, closed}
 use Rattle.hm_typing.specs.Assumptions.{Assumptions, bind_all, Has}
-use Rattle.hm_typing.specs.Syntax.{Expression, Variable, Constructor, Literal, Apply, Lambda, Let, If, Case, Tuple, Listing, Typed, Expressions, no_expression, expression, Clauses, no_clause, clause, RightSides, no_right_side, plain, guarded, Bindings, no_binding, unsigned, signed, bool, literal_type, names, expression_count}
+use Rattle.hm_typing.specs.Syntax.{Expression, Variable, Constructor, Literal, Apply, Lambda, Let, If, Case, Tuple, Listing, Typed, Expressions, no_expression, expression, Clauses, no_clause, clause, RightSides, no_right_side, plain, guarded, Bindings, no_binding, unsigned, signed, matched, bool, literal_type, names, expression_count}
 use Rattle.hm_typing.specs.Units.{AreUnits}
-use Rattle.hm_typing.specs.Patterns.{Instantiates, tuple, list}
+use Rattle.hm_typing.specs.Patterns.{Instantiates, tuple, list, Matches}
 use Rattle.hm_typing.specs.Typing.{HasFunction, HasLocal}
 
 -- what the binding of x sees at an instance
@@ -51,6 +51,7 @@ abbrev mutual
   DeriveBindings A own xs B no_binding = Unit {0}
   DeriveBindings A own xs B (unsigned x cs ds) = ((us : ℕ → Monotype) → DeriveClauses (bind_all xs (seen_at own B us x) A) cs (instance (B x) us)) × DeriveBindings A own xs B ds
   DeriveBindings A own xs B (signed x s cs ds) = ((B x ≡ closed s) × ((us : ℕ → Monotype) → DeriveClauses (bind_all xs (seen_at own B us x) A) cs (instance (B x) us))) × DeriveBindings A own xs B ds
+  DeriveBindings A own xs B (matched k p cs ds) = ((us : ℕ → Monotype) → Matches (λ x. instance (B x) us) p (instance (B k) us) × DeriveClauses (bind_all xs (seen_at own B us k) A) cs (instance (B k) us)) × DeriveBindings A own xs B ds
 
 abbrev pub DerivedSchemes : Assumptions → Bindings → (Identifier → Scheme) → Type 0
 DerivedSchemes A ds B = DerivedUnits ds (λ own. DeriveBindings A own (names ds) B ds)

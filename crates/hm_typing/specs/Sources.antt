@@ -2,15 +2,15 @@
 use Rattle.hm_types.specs.declared.Head.TheVariants as head
 use Rattle.std.specs.Prelude.{codes}
 use Rattle.hm_types.specs.Types.{Var, App, done, more}
-use Rattle.hm_typing.specs.Names.{Identifier, local}
+use Rattle.hm_typing.specs.Names.{Identifier, local, binding}
 use Rattle.hm_typing.specs.Schemes.{Monotype, Scheme, arrow, monomorphic, closed, IsAtMostAsGeneral}
 use Rattle.hm_typing.specs.Assumptions.{Assumptions, empty, bind, bind_all}
-use Rattle.hm_typing.specs.Patterns.{list}
-use Rattle.hm_typing.specs.Syntax.{Integer, Character, Text, VariablePattern, ConstructorPattern, WildcardPattern, no_pattern, pattern, Expression, Variable, Literal, Apply, Lambda, Let, Case, Tuple, Typed, no_expression, expression, Clauses, no_clause, clause, no_right_side, plain, guarded, Bindings, no_binding, unsigned, signed, bool, literal_type, names}
+use Rattle.hm_typing.specs.Patterns.{list, Matches}
+use Rattle.hm_typing.specs.Syntax.{Integer, Character, Text, Pattern, VariablePattern, ConstructorPattern, LiteralPattern, WildcardPattern, TuplePattern, no_pattern, pattern, Expression, Variable, Literal, Apply, Lambda, Let, Case, Tuple, Typed, no_expression, expression, Clauses, no_clause, clause, no_right_side, plain, guarded, Bindings, no_binding, unsigned, signed, matched, bool, literal_type, names}
 use Rattle.hm_typing.specs.Typing.{HasType, HasClauses}
 use Rattle.hm_typing.specs.BindingLists.{HasSchemes}
 
--- names: here every name is a local one
+-- names: here every name that is written is a local one
 abbrev pub f : Identifier
 f = local (codes "f")
 
@@ -22,6 +22,12 @@ x = local (codes "x")
 
 abbrev pub y : Identifier
 y = local (codes "y")
+
+abbrev pub z : Identifier
+z = local (codes "z")
+
+abbrev pub h : Identifier
+h = local (codes "h")
 
 abbrev pub s : Identifier
 s = local (codes "s")
@@ -40,6 +46,16 @@ const = local (codes "const")
 
 abbrev pub as_type_of : Identifier
 as_type_of = local (codes "asTypeOf")
+
+abbrev pub undefined : Identifier
+undefined = local (codes "undefined")
+
+-- and those of two pattern bindings
+abbrev pub first_binding : Identifier
+first_binding = binding (codes "A") 0
+
+abbrev pub second_binding : Identifier
+second_binding = binding (codes "A") 1
 
 -- types
 abbrev pub int : Monotype
@@ -83,6 +99,17 @@ cons_type = arrow (Var 0) (arrow (list (Var 0)) (list (Var 0)))
 
 abbrev pub nil_type : Monotype
 nil_type = list (Var 0)
+
+-- the type constructor Maybe, and the type of Just
+abbrev pub maybe : Monotype → Monotype
+maybe a = App (head.Named (record { «module» = codes "Prelude"; name = codes "Maybe" })) (more a done)
+
+abbrev pub just_type : Monotype
+just_type = arrow (Var 0) (maybe (Var 0))
+
+-- (v, w)
+abbrev pub pair_pattern : Identifier → Identifier → Pattern
+pair_pattern v w = TuplePattern (pattern (VariablePattern v) (pattern (VariablePattern w) no_pattern))
 
 -- .. = e
 abbrev pub is : Expression → Clauses
@@ -183,6 +210,43 @@ too_general_signature = signed f anything (maps x (Variable x)) no_binding
 abbrev pub escaping_signature : Bindings
 escaping_signature = unsigned f (maps x (Let (signed g identity (maps y (Apply (Apply (Variable as_type_of) (Variable y)) (Variable x))) no_binding) (Variable g))) no_binding
 
+-- (f, g) = .. ; h = ..
+abbrev pub pair_and_h : Expression → Expression → Bindings
+pair_and_h e e' = matched first_binding (pair_pattern f g) (is e) (unsigned h (is e') no_binding)
+
+-- (f, g) = (\x -> x, f 1) ; h = f 'c'
+abbrev pub pattern_is_one_unit : Bindings
+pattern_is_one_unit = pair_and_h (pair (Lambda (pattern (VariablePattern x) no_pattern) (Variable x)) (Apply (Variable f) (Literal Integer))) (Apply (Variable f) (Literal Character))
+
+-- (f, g) = (\x -> x, 'c') ; h = (f 1, f g)
+abbrev pub pattern_generalises : Bindings
+pattern_generalises = pair_and_h (pair (Lambda (pattern (VariablePattern x) no_pattern) (Variable x)) (Literal Character)) (pair (Apply (Variable f) (Literal Integer)) (Apply (Variable f) (Variable g)))
+
+-- (f, g) = (not 1, 1) ; h = not g
+abbrev pub pattern_fault : Bindings
+pattern_fault = pair_and_h (pair (Apply (Variable not) (Literal Integer)) (Literal Integer)) (Apply (Variable not) (Variable g))
+
+-- x : y = "ab" ; Just z = undefined
+abbrev pub matched_constructors : Bindings
+matched_constructors =
+    matched first_binding (ConstructorPattern cons_type (pattern (VariablePattern x) (pattern (VariablePattern y) no_pattern))) (is (Literal Text))
+    (matched second_binding (ConstructorPattern just_type (pattern (VariablePattern z) no_pattern)) (is (Variable undefined)) no_binding)
+
+-- (x, y) | y = (z, y) where { z = 1 }
+abbrev pub guarded_pattern : Bindings
+guarded_pattern =
+    matched first_binding (pair_pattern x y)
+    (clause no_pattern (guarded (Variable y) (pair (Variable z) (Variable y)) no_right_side) (unsigned z (is (Literal Integer)) no_binding) no_clause)
+    no_binding
+
+-- (x, y) | y = (1, 'c')
+abbrev pub letter_as_guard : Bindings
+letter_as_guard = matched first_binding (pair_pattern x y) (clause no_pattern (guarded (Variable y) (pair (Literal Integer) (Literal Character)) no_right_side) no_binding no_clause) no_binding
+
+-- 3 = 'c' ; _ = not 1
+abbrev pub nameless_faults : Bindings
+nameless_faults = matched first_binding (LiteralPattern Integer) (is (Literal Character)) (matched second_binding WildcardPattern (is (Apply (Variable not) (Literal Integer))) no_binding)
+
 -- What is said of them
 
 -- under A some schemes type the list, that of v being at least as general as σ
@@ -203,12 +267,16 @@ abbrev pub AreInOneGroup : Assumptions → (Identifier → Monotype) → Binding
 AreInOneGroup C ts no_binding = Unit {0}
 AreInOneGroup C ts (unsigned v cs D) = HasClauses C cs (ts v) × AreInOneGroup C ts D
 AreInOneGroup C ts (signed v s cs D) = HasClauses C cs (ts v) × AreInOneGroup C ts D
+AreInOneGroup C ts (matched k p cs D) = (Matches ts p (ts k) × HasClauses C cs (ts k)) × AreInOneGroup C ts D
 
 -- the whole list as one group: no types, one for each name, do
 abbrev pub HasNoTypesAsOneGroup : Assumptions → Bindings → Type 0
 HasNoTypesAsOneGroup A ds = (ts : Identifier → Monotype) → ¬ (AreInOneGroup (bind_all (names ds) (λ v. monomorphic (ts v)) A) ts ds)
 
--- const :: a -> b -> a, otherwise :: Bool, not :: Bool -> Bool, asTypeOf :: a -> a -> a, g :: Int -> Int
+-- undefined :: a, const :: a -> b -> a, otherwise :: Bool, not :: Bool -> Bool, asTypeOf :: a -> a -> a, g :: Int -> Int
+abbrev pub with_undefined : Assumptions
+with_undefined = bind undefined (closed (Var 0)) empty
+
 abbrev pub with_const : Assumptions
 with_const = bind const (closed first_of_two) empty
 

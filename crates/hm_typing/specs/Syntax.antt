@@ -56,11 +56,13 @@ mutual
     plain : Expression → RightSides → RightSides
     guarded : Expression → Expression → RightSides → RightSides
 
-  -- a binding with all its clauses, without or with a signature (Report 4.4.1)
+  -- A binding of a name with all its clauses, without or with a signature (Report 4.4.1, 4.4.3.1). Or a pattern binding (Report 4.4.3.2):
+  -- a name of its own, which stands for the whole binding and has the type of its pattern; the pattern; and its right sides with their where, as a clause of no patterns.
   pub data Bindings : Type 0 where
     no_binding : Bindings
     unsigned : Identifier → Clauses → Bindings → Bindings
     signed : Identifier → Monotype → Clauses → Bindings → Bindings
+    matched : Identifier → Pattern → Clauses → Bindings → Bindings
 
 -- a type of Prelude without arguments
 abbrev pub prelude_type : List ℕ → Monotype
@@ -91,10 +93,15 @@ abbrev mutual
   patterns_names no_pattern = []
   patterns_names (pattern p ps) = pattern_names p ++ patterns_names ps
 
+-- the names of a pattern binding: the variables of its pattern, and last its own, so that a unit is named by a variable where it has one
+abbrev pub matched_names : Identifier → Pattern → List Identifier
+matched_names k p = pattern_names p ++ (k ∷ [])
+
 abbrev pub names : Bindings → List Identifier
 names no_binding = []
 names (unsigned x cs ds) = x ∷ names ds
 names (signed x s cs ds) = x ∷ names ds
+names (matched k p cs ds) = matched_names k p ++ names ds
 
 abbrev pub pattern_count : Patterns → ℕ
 pattern_count no_pattern = 0

@@ -1,13 +1,13 @@
 -- The typing relation (Damas and Milner 1982, section 5, for the expressions of Report 3 and the bindings of Report 4.4 and 4.5). All types are guessed.
 use Rattle.std.specs.Prelude.{◌≡◌, ℕ, suc, Bool}
 use Rattle.hm_types.specs.Types.{Var, In, put}
-use Rattle.hm_typing.specs.Names.{Identifier}
+use Rattle.hm_typing.specs.Names.{Identifier, IsOneOf}
 use Rattle.hm_typing.specs.Schemes.{Monotype, Scheme, arrow, monomorphic, closed}
 use Rattle.hm_typing.specs.Assumptions.{Assumptions, bind_all, Has, FreeIn}
 use Rattle.hm_typing.specs.Generalisation.{quantify}
-use Rattle.hm_typing.specs.Syntax.{Patterns, Expression, Variable, Constructor, Literal, Apply, Lambda, Let, If, Case, Tuple, Listing, Typed, Expressions, no_expression, expression, Clauses, no_clause, clause, RightSides, no_right_side, plain, guarded, Bindings, no_binding, unsigned, signed, bool, literal_type, patterns_names, names, pattern_count, expression_count}
+use Rattle.hm_typing.specs.Syntax.{Pattern, Patterns, Expression, Variable, Constructor, Literal, Apply, Lambda, Let, If, Case, Tuple, Listing, Typed, Expressions, no_expression, expression, Clauses, no_clause, clause, RightSides, no_right_side, plain, guarded, Bindings, no_binding, unsigned, signed, matched, bool, literal_type, patterns_names, matched_names, names, pattern_count, expression_count}
 use Rattle.hm_typing.specs.Units.{AreUnits, seen}
-use Rattle.hm_typing.specs.Patterns.{Instantiates, tuple, list, arrows, MatchesAll}
+use Rattle.hm_typing.specs.Patterns.{Instantiates, tuple, list, arrows, Matches, MatchesAll}
 
 -- Declared types (Report 3.16, 4.4.1)
 
@@ -38,6 +38,12 @@ pub record HasLocal (A : Assumptions) (ds : Bindings) (Listed : (Identifier → 
   pub schemes : Identifier → Scheme
   pub listed : Listed schemes
   pub body : Body (bind_all (names ds) schemes A)
+
+-- a pattern binding k: its pattern and its right sides have one type, that of k; the variables have their types from the pattern, and B quantifies each by itself
+pub record HasPatternBinding (A : Assumptions) (ts : Identifier → Monotype) (B : Identifier → Scheme) (k : Identifier) (p : Pattern) (Right : Monotype → Type 0) : Type 0 where
+  pub fits : Matches ts p (ts k)
+  pub right_sides : Right (ts k)
+  pub quantified : (x : Identifier) → IsOneOf x (matched_names k p) → B x ≡ quantify A (ts x)
 
 -- the schemes B type the list: each name has a type in its own unit, and the binding of x is judged in what it sees. No order is mentioned
 pub record InUnits (A : Assumptions) (ds : Bindings) (B : Identifier → Scheme) (Each : (Identifier → Assumptions) → (Identifier → Monotype) → Type 0) : Type 0 where
@@ -87,3 +93,4 @@ abbrev mutual
   HasBindings A sees ts B no_binding = Unit {0}
   HasBindings A sees ts B (unsigned x cs ds) = ((B x ≡ quantify A (ts x)) × HasClauses (sees x) cs (ts x)) × HasBindings A sees ts B ds
   HasBindings A sees ts B (signed x s cs ds) = ((B x ≡ closed s) × AtDeclared A s (λ u. HasClauses (sees x) cs u)) × HasBindings A sees ts B ds
+  HasBindings A sees ts B (matched k p cs ds) = HasPatternBinding A ts B k p (λ t. HasClauses (sees k) cs t) × HasBindings A sees ts B ds

@@ -1,27 +1,30 @@
 -- Binding units: the dependency analysis of Report 4.5.1, with references through signed bindings left out, which the Report doesn't do.
 use Rattle.std.specs.Prelude.{◌≡◌, Bool, cond, ◌⊎◌}
 use Rattle.std.specs.Bool.{Decides}
-use Rattle.hm_typing.specs.Names.{Identifier, IsDistinct}
+use Rattle.hm_typing.specs.Names.{Identifier, IsOneOf, IsDistinct}
 use Rattle.hm_typing.specs.Schemes.{Monotype, Scheme, monomorphic}
-use Rattle.hm_typing.specs.Syntax.{Bindings, no_binding, unsigned, signed, names}
+use Rattle.hm_typing.specs.Syntax.{Bindings, no_binding, unsigned, signed, matched, matched_names, names}
 use Rattle.hm_typing.specs.Mentions.{ClausesMention}
 
--- y has a binding without a signature
+-- y has a binding without a signature; the variables of a pattern binding have none, though the Report's 4.4.1 allows them
 abbrev pub IsUnsigned : Identifier → Bindings → Type 0
 IsUnsigned y no_binding = ⊥
 IsUnsigned y (unsigned x cs ds) = (y ≡ x) ⊎ IsUnsigned y ds
 IsUnsigned y (signed x s cs ds) = IsUnsigned y ds
+IsUnsigned y (matched k p cs ds) = IsOneOf y (matched_names k p) ⊎ IsUnsigned y ds
 
 abbrev pub IsSigned : Identifier → Bindings → Type 0
 IsSigned y no_binding = ⊥
 IsSigned y (unsigned x cs ds) = IsSigned y ds
 IsSigned y (signed x s cs ds) = (y ≡ x) ⊎ IsSigned y ds
+IsSigned y (matched k p cs ds) = IsSigned y ds
 
--- the binding of x mentions y
+-- the binding of x mentions y; the names of a pattern binding count as mentioning each other
 abbrev pub BindingMentions : Identifier → Identifier → Bindings → Type 0
 BindingMentions x y no_binding = ⊥
 BindingMentions x y (unsigned z cs ds) = ((x ≡ z) × ClausesMention y cs) ⊎ BindingMentions x y ds
 BindingMentions x y (signed z s cs ds) = ((x ≡ z) × ClausesMention y cs) ⊎ BindingMentions x y ds
+BindingMentions x y (matched k p cs ds) = (IsOneOf x (matched_names k p) × (IsOneOf y (matched_names k p) ⊎ ClausesMention y cs)) ⊎ BindingMentions x y ds
 
 -- x refers to y, which has no signature
 abbrev pub RefersTo : Bindings → Identifier → Identifier → Type 0

@@ -5,9 +5,9 @@ use Rattle.hm_typing.specs.Names.{Identifier, IsOneOf}
 use Rattle.hm_typing.specs.Schemes.{Monotype, Scheme, Free, closed}
 use Rattle.hm_typing.specs.Assumptions.{Assumptions}
 use Rattle.hm_typing.specs.Generalisation.{quantify}
-use Rattle.hm_typing.specs.Syntax.{Bindings, no_binding, unsigned, signed, names}
+use Rattle.hm_typing.specs.Syntax.{Bindings, no_binding, unsigned, signed, matched, names}
 use Rattle.hm_typing.specs.Units.{SameUnit, DependsOn}
-use Rattle.hm_typing.specs.Typing.{AtDeclared, InUnits, HasClauses}
+use Rattle.hm_typing.specs.Typing.{AtDeclared, HasPatternBinding, InUnits, HasClauses}
 use Rattle.hm_typing.specs.BindingLists.{HasPrincipalSchemes}
 use Rattle.hm_typing.specs.Assignments.{Module, Assignment, outer, IsValid, IsPrincipal}
 
@@ -18,6 +18,7 @@ abbrev pub UnitsHave : (Identifier → Type 0) → Assumptions → (Identifier �
 UnitsHave U A sees ts B no_binding = Unit {0}
 UnitsHave U A sees ts B (unsigned x cs ds) = (U x → (B x ≡ quantify A (ts x)) × HasClauses (sees x) cs (ts x)) × UnitsHave U A sees ts B ds
 UnitsHave U A sees ts B (signed x s cs ds) = ((B x ≡ closed s) × (U x → AtDeclared A s (λ u. HasClauses (sees x) cs u))) × UnitsHave U A sees ts B ds
+UnitsHave U A sees ts B (matched k p cs ds) = (U k → HasPatternBinding A ts B k p (λ t. HasClauses (sees k) cs t)) × UnitsHave U A sees ts B ds
 
 -- the units of the names in U, a set that is closed under dependence, are typable: closed schemes exist under which each of them is typed
 pub record IsTypable (A : Assumptions) (ds : Bindings) (U : Identifier → Type 0) : Type 0 where

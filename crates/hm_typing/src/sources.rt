@@ -1,6 +1,8 @@
 //! Worked sources: which of them are typed, and which have no typing.
 
 ghost use Rattle.hm_typing.specs.Assumptions.{empty};
+ghost use Rattle.hm_types.specs.Types.{Var};
+ghost use Rattle.hm_typing.specs.Patterns.{list};
 ghost use Rattle.hm_typing.specs.Schemes.{arrow, closed};
 ghost use Rattle.hm_typing.specs.Sources.{
   HasNoSchemes,
@@ -13,21 +15,31 @@ ghost use Rattle.hm_typing.specs.Sources.{
   char,
   escaping_signature,
   f,
+  first_binding,
   g,
   guarded_clause,
+  guarded_pattern,
+  h,
   identity,
   int,
+  letter_as_guard,
+  matched_constructors,
   misuse,
   mutual_recursion,
+  nameless_faults,
   narrow_signature,
   nested_type,
   pair_type,
   partly_polymorphic,
   partly_type,
+  pattern_fault,
+  pattern_generalises,
+  pattern_is_one_unit,
   polymorphic_lambda,
   polymorphic_let,
   polymorphic_recursion,
   s,
+  second_binding,
   self_application,
   some_faults,
   t,
@@ -40,6 +52,10 @@ ghost use Rattle.hm_typing.specs.Sources.{
   with_narrow,
   with_not,
   with_otherwise,
+  with_undefined,
+  x,
+  y,
+  z,
 };
 ghost use Rattle.hm_typing.specs.Syntax.{bool};
 ghost use Rattle.hm_typing.specs.Verdicts.{AreTypeFaults};
@@ -57,10 +73,17 @@ pub fn sources_with_types()
     ensures case_of_text { IsTyped empty case_of_text char }
     ensures guarded_clause { IsTypedWith with_otherwise guarded_clause f (closed (arrow bool int)) }
     ensures polymorphic_recursion { IsTypedWith empty polymorphic_recursion f (closed nested_type) }
+    ensures pattern_generalises { IsTypedWith empty pattern_generalises h (closed (pair_type int char)) }
+    ensures matched_constructors_first { IsTypedWith with_undefined matched_constructors x (closed char) }
+    ensures matched_constructors_rest { IsTypedWith with_undefined matched_constructors y (closed (list char)) }
+    ensures matched_constructors_any { IsTypedWith with_undefined matched_constructors z (closed (Var 0)) }
+    ensures guarded_pattern_first { IsTypedWith empty guarded_pattern x (closed int) }
+    ensures guarded_pattern_second { IsTypedWith empty guarded_pattern y (closed bool) }
 {}
 
 /// Sources that have no typing: a lambda's variable isn't generalised, no type contains itself, a signature isn't more general than its
-/// binding, its variables don't escape, and its scheme is the one that is used.
+/// binding, its variables don't escape, and its scheme is the one that is used; the names of a pattern binding are one unit, in which none
+/// is generalised, and its guards are of type Bool.
 pub fn sources_without_types()
     ensures lambda_is_monomorphic { HasNoType empty polymorphic_lambda }
     ensures no_infinite_type { HasNoSchemes empty self_application }
@@ -69,10 +92,16 @@ pub fn sources_without_types()
     ensures signature_is_used { HasNoType with_narrow misuse }
     ensures not_one_group { HasNoTypesAsOneGroup with_const through_signature }
     ensures recursion_is_monomorphic { HasNoSchemes empty unsigned_recursion }
+    ensures pattern_is_one_unit { HasNoSchemes empty pattern_is_one_unit }
+    ensures letter_as_guard { HasNoSchemes empty letter_as_guard }
 {}
 
-/// A source with type faults: `f x = x x ; g = f 1 ; s :: Int ; s = 'c' ; t = not s`. They are exactly `f`, `s` and `t`: `g` depends on
-/// `f`, and `t` sees the scheme that is declared of `s`.
+/// Sources with type faults. Of `f x = x x ; g = f 1 ; s :: Int ; s = 'c' ; t = not s` they are exactly `f`, `s` and `t`: `g` depends on
+/// `f`, and `t` sees the scheme that is declared of `s`. Of `(f, g) = (\x -> x, f 1) ; h = f 'c'` it is `h`; of `(f, g) = (not 1, 1) ; h = not g` the unit of the
+/// pattern alone; of `3 = 'c' ; _ = not 1` both bindings, each a unit by itself.
 pub fn sources_with_faults()
     ensures some_faults { AreTypeFaults with_not some_faults (f ∷ s ∷ t ∷ []) }
+    ensures pattern_is_one_unit { AreTypeFaults empty pattern_is_one_unit (h ∷ []) }
+    ensures pattern_fault { AreTypeFaults with_not pattern_fault (f ∷ []) }
+    ensures nameless_faults { AreTypeFaults with_not nameless_faults (first_binding ∷ second_binding ∷ []) }
 {}
