@@ -4,7 +4,7 @@ use hm_build::Status;
 use std::test::Fail;
 
 /// Sources that are read as one module `A`.
-const GOOD: [&[u8]; 20] = [
+const GOOD: [&[u8]; 22] = [
     b"module A where { s = \"a\\ \\b\\&c\" }",
     b"module A where { f x | x = y | otherwise = 2 where { y = 1 } ; g = \\x -> x :: Int ; h = case \"s\" of { c : _ -> c ; [] -> 'z' } }",
     b"module A where { data N a = Z a | S (N (a, a)) ; d :: N a -> Int ; d (Z x) = 0 ; d (S n) = d n }",
@@ -13,6 +13,8 @@ const GOOD: [&[u8]; 20] = [
     b"module A where { x :: (a -> b, [T c], ()) -> A.B (c) [d] -> e ; x = x }",
     b"module A where { ; x = 1 ; ; y = let { ; a = 1 ; ; b :: c } in a ; }",
     b"module A where { f | \\q -> q :: T = 2 }",
+    b"module A where { x = case 1 of { y | (\\q -> q :: T) -> 2 } }",
+    b"module A where { x = case 1 of { y | let { a :: T ; a = 1 } in a -> \\b -> b :: T } }",
     b"module A where { x = if \\a -> a then 1 : 2 : \\b -> b else let { } in [] }",
     b"module A where { x = (,) 1 2 ; y = (:) ; z = () ; u = [] ; v = [1, 2, 3] ; w = (1, 2) }",
     b"module A where { x = (,,,,,,,,,,,,,,) }",
@@ -28,7 +30,23 @@ const GOOD: [&[u8]; 20] = [
 ];
 
 /// Sources, and the line and column of each one's fault.
-const FAULTS: [(&[u8], &[u8]); 23] = [
+const FAULTS: [(&[u8], &[u8]); 27] = [
+    (
+        b"module A where { x = case 1 of { y | \\q -> q :: T -> 2 } }",
+        b"refused: source 1 at 1:46: syntax\n",
+    ),
+    (
+        b"module A where { x = case 1 of { y | \\q -> q :: -> 2 } }",
+        b"refused: source 1 at 1:46: syntax\n",
+    ),
+    (
+        b"module A where { x = case 1 of { y | if a then b else c : let { } in d :: T -> e } }",
+        b"refused: source 1 at 1:72: syntax\n",
+    ),
+    (
+        b"module A where { x = case 1 of { y | \\q -> q :: T -> a } }",
+        b"refused: source 1 at 1:46: syntax\n",
+    ),
     (
         b"module A where { x = f case b of { c -> d } }",
         b"refused: source 1 at 1:24: syntax\n",

@@ -1,28 +1,29 @@
 //! Expressions and declarations (Haskell 98 Report, sections 3 and 4.4).
-ghost use Rattle.std.specs.Prelude.{◌≡◌, ◌≤◌, length, [], ◌∷◌, false};
+ghost use Rattle.std.specs.Prelude.{◌≡◌, ◌≤◌, length, [], ◌∷◌, false, IfOk};
 ghost use Rattle.hm_parse.specs.Lists.{bodies};
 ghost use Rattle.hm_parse.specs.Reading.Basics.{peek, tail, is_at, loop, behind, next_of, closing, tuple_behind, list_in};
-ghost use Rattle.hm_parse.specs.Reading.Expressions.{tuple_of_expressions, list_of_expressions, next_item_of, var_at, exp_with, aexp_step, args_from, guarded_in, next_guarded, bodies_with, where_with, rhs_with, alt_with, alts_with, case_with, opd_with, link, open_by, lambda_with, let_with, if_with, signature_with, clause_with, decl_with, all_expressions};
+ghost use Rattle.hm_parse.specs.Reading.Expressions.{tuple_of_expressions, list_of_expressions, next_item_of, var_at, exp_with, aexp_step, args_from, guarded_in, next_guarded, bodies_with, where_with, rhs_with, alt_with, alts_with, case_with, opd_with, part_with, goes_on, consed, cons_expression, open_by, lambda_with, let_with, if_with, signature_with, clause_with, decl_with, all_expressions};
 ghost use Rattle.hm_parse.specs.Outcome.{Gives};
 
 use crate::ast::{Alt, Decl, DeclKind, Expr, ExprKind, Name, Rhs};
-use crate::cursor::Parser;
+use crate::cursor::{Context, Parser};
 use crate::fault::ParseFault;
 use crate::symbol::Symbol;
 use crate::types::MAX_COMPONENTS;
-use std::alloc::Global;
+use std::alloc::{AllocError, Global};
 
 impl Parser<'_> {
     /// An expression. A type may stand behind it, where it is closed.
     #[cycle(exprs)]
     #[tactic(auto, using(crate::proofs::ExpressionLoops::chain_shorter), unfolding(crate::specs::Reading::Expressions::exp_with))]
-    pub(crate) fn exp(&mut self, alloc: Global) -> Result<Expr, ParseFault>
+    pub(crate) fn exp(&mut self, alloc: Global, context: Context) -> Result<Expr, ParseFault>
         ensures { Gives (λ e. (e, self.new)) result (exp_with all_expressions self.old) }
     {
-        let (e, is_open) = self.chain(alloc)?;
+        let (e, is_open) = self.chain(alloc, context)?;
         if is_open || !self.at(Symbol::OfType) {
             return Ok(e);
         }
+        self.note_type(context);
         self.skip();
         let ty = self.type_expr(alloc)?;
         Ok(Expr {
@@ -30,76 +31,82 @@ impl Parser<'_> {
         })
     }
 
-    /// Operands with colons between, or what extends as far right as it can; true where it is open.
+    /// Operands with colons between, of which the last may be open; true where it is.
     #[cycle(exprs)]
-    #[tactic(auto, using(crate::proofs::ExpressionLoops::chain_is, crate::proofs::ExpressionLoops::opd_shorter), unfolding(crate::specs::Reading::Expressions::chain_step))]
-    fn chain(&mut self, alloc: Global) -> Result<(Expr, bool), ParseFault>
+    #[tactic(auto, using(crate::proofs::ColonLoops::chain_starts, crate::proofs::ColonLoops::chain_none, crate::proofs::ColonLoops::part_shorter, crate::proofs::ColonLoops::at_colon, crate::proofs::ColonLoops::colons_go_on, crate::proofs::ColonLoops::colons_fail, crate::proofs::ColonLoops::colons_end, crate::proofs::ExpressionLoops::colon_shorter))]
+    fn chain(&mut self, alloc: Global, context: Context) -> Result<(Expr, bool), ParseFault>
         ensures { Gives (λ x. (x, self.new)) result (all_expressions.chain self.old) }
     {
+        let (mut last, mut is_open) = self.part(alloc, context)?;
+        let mut operands = Vec::new(alloc);
+        'colons: while self.goes_on(is_open) {
+            let colon = self.colon(alloc)?;
+            operands.push((last, colon))?;
+            let (next, next_is_open) = self.part(alloc, context)?;
+            last = next;
+            is_open = next_is_open;
+        }
+        Ok((cons_all(alloc, operands, last)?, is_open))
+    }
+
+    /// Whether a colon goes on with a chain, behind a part that is open or isn't.
+    fn goes_on(&self, is_open: bool) -> bool
+        ensures { result ≡ goes_on is_open self.now }
+    {
+        if is_open {
+            return false;
+        }
+        self.at(Symbol::Colon)
+    }
+
+    /// An operand, or what extends as far right as it can; true where it is open.
+    #[cycle(exprs)]
+    #[tactic(auto, unfolding(crate::specs::Reading::Expressions::part_with))]
+    fn part(&mut self, alloc: Global, context: Context) -> Result<(Expr, bool), ParseFault>
+        ensures { Gives (λ x. (x, self.new)) result (part_with all_expressions self.old) }
+    {
         if self.symbol().begins_open() {
-            let e = self.open_exp(alloc)?;
+            let e = self.open_exp(alloc, context)?;
             return Ok((e, true));
         }
-        let first = self.operand(alloc)?;
-        Ok(self.link(alloc, first)?)
+        let e = self.operand(alloc)?;
+        Ok((e, false))
     }
 
     /// A lambda, a `let` or an `if`.
     #[cycle(exprs)]
     #[tactic(auto, using(crate::proofs::ExpressionLoops::backslash_shorter, crate::proofs::ExpressionLoops::let_shorter, crate::proofs::ExpressionLoops::if_shorter))]
-    fn open_exp(&mut self, alloc: Global) -> Result<Expr, ParseFault>
+    fn open_exp(&mut self, alloc: Global, context: Context) -> Result<Expr, ParseFault>
         ensures { Gives (λ e. (e, self.new)) result (open_by all_expressions (peek self.old) self.old) }
     {
         match self.symbol() {
             Symbol::Backslash => {
                 self.skip();
-                Ok(self.lambda(alloc)?)
+                Ok(self.lambda(alloc, context)?)
             }
             Symbol::Let => {
                 self.skip();
-                Ok(self.let_in(alloc)?)
+                Ok(self.let_in(alloc, context)?)
             }
             Symbol::If => {
                 self.skip();
-                Ok(self.if_then_else(alloc)?)
+                Ok(self.if_then_else(alloc, context)?)
             }
             _ => Err(ParseFault::Syntax(self.place())),
         }
     }
 
-    /// What follows an operand.
-    #[cycle(exprs)]
-    #[tactic(auto, using(crate::proofs::ExpressionLoops::colon_shorter), unfolding(crate::specs::Reading::Expressions::link))]
-    fn link(&mut self, alloc: Global, first: Expr) -> Result<(Expr, bool), ParseFault>
-        ensures { Gives (λ x. (x, self.new)) result (link all_expressions first self.old) }
-    {
-        if !self.at(Symbol::Colon) {
-            return Ok((first, false));
-        }
-        let colon = Expr {
-            kind: ExprKind::Con(self.colon(alloc)?),
-        };
-        let (rest, is_open) = self.chain(alloc)?;
-        let half = Expr {
-            kind: ExprKind::Apply(Box::new(alloc, colon)?, Box::new(alloc, first)?),
-        };
-        let whole = Expr {
-            kind: ExprKind::Apply(Box::new(alloc, half)?, Box::new(alloc, rest)?),
-        };
-        Ok((whole, is_open))
-    }
-
     /// What follows a backslash.
     #[cycle(exprs)]
     #[tactic(auto, using(crate::proofs::ExpressionLoops::apat_shorter, crate::proofs::ExpressionLoops::apats_shorter, crate::proofs::ExpressionLoops::expect_shorter), unfolding(crate::specs::Reading::Expressions::lambda_with))]
-    fn lambda(&mut self, alloc: Global) -> Result<Expr, ParseFault>
+    fn lambda(&mut self, alloc: Global, context: Context) -> Result<Expr, ParseFault>
         ensures { Gives (λ e. (e, self.new)) result (lambda_with all_expressions self.old) }
     {
         let first = self.apat(alloc)?;
         let mut params = self.apats(alloc)?;
         params.insert(0, first)?;
         self.expect(Symbol::Arrow)?;
-        let body = self.exp(alloc)?;
+        let body = self.exp(alloc, context)?;
         Ok(Expr {
             kind: ExprKind::Lambda(params, Box::new(alloc, body)?),
         })
@@ -108,12 +115,12 @@ impl Parser<'_> {
     /// What follows `let`.
     #[cycle(exprs)]
     #[tactic(auto, using(crate::proofs::ExpressionLoops::decls_shorter, crate::proofs::ExpressionLoops::expect_shorter), unfolding(crate::specs::Reading::Expressions::let_with))]
-    fn let_in(&mut self, alloc: Global) -> Result<Expr, ParseFault>
+    fn let_in(&mut self, alloc: Global, context: Context) -> Result<Expr, ParseFault>
         ensures { Gives (λ e. (e, self.new)) result (let_with all_expressions self.old) }
     {
         let local = self.decls(alloc)?;
         self.expect(Symbol::In)?;
-        let body = self.exp(alloc)?;
+        let body = self.exp(alloc, context)?;
         Ok(Expr {
             kind: ExprKind::Let(local, Box::new(alloc, body)?),
         })
@@ -122,14 +129,14 @@ impl Parser<'_> {
     /// What follows `if`.
     #[cycle(exprs)]
     #[tactic(auto, using(crate::proofs::ExpressionLoops::exp_shorter, crate::proofs::ExpressionLoops::expect_shorter), unfolding(crate::specs::Reading::Expressions::if_with))]
-    fn if_then_else(&mut self, alloc: Global) -> Result<Expr, ParseFault>
+    fn if_then_else(&mut self, alloc: Global, context: Context) -> Result<Expr, ParseFault>
         ensures { Gives (λ e. (e, self.new)) result (if_with all_expressions self.old) }
     {
-        let test = self.exp(alloc)?;
+        let test = self.exp(alloc, Context::Elsewhere)?;
         self.expect(Symbol::Then)?;
-        let consequence = self.exp(alloc)?;
+        let consequence = self.exp(alloc, Context::Elsewhere)?;
         self.expect(Symbol::Else)?;
-        let alternative = self.exp(alloc)?;
+        let alternative = self.exp(alloc, context)?;
         Ok(Expr {
             kind: ExprKind::If(
                 Box::new(alloc, test)?,
@@ -165,7 +172,7 @@ impl Parser<'_> {
     fn case_of(&mut self, alloc: Global) -> Result<Expr, ParseFault>
         ensures { Gives (λ e. (e, self.new)) result (case_with all_expressions self.old) }
     {
-        let subject = self.exp(alloc)?;
+        let subject = self.exp(alloc, Context::Elsewhere)?;
         self.expect(Symbol::Of)?;
         self.expect(Symbol::LeftBrace)?;
         let alts = self.alts(alloc)?;
@@ -239,7 +246,7 @@ impl Parser<'_> {
         let mut found = Vec::new(alloc);
         if self.at(mark) {
             self.skip();
-            let body = self.exp(alloc)?;
+            let body = self.exp(alloc, Context::Elsewhere)?;
             found.push((None, body))?;
             return Ok(found);
         }
@@ -260,9 +267,9 @@ impl Parser<'_> {
     fn guarded(&mut self, alloc: Global, mark: Symbol) -> Result<(Option<Expr>, Expr), ParseFault>
         ensures { Gives (λ x. (x, self.new)) result (guarded_in all_expressions mark self.old) }
     {
-        let (guard, _) = self.chain(alloc)?;
+        let (guard, _) = self.chain(alloc, Context::of_guard(mark))?;
         self.expect(mark)?;
-        let body = self.exp(alloc)?;
+        let body = self.exp(alloc, Context::Elsewhere)?;
         Ok((Some(guard), body))
     }
 
@@ -310,7 +317,7 @@ impl Parser<'_> {
             }
             Symbol::Open => {
                 self.skip();
-                let first = self.exp(alloc)?;
+                let first = self.exp(alloc, Context::Elsewhere)?;
                 Ok(self.exp_closing(alloc, first)?)
             }
             Symbol::OpenSquare => {
@@ -338,7 +345,7 @@ impl Parser<'_> {
                 return Err(ParseFault::Syntax(self.place()));
             }
             self.skip();
-            found.push(self.exp(alloc)?)?;
+            found.push(self.exp(alloc, Context::Elsewhere)?)?;
         }
         self.expect(Symbol::Close)?;
         Ok(Expr {
@@ -352,12 +359,12 @@ impl Parser<'_> {
     fn exp_list(&mut self, alloc: Global) -> Result<Expr, ParseFault>
         ensures { Gives (λ e. (e, self.new)) result (list_in (exp_with all_expressions) list_of_expressions self.old) }
     {
-        let first = self.exp(alloc)?;
+        let first = self.exp(alloc, Context::Elsewhere)?;
         let mut found = Vec::new(alloc);
         found.push(first)?;
         'elements: while self.at(Symbol::Comma) {
             self.skip();
-            found.push(self.exp(alloc)?)?;
+            found.push(self.exp(alloc, Context::Elsewhere)?)?;
         }
         self.expect(Symbol::CloseSquare)?;
         Ok(Expr {
@@ -462,4 +469,32 @@ impl Parser<'_> {
             kind: DeclKind::Signature { names, ty },
         })
     }
+}
+
+/// The operands, each with the colon behind it, before the last: colons group to the right.
+#[tactic(auto, using(crate::proofs::ColonLoops::consed_on))]
+fn cons_all(alloc: Global, operands: Vec<(Expr, Name)>, last: Expr) -> Result<Expr, AllocError>
+    ensures { IfOk result (λ e. e ≡ consed operands.items last) }
+{
+    let mut operands = operands;
+    let mut whole = last;
+    'operands: while let Some((operand, colon)) = operands.pop() {
+        whole = cons(alloc, operand, colon, whole)?;
+    }
+    Ok(whole)
+}
+
+/// An operand, a colon and what stands behind it.
+fn cons(alloc: Global, operand: Expr, colon: Name, rest: Expr) -> Result<Expr, AllocError>
+    ensures { IfOk result (λ e. e ≡ cons_expression colon operand rest) }
+{
+    let colon = Expr {
+        kind: ExprKind::Con(colon),
+    };
+    let half = Expr {
+        kind: ExprKind::Apply(Box::new(alloc, colon)?, Box::new(alloc, operand)?),
+    };
+    Ok(Expr {
+        kind: ExprKind::Apply(Box::new(alloc, half)?, Box::new(alloc, rest)?),
+    })
 }

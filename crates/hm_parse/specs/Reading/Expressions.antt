@@ -5,6 +5,7 @@ use Rattle.hm_parse.specs.Trees.{Expression, variable_expression, constructor_ex
 use Rattle.hm_parse.specs.Lists.{patterns, expressions, declarations, alternatives, bodies}
 use Rattle.hm_parse.specs.declared.symbol.Symbol.{Symbol}
 use Rattle.hm_parse.specs.declared.symbol.Symbol.TheVariants.{Case, Else, If, In, Let, Of, Then, Where, Colon, OfType, Equals, Backslash, Bar, Arrow, Open, OpenSquare, LeftBrace, RightBrace, Comma, Semicolon, Var, Con, QVar, QCon, Integer, Character, Text}
+use Rattle.hm_parse.specs.Tokens.{Terminal}
 use Rattle.hm_parse.specs.Reading.Basics.{◌>>=◌, Reader, peek, is_at, tail, expect, name_at, item_end, past_semicolons, loop, behind, next_of, closing, list_in}
 use Rattle.hm_parse.specs.Reading.Constructors.{begins_gcon, special_at, gcon_at, literal_at}
 use Rattle.hm_parse.specs.Reading.Types.{type_at}
@@ -31,6 +32,21 @@ list_of_expressions es = list_expression (expressions es)
 -- `a : b`, where colon is the name of the colon
 abbrev pub cons_expression : Identifier → Expression → Expression → Expression
 cons_expression colon a b = application (application (constructor_expression colon) a) b
+
+-- operands, each with the colon behind it, before the last: colons group to the right
+abbrev pub consed : List (Expression × Identifier) → Expression → Expression
+consed [] e = e
+consed (p ∷ ps) e = cons_expression p.1 p.0 (consed ps e)
+
+-- a reading of the rest, behind operands that were read
+abbrev pub behind_operands : List (Expression × Identifier) → Option ((Expression × Bool) × List Terminal) → Option ((Expression × Bool) × List Terminal)
+behind_operands ps None = None
+behind_operands ps (Some r) = Some ((consed ps r.0.0, r.0.1), r.1)
+
+-- a colon goes on with a chain, behind a part that isn't open
+abbrev pub goes_on : Bool → List Terminal → Bool
+goes_on true ts = false
+goes_on false ts = is_at Colon ts
 
 -- the first, applied to the others one by one
 abbrev pub applied : Expression → List Expression → Expression
@@ -241,6 +257,21 @@ module _ (r : ExpressionReaders) where
       else (do
         a ← opd_with ts
         link a.0 a.1)
+
+  -- an operand, or what extends as far right as it can
+  unfoldable pub part_with : Reader (Expression × Bool)
+  part_with ts = if begins_open (peek ts)
+      then (do
+        e ← open_by (peek ts) ts
+        Some ((e.0, true), e.1))
+      else (do
+        a ← opd_with ts
+        Some ((a.0, false), a.1))
+
+  -- the rest of a chain behind a part
+  abbrev pub rest_with : Expression → Bool → Reader (Expression × Bool)
+  rest_with e true ts = Some ((e, true), ts)
+  rest_with e false ts = link e ts
 
   -- ---- declarations
 
