@@ -10,7 +10,7 @@ ghost use Rattle.hm_unify.specs.Unifier.{occurs_among, HasUnifier, SameUnifiers,
 ghost use Rattle.hm_unify.specs.Bindings.{solution};
 ghost use Rattle.hm_unify.specs.WellFormed.{IsWellFormed, EquationsAreWellFormed};
 
-use crate::bindings::{Binding, resolve};
+use crate::bindings::Bindings;
 use crate::faults::UnifyFault;
 use crate::steps::add_equation;
 use hm_types::Ty;
@@ -24,7 +24,7 @@ use std::marker::Model;
 #[derive(Drop)]
 pub struct Solver {
     alloc: Global,
-    bindings: Vec<Binding>,
+    bindings: Bindings,
     given: usize,
     failed: bool,
 }
@@ -32,16 +32,15 @@ pub struct Solver {
 impl Model for Solver {
     ghost use Rattle.hm_unify.specs.Solving.{Solving, coded_solving};
     ghost use Rattle.hm_unify.specs.WellFormed.{EquationsAreWellFormed};
-    ghost use Rattle.hm_unify.specs.Bindings.{IsTriangular};
-    ghost use Rattle.hm_unify.specs.Steps.{equations_of};
+    ghost use Rattle.hm_unify.specs.Steps.{equations_in, IsSound};
 
     ghost Value = { Solving };
 
     ghost coded = { coded_solving };
 
-    ghost view = { λ s. record { equations = equations_of s.bindings.items; given = s.given; failed = s.failed } };
+    ghost view = { λ s. record { equations = equations_in s.bindings; given = s.given; failed = s.failed } };
 
-    ghost invariant = { λ s. record { triangular : IsTriangular (equations_of s.bindings.items); well_formed : EquationsAreWellFormed s.given (equations_of s.bindings.items) } };
+    ghost invariant = { λ s. record { sound : IsSound s.bindings; well_formed : EquationsAreWellFormed s.given (equations_in s.bindings) } };
 }
 
 impl Solver {
@@ -51,7 +50,7 @@ impl Solver {
     {
         Solver {
             alloc,
-            bindings: Vec::new(alloc),
+            bindings: Bindings::new(alloc),
             given: 0,
             failed: false,
         }
@@ -141,6 +140,6 @@ impl Solver {
         ensures brings_in { BringsIn (solution self.now.equations) self.now.equations }
         ensures equations { EquationsAreWellFormed self.now.given self.now.equations }
     {
-        Ok(resolve(self.alloc, &self.bindings, t)?)
+        Ok(self.bindings.resolve(self.alloc, t)?)
     }
 }
