@@ -1,4 +1,5 @@
 pub mod Prefix
+pub mod BracketBytes
 pub mod Cuts
 pub mod OneShape
 pub mod FirstFault
