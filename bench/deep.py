@@ -21,6 +21,7 @@ KINDS = {
     "ifs behind else": ("x = ", "if a then a else ", "1", "", ""),
     "ifs within conditions": ("x = ", "if ", "1", " then a else a", ""),
     "colons": ("x = ", "a:", "1", "", ""),
+    "colons and lambdas": ("x = ", "a: \\x->", "1", "", ""),
     "arguments": ("x = a", " a", "", "", ""),
     "function types": ("x :: ", "a->", "a", "", ""),
     "lazy patterns": ("x ", "~ ", "a", "", " = 1"),

@@ -2,7 +2,7 @@
 ghost use Rattle.std.specs.Prelude.{◌≡◌, ◌≤◌, length, [], ◌∷◌, false, IfOk};
 ghost use Rattle.hm_parse.specs.Lists.{bodies};
 ghost use Rattle.hm_parse.specs.Reading.Basics.{peek, tail, is_at, loop, behind, next_of, closing, tuple_behind, list_in};
-ghost use Rattle.hm_parse.specs.Reading.Expressions.{tuple_of_expressions, list_of_expressions, next_item_of, var_at, exp_with, aexp_step, args_from, guarded_in, next_guarded, bodies_with, where_with, rhs_with, alt_with, alts_with, case_with, opd_with, part_with, goes_on, consed, cons_expression, open_by, lambda_with, let_with, if_with, signature_with, clause_with, decl_with, all_expressions};
+ghost use Rattle.hm_parse.specs.Reading.Expressions.{tuple_of_expressions, list_of_expressions, next_item_of, var_at, exp_with, aexp_step, args_from, guarded_in, next_guarded, bodies_with, where_with, rhs_with, alt_with, alts_with, case_with, opd_with, link, typed_behind, consed, cons_expression, open_by, lambda_with, let_with, if_with, signature_with, clause_with, decl_with, all_expressions};
 ghost use Rattle.hm_parse.specs.Outcome.{Gives};
 
 use crate::ast::{Alt, Decl, DeclKind, Expr, ExprKind, Name, Rhs};
@@ -15,67 +15,80 @@ use std::alloc::{AllocError, Global};
 impl Parser<'_> {
     /// An expression. A type may stand behind it, where it is closed.
     #[cycle(exprs)]
-    #[tactic(auto, using(crate::proofs::ExpressionLoops::chain_shorter), unfolding(crate::specs::Reading::Expressions::exp_with))]
+    #[tactic(auto, using(crate::proofs::ExpressionLoops::chain_shorter, crate::proofs::ColonLoops::exp_open, crate::proofs::ColonLoops::exp_open_none), unfolding(crate::specs::Reading::Expressions::exp_with))]
     pub(crate) fn exp(&mut self, alloc: Global, context: Context) -> Result<Expr, ParseFault>
         ensures { Gives (λ e. (e, self.new)) result (exp_with all_expressions self.old) }
     {
+        if self.symbol().begins_open() {
+            return Ok(self.open_exp(alloc, context)?);
+        }
         let (e, is_open) = self.chain(alloc, context)?;
         if is_open || !self.at(Symbol::OfType) {
             return Ok(e);
         }
         self.note_type(context);
         self.skip();
+        Ok(self.typed(alloc, e)?)
+    }
+
+    /// What follows `::` behind an expression.
+    #[inline(never)]
+    fn typed(&mut self, alloc: Global, e: Expr) -> Result<Expr, ParseFault>
+        ensures { Gives (λ whole. (whole, self.new)) result (typed_behind e self.old) }
+    {
         let ty = self.type_expr(alloc)?;
         Ok(Expr {
             kind: ExprKind::Typed(Box::new(alloc, e)?, ty),
         })
     }
 
-    /// Operands with colons between, of which the last may be open; true where it is.
+    /// Operands with colons between, or what extends as far right as it can; true where it is open.
     #[cycle(exprs)]
-    #[tactic(auto, using(crate::proofs::ColonLoops::chain_starts, crate::proofs::ColonLoops::chain_none, crate::proofs::ColonLoops::part_shorter, crate::proofs::ColonLoops::at_colon, crate::proofs::ColonLoops::colons_go_on, crate::proofs::ColonLoops::colons_fail, crate::proofs::ColonLoops::colons_end, crate::proofs::ExpressionLoops::colon_shorter))]
+    #[tactic(auto, using(crate::proofs::ColonLoops::chain_open, crate::proofs::ColonLoops::chain_open_none, crate::proofs::ColonLoops::chain_closed, crate::proofs::ColonLoops::chain_closed_none, crate::proofs::ColonLoops::chain_alone, crate::proofs::ExpressionLoops::opd_shorter))]
     fn chain(&mut self, alloc: Global, context: Context) -> Result<(Expr, bool), ParseFault>
         ensures { Gives (λ x. (x, self.new)) result (all_expressions.chain self.old) }
-    {
-        let (mut last, mut is_open) = self.part(alloc, context)?;
-        let mut operands = Vec::new(alloc);
-        'colons: while self.goes_on(is_open) {
-            let colon = self.colon(alloc)?;
-            operands.push((last, colon))?;
-            let (next, next_is_open) = self.part(alloc, context)?;
-            last = next;
-            is_open = next_is_open;
-        }
-        Ok((cons_all(alloc, operands, last)?, is_open))
-    }
-
-    /// Whether a colon goes on with a chain, behind a part that is open or isn't.
-    fn goes_on(&self, is_open: bool) -> bool
-        ensures { result ≡ goes_on is_open self.now }
-    {
-        if is_open {
-            return false;
-        }
-        self.at(Symbol::Colon)
-    }
-
-    /// An operand, or what extends as far right as it can; true where it is open.
-    #[cycle(exprs)]
-    #[tactic(auto, unfolding(crate::specs::Reading::Expressions::part_with))]
-    fn part(&mut self, alloc: Global, context: Context) -> Result<(Expr, bool), ParseFault>
-        ensures { Gives (λ x. (x, self.new)) result (part_with all_expressions self.old) }
     {
         if self.symbol().begins_open() {
             let e = self.open_exp(alloc, context)?;
             return Ok((e, true));
         }
-        let e = self.operand(alloc)?;
-        Ok((e, false))
+        let first = self.operand(alloc)?;
+        if !self.at(Symbol::Colon) {
+            return Ok((first, false));
+        }
+        Ok(self.colons(alloc, context, first)?)
+    }
+
+    /// What follows the first operand of a chain. The operands are kept, and put together from the last.
+    #[cycle(exprs)]
+    #[tactic(auto, using(crate::proofs::ColonLoops::behind_nothing, crate::proofs::ColonLoops::colons_open, crate::proofs::ColonLoops::colons_open_none, crate::proofs::ColonLoops::colons_go_on, crate::proofs::ColonLoops::colons_none, crate::proofs::ColonLoops::colons_end, crate::proofs::ExpressionLoops::opd_shorter, crate::proofs::ExpressionLoops::colon_shorter))]
+    #[inline(never)]
+    fn colons(
+        &mut self,
+        alloc: Global,
+        context: Context,
+        first: Expr,
+    ) -> Result<(Expr, bool), ParseFault>
+        ensures { Gives (λ x. (x, self.new)) result (link all_expressions first self.old) }
+    {
+        let mut last = first;
+        let mut operands = Vec::new(alloc);
+        'colons: while self.at(Symbol::Colon) {
+            let colon = self.colon(alloc)?;
+            operands.push((last, colon))?;
+            if self.symbol().begins_open() {
+                let e = self.open_exp(alloc, context)?;
+                return Ok((cons_all(alloc, operands, e)?, true));
+            }
+            last = self.operand(alloc)?;
+        }
+        Ok((cons_all(alloc, operands, last)?, false))
     }
 
     /// A lambda, a `let` or an `if`.
     #[cycle(exprs)]
     #[tactic(auto, using(crate::proofs::ExpressionLoops::backslash_shorter, crate::proofs::ExpressionLoops::let_shorter, crate::proofs::ExpressionLoops::if_shorter))]
+    #[inline(never)]
     fn open_exp(&mut self, alloc: Global, context: Context) -> Result<Expr, ParseFault>
         ensures { Gives (λ e. (e, self.new)) result (open_by all_expressions (peek self.old) self.old) }
     {
@@ -149,6 +162,7 @@ impl Parser<'_> {
     /// An application, or a `case`.
     #[cycle(exprs)]
     #[tactic(auto, using(crate::proofs::ExpressionLoops::aexp_shorter, crate::proofs::ExpressionLoops::case_shorter, crate::proofs::ExpressionLoops::args_go_on, crate::proofs::ExpressionLoops::args_end, crate::proofs::ExpressionLoops::args_fail), unfolding(crate::specs::Reading::Expressions::opd_with))]
+    #[inline(never)]
     fn operand(&mut self, alloc: Global) -> Result<Expr, ParseFault>
         ensures { Gives (λ e. (e, self.new)) result (opd_with all_expressions self.old) }
     {
@@ -473,6 +487,7 @@ impl Parser<'_> {
 
 /// The operands, each with the colon behind it, before the last: colons group to the right.
 #[tactic(auto, using(crate::proofs::ColonLoops::consed_on))]
+#[inline(never)]
 fn cons_all(alloc: Global, operands: Vec<(Expr, Name)>, last: Expr) -> Result<Expr, AllocError>
     ensures { IfOk result (λ e. e ≡ consed operands.items last) }
 {

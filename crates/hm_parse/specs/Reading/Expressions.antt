@@ -43,11 +43,6 @@ abbrev pub behind_operands : List (Expression × Identifier) → Option ((Expres
 behind_operands ps None = None
 behind_operands ps (Some r) = Some ((consed ps r.0.0, r.0.1), r.1)
 
--- a colon goes on with a chain, behind a part that isn't open
-abbrev pub goes_on : Bool → List Terminal → Bool
-goes_on true ts = false
-goes_on false ts = is_at Colon ts
-
 -- the first, applied to the others one by one
 abbrev pub applied : Expression → List Expression → Expression
 applied f [] = f
@@ -85,14 +80,16 @@ pub record ExpressionReaders : Type 0 where
   pub chain : Reader (Expression × Bool)
   pub decls : Reader (List Declaration)
 
+-- what follows `::` behind an expression
+abbrev pub typed_behind : Expression → Reader Expression
+typed_behind e ts = do
+  t ← type_at ts
+  Some (typed_expression e t.0, t.1)
+
 -- a type behind `::`, where the expression is closed
 abbrev pub typed : Expression → Bool → Reader Expression
 typed e true ts = Some (e, ts)
-typed e false ts = if is_at OfType ts
-    then (do
-      t ← type_at (tail ts)
-      Some (typed_expression e t.0, t.1))
-    else Some (e, ts)
+typed e false ts = if is_at OfType ts then typed_behind e (tail ts) else Some (e, ts)
 
 module _ (r : ExpressionReaders) where
   unfoldable pub exp_with : Reader Expression
@@ -257,21 +254,6 @@ module _ (r : ExpressionReaders) where
       else (do
         a ← opd_with ts
         link a.0 a.1)
-
-  -- an operand, or what extends as far right as it can
-  unfoldable pub part_with : Reader (Expression × Bool)
-  part_with ts = if begins_open (peek ts)
-      then (do
-        e ← open_by (peek ts) ts
-        Some ((e.0, true), e.1))
-      else (do
-        a ← opd_with ts
-        Some ((a.0, false), a.1))
-
-  -- the rest of a chain behind a part
-  abbrev pub rest_with : Expression → Bool → Reader (Expression × Bool)
-  rest_with e true ts = Some ((e, true), ts)
-  rest_with e false ts = link e ts
 
   -- ---- declarations
 

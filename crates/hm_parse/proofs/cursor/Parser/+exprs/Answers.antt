@@ -1,8 +1,10 @@
-use Rattle.std.proofs.Common.{◌≡◌, ◌<◌, List, [], ◌∷◌, ◌++◌, length, Some, ap, sym, ◌∙◌, rules, arith, refl}
+use Rattle.std.proofs.Common.{◌≡◌, ◌<◌, List, [], ◌∷◌, ◌++◌, length, true, false, Some, ap, sym, ◌∙◌, rules, arith, refl}
 use Rattle.hm_parse.specs.Trees.{Expression}
-use Rattle.hm_parse.specs.Reading.Basics.{tail, loop, behind, next_of}
-use Rattle.hm_parse.specs.Reading.Expressions.{exp_with, guarded_in, all_expressions}
-use Rattle.hm_parse.proofs.ExpressionLoops.{elements_end, chain_shorter, expect_shorter, first_guard_shorter}
+use Rattle.hm_parse.specs.declared.symbol.Symbol.TheVariants.{Colon}
+use Rattle.hm_parse.specs.Reading.Basics.{peek, is_at, tail, loop, behind, next_of}
+use Rattle.hm_parse.specs.Reading.Expressions.{begins_open, exp_with, guarded_in, all_expressions}
+use Rattle.hm_parse.proofs.ExpressionLoops.{elements_end, chain_shorter, opd_shorter, colon_shorter, expect_shorter, first_guard_shorter}
+use Rattle.hm_parse.proofs.ColonLoops.{colons_go_on}
 use Rattle.hm_parse.proofs.cursor.Parser.+exprs.Goals as goal
 
 pub bodies-guards-init : goal.bodies-guards-init
@@ -25,3 +27,15 @@ guarded-exp-requires t c =
     let guard_read : length c.chain.new.self < length c.args.self.now = chain_shorter c.args.self.now c.chain.new.self (c.in_ok-guard.guard, c.in_ok-guard.field-0-1) c.in_ok-guard.ensures in
     let mark_read : length c.expect.new.self < length c.chain.new.self = expect_shorter c.args.mark c.chain.new.self c.expect.new.self c.in_ok-expect.ensures in
     (omega (arith, c.decreases, guard_read, mark_read), tt)
+
+pub colons-colons-preserved : goal.colons-colons-preserved
+colons-colons-preserved t c =
+    let at : is_at Colon c.colons.self ≡ true = search rules in
+    let closed : begins_open (peek c.colon.new.self) ≡ false = search rules in
+    let taken : length (tail c.colons.self) < length c.colons.self = colon_shorter c.colons.self at in
+    let same : length c.colon.new.self ≡ length (tail c.colons.self) = ap length c.in_ok-colon.ensures.ok in
+    let operand : length c.operand.new.self < length c.colon.new.self = opd_shorter c.colon.new.self c.operand.new.self c.in_ok-last.last c.in_ok-last.ensures in
+    record {
+      read = colons_go_on c.colons.operands.items c.push.new.self.items c.colons.last c.in_ok-last.last c.in_ok-colon.colon c.colons.self c.colon.new.self c.operand.new.self at c.in_ok-colon.ensures.ok c.in_ok-colon.ensures.name c.in_ok-push.ensures.items closed c.in_ok-last.ensures ∙ c.colons.invariant.read;
+      left = omega (arith, taken, same, operand, c.colons.invariant.left);
+    }

@@ -1,6 +1,6 @@
 use Rattle.std.proofs.Common.{◌≡◌, ◌+◌, ◌*◌, ◌<◌, ◌≤◌, length, [], ◌∷◌}
 use Rattle.hm_parse.specs.Reading.Basics.{loop, behind, next_of}
-use Rattle.hm_parse.specs.Reading.Expressions.{exp_with, args_from, opd_with, behind_operands, rest_with, next_guarded, alt_with, decl_with, next_item_of, all_expressions}
+use Rattle.hm_parse.specs.Reading.Expressions.{exp_with, args_from, opd_with, behind_operands, link, next_guarded, alt_with, decl_with, next_item_of, all_expressions}
 use Rattle.hm_parse.proofs.cursor.Parser.+exprs.Given as goal
 
 abbrev pub decreases-exp : goal.decreases-exp
@@ -12,17 +12,17 @@ decreases-chain l = 10 * length l.self.now + 8
 abbrev pub decreases-open_exp : goal.decreases-open_exp
 decreases-open_exp l = 10 * length l.self.now + 6
 
-abbrev pub decreases-part : goal.decreases-part
-decreases-part l = 10 * length l.self.now + 7
+abbrev pub decreases-colons : goal.decreases-colons
+decreases-colons l = 10 * length l.self.now + 8
 
-abbrev pub invariant-chain-colons : goal.invariant-chain-colons
-invariant-chain-colons l = record {
-  read : behind_operands l.operands.items (rest_with all_expressions l.last l.is_open l.self) ≡ all_expressions.chain l.fn.self;
+abbrev pub invariant-colons-colons : goal.invariant-colons-colons
+invariant-colons-colons l = record {
+  read : behind_operands l.operands.items (link all_expressions l.last l.self) ≡ link all_expressions l.fn.first l.fn.self;
   left : length l.self ≤ length l.fn.self;
 }
 
-abbrev pub decreases-chain-colons : goal.decreases-chain-colons
-decreases-chain-colons l = length l.self
+abbrev pub decreases-colons-colons : goal.decreases-colons-colons
+decreases-colons-colons l = length l.self
 
 abbrev pub decreases-lambda : goal.decreases-lambda
 decreases-lambda l = 10 * length l.self.now + 1
