@@ -257,17 +257,18 @@ impl Parser<'_> {
         requires { is_at mark [] ≡ false }
         ensures { Gives (λ v. (v.items, self.new)) result (bodies_with all_expressions mark self.old) }
     {
-        let mut found = Vec::new(alloc);
         if self.at(mark) {
             self.skip();
             let body = self.exp(alloc, Context::Elsewhere)?;
-            found.push((None, body))?;
-            return Ok(found);
+            let mut only = Vec::with_capacity(alloc, 1)?;
+            only.push((None, body))?;
+            return Ok(only);
         }
         if !self.at(Symbol::Bar) {
             return Err(ParseFault::Syntax(self.place()));
         }
         self.skip();
+        let mut found = Vec::new(alloc);
         found.push(self.guarded(alloc, mark)?)?;
         'guards: while let Some(next) = self.next_guarded(alloc, mark)? {
             found.push(next)?;
