@@ -1,5 +1,5 @@
 -- Sources have one plan text.
-use Rattle.std.proofs.Common.{◌≡◌, ◌≢◌, ℕ, ◌+◌, ◌<◌, List, [], ◌∷◌, ◌++◌, length, map, get_or, refl, sym, ap, subst, ◌∙◌, arith, inl, inr, Contains}
+use Rattle.std.proofs.Common.{◌≡◌, ℕ, List, [], ◌∷◌, ◌++◌, length, map, get_or, sym, ap, subst, ◌∙◌, arith, inl, inr}
 use Rattle.std.specs.List.{flat_map}
 use Rattle.std.proofs.lemmas.Bool.{cases_order}
 use Rattle.std.proofs.lemmas.List.{get_or_default, ext_get_or}
@@ -7,14 +7,13 @@ use Rattle.hm_lex.specs.declared.token.Token.{Token}
 use Rattle.hm_lex.specs.Cut.{tokens_of}
 use Rattle.hm_lex.specs.Faults.{AreTokensOf}
 use Rattle.hm_lex.proofs.Cuts.{one_cut}
-use Rattle.hm_parse.specs.declared.ast.Module.{Module}
 use Rattle.hm_parse.specs.Grammar.Modules.{Spells}
 use Rattle.hm_parse.proofs.Whole.{spelled_once}
 use Rattle.hm_graph.specs.Outline.{Outline}
 use Rattle.hm_graph.specs.Imports.{Modules, NoneTaken, name_at}
 use Rattle.hm_graph.proofs.OnePlan.{one_plan}
 use Rattle.hm_build.specs.Names.{module_outline}
-use Rattle.hm_build.specs.Plans.{AreBlocksOf, AreOrdered, Block, IsBlockOf, IsPlanText, block_text, count_line}
+use Rattle.hm_build.specs.Plans.{AreBlocksOf, Block, IsPlanText, block_text, count_line}
 use Rattle.hm_build.specs.Runs.{AreOutlinesOf, HasOutlines, IsPlanned}
 use Rattle.hm_build.proofs.OneOrder.{HaveOwnNames, one_order, one_order_of_blocks, same_block}
 

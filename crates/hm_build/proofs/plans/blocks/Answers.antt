@@ -1,5 +1,5 @@
-use Rattle.std.proofs.Common.{rules, map, ◌∙◌, subst, sym, ap, get_or, string_bytes, []}
-use Rattle.hm_graph.specs.Outline.{outline, outlines}
+use Rattle.std.proofs.Common.{rules, map, ◌∙◌, subst, sym, ap, get_or, []}
+use Rattle.hm_graph.specs.Outline.{outlines}
 use Rattle.hm_graph.specs.Imports.{name_at}
 use Rattle.hm_build.specs.Plans.{AreOrdered, IsBlockOf}
 use Rattle.hm_build.specs.Views.{block_of}

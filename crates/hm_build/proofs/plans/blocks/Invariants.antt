@@ -1,5 +1,5 @@
 use Rattle.std.proofs.Common.{◌≡◌, ◌<◌, ℕ, length, map, get_or, []}
-use Rattle.hm_graph.specs.Outline.{outline, outlines}
+use Rattle.hm_graph.specs.Outline.{outlines}
 use Rattle.hm_graph.specs.Imports.{name_at}
 use Rattle.hm_build.specs.Plans.{Block, IsBlockOf}
 use Rattle.hm_build.specs.Views.{block_of}

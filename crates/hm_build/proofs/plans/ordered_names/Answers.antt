@@ -2,7 +2,7 @@ use Rattle.std.proofs.Common.{rules, map, take, ◌≡◌, ◌∙◌, subst, sym
 use Rattle.std.proofs.lemmas.List.{take_all}
 use Rattle.std.proofs.lemmas.List.Sorted.{IsPermutation-map}
 use Rattle.std.specs.List.Sorted.{IsPermutation}
-use Rattle.hm_graph.specs.Outline.{outline, outlines}
+use Rattle.hm_graph.specs.Outline.{outlines}
 use Rattle.hm_graph.specs.Imports.{name_at}
 use Rattle.hm_build.specs.Names.{name_below}
 use Rattle.hm_build.proofs.Ordering.{name_at_map, names_more, sorted_map}

@@ -1,5 +1,5 @@
 use Rattle.std.proofs.Common.{◌≡◌, map, take}
-use Rattle.hm_graph.specs.Outline.{outline, outlines}
+use Rattle.hm_graph.specs.Outline.{outlines}
 use Rattle.hm_graph.specs.Imports.{name_at}
 use Rattle.hm_build.proofs.plans.ordered_names.Given as goal
 

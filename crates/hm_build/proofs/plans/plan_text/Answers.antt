@@ -2,7 +2,7 @@ use Rattle.std.proofs.Common.{rules, map, take, ◌≡◌, ◌++◌, ◌∙◌, 
 use Rattle.std.proofs.lemmas.List.{take_all, length-map}
 use Rattle.std.proofs.lemmas.List.Sorted.{IsPermutation-map, answers_always}
 use Rattle.std.specs.List.{flat_map}
-use Rattle.hm_graph.specs.Outline.{outline, outlines}
+use Rattle.hm_graph.specs.Outline.{outline}
 use Rattle.hm_build.specs.Plans.{block_below, block_text, count_line}
 use Rattle.hm_build.specs.Views.{block_of}
 use Rattle.hm_build.proofs.Ordering.{sorted_map}

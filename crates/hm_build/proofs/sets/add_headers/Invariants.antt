@@ -1,5 +1,5 @@
 use Rattle.std.proofs.Common.{◌≡◌, ◌++◌, map}
-use Rattle.hm_graph.specs.Outline.{outline, outlines}
+use Rattle.hm_graph.specs.Outline.{outlines}
 use Rattle.hm_build.specs.Names.{module_outline}
 use Rattle.hm_build.proofs.sets.add_headers.Given as goal
 

@@ -1,5 +1,5 @@
 use Rattle.std.proofs.Common.{map, take}
-use Rattle.hm_graph.specs.Outline.{outline, outlines}
+use Rattle.hm_graph.specs.Outline.{outlines}
 use Rattle.hm_build.specs.Runs.{AreOutlinesOf}
 use Rattle.hm_build.proofs.sets.set_headers.Given as goal
 
