@@ -1,5 +1,4 @@
 pub mod Prefix
-pub mod BracketBytes
 pub mod Cuts
 pub mod OneShape
 pub mod FirstFault

@@ -56,24 +56,20 @@ pub fn is_operator(text: &[u8]) -> bool
     is_one_of(&OPERATORS, text)
 }
 
-#[tactic(auto, using(crate::proofs::BracketBytes::opening_byte, crate::proofs::BracketBytes::no_opening))]
+const OPENINGS: [&[u8]; 3] = [b"(", b"[", b"{"];
+
+const CLOSINGS: [&[u8]; 3] = [b")", b"]", b"}"];
+
+#[tactic(auto, unfolding(crate::specs::Cut::is_opening))]
 pub fn is_opening(text: &[u8]) -> bool
     ensures { result ≡ is_opening text.now }
 {
-    if text.len() != 1 {
-        return false;
-    }
-    let byte = text[0];
-    byte == b'(' || byte == b'[' || byte == b'{'
+    is_one_of(&OPENINGS, text)
 }
 
-#[tactic(auto, using(crate::proofs::BracketBytes::closing_byte, crate::proofs::BracketBytes::no_closing))]
+#[tactic(auto, unfolding(crate::specs::Cut::is_closing))]
 pub fn is_closing(text: &[u8]) -> bool
     ensures { result ≡ is_closing text.now }
 {
-    if text.len() != 1 {
-        return false;
-    }
-    let byte = text[0];
-    byte == b')' || byte == b']' || byte == b'}'
+    is_one_of(&CLOSINGS, text)
 }
