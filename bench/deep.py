@@ -30,6 +30,12 @@ KINDS = {
     "brackets": ("x = ", "(", "1", ")", ""),
     "open brackets": ("x = ", "(", "", "", ""),
     "clauses": ("", "x = 1;", "", "", ""),
+    "bindings of patterns": ("", "(x)=1;", "", "", ""),
+    "colons of a bound pattern": ("", "a:", "a", "", " = 1"),
+    "lazy bound patterns": ("", "~ ", "a", "", " = 1"),
+    "names of a bound pattern": ("", "~a@ ", "a", "", " = 1"),
+    "bindings within bindings": ("", "(x)=let{", "x=1", "}in x", ""),
+    "a synonym of functions": ("type A = ", "a->", "a", "", ""),
 }
 
 
@@ -37,8 +43,9 @@ def source(kind):
     before, level, inner, close, after = KINDS[kind]
     head, tail = "module A where { " + before, after + " }"
     count = (LIMIT - len(head) - len(inner) - len(tail)) // (len(level) + len(close))
-    if kind == "brackets":
-        count = 199
+    # brackets and braces nest 200 levels deep, the module's own brace among them
+    if kind in ("brackets", "bindings within bindings"):
+        count = 199 if kind == "brackets" else 198
     return head + level * count + inner + close * count + tail, count
 
 

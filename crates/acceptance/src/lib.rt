@@ -12,4 +12,6 @@ mod plans;
 #[cfg(test)]
 mod transfers;
 #[cfg(test)]
+mod tree_text;
+#[cfg(test)]
 mod trees;

@@ -1,4 +1,5 @@
-//! How many modules and declarations the parser finds, and the places of its faults.
+//! How many modules the parser finds, their trees, and the places of its faults.
+use crate::tree_text::is_spelled;
 use hm_lex::{Place, lex};
 use hm_parse::{ParseFault, parse};
 use std::alloc::Global;
@@ -28,15 +29,10 @@ const GOOD: [(&[u8], usize); 7] = [
 ];
 
 /// Sources, and the line and the column of each one's fault.
-const FAULTS: [(&[u8], usize, usize); 9] = [
-    (b"module A where { x = }", 1, 22),
-    (b"module A where { x = 1 }}", 1, 25),
-    (b"module A where { x = 1", 1, 23),
+const FAULTS: [(&[u8], usize, usize); 4] = [
     (b"x", 1, 1),
     (b"module A where {\nx = 1 ; import B }", 2, 9),
     (b"module A where { import B x = 1 }", 1, 27),
-    (b"module A (T(C,)) where { }", 1, 15),
-    (b"module A (T(,)) where { }", 1, 13),
     (b"module A where { import B hiding }", 1, 34),
 ];
 
@@ -78,22 +74,8 @@ fn faults(rt: HostRuntime) -> Result<(), Fail> {
     Ok(())
 }
 
-/// Bodies of a module `A`, and how many declarations the whole has, or the column of its fault.
-const BODIES: [(&[u8], Option<usize>); 34] = [
-    (b"module A where { x = if 1 ; then 2 else 3 }", Some(27)),
-    (b"module A where { f (Just x) = x ; import B }", Some(35)),
-    (
-        b"module A where { x = (1,1,1,1,1,1,1,1,1,1,1,1,1,1,1,1) }",
-        Some(52),
-    ),
-    (
-        b"module A where { x = (1,1,1,1,1,1,1,1,1,1,1,1,1,1,1) }",
-        None,
-    ),
-    (b"module A where { type S = Int }", Some(18)),
-    (b"module A where { (x, y) = p }", Some(18)),
-    (b"module A where { x = (,,,,,,,,,,,,,,) }", None),
-    (b"module A where { x = (,,,,,,,,,,,,,,,) }", Some(37)),
+/// Sources of one module, and the column of its fault, if it has one.
+const BODIES: [(&[u8], Option<usize>); 24] = [
     (b"module A where { x = case y of { } }", Some(34)),
     (b"module A where { x = case y of { ; ; } }", Some(38)),
     (
@@ -110,8 +92,7 @@ const BODIES: [(&[u8], Option<usize>); 34] = [
         None,
     ),
     (b"module A where { as qualified hiding = as }", None),
-    (b"module A where { (x) = 1 }", Some(18)),
-    (b"module A where { (f) x = 1 }", Some(18)),
+    (b"module A where { (x) = 1 }", None),
     (b"module A where { x = a : b : c :: T }", None),
     (b"module A where { x = a : \\y -> y :: T }", None),
     (b"module A where { x = \\y -> y :: T :: U }", Some(35)),
@@ -136,7 +117,6 @@ const BODIES: [(&[u8], Option<usize>); 34] = [
         b"module A where { x = 1 where { y = 2 ; z | a = 1 where { } } ; }",
         None,
     ),
-    (b"module A where { x = \\ -> 1 }", Some(24)),
     (b"module A where { x :: a -> }", Some(28)),
 ];
 
@@ -148,6 +128,60 @@ fn bodies(rt: HostRuntime) -> Result<(), Fail> {
             Some(column) => assert!(rt; has_fault(alloc, source, 1, *column)),
             None => assert!(rt; has_modules(alloc, source, 1)),
         }
+    }
+    Ok(())
+}
+
+/// Sources, and the text of the one module of each, by `tree_text`.
+const TEXTS: [(&[u8], &str); 11] = [
+    (
+        b"module A where { x = a : b :: T }",
+        "x@18 = (((:@24 a@22) b@26) :: T@31)",
+    ),
+    (
+        b"module A where { f ~x@(p : q) = p }",
+        "f@18 (~ (x@21 @ (:@26 p@24 q@28))) = p@33",
+    ),
+    (b"module A where { x = (,) 1 }", "x@18 = ((,)@22 1)"),
+    (
+        b"module A where { import B hiding (x, T, U(..), V(), W(C, D),) }",
+        "import B@25 hiding (x@35, T@38, U@41(..), V@48( ), W@53( C@55 D@58 ))",
+    ),
+    (
+        b"module A where { x = case y of { Just z | z -> a | b -> c where { a = z } } }",
+        "x@18 = (case y@27 of { (Just@34 z@39) | z@43 -> a@48 | b@52 -> c@57 where { a@67 = z@71 } })",
+    ),
+    (
+        b"module A where { f = \\x -> x : y }",
+        "f@18 = (\\ x@23 -> ((:@30 x@28) y@32))",
+    ),
+    (
+        b"module A where { x = if a then if b then c else d else e }",
+        "x@18 = (if a@25 then (if b@35 then c@42 else d@49) else e@56)",
+    ),
+    (
+        b"module A where { f :: a -> (b, [c]) -> T d }",
+        "signature f@18 :: (a@23 -> ((tuple b@29 (list c@33)) -> (T@40 d@42)))",
+    ),
+    (
+        b"module A where { (x) = 1 ; ((y)) | a = 2 }",
+        "x@19 = 1 ; y@30 | a@36 = 2",
+    ),
+    (
+        b"module A where { x : y = p ; ~z = q }",
+        "binding@18 (:@20 x@18 y@22) = p@26 ; binding@30 (~ z@31) = q@35",
+    ),
+    (
+        b"module A where { newtype N a = C [a] ; type S a b = a -> b ; data T a = D a (T a) | E }",
+        "newtype N@26 a@28 = C@32 (list a@35) ; type S@45 a@47 b@49 = (a@53 -> b@58) ; data T@67 a@69 = D@73 a@75 (T@78 a@80) | E@85",
+    ),
+];
+
+#[test]
+fn texts(rt: HostRuntime) -> Result<(), Fail> {
+    let alloc = rt.alloc();
+    for (source, text) in &TEXTS {
+        assert!(rt; is_spelled(alloc, source, text)?);
     }
     Ok(())
 }

@@ -8,7 +8,7 @@ use Rattle.hm_lex.specs.declared.token.Token.{Token}
 use Rattle.hm_lex.proofs.OneFault.{one_refusal}
 use Rattle.hm_lex.proofs.Scanning.{one_answer}
 use Rattle.hm_parse.specs.Grammar.Modules.{Spells}
-use Rattle.hm_parse.specs.declared.ast.Module.{Module}
+use Rattle.hm_syntax.specs.declared.ast.Module.{Module}
 use Rattle.hm_parse.specs.declared.fault.ParseFault.TheVariants.{Syntax, Memory}
 use Rattle.hm_graph.specs.Imports.{Modules, IsLawful, IsMissing}
 use Rattle.hm_graph.specs.Outline.{Outline}

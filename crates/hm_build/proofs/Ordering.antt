@@ -3,9 +3,9 @@ use Rattle.std.proofs.Common.{◌≡◌, ℕ, ◌+◌, ◌<◌, Bool, List, [], 
 use Rattle.std.proofs.lemmas.List.{get_or-map, length-map, map-append, take_more, length-append, get_or_append_left, get_or_at}
 use Rattle.std.proofs.lemmas.Bool.{cases_lt}
 use Rattle.std.specs.List.Sorted.{IsSortedBy}
-use Rattle.hm_parse.specs.declared.ast.Header.{Header}
+use Rattle.hm_syntax.specs.declared.ast.Header.{Header}
 use Rattle.hm_graph.specs.Outline.{outline, outlines}
-use Rattle.hm_parse.specs.declared.ast.Import.{Import}
+use Rattle.hm_syntax.specs.declared.ast.Import.{Import}
 use Rattle.hm_graph.specs.Closure.{one, more}
 use Rattle.hm_graph.specs.Imports.{Modules, ImportReaches, IsImportPlan, imports_at, name_at}
 use Rattle.hm_graph.specs.Refusal.{IsFirstInCycle}

@@ -2,7 +2,7 @@
 use Rattle.std.specs.Prelude.{ℕ, Bool, List, [], slice_index_or}
 use Rattle.std.specs.Ordering.{nat_cmp, is_lt}
 use Rattle.std.specs.Cmp.Lexicographic.{slice_cmp}
-use Rattle.hm_parse.specs.declared.ast.Module.{Module}
+use Rattle.hm_syntax.specs.declared.ast.Module.{Module}
 use Rattle.hm_graph.specs.Outline.{Outline, outline}
 use Rattle.hm_graph.specs.Imports.{Modules, imports_at}
 

@@ -2,7 +2,7 @@
 use Rattle.std.specs.Prelude.{◌≡◌, ℕ, ◌+◌, List, [], ◌∷◌, ◌++◌, length, map, ◌⊎◌}
 use Rattle.hm_lex.specs.Faults.{AreTokensOf, IsRefusal}
 use Rattle.hm_lex.specs.declared.token.Token.{Token}
-use Rattle.hm_parse.specs.declared.ast.Module.{Module}
+use Rattle.hm_syntax.specs.declared.ast.Module.{Module}
 use Rattle.hm_graph.specs.Outline.{Outline}
 use Rattle.hm_build.specs.Names.{import_at, module_outline}
 use Rattle.hm_parse.specs.declared.fault.ParseFault.{ParseFault}

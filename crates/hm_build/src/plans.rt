@@ -7,7 +7,7 @@ ghost use Rattle.hm_build.specs.Plans.{AreBlocksOf, AreOrdered, IsPlanText, bloc
 ghost use Rattle.hm_build.specs.Views.{block_of};
 
 use hm_graph::Plan;
-use hm_parse::Header;
+use hm_syntax::Header;
 use std::alloc::{AllocError, Global};
 
 /// What is printed of a module.

@@ -11,7 +11,8 @@ ghost use Rattle.hm_build.specs.Errors.{IsSourceError, IsSetError, IsPlanError};
 use crate::SetFault;
 use hm_graph::{Plan, PlanFault};
 use hm_lex::LexFault;
-use hm_parse::{Header, Module, ParseFault};
+use hm_parse::ParseFault;
+use hm_syntax::{Header, Module};
 use std::alloc::{AllocError, Global};
 
 /// Why there is no plan.

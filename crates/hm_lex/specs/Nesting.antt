@@ -1,4 +1,4 @@
--- How nested comments close, read from the left.
+-- How nested comments close, read from the left. No public clause names these.
 use Rattle.std.specs.Prelude.{ℕ, zero, suc, ◌+◌, ◌==◌, ◌&&◌, Bool, List, [], ◌∷◌, Option, Some, None, slice_index, if◌then◌else◌}
 use Rattle.hm_lex.specs.declared.comments.CommentMark.{CommentMark}
 use Rattle.hm_lex.specs.declared.comments.CommentMark.TheVariants.{Opens, Closes, Plain}

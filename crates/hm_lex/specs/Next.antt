@@ -1,4 +1,4 @@
--- What stands at the front of some bytes.
+-- What stands at the front of some bytes. No public clause names these.
 use Rattle.std.specs.Prelude.{◌≡◌, ℕ, ◌≤◌, Bool, true, false, List, [], ◌∷◌, ◌++◌, length, take, drop, IsTrue, nat_le, not, slice_index, codes, ◌==◌, ◌||◌, ◌&&◌, if◌then◌else◌, Option, Some, None}
 use Rattle.std.specs.List.{prefix_len, list_all}
 use Rattle.hm_lex.specs.declared.byte_class.ByteClass.{ByteClass}

@@ -1,4 +1,4 @@
--- How long an item of a string is, and strings read byte by byte.
+-- How long an item of a string is, and strings read byte by byte. No public clause names these.
 use Rattle.std.specs.Prelude.{◌≡◌, ◌≢◌, ◌⊎◌, ℕ, ◌+◌, ◌≤◌, ◌==◌, ◌&&◌, Bool, List, [], ◌∷◌, ◌++◌, take, drop, Option, Some, None, slice_index, nat_lt, nat_le, not, codes, if◌then◌else◌}
 use Rattle.std.specs.List.{prefix_len}
 use Rattle.std.specs.Str.Parse.{digits_value}

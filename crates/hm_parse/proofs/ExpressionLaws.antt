@@ -1,20 +1,20 @@
 -- Expressions and declarations are read as they are spelled.
 use Rattle.std.proofs.Common.{◌≡◌, inl, inr, ℕ, zero, suc, ◌+◌, ◌<◌, ◌≤◌, List, [], ◌∷◌, length, Bool, true, false, Option, Some, None, refl, sym, ap, ◌∙◌, subst, cond, arith, codes}
-use Rattle.hm_parse.specs.Names.{Identifier, LiteralTree}
-use Rattle.hm_parse.specs.Trees.{TypeTree, Pattern, Expression, literal_expression, application, case_expression, Expressions, no_expressions, Declaration, signature, Declarations, RightSide, right_side, Bodies, Alternative, Alternatives, no_alternatives}
-use Rattle.hm_parse.specs.Lists.{patterns, expressions, declarations, alternatives, bodies}
+use Rattle.hm_syntax.specs.Names.{Identifier, LiteralTree}
+use Rattle.hm_syntax.specs.Trees.{TypeTree, Pattern, variable_pattern, bound_pattern, constructor_pattern, literal_pattern, wildcard_pattern, tuple_pattern, list_pattern, lazy_pattern, Expression, literal_expression, application, case_expression, Expressions, no_expressions, Declaration, signature, Declarations, RightSide, right_side, Bodies, Alternative, Alternatives, no_alternatives}
+use Rattle.hm_syntax.specs.Lists.{patterns, expressions, declarations, alternatives, bodies}
 use Rattle.hm_parse.specs.declared.symbol.Symbol.{Symbol}
 use Rattle.hm_parse.specs.declared.symbol.Symbol.TheVariants.{Case, Else, If, In, Let, Of, Then, Colon, OfType, Equals, Backslash, Bar, Arrow, Open, OpenSquare, LeftBrace, RightBrace, Comma, Semicolon, Var, QVar, Integer, Character, Text}
 use Rattle.hm_parse.specs.Symbols.{same}
 use Rattle.hm_parse.specs.Tokens.{Terminal, name_of}
 use Rattle.hm_parse.specs.Grammar.Types.{Type'}
 use Rattle.hm_parse.specs.Grammar.Patterns.{Pat', Apat, Apats}
-use Rattle.hm_parse.specs.Grammar.Expressions.{count_exprs, VarCommas, vars_none, vars_more, Exp, exp_open, exp_closed, exp_typed, ClosedExp, closed_one, closed_cons, OpenExp, open_lam, open_cons, Lam, lam_fun, lam_let, lam_if, Opd, opd_apply, opd_case, Args, args_none, args_more, Guard, guard_open, guard_closed, Guards, guards_none, guards_more, Rhs', rhs_plain, rhs_guards, MayWhere, no_where, some_where, Alt', alt', Alts, alts_none, alts_last, alts_empty, alts_more, Aexp, aexp_var, aexp_con, aexp_literal, aexp_paren, aexp_tuple, aexp_list, ExpCommas, exps_none, exps_more, Decls, decls, DeclItems, decls_none, decls_last, decls_empty, decls_more, Decl, decl_signature, decl_clause}
+use Rattle.hm_parse.specs.Grammar.Expressions.{count_exprs, VarCommas, vars_none, vars_more, Exp, exp_open, exp_closed, exp_typed, ClosedExp, closed_one, closed_cons, OpenExp, open_lam, open_cons, Lam, lam_fun, lam_let, lam_if, Opd, opd_apply, opd_case, Args, args_none, args_more, Guard, guard_open, guard_closed, Guards, guards_none, guards_more, Rhs', rhs_plain, rhs_guards, MayWhere, no_where, some_where, Alt', alt', Alts, alts_none, alts_last, alts_empty, alts_more, Aexp, aexp_var, aexp_con, aexp_literal, aexp_paren, aexp_tuple, aexp_list, ExpCommas, exps_none, exps_more, Decls, decls, DeclItems, decls_none, decls_last, decls_empty, decls_more, Decl, decl_signature, decl_clause, decl_pattern, decl_variable}
 use Rattle.hm_parse.specs.Reading.Basics.{◌>>=◌, peek, is_at, past_semicolons, loop, behind, closing}
-use Rattle.hm_parse.specs.Reading.Constructors.{special_at, literal_at}
+use Rattle.hm_parse.specs.Reading.Constructors.{line_at, column_at, special_at, literal_at}
 use Rattle.hm_parse.specs.Reading.Types.{type_at}
 use Rattle.hm_parse.specs.Reading.Patterns.{apat_step, apats_with, all_patterns}
-use Rattle.hm_parse.specs.Reading.Expressions.{tuple_of_expressions, list_of_expressions, cons_expression, applied, next_item_of, var_at, ExpressionReaders, typed, exp_with, aexp_by, aexp_step, next_aexp, args_from, guarded_in, next_guarded, bodies_with, where_with, rhs_with, alt_with, alts_with, case_with, opd_with, link, lambda_with, let_with, if_with, open_by, chain_step, signature_with, clause_with, begins_signature, decl_with, decls_step, expression_step, expression_readers, all_expressions}
+use Rattle.hm_parse.specs.Reading.Expressions.{tuple_of_expressions, list_of_expressions, cons_expression, applied, next_item_of, var_at, ExpressionReaders, typed, exp_with, aexp_by, aexp_step, next_aexp, args_from, guarded_in, next_guarded, bodies_with, where_with, rhs_with, alt_with, alts_with, case_with, opd_with, link, lambda_with, let_with, if_with, open_by, chain_step, signature_with, clause_with, begins_signature, named_with, binding_of, binding_with, decl_with, decls_step, expression_step, expression_readers, all_expressions}
 use Rattle.hm_parse.proofs.Holds.{Holds, holds_none, holds_some, holds_if, same_true}
 use Rattle.hm_parse.proofs.Rows.{Step}
 use Rattle.hm_parse.proofs.CommaLaws.{CommaRules, Behind, behind_found, closing_found, list_found}
@@ -108,6 +108,8 @@ mutual
   pub decl_short : {d : Declaration} {ts rest : List Terminal} → Decl d ts rest → length rest < length ts
   decl_short (decl_signature v ns o t) = omega (arith, vars_short ns, type_short t)
   decl_short (decl_clause v ps r) = omega (arith, apats_short ps, rhs_short r)
+  decl_short (decl_pattern p v r) = omega (arith, pat_short p, rhs_short r)
+  decl_short (decl_variable p r) = omega (arith, pat_short p, rhs_short r)
 
 -- ---- found, and readers that agree on shorter lists agree on this one
 
@@ -223,6 +225,18 @@ apat_read ts = pattern_laws.apat_found (length ts) all_patterns all_patterns (pa
 
 apats_read : (ts : List Terminal) → Both (λ (x : List Pattern × List Terminal). Apats (patterns x.0) ts x.1) (apats_with all_patterns ts) (apats_with all_patterns ts)
 apats_read ts = pattern_laws.apats_found (length ts) all_patterns all_patterns (patterns_agree (length ts)) ts (omega arith)
+
+-- a pattern and a right side spell the binding
+bound : (ts us rest : List Terminal) (p : Pattern) (b : RightSide) → Pat' p ts us → Rhs' Equals b us rest → Decl (binding_of (line_at ts) (column_at ts) p b) ts rest
+bound [] us rest p b d db = absurd (omega (arith, pat_short d))
+bound (k ∷ ts) us rest (variable_pattern n) b d db = decl_variable d db
+bound (k ∷ ts) us rest (bound_pattern n p) b d db = decl_pattern d refl db
+bound (k ∷ ts) us rest (constructor_pattern n ps) b d db = decl_pattern d refl db
+bound (k ∷ ts) us rest (literal_pattern l) b d db = decl_pattern d refl db
+bound (k ∷ ts) us rest wildcard_pattern b d db = decl_pattern d refl db
+bound (k ∷ ts) us rest (tuple_pattern ps) b d db = decl_pattern d refl db
+bound (k ∷ ts) us rest (list_pattern ps) b d db = decl_pattern d refl db
+bound (k ∷ ts) us rest (lazy_pattern p) b d db = decl_pattern d refl db
 
 guard_of : (ts : List Terminal) (g : Expression) (b : Bool) (us : List Terminal) → IsChain ts ((g, b), us) → Guard g ts us
 guard_of ts g true us d = guard_open d
@@ -506,10 +520,10 @@ module _ (n : ℕ) (r s : ExpressionReaders) (g : Agree n r s) where
       both_then _ _ _ _ (rhs_found Equals refl ps.1 (omega (arith, apats_short dps))) (λ b db.
       both_some _ (decl_clause q dps db)))
 
-  pub decl_found : (ts : List Terminal) → length ts < n + 1 → Both (λ (x : Declaration × List Terminal). Decl x.0 ts x.1) (decl_with r ts) (decl_with s ts)
-  unfolding decl_with var_at
-  decl_found [] h = both_none
-  decl_found (k ∷ ts) h = variable (is_at Var (k ∷ ts)) refl
+  named_found : (ts : List Terminal) → length ts < n + 1 → Both (λ (x : Declaration × List Terminal). Decl x.0 ts x.1) (named_with r ts) (named_with s ts)
+  unfolding named_with var_at
+  named_found [] h = both_none
+  named_found (k ∷ ts) h = variable (is_at Var (k ∷ ts)) refl
     where
       rest : k.symbol ≡ Var → Both (λ (x : Declaration × List Terminal). Decl x.0 (k ∷ ts) x.1)
           (cond (begins_signature (peek ts)) (signature_with r (name_of k) ts) (clause_with r (name_of k) ts))
@@ -521,6 +535,17 @@ module _ (n : ℕ) (r s : ExpressionReaders) (g : Agree n r s) where
           (cond b (Some (name_of k, ts)) None >>= λ (x : Identifier × List Terminal). cond (begins_signature (peek x.1)) (signature_with s x.0 x.1) (clause_with s x.0 x.1))
       variable true q = rest (same_true _ _ q)
       variable false q = both_none
+
+  binding_found : (ts : List Terminal) → length ts < n + 1 → Both (λ (x : Declaration × List Terminal). Decl x.0 ts x.1) (binding_with r ts) (binding_with s ts)
+  unfolding binding_with
+  binding_found ts h =
+      both_then _ _ _ _ (pattern_read ts) (λ (p : Pattern × List Terminal) d.
+      both_then _ _ _ _ (rhs_found Equals refl p.1 (omega (arith, pat_short d))) (λ (b : RightSide × List Terminal) db.
+      both_some (binding_of (line_at ts) (column_at ts) p.0 b.0, b.1) (bound ts p.1 b.1 p.0 b.0 d db)))
+
+  pub decl_found : (ts : List Terminal) → length ts < n + 1 → Both (λ (x : Declaration × List Terminal). Decl x.0 ts x.1) (decl_with r ts) (decl_with s ts)
+  unfolding decl_with
+  decl_found ts h = both_if _ _ _ _ _ (λ _. binding_found ts h) (λ _. named_found ts h)
 
   decls_found : (ts : List Terminal) → length ts < n + 1 → Both (AreDecls ts) (decls_step r ts) (decls_step s ts)
   unfolding decls_step

@@ -1,17 +1,18 @@
 -- The loops and calls of the parser of expressions.
-use Rattle.std.proofs.Common.{◌≡◌, ℕ, suc, ◌+◌, ◌<◌, ◌≤◌, List, [], ◌∷◌, ◌++◌, length, Bool, true, false, Option, Some, None, refl, sym, ap, ◌∙◌, cond, arith}
-use Rattle.hm_parse.specs.Names.{Identifier}
-use Rattle.hm_parse.specs.Trees.{Pattern, Expression, application, tuple_expression, list_expression, Declaration, Alternative}
-use Rattle.hm_parse.specs.Lists.{expressions}
+use Rattle.std.proofs.Common.{◌≡◌, ◌+◌, ◌<◌, ◌≤◌, List, [], ◌∷◌, ◌++◌, length, Bool, true, false, Option, Some, None, refl, sym, ap, ◌∙◌, cond, arith}
+use Rattle.hm_lex.specs.declared.token.Place.{Place}
+use Rattle.hm_syntax.specs.Names.{Identifier}
+use Rattle.hm_syntax.specs.Trees.{Pattern, Expression, application, tuple_expression, list_expression, Declaration, RightSide, Alternative}
+use Rattle.hm_syntax.specs.Lists.{expressions}
 use Rattle.hm_parse.specs.declared.symbol.Symbol.{Symbol}
-use Rattle.hm_parse.specs.declared.symbol.Symbol.TheVariants.{Case, Where, Colon, Bar, Close, CloseSquare, Comma, Backslash, Let, If}
+use Rattle.hm_parse.specs.declared.symbol.Symbol.TheVariants.{Case, Where, Equals, Colon, Bar, Close, CloseSquare, Comma, Backslash, Let, If}
 use Rattle.hm_parse.specs.Symbols.{same}
 use Rattle.hm_parse.specs.Tokens.{Terminal}
 use Rattle.hm_parse.specs.Reading.Basics.{peek, is_at, tail, expect, past_semicolons, loop, behind, next_of, tuple_behind, list_in}
+use Rattle.hm_parse.specs.Reading.Constructors.{IsPlaceAt}
 use Rattle.hm_parse.specs.Reading.Patterns.{apat_step, apats_with, all_patterns}
-use Rattle.hm_parse.specs.Reading.Expressions.{begins_aexp, tuple_of_expressions, list_of_expressions, next_item_of, var_at, exp_with, aexp_step, next_aexp, args_from, guarded_in, next_guarded, rhs_with, bodies_with, alt_with, opd_with, decl_with, chain_step, decls_step, all_expressions}
-use Rattle.hm_parse.proofs.Holds.{same_true}
-use Rattle.hm_parse.proofs.Rows.{falls, goes_on, ends, fails, starts, loop_is}
+use Rattle.hm_parse.specs.Reading.Expressions.{begins_aexp, tuple_of_expressions, list_of_expressions, next_item_of, var_at, exp_with, aexp_step, next_aexp, args_from, guarded_in, next_guarded, rhs_with, bodies_with, alt_with, opd_with, binding_of, binding_with, decl_with, chain_step, decls_step, all_expressions}
+use Rattle.hm_parse.proofs.Rows.{falls, goes_on, ends, fails, starts}
 use Rattle.hm_parse.proofs.Semicolons.{past_short}
 use Rattle.hm_parse.proofs.CommaLaws.{row_goes_on, list_ends, list_open, list_fails, tuple_ends, tuple_open, tuple_fails, tuple_many}
 use Rattle.hm_parse.proofs.PatternLaws as pattern_laws
@@ -212,3 +213,9 @@ vars_fail xs ts e = fails var_steps xs ts e
 
 pub next_vars_shorter : (ts us : List Terminal) (x : Identifier) → next_of var_at ts ≡ Some (Some x, us) → length us < length ts
 next_vars_shorter ts us x e = falls var_steps ts us x e
+
+pub binding_is : (ts us vs : List Terminal) (place : Place) (p : Pattern) (b : RightSide) → IsPlaceAt ts place → all_patterns.whole ts ≡ Some (p, us) → rhs_with all_expressions Equals us ≡ Some (b, vs) →
+    binding_with all_expressions ts ≡ Some (binding_of place.line place.column p b, vs)
+unfolding binding_with
+binding_is [] us vs place p b at w r = let short : length us < 0 = pattern_shorter [] us p w in absurd (omega (arith, short))
+binding_is (k ∷ ts) us vs place p b at w r = rw (w, r, at.0, at.1) refl

@@ -1,11 +1,11 @@
 -- A source is read as it is spelled.
-use Rattle.std.proofs.Common.{inl, inr, ◌≡◌, List, [], ◌∷◌, length, Bool, true, false, Option, Some, None, refl, sym, ap, ◌∙◌, subst, cond, arith}
-use Rattle.hm_parse.specs.Trees.{Declaration}
-use Rattle.hm_parse.specs.declared.ast.Export.{Export}
-use Rattle.hm_parse.specs.declared.ast.Import.{Import}
-use Rattle.hm_parse.specs.declared.ast.Module.{Module}
+use Rattle.std.proofs.Common.{◌≡◌, List, [], ◌∷◌, length, Bool, true, false, Option, Some, None, refl, sym, ap, ◌∙◌, subst, cond, arith}
+use Rattle.hm_syntax.specs.Trees.{Declaration}
+use Rattle.hm_syntax.specs.declared.ast.Export.{Export}
+use Rattle.hm_syntax.specs.declared.ast.Import.{Import}
+use Rattle.hm_syntax.specs.declared.ast.Module.{Module}
 use Rattle.hm_parse.specs.declared.symbol.Symbol.{Symbol}
-use Rattle.hm_parse.specs.declared.symbol.Symbol.TheVariants.{Data, Open, Semicolon, LeftBrace, RightBrace, Import as ImportWord, Module as ModuleWord, Where, Var}
+use Rattle.hm_parse.specs.declared.symbol.Symbol.TheVariants.{Open, Semicolon, LeftBrace, RightBrace, Import as ImportWord, Module as ModuleWord, Where}
 use Rattle.hm_parse.specs.Symbols.{same}
 use Rattle.hm_parse.specs.Tokens.{Terminal, modid_of}
 use Rattle.hm_parse.specs.Grammar.Marks.{Items, items_none, items_last, items_empty, items_more}
@@ -20,7 +20,7 @@ use Rattle.hm_parse.proofs.Rows.{Step, Steps, loop_is, loop_stops, loop_takes, l
 use Rattle.hm_parse.proofs.Lists.{ends_item, end_here, end_before}
 use Rattle.hm_parse.proofs.HeaderLaws.{exports_found, exports_only, modid_only, import_found, import_only, import_short, import_begins}
 use Rattle.hm_parse.proofs.Semicolons.{past_go, past_stay, past_short, past_twice}
-use Rattle.hm_parse.proofs.TopdeclLaws.{topdecl_reads, topdecl_begins}
+use Rattle.hm_parse.proofs.TopdeclLaws.{topdecl_reads, begins_topdecl, topdecl_begins}
 
 -- ---- semicolons
 
@@ -55,14 +55,18 @@ pub record DeclsTo (ds : List Declaration) (ts rest : List Terminal) : Type 0 wh
   pub items : Items Topdecl ds ts (mark ∷ rest)
   pub close : mark.symbol ≡ RightBrace
 
-no_topdecl : {d : Declaration} {ts rest : List Terminal} (s : Symbol) → Topdecl d ts rest → same Data s ≡ false → same Var s ≡ false → is_at s ts ≡ false
-no_topdecl s d g h = elim (topdecl_begins d) [ inl q ↦ rw q g | inr q ↦ rw q h ]
+no_topdecl : {d : Declaration} {ts rest : List Terminal} (s : Symbol) → Topdecl d ts rest → begins_topdecl s ≡ false → is_at s ts ≡ false
+no_topdecl {ts = ts} s d h = chosen (same (peek ts) s) refl
+  where
+    chosen : (c : Bool) → same (peek ts) s ≡ c → c ≡ false
+    chosen true e = let other : true ≡ false = sym (topdecl_begins d) ∙ (ap begins_topdecl (same_true (peek ts) s e) ∙ h) in cc
+    chosen false e = refl
 
 decls_at_brace : {ds : List Declaration} {us rest : List Terminal} → Items Topdecl ds us rest → (d : Declaration) (ts : List Terminal) → Topdecl d ts us → is_at RightBrace us ≡ true → Items Topdecl (d ∷ ds) ts rest
 decls_at_brace items_none d ts t e = items_last t
-decls_at_brace (items_last {ts = us} t') d ts t e = clash (peek us) RightBrace e (no_topdecl RightBrace t' refl refl)
+decls_at_brace (items_last {ts = us} t') d ts t e = clash (peek us) RightBrace e (no_topdecl RightBrace t' refl)
 decls_at_brace (items_empty {k = k} q t') d ts t e = clash k.symbol RightBrace e (ap (λ z. same z RightBrace) q)
-decls_at_brace (items_more {ts = us} t' q t'') d ts t e = clash (peek us) RightBrace e (no_topdecl RightBrace t' refl refl)
+decls_at_brace (items_more {ts = us} t' q t'') d ts t e = clash (peek us) RightBrace e (no_topdecl RightBrace t' refl)
 
 from_step : (ts : List Terminal) → Holds (Step DeclsTo ts) (topdecl_from ts)
 unfolding topdecl_from
@@ -105,7 +109,7 @@ topdecl_go k ts q = sym (topdecl_past (k ∷ ts)) ∙ (ap (loop next_topdecl) (p
 next_topdecl_is : {d : Declaration} {ts us vs : List Terminal} → Topdecl d ts us → ends_item (peek us) ≡ true → item_end Semicolon RightBrace us ≡ Some vs → next_topdecl ts ≡ Some (Some d, vs)
 unfolding next_topdecl topdecl_from
 next_topdecl_is {ts = ts} {us = us} d h e =
-    rw (past_stay ts (no_topdecl Semicolon d refl refl)) (rw (no_topdecl RightBrace d refl refl, topdecl_reads.only _ ts us d h, e) refl)
+    rw (past_stay ts (no_topdecl Semicolon d refl)) (rw (no_topdecl RightBrace d refl, topdecl_reads.only _ ts us d h, e) refl)
 
 decls_end : (m : Terminal) (rest : List Terminal) → m.symbol ≡ RightBrace → loop next_topdecl (m ∷ rest) ≡ Some ([], rest)
 unfolding next_topdecl topdecl_from past_semicolons
@@ -130,9 +134,9 @@ no_import s d h = rw (import_begins d) h
 
 body_at_brace : {is : List Import} {ds : List Declaration} {us rest : List Terminal} → Body is ds us rest → (i : Import) (ts : List Terminal) → Import' i ts us → is_at RightBrace us ≡ true → Body (i ∷ is) ds ts rest
 body_at_brace (body_decls items_none) i ts t e = body_import t
-body_at_brace (body_decls (items_last {ts = us} t')) i ts t e = clash (peek us) RightBrace e (no_topdecl RightBrace t' refl refl)
+body_at_brace (body_decls (items_last {ts = us} t')) i ts t e = clash (peek us) RightBrace e (no_topdecl RightBrace t' refl)
 body_at_brace (body_decls (items_empty {k = k} q t')) i ts t e = clash k.symbol RightBrace e (ap (λ z. same z RightBrace) q)
-body_at_brace (body_decls (items_more {ts = us} t' q t'')) i ts t e = clash (peek us) RightBrace e (no_topdecl RightBrace t' refl refl)
+body_at_brace (body_decls (items_more {ts = us} t' q t'')) i ts t e = clash (peek us) RightBrace e (no_topdecl RightBrace t' refl)
 body_at_brace (body_import {ts = us} d) i ts t e = clash (peek us) RightBrace e (no_import RightBrace d refl)
 body_at_brace (body_empty {k = k} q t') i ts t e = clash k.symbol RightBrace e (ap (λ z. same z RightBrace) q)
 body_at_brace (body_more {ts = us} d q t') i ts t e = clash (peek us) RightBrace e (no_import RightBrace d refl)
@@ -183,9 +187,9 @@ imports_stop ts h = loop_stops import_steps ts (past_semicolons ts) (rw h refl)
 
 not_import : {ds : List Declaration} {ts rest : List Terminal} {m : Terminal} → Items Topdecl ds ts (m ∷ rest) → m.symbol ≡ RightBrace → is_at ImportWord (past_semicolons ts) ≡ false
 not_import {rest = rest} {m = m} items_none c = rw (past_stay (m ∷ rest) (ap (λ z. same z Semicolon) c)) (ap (λ z. same z ImportWord) c)
-not_import (items_last {ts = ts} t) c = rw (past_stay ts (no_topdecl Semicolon t refl refl)) (no_topdecl ImportWord t refl refl)
+not_import (items_last {ts = ts} t) c = rw (past_stay ts (no_topdecl Semicolon t refl)) (no_topdecl ImportWord t refl)
 not_import (items_empty {k = k} {us = us} q t) c = rw (past_go k us q) (not_import t c)
-not_import (items_more {ts = ts} t q t') c = rw (past_stay ts (no_topdecl Semicolon t refl refl)) (no_topdecl ImportWord t refl refl)
+not_import (items_more {ts = ts} t q t') c = rw (past_stay ts (no_topdecl Semicolon t refl)) (no_topdecl ImportWord t refl)
 
 -- imports are read up to some place, and declarations from there
 pub record BodyRead (is : List Import) (ds : List Declaration) (ts rest : List Terminal) : Type 0 where

@@ -1,19 +1,19 @@
 -- What is spelled as an expression or a declaration is read, where nothing follows that goes on with it.
-use Rattle.std.proofs.Common.{◌≡◌, inl, inr, ◌≤◌, suc, List, [], ◌∷◌, length, Bool, true, false, Option, Some, None, refl, sym, ap, ◌∙◌, arith}
-use Rattle.hm_parse.specs.Names.{Identifier, LiteralTree}
-use Rattle.hm_parse.specs.Trees.{TypeTree, Pattern, Patterns, more_patterns, Expression, constructor_expression, literal_expression, if_expression, application, typed_expression, lambda, let_expression, case_expression, tuple_expression, list_expression, Expressions, no_expressions, more_expressions, Declaration, signature, clause, Declarations, no_declarations, more_declarations, RightSide, right_side, Bodies, no_bodies, plain_body, guarded_body, Alternative, alternative, Alternatives, no_alternatives, more_alternatives}
-use Rattle.hm_parse.specs.Lists.{patterns, expressions, declarations, alternatives, bodies}
+use Rattle.std.proofs.Common.{◌≡◌, ◌⊎◌, inl, inr, ℕ, ◌≤◌, suc, List, [], ◌∷◌, length, Bool, true, false, Option, Some, None, refl, sym, ap, ◌∙◌, arith}
+use Rattle.hm_syntax.specs.Names.{Identifier, LiteralTree}
+use Rattle.hm_syntax.specs.Trees.{TypeTree, Pattern, variable_pattern, bound_pattern, constructor_pattern, literal_pattern, wildcard_pattern, tuple_pattern, list_pattern, lazy_pattern, Patterns, no_patterns, more_patterns, Expression, constructor_expression, literal_expression, if_expression, application, typed_expression, lambda, let_expression, case_expression, tuple_expression, list_expression, Expressions, no_expressions, more_expressions, Declaration, signature, clause, pattern_binding, Declarations, no_declarations, more_declarations, RightSide, right_side, Bodies, no_bodies, plain_body, guarded_body, Alternative, alternative, Alternatives, no_alternatives, more_alternatives}
+use Rattle.hm_syntax.specs.Lists.{patterns, expressions, declarations, alternatives, bodies}
 use Rattle.hm_parse.specs.declared.symbol.Symbol.{Symbol}
-use Rattle.hm_parse.specs.declared.symbol.Symbol.TheVariants.{Case, Else, If, In, Let, Of, Then, Where, Colon, OfType, Equals, At, Backslash, Bar, Arrow, Open, Close, OpenSquare, CloseSquare, LeftBrace, RightBrace, Comma, Semicolon, Var, Con, QVar, QCon, Integer, Character, Text}
+use Rattle.hm_parse.specs.declared.symbol.Symbol.TheVariants.{Case, Else, If, In, Let, Of, Then, Where, Colon, OfType, Equals, At, Tilde, Wild, Backslash, Bar, Arrow, Open, Close, OpenSquare, CloseSquare, LeftBrace, RightBrace, Comma, Semicolon, Var, Con, QVar, QCon, Integer, Character, Text}
 use Rattle.hm_parse.specs.Symbols.{same}
 use Rattle.hm_parse.specs.Tokens.{Terminal, name_of}
-use Rattle.hm_parse.specs.Grammar.Patterns.{Apats, apats_none, apats_more, Gcon, gcon_qcon, gcon_unit, gcon_nil, gcon_tuple, gcon_cons, Literal', literal_integer, literal_character, literal_string}
-use Rattle.hm_parse.specs.Grammar.Expressions.{cons, count_exprs, VarCommas, vars_none, vars_more, Exp, exp_open, exp_closed, exp_typed, ClosedExp, closed_one, closed_cons, OpenExp, open_lam, open_cons, Lam, lam_fun, lam_let, lam_if, Opd, opd_apply, opd_case, Args, args_none, args_more, Guard, guard_open, guard_closed, Guards, guards_none, guards_more, Rhs', rhs_plain, rhs_guards, MayWhere, no_where, some_where, Alt', alt', Alts, alts_none, alts_last, alts_empty, alts_more, Aexp, aexp_var, aexp_con, aexp_literal, aexp_paren, aexp_tuple, aexp_list, ExpCommas, exps_none, exps_more, Decls, decls, DeclItems, decls_none, decls_last, decls_empty, decls_more, Decl, decl_signature, decl_clause}
-use Rattle.hm_parse.specs.Reading.Basics.{◌>>=◌, peek, is_at, past_semicolons, loop, next_of}
-use Rattle.hm_parse.specs.Reading.Constructors.{is_mark, begin_gcon, begins_gcon, gcon_at}
+use Rattle.hm_parse.specs.Grammar.Patterns.{is_variable, Pat', pat_one, pat_cons, Lpat, lpat_one, lpat_apply, Apat, apat_var, apat_bound, apat_con, apat_literal, apat_wild, apat_paren, apat_tuple, apat_list, apat_lazy, Apats, apats_none, apats_more, Gcon, gcon_qcon, gcon_unit, gcon_nil, gcon_tuple, gcon_cons, Literal', literal_integer, literal_character, literal_string}
+use Rattle.hm_parse.specs.Grammar.Expressions.{cons, count_exprs, VarCommas, vars_none, vars_more, Exp, exp_open, exp_closed, exp_typed, ClosedExp, closed_one, closed_cons, OpenExp, open_lam, open_cons, Lam, lam_fun, lam_let, lam_if, Opd, opd_apply, opd_case, Args, args_none, args_more, Guard, guard_open, guard_closed, Guards, guards_none, guards_more, Rhs', rhs_plain, rhs_guards, MayWhere, no_where, some_where, Alt', alt', Alts, alts_none, alts_last, alts_empty, alts_more, Aexp, aexp_var, aexp_con, aexp_literal, aexp_paren, aexp_tuple, aexp_list, ExpCommas, exps_none, exps_more, Decls, decls, DeclItems, decls_none, decls_last, decls_empty, decls_more, Decl, decl_signature, decl_clause, decl_pattern, decl_variable}
+use Rattle.hm_parse.specs.Reading.Basics.{◌>>=◌, peek, is_at, tail, past_semicolons, loop, next_of}
+use Rattle.hm_parse.specs.Reading.Constructors.{line_at, column_at, is_mark, begin_gcon, begins_gcon, gcon_at}
 use Rattle.hm_parse.specs.Reading.Types.{begins_atype, type_at}
 use Rattle.hm_parse.specs.Reading.Patterns.{begins_apat, apat_step, next_apat, apats_with, all_patterns}
-use Rattle.hm_parse.specs.Reading.Expressions.{begins_aexp, tuple_of_expressions, list_of_expressions, applied, next_item_of, var_at, exp_with, aexp_by, aexp_step, next_aexp, args_from, guarded_in, next_guarded, bodies_with, where_with, rhs_with, alt_with, alts_with, case_with, opd_with, link, lambda_with, let_with, if_with, open_by, begins_open, begins_signature, chain_step, signature_with, clause_with, decl_with, decls_step, all_expressions}
+use Rattle.hm_parse.specs.Reading.Expressions.{begins_aexp, tuple_of_expressions, list_of_expressions, applied, next_item_of, var_at, exp_with, aexp_by, aexp_step, next_aexp, args_from, guarded_in, next_guarded, bodies_with, where_with, rhs_with, alt_with, alts_with, case_with, opd_with, link, lambda_with, let_with, if_with, open_by, begins_open, begins_signature, continues_pattern, begin_binding, begins_binding, binding_of, chain_step, signature_with, clause_with, named_with, binding_with, decl_with, decls_step, all_expressions}
 use Rattle.hm_parse.proofs.Lists.{ends_item}
 use Rattle.hm_parse.proofs.Both.{both_held}
 use Rattle.hm_parse.proofs.Rows.{Steps, loop_stops, loop_takes}
@@ -420,9 +420,11 @@ apat_no_semicolon _ h = refl
 alt_begins : {a : Alternative} {ts rest : List Terminal} → Alt' a ts rest → begins_apat (peek ts) ≡ true
 alt_begins (alt' p r) = pat_begins p
 
-pub decl_begins : {d : Declaration} {ts rest : List Terminal} → Decl d ts rest → peek ts ≡ Var
-decl_begins (decl_signature v ns o t) = v
-decl_begins (decl_clause v ps r) = v
+pub decl_begins : {d : Declaration} {ts rest : List Terminal} → Decl d ts rest → begins_apat (peek ts) ≡ true
+decl_begins (decl_signature v ns o t) = ap begins_apat v
+decl_begins (decl_clause v ps r) = ap begins_apat v
+decl_begins (decl_pattern p v r) = pat_begins p
+decl_begins (decl_variable p r) = pat_begins p
 
 alts_first : {as_ : Alternatives} {ts rest : List Terminal} {m : Terminal} → Alts as_ ts (m ∷ rest) → (a : Alternative) (others : Alternatives) → as_ ≡ more_alternatives a others → is_at RightBrace (past_semicolons ts) ≡ false
 alts_first alts_none a others e = cc
@@ -447,15 +449,127 @@ alt_is : (ts us : List Terminal) (p : Pattern) (b : RightSide) (rest : List Term
 unfolding alt_with
 alt_is ts us p b rest e d = rw e (rw d refl)
 
-decl_signature_is : (k : Terminal) (us : List Terminal) (ns : List Identifier) (m : Terminal) (vs : List Terminal) (t : TypeTree) (rest : List Terminal) → k.symbol ≡ Var → begins_signature (peek us) ≡ true → loop (next_of var_at) us ≡ Some (ns, m ∷ vs) →
-    m.symbol ≡ OfType → type_at vs ≡ Some (t, rest) → decl_with all_expressions (k ∷ us) ≡ Some (signature (name_of k ∷ ns) t, rest)
-unfolding decl_with signature_with
-decl_signature_is k us ns m vs t rest v h l o e = rw (var_is k us v) (rw h (rw l (rw (ap (λ z. same z OfType) o) (rw e refl))))
+named_is : (k : Terminal) (us : List Terminal) → k.symbol ≡ Var → continues_pattern (peek us) ≡ false → decl_with all_expressions (k ∷ us) ≡ named_with all_expressions (k ∷ us)
+unfolding decl_with begins_binding
+named_is k us v h = rw (v, h) refl
 
-decl_clause_is : (k : Terminal) (us vs : List Terminal) (ps : List Pattern) (b : RightSide) (rest : List Terminal) → k.symbol ≡ Var → begins_signature (peek us) ≡ false → loop (next_apat all_patterns) us ≡ Some (ps, vs) →
+decl_signature_is : (k : Terminal) (us : List Terminal) (ns : List Identifier) (m : Terminal) (vs : List Terminal) (t : TypeTree) (rest : List Terminal) → k.symbol ≡ Var → continues_pattern (peek us) ≡ false → begins_signature (peek us) ≡ true → loop (next_of var_at) us ≡ Some (ns, m ∷ vs) →
+    m.symbol ≡ OfType → type_at vs ≡ Some (t, rest) → decl_with all_expressions (k ∷ us) ≡ Some (signature (name_of k ∷ ns) t, rest)
+unfolding named_with signature_with
+decl_signature_is k us ns m vs t rest v c h l o e = named_is k us v c ∙ rw (var_is k us v) (rw h (rw l (rw (ap (λ z. same z OfType) o) (rw e refl))))
+
+decl_clause_is : (k : Terminal) (us vs : List Terminal) (ps : List Pattern) (b : RightSide) (rest : List Terminal) → k.symbol ≡ Var → continues_pattern (peek us) ≡ false → begins_signature (peek us) ≡ false → loop (next_apat all_patterns) us ≡ Some (ps, vs) →
     rhs_with all_expressions Equals vs ≡ Some (b, rest) → decl_with all_expressions (k ∷ us) ≡ Some (clause (name_of k) (patterns ps) b, rest)
-unfolding decl_with clause_with apats_with
-decl_clause_is k us vs ps b rest v h l e = rw (var_is k us v) (rw h (rw l (rw e refl)))
+unfolding named_with clause_with apats_with
+decl_clause_is k us vs ps b rest v c h l e = named_is k us v c ∙ rw (var_is k us v) (rw h (rw l (rw e refl)))
+
+-- ---- pattern bindings
+
+-- a declaration that begins with this symbol is one, whatever stands behind it
+other_binding : (ts : List Terminal) (s : Symbol) → peek ts ≡ s → ((second : Symbol) → begin_binding s second ≡ true) → begins_binding ts ≡ true
+unfolding begins_binding
+other_binding ts s q h = rw q (h (peek (tail ts)))
+
+variable_binding : (k : Terminal) (us : List Terminal) → k.symbol ≡ Var → continues_pattern (peek us) ≡ true → begins_binding (k ∷ us) ≡ true
+unfolding begins_binding
+variable_binding k us v h = rw (v, h) refl
+
+gcon_binding : {n : Identifier} {ts rest : List Terminal} → Gcon n ts rest → begins_binding ts ≡ true
+gcon_binding {ts = ts} (gcon_qcon (inl q)) = other_binding ts Con q (λ _. refl)
+gcon_binding {ts = ts} (gcon_qcon (inr q)) = other_binding ts QCon q (λ _. refl)
+gcon_binding {ts = ts} (gcon_unit o c) = other_binding ts Open o (λ _. refl)
+gcon_binding {ts = ts} (gcon_nil o c) = other_binding ts OpenSquare o (λ _. refl)
+gcon_binding {ts = ts} (gcon_tuple o d n c) = other_binding ts Open o (λ _. refl)
+gcon_binding {ts = ts} (gcon_cons o q c) = other_binding ts Open o (λ _. refl)
+
+literal_binding : {l : LiteralTree} {ts rest : List Terminal} → Literal' l ts rest → begins_binding ts ≡ true
+literal_binding {ts = ts} (literal_integer q) = other_binding ts Integer q (λ _. refl)
+literal_binding {ts = ts} (literal_character q) = other_binding ts Character q (λ _. refl)
+literal_binding {ts = ts} (literal_string q) = other_binding ts Text q (λ _. refl)
+
+-- a pattern that is no variable, or behind which the pattern goes on
+apat_binding : {p : Pattern} {ts rest : List Terminal} → Apat p ts rest → (is_variable p ≡ false) ⊎ (continues_pattern (peek rest) ≡ true) → begins_binding ts ≡ true
+apat_binding (apat_var q) (inl h) = cc
+apat_binding (apat_var {k = k} {rest = rest} q) (inr h) = variable_binding k rest q h
+apat_binding (apat_bound {k = k} {m = m} {us = us} q a p) h = variable_binding k (m ∷ us) q (ap continues_pattern a)
+apat_binding (apat_con g) h = gcon_binding g
+apat_binding (apat_literal l) h = literal_binding l
+apat_binding {ts = ts} (apat_wild q) h = other_binding ts Wild q (λ _. refl)
+apat_binding {ts = ts} (apat_paren o p c) h = other_binding ts Open o (λ _. refl)
+apat_binding {ts = ts} (apat_tuple o p ps c n) h = other_binding ts Open o (λ _. refl)
+apat_binding {ts = ts} (apat_list o p ps c) h = other_binding ts OpenSquare o (λ _. refl)
+apat_binding {ts = ts} (apat_lazy q p) h = other_binding ts Tilde q (λ _. refl)
+
+lpat_binding : {p : Pattern} {ts rest : List Terminal} → Lpat p ts rest → (is_variable p ≡ false) ⊎ (continues_pattern (peek rest) ≡ true) → begins_binding ts ≡ true
+lpat_binding (lpat_one p) h = apat_binding p h
+lpat_binding (lpat_apply g p ps) h = gcon_binding g
+
+pat_binding : {p : Pattern} {ts rest : List Terminal} → Pat' p ts rest → is_variable p ≡ false → begins_binding ts ≡ true
+pat_binding (pat_one p) h = lpat_binding p (inl h)
+pat_binding (pat_cons p q r) h = lpat_binding p (inr (ap continues_pattern q))
+
+binding_reads : (ts us : List Terminal) (p : Pattern) (b : RightSide) (rest : List Terminal) → begins_binding ts ≡ true → all_patterns.whole ts ≡ Some (p, us) → rhs_with all_expressions Equals us ≡ Some (b, rest) →
+    decl_with all_expressions ts ≡ Some (binding_of (line_at ts) (column_at ts) p b, rest)
+unfolding decl_with binding_with
+binding_reads ts us p b rest h w r = rw h (rw w (rw r refl))
+
+no_lone : (line column : ℕ) (p : Pattern) (b : RightSide) → is_variable p ≡ false → binding_of line column p b ≡ pattern_binding line column p b
+no_lone line column (variable_pattern n) b h = cc
+no_lone line column (bound_pattern n p) b h = refl
+no_lone line column (constructor_pattern n ps) b h = refl
+no_lone line column (literal_pattern l) b h = refl
+no_lone line column wildcard_pattern b h = refl
+no_lone line column (tuple_pattern ps) b h = refl
+no_lone line column (list_pattern ps) b h = refl
+no_lone line column (lazy_pattern p) b h = refl
+
+apat_continues : (s : Symbol) → begins_apat s ≡ true → continues_pattern s ≡ false
+apat_continues At h = cc
+apat_continues Colon h = cc
+apat_continues _ h = refl
+
+right_continues : {s : Symbol} {b : RightSide} {ts rest : List Terminal} → Rhs' s b ts rest → continues_pattern s ≡ false → continues_pattern (peek ts) ≡ false
+right_continues (rhs_plain q e w) h = ap continues_pattern q ∙ h
+right_continues (rhs_guards (guards_more b g m e gs) w) h = ap continues_pattern b
+
+vars_continue : {ns : List Identifier} {us rest : List Terminal} {m : Terminal} → VarCommas ns us (m ∷ rest) → m.symbol ≡ OfType → continues_pattern (peek us) ≡ false
+vars_continue vars_none q = ap continues_pattern q
+vars_continue (vars_more c v ns) q = ap continues_pattern c
+
+clause_continues : {ps : Patterns} {b : RightSide} {us vs rest : List Terminal} → Apats ps us vs → Rhs' Equals b vs rest → continues_pattern (peek us) ≡ false
+clause_continues apats_none b = right_continues b refl
+clause_continues (apats_more {ts = us} p ps) b = apat_continues (peek us) (apat_begins p)
+
+clause_reads : {ps : Patterns} {b : RightSide} {us vs rest : List Terminal} → (k : Terminal) → k.symbol ≡ Var → Apats ps us vs → Rhs' Equals b vs rest → rhs_with all_expressions Equals vs ≡ Some (b, rest) →
+    decl_with all_expressions (k ∷ us) ≡ Some (clause (name_of k) ps b, rest)
+clause_reads {ps = ps} {b = b} {us = us} {vs = vs} {rest = rest} k v ds db r =
+    let begins = right_begins db equals_mark refl in
+    decl_clause_is k us vs (pattern_list ps) b rest v (clause_continues ds db) (clause_begins ds db) (only_apats ds begins.apat begins.at) r
+    ∙ ap (λ z. Some (clause (name_of k) z b, rest)) (patterns_list ps)
+
+pattern_reads : {p : Pattern} {b : RightSide} {ts us rest : List Terminal} → Pat' p ts us → begins_binding ts ≡ true → Rhs' Equals b us rest → rhs_with all_expressions Equals us ≡ Some (b, rest) →
+    decl_with all_expressions ts ≡ Some (binding_of (line_at ts) (column_at ts) p b, rest)
+pattern_reads {p = p} {b = b} {ts = ts} {us = us} {rest = rest} d h db r =
+    let begins = right_begins db equals_mark refl in
+    binding_reads ts us p b rest h (only_pat d begins.apat begins.at begins.colon) r
+
+-- a lone variable, read as a clause or as a pattern
+variable_reads : {p : Pattern} {n : Identifier} {b : RightSide} {ts us rest : List Terminal} → Pat' p ts us → p ≡ variable_pattern n → Rhs' Equals b us rest → rhs_with all_expressions Equals us ≡ Some (b, rest) →
+    decl_with all_expressions ts ≡ Some (clause n no_patterns b, rest)
+variable_reads {n = n} {b = b} {rest = rest} (pat_one (lpat_one (apat_var {k = k} q))) e db r =
+    let named : name_of k ≡ n = cc in
+    clause_reads k q apats_none db r ∙ ap (λ z. Some (clause z no_patterns b, rest)) named
+variable_reads {b = b} {rest = rest} (pat_one (lpat_one (apat_paren {k = k} {us = us} o d c))) e db r =
+    pattern_reads (pat_one (lpat_one (apat_paren o d c))) (other_binding (k ∷ us) Open o (λ _. refl)) db r ∙ ap (λ z. Some (binding_of k.line k.column z b, rest)) e
+variable_reads (pat_one (lpat_one (apat_bound q a p))) e db r = cc
+variable_reads (pat_one (lpat_one (apat_con g))) e db r = cc
+variable_reads (pat_one (lpat_one (apat_literal l))) e db r = cc
+variable_reads (pat_one (lpat_one (apat_wild q))) e db r = cc
+variable_reads (pat_one (lpat_one (apat_tuple o p ps c n))) e db r = cc
+variable_reads (pat_one (lpat_one (apat_list o p ps c))) e db r = cc
+variable_reads (pat_one (lpat_one (apat_lazy q p))) e db r = cc
+variable_reads (pat_one (lpat_apply g p ps)) e db r = cc
+variable_reads (pat_cons p q s) e db r = cc
 
 lambda_is : (us vs : List Terminal) (p : Pattern) (ps : List Pattern) (m : Terminal) (ws : List Terminal) (e : Expression) (rest : List Terminal) → apat_step all_patterns us ≡ Some (p, vs) → loop (next_apat all_patterns) vs ≡ Some (ps, m ∷ ws) →
     m.symbol ≡ Arrow → exp_with all_expressions ws ≡ Some (e, rest) → lambda_with all_expressions us ≡ Some (lambda (patterns (p ∷ ps)) e, rest)
@@ -584,15 +698,15 @@ mutual
   only_items : {ds : Declarations} {ts rest : List Terminal} {m : Terminal} → DeclItems ds ts (m ∷ rest) → m.symbol ≡ RightBrace → loop (next_item_of (decl_with all_expressions)) ts ≡ Some (declaration_list ds, rest)
   only_items {rest = rest} {m = m} decls_none c = loop_end (decl_with all_expressions) decl_steps m rest c
   only_items {rest = rest} {m = m} (decls_last {d = d} {ts = ts} dd) c =
-      loop_last (decl_with all_expressions) decl_steps ts d m rest (only_decl dd (ap ends_item c)) (ap (λ z. same z Semicolon) (decl_begins dd)) (ap (λ z. same z RightBrace) (decl_begins dd)) c
+      loop_last (decl_with all_expressions) decl_steps ts d m rest (only_decl dd (ap ends_item c)) (apat_no_semicolon (peek ts) (decl_begins dd)) (apat_no_brace (peek ts) (decl_begins dd)) c
   only_items (decls_empty {k = k} {us = us} q ds) c = loop_go (decl_with all_expressions) decl_steps k us q ∙ only_items ds c
   only_items {rest = rest} (decls_more {d = d} {ds = ds} {k = k} {ts = ts} {us = us} dd q dds) c =
-      loop_more (decl_with all_expressions) decl_steps ts d k us (declaration_list ds) rest (only_decl dd (ap ends_item q)) (ap (λ z. same z Semicolon) (decl_begins dd)) (ap (λ z. same z RightBrace) (decl_begins dd)) q (only_items dds c)
+      loop_more (decl_with all_expressions) decl_steps ts d k us (declaration_list ds) rest (only_decl dd (ap ends_item q)) (apat_no_semicolon (peek ts) (decl_begins dd)) (apat_no_brace (peek ts) (decl_begins dd)) q (only_items dds c)
 
   pub only_decl : {d : Declaration} {ts rest : List Terminal} → Decl d ts rest → ends_item (peek rest) ≡ true → decl_with all_expressions ts ≡ Some (d, rest)
   only_decl (decl_signature {ns = ns} {t = t} {k = k} {m = m} {us = us} {vs = vs} {rest = rest} v ds o dt) h =
-      decl_signature_is k us ns m vs t rest v (vars_begin ds o) (only_vars ds (ap (λ z. same z Comma) o)) o (only_type dt (no_atype (peek rest) (item_ends (peek rest) h)))
-  only_decl (decl_clause {ps = ps} {r = r} {k = k} {us = us} {vs = vs} {rest = rest} v ds dr) h =
-      let begins = right_begins dr equals_mark refl in
-      decl_clause_is k us vs (pattern_list ps) r rest v (clause_begins ds dr) (only_apats ds begins.apat begins.at) (only_rhs dr equals_mark h)
-      ∙ ap (λ z. Some (clause (name_of k) z r, rest)) (patterns_list ps)
+      decl_signature_is k us ns m vs t rest v (vars_continue ds o) (vars_begin ds o) (only_vars ds (ap (λ z. same z Comma) o)) o (only_type dt (no_atype (peek rest) (item_ends (peek rest) h)))
+  only_decl (decl_clause {k = k} v ds dr) h = clause_reads k v ds dr (only_rhs dr equals_mark h)
+  only_decl (decl_pattern {p = p} {r = r} {k = k} {rest = rest} d v dr) h =
+      pattern_reads d (pat_binding d v) dr (only_rhs dr equals_mark h) ∙ ap (λ z. Some (z, rest)) (no_lone k.line k.column p r v)
+  only_decl (decl_variable d dr) h = variable_reads d refl dr (only_rhs dr equals_mark h)

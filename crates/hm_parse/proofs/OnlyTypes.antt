@@ -1,7 +1,7 @@
 -- What is spelled as a type is read, where no further type follows.
 use Rattle.std.proofs.Common.{◌≡◌, ◌⊎◌, inl, inr, ◌≤◌, List, [], ◌∷◌, length, true, false, Some, refl, ap, ◌∙◌, arith}
-use Rattle.hm_parse.specs.Trees.{TypeTree, tuple_type, TypeTrees, no_types, more_types}
-use Rattle.hm_parse.specs.Lists.{types}
+use Rattle.hm_syntax.specs.Trees.{TypeTree, tuple_type, TypeTrees, no_types, more_types}
+use Rattle.hm_syntax.specs.Lists.{types}
 use Rattle.hm_parse.specs.declared.symbol.Symbol.{Symbol}
 use Rattle.hm_parse.specs.declared.symbol.Symbol.TheVariants.{Close, Comma, Con, QCon}
 use Rattle.hm_parse.specs.Symbols.{same, is_qcon}
@@ -11,7 +11,7 @@ use Rattle.hm_parse.specs.Reading.Basics.{peek, is_at, loop, next_of}
 use Rattle.hm_parse.specs.Reading.Types.{begins_atype, tuple_of_types, type_in, atype_with, next_atype, atypes_with, btype_with, type_step, type_at}
 use Rattle.hm_parse.proofs.Rows.{Steps, loop_stops, loop_takes}
 use Rattle.hm_parse.proofs.CommaLaws.{next_found, closes_one, closes_row, row_stops, row_takes}
-use Rattle.hm_parse.proofs.TypeLaws.{type_commas, next_atype_found, type_agree, type_is, count_is}
+use Rattle.hm_parse.proofs.TypeLaws.{no_arrow_next, type_commas, next_atype_found, type_agree, type_is, count_is}
 
 abbrev pub type_list : TypeTrees → List TypeTree
 type_list no_types = []
@@ -80,7 +80,7 @@ mutual
   unfolding type_step btype_with atypes_with atype_with next_atype type_in
 
   pub only_type : {t : TypeTree} {ts rest : List Terminal} → Type' t ts rest → begins_atype (peek rest) ≡ false → type_at ts ≡ Some (t, rest)
-  only_type (type_one {ts = ts} b a) h = type_is ts ∙ rw (only_btype b h) (rw a refl)
+  only_type (type_one {ts = ts} b a) h = type_is ts ∙ rw (only_btype b h) (rw (no_arrow_next _ a) refl)
   only_type (type_arrow {ts = ts} b q t) h = type_is ts ∙ rw (only_btype b (ap begins_atype q)) (rw q (rw (only_type t h) refl))
 
   only_btype : {t : TypeTree} {ts rest : List Terminal} → Btype t ts rest → begins_atype (peek rest) ≡ false → btype_with type_at ts ≡ Some (t, rest)
@@ -97,7 +97,7 @@ mutual
   only_atypes (atypes_none {ts = us}) h = stopped us h
   only_atypes (atypes_more {t = t} {ts = ts} {us = us} {vs = vs} {rest = rest} a as_) h = took t (type_list ts) us vs rest (atype_begins a) (only_atype a) (only_atypes as_ h)
 
-  only_atype : {t : TypeTree} {ts rest : List Terminal} → Atype t ts rest → atype_with type_at ts ≡ Some (t, rest)
+  pub only_atype : {t : TypeTree} {ts rest : List Terminal} → Atype t ts rest → atype_with type_at ts ≡ Some (t, rest)
   only_atype (atype_con (inl q)) = rw q refl
   only_atype (atype_con (inr q)) = rw q refl
   only_atype (atype_var q) = rw q refl

@@ -1,18 +1,19 @@
 -- The declarations of a module are read as they are spelled.
-use Rattle.std.proofs.Common.{◌≡◌, inl, inr, ◌⊎◌, ◌<◌, ◌+◌, List, [], ◌∷◌, length, true, false, Some, refl, sym, ap, arith}
-use Rattle.hm_parse.specs.Trees.{Declaration}
+use Rattle.std.proofs.Common.{◌≡◌, ◌<◌, ◌+◌, List, [], ◌∷◌, length, Bool, true, false, Some, refl, sym, ap, arith}
+use Rattle.hm_syntax.specs.Trees.{Declaration}
 use Rattle.hm_parse.specs.declared.symbol.Symbol.{Symbol}
-use Rattle.hm_parse.specs.declared.symbol.Symbol.TheVariants.{Data, Bar, Var, Comma, Close, Semicolon, RightBrace}
+use Rattle.hm_parse.specs.declared.symbol.Symbol.TheVariants.{Data, Newtype, TypeWord, Bar, Comma, Close, Semicolon, RightBrace}
 use Rattle.hm_parse.specs.Symbols.{same}
 use Rattle.hm_parse.specs.Tokens.{Terminal}
-use Rattle.hm_parse.specs.Grammar.Expressions.{Decl, Topdecl, topdecl_data, topdecl_decl}
+use Rattle.hm_parse.specs.Grammar.Expressions.{Decl, Topdecl, topdecl_data, topdecl_newtype, topdecl_synonym, topdecl_decl}
 use Rattle.hm_parse.specs.Reading.Basics.{peek}
 use Rattle.hm_parse.specs.Reading.Types.{begins_atype}
+use Rattle.hm_parse.specs.Reading.Patterns.{begins_apat}
 use Rattle.hm_parse.specs.Reading.Expressions.{decl_with, all_expressions}
 use Rattle.hm_parse.specs.Reading.Topdecls.{topdecl_at}
 use Rattle.hm_parse.proofs.Holds.{Holds, holds_if, holds_more, same_true}
 use Rattle.hm_parse.proofs.Lists.{ends_item, Reads}
-use Rattle.hm_parse.proofs.DataLaws.{data_found, data_short, data_begins, only_data}
+use Rattle.hm_parse.proofs.TypeDeclarationLaws.{data_found, data_short, data_begins, only_data, newtype_found, newtype_short, newtype_begins, only_newtype, synonym_found, synonym_short, synonym_begins, only_synonym}
 use Rattle.hm_parse.proofs.ExpressionLaws.{decl_found, decl_short, expressions_agree}
 use Rattle.hm_parse.proofs.OnlyExpressions.{only_decl, decl_begins}
 
@@ -25,16 +26,48 @@ topdecl_found [] = holds_more (decl_reads []) (λ x d. topdecl_decl d)
 topdecl_found (k ∷ ts) =
     holds_if _ _ _
     (λ q. holds_more (data_found k ts (same_true _ _ q)) (λ x d. topdecl_data d))
-    (λ _. holds_more (decl_reads (k ∷ ts)) (λ x d. topdecl_decl d))
+    (λ _. holds_if _ _ _
+    (λ q. holds_more (newtype_found k ts (same_true _ _ q)) (λ x d. topdecl_newtype d))
+    (λ _. holds_if _ _ _
+    (λ q. holds_more (synonym_found k ts (same_true _ _ q)) (λ x d. topdecl_synonym d))
+    (λ _. holds_more (decl_reads (k ∷ ts)) (λ x d. topdecl_decl d))))
 
 topdecl_short : (d : Declaration) (ts rest : List Terminal) → Topdecl d ts rest → length rest < length ts
 topdecl_short _ _ _ (topdecl_data d) = data_short d
+topdecl_short _ _ _ (topdecl_newtype d) = newtype_short d
+topdecl_short _ _ _ (topdecl_synonym d) = synonym_short d
 topdecl_short _ _ _ (topdecl_decl d) = decl_short d
 
--- a declaration begins with `data` or with a variable
-pub topdecl_begins : {d : Declaration} {ts rest : List Terminal} → Topdecl d ts rest → (peek ts ≡ Data) ⊎ (peek ts ≡ Var)
-topdecl_begins (topdecl_data d) = inl (data_begins d)
-topdecl_begins (topdecl_decl d) = inr (decl_begins d)
+-- what a declaration begins with
+abbrev pub begins_topdecl : Symbol → Bool
+begins_topdecl Data = true
+begins_topdecl Newtype = true
+begins_topdecl TypeWord = true
+begins_topdecl s = begins_apat s
+
+apat_topdecl : (s : Symbol) → begins_apat s ≡ true → begins_topdecl s ≡ true
+apat_topdecl Data h = refl
+apat_topdecl Newtype h = refl
+apat_topdecl TypeWord h = refl
+apat_topdecl _ h = h
+
+pub topdecl_begins : {d : Declaration} {ts rest : List Terminal} → Topdecl d ts rest → begins_topdecl (peek ts) ≡ true
+topdecl_begins (topdecl_data d) = ap begins_topdecl (data_begins d)
+topdecl_begins (topdecl_newtype d) = ap begins_topdecl (newtype_begins d)
+topdecl_begins (topdecl_synonym d) = ap begins_topdecl (synonym_begins d)
+topdecl_begins {ts = ts} (topdecl_decl d) = apat_topdecl (peek ts) (decl_begins d)
+
+apat_no_data : (s : Symbol) → begins_apat s ≡ true → same s Data ≡ false
+apat_no_data Data h = cc
+apat_no_data _ h = refl
+
+apat_no_newtype : (s : Symbol) → begins_apat s ≡ true → same s Newtype ≡ false
+apat_no_newtype Newtype h = cc
+apat_no_newtype _ h = refl
+
+apat_no_synonym : (s : Symbol) → begins_apat s ≡ true → same s TypeWord ≡ false
+apat_no_synonym TypeWord h = cc
+apat_no_synonym _ h = refl
 
 item_atype : (s : Symbol) → ends_item s ≡ true → begins_atype s ≡ false
 item_atype Comma h = refl
@@ -50,11 +83,17 @@ item_bar _ h = refl
 topdecl_only : (d : Declaration) (ts rest : List Terminal) → Topdecl d ts rest → ends_item (peek rest) ≡ true → topdecl_at ts ≡ Some (d, rest)
 unfolding topdecl_at
 topdecl_only _ ts rest (topdecl_data d) h = rw (ap (λ z. same z Data) (data_begins d)) (only_data d (item_bar (peek rest) h) (item_atype (peek rest) h))
-topdecl_only _ ts rest (topdecl_decl d) h = rw (ap (λ z. same z Data) (decl_begins d)) (only_decl d h)
+topdecl_only _ ts rest (topdecl_newtype d) h = rw (ap (λ z. same z Data) (newtype_begins d)) (rw (ap (λ z. same z Newtype) (newtype_begins d)) (only_newtype d))
+topdecl_only _ ts rest (topdecl_synonym d) h =
+    rw (ap (λ z. same z Data) (synonym_begins d)) (rw (ap (λ z. same z Newtype) (synonym_begins d)) (rw (ap (λ z. same z TypeWord) (synonym_begins d)) (only_synonym d (item_atype (peek rest) h))))
+topdecl_only _ ts rest (topdecl_decl d) h = rw (apat_no_data (peek ts) (decl_begins d)) (rw (apat_no_newtype (peek ts) (decl_begins d)) (rw (apat_no_synonym (peek ts) (decl_begins d)) (only_decl d h)))
 
-begins_no_item : (s : Symbol) → (s ≡ Data) ⊎ (s ≡ Var) → ends_item s ≡ false
-begins_no_item s (inl q) = ap ends_item q
-begins_no_item s (inr q) = ap ends_item q
+begins_no_item : (s : Symbol) → begins_topdecl s ≡ true → ends_item s ≡ false
+begins_no_item Comma h = sym h
+begins_no_item Close h = sym h
+begins_no_item Semicolon h = sym h
+begins_no_item RightBrace h = sym h
+begins_no_item _ h = refl
 
 pub topdecl_reads : Reads Topdecl topdecl_at
 topdecl_reads = record { found = topdecl_found; only = topdecl_only; short = topdecl_short; begins = λ d ts rest a. begins_no_item (peek ts) (topdecl_begins a) }

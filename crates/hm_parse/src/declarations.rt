@@ -1,15 +1,15 @@
 //! Top-level declarations (Haskell 98 Report, section 4).
 ghost use Rattle.hm_parse.specs.Reading.Topdecls.{topdecl_at};
-ghost use Rattle.hm_parse.specs.Outcome.{Gives};
+ghost use Rattle.hm_parse.specs.Reading.Answers.{Gives};
 
-use crate::ast::Decl;
 use crate::cursor::Parser;
 use crate::fault::ParseFault;
 use crate::symbol::Symbol;
+use hm_syntax::Decl;
 use std::alloc::Global;
 
 impl Parser<'_> {
-    /// A data declaration, a signature or a clause.
+    /// A declaration of a type, a signature, a clause or a pattern binding.
     #[tactic(auto, unfolding(crate::specs::Reading::Topdecls::topdecl_at))]
     pub(crate) fn topdecl(&mut self, alloc: Global) -> Result<Decl, ParseFault>
         ensures { Gives (λ d. (d, self.new)) result (topdecl_at self.old) }
@@ -17,6 +17,12 @@ impl Parser<'_> {
         if self.at(Symbol::Data) {
             self.skip();
             Ok(self.data(alloc)?)
+        } else if self.at(Symbol::Newtype) {
+            self.skip();
+            Ok(self.newtype(alloc)?)
+        } else if self.at(Symbol::TypeWord) {
+            self.skip();
+            Ok(self.synonym(alloc)?)
         } else {
             Ok(self.decl(alloc)?)
         }

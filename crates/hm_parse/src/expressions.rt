@@ -1,15 +1,16 @@
 //! Expressions and declarations (Haskell 98 Report, sections 3 and 4.4).
 ghost use Rattle.std.specs.Prelude.{◌≡◌, ◌≤◌, length, [], ◌∷◌, false, IfOk};
-ghost use Rattle.hm_parse.specs.Lists.{bodies};
+ghost use Rattle.hm_syntax.specs.Lists.{bodies};
 ghost use Rattle.hm_parse.specs.Reading.Basics.{peek, tail, is_at, loop, behind, next_of, closing, tuple_behind, list_in};
-ghost use Rattle.hm_parse.specs.Reading.Expressions.{tuple_of_expressions, list_of_expressions, next_item_of, var_at, exp_with, aexp_step, args_from, guarded_in, next_guarded, bodies_with, where_with, rhs_with, alt_with, alts_with, case_with, opd_with, link, typed_behind, consed, cons_expression, open_by, lambda_with, let_with, if_with, signature_with, clause_with, decl_with, all_expressions};
-ghost use Rattle.hm_parse.specs.Outcome.{Gives};
+ghost use Rattle.hm_parse.specs.Reading.Expressions.{tuple_of_expressions, list_of_expressions, next_item_of, var_at, exp_with, aexp_step, args_from, guarded_in, next_guarded, bodies_with, where_with, rhs_with, alt_with, alts_with, case_with, opd_with, link, typed_behind, consed, cons_expression, open_by, lambda_with, let_with, if_with, signature_with, begins_binding, binding_of, binding_with, decl_with, all_expressions};
+ghost use Rattle.hm_parse.specs.Reading.Answers.{Gives};
 
-use crate::ast::{Alt, Decl, DeclKind, Expr, ExprKind, Name, Rhs};
 use crate::cursor::{Context, Parser};
 use crate::fault::ParseFault;
 use crate::symbol::Symbol;
 use crate::types::MAX_COMPONENTS;
+use hm_lex::Place;
+use hm_syntax::{Alt, Decl, DeclKind, Expr, ExprKind, Name, Pat, PatKind, Rhs};
 use std::alloc::{AllocError, Global};
 
 impl Parser<'_> {
@@ -202,7 +203,8 @@ impl Parser<'_> {
         ensures { Gives (λ v. (v.items, self.new)) result (alts_with all_expressions self.old) }
     {
         self.past_semicolons();
-        if self.at(Symbol::RightBrace) {
+        let is_empty = self.at(Symbol::RightBrace);
+        if is_empty {
             return Err(ParseFault::Syntax(self.place()));
         }
         let mut found = Vec::new(alloc);
@@ -417,12 +419,15 @@ impl Parser<'_> {
         Ok(Some(decl))
     }
 
-    /// A signature or a clause.
+    /// A signature, a clause or a pattern binding.
     #[cycle(exprs)]
-    #[tactic(auto, using(crate::proofs::ExpressionLoops::variable_shorter, crate::proofs::ExpressionLoops::apats_shorter), unfolding(crate::specs::Reading::Expressions::decl_with, crate::specs::Reading::Expressions::clause_with))]
+    #[tactic(auto, using(crate::proofs::ExpressionLoops::variable_shorter, crate::proofs::ExpressionLoops::apats_shorter), unfolding(crate::specs::Reading::Expressions::decl_with, crate::specs::Reading::Expressions::named_with, crate::specs::Reading::Expressions::clause_with))]
     pub(crate) fn decl(&mut self, alloc: Global) -> Result<Decl, ParseFault>
         ensures { Gives (λ d. (d, self.new)) result (decl_with all_expressions self.old) }
     {
+        if self.begins_binding() {
+            return Ok(self.binding(alloc)?);
+        }
         let name = self.var(alloc)?;
         if self.symbol().begins_signature() {
             return Ok(self.signature(alloc, name)?);
@@ -432,6 +437,31 @@ impl Parser<'_> {
         Ok(Decl {
             kind: DeclKind::Clause { name, pats, rhs },
         })
+    }
+
+    /// Whether a declaration that stands here is a pattern binding, by its first two tokens.
+    #[tactic(auto, unfolding(crate::specs::Reading::Expressions::begins_binding))]
+    fn begins_binding(&self) -> bool
+        ensures { result ≡ begins_binding self.now }
+    {
+        let second = self.second();
+        match self.symbol() {
+            Symbol::Var => second.continues_pattern(),
+            _ => true,
+        }
+    }
+
+    /// A pattern binding. One of a lone variable is a clause.
+    #[cycle(exprs)]
+    #[tactic(auto, using(crate::proofs::ExpressionLoops::pattern_shorter, crate::proofs::ExpressionLoops::binding_is), unfolding(crate::specs::Reading::Expressions::binding_with))]
+    #[inline(never)]
+    fn binding(&mut self, alloc: Global) -> Result<Decl, ParseFault>
+        ensures { Gives (λ d. (d, self.new)) result (binding_with all_expressions self.old) }
+    {
+        let place = self.place();
+        let pat = self.pat(alloc)?;
+        let rhs = self.rhs(alloc, Symbol::Equals)?;
+        Ok(binding_of(alloc, place, pat, rhs))
     }
 
     /// The name of a variable.
@@ -484,6 +514,25 @@ impl Parser<'_> {
             kind: DeclKind::Signature { names, ty },
         })
     }
+}
+
+/// A pattern binding whose first token has this place; of a lone variable, its clause.
+fn binding_of(alloc: Global, place: Place, pat: Pat, rhs: Rhs) -> Decl
+    ensures { result ≡ binding_of place.line place.column pat rhs }
+{
+    let kind = match pat.kind {
+        PatKind::Var(name) => DeclKind::Clause {
+            name,
+            pats: Vec::new(alloc),
+            rhs,
+        },
+        kind => DeclKind::Pattern {
+            place,
+            pat: Pat { kind },
+            rhs,
+        },
+    };
+    Decl { kind }
 }
 
 /// The operands, each with the colon behind it, before the last: colons group to the right.

@@ -1,13 +1,13 @@
 -- The grammar of expressions and declarations.
-use Rattle.std.specs.Prelude.{◌≡◌, ℕ, ◌+◌, ◌≤◌, List, [], ◌∷◌, codes}
-use Rattle.hm_parse.specs.Names.{Identifier, LiteralTree}
-use Rattle.hm_parse.specs.Trees.{TypeTree, Pattern, Patterns, more_patterns, Expression, variable_expression, constructor_expression, literal_expression, application, lambda, let_expression, if_expression, case_expression, tuple_expression, list_expression, typed_expression, Expressions, no_expressions, more_expressions, Declaration, signature, clause, Declarations, no_declarations, more_declarations, RightSide, right_side, Bodies, no_bodies, plain_body, guarded_body, Alternative, alternative, Alternatives, no_alternatives, more_alternatives}
+use Rattle.std.specs.Prelude.{◌≡◌, ℕ, ◌+◌, ◌≤◌, List, [], ◌∷◌, false, codes}
+use Rattle.hm_syntax.specs.Names.{Identifier, LiteralTree}
+use Rattle.hm_syntax.specs.Trees.{TypeTree, Pattern, variable_pattern, Patterns, no_patterns, more_patterns, Expression, variable_expression, constructor_expression, literal_expression, application, lambda, let_expression, if_expression, case_expression, tuple_expression, list_expression, typed_expression, Expressions, no_expressions, more_expressions, Declaration, signature, clause, pattern_binding, Declarations, no_declarations, more_declarations, RightSide, right_side, Bodies, no_bodies, plain_body, guarded_body, Alternative, alternative, Alternatives, no_alternatives, more_alternatives}
 use Rattle.hm_parse.specs.declared.symbol.Symbol.{Symbol}
 use Rattle.hm_parse.specs.declared.symbol.Symbol.TheVariants.{Case, Else, If, In, Let, Of, Then, Where, Colon, OfType, Equals, Backslash, Bar, Arrow, Open, Close, OpenSquare, CloseSquare, LeftBrace, RightBrace, Comma, Semicolon, Var}
 use Rattle.hm_parse.specs.Tokens.{Terminal, name_of}
 use Rattle.hm_parse.specs.Grammar.Marks.{IsQvar}
-use Rattle.hm_parse.specs.Grammar.Types.{Type', Data'}
-use Rattle.hm_parse.specs.Grammar.Patterns.{special, Gcon, Literal', Pat', Apat, Apats}
+use Rattle.hm_parse.specs.Grammar.Types.{Type', Data', Newtype', Synonym'}
+use Rattle.hm_parse.specs.Grammar.Patterns.{special, Gcon, Literal', is_variable, Pat', Apat, Apats}
 
 -- `a : b`, where k is the colon
 abbrev pub cons : Terminal → Expression → Expression → Expression
@@ -120,14 +120,22 @@ mutual
     decls_empty : {ds : Declarations} {k : Terminal} {us rest : List Terminal} → k.symbol ≡ Semicolon → DeclItems ds us rest → DeclItems ds (k ∷ us) rest
     decls_more : {d : Declaration} {ds : Declarations} {k : Terminal} {ts us rest : List Terminal} → Decl d ts (k ∷ us) → k.symbol ≡ Semicolon → DeclItems ds us rest → DeclItems (more_declarations d ds) ts rest
 
-  -- decl = var {',' var}* '::' type | clause
+  -- decl = var {',' var}* '::' type | clause | binding
   -- clause = var apat* ('=' exp | {'|' guard '=' exp}+) ['where' decls]
+  -- binding = pat ('=' exp | {'|' guard '=' exp}+) ['where' decls]
+  -- A binding of a lone variable, as in `(x) = e`, has the tree of the clause `x = e`.
   pub data Decl : Declaration → List Terminal → List Terminal → Type 0 where
     decl_signature : {ns : List Identifier} {t : TypeTree} {k m : Terminal} {us vs rest : List Terminal} →
         k.symbol ≡ Var → VarCommas ns us (m ∷ vs) → m.symbol ≡ OfType → Type' t vs rest → Decl (signature (name_of k ∷ ns) t) (k ∷ us) rest
     decl_clause : {ps : Patterns} {r : RightSide} {k : Terminal} {us vs rest : List Terminal} → k.symbol ≡ Var → Apats ps us vs → Rhs' Equals r vs rest → Decl (clause (name_of k) ps r) (k ∷ us) rest
+    decl_pattern : {p : Pattern} {r : RightSide} {k : Terminal} {us vs rest : List Terminal} →
+        Pat' p (k ∷ us) vs → is_variable p ≡ false → Rhs' Equals r vs rest → Decl (pattern_binding k.line k.column p r) (k ∷ us) rest
+    decl_variable : {n : Identifier} {r : RightSide} {ts us rest : List Terminal} → Pat' (variable_pattern n) ts us → Rhs' Equals r us rest → Decl (clause n no_patterns r) ts rest
 
--- topdecl = 'data' tycon tyvar* '=' data_constructor {'|' data_constructor}* | decl
+-- topdecl = 'data' tycon tyvar* '=' data_constructor {'|' data_constructor}* | 'newtype' tycon tyvar* '=' con atype
+--         | 'type' tycon tyvar* '=' type | decl
 pub data Topdecl : Declaration → List Terminal → List Terminal → Type 0 where
   topdecl_data : {d : Declaration} {ts rest : List Terminal} → Data' d ts rest → Topdecl d ts rest
+  topdecl_newtype : {d : Declaration} {ts rest : List Terminal} → Newtype' d ts rest → Topdecl d ts rest
+  topdecl_synonym : {d : Declaration} {ts rest : List Terminal} → Synonym' d ts rest → Topdecl d ts rest
   topdecl_decl : {d : Declaration} {ts rest : List Terminal} → Decl d ts rest → Topdecl d ts rest

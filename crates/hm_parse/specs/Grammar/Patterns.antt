@@ -1,7 +1,7 @@
 -- The grammar of constructors, literals and patterns.
-use Rattle.std.specs.Prelude.{◌≡◌, ℕ, zero, suc, ◌+◌, ◌≤◌, List, [], ◌∷◌, ◌++◌, None, codes}
-use Rattle.hm_parse.specs.Names.{Identifier, LiteralTree, integer, character, string}
-use Rattle.hm_parse.specs.Trees.{Pattern, variable_pattern, bound_pattern, constructor_pattern, literal_pattern, wildcard_pattern, tuple_pattern, list_pattern, lazy_pattern, Patterns, no_patterns, more_patterns}
+use Rattle.std.specs.Prelude.{◌≡◌, ℕ, zero, suc, ◌+◌, ◌≤◌, List, [], ◌∷◌, ◌++◌, Bool, true, false, None, codes}
+use Rattle.hm_syntax.specs.Names.{Identifier, LiteralTree, integer, character, string}
+use Rattle.hm_syntax.specs.Trees.{Pattern, variable_pattern, bound_pattern, constructor_pattern, literal_pattern, wildcard_pattern, tuple_pattern, list_pattern, lazy_pattern, Patterns, no_patterns, more_patterns}
 use Rattle.hm_parse.specs.declared.symbol.Symbol.TheVariants.{Open, Close, OpenSquare, CloseSquare, Comma, Colon, At, Tilde, Wild, Var, Integer, Character, Text}
 use Rattle.hm_parse.specs.Tokens.{Terminal, name_of}
 use Rattle.hm_parse.specs.Grammar.Marks.{IsQcon}
@@ -41,6 +41,11 @@ pub data Literal' : LiteralTree → List Terminal → List Terminal → Type 0 w
 abbrev pub count_pats : Patterns → ℕ
 count_pats no_patterns = 0
 count_pats (more_patterns p ps) = 1 + count_pats ps
+
+-- a lone variable, whatever parentheses stand round it
+abbrev pub is_variable : Pattern → Bool
+is_variable (variable_pattern n) = true
+is_variable _ = false
 
 -- `p : q`, where k is the colon
 abbrev pub cons_pat : Terminal → Pattern → Pattern → Pattern

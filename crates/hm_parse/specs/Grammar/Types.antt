@@ -1,11 +1,10 @@
 -- The grammar of types.
-use Rattle.std.specs.Prelude.{◌≡◌, ℕ, ◌+◌, ◌≤◌, List, [], ◌∷◌, false}
-use Rattle.hm_parse.specs.Names.{Identifier}
-use Rattle.hm_parse.specs.Trees.{TypeTree, variable_type, constructor_type, function_type, tuple_type, list_type, unit_type, TypeTrees, no_types, more_types, DataConstructor, data_constructor, DataConstructors, no_constructors, more_constructors, Declaration, data_declaration}
-use Rattle.hm_parse.specs.declared.symbol.Symbol.TheVariants.{Open, Close, OpenSquare, CloseSquare, Comma, Arrow, Bar, Data, Equals, Var, Con}
+use Rattle.std.specs.Prelude.{◌≡◌, ℕ, ◌+◌, ◌≤◌, List, [], ◌∷◌}
+use Rattle.hm_syntax.specs.Names.{Identifier}
+use Rattle.hm_syntax.specs.Trees.{TypeTree, variable_type, constructor_type, function_type, tuple_type, list_type, unit_type, TypeTrees, no_types, more_types, DataConstructor, data_constructor, DataConstructors, no_constructors, more_constructors, Declaration, data_declaration, newtype_declaration, synonym_declaration}
+use Rattle.hm_parse.specs.declared.symbol.Symbol.TheVariants.{Open, Close, OpenSquare, CloseSquare, Comma, Arrow, Bar, Data, Newtype, TypeWord, Equals, Var, Con}
 use Rattle.hm_parse.specs.Tokens.{Terminal, name_of}
-use Rattle.hm_parse.specs.Reading.Basics.{is_at}
-use Rattle.hm_parse.specs.Grammar.Marks.{IsQcon}
+use Rattle.hm_parse.specs.Grammar.Marks.{IsQcon, NoArrow}
 
 abbrev pub count_types : TypeTrees → ℕ
 count_types no_types = 0
@@ -15,7 +14,7 @@ mutual
   -- type = btype ['->' type]
   -- No whole type is directly followed by '->'.
   pub data Type' : TypeTree → List Terminal → List Terminal → Type 0 where
-    type_one : {t : TypeTree} {ts rest : List Terminal} → Btype t ts rest → is_at Arrow rest ≡ false → Type' t ts rest
+    type_one : {t : TypeTree} {ts rest : List Terminal} → Btype t ts rest → NoArrow rest → Type' t ts rest
     type_arrow : {t u : TypeTree} {k : Terminal} {ts us rest : List Terminal} → Btype t ts (k ∷ us) → k.symbol ≡ Arrow → Type' u us rest → Type' (function_type t u) ts rest
 
   -- btype = atype | qtycon atype+
@@ -63,3 +62,14 @@ pub data Data' : Declaration → List Terminal → List Terminal → Type 0 wher
   data' : {ps : List Identifier} {c : DataConstructor} {cs : DataConstructors} {k n m : Terminal} {us vs ws rest : List Terminal} →
       k.symbol ≡ Data → n.symbol ≡ Con → Tyvars ps us (m ∷ vs) → m.symbol ≡ Equals → Constr' c vs ws → Bars cs ws rest →
       Data' (data_declaration (name_of n) ps (more_constructors c cs)) (k ∷ n ∷ us) rest
+
+-- 'newtype' tycon tyvar* '=' con atype
+pub data Newtype' : Declaration → List Terminal → List Terminal → Type 0 where
+  newtype' : {ps : List Identifier} {t : TypeTree} {k n m c : Terminal} {us vs rest : List Terminal} →
+      k.symbol ≡ Newtype → n.symbol ≡ Con → Tyvars ps us (m ∷ c ∷ vs) → m.symbol ≡ Equals → c.symbol ≡ Con → Atype t vs rest →
+      Newtype' (newtype_declaration (name_of n) ps (data_constructor (name_of c) (more_types t no_types))) (k ∷ n ∷ us) rest
+
+-- 'type' tycon tyvar* '=' type
+pub data Synonym' : Declaration → List Terminal → List Terminal → Type 0 where
+  synonym' : {ps : List Identifier} {t : TypeTree} {k n m : Terminal} {us vs rest : List Terminal} →
+      k.symbol ≡ TypeWord → n.symbol ≡ Con → Tyvars ps us (m ∷ vs) → m.symbol ≡ Equals → Type' t vs rest → Synonym' (synonym_declaration (name_of n) ps t) (k ∷ n ∷ us) rest

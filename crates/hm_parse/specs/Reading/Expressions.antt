@@ -1,13 +1,13 @@
--- How expressions and declarations are read (Haskell 98 Report, sections 3 and 4.4).
+-- How expressions and declarations are read (Haskell 98 Report, sections 3 and 4.4). No public clause names these.
 use Rattle.std.specs.Prelude.{ℕ, zero, suc, List, [], ◌∷◌, Bool, true, false, Option, Some, None, if◌then◌else◌, length, codes}
-use Rattle.hm_parse.specs.Names.{Identifier}
-use Rattle.hm_parse.specs.Trees.{Expression, variable_expression, constructor_expression, literal_expression, application, lambda, let_expression, if_expression, case_expression, tuple_expression, list_expression, typed_expression, Declaration, signature, clause, RightSide, right_side, Alternative, alternative}
-use Rattle.hm_parse.specs.Lists.{patterns, expressions, declarations, alternatives, bodies}
+use Rattle.hm_syntax.specs.Names.{Identifier}
+use Rattle.hm_syntax.specs.Trees.{Pattern, variable_pattern, no_patterns, Expression, variable_expression, constructor_expression, literal_expression, application, lambda, let_expression, if_expression, case_expression, tuple_expression, list_expression, typed_expression, Declaration, signature, clause, pattern_binding, RightSide, right_side, Alternative, alternative}
+use Rattle.hm_syntax.specs.Lists.{patterns, expressions, declarations, alternatives, bodies}
 use Rattle.hm_parse.specs.declared.symbol.Symbol.{Symbol}
-use Rattle.hm_parse.specs.declared.symbol.Symbol.TheVariants.{Case, Else, If, In, Let, Of, Then, Where, Colon, OfType, Equals, Backslash, Bar, Arrow, Open, OpenSquare, LeftBrace, RightBrace, Comma, Semicolon, Var, Con, QVar, QCon, Integer, Character, Text}
+use Rattle.hm_parse.specs.declared.symbol.Symbol.TheVariants.{Case, Else, If, In, Let, Of, Then, Where, Colon, OfType, Equals, Backslash, Bar, Arrow, Open, OpenSquare, LeftBrace, RightBrace, Comma, Semicolon, At, Var, Con, QVar, QCon, Integer, Character, Text}
 use Rattle.hm_parse.specs.Tokens.{Terminal}
 use Rattle.hm_parse.specs.Reading.Basics.{◌>>=◌, Reader, peek, is_at, tail, expect, name_at, item_end, past_semicolons, loop, behind, next_of, closing, list_in}
-use Rattle.hm_parse.specs.Reading.Constructors.{begins_gcon, special_at, gcon_at, literal_at}
+use Rattle.hm_parse.specs.Reading.Constructors.{begins_gcon, line_at, column_at, special_at, gcon_at, literal_at}
 use Rattle.hm_parse.specs.Reading.Types.{type_at}
 use Rattle.hm_parse.specs.Reading.Patterns.{apat_step, apats_with, all_patterns}
 
@@ -74,6 +74,25 @@ abbrev pub begins_signature : Symbol → Bool
 begins_signature Comma = true
 begins_signature OfType = true
 begins_signature _ = false
+
+-- what stands behind the variable that a pattern begins with, where a declaration begins with that pattern
+abbrev pub continues_pattern : Symbol → Bool
+continues_pattern At = true
+continues_pattern Colon = true
+continues_pattern _ = false
+
+-- the first two symbols of a pattern binding
+abbrev pub begin_binding : Symbol → Symbol → Bool
+begin_binding Var second = continues_pattern second
+begin_binding _ second = true
+
+unfoldable pub begins_binding : List Terminal → Bool
+begins_binding ts = begin_binding (peek ts) (peek (tail ts))
+
+-- the tree of a pattern binding that begins at this place
+abbrev pub binding_of : ℕ → ℕ → Pattern → RightSide → Declaration
+binding_of line column (variable_pattern n) b = clause n no_patterns b
+binding_of line column p b = pattern_binding line column p b
 
 -- the readers that lead back to themselves: of operands with colons between, true where they are open, and of declarations
 pub record ExpressionReaders : Type 0 where
@@ -272,10 +291,20 @@ module _ (r : ExpressionReaders) where
     b ← rhs_with Equals ps.1
     Some (clause n (patterns ps.0) b.0, b.1)
 
-  unfoldable pub decl_with : Reader Declaration
-  decl_with ts = do
+  -- a signature or a clause
+  unfoldable pub named_with : Reader Declaration
+  named_with ts = do
     n ← var_at ts
     if begins_signature (peek n.1) then signature_with n.0 n.1 else clause_with n.0 n.1
+
+  unfoldable pub binding_with : Reader Declaration
+  binding_with ts = do
+    p ← all_patterns.whole ts
+    b ← rhs_with Equals p.1
+    Some (binding_of (line_at ts) (column_at ts) p.0 b.0, b.1)
+
+  unfoldable pub decl_with : Reader Declaration
+  decl_with ts = if begins_binding ts then binding_with ts else named_with ts
 
   unfoldable pub decls_step : Reader (List Declaration)
   decls_step ts = do

@@ -1,9 +1,9 @@
 use Rattle.std.proofs.Common.{◌≡◌, ◌<◌, List, [], ◌∷◌, ◌++◌, length, true, false, Some, ap, sym, ◌∙◌, rules, arith, refl}
-use Rattle.hm_parse.specs.Trees.{Expression}
+use Rattle.hm_syntax.specs.Trees.{Expression}
 use Rattle.hm_parse.specs.declared.symbol.Symbol.TheVariants.{Colon}
 use Rattle.hm_parse.specs.Reading.Basics.{peek, is_at, tail, loop, behind, next_of}
 use Rattle.hm_parse.specs.Reading.Expressions.{begins_open, exp_with, guarded_in, all_expressions}
-use Rattle.hm_parse.proofs.ExpressionLoops.{elements_end, chain_shorter, opd_shorter, colon_shorter, expect_shorter, first_guard_shorter}
+use Rattle.hm_parse.proofs.ExpressionLoops.{elements_end, binding_is, chain_shorter, opd_shorter, colon_shorter, expect_shorter, first_guard_shorter}
 use Rattle.hm_parse.proofs.ColonLoops.{colons_go_on}
 use Rattle.hm_parse.proofs.cursor.Parser.+exprs.Goals as goal
 
@@ -39,3 +39,8 @@ colons-colons-preserved t c =
       read = colons_go_on c.colons.operands.items c.push.new.self.items c.colons.last c.in_ok-last.last c.in_ok-colon.colon c.colons.self c.colon.new.self c.operand.new.self at c.in_ok-colon.ensures.ok c.in_ok-colon.ensures.name c.in_ok-push.ensures.items closed c.in_ok-last.ensures ∙ c.colons.invariant.read;
       left = omega (arith, taken, same, operand, c.colons.invariant.left);
     }
+
+pub binding-returns : goal.binding-returns
+binding-returns t c =
+    binding_is c.args.self.now c.pat.new.self c.rhs.new.self c.place-place.result c.in_ok-pat.pat c.in_ok-rhs.rhs c.place-place.ensures c.in_ok-pat.ensures c.in_ok-rhs.ensures
+    ∙ ap (λ z. Some (z, c.rhs.new.self)) (sym c.binding_of.ensures)

@@ -1,0 +1,418 @@
+//! The trees of modules. Parentheses leave no trace in them. Contracts see a tree as a value of a family of `specs/Trees`.
+ghost use Rattle.std.specs.Prelude.{◌≡◌};
+
+use hm_lex::Place;
+use std::marker::Model;
+
+/// A name as it is written, with the place of its first byte.
+#[derive(Drop)]
+pub struct Name {
+    /// What stands before the last dot; a module's name has none, and its whole text in `text`.
+    pub qualifier: Option<String>,
+    pub text: String,
+    pub place: Place,
+}
+
+impl Model for Name {
+    ghost use Rattle.std.specs.Prelude.{option_map, string_bytes};
+    ghost use Rattle.hm_syntax.specs.Names.{Identifier};
+
+    ghost Value = { Identifier };
+
+    ghost view = { λ n. record { qualifier = option_map string_bytes n.qualifier; text = string_bytes n.text; line = n.place.line; column = n.place.column } };
+}
+
+/// A literal as it is written.
+#[derive(Drop)]
+pub struct Literal {
+    pub kind: LiteralKind,
+}
+
+/// The kinds of literals, each with its text, quotes included (Report, sections 2.5 and 2.6).
+#[derive(Drop)]
+pub enum LiteralKind {
+    Integer(String),
+    Character(String),
+    Text(String),
+}
+
+impl Model for Literal {
+    ghost use Rattle.hm_syntax.specs.Names.{LiteralTree};
+
+    ghost Value = { LiteralTree };
+
+    ghost use Rattle.hm_syntax.specs.Views.OfLiterals.{literal_of};
+
+    ghost view = { λ l. literal_of l.kind };
+}
+
+/// A type (Report, section 4.1.2).
+#[derive(Drop)]
+#[cycle(types)]
+pub struct TypeExpr {
+    pub kind: TypeKind,
+}
+
+/// The kinds of types.
+#[derive(Drop)]
+#[cycle(types)]
+pub enum TypeKind {
+    Var(Name),
+    /// A type constructor with its arguments, as many as are written.
+    Con(Name, Vec<TypeExpr>),
+    /// A function type, from the first to the second.
+    Arrow(Box<TypeExpr>, Box<TypeExpr>),
+    Tuple(Vec<TypeExpr>),
+    List(Box<TypeExpr>),
+    Unit,
+}
+
+impl Model for TypeExpr {
+    ghost use Rattle.hm_syntax.specs.Trees.{TypeTree};
+    ghost use Rattle.hm_syntax.specs.Codes.{coded_type};
+
+    ghost Value = { TypeTree };
+
+    ghost coded = { coded_type };
+
+    ghost use Rattle.hm_syntax.specs.Views.OfTypes.{type_of};
+
+    ghost view = { λ t. type_of t.kind };
+
+    ghost use Rattle.hm_syntax.specs.Sizes.{type_size};
+
+    ghost size = { type_size };
+
+    ghost use Rattle.hm_syntax.specs.Falls.OfTypes.{type_smaller};
+
+    ghost size_decreases = { λ a h. type_smaller a.kind };
+}
+
+/// A constructor of a data type, with the types of its arguments (Report, section 4.2.1).
+#[derive(Drop)]
+pub struct Constr {
+    pub name: Name,
+    pub args: Vec<TypeExpr>,
+}
+
+impl Model for Constr {
+    ghost use Rattle.hm_syntax.specs.Trees.{DataConstructor, data_constructor};
+    ghost use Rattle.hm_syntax.specs.Codes.{coded_constructor};
+    ghost use Rattle.hm_syntax.specs.Lists.{types};
+
+    ghost Value = { DataConstructor };
+
+    ghost coded = { coded_constructor };
+
+    ghost view = { λ c. data_constructor c.name (types c.args.items) };
+}
+
+/// A pattern (Report, section 3.17).
+#[derive(Drop)]
+#[cycle(pats)]
+pub struct Pat {
+    pub kind: PatKind,
+}
+
+/// The kinds of patterns. `p : q` is the constructor `:` with both.
+#[derive(Drop)]
+#[cycle(pats)]
+pub enum PatKind {
+    Var(Name),
+    /// A variable, and behind `@` the pattern that it stands for.
+    Bound(Name, Box<Pat>),
+    Con(Name, Vec<Pat>),
+    Literal(Literal),
+    Wild,
+    Tuple(Vec<Pat>),
+    List(Vec<Pat>),
+    /// A pattern behind `~`.
+    Lazy(Box<Pat>),
+}
+
+impl Model for Pat {
+    ghost use Rattle.hm_syntax.specs.Trees.{Pattern};
+    ghost use Rattle.hm_syntax.specs.Codes.{coded_pattern};
+
+    ghost Value = { Pattern };
+
+    ghost coded = { coded_pattern };
+
+    ghost use Rattle.hm_syntax.specs.Views.OfPatterns.{pattern_of};
+
+    ghost view = { λ t. pattern_of t.kind };
+
+    ghost use Rattle.hm_syntax.specs.Sizes.{pattern_size};
+
+    ghost size = { pattern_size };
+
+    ghost use Rattle.hm_syntax.specs.Falls.OfPatterns.{pattern_smaller};
+
+    ghost size_decreases = { λ a h. pattern_smaller a.kind };
+}
+
+/// An expression (Report, section 3).
+#[derive(Drop)]
+#[cycle(exprs)]
+pub struct Expr {
+    pub kind: ExprKind,
+}
+
+/// The kinds of expressions. `x : y` is the constructor `:` applied to both.
+#[derive(Drop)]
+#[cycle(exprs)]
+pub enum ExprKind {
+    Var(Name),
+    Con(Name),
+    Literal(Literal),
+    Apply(Box<Expr>, Box<Expr>),
+    Lambda(Vec<Pat>, Box<Expr>),
+    Let(Vec<Decl>, Box<Expr>),
+    If(Box<Expr>, Box<Expr>, Box<Expr>),
+    Case(Box<Expr>, Vec<Alt>),
+    Tuple(Vec<Expr>),
+    List(Vec<Expr>),
+    /// An expression with its type, behind `::`.
+    Typed(Box<Expr>, TypeExpr),
+}
+
+/// An alternative of a `case` (Report, section 3.13).
+#[derive(Drop)]
+#[cycle(exprs)]
+pub struct Alt {
+    pub pat: Pat,
+    pub rhs: Rhs,
+}
+
+/// The right side of a clause or an alternative (Report, sections 3.13 and 4.4.3).
+#[derive(Drop)]
+#[cycle(exprs)]
+pub struct Rhs {
+    /// The expressions in order, each behind its guard, if it has one.
+    pub parts: Vec<(Option<Expr>, Expr)>,
+    /// The declarations behind `where`.
+    pub local: Vec<Decl>,
+}
+
+/// A declaration (Report, section 4).
+#[derive(Drop)]
+#[cycle(exprs)]
+pub struct Decl {
+    pub kind: DeclKind,
+}
+
+/// The kinds of declarations.
+#[derive(Drop)]
+#[cycle(exprs)]
+pub enum DeclKind {
+    /// A data type (section 4.2.1), which stands at the top of a module alone.
+    DataType {
+        name: Name,
+        params: Vec<Name>,
+        constrs: Vec<Constr>,
+    },
+    /// A renaming of a type by a constructor with one argument (section 4.2.3), at the top of a module alone.
+    Newtype {
+        name: Name,
+        params: Vec<Name>,
+        constr: Constr,
+    },
+    /// A type synonym (section 4.2.2), at the top of a module alone.
+    Synonym {
+        name: Name,
+        params: Vec<Name>,
+        ty: TypeExpr,
+    },
+    /// A type signature for these variables (section 4.4.1).
+    Signature {
+        names: Vec<Name>,
+        ty: TypeExpr,
+    },
+    /// One clause of a variable's binding (section 4.4.3.1). `x = e` is a clause without patterns.
+    Clause {
+        name: Name,
+        pats: Vec<Pat>,
+        rhs: Rhs,
+    },
+    /// A pattern binding (section 4.4.3.2), with the place of its first token. The pattern is no lone variable.
+    Pattern {
+        place: Place,
+        pat: Pat,
+        rhs: Rhs,
+    },
+}
+
+impl Model for Expr {
+    ghost use Rattle.hm_syntax.specs.Trees.{Expression};
+    ghost use Rattle.hm_syntax.specs.Codes.{coded_expression};
+
+    ghost Value = { Expression };
+
+    ghost coded = { coded_expression };
+
+    ghost use Rattle.hm_syntax.specs.Views.OfExpressions.{expression_of};
+
+    ghost view = { λ t. expression_of t.kind };
+
+    ghost use Rattle.hm_syntax.specs.Sizes.{expression_size};
+
+    ghost size = { expression_size };
+
+    ghost use Rattle.hm_syntax.specs.Falls.OfExpressions.{expression_smaller};
+
+    ghost size_decreases = { λ a h. expression_smaller a.kind };
+}
+
+impl Model for Alt {
+    ghost use Rattle.hm_syntax.specs.Trees.{Alternative, alternative};
+    ghost use Rattle.hm_syntax.specs.Codes.{coded_alternative};
+
+    ghost Value = { Alternative };
+
+    ghost coded = { coded_alternative };
+
+    ghost view = { λ a. alternative a.pat a.rhs };
+
+    ghost use Rattle.hm_syntax.specs.Sizes.{alternative_size};
+
+    ghost size = { alternative_size };
+
+    ghost use Rattle.std.proofs.Common.{arith};
+
+    ghost size_decreases = { λ a h. Prim.omega arith };
+}
+
+impl Model for Rhs {
+    ghost use Rattle.hm_syntax.specs.Trees.{RightSide, right_side};
+    ghost use Rattle.hm_syntax.specs.Codes.{coded_right_side};
+    ghost use Rattle.hm_syntax.specs.Lists.{bodies, declarations};
+
+    ghost Value = { RightSide };
+
+    ghost coded = { coded_right_side };
+
+    ghost view = { λ r. right_side (bodies r.parts.items) (declarations r.local.items) };
+
+    ghost use Rattle.hm_syntax.specs.Sizes.{right_side_size};
+
+    ghost size = { right_side_size };
+
+    ghost use Rattle.hm_syntax.specs.Falls.OfExpressions.{both_fall, bodies_fall, declarations_fall};
+
+    ghost size_decreases = { λ a h. both_fall _ _ _ _ (bodies_fall a.parts.items) (declarations_fall a.local.items) };
+}
+
+impl Model for Decl {
+    ghost use Rattle.hm_syntax.specs.Trees.{Declaration};
+    ghost use Rattle.hm_syntax.specs.Codes.{coded_declaration};
+
+    ghost Value = { Declaration };
+
+    ghost coded = { coded_declaration };
+
+    ghost use Rattle.hm_syntax.specs.Views.OfExpressions.{declaration_of};
+
+    ghost view = { λ d. declaration_of d.kind };
+
+    ghost use Rattle.hm_syntax.specs.Sizes.{declaration_size};
+
+    ghost size = { declaration_size };
+
+    ghost use Rattle.hm_syntax.specs.Falls.OfExpressions.{declaration_smaller};
+
+    ghost size_decreases = { λ a h. declaration_smaller a.kind };
+}
+
+/// Things in a row, which contracts see as a list.
+#[derive(Drop)]
+pub struct Row<T> {
+    pub items: Vec<T>,
+}
+
+impl<T> Model for Row<T> {
+    ghost use Rattle.std.specs.Prelude.{List};
+
+    ghost Value = { List T };
+
+    ghost view = { λ r. r.items.items };
+}
+
+/// A module (Report, section 5.1).
+#[derive(Drop)]
+pub struct Module {
+    pub header: Header,
+    pub decls: Row<Decl>,
+}
+
+/// What stands before a module's declarations.
+#[derive(Drop)]
+pub struct Header {
+    pub name: Name,
+    /// None where the module has no export list.
+    pub exports: Option<Row<Export>>,
+    pub imports: Row<Import>,
+}
+
+/// An item of an export list (Report, section 5.2).
+#[derive(Drop)]
+pub enum Export {
+    Var(Name),
+    /// A type, with some of its constructors.
+    Con(Name, Subs),
+    /// What `module` and a name export.
+    Whole(Name),
+}
+
+/// The constructors that are listed behind a type.
+#[derive(Drop)]
+pub enum Subs {
+    /// The name stands alone.
+    None,
+    /// `(..)`
+    All,
+    Some(Row<Name>),
+}
+
+/// An import declaration (Report, section 5.3).
+#[derive(Drop)]
+pub struct Import {
+    pub qualified: bool,
+    pub name: Name,
+    /// The name behind `as`.
+    pub alias: Option<Name>,
+    pub list: List,
+}
+
+/// Which of a module's exports are imported (Report, section 5.3.1).
+#[derive(Drop)]
+pub enum List {
+    Every,
+    Only(Row<Item>),
+    /// All but these.
+    Hiding(Row<Item>),
+}
+
+/// An item of an import list. Behind `hiding` a `Con` may be a constructor too.
+#[derive(Drop)]
+pub enum Item {
+    Var(Name),
+    Con(Name, Subs),
+}
+
+impl Name {
+    /// The text, without its qualifier.
+    pub fn as_str(&self) -> &str
+        ensures { result.now ≡ self.now.text }
+    {
+        self.text.as_str()
+    }
+}
+
+impl<T> Row<T> {
+    /// The elements in order.
+    pub fn as_slice(&self) -> &[T]
+        ensures { result.now ≡ self.now }
+    {
+        self.items.as_slice()
+    }
+}

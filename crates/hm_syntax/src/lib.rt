@@ -1,0 +1,9 @@
+//! The trees of Haskell 98 modules (Report, chapters 3, 4 and 5) and how contracts see them.
+#![tactic(auto)]
+
+mod ast;
+
+pub use crate::ast::{
+    Alt, Constr, Decl, DeclKind, Export, Expr, ExprKind, Header, Import, Item, List, Literal,
+    LiteralKind, Module, Name, Pat, PatKind, Rhs, Row, Subs, TypeExpr, TypeKind,
+};
