@@ -1,10 +1,11 @@
 -- Lists in order under a view of their elements.
-use Rattle.std.proofs.Common.{◌≡◌, ℕ, ◌+◌, ◌<◌, Bool, List, [], ◌∷◌, ◌++◌, length, map, take, get_or, arith, sym, ap, subst, ◌∙◌, inl, inr}
-use Rattle.std.proofs.lemmas.List.{get_or-map, length-map, map-append, take_more, length-append, get_or_append_left, get_or_at}
+use Rattle.std.proofs.Common.{◌≡◌, ℕ, ◌+◌, ◌<◌, ◌≤◌, Bool, List, [], ◌∷◌, ◌++◌, length, map, take, get_or, arith, sym, ap, subst, ◌∙◌, inl, inr}
+use Rattle.std.proofs.lemmas.List.{get_or-map, length-map, map-append, take_more, take_all, length-append, get_or_append_left, get_or_at}
 use Rattle.std.proofs.lemmas.Bool.{cases_lt}
 use Rattle.std.specs.List.Sorted.{IsSortedBy}
 use Rattle.hm_syntax.specs.declared.ast.Header.{Header}
-use Rattle.hm_graph.specs.Outline.{outline, outlines}
+use Rattle.std.specs.Borrow.{Bor}
+use Rattle.hm_graph.specs.Outline.{outline, outlines, lent_outlines}
 use Rattle.hm_syntax.specs.declared.ast.Import.{Import}
 use Rattle.hm_graph.specs.Closure.{one, more}
 use Rattle.hm_graph.specs.Imports.{Modules, ImportReaches, IsImportPlan, imports_at, name_at}
@@ -72,3 +73,16 @@ each_more {X} {B} f P xs new x m pushed long before here =
           subst (λ j. P j (get_or (map f xs ++ f x ∷ []) j d)) (sym same) (subst (P m) (sym (get_or_at (map f xs) (f x) [] d m long)) here)
     ] in
     (ap length mapped ∙ count, λ k d h. subst (λ l. P k (get_or l k d)) (sym mapped) (each k d (subst (λ l. k < length l) mapped h)))
+
+-- ---- headers that are lent
+
+pub lent_more : (headers : List Header) (lent new : List (Bor Header)) (header : Bor Header) (i : ℕ) → i < length headers → new ≡ lent ++ header ∷ [] → header.now ≡ get_or headers i header.now
+    → lent_outlines lent ≡ map outline (take i headers) → lent_outlines new ≡ map outline (take (i + 1) headers)
+lent_more headers lent new header i within pushed here before =
+    let last : outline header.now ≡ outline (get_or headers i header.now) = ap outline here in
+    let front : lent_outlines lent ++ outline header.now ∷ [] ≡ map outline (take i headers) ++ outline (get_or headers i header.now) ∷ [] = cc in
+    ap lent_outlines pushed ∙ map-append (λ h. outline h.now) lent (header ∷ []) ∙ front
+    ∙ sym (ap (map outline) (take_more headers i header.now within) ∙ map-append outline (take i headers) (get_or headers i header.now ∷ []))
+
+pub lent_all : (headers : List Header) (lent : List (Bor Header)) (i : ℕ) → length headers ≤ i → lent_outlines lent ≡ map outline (take i headers) → lent_outlines lent ≡ outlines headers
+lent_all headers lent i past so_far = so_far ∙ ap (map outline) (take_all i headers past)

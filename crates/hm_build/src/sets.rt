@@ -112,6 +112,20 @@ fn plan_fault(alloc: Global, headers: &[Header], fault: PlanFault) -> Result<Set
     })
 }
 
+/// The plan of the modules with these headers.
+#[tactic(auto, using(crate::proofs::Ordering::lent_more, crate::proofs::Ordering::lent_all))]
+fn plan_of(alloc: Global, headers: &[Header]) -> Result<Plan, PlanFault>
+    ensures lawful { OnOk result (IsLawful (outlines headers.now)) }
+    ensures refused { IfErr result (IsPlanRefusal (outlines headers.now)) }
+    ensures plan { IfOk result (IsImportPlan (outlines headers.now)) }
+{
+    let mut lent = Vec::new(alloc);
+    for header in headers {
+        lent.push(header)?;
+    }
+    hm_graph::import_plan(alloc, &lent)
+}
+
 /// The headers and the plan of a set of sources.
 pub(crate) fn set_plan(alloc: Global, sources: &[Vec<u8>]) -> Result<(Vec<Header>, Plan), SetError>
     ensures read { IfOk result (λ set. AreOutlinesOf (map (λ s. s.items) sources.now) (outlines set.0.items)) }
@@ -120,7 +134,7 @@ pub(crate) fn set_plan(alloc: Global, sources: &[Vec<u8>]) -> Result<(Vec<Header
     ensures err { IfErr result (λ e. IsPlanError (map (λ s. s.items) sources.now) e) }
 {
     let headers = set_headers(alloc, sources)?;
-    match hm_graph::import_plan(alloc, headers.as_slice()) {
+    match plan_of(alloc, headers.as_slice()) {
         Ok(plan) => Ok((headers, plan)),
         Err(PlanFault::Memory) => Err(SetError::Memory),
         Err(fault) => match plan_fault(alloc, headers.as_slice(), fault) {
