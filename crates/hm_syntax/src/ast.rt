@@ -1,4 +1,8 @@
-//! The trees of modules. Parentheses leave no trace in them. Contracts see a tree as a value of a family of `specs/Trees`.
+//! The trees of modules. Parentheses leave no trace in them. Contracts see a tree as a value of a family of
+//! `specs/Trees`: each recursive type is a struct around the enum of its kinds.
+//!
+//! The special constructors are names like others: `()`, `[]`, `:`, `(,)`, `(,,)` and so on, without a qualifier,
+//! at the place of their first token.
 ghost use Rattle.std.specs.Prelude.{◌≡◌};
 
 use hm_lex::Place;
@@ -9,6 +13,7 @@ use std::marker::Model;
 pub struct Name {
     /// What stands before the last dot; a module's name has none, and its whole text in `text`.
     pub qualifier: Option<String>,
+    /// What stands behind the last dot, or the whole.
     pub text: String,
     pub place: Place,
 }
@@ -33,6 +38,7 @@ pub struct Literal {
 pub enum LiteralKind {
     Integer(String),
     Character(String),
+    /// A string literal.
     Text(String),
 }
 
@@ -57,13 +63,17 @@ pub struct TypeExpr {
 #[derive(Drop)]
 #[cycle(types)]
 pub enum TypeKind {
+    /// A type variable.
     Var(Name),
     /// A type constructor with its arguments, as many as are written.
     Con(Name, Vec<TypeExpr>),
     /// A function type, from the first to the second.
     Arrow(Box<TypeExpr>, Box<TypeExpr>),
+    /// The type of tuples with these components, 2 to 15.
     Tuple(Vec<TypeExpr>),
+    /// The type of lists with elements of this type.
     List(Box<TypeExpr>),
+    /// The type `()`.
     Unit,
 }
 
@@ -118,13 +128,18 @@ pub struct Pat {
 #[derive(Drop)]
 #[cycle(pats)]
 pub enum PatKind {
+    /// A variable, which the pattern binds.
     Var(Name),
     /// A variable, and behind `@` the pattern that it stands for.
     Bound(Name, Box<Pat>),
+    /// A constructor with its arguments, as many as are written.
     Con(Name, Vec<Pat>),
     Literal(Literal),
+    /// `_`
     Wild,
+    /// A tuple with these components, 2 to 15.
     Tuple(Vec<Pat>),
+    /// A list with these elements, at least one: `[]` is a constructor.
     List(Vec<Pat>),
     /// A pattern behind `~`.
     Lazy(Box<Pat>),
@@ -165,12 +180,19 @@ pub enum ExprKind {
     Var(Name),
     Con(Name),
     Literal(Literal),
+    /// A function and one argument (section 3.3).
     Apply(Box<Expr>, Box<Expr>),
+    /// At least one pattern, and the body (section 3.3).
     Lambda(Vec<Pat>, Box<Expr>),
+    /// The declarations, and the expression behind `in` (section 3.12).
     Let(Vec<Decl>, Box<Expr>),
+    /// The condition, and what stands behind `then` and behind `else` (section 3.6).
     If(Box<Expr>, Box<Expr>, Box<Expr>),
+    /// The expression that is looked at, and at least one alternative (section 3.13).
     Case(Box<Expr>, Vec<Alt>),
+    /// A tuple with these components, 2 to 15 (section 3.8).
     Tuple(Vec<Expr>),
+    /// A list with these elements, at least one: `[]` is a constructor (section 3.7).
     List(Vec<Expr>),
     /// An expression with its type, behind `::`.
     Typed(Box<Expr>, TypeExpr),
@@ -188,9 +210,9 @@ pub struct Alt {
 #[derive(Drop)]
 #[cycle(exprs)]
 pub struct Rhs {
-    /// The expressions in order, each behind its guard, if it has one.
+    /// The expressions in order, at least one, each behind its guard: either one without a guard, or all with one.
     pub parts: Vec<(Option<Expr>, Expr)>,
-    /// The declarations behind `where`.
+    /// The declarations behind `where`, none where there is no `where`.
     pub local: Vec<Decl>,
 }
 
@@ -347,6 +369,7 @@ pub struct Module {
 /// What stands before a module's declarations.
 #[derive(Drop)]
 pub struct Header {
+    /// The module's name: its whole text, dots included, and no qualifier.
     pub name: Name,
     /// None where the module has no export list.
     pub exports: Option<Row<Export>>,
@@ -356,6 +379,7 @@ pub struct Header {
 /// An item of an export list (Report, section 5.2).
 #[derive(Drop)]
 pub enum Export {
+    /// A variable.
     Var(Name),
     /// A type, with some of its constructors.
     Con(Name, Subs),
@@ -370,13 +394,16 @@ pub enum Subs {
     None,
     /// `(..)`
     All,
+    /// These, perhaps none: `()`.
     Some(Row<Name>),
 }
 
 /// An import declaration (Report, section 5.3).
 #[derive(Drop)]
 pub struct Import {
+    /// Whether `qualified` stands before the name.
     pub qualified: bool,
+    /// The name of the imported module.
     pub name: Name,
     /// The name behind `as`.
     pub alias: Option<Name>,
@@ -386,7 +413,9 @@ pub struct Import {
 /// Which of a module's exports are imported (Report, section 5.3.1).
 #[derive(Drop)]
 pub enum List {
+    /// All, since there is no list.
     Every,
+    /// These alone.
     Only(Row<Item>),
     /// All but these.
     Hiding(Row<Item>),
@@ -395,7 +424,9 @@ pub enum List {
 /// An item of an import list. Behind `hiding` a `Con` may be a constructor too.
 #[derive(Drop)]
 pub enum Item {
+    /// A variable.
     Var(Name),
+    /// A type, with some of its constructors.
     Con(Name, Subs),
 }
 
