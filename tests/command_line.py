@@ -60,6 +60,11 @@ def main():
         runs = [(name, run(folder, row[0], row[1]), row[2:]) for name, row in ROWS.items()]
         with open("/dev/full", "wb") as full:
             runs.append(("a full device", run(folder, ["--plan"], A + B, stdout=full), (4, "", "hmc: write fault\n")))
+            runs.append(("help on a full device", run(folder, ["--help"], "", stdout=full), (4, "", "hmc: write fault\n")))
+        closed = lambda: os.close(1)
+        for name, words in (("a plan", ["--plan"]), ("help", ["--help"]), ("a plan of a file", ["--plan", "b.hs"])):
+            runs.append((name + " on a closed output", run(folder, words, B, before=closed), (4, "", "hmc: write fault\n")))
+        runs.append(("a word that is no text", run(folder, [b"--plan", b"\xff"], ""), (2, "", "hmc: invalid data\n")))
         limit = lambda: resource.setrlimit(resource.RLIMIT_AS, (SMALL, SMALL))
         runs.append(("no room for the stack", run(folder, ["--plan"], A + B, before=limit), (6, "", "hmc: no worker\n")))
         for name, ran, (status, out, err) in runs:

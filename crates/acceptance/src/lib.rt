@@ -10,6 +10,8 @@ mod grammar;
 #[cfg(test)]
 mod plans;
 #[cfg(test)]
+mod texts;
+#[cfg(test)]
 mod transfers;
 #[cfg(test)]
 mod tree_text;

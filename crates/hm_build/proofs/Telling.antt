@@ -1,13 +1,16 @@
 -- What readers tell, one reader after the other, and that a source that is held tells as much as the whole one.
 use Rattle.std.proofs.Common.{◌≡◌, ℕ, ◌+◌, ◌<◌, ◌≤◌, List, [], ◌∷◌, ◌++◌, Option, Some, IfSome, length, take, map, get_or, refl, sym, ap, subst, ◌∙◌, arith, inl, inr}
-use Rattle.std.proofs.lemmas.List.{take_more, map-append, take_all, length-take, length-map, get_or-set_other, length-set}
+use Rattle.std.proofs.lemmas.List.{take_more, map-append, take_all, length-take, length-map, get_or-set_other, get_or-set_same, length-set}
+use Rattle.std.proofs.lemmas.Bool.{cases_order}
 use Rattle.std.proofs.Math.ListN.{set}
 use Rattle.std.proofs.lemmas.List.Elements.{All-set}
 use Rattle.std.specs.Prelude.{All}
 use Rattle.hm_lex.specs.declared.token.LexFault.TheVariants as lexing
 use Rattle.hm_lex.specs.Faults.{AreTokensOf, IsRefusal}
 use Rattle.hm_graph.specs.Outline.{Outline}
-use Rattle.hm_build.specs.Sources.{Tell, held_of}
+use Rattle.hm_build.specs.Sources.{AreReadUp, IsReadUp, StopsAtFault, Tell, held_of}
+use Rattle.hm_build.specs.Watching.{HasReadFault}
+use Rattle.hm_build.specs.declared.watched.Watched.{Watched}
 use Rattle.hm_build.specs.Refusals.{Refusal, lex, parse, plan}
 use Rattle.hm_build.specs.Runs.{HasOutlines, AreOutlinesOf, IsSourceFault, FailsAtSource, FailsAtPlan, IsRefusalOf, IsPlanRun}
 use Rattle.hm_build.specs.declared.status.Status.{Status}
@@ -109,3 +112,28 @@ set_past xs ys i y h k d low high = get_or-set_other xs i k y d (λ e. omega ari
 -- a write of what holds keeps what holds of each
 pub all_set : {X : Type 0} (P : X → Type 0) (xs : List X) (i : ℕ) (y : X) → All P xs → P y → All P (set xs i y)
 all_set P xs i y h p = All-set P xs i y p h
+
+-- one more reader was read up
+pub read_up_more : {R : Type 0} (f : R → Option (List ℕ)) (olds news : List R) (i : ℕ) (y : R) → i < length news
+    → ((k : ℕ) (d : R) → k < i → IsReadUp (f (get_or olds k d)) (f (get_or news k d)))
+    → ((d : R) → IsReadUp (f (get_or olds i d)) (f y))
+    → (k : ℕ) (d : R) → k < i + 1 → IsReadUp (f (get_or olds k d)) (f (get_or (set news i y) k d))
+read_up_more f olds news i y within before last k d less = elim (cases_order k i) [
+  | inl same ↦ rw same (subst (λ z. IsReadUp (f (get_or olds i d)) (f z)) (sym (get_or-set_same news i y d within)) (last d))
+  | inr (inl below) ↦ subst (λ z. IsReadUp (f (get_or olds k d)) (f z)) (sym (get_or-set_other news i k y d (λ e. omega arith))) (before k d below)
+  | inr (inr above) ↦ absurd (omega arith)
+]
+
+-- reading stops at a reader with a fault
+pub stops_at : {R : Type 0} (f : Watched R → Option (List ℕ)) (olds news : List (Watched R)) (i : ℕ) (y : Watched R) → length news ≡ length olds → i < length olds
+    → ((k : ℕ) (d : Watched R) → k < i → IsReadUp (f (get_or olds k d)) (f (get_or news k d)))
+    → ((k : ℕ) (d : Watched R) → i ≤ k → k < length news → get_or news k d ≡ get_or olds k d)
+    → HasReadFault y → StopsAtFault f olds (set news i y)
+stops_at f olds news i y long within before past fault = record {
+  as_many = length-set news i y ∙ long;
+  place = i;
+  inside = within;
+  before = λ k d less. subst (λ z. IsReadUp (f (get_or olds k d)) (f z)) (sym (get_or-set_other news i k y d (λ e. omega arith))) (before k d less);
+  fault = λ d. subst HasReadFault (sym (get_or-set_same news i y d (omega (arith, long, within)))) fault;
+  behind = λ k d more inside. get_or-set_other news i k y d (λ e. omega arith) ∙ past k d (omega arith) (omega (arith, long, inside));
+}

@@ -1,8 +1,10 @@
 //! Laws of what a run prints. A law is a function with an empty body, whose contract is the law.
-ghost use Rattle.std.specs.Prelude.{◌≡◌, List, ℕ};
-ghost use Rattle.hm_build.specs.Runs.{IsPlanned};
+ghost use Rattle.hm_build.specs.Laws.{HasOnePlanText, HasOnePlanStatus, HasOneRefusal};
 
-/// The text of a plan is a function of the sources.
-pub fn one_plan_text()
-    ensures { (sources : List (List ℕ)) (text other : List ℕ) → IsPlanned sources text → IsPlanned sources other → text ≡ other }
+/// What a run of the plan prints is a function of the sources, but for the place of a syntax fault:
+/// they have one status, one text of their plan, and one refusal.
+pub fn one_plan_run()
+    ensures text { HasOnePlanText }
+    ensures status { HasOnePlanStatus }
+    ensures refusal { HasOneRefusal }
 {}

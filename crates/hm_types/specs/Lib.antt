@@ -1,9 +1,15 @@
 pub mod Types
 pub mod Monotypes
+pub mod Codes
 pub mod Shape
 pub mod Falls
 pub mod Substitution
 pub mod Schemes
+pub mod Synonyms
+pub mod Interfaces
+pub mod InterfaceTexts
+pub mod StandardPrelude
+pub mod Polish
 pub mod Matching
 pub mod Numbers
 pub mod Texts

@@ -5,7 +5,8 @@ use Rattle.hm_types.specs.declared.Head.{Head}
 use Rattle.hm_types.specs.declared.Head.TheVariants.{Named, Arrow, Tuple}
 use Rattle.hm_types.specs.declared.Head.TheVariants as head
 use Rattle.hm_types.specs.Types.{App as app, done as none, more, Var as leaf}
-use Rattle.hm_types.specs.Monotypes.{Mono, Monos, var, rigid, coded_mono, list_of}
+use Rattle.hm_types.specs.Monotypes.{Mono, Monos, var, rigid, list_of}
+use Rattle.hm_types.specs.Codes.{coded_mono}
 use Rattle.hm_types.specs.Substitution.{Substitution, substitute, occurs}
 
 -- a type with the variables below `vars` quantified
@@ -89,9 +90,10 @@ abbrev pub count_up : ℕ → ℕ → List ℕ
 count_up from zero = []
 count_up from (suc n) = from ∷ count_up (from + 1) n
 
--- a scheme that stands alone: no variable is free, each quantified one occurs, none is rigid
+-- a scheme that stands alone: its variables are 0, 1, 2 .., in order of first occurrence, none is free, each occurs, none is rigid
 pub record IsScheme (s : TypeScheme) : Type 0 where
   pub closed : (n : ℕ) → occurs n s.body ≡ true → n < s.vars
   pub used : (n : ℕ) → n < s.vars → occurs n s.body ≡ true
+  pub in_order : variables s.body ≡ count_up 0 s.vars
   pub not_rigid : HasNoRigid s.body
   pub arities : HasArities s.body

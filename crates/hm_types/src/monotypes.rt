@@ -3,7 +3,7 @@
 ghost use Rattle.std.specs.Prelude.{◌≡◌, ◌↔◌, IfOk, IsTrue};
 ghost use Rattle.hm_types.specs.Types.{App as app, done as none, more};
 ghost use Rattle.hm_types.specs.Shape.{type_of, types_of};
-ghost use Rattle.hm_types.specs.Substitution.{substitute, single, occurs};
+ghost use Rattle.hm_types.specs.Substitution.{listed, substitute, single, occurs};
 ghost use Rattle.hm_types.specs.declared.Head.TheVariants.{Arrow as arrow};
 
 use crate::Head;
@@ -29,7 +29,8 @@ pub struct Types {
 
 impl Model for Types {
     ghost use Rattle.std.specs.Prelude.{List, ◌+◌};
-    ghost use Rattle.hm_types.specs.Monotypes.{Mono, list_size, coded_monos};
+    ghost use Rattle.hm_types.specs.Monotypes.{Mono, list_size};
+    ghost use Rattle.hm_types.specs.Codes.{coded_monos};
 
     ghost Value = { List Mono };
 
@@ -116,6 +117,30 @@ impl Ty {
                 let mut replaced = Vec::new(alloc);
                 for argument in arguments.as_slice() {
                     replaced.push(argument.replace(alloc, variable, put)?)?;
+                }
+                Ok(Ty::App(head.copy()?, Types::new(replaced)))
+            }
+        }
+    }
+
+    /// The type with types put for its variables, each for the variable that is its place in the
+    /// list. Other variables stay as they are.
+    pub fn replace_all(&self, alloc: Global, types: &[Ty]) -> Result<Ty, AllocError>
+        ensures { IfOk result (λ t. type_of t ≡ substitute (listed (types_of types.now)) (type_of self.now)) }
+    {
+        match self {
+            Ty::Var(n) => {
+                if *n < types.len() {
+                    types[*n].copy(alloc)
+                } else {
+                    Ok(Ty::Var(*n))
+                }
+            }
+            Ty::Rigid(n) => Ok(Ty::Rigid(*n)),
+            Ty::App(head, arguments) => {
+                let mut replaced = Vec::new(alloc);
+                for argument in arguments.as_slice() {
+                    replaced.push(argument.replace_all(alloc, types)?)?;
                 }
                 Ok(Ty::App(head.copy()?, Types::new(replaced)))
             }

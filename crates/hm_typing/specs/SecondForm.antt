@@ -1,5 +1,5 @@
 -- A second form of the typing, which the proofs use: schemes are guessed, and a binding is typed at each instance of its scheme.
--- The clause forms_agree of the law typing_is_stable says that it is the typing of specs/Typing; nobody needs to believe it.
+-- The law typing_is_stable says that it agrees with the typing of specs/Typing; nobody needs to believe it.
 use Rattle.std.specs.Prelude.{◌≡◌, ℕ, suc, List, Bool, cond}
 use Rattle.hm_types.specs.Types.{put}
 use Rattle.hm_typing.specs.Names.{Identifier}

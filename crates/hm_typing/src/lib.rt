@@ -11,7 +11,7 @@ mod verdicts;
 
 pub use inference::{
     every_expression_is_answered, generalisation_may_keep_outer_variables, groups_are_an_order,
-    principal_or_none,
+    principal_or_none, unification_is_decided,
 };
 pub use modules::{good_modules_have_principal_assignments, principal_assignments_compose};
 pub use schemes::{programs_decide_generality, programs_unify_alike};
