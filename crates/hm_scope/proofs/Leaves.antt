@@ -1,0 +1,35 @@
+-- Texts among texts, and groups of local names.
+use Rattle.std.proofs.Common.{◌≡◌, ℕ, zero, suc, append_assoc, take_all, ◌+◌, ◌<◌, ◌≤◌, Bool, true, false, cond, ◌||◌, List, [], ◌∷◌, ◌++◌, drop, take, map, reverse, length, get_or, refl, sym, ap, ◌∙◌, subst, arith}
+use Rattle.std.proofs.lemmas.List.{reverse-append, take_more, map-append}
+use Rattle.hm_syntax.specs.Names.{Identifier}
+use Rattle.hm_scope.specs.declared.faults.Kind.{Kind}
+use Rattle.hm_scope.specs.declared.faults.Fault.{Fault}
+use Rattle.hm_scope.specs.Texts.{same_text, is_text_among}
+use Rattle.hm_scope.specs.Variables.{texts}
+use Rattle.hm_scope.specs.Faults.Phases.{fault}
+use Rattle.hm_scope.specs.Found.{Walking, noting, all_of, repeated}
+use Rattle.hm_scope.proofs.Rows.{unrolled, past, noting_more, noting_none}
+
+pub among_append : (x : List ℕ) (xs ys : List (List ℕ)) → is_text_among x (xs ++ ys) ≡ (is_text_among x xs || is_text_among x ys)
+among_append x [] ys = refl
+among_append x (y ∷ xs) ys = go (same_text x y) (among_append x xs ys)
+  where
+    go : (b : Bool) → is_text_among x (xs ++ ys) ≡ (is_text_among x xs || is_text_among x ys) → (b || is_text_among x (xs ++ ys)) ≡ ((b || is_text_among x xs) || is_text_among x ys)
+    go true e = refl
+    go false e = e
+
+pub or_swap : (a b : Bool) → (a || b) ≡ (b || a)
+or_swap true true = refl
+or_swap true false = refl
+or_swap false true = refl
+or_swap false false = refl
+
+pub or_nothing : (a : Bool) → (a || false) ≡ a
+or_nothing true = refl
+or_nothing false = refl
+
+-- Groups of local names
+
+pub all_append : (gs hs : List (List (List ℕ))) → all_of (gs ++ hs) ≡ all_of gs ++ all_of hs
+all_append [] hs = refl
+all_append (g ∷ gs) hs = ap (λ z. g ++ z) (all_append gs hs) ∙ sym (append_assoc g (all_of gs) (all_of hs))

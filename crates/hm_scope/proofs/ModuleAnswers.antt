@@ -1,0 +1,166 @@
+-- The answers of the phases, one after another.
+use Rattle.std.proofs.Common.{◌≡◌, ℕ, ◌<◌, ◌++◌, ◌∷◌, [], Bool, true, false, cond, List, map, filter, ◌⊎◌, inl, inr, ⊎_elim, ◌↔◌, refl, sym, ap, ◌∙◌, subst, Contains, Option, None, Some, arith}
+use Rattle.std.proofs.lemmas.List.Elements.{Contains-append_left, Contains-append_right, Contains-append_cases}
+use Rattle.std.proofs.lemmas.Bool.{cases_Bool}
+use Rattle.hm_types.specs.declared.Entity.{Entity}
+use Rattle.hm_types.specs.Interfaces.{Exports as Interface, AreOrdered}
+use Rattle.hm_syntax.specs.Trees.{Declaration}
+use Rattle.hm_syntax.specs.declared.ast.Module.{Module}
+use Rattle.hm_scope.specs.declared.faults.Fault.{Fault}
+use Rattle.hm_scope.specs.declared.cores.Exported.{Exported}
+use Rattle.hm_scope.specs.declared.namespace.Namespace.{Namespace}
+use Rattle.hm_scope.specs.declared.namespace.Namespace.TheVariants.{Types, Constructors, Values}
+use Rattle.hm_scope.specs.declared.exports.ModuleExports.{ModuleExports}
+use Rattle.hm_scope.specs.declared.scoping.Trees.{Trees}
+use Rattle.hm_scope.specs.Described.{TypeDescription, type_meant}
+use Rattle.hm_scope.specs.ModuleCores.{ModuleCore}
+use Rattle.hm_scope.specs.Cores.{IsCore, exports_in}
+use Rattle.hm_scope.specs.Exports.{IsExported}
+use Rattle.hm_scope.specs.Bindings.{Pair, IsScopeOf}
+use Rattle.hm_scope.specs.ExportedRows.{HaveOneEntity, IsBound}
+use Rattle.hm_scope.specs.ModuleExports.{AreExportsOf}
+use Rattle.hm_scope.specs.Walk.{Somewhere}
+use Rattle.hm_scope.specs.Resolved.{resolved, top, declaration_with}
+use Rattle.hm_scope.specs.Found.{Lookups, lookups_in, resolver_of}
+use Rattle.hm_scope.specs.KnownTables.{KnownTables, AreTablesOf, lookups_of}
+use Rattle.hm_scope.specs.NodeFaults.{NodeFault, AreLookupsOf}
+use Rattle.hm_scope.specs.Synonyms.{HasSynonymFault, AreResolved}
+use Rattle.hm_scope.specs.Faults.Phases.{Phase, Importing, Declaring, Exporting, Naming, Counting, phase_number, HasFault, IsWellFormed, AreFaults}
+use Rattle.hm_scope.specs.Answers.{AreExact, IsPhaseAnswer, is_of_lists, is_of_names, is_of_numbers, AreResolvedTrees, AreTrees, IsResolvedModule, AreExportedRows}
+use Rattle.hm_scope.proofs.Members.{none_in, cases, first, rest}
+use Rattle.hm_scope.proofs.OneEntity.{one_entity, bound_is_exported}
+use Rattle.hm_scope.proofs.Resolves.{resolves}
+use Rattle.hm_scope.proofs.TreePhases.{declaring, naming, counting}
+
+-- The rows of a core
+
+pub rows_of : (given : List Pair) (c : ModuleCore) → ((x : List ℕ) (e : Entity) → Contains c.exported_types (record { name = x; entity = e }) ↔ IsBound given Types x e) → AreOrdered (map (λ r. r.name) c.exported_types)
+    → ((x : List ℕ) (e : Entity) → Contains c.exported_constructors (record { name = x; entity = e }) ↔ IsBound given Constructors x e) → AreOrdered (map (λ r. r.name) c.exported_constructors)
+    → ((x : List ℕ) (e : Entity) → Contains c.exported_values (record { name = x; entity = e }) ↔ IsBound given Values x e) → AreOrdered (map (λ r. r.name) c.exported_values) → AreExportedRows given c
+rows_of given c t to k ko v vo = record { exact = exact; ordered = ordered }
+  where
+    exact : (s : Namespace) (x : List ℕ) (e : Entity) → Contains (exports_in c s) (record { name = x; entity = e }) ↔ IsBound given s x e
+    exact Types x e = t x e
+    exact Constructors x e = k x e
+    exact Values x e = v x e
+
+    ordered : (s : Namespace) → AreOrdered (map (λ (r : Exported). r.name) (exports_in c s))
+    ordered Types = to
+    ordered Constructors = ko
+    ordered Values = vo
+
+pub core_is : (m : Module) (fs : List Interface) (ds : List Declaration) (given : List Pair) (c : ModuleCore) → IsResolvedModule m fs ds given → c.name ≡ m.header.name.text → c.decls ≡ ds → c.interfaces ≡ fs → AreExportedRows given c → IsCore m fs c
+core_is m fs ds given c is name decls interfaces rows = record {
+  well_formed = is.well_formed;
+  name = name;
+  interfaces = interfaces;
+  resolver = is.are_resolved.resolver;
+  resolves = is.are_resolved.resolves;
+  trees = decls ∙ is.are_resolved.trees;
+  exports = λ s x e. (λ h. (is.exact s x e).0 ((rows.exact s x e).0 h), λ h. (rows.exact s x e).1 ((is.exact s x e).1 h));
+  ordered = rows.ordered;
+}
+
+-- The faults of the trees
+
+filtered : (p : Fault → Bool) (fs : List Fault) (f : Fault) → Contains (filter p fs) f ↔ (Contains fs f × (p f ≡ true))
+filtered p [] f = (λ c. absurd (none_in f c), λ h. absurd (none_in f h.0))
+filtered p (g ∷ gs) f = go (p g) refl (filtered p gs f)
+  where
+    go : (b : Bool) → p g ≡ b → (Contains (filter p gs) f ↔ (Contains gs f × (p f ≡ true))) → Contains (cond b (g ∷ filter p gs) (filter p gs)) f ↔ (Contains (g ∷ gs) f × (p f ≡ true))
+    go true e h = (
+      λ c. ⊎_elim (λ q. (subst (λ z. Contains (g ∷ gs) z) (sym q) (first g gs), ap p q ∙ e)) (λ o. let k = h.0 o in (rest g gs f k.0, k.1)) (cases g (filter p gs) f c),
+      λ k. ⊎_elim (λ q. subst (λ z. Contains (g ∷ filter p gs) z) (sym q) (first g (filter p gs))) (λ o. rest g (filter p gs) f (h.1 (o, k.1))) (cases g gs f k.0),
+    )
+    go false e h = (
+      λ c. let k = h.0 c in (rest g gs f k.0, k.1),
+      λ k. ⊎_elim (λ q. absurd (let z : true ≡ false = sym k.1 ∙ (ap p q ∙ e) in cc)) (λ o. h.1 (o, k.1)) (cases g gs f k.0),
+    )
+
+pub are_trees : (m : Module) (fs : List Interface) (pairs : List Pair) (start tables : KnownTables) (trees : Trees) (walked recursive : List Fault) → IsScopeOf m fs pairs → AreTablesOf m fs start → tables.types ≡ start.types → tables.constructors ≡ start.constructors
+    → (IsWellFormed m fs → AreResolved m fs (lookups_of pairs tables))
+    → ((gs : List Interface) → AreLookupsOf m gs (lookups_of pairs tables) → (f : Fault) → Contains walked f ↔ Somewhere m (NodeFault m gs f))
+    → trees.decls.items ≡ map (declaration_with (resolver_of (lookups_of pairs tables)) (top m) []) m.decls
+    → trees.lists.items ≡ filter is_of_lists walked → trees.names.items ≡ filter is_of_names walked → trees.numbers.items ≡ filter is_of_numbers walked ++ recursive
+    → ((f : Fault) → Contains recursive f ↔ HasSynonymFault m fs f) → AreTrees m fs trees
+are_trees m fs pairs start tables trees walked recursive scope known types constructors finished noted decls lists names numbers cycles = record {
+  lists = λ f. part is_of_lists trees.lists.items lists f (declaring m fs f);
+  names = λ f. part is_of_names trees.names.items names f (naming m fs f);
+  numbers = λ f. (
+    λ c. (counting m fs f).0 (⊎_elim (λ l. let k = (filtered is_of_numbers walked f).0 l in inl ((found f).0 k.0, k.1)) (λ r. inr ((cycles f).0 r)) (Contains-append_cases (filter is_of_numbers walked) recursive f (subst (λ l. Contains l f) numbers c))),
+    λ h. subst (λ l. Contains l f) (sym numbers) (⊎_elim (λ l. Contains-append_left (filter is_of_numbers walked) recursive f ((filtered is_of_numbers walked f).1 ((found f).1 l.0, l.1))) (λ r. Contains-append_right (filter is_of_numbers walked) recursive f ((cycles f).1 r)) ((counting m fs f).1 h)),
+  );
+  are_resolved = λ w. record { resolver = resolver_of k; resolves = resolves m fs k looked (finished w); trees = decls };
+}
+  where
+    k : Lookups
+    k = lookups_of pairs tables
+
+    looked : AreLookupsOf m fs (lookups_of pairs tables)
+    looked = record {
+      scope = scope;
+      types = λ e. ap (λ l. Rattle.hm_scope.specs.Found.arity_among l e) types ∙ known.types.arities e;
+      constructors = λ e. ap (λ l. Rattle.hm_scope.specs.Found.arity_among l e) constructors ∙ known.constructors.arities e;
+    }
+
+    found : (f : Fault) → Contains walked f ↔ Somewhere m (NodeFault m fs f)
+    found f = noted fs looked f
+
+    part : (p : Fault → Bool) (l : List Fault) → l ≡ filter p walked → (f : Fault) → {H : Type 0} → (Somewhere m (NodeFault m fs f) × (p f ≡ true)) ↔ H → Contains l f ↔ H
+    part p l is f says = (
+      λ c. let k = (filtered p walked f).0 (subst (λ z. Contains z f) is c) in says.0 ((found f).0 k.0, k.1),
+      λ h. let k = says.1 h in subst (λ z. Contains z f) (sym is) ((filtered p walked f).1 ((found f).1 k.0, k.1)),
+    )
+
+-- The phases
+
+pub well_formed : (m : Module) (fs : List Interface) → ((f : Fault) → ¬ HasFault m fs Importing f) → ((f : Fault) → ¬ HasFault m fs Declaring f) → ((f : Fault) → ¬ HasFault m fs Exporting f) → ((f : Fault) → ¬ HasFault m fs Naming f) → ((f : Fault) → ¬ HasFault m fs Counting f) → IsWellFormed m fs
+well_formed m fs i d e n c Importing = i
+well_formed m fs i d e n c Declaring = d
+well_formed m fs i d e n c Exporting = e
+well_formed m fs i d e n c Naming = n
+well_formed m fs i d e n c Counting = c
+
+pub before_importing : (m : Module) (fs : List Interface) (q : Phase) → phase_number q < phase_number Importing → (f : Fault) → ¬ HasFault m fs q f
+before_importing m fs Importing h = absurd (omega (arith, h))
+before_importing m fs Declaring h = absurd (omega (arith, h))
+before_importing m fs Exporting h = absurd (omega (arith, h))
+before_importing m fs Naming h = absurd (omega (arith, h))
+before_importing m fs Counting h = absurd (omega (arith, h))
+
+pub before_declaring : (m : Module) (fs : List Interface) → ((f : Fault) → ¬ HasFault m fs Importing f) → (q : Phase) → phase_number q < phase_number Declaring → (f : Fault) → ¬ HasFault m fs q f
+before_declaring m fs i Importing h = i
+before_declaring m fs i Declaring h = absurd (omega (arith, h))
+before_declaring m fs i Exporting h = absurd (omega (arith, h))
+before_declaring m fs i Naming h = absurd (omega (arith, h))
+before_declaring m fs i Counting h = absurd (omega (arith, h))
+
+pub before_exporting : (m : Module) (fs : List Interface) → ((f : Fault) → ¬ HasFault m fs Importing f) → ((f : Fault) → ¬ HasFault m fs Declaring f) → (q : Phase) → phase_number q < phase_number Exporting → (f : Fault) → ¬ HasFault m fs q f
+before_exporting m fs i d Importing h = i
+before_exporting m fs i d Declaring h = d
+before_exporting m fs i d Exporting h = absurd (omega (arith, h))
+before_exporting m fs i d Naming h = absurd (omega (arith, h))
+before_exporting m fs i d Counting h = absurd (omega (arith, h))
+
+pub before_naming : (m : Module) (fs : List Interface) → ((f : Fault) → ¬ HasFault m fs Importing f) → ((f : Fault) → ¬ HasFault m fs Declaring f) → ((f : Fault) → ¬ HasFault m fs Exporting f) → (q : Phase) → phase_number q < phase_number Naming → (f : Fault) → ¬ HasFault m fs q f
+before_naming m fs i d e Importing h = i
+before_naming m fs i d e Declaring h = d
+before_naming m fs i d e Exporting h = e
+before_naming m fs i d e Naming h = absurd (omega (arith, h))
+before_naming m fs i d e Counting h = absurd (omega (arith, h))
+
+pub before_counting : (m : Module) (fs : List Interface) → ((f : Fault) → ¬ HasFault m fs Importing f) → ((f : Fault) → ¬ HasFault m fs Declaring f) → ((f : Fault) → ¬ HasFault m fs Exporting f) → ((f : Fault) → ¬ HasFault m fs Naming f) → (q : Phase) → phase_number q < phase_number Counting → (f : Fault) → ¬ HasFault m fs q f
+before_counting m fs i d e n Importing h = i
+before_counting m fs i d e n Declaring h = d
+before_counting m fs i d e n Exporting h = e
+before_counting m fs i d e n Naming h = n
+before_counting m fs i d e n Counting h = absurd (omega (arith, h))
+
+pub resolved_module : (m : Module) (fs : List Interface) (trees : Trees) (exports : ModuleExports) → AreTrees m fs trees → AreExportsOf m fs exports → ((f : Fault) → ¬ HasFault m fs Importing f) → ((f : Fault) → ¬ HasFault m fs Declaring f) → ((f : Fault) → ¬ HasFault m fs Exporting f) → ((f : Fault) → ¬ HasFault m fs Naming f) → ((f : Fault) → ¬ HasFault m fs Counting f)
+    → IsResolvedModule m fs trees.decls.items exports.given.items
+resolved_module m fs trees exports are given i d e n c = let w = well_formed m fs i d e n c in record {
+  well_formed = w;
+  are_resolved = are.are_resolved w;
+  one_entity = one_entity m fs exports given e;
+  exact = bound_is_exported m fs exports given;
+}

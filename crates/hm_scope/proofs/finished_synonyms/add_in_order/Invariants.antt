@@ -1,0 +1,15 @@
+use Rattle.std.proofs.Common.{◌≡◌, List, take}
+use Rattle.hm_types.specs.Interfaces.{Exports as Interface}
+use Rattle.hm_syntax.specs.declared.ast.Module.{Module}
+use Rattle.hm_scope.specs.Bindings.{IsScopeOf}
+use Rattle.hm_scope.specs.Resolved.{Resolver}
+use Rattle.hm_scope.specs.Synonyms.{IsExpandable, Finishes}
+use Rattle.hm_scope.proofs.finished_synonyms.add_in_order.Given as goal
+
+abbrev pub invariant-order : goal.invariant-order
+invariant-order l = record {
+  types : l.tables.types ≡ l.initial.tables.types;
+  constructors : l.tables.constructors ≡ l.initial.tables.constructors;
+  finished : (m : Module) (fs : List Interface) (r : Resolver) → IsScopeOf m fs l.scope → l.home ≡ m.header.name.text → IsExpandable m fs r l.declared l.order l.initial.tables.synonyms
+      → Finishes r l.home l.declared (take l.number-index l.order) l.initial.tables.synonyms l.tables.synonyms;
+}

@@ -1,0 +1,25 @@
+use Rattle.std.proofs.Common.{◌≡◌, ◌++◌, ◌∷◌, [], ◌∙◌, sym, ap, refl, subst, map, take, List, ℕ, Bor}
+use Rattle.hm_types.specs.declared.Entity.{Entity}
+use Rattle.hm_types.specs.declared.entries.TypeEntry.{TypeEntry}
+use Rattle.hm_types.specs.declared.entries.SynonymEntry.{SynonymEntry}
+use Rattle.hm_types.specs.declared.entries.ConstructorEntry.{ConstructorEntry}
+use Rattle.hm_types.specs.declared.entries.ValueEntry.{ValueEntry}
+use Rattle.hm_types.specs.Interfaces.{Exports as Interface}
+use Rattle.hm_syntax.specs.Trees.{Declaration, DataConstructor}
+use Rattle.hm_syntax.specs.Views.OfExpressions.{declaration_of}
+use Rattle.hm_scope.specs.Described.{TypeDescription, TypeMeaning, declared_types, imported_types}
+use Rattle.hm_scope.specs.KnownExports.{KnowsTypes, KnowsConstructors, KnowsValues, ConstructorSource, declared, imported, source_entity, source_of, meaning_of, declared_sources, imported_sources}
+use Rattle.hm_scope.specs.declared.known_exports.KnownType.{KnownType}
+use Rattle.hm_scope.specs.declared.known_exports.KnownConstructor.{KnownConstructor}
+use Rattle.hm_scope.proofs.FirstTables.{noted, nothing_known, more_described, none_described, all_described, joined_types, joined_sources, joined_interfaces, joined_imports, joined_values, joined_map, joined_same, type_of_entry, synonym_of_entry, types_of_all, types_of_one, sources_of_all, sources_of_one, values_of_all, values_of_one, sources_of_data}
+use Rattle.hm_scope.proofs.known_exports.note_constructors.Goals as goal
+
+pub loop-constr-init : goal.loop-constr-init
+loop-constr-init c = λ ds h. none_described (source_entity c.args.home.now) (λ (d : ConstructorSource). d) source_of (map (declared c.args.name.now c.args.params.now)) (λ (k : DataConstructor). declared c.args.name.now c.args.params.now k ∷ []) (joined_map (declared c.args.name.now c.args.params.now)) refl ds c.args.constrs.now c.args.constructors.now h
+
+pub loop-constr-preserved : goal.loop-constr-preserved
+loop-constr-preserved c = λ ds h. more_described (source_entity c.args.home.now) (λ (d : ConstructorSource). d) source_of (map (declared c.args.name.now c.args.params.now)) (λ (k : DataConstructor). declared c.args.name.now c.args.params.now k ∷ []) (joined_map (declared c.args.name.now c.args.params.now)) refl ds c.args.constrs.now c.loop-constr.constr-index c.constr-item.result c.note.new.table c.loop-constr-test.true c.constr-item.is
+    (noted (source_entity c.args.home.now) (λ (d : ConstructorSource). d) source_of _ (declared c.args.name.now c.args.params.now c.constr-item.result) c.loop-constr.constructors c.note.new.table c.own_key.result _ (c.own_key.ensures ∙ ap (λ (k : DataConstructor). source_entity c.args.home.now (declared c.args.name.now c.args.params.now k)) c.constr.view_is) refl (c.loop-constr.invariant ds h) c.in_ok-note.ensures)
+
+pub returns : goal.returns
+returns c = λ ds h. all_described (source_entity c.args.home.now) (λ (d : ConstructorSource). d) source_of (map (declared c.args.name.now c.args.params.now)) (λ (k : DataConstructor). declared c.args.name.now c.args.params.now k ∷ []) (joined_map (declared c.args.name.now c.args.params.now)) refl ds c.args.constrs.now c.loop-constr.constr-index c.loop-constr.constructors c.loop-constr-test.false (c.loop-constr.invariant ds h)

@@ -1,0 +1,25 @@
+use Rattle.std.proofs.Common.{◌≡◌, ◌++◌, ◌∷◌, [], ◌∙◌, sym, ap, refl, subst, map, take, List, ℕ, Bor}
+use Rattle.hm_types.specs.declared.Entity.{Entity}
+use Rattle.hm_types.specs.declared.entries.TypeEntry.{TypeEntry}
+use Rattle.hm_types.specs.declared.entries.SynonymEntry.{SynonymEntry}
+use Rattle.hm_types.specs.declared.entries.ConstructorEntry.{ConstructorEntry}
+use Rattle.hm_types.specs.declared.entries.ValueEntry.{ValueEntry}
+use Rattle.hm_types.specs.Interfaces.{Exports as Interface}
+use Rattle.hm_syntax.specs.Trees.{Declaration, DataConstructor}
+use Rattle.hm_syntax.specs.Views.OfExpressions.{declaration_of}
+use Rattle.hm_scope.specs.Described.{TypeDescription, TypeMeaning, declared_types, imported_types}
+use Rattle.hm_scope.specs.KnownExports.{KnowsTypes, KnowsConstructors, KnowsValues, ConstructorSource, declared, imported, source_entity, source_of, meaning_of, declared_sources, imported_sources}
+use Rattle.hm_scope.specs.declared.known_exports.KnownType.{KnownType}
+use Rattle.hm_scope.specs.declared.known_exports.KnownConstructor.{KnownConstructor}
+use Rattle.hm_scope.proofs.FirstTables.{noted, nothing_known, more_described, none_described, all_described, joined_types, joined_sources, joined_interfaces, joined_imports, joined_values, joined_map, joined_same, type_of_entry, synonym_of_entry, types_of_all, types_of_one, sources_of_all, sources_of_one, values_of_all, values_of_one, sources_of_data}
+use Rattle.hm_scope.proofs.known_exports.note_types.Goals as goal
+
+pub loop-decl-init : goal.loop-decl-init
+loop-decl-init c = λ ds h. none_described (λ (d : TypeDescription). d.entity) (λ (d : TypeDescription). d.meaning) meaning_of (declared_types c.args.home.now) (λ (d : Declaration). declared_types c.args.home.now (d ∷ [])) (joined_types c.args.home.now) refl ds c.args.decls.now c.args.types.now h
+
+pub loop-decl-preserved : goal.loop-decl-preserved
+loop-decl-preserved c = λ ds h. more_described (λ (d : TypeDescription). d.entity) (λ (d : TypeDescription). d.meaning) meaning_of (declared_types c.args.home.now) (λ (d : Declaration). declared_types c.args.home.now (d ∷ [])) (joined_types c.args.home.now) refl ds c.args.decls.now c.loop-decl.decl-index c.decl-item.result c.note_type.new.types c.loop-decl-test.true c.decl-item.is
+    (c.in_ok-note_type.ensures _ (c.loop-decl.invariant ds h))
+
+pub returns : goal.returns
+returns c = λ ds h. all_described (λ (d : TypeDescription). d.entity) (λ (d : TypeDescription). d.meaning) meaning_of (declared_types c.args.home.now) (λ (d : Declaration). declared_types c.args.home.now (d ∷ [])) (joined_types c.args.home.now) refl ds c.args.decls.now c.loop-decl.decl-index c.loop-decl.types c.loop-decl-test.false (c.loop-decl.invariant ds h)

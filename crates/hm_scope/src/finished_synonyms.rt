@@ -1,0 +1,162 @@
+//! A module's own synonyms, each with its right side resolved and expanded (Report, section 4.2.2).
+
+ghost use Rattle.std.specs.Prelude.{◌≡◌, ◌↔◌, ◌<◌, ◌≤◌, slice_index_or, ℕ, List, [], IfOk, OnOk, Some, IsTrue, true, false, length};
+ghost use Rattle.hm_types.specs.Interfaces.{Exports as Interface};
+ghost use Rattle.hm_types.specs.declared.Entity.{Entity};
+ghost use Rattle.hm_syntax.specs.declared.ast.Module.{Module};
+ghost use Rattle.hm_scope.specs.Bindings.{IsScopeOf};
+ghost use Rattle.hm_scope.specs.declared.own_synonyms.OwnSynonym.{OwnSynonym};
+ghost use Rattle.hm_syntax.specs.Names.{Identifier};
+ghost use Rattle.hm_scope.specs.Entities.{named};
+ghost use Rattle.hm_scope.specs.Faults.Lists.{Repeats};
+ghost use Rattle.hm_scope.specs.Faults.Phases.{IsWellFormed};
+ghost use Rattle.hm_scope.specs.Found.{resolver_of, synonym_among};
+ghost use Rattle.hm_scope.specs.KnownTables.{AreTablesOf, lookups_of};
+ghost use Rattle.hm_scope.specs.Resolved.{Resolver, type_with};
+ghost use Rattle.hm_scope.specs.Synonyms.{AreAmong, AreOwnSynonyms, IsReferenceGraph, IsSound, IsExpandable, Finishes, AreResolved};
+ghost use Rattle.hm_scope.specs.Texts.{same_entity};
+ghost use Rattle.hm_scope.specs.Types.{synonym_of};
+ghost use Rattle.hm_scope.specs.Variables.{texts, type_variables};
+
+use crate::monotypes::monotype;
+use crate::own_synonyms::{OwnSynonym, OwnSynonyms};
+use crate::resolving::Resolving;
+use crate::synonym_graph::SynonymGraph;
+use crate::table::Scope;
+use crate::tables::Tables;
+use crate::type_variables::TypeVariables;
+use crate::variables::{LentNames, add_type};
+use hm_syntax::{Module, Name, TypeExpr};
+use hm_types::Synonym;
+use std::alloc::{AllocError, Global};
+
+/// The parameters of a declaration, as type variables.
+pub fn parameters_of<'a>(alloc: Global, params: &'a [Name]) -> Result<TypeVariables<'a>, AllocError>
+    ensures { IfOk result (λ set. ((n : Identifier) → ¬ Repeats params.now n) → set ≡ texts params.now) }
+{
+    let mut names = LentNames::new(alloc);
+    'params: for param in params {
+        names.push(param)?;
+    }
+    Ok(TypeVariables::of(alloc, &names)?)
+}
+
+/// Whether each variable of a type is one of these.
+fn is_closed(
+    alloc: Global,
+    variables: &TypeVariables<'_>,
+    ty: &TypeExpr,
+) -> Result<bool, AllocError>
+    ensures { IfOk result (λ closed. IsTrue closed ↔ AreAmong variables.now (type_variables ty.now)) }
+{
+    let mut used = LentNames::new(alloc);
+    add_type(&mut used, ty)?;
+    'used: for name in used.as_slice() {
+        if !variables.contains(name.as_str()) {
+            return Ok(false);
+        }
+    }
+    Ok(true)
+}
+
+/// A synonym with its right side resolved and expanded, if all its variables are parameters.
+fn finished(
+    alloc: Global,
+    scope: &Scope<'_>,
+    tables: &Tables<'_>,
+    params: &[Name],
+    ty: &TypeExpr,
+) -> Result<Option<Synonym>, AllocError>
+    ensures { IfOk result (λ synonym. IsSound params.now ty.now → synonym ≡ Some (synonym_of params.now (type_with (resolver_of (lookups_of scope.now tables.now)) ty.now))) }
+{
+    let variables = parameters_of(alloc, params)?;
+    if !is_closed(alloc, &variables, ty)? {
+        return Ok(None);
+    }
+    let mut resolving = Resolving::new(alloc, scope, tables);
+    let resolved = resolving.type_expr(alloc, ty)?;
+    let body = monotype(alloc, &variables, &resolved)?;
+    Ok(Some(Synonym::new(variables.len(), body)))
+}
+
+/// Adds a synonym whose right side has only synonyms that stand in the tables.
+fn add_finished<'a>(
+    alloc: Global,
+    tables: &mut Tables<'a>,
+    scope: &Scope<'_>,
+    home: &'a str,
+    synonym: &OwnSynonym<'a>,
+) -> Result<(), AllocError>
+    ensures types { OnOk result (tables.new.types ≡ tables.old.types) }
+    ensures constructors { OnOk result (tables.new.constructors ≡ tables.old.constructors) }
+    ensures others { OnOk result ((e : Entity) → same_entity e (named home.now synonym.now.name.now.text) ≡ false → synonym_among tables.new.synonyms e ≡ synonym_among tables.old.synonyms e) }
+    ensures synonym { OnOk result (IsSound synonym.now.params.now synonym.now.ty.now → (e : Entity) → same_entity e (named home.now synonym.now.name.now.text) ≡ true →
+        synonym_among tables.new.synonyms e ≡ Some (synonym_of synonym.now.params.now (type_with (resolver_of (lookups_of scope.now tables.old)) synonym.now.ty.now))) }
+{
+    match finished(alloc, scope, tables, synonym.params, synonym.ty)? {
+        None => Ok(()),
+        Some(finished) => Ok(tables.add_synonym(home, synonym.name.as_str(), finished)?),
+    }
+}
+
+/// Adds the synonym of this number, if there is one.
+fn add_numbered<'a>(
+    alloc: Global,
+    tables: &mut Tables<'a>,
+    scope: &Scope<'_>,
+    home: &'a str,
+    declared: &[OwnSynonym<'a>],
+    number: usize,
+) -> Result<(), AllocError>
+    ensures types { OnOk result (tables.new.types ≡ tables.old.types) }
+    ensures constructors { OnOk result (tables.new.constructors ≡ tables.old.constructors) }
+    ensures none { OnOk result (length declared.now ≤ number → tables.new.synonyms ≡ tables.old.synonyms) }
+    ensures others { OnOk result ((d : OwnSynonym) → number < length declared.now → (e : Entity) → same_entity e (named home.now (slice_index_or declared.now number d).name.now.text) ≡ false → synonym_among tables.new.synonyms e ≡ synonym_among tables.old.synonyms e) }
+    ensures synonym { OnOk result ((d : OwnSynonym) → number < length declared.now → IsSound (slice_index_or declared.now number d).params.now (slice_index_or declared.now number d).ty.now →
+        (e : Entity) → same_entity e (named home.now (slice_index_or declared.now number d).name.now.text) ≡ true →
+        synonym_among tables.new.synonyms e ≡ Some (synonym_of (slice_index_or declared.now number d).params.now (type_with (resolver_of (lookups_of scope.now tables.old)) (slice_index_or declared.now number d).ty.now))) }
+{
+    if number < declared.len() {
+        return Ok(add_finished(alloc, tables, scope, home, &declared[number])?);
+    }
+    Ok(())
+}
+
+/// Adds the synonyms of these numbers.
+fn add_in_order<'a>(
+    alloc: Global,
+    tables: &mut Tables<'a>,
+    scope: &Scope<'_>,
+    home: &'a str,
+    declared: &[OwnSynonym<'a>],
+    order: &[usize],
+) -> Result<(), AllocError>
+    ensures types { OnOk result (tables.new.types ≡ tables.old.types) }
+    ensures constructors { OnOk result (tables.new.constructors ≡ tables.old.constructors) }
+    ensures finished { OnOk result ((m : Module) (fs : List Interface) (r : Resolver) → IsScopeOf m fs scope.now → home.now ≡ m.header.name.text → IsExpandable m fs r declared.now order.now tables.old.synonyms → Finishes r home.now declared.now order.now tables.old.synonyms tables.new.synonyms) }
+{
+    'order: for number in order {
+        add_numbered(alloc, tables, scope, home, declared, *number)?;
+    }
+    Ok(())
+}
+
+/// Adds the synonyms of a module, each after those that its right side names. Those of a module with faults may be left out.
+pub fn add_synonyms<'a>(
+    alloc: Global,
+    tables: &mut Tables<'a>,
+    scope: &Scope<'_>,
+    program: &'a Module,
+    synonyms: &OwnSynonyms<'a>,
+    graph: &SynonymGraph,
+) -> Result<(), AllocError>
+    requires { length graph.now ≡ length synonyms.now.names }
+    ensures types { OnOk result (tables.new.types ≡ tables.old.types) }
+    ensures constructors { OnOk result (tables.new.constructors ≡ tables.old.constructors) }
+    ensures synonyms { OnOk result ((fs : List Interface) → IsScopeOf program.now fs scope.now → AreTablesOf program.now fs tables.old → AreOwnSynonyms program.now.decls synonyms.now → IsReferenceGraph program.now fs synonyms.now.names graph.now
+        → IsWellFormed program.now fs → AreResolved program.now fs (lookups_of scope.now tables.new)) }
+{
+    let order = graph.order(alloc)?;
+    let home = program.header.name.as_str();
+    Ok(add_in_order(alloc, tables, scope, home, &synonyms.declared, &order)?)
+}
