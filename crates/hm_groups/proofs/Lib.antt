@@ -1,0 +1,16 @@
+pub mod Numberings
+pub mod Walking
+pub mod Rows
+pub mod Signatures
+pub mod NodeLists
+pub mod EdgeLists
+pub mod Mentioned
+pub mod Named
+pub mod Grouped
+pub mod Reached
+pub mod Related
+pub mod ByDeclarations
+pub mod Distinct
+pub mod Belonging
+pub mod MemberLists
+pub mod Owned

@@ -1,0 +1,42 @@
+-- Keys of tables as variables. No public clause names it.
+use Rattle.std.specs.Prelude.{◌≡◌, List, ℕ, Bool, true, false, ◌&&◌, Option, None, Some, option_map, map}
+use Rattle.std.specs.List.{slice_get}
+use Rattle.std.specs.Str.{bytes_eq}
+use Rattle.std.specs.Borrow.{Bor}
+use Rattle.std.specs.declared.hash.FoldHasher.{FoldHasher}
+use Rattle.std.specs.declared.hash.BuildHasherDefault.{BuildHasherDefault}
+use Rattle.indexmap.specs.IndexMap.{IndexMap, get_by}
+use Rattle.hm_groups.specs.declared.lent_names.LentName.{LentName}
+use Rattle.hm_groups.specs.Variables.{Variable}
+
+abbrev pub variable_of_key : LentName → Variable
+variable_of_key k = record { qualifier = option_map (λ (x : Bor (List ℕ)). x.now) k.qualifier; text = k.text.now }
+
+abbrev pub same_qualifier : Option (List ℕ) → Option (List ℕ) → Bool
+same_qualifier None None = true
+same_qualifier None (Some y) = false
+same_qualifier (Some x) None = false
+same_qualifier (Some x) (Some y) = bytes_eq x y
+
+abbrev pub same_variable : Variable → Variable → Bool
+same_variable x y = same_qualifier x.qualifier y.qualifier && bytes_eq x.text y.text
+
+-- a table of numbers under variables
+abbrev pub Table : Type 0
+Table = IndexMap LentName ℕ (BuildHasherDefault FoldHasher)
+
+abbrev pub number_of : Table → Variable → Option ℕ
+number_of table x = get_by (λ k. same_variable x (variable_of_key k)) table
+
+abbrev pub nodes_of : List (Option LentName) → List (Option Variable)
+nodes_of ks = map (option_map variable_of_key) ks
+
+-- the variable is one of the nodes
+abbrev pub IsNode : List (Option Variable) → Variable → Type 0
+IsNode nodes x = (k : ℕ) × (slice_get nodes k ≡ Some (Some x))
+
+-- the table has the number of each variable among the nodes, and each is there once
+pub record IsNumbering (nodes : List (Option Variable)) (table : Table) : Type 0 where
+  pub some : (x : Variable) (k : ℕ) → number_of table x ≡ Some k → slice_get nodes k ≡ Some (Some x)
+  pub none : (x : Variable) → number_of table x ≡ None → ¬ (IsNode nodes x)
+  pub once : (x : Variable) (j k : ℕ) → slice_get nodes j ≡ Some (Some x) → slice_get nodes k ≡ Some (Some x) → j ≡ k

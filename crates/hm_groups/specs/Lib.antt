@@ -1,0 +1,9 @@
+pub mod Variables
+pub mod Keys
+pub mod References
+pub mod Walks
+pub mod Nodes
+pub mod Groups
+pub mod Checked
+pub mod Members
+pub mod GroupMembers

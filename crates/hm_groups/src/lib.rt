@@ -1,0 +1,20 @@
+//! The binding groups of a declaration list (Haskell 98 Report, section 4.5.1).
+#![tactic(auto)]
+
+mod edges;
+mod groups;
+mod hiding;
+pub mod laws;
+mod lent_names;
+mod members;
+mod nodes;
+mod numbers;
+mod places;
+mod references;
+mod signed;
+
+pub use crate::groups::{BindingGroups, binding_groups};
+pub use crate::hiding::is_continued;
+pub use crate::lent_names::LentName;
+pub use crate::members::{Member, group_members};
+pub use crate::numbers::Numbers;

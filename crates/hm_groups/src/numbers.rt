@@ -1,0 +1,108 @@
+//! Numbers of the variables of a declaration list.
+
+ghost use Rattle.std.specs.Prelude.{◌≡◌, ℕ, ◌∷◌, [], ◌++◌, Some, None, IfOk, OnOk, OnErr, IfSome, IfNone, ◌<◌, option_map, length};
+ghost use Rattle.std.specs.List.{slice_get};
+ghost use Rattle.hm_groups.specs.Variables.{Variable, variable_of};
+ghost use Rattle.hm_groups.specs.Keys.{IsNode, variable_of_key};
+
+use crate::lent_names::{LentName, key_of};
+use hm_syntax::Name;
+use hm_unify::UnifyFault;
+use indexmap::IndexMap;
+use std::alloc::{AllocError, Global};
+use std::marker::Model;
+
+/// The nodes of a declaration list in order: its variables without signatures, and its pattern bindings, which have no name in a source.
+/// Contracts see a list in which a pattern binding is None.
+#[derive(Drop)]
+pub struct Numbers<'a> {
+    nodes: Vec<Option<LentName<'a>>>,
+    table: IndexMap<LentName<'a>, usize>,
+}
+
+impl<'a> Model for Numbers<'a> {
+    ghost use Rattle.std.specs.Prelude.{List, Option};
+    ghost use Rattle.hm_groups.specs.Variables.{Variable};
+    ghost use Rattle.hm_groups.specs.Keys.{nodes_of, IsNumbering};
+
+    ghost Value = { List (Option Variable) };
+
+    ghost view = { λ n. nodes_of n.nodes.items };
+
+    ghost invariant = { λ n. IsNumbering (nodes_of n.nodes.items) n.table };
+}
+
+impl<'a> Numbers<'a> {
+    /// No nodes.
+    pub fn new(alloc: Global) -> Numbers<'a>
+        ensures { result ≡ [] }
+    {
+        Numbers {
+            nodes: Vec::new(alloc),
+            table: IndexMap::new(alloc),
+        }
+    }
+
+    /// How many nodes there are.
+    pub fn len(&self) -> usize
+        ensures { result ≡ length self.now }
+    {
+        self.nodes.len()
+    }
+
+    /// Each variable is a node once. It does nothing: its clause is what a caller knows from then on.
+    pub fn has_each_once(&self)
+        ensures { (x : Variable) (j k : ℕ) → slice_get self.now j ≡ Some (Some x) → slice_get self.now k ≡ Some (Some x) → j ≡ k }
+    {
+        let _count = self.nodes.len();
+    }
+
+    /// The variable of a node, or None where the node is a pattern binding.
+    pub fn variable(&self, number: usize) -> Option<LentName<'a>>
+        requires { number < length self.now }
+        ensures { slice_get self.now number ≡ Some (option_map variable_of_key result) }
+    {
+        self.nodes[number]
+    }
+
+    /// The number of a variable, if it is a node.
+    pub fn number(&self, name: &Name) -> Option<usize>
+        ensures some { IfSome result (λ k. slice_get self.now k ≡ Some (Some (variable_of name.now))) }
+        ensures none { IfNone result (¬ (IsNode self.now (variable_of name.now))) }
+        ensures once { (x : Variable) (j k : ℕ) → slice_get self.now j ≡ Some (Some x) → slice_get self.now k ≡ Some (Some x) → j ≡ k }
+    {
+        let key = key_of(name);
+        match self.table.get(&key) {
+            Some(number) => Some(*number),
+            None => None,
+        }
+    }
+
+    /// Adds a variable, unless it is a node already.
+    pub fn add(&mut self, name: &'a Name) -> Result<(), UnifyFault>
+        ensures added { OnOk result (self.new ≡ self.old ++ (Some (variable_of name.now)) ∷ []) }
+        ensures twice { result ≡ Err UnifyFault.Clash → IsNode self.old (variable_of name.now) }
+    {
+        let None = self.number(name) else {
+            return Err(UnifyFault::Clash);
+        };
+        let key = key_of(name);
+        let number = self.nodes.len();
+        self.nodes.push(Some(key))?;
+        match self.table.insert(key, number) {
+            Ok(_) => Ok(()),
+            Err(_) => {
+                self.nodes.pop();
+                Err(UnifyFault::Memory)
+            }
+        }
+    }
+
+    /// Adds a pattern binding.
+    pub fn add_pattern(&mut self) -> Result<(), AllocError>
+        ensures added { OnOk result (self.new ≡ self.old ++ None ∷ []) }
+    {
+        self.nodes.push(None)?;
+        Ok(())
+    }
+}

@@ -1,0 +1,17 @@
+use Rattle.std.proofs.Common.{◌≡◌, ℕ, take}
+use Rattle.hm_syntax.specs.Trees.{Declarations}
+use Rattle.hm_scope.specs.Syntax.{Known}
+use Rattle.hm_typing.specs.Assumptions.{Assumptions, assumptions_put}
+use Rattle.hm_typing.specs.Schemes.{Monotype}
+use Rattle.hm_groups.specs.Nodes.{list_nodes}
+use Rattle.hm_infer.specs.Environments.{AreAssumed}
+use Rattle.hm_infer.specs.Generalisations.{IsSolution, Keeps}
+use Rattle.hm_infer.specs.BoundNames.{Extends, BindsSchemes}
+use Rattle.hm_infer.proofs.grouping.bind_schemes.Given as goal
+
+abbrev pub invariant-nodes : goal.invariant-nodes
+invariant-nodes l = record {
+  bound : (k : Known) (all : Declarations) → l.numbers ≡ list_nodes all all → (A : Assumptions) (m : ℕ → Monotype) → IsSolution l.solver.equations m → Keeps l.kept (assumptions_put m A) → BindsSchemes k all l.types m A (take l.place l.group) l.initial.environment l.environment;
+  given : AreAssumed l.solver.given l.initial.environment → AreAssumed l.solver.given l.environment;
+  added : Extends l.initial.environment l.environment;
+}
