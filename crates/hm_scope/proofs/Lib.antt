@@ -70,3 +70,4 @@ pub mod SoundCores
 pub mod ImportedNames
 pub mod TypePlaces
 pub mod DeclaredTypes
+pub mod SameNames

@@ -64,7 +64,7 @@ pub use crate::cores::{Core, Exported};
 pub use crate::declared::{DeclaredType, declared_type};
 pub use crate::exporting::export;
 pub use crate::faults::{Fault, Kind, ScopeFault};
-pub use crate::imported::imported_names;
+pub use crate::imported::{are_imports_of, imported_names};
 pub use crate::namespace::Namespace;
 pub use crate::scheme_table::Schemes;
 pub use crate::scoping::scope;
