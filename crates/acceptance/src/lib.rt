@@ -8,7 +8,11 @@ mod devices;
 #[cfg(test)]
 mod grammar;
 #[cfg(test)]
+mod inference;
+#[cfg(test)]
 mod plans;
+#[cfg(test)]
+mod scopes;
 #[cfg(test)]
 mod texts;
 #[cfg(test)]
