@@ -22,7 +22,7 @@ def main():
             shutil.copytree(os.path.join(TOP, "crates", name), os.path.join(work, "crates", name))
         program = os.path.join(work, "crates", "groups")
         os.makedirs(os.path.join(program, "src"))
-        shutil.copy(os.path.join(TOP, "bench", "groups", "main.rt"), os.path.join(program, "src"))
+        shutil.copy(os.path.join(TOP, "bench", "groups", "main.text"), os.path.join(program, "src", "main.rt"))
         with open(os.path.join(work, "crates.txt"), "w") as file:
             file.write("".join(lines) + "groups: hm_graph anyhow\n")
         sys.exit(subprocess.run(["rt", "run"], cwd=program).returncode)
