@@ -11,11 +11,225 @@ import tempfile
 
 TOP = os.path.dirname(os.path.dirname(os.path.abspath(__file__)))
 PROGRAM = os.path.abspath(sys.argv[1]) if len(sys.argv) > 1 else os.path.join(TOP, "hmc")
-SMALL = 1 << 31
+SMALL = 2_000_000 << 10
+TINY = 200_000 << 10
 
 A = "module A where { import B ; x = y }"
 B = "module B where { y = 1 }"
 PLAN = "module A\n  import B\nmodule B\n2 modules\n"
+REPORT = "module A\n  val x = A.x :: Int\nmodule B\n  val y = B.y :: Int\n2 modules: 2 good, 0 faulty, 0 skipped\n"
+
+# what the help shows
+PAIR = "module A where { pair x = (x, x) }"
+TWICE = "module B where { twice f = f f }"
+USER = "module C where { import B ; y = twice }"
+EXAMPLE = """module A
+  val pair = A.pair :: a -> (a, a)
+faulty B
+  1:18 type twice
+skipped C
+  by B
+3 modules: 1 good, 1 faulty, 1 skipped
+"""
+
+# name: the lines of standard input, the status, the lines of standard output but the last, and the counts in that
+CHECKS = {
+    "no module": ([""], 0, [], (0, 0, 0, 0)),
+    "a comment in a comment": (["{- -- -}"], 0, [], (0, 0, 0, 0)),
+    "two functions": (
+        ["module A where { i x = x ; k x y = x }"],
+        0,
+        ["module A", "  val i = A.i :: a -> a", "  val k = A.k :: a -> b -> a"],
+        (1, 1, 0, 0),
+    ),
+    "a function of itself": (["module A where { f x = x x }"], 1, ["faulty A", "  1:18 type f"], (1, 0, 1, 0)),
+    "a type variable that escapes": (
+        ["module A where { f x = let { g :: a -> a ; g y = asTypeOf y x } in g }"],
+        1,
+        ["faulty A", "  1:18 type f"],
+        (1, 0, 1, 0),
+    ),
+    "a let of two types": (
+        ["module A where { p = let { g x = x } in (g 1, g 'c') }"],
+        0,
+        ["module A", "  val p = A.p :: (Int, Char)"],
+        (1, 1, 0, 0),
+    ),
+    "a parameter of two types": (
+        ["module A where { p = let { g x = x } in (g 1, g 'c') ; q = \\g -> (g 1, g 'c') }"],
+        1,
+        ["faulty A", "  1:56 type q"],
+        (1, 0, 1, 0),
+    ),
+    "polymorphic recursion with a signature": (
+        ["module A where { data N a = Z a | S (N (a, a)) ; d :: N a -> Int ; d (Z x) = 0 ; d (S n) = d n }"],
+        0,
+        ["module A", "  type N/1 = A.N", "  con S = A.S :: A.N (a, a) -> A.N a", "  con Z = A.Z :: a -> A.N a", "  val d = A.d :: A.N a -> Int"],
+        (1, 1, 0, 0),
+    ),
+    "polymorphic recursion without one": (
+        ["module A where { data N a = Z a | S (N (a, a)) ; d (Z x) = 0 ; d (S n) = d n }"],
+        1,
+        ["faulty A", "  1:50 type d"],
+        (1, 0, 1, 0),
+    ),
+    "signatures that are too general or narrow": (
+        [
+            "module A where { f :: a -> b ; f x = x }",
+            "module B where { g :: Int -> Int ; g x = x }",
+            "module C where { import B ; h = g }",
+            "module D where { import B ; j = g 'c' }",
+        ],
+        1,
+        [
+            "faulty A",
+            "  1:32 type f",
+            "module B",
+            "  val g = B.g :: Int -> Int",
+            "module C",
+            "  val h = C.h :: Int -> Int",
+            "faulty D",
+            "  4:29 type j",
+        ],
+        (4, 2, 2, 0),
+    ),
+    "a reference through a signature": (
+        ["module A where { u x = s x ; s :: a -> a ; s x = const x (u 1, u 'c') }"],
+        0,
+        ["module A", "  val s = A.s :: a -> a", "  val u = A.u :: a -> a"],
+        (1, 1, 0, 0),
+    ),
+    "modules that are skipped": (
+        [
+            "module A where { x = y }",
+            "module B where { import A ; import C }",
+            "module C where { f x = x x }",
+            "module D where { import B }",
+        ],
+        1,
+        ["faulty A", "  1:22 unbound y", "skipped B", "  by A", "  by C", "faulty C", "  3:18 type f", "skipped D", "  by B"],
+        (4, 0, 2, 2),
+    ),
+    "a name of two modules": (
+        [
+            "module A where { x = 1 }",
+            "module B (module A) where { import A }",
+            "module C where { import A ; import B ; y = x }",
+            "module D where { x = 'd' }",
+            "module E where { import A ; import D ; y = 2 }",
+            "module F where { import A ; import D ; y = x }",
+        ],
+        1,
+        [
+            "module A",
+            "  val x = A.x :: Int",
+            "module B",
+            "  val x = A.x :: Int",
+            "module C",
+            "  val y = C.y :: Int",
+            "module D",
+            "  val x = D.x :: Char",
+            "module E",
+            "  val y = E.y :: Int",
+            "faulty F",
+            "  6:44 ambiguous x",
+        ],
+        (6, 5, 1, 0),
+    ),
+    "hidden and listed names": (
+        [
+            "module A where { data C = C ; x = C }",
+            "module B where { import A hiding (C, zz) ; y = x }",
+            "module D where { import A hiding (C) ; y = C }",
+            "module E where { import A (C, zz) ; y = x }",
+        ],
+        1,
+        [
+            "module A",
+            "  type C/0 = A.C",
+            "  con C = A.C :: A.C",
+            "  val x = A.x :: A.C",
+            "module B",
+            "  val y = B.y :: A.C",
+            "faulty D",
+            "  3:44 unbound C",
+            "faulty E",
+            "  4:31 not-exported zz",
+        ],
+        (4, 2, 2, 0),
+    ),
+    "a module that is exported": (
+        ["module B where { data T = K | L ; f = K }", "module A (module B, B.T(..)) where { import qualified B ; g = B.f }"],
+        0,
+        [
+            "module A",
+            "  type T/0 = B.T",
+            "  con K = B.K :: B.T",
+            "  con L = B.L :: B.T",
+            "module B",
+            "  type T/0 = B.T",
+            "  con K = B.K :: B.T",
+            "  con L = B.L :: B.T",
+            "  val f = B.f :: B.T",
+        ],
+        (2, 2, 0, 0),
+    ),
+    "a type that stays hidden": (
+        ["module A (mk, un) where { data T = T Int ; mk x = T x ; un (T x) = x }", "module B where { import A ; z = un (mk 7) ; w = mk 1 }"],
+        0,
+        ["module A", "  val mk = A.mk :: Int -> A.T", "  val un = A.un :: A.T -> Int", "module B", "  val w = B.w :: A.T", "  val z = B.z :: Int"],
+        (2, 2, 0, 0),
+    ),
+    "gaps in a string": (
+        ['module A where { s = "a\\ \\b\\&c" }'],
+        0,
+        ["module A", "  val s = A.s :: [Char]"],
+        (1, 1, 0, 0),
+    ),
+    "an import before its module": (
+        ["module A where { import B ; x = y }", "module B where { y = 'c' }"],
+        0,
+        ["module A", "  val x = A.x :: Char", "module B", "  val y = B.y :: Char"],
+        (2, 2, 0, 0),
+    ),
+    "faults of three units": (
+        ["module A where { f x = x x ; g = f 1 ; s :: Int ; s = 'c' ; t = not s }"],
+        1,
+        ["faulty A", "  1:18 type f", "  1:51 type s", "  1:61 type t"],
+        (1, 0, 1, 0),
+    ),
+    "guards, a lambda and a case": (
+        ["module A where { f x | x = y | otherwise = 2 where { y = 1 } ; g = \\x -> x :: Int ; h = case \"s\" of { c : _ -> c ; [] -> 'z' } }"],
+        0,
+        ["module A", "  val f = A.f :: Bool -> Int", "  val g = A.g :: Int -> Int", "  val h = A.h :: Char"],
+        (1, 1, 0, 0),
+    ),
+    "a variable twice": (["module A where { f x x = 1 }"], 1, ["faulty A", "  1:22 non-linear x"], (1, 0, 1, 0)),
+    "clauses of two lengths": (["module A where { f x = 1 ; f x y = 2 }"], 1, ["faulty A", "  1:28 clause-length f"], (1, 0, 1, 0)),
+    "a binding twice": (["module A where { x = 1 ; x = 2 }"], 1, ["faulty A", "  1:26 duplicate x"], (1, 0, 1, 0)),
+    "a signature alone": (["module A where { g :: Int }"], 1, ["faulty A", "  1:18 no-binding g"], (1, 0, 1, 0)),
+    "a constructor without arguments": (["module A where { h (Just) = 1 }"], 1, ["faulty A", "  1:21 arity Just"], (1, 0, 1, 0)),
+    "an export of no import": (["module A (module Z) where { }"], 1, ["faulty A", "  1:18 not-imported Z"], (1, 0, 1, 0)),
+    "exports that clash": (
+        ["module A (x, B.x) where { import qualified B ; x = 1 }", "module B where { x = 2 }"],
+        1,
+        ["faulty A", "  1:14 export-clash x", "module B", "  val x = B.x :: Int"],
+        (2, 1, 1, 0),
+    ),
+}
+
+# name: the lines of standard input, and the line that refuses them
+REFUSALS = {
+    "a cycle": (["module A where { import B }", "module B where { import A }"], "module A in a cycle"),
+    "an import of itself": (["module A where { import A }"], "module A in a cycle"),
+    "a module of the name Prelude": (["module Prelude where { }"], "module Prelude twice"),
+    "a name that is taken": (["module A where { import Z }", "module A where { }"], "module A twice"),
+    "a missing import": (["module A where { import A ; import Z }"], "module A imports missing Z"),
+    "an open comment": (["{- {- -}"], "source 1 at 1:1: open comment"),
+    "a run of symbols": (["module A where { x = 1 } --> y"], "source 1 at 1:26: lexeme"),
+    "a right side that is missing": (["module A where { x = }"], "source 1 at 1:22: syntax"),
+    "a brace too many": (["module A where { x = 1 }}"], "source 1 at 1:25: syntax"),
+}
 
 # name: words, standard input, status, standard output, standard error
 ROWS = {
@@ -25,13 +239,27 @@ ROWS = {
     "a file alone": (["--plan", "a.hs"], B, 2, "refused: module A imports missing B\n", ""),
     "nothing to read": (["--plan"], "", 0, "0 modules\n", ""),
     "a fault in the second file": (["--plan", "a.hs", "bad.hs"], "", 2, "refused: source 2 at 1:18: syntax\n", ""),
-    "no word": ([], A + B, 2, "", "hmc: only --plan\n"),
-    "files and no word": (["a.hs"], "", 2, "", "hmc: only --plan\n"),
+    "a check of standard input": ([], A + B, 0, REPORT, ""),
+    "a check of files": (["a.hs", "b.hs"], "", 0, REPORT, ""),
+    "a check of a file alone": (["a.hs"], B, 2, "refused: module A imports missing B\n", ""),
+    "a check with a fault in the second file": (["a.hs", "bad.hs"], "", 2, "refused: source 2 at 1:18: syntax\n", ""),
+    "a check of no such file": (["none.hs"], "", 4, "", "hmc: cannot open none.hs\n"),
+    "a check of a folder": (["folder"], "", 4, "", "hmc: read fault\n"),
+    "the example of the help": (["pair.hs", "twice.hs", "user.hs"], "", 1, EXAMPLE, ""),
     "no such file": (["--plan", "a.hs", "none.hs"], "", 4, "", "hmc: cannot open none.hs\n"),
     "a folder": (["--plan", "folder"], "", 4, "", "hmc: read fault\n"),
     "an unknown word": (["--plan", "--nothing"], "", 2, "", None),
     "help": (["--help"], "", 0, None, ""),
 }
+
+
+def checks():
+    """The rows of CHECKS and REFUSALS in the form of those of ROWS."""
+    for name, (lines, status, blocks, counts) in CHECKS.items():
+        last = "%d modules: %d good, %d faulty, %d skipped" % counts
+        yield name, ([], "\n".join(lines), status, "\n".join([*blocks, last]) + "\n", "")
+    for name, (lines, why) in REFUSALS.items():
+        yield name, ([], "\n".join(lines), 2, f"refused: {why}\n", "")
 
 
 def run(folder, words, given, stdout=subprocess.PIPE, before=None):
@@ -53,20 +281,25 @@ def told(output, wanted):
 def main():
     failed = 0
     with tempfile.TemporaryDirectory() as folder:
-        for name, text in (("a.hs", A), ("b.hs", B), ("bad.hs", "module C where { = }")):
+        sources = {"a.hs": A, "b.hs": B, "bad.hs": "module C where { = }", "pair.hs": PAIR, "twice.hs": TWICE, "user.hs": USER}
+        for name, text in sources.items():
             with open(os.path.join(folder, name), "w", encoding="utf-8") as it:
                 it.write(text)
         os.mkdir(os.path.join(folder, "folder"))
-        runs = [(name, run(folder, row[0], row[1]), row[2:]) for name, row in ROWS.items()]
+        rows = [*ROWS.items(), *checks()]
+        runs = [(name, run(folder, row[0], row[1]), row[2:]) for name, row in rows]
         with open("/dev/full", "wb") as full:
             runs.append(("a full device", run(folder, ["--plan"], A + B, stdout=full), (4, "", "hmc: write fault\n")))
+            runs.append(("a check on a full device", run(folder, [], "", stdout=full), (4, "", "hmc: write fault\n")))
             runs.append(("help on a full device", run(folder, ["--help"], "", stdout=full), (4, "", "hmc: write fault\n")))
         closed = lambda: os.close(1)
         for name, words in (("a plan", ["--plan"]), ("help", ["--help"]), ("a plan of a file", ["--plan", "b.hs"])):
             runs.append((name + " on a closed output", run(folder, words, B, before=closed), (4, "", "hmc: write fault\n")))
         runs.append(("a word that is no text", run(folder, [b"--plan", b"\xff"], ""), (2, "", "hmc: invalid data\n")))
-        limit = lambda: resource.setrlimit(resource.RLIMIT_AS, (SMALL, SMALL))
-        runs.append(("no room for the stack", run(folder, ["--plan"], A + B, before=limit), (6, "", "hmc: no worker\n")))
+        limit = lambda size: lambda: resource.setrlimit(resource.RLIMIT_AS, (size, size))
+        runs.append(("a small set in little memory", run(folder, ["--plan"], A + B, before=limit(SMALL)), (0, PLAN, "")))
+        runs.append(("a small check in little memory", run(folder, [], "", before=limit(SMALL)), (0, "0 modules: 0 good, 0 faulty, 0 skipped\n", "")))
+        runs.append(("no room for the stack", run(folder, ["--plan"], A + B, before=limit(TINY)), (6, "", "hmc: no worker\n")))
         for name, ran, (status, out, err) in runs:
             if ran.returncode == status and told(ran.stdout, out) and told(ran.stderr, err):
                 print(f"{name}: as wanted")

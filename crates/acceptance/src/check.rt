@@ -1,11 +1,12 @@
 //! One run, and what it must print.
-use hm_build::{Status, Watched, run_plan};
+use hm_build::{Options, Status, Watched, run, run_plan};
 use std::alloc::{AllocError, Global};
 use std::process::Abort;
+use std::thread::Threads;
 
 /// Runs one source, and compares how the run ends and what it prints.
 pub fn check(
-    rt: &(impl Abort + AllocGlobal),
+    rt: &(impl Abort + AllocGlobal + Threads),
     source: &[u8],
     status: Status,
     text: &[u8],
@@ -14,21 +15,45 @@ pub fn check(
     let mut readers = [Watched::new(source)];
     let mut printed = Vec::new(alloc);
     let mut writer = Watched::new(&mut printed);
-    let ended = run_plan(alloc, readers.as_mut_slice(), &mut writer);
+    let ended = run_plan(rt, alloc, readers.as_mut_slice(), &mut writer);
     assert_eq!(rt; ended, Ok(status));
     assert!(rt; printed.as_slice() == text);
     Ok(())
 }
 
 /// Runs one source, which must be refused by one line.
-pub fn check_refused(rt: &(impl Abort + AllocGlobal), source: &[u8]) -> Result<(), AllocError> {
+pub fn check_refused(
+    rt: &(impl Abort + AllocGlobal + Threads),
+    source: &[u8],
+) -> Result<(), AllocError> {
     let alloc: Global = rt.alloc();
     let mut readers = [Watched::new(source)];
     let mut printed = Vec::new(alloc);
     let mut writer = Watched::new(&mut printed);
-    let ended = run_plan(alloc, readers.as_mut_slice(), &mut writer);
+    let ended = run_plan(rt, alloc, readers.as_mut_slice(), &mut writer);
     assert_eq!(rt; ended, Ok(Status::Refused));
     assert!(rt; printed.as_slice().starts_with(b"refused: source 1 at 1:"));
     assert!(rt; printed.as_slice().ends_with(b"\n"));
+    Ok(())
+}
+
+/// Checks the modules of one source, and compares how the run ends and what it prints.
+pub fn check_run(
+    rt: &(impl Abort + AllocGlobal + Threads),
+    source: &[u8],
+    status: Status,
+    text: &[u8],
+) -> Result<(), AllocError> {
+    let alloc: Global = rt.alloc();
+    let mut readers = [Watched::new(source)];
+    let mut printed = Vec::new(alloc);
+    let mut writer = Watched::new(&mut printed);
+    let options = Options {
+        workers: 4,
+        journal: false,
+    };
+    let ended = run(rt, alloc, readers.as_mut_slice(), &mut writer, options);
+    assert_eq!(rt; ended, Ok(status));
+    assert!(rt; printed.as_slice() == text);
     Ok(())
 }

@@ -4,13 +4,15 @@
 #[cfg(test)]
 mod check;
 #[cfg(test)]
+mod checks;
+#[cfg(test)]
 mod devices;
 #[cfg(test)]
 mod grammar;
 #[cfg(test)]
-mod inference;
-#[cfg(test)]
 mod plans;
+#[cfg(test)]
+mod reports;
 #[cfg(test)]
 mod scopes;
 #[cfg(test)]

@@ -46,7 +46,7 @@ fn headers_of(alloc: Global, source: &[u8]) -> Option<Vec<Header>> {
 }
 
 /// The plan of the modules with these headers.
-#[tactic(auto, using(hm_build::proofs::Ordering::lent_more, hm_build::proofs::Ordering::lent_all))]
+#[tactic(auto, using(crate::proofs::LentHeaders::lent_more, crate::proofs::LentHeaders::lent_all))]
 fn plan_of(alloc: Global, headers: &[Header]) -> Result<Plan, PlanFault>
     ensures { IfOk result (IsImportPlan (outlines headers.now)) }
 {

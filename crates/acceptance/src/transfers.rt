@@ -12,7 +12,7 @@ fn reads_byte_by_byte(rt: HostRuntime) -> Result<(), Fail> {
     let mut readers = [Watched::new(Slow::new(SOURCE, 0))];
     let mut printed = Vec::new(rt.alloc());
     let mut writer = Watched::new(&mut printed);
-    let ended = run_plan(rt.alloc(), readers.as_mut_slice(), &mut writer);
+    let ended = run_plan(&rt, rt.alloc(), readers.as_mut_slice(), &mut writer);
     assert_eq!(rt; ended, Ok(Status::Good));
     assert!(rt; printed.as_slice() == TEXT);
     assert_eq!(rt; readers[0].reads(), 124);
@@ -27,7 +27,7 @@ fn answers_a_failed_read(rt: HostRuntime) -> Result<(), Fail> {
         let mut readers = [Watched::new(Slow::new(SOURCE, at))];
         let mut device = Short::new(rt.alloc(), 9, Then::Fails);
         let mut writer = Watched::new(&mut device);
-        let ended = run_plan(rt.alloc(), readers.as_mut_slice(), &mut writer);
+        let ended = run_plan(&rt, rt.alloc(), readers.as_mut_slice(), &mut writer);
         assert_eq!(rt; ended, Err(RunFault::Read), "at {at}");
         assert_eq!(rt; readers[0].failures(), 1, "at {at}");
         assert_eq!(rt; readers[0].reads(), at, "at {at}");
@@ -45,7 +45,7 @@ fn reads_no_further_than_a_failed_reader(rt: HostRuntime) -> Result<(), Fail> {
     ];
     let mut device = Short::new(rt.alloc(), 9, Then::Fails);
     let mut writer = Watched::new(&mut device);
-    let ended = run_plan(rt.alloc(), readers.as_mut_slice(), &mut writer);
+    let ended = run_plan(&rt, rt.alloc(), readers.as_mut_slice(), &mut writer);
     assert_eq!(rt; ended, Err(RunFault::Read));
     assert_eq!(rt; readers[2].reads(), 0);
     assert!(rt; device.taken.is_empty());
@@ -57,7 +57,7 @@ fn gives_up_an_endless_reader(rt: HostRuntime) -> Result<(), Fail> {
     let mut readers = [Watched::new(Never)];
     let mut device = Short::new(rt.alloc(), 9, Then::Fails);
     let mut writer = Watched::new(&mut device);
-    let ended = run_plan(rt.alloc(), readers.as_mut_slice(), &mut writer);
+    let ended = run_plan(&rt, rt.alloc(), readers.as_mut_slice(), &mut writer);
     assert_eq!(rt; ended, Err(RunFault::Read));
     assert_eq!(rt; readers[0].reads(), 2_097_152);
     assert_eq!(rt; readers[0].interrupts(), 2_097_152);
@@ -73,7 +73,7 @@ fn leaves_a_prefix_after_a_failed_write(rt: HostRuntime) -> Result<(), Fail> {
             let mut readers = [Watched::new(SOURCE)];
             let mut device = Short::new(rt.alloc(), room, then);
             let mut writer = Watched::new(&mut device);
-            let ended = run_plan(rt.alloc(), readers.as_mut_slice(), &mut writer);
+            let ended = run_plan(&rt, rt.alloc(), readers.as_mut_slice(), &mut writer);
             assert_eq!(rt; ended, Err(RunFault::Write), "at {room}");
             assert!(rt; device.taken.as_slice() == &TEXT[..room]);
         }
@@ -86,7 +86,7 @@ fn gives_up_an_endless_writer(rt: HostRuntime) -> Result<(), Fail> {
     let mut readers = [Watched::new(SOURCE)];
     let mut device = Short::new(rt.alloc(), 5, Then::IsInterrupted);
     let mut writer = Watched::new(&mut device);
-    let ended = run_plan(rt.alloc(), readers.as_mut_slice(), &mut writer);
+    let ended = run_plan(&rt, rt.alloc(), readers.as_mut_slice(), &mut writer);
     assert_eq!(rt; ended, Err(RunFault::Write));
     assert_eq!(rt; writer.interrupts(), 2_097_152);
     assert_eq!(rt; writer.failures(), 0);
@@ -99,7 +99,7 @@ fn answers_a_failed_flush(rt: HostRuntime) -> Result<(), Fail> {
     let mut readers: [Watched<&[u8]>; 0] = [];
     let mut device = Short::new(rt.alloc(), 99, Then::FailsToFlush);
     let mut writer = Watched::new(&mut device);
-    let ended = run_plan(rt.alloc(), readers.as_mut_slice(), &mut writer);
+    let ended = run_plan(&rt, rt.alloc(), readers.as_mut_slice(), &mut writer);
     assert_eq!(rt; ended, Err(RunFault::Write));
     assert_eq!(rt; writer.failures(), 1);
     assert!(rt; device.taken.as_slice() == b"0 modules\n".as_slice());

@@ -18,22 +18,17 @@ use Rattle.hm_graph.specs.declared.faults.PlanFault.TheVariants as planning
 use Rattle.hm_build.specs.Laws.{AreSameButPlace}
 use Rattle.hm_build.specs.Refusals.{Refusal, lex, parse, plan, IsLasting}
 use Rattle.hm_build.specs.Runs.{AreOutlinesOf, HasOutlines, IsSourceFault, AreNamesOf, IsSetPlanFault, FailsAtSource, FailsAtPlan, IsPlanned, IsPlanRun, IsRefusalOf, IsRefused}
+use Rattle.hm_build.specs.SourceModules.{HasModules}
 use Rattle.hm_build.specs.declared.status.Status.{Status}
 use Rattle.hm_build.specs.declared.status.Status.TheVariants.{Good, Faulty, Refused}
 use Rattle.hm_build.proofs.OneText.{tokens_once, outlines_once}
 
 -- ---- what is refused has no modules
 
--- the modules that a source spells
-record HasModules (source : List ℕ) (modules : List Module) : Type 0 where
-  tokens : List Token
-  lexed : AreTokensOf source tokens
-  parsed : Spells modules source tokens
-
 not_lexed : (source : List ℕ) (tokens : List Token) (n : ℕ) (fault : LexFault) → AreTokensOf source tokens → IsRefusal source fault → IsLasting (lex n fault) → ⊥
 not_lexed source tokens n fault a r l = subst (λ f. IsLasting (lex n f)) (one_answer source tokens fault a r) l
 
-not_source : (source : List ℕ) (ns : List Module) (n : ℕ) (refusal : Refusal) → HasModules source ns → IsSourceFault n source refusal → IsLasting refusal → ⊥
+pub not_source : (source : List ℕ) (ns : List Module) (n : ℕ) (refusal : Refusal) → HasModules source ns → IsSourceFault n source refusal → IsLasting refusal → ⊥
 not_source source ns n (lex m fault) h f l = not_lexed source h.tokens m fault h.lexed f.1 l
 not_source source ns n (parse m (Syntax place)) h f l = f.1.2 ns (subst (λ t. Spells ns source t) (tokens_once source h.tokens f.1.0 h.lexed f.1.1) h.parsed)
 not_source source ns n (parse m Memory) h f l = l
@@ -46,7 +41,7 @@ not_plan modules (planning.Missing k j) m i w f l = w.found k j f.0.2.module_num
 not_plan modules (planning.Cycle k) m i w f l = w.acyclic k f.0.3.cycle
 not_plan modules planning.Memory m i w f l = l
 
-not_set : (modules : List Outline) (refusal : Refusal) → IsLawful modules → IsSetPlanFault modules refusal → IsLasting refusal → ⊥
+pub not_set : (modules : List Outline) (refusal : Refusal) → IsLawful modules → IsSetPlanFault modules refusal → IsLasting refusal → ⊥
 not_set modules (lex n fault) w f l = f
 not_set modules (parse n fault) w f l = f
 not_set modules (plan fault m i) w f l = not_plan modules fault m i w f l

@@ -1,16 +1,11 @@
 -- Lists in order under a view of their elements.
-use Rattle.std.proofs.Common.{◌≡◌, ℕ, ◌+◌, ◌<◌, ◌≤◌, Bool, List, [], ◌∷◌, ◌++◌, length, map, take, get_or, arith, sym, ap, subst, ◌∙◌, inl, inr}
-use Rattle.std.proofs.lemmas.List.{get_or-map, length-map, map-append, take_more, take_all, length-append, get_or_append_left, get_or_at}
+use Rattle.std.proofs.Common.{◌≡◌, ℕ, ◌+◌, ◌<◌, Bool, List, [], ◌∷◌, ◌++◌, length, map, take, get_or, arith, sym, ap, subst, ◌∙◌, inl, inr}
+use Rattle.std.proofs.lemmas.List.{get_or-map, length-map, map-append, take_more, length-append, get_or_append_left, get_or_at}
 use Rattle.std.proofs.lemmas.Bool.{cases_lt}
 use Rattle.std.specs.List.Sorted.{IsSortedBy}
 use Rattle.hm_syntax.specs.declared.ast.Header.{Header}
-use Rattle.std.specs.Borrow.{Bor}
-use Rattle.hm_graph.specs.Outline.{outline, outlines, lent_outlines}
-use Rattle.hm_syntax.specs.declared.ast.Import.{Import}
-use Rattle.hm_graph.specs.Closure.{one, more}
-use Rattle.hm_graph.specs.Imports.{Modules, ImportReaches, IsImportPlan, imports_at, name_at}
-use Rattle.hm_graph.specs.Refusal.{IsFirstInCycle}
-use Rattle.hm_build.specs.Names.{import_at}
+use Rattle.hm_graph.specs.Outline.{outline, outlines}
+use Rattle.hm_graph.specs.Imports.{IsImportPlan, name_at}
 use Rattle.std.specs.Prelude.{All}
 use Rattle.std.proofs.lemmas.List.Elements.{All-from_get_or, Contains-get_or}
 
@@ -24,25 +19,8 @@ sorted_map f lt (x ∷ xs) h k d low high =
 pub name_at_map : (hs : List Header) (j : ℕ) (d : Header) → j < length hs → name_at (outlines hs) j ≡ (get_or hs j d).name.text
 name_at_map hs j d h = ap (λ o. o.name) (get_or-map outline hs j d (record { name = []; imports = [] }) h)
 
--- what hm_graph calls the imports of a module, by its place
-imports_at_map : (hs : List Header) (m : ℕ) (d : Header) → m < length hs → imports_at (outlines hs) m ≡ map (λ i. i.name.text) (get_or hs m d).imports
-imports_at_map hs m d h = ap (λ o. o.imports) (get_or-map outline hs m d (record { name = []; imports = [] }) h)
-
-pub import_within : (hs : List Header) (m i : ℕ) (d : Header) → m < length hs → i < length (imports_at (outlines hs) m) → i < length (get_or hs m d).imports
-import_within hs m i d h within = omega (arith, within, ap length (imports_at_map hs m d h), length-map (get_or hs m d).imports (λ j. j.name.text))
-
-pub import_at_map : (hs : List Header) (m i : ℕ) (d : Header) (e : Import) → m < length hs → i < length (get_or hs m d).imports → import_at (outlines hs) m i ≡ (get_or (get_or hs m d).imports i e).name.text
-import_at_map hs m i d e h within = ap (λ l. get_or l i []) (imports_at_map hs m d h) ∙ get_or-map (λ j. j.name.text) (get_or hs m d).imports i e [] within
-
 pub outlines_below : (hs : List Header) (m : ℕ) → m < length (outlines hs) → m < length hs
 outlines_below hs m h = omega (arith, h, length-map hs outline)
-
-reached_below : (modules : Modules) (a b : ℕ) → ImportReaches modules a b → b < length modules
-reached_below modules a b (one step) = step.0
-reached_below modules a b (more steps step) = step.0
-
-pub cycle_below : (hs : List Header) (m : ℕ) → IsFirstInCycle (outlines hs) m → m < length hs
-cycle_below hs m h = outlines_below hs m (reached_below (outlines hs) m m h.cycle)
 
 -- the numbers in a row of a plan are those of modules
 pub row_within : (hs : List Header) (plan : List (List ℕ)) (m : ℕ) (row : List ℕ) → IsImportPlan (outlines hs) plan → m < length hs → row ≡ get_or plan m [] → All (λ i. i < length hs) row
@@ -73,16 +51,3 @@ each_more {X} {B} f P xs new x m pushed long before here =
           subst (λ j. P j (get_or (map f xs ++ f x ∷ []) j d)) (sym same) (subst (P m) (sym (get_or_at (map f xs) (f x) [] d m long)) here)
     ] in
     (ap length mapped ∙ count, λ k d h. subst (λ l. P k (get_or l k d)) (sym mapped) (each k d (subst (λ l. k < length l) mapped h)))
-
--- ---- headers that are lent
-
-pub lent_more : (headers : List Header) (lent new : List (Bor Header)) (header : Bor Header) (i : ℕ) → i < length headers → new ≡ lent ++ header ∷ [] → header.now ≡ get_or headers i header.now
-    → lent_outlines lent ≡ map outline (take i headers) → lent_outlines new ≡ map outline (take (i + 1) headers)
-lent_more headers lent new header i within pushed here before =
-    let last : outline header.now ≡ outline (get_or headers i header.now) = ap outline here in
-    let front : lent_outlines lent ++ outline header.now ∷ [] ≡ map outline (take i headers) ++ outline (get_or headers i header.now) ∷ [] = cc in
-    ap lent_outlines pushed ∙ map-append (λ h. outline h.now) lent (header ∷ []) ∙ front
-    ∙ sym (ap (map outline) (take_more headers i header.now within) ∙ map-append outline (take i headers) (get_or headers i header.now ∷ []))
-
-pub lent_all : (headers : List Header) (lent : List (Bor Header)) (i : ℕ) → length headers ≤ i → lent_outlines lent ≡ map outline (take i headers) → lent_outlines lent ≡ outlines headers
-lent_all headers lent i past so_far = so_far ∙ ap (map outline) (take_all i headers past)

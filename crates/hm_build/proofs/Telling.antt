@@ -8,7 +8,7 @@ use Rattle.std.specs.Prelude.{All}
 use Rattle.hm_lex.specs.declared.token.LexFault.TheVariants as lexing
 use Rattle.hm_lex.specs.Faults.{AreTokensOf, IsRefusal}
 use Rattle.hm_graph.specs.Outline.{Outline}
-use Rattle.hm_build.specs.Sources.{AreReadUp, IsReadUp, StopsAtFault, Tell, held_of}
+use Rattle.hm_build.specs.Sources.{IsReadUp, StopsAtFault, Tell, held_of}
 use Rattle.hm_build.specs.Watching.{HasReadFault}
 use Rattle.hm_build.specs.declared.watched.Watched.{Watched}
 use Rattle.hm_build.specs.Refusals.{Refusal, lex, parse, plan}

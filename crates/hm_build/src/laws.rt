@@ -1,5 +1,5 @@
 //! Laws of what a run prints. A law is a function with an empty body, whose contract is the law.
-ghost use Rattle.hm_build.specs.Laws.{HasOnePlanText, HasOnePlanStatus, HasOneRefusal};
+ghost use Rattle.hm_build.specs.Laws.{HasOnePlanText, HasOnePlanStatus, HasOneRefusal, HasOneReport, HasOneStatus, IsNotCheckedAndRefused, SettledSetIsRun};
 
 /// What a run of the plan prints is a function of the sources, but for the place of a syntax fault:
 /// they have one status, one text of their plan, and one refusal.
@@ -7,4 +7,17 @@ pub fn one_plan_run()
     ensures text { HasOnePlanText }
     ensures status { HasOnePlanStatus }
     ensures refusal { HasOneRefusal }
+{}
+
+/// What a run of the checker prints is a function of the sources, but for the place of a syntax fault:
+/// they have one status, and where they aren't refused one report.
+pub fn one_run()
+    ensures text { HasOneReport }
+    ensures not_both { IsNotCheckedAndRefused }
+    ensures status { HasOneStatus }
+{}
+
+/// Where the modules of the sources are a lawful set that is settled, its report and its status are those of a run.
+pub fn settled_sets_are_runs()
+    ensures { SettledSetIsRun }
 {}

@@ -1,6 +1,5 @@
 //! The text of a plan.
-ghost use Rattle.std.specs.Prelude.{◌≡◌, ◌<◌, [], ◌++◌, All, IfOk, OnOk, length, map, slice_index_or, string_bytes};
-ghost use Rattle.std.specs.List.{flat_map};
+ghost use Rattle.std.specs.Prelude.{◌≡◌, ◌<◌, ◌++◌, All, IfOk, OnOk, length, map, string_bytes};
 ghost use Rattle.hm_graph.specs.Outline.{outlines};
 ghost use Rattle.hm_graph.specs.Imports.{name_at, IsImportPlan};
 ghost use Rattle.hm_build.specs.Plans.{AreBlocksOf, AreOrdered, IsPlanText, block_text};

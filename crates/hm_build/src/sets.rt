@@ -1,12 +1,15 @@
-//! The headers and the plan of a set of sources.
-ghost use Rattle.std.specs.Prelude.{◌≡◌, [], ◌++◌, ◌+◌, ◌<◌, ℕ, List, IfOk, IfErr, OnOk, length, map, string_bytes};
-ghost use Rattle.hm_graph.specs.Outline.{Outline, outlines};
+//! The modules of a set of sources, and their plan.
+ghost use Rattle.std.specs.Prelude.{◌≡◌, [], ◌++◌, ◌+◌, ◌<◌, List, IfOk, IfErr, OnOk, length, map, string_bytes};
+ghost use Rattle.std.specs.Arc.{arc_value};
+ghost use Rattle.hm_graph.specs.Outline.{outlines};
 ghost use Rattle.hm_graph.specs.Imports.{IsImportPlan, IsLawful, imports_at, name_at};
-ghost use Rattle.hm_build.specs.Names.{import_at};
 ghost use Rattle.hm_graph.specs.Refusal.{IsRefusal as IsPlanRefusal};
-ghost use Rattle.hm_build.specs.Refusals.{IsLasting, plan, refusal_of};
-ghost use Rattle.hm_build.specs.Runs.{AreOutlinesOf, IsRefusalOf, IsSetPlanFault, HasOutlines};
+ghost use Rattle.hm_syntax.specs.declared.ast.Module.{Module as ModuleTree};
 ghost use Rattle.hm_build.specs.Errors.{IsSourceError, IsSetError, IsPlanError};
+ghost use Rattle.hm_build.specs.Names.{import_at, module_outlines};
+ghost use Rattle.hm_build.specs.Refusals.{IsLasting, plan, refusal_of};
+ghost use Rattle.hm_build.specs.Runs.{IsSetPlanFault};
+ghost use Rattle.hm_build.specs.SourceModules.{AreModulesOf, HasModules};
 
 use crate::SetFault;
 use hm_graph::{Plan, PlanFault};
@@ -14,6 +17,7 @@ use hm_lex::LexFault;
 use hm_parse::ParseFault;
 use hm_syntax::{Header, Module};
 use std::alloc::{AllocError, Global};
+use std::sync::Arc;
 
 /// Why there is no plan.
 #[derive(Debug, Drop)]
@@ -22,15 +26,15 @@ pub(crate) enum SetError {
     Memory,
 }
 
-/// Appends the headers of one source's modules.
-fn add_headers(
+/// Appends one source's modules.
+fn add_modules(
     alloc: Global,
     source: usize,
     text: &[u8],
-    headers: &mut Vec<Header>,
+    modules: &mut Vec<Module>,
 ) -> Result<(), SetError>
-    ensures ok { OnOk result ((first : List Outline) × HasOutlines text.now first
-        × (outlines headers.new.items ≡ outlines headers.old.items ++ first)) }
+    ensures ok { OnOk result ((first : List ModuleTree) × HasModules text.now first
+        × (modules.new.items ≡ modules.old.items ++ first)) }
     ensures err { IfErr result (λ e. IsSourceError source text.now e) }
 {
     let tokens = match hm_lex::lex(alloc, text) {
@@ -38,108 +42,137 @@ fn add_headers(
         Err(LexFault::Memory) => return Err(SetError::Memory),
         Err(fault) => return Err(SetError::Refused(SetFault::Lex { source, fault })),
     };
-    let modules = match hm_parse::parse(alloc, text, tokens.as_slice()) {
-        Ok(modules) => modules,
+    let parsed = match hm_parse::parse(alloc, text, tokens.as_slice()) {
+        Ok(parsed) => parsed,
         Err(ParseFault::Memory) => return Err(SetError::Memory),
         Err(fault) => return Err(SetError::Refused(SetFault::Parse { source, fault })),
     };
-    for module in modules {
-        let Module { header, .. } = module;
-        headers.push(header).map_err(|_| SetError::Memory)?;
+    for module in parsed {
+        modules.push(module).map_err(|_| SetError::Memory)?;
     }
     Ok(())
 }
 
-/// The headers of all modules of the sources, in order of appearance.
-fn set_headers(alloc: Global, sources: &[Vec<u8>]) -> Result<Vec<Header>, SetError>
-    ensures ok { IfOk result (λ headers. AreOutlinesOf (map (λ s. s.items) sources.now) (outlines headers.items)) }
+/// All modules of the sources, in order of appearance.
+fn source_modules(alloc: Global, sources: &[Vec<u8>]) -> Result<Vec<Module>, SetError>
+    ensures ok { IfOk result (λ modules. AreModulesOf (map (λ s. s.items) sources.now) modules.items) }
     ensures err { IfErr result (λ e. IsSetError (map (λ s. s.items) sources.now) e) }
 {
-    let mut headers = Vec::new(alloc);
+    let mut modules = Vec::new(alloc);
     for (index, source) in sources.iter().enumerate() {
-        add_headers(alloc, index + 1, source.as_slice(), &mut headers)?;
+        add_modules(alloc, index + 1, source.as_slice(), &mut modules)?;
     }
-    Ok(headers)
+    Ok(modules)
 }
 
 /// The name of a module.
-#[tactic(auto, using(crate::proofs::Ordering::name_at_map))]
-fn module_name(alloc: Global, headers: &[Header], number: usize) -> Result<String, AllocError>
-    requires { number < length headers.now }
-    ensures { IfOk result (λ name. string_bytes name ≡ name_at (outlines headers.now) number) }
+#[tactic(auto, using(crate::proofs::Outlines::name_at_map))]
+fn module_name(alloc: Global, modules: &[Module], number: usize) -> Result<String, AllocError>
+    requires { number < length modules.now }
+    ensures { IfOk result (λ name. string_bytes name ≡ name_at (module_outlines modules.now) number) }
 {
-    String::from_str(alloc, headers[number].name.as_str())
+    String::from_str(alloc, modules[number].header.name.as_str())
 }
 
 /// The name that an import of a module has.
-#[tactic(auto, using(crate::proofs::Ordering::import_at_map, crate::proofs::Ordering::import_within))]
+#[tactic(auto, using(crate::proofs::Outlines::import_at_map, crate::proofs::Outlines::import_within))]
 fn import_name(
     alloc: Global,
-    headers: &[Header],
+    modules: &[Module],
     number: usize,
     import: usize,
 ) -> Result<String, AllocError>
-    requires number { number < length headers.now }
-    requires import { import < length (imports_at (outlines headers.now) number) }
-    ensures { IfOk result (λ name. string_bytes name ≡ import_at (outlines headers.now) number import) }
+    requires number { number < length modules.now }
+    requires import { import < length (imports_at (module_outlines modules.now) number) }
+    ensures { IfOk result (λ name. string_bytes name ≡ import_at (module_outlines modules.now) number import) }
 {
-    let imports = headers[number].imports.as_slice();
+    let imports = modules[number].header.imports.as_slice();
     String::from_str(alloc, imports[import].name.as_str())
 }
 
 /// The fault of a plan, with the names of its module and its import.
-#[tactic(auto, using(crate::proofs::Ordering::outlines_below, crate::proofs::Ordering::cycle_below))]
-fn plan_fault(alloc: Global, headers: &[Header], fault: PlanFault) -> Result<SetFault, AllocError>
-    requires fault { IsPlanRefusal (outlines headers.now) fault }
+#[tactic(auto, using(crate::proofs::Outlines::outlines_below, crate::proofs::Outlines::cycle_below))]
+fn plan_fault(alloc: Global, modules: &[Module], fault: PlanFault) -> Result<SetFault, AllocError>
+    requires fault { IsPlanRefusal (module_outlines modules.now) fault }
     requires lasting { IsLasting (plan fault [] []) }
-    ensures fault { IfOk result (λ f. IsSetPlanFault (outlines headers.now) (refusal_of f)) }
+    ensures fault { IfOk result (λ f. IsSetPlanFault (module_outlines modules.now) (refusal_of f)) }
     ensures lasting { IfOk result (λ f. IsLasting (refusal_of f)) }
 {
     let none = String::new(alloc);
-    let (module, import) = match fault {
-        PlanFault::Duplicate { module } => (module_name(alloc, headers, module)?, none),
+    let (name, import) = match fault {
+        PlanFault::Duplicate { module } => (module_name(alloc, modules, module)?, none),
         PlanFault::Missing { module, import } => (
-            module_name(alloc, headers, module)?,
-            import_name(alloc, headers, module, import)?,
+            module_name(alloc, modules, module)?,
+            import_name(alloc, modules, module, import)?,
         ),
-        PlanFault::Cycle { module } => (module_name(alloc, headers, module)?, none),
+        PlanFault::Cycle { module } => (module_name(alloc, modules, module)?, none),
         PlanFault::TooMany | PlanFault::Memory => (String::new(alloc), none),
     };
     Ok(SetFault::Plan {
         fault,
-        module,
+        module: name,
         import,
     })
 }
 
-/// The plan of the modules with these headers.
-#[tactic(auto, using(crate::proofs::Ordering::lent_more, crate::proofs::Ordering::lent_all))]
-fn plan_of(alloc: Global, headers: &[Header]) -> Result<Plan, PlanFault>
-    ensures lawful { OnOk result (IsLawful (outlines headers.now)) }
-    ensures refused { IfErr result (IsPlanRefusal (outlines headers.now)) }
-    ensures plan { IfOk result (IsImportPlan (outlines headers.now)) }
+/// The plan of these modules.
+#[tactic(auto, using(crate::proofs::Outlines::lent_more, crate::proofs::Outlines::lent_all))]
+fn plan_of(alloc: Global, modules: &[Module]) -> Result<Plan, PlanFault>
+    ensures lawful { OnOk result (IsLawful (module_outlines modules.now)) }
+    ensures refused { IfErr result (IsPlanRefusal (module_outlines modules.now)) }
+    ensures plan { IfOk result (IsImportPlan (module_outlines modules.now)) }
 {
-    let mut lent = Vec::new(alloc);
-    for header in headers {
-        lent.push(header)?;
+    let mut headers = Vec::new(alloc);
+    for module in modules {
+        headers.push(&module.header)?;
     }
-    hm_graph::import_plan(alloc, &lent)
+    hm_graph::import_plan(alloc, &headers)
 }
 
-/// The headers and the plan of a set of sources.
-pub(crate) fn set_plan(alloc: Global, sources: &[Vec<u8>]) -> Result<(Vec<Header>, Plan), SetError>
-    ensures read { IfOk result (λ set. AreOutlinesOf (map (λ s. s.items) sources.now) (outlines set.0.items)) }
-    ensures lawful { IfOk result (λ set. IsLawful (outlines set.0.items)) }
-    ensures planned { IfOk result (λ set. IsImportPlan (outlines set.0.items) set.1) }
+/// The modules and the plan of a set of sources.
+#[tactic(auto, using(crate::proofs::Reading::refused_by_plan))]
+pub(crate) fn set_modules(
+    alloc: Global,
+    sources: &[Vec<u8>],
+) -> Result<(Vec<Module>, Plan), SetError>
+    ensures read { IfOk result (λ set. AreModulesOf (map (λ s. s.items) sources.now) set.0.items) }
+    ensures lawful { IfOk result (λ set. IsLawful (module_outlines set.0.items)) }
+    ensures planned { IfOk result (λ set. IsImportPlan (module_outlines set.0.items) set.1) }
     ensures err { IfErr result (λ e. IsPlanError (map (λ s. s.items) sources.now) e) }
 {
-    let headers = set_headers(alloc, sources)?;
-    match plan_of(alloc, headers.as_slice()) {
-        Ok(plan) => Ok((headers, plan)),
+    let modules = source_modules(alloc, sources)?;
+    match plan_of(alloc, modules.as_slice()) {
+        Ok(plan) => Ok((modules, plan)),
         Err(PlanFault::Memory) => Err(SetError::Memory),
-        Err(fault) => match plan_fault(alloc, headers.as_slice(), fault) {
+        Err(fault) => match plan_fault(alloc, modules.as_slice(), fault) {
             Ok(fault) => Err(SetError::Refused(fault)),
             Err(AllocError) => Err(SetError::Memory),
         },
     }
+}
+
+/// The headers of modules, without what they declare.
+pub(crate) fn headers_of(alloc: Global, modules: Vec<Module>) -> Result<Vec<Header>, AllocError>
+    ensures { IfOk result (λ headers. outlines headers.items ≡ module_outlines modules.items) }
+{
+    let mut headers = Vec::new(alloc);
+    for module in modules {
+        let Module { header, .. } = module;
+        headers.push(header)?;
+    }
+    Ok(headers)
+}
+
+/// Modules that threads can share.
+pub(crate) fn shared_modules(
+    alloc: Global,
+    modules: Vec<Module>,
+) -> Result<Vec<Arc<Module>>, AllocError>
+    ensures { IfOk result (λ shared. map arc_value shared.items ≡ modules.items) }
+{
+    let mut shared = Vec::new(alloc);
+    for module in modules {
+        shared.push(Arc::new(alloc, module)?)?;
+    }
+    Ok(shared)
 }

@@ -73,15 +73,15 @@ key_for_parts (Some q) t = refl
 key_for-is : (y : Variable) → variable_of_key (key_for y) ≡ y
 key_for-is y = key_for_parts y.qualifier y.text
 
--- and an insertion
-pub inserted : (old new : Table) (a : LentName) (x : Variable) (n : ℕ) → variable_of_key a ≡ x →
-    ((q : LentName) → get_by ((LentNamePartialEq.TheImpl.eq-value).it q) new ≡ cond ((LentNamePartialEq.TheImpl.eq-value).it a q) (Some n) (get_by ((LentNamePartialEq.TheImpl.eq-value).it q) old)) →
-    (y : Variable) → number_of new y ≡ cond (same_variable x y) (Some n) (number_of old y)
-inserted old new a x n e u y =
+-- and a change of what is kept under a key
+pub updated : (old new : Table) (a : LentName) (x : Variable) (w : Option ℕ) → variable_of_key a ≡ x →
+    ((q : LentName) → get_by ((LentNamePartialEq.TheImpl.eq-value).it q) new ≡ cond ((LentNamePartialEq.TheImpl.eq-value).it a q) w (get_by ((LentNamePartialEq.TheImpl.eq-value).it q) old)) →
+    (y : Variable) → number_of new y ≡ cond (same_variable x y) w (number_of old y)
+updated old new a x w e u y =
     sym (look_up new (key_for y) y (key_for-is y))
     ∙ (u (key_for y)
-    ∙ (ap (λ b. cond b (Some n) (get_by ((LentNamePartialEq.TheImpl.eq-value).it (key_for y)) old)) (key_eq a (key_for y) ∙ (ap (λ z. same_variable z (variable_of_key (key_for y))) e ∙ ap (same_variable x) (key_for-is y)))
-    ∙ ap (cond (same_variable x y) (Some n)) (look_up old (key_for y) y (key_for-is y))))
+    ∙ (ap (λ b. cond b w (get_by ((LentNamePartialEq.TheImpl.eq-value).it (key_for y)) old)) (key_eq a (key_for y) ∙ (ap (λ z. same_variable z (variable_of_key (key_for y))) e ∙ ap (same_variable x) (key_for-is y)))
+    ∙ ap (cond (same_variable x y) w) (look_up old (key_for y) y (key_for-is y))))
 
 -- nodes
 

@@ -154,17 +154,17 @@ module _ (k : Known) (all : Declarations) (once : (x : Variable) (i j : ℕ) →
   no_signed j x e s = one_kind D distinct x s ((names_unsigned k all all x).0 (at_place x Z j e))
 
   -- the nodes of declarations that end the list
-  abbrev Within : Declarations → Type 0
+  abbrev pub Within : Declarations → Type 0
   Within ds = (j : ℕ) (z : Identifier) → slice_get (node_names k all ds) j ≡ Some z → slice_get Z j ≡ Some z
 
   within_rest : (d : Declaration) (ds : Declarations) → Within (more_declarations d ds) → Within ds
   within_rest d ds w j z e = w j z (get_append (node_names k all ds) _ j z e)
 
   -- an edge is a reference
-  abbrev Refers_ : Declarations → ℕ → ℕ → Type 0
+  abbrev pub Refers_ : Declarations → ℕ → ℕ → Type 0
   Refers_ ds i j = (x : Identifier) × (y : Identifier) × (slice_get Z i ≡ Some x) × (slice_get Z j ≡ Some y) × BindingMentions x y (bindings_of k all ds)
 
-  edge_sound : (ds : Declarations) → Within ds → (i j : ℕ) → ListEdge all V ds i j → Refers_ ds i j
+  pub edge_sound : (ds : Declarations) → Within ds → (i j : ℕ) → ListEdge all V ds i j → Refers_ ds i j
   edge_sound no_declarations w i j e = absurd e
   edge_sound (more_declarations (data_declaration n ps cs) ds) w i j e = ⊎_elim (λ h. absurd_none h.1) (λ h. edge_sound ds (within_rest (data_declaration n ps cs) ds w) i j h) e
   edge_sound (more_declarations (newtype_declaration n ps c) ds) w i j e = ⊎_elim (λ h. absurd_none h.1) (λ h. edge_sound ds (within_rest (newtype_declaration n ps c) ds w) i j h) e
@@ -227,7 +227,7 @@ module _ (k : Known) (all : Declarations) (once : (x : Variable) (i j : ℕ) →
       e
 
   -- a reference is a path of edges
-  abbrev Leads : Declarations → ℕ → ℕ → Type 0
+  abbrev pub Leads : Declarations → ℕ → ℕ → Type 0
   Leads ds i j = (i ≡ j) ⊎ Closure (ListEdge all V ds) i j
 
   leads_up : (d : Declaration) (ds : Declarations) (i j : ℕ) → Leads ds i j → Leads (more_declarations d ds) i j
@@ -249,7 +249,7 @@ module _ (k : Known) (all : Declarations) (once : (x : Variable) (i j : ℕ) →
       (λ own. absurd (not_own y (pattern_variables p) (subst (λ zs. IsOneOf y zs) (pattern_same k p) o) own))
       (fit_back V Z j y fits e)
 
-  edge_back : (ds : Declarations) → Within ds → ((x : Identifier) → IsSigned x (bindings_of k all ds) → IsSigned x D) → (i j : ℕ) (x y : Identifier) → slice_get Z i ≡ Some x → slice_get Z j ≡ Some y → BindingMentions x y (bindings_of k all ds) → Leads ds i j
+  pub edge_back : (ds : Declarations) → Within ds → ((x : Identifier) → IsSigned x (bindings_of k all ds) → IsSigned x D) → (i j : ℕ) (x y : Identifier) → slice_get Z i ≡ Some x → slice_get Z j ≡ Some y → BindingMentions x y (bindings_of k all ds) → Leads ds i j
   edge_back no_declarations w u i j x y a b m = absurd m
   edge_back (more_declarations (data_declaration n ps cs) ds) w u i j x y a b m = leads_up (data_declaration n ps cs) ds i j (edge_back ds (within_rest (data_declaration n ps cs) ds w) u i j x y a b m)
   edge_back (more_declarations (newtype_declaration n ps c) ds) w u i j x y a b m = leads_up (newtype_declaration n ps c) ds i j (edge_back ds (within_rest (newtype_declaration n ps c) ds w) u i j x y a b m)

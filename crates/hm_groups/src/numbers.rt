@@ -34,7 +34,7 @@ impl<'a> Model for Numbers<'a> {
 
 impl<'a> Numbers<'a> {
     /// No nodes.
-    pub fn new(alloc: Global) -> Numbers<'a>
+    pub(crate) fn new(alloc: Global) -> Numbers<'a>
         ensures { result ≡ [] }
     {
         Numbers {
@@ -51,7 +51,7 @@ impl<'a> Numbers<'a> {
     }
 
     /// Each variable is a node once. It does nothing: its clause is what a caller knows from then on.
-    pub fn has_each_once(&self)
+    pub(crate) fn has_each_once(&self)
         ensures { (x : Variable) (j k : ℕ) → slice_get self.now j ≡ Some (Some x) → slice_get self.now k ≡ Some (Some x) → j ≡ k }
     {
         let _count = self.nodes.len();
@@ -66,7 +66,7 @@ impl<'a> Numbers<'a> {
     }
 
     /// The number of a variable, if it is a node.
-    pub fn number(&self, name: &Name) -> Option<usize>
+    pub(crate) fn number(&self, name: &Name) -> Option<usize>
         ensures some { IfSome result (λ k. slice_get self.now k ≡ Some (Some (variable_of name.now))) }
         ensures none { IfNone result (¬ (IsNode self.now (variable_of name.now))) }
         ensures once { (x : Variable) (j k : ℕ) → slice_get self.now j ≡ Some (Some x) → slice_get self.now k ≡ Some (Some x) → j ≡ k }
@@ -79,7 +79,7 @@ impl<'a> Numbers<'a> {
     }
 
     /// Adds a variable, unless it is a node already.
-    pub fn add(&mut self, name: &'a Name) -> Result<(), UnifyFault>
+    pub(crate) fn add(&mut self, name: &'a Name) -> Result<(), UnifyFault>
         ensures added { OnOk result (self.new ≡ self.old ++ (Some (variable_of name.now)) ∷ []) }
         ensures twice { result ≡ Err UnifyFault.Clash → IsNode self.old (variable_of name.now) }
     {
@@ -99,7 +99,7 @@ impl<'a> Numbers<'a> {
     }
 
     /// Adds a pattern binding.
-    pub fn add_pattern(&mut self) -> Result<(), AllocError>
+    pub(crate) fn add_pattern(&mut self) -> Result<(), AllocError>
         ensures added { OnOk result (self.new ≡ self.old ++ None ∷ []) }
     {
         self.nodes.push(None)?;

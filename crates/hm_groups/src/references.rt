@@ -1,11 +1,12 @@
 //! The nodes that a right side refers to: one walk over the tree, in which the variables of an inner scope hide nodes.
 
-ghost use Rattle.std.specs.Prelude.{◌≡◌, OnOk, length};
+ghost use Rattle.std.specs.Prelude.{◌≡◌, ◌↔◌, ℕ, Contains, IfOk, OnOk, length};
 ghost use Rattle.hm_syntax.specs.Lists.{expressions, declarations, alternatives, body, bodies};
 ghost use Rattle.hm_syntax.specs.Trees.{no_bodies};
 ghost use Rattle.hm_groups.specs.Variables.{variable_of};
 ghost use Rattle.hm_groups.specs.References.{Refers, ExpressionsRefer, DeclarationRefers, DeclarationsRefer, RightSideRefers, BodiesRefer, AlternativeRefers, AlternativesRefer};
-ghost use Rattle.hm_groups.specs.Walks.{Walks};
+ghost use Rattle.hm_groups.specs.Nodes.{AllShown};
+ghost use Rattle.hm_groups.specs.Walks.{IsNodeWith, Walks};
 
 use crate::hiding::{hide_list, hide_pattern, hide_patterns, show};
 use crate::numbers::Numbers;
@@ -217,7 +218,7 @@ fn find_in_decls(
 
 /// Finds the nodes that a declaration's right side refers to.
 #[cycle(walk)]
-pub fn find_in_decl(
+pub(crate) fn find_in_decl(
     alloc: Global,
     numbers: &Numbers,
     shown: &mut [bool],
@@ -242,4 +243,20 @@ pub fn find_in_decl(
         _ => {}
     }
     Ok(())
+}
+
+/// The nodes that a declaration refers to. All nodes are shown, as they are afterwards.
+pub fn referred_nodes(
+    alloc: Global,
+    numbers: &Numbers,
+    shown: &mut [bool],
+    decl: &Decl,
+) -> Result<Vec<usize>, AllocError>
+    requires { AllShown shown.old (length numbers.now) }
+    ensures shown { OnOk result (shown.new ≡ shown.old) }
+    ensures found { IfOk result (λ found. (k : ℕ) → Contains found.items k ↔ IsNodeWith numbers.now (λ y. DeclarationRefers y decl.now) k) }
+{
+    let mut found = Vec::new(alloc);
+    find_in_decl(alloc, numbers, shown, &mut found, decl)?;
+    Ok(found)
 }

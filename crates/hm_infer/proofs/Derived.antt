@@ -111,10 +111,78 @@ applied_local known f a t es s b w r q us ws g d p =
     let U = sym (d 0 (omega arith)) in
     (subst₂ (λ C v. Derives C (expression_of known f) v) A (ap₂ arrow U T) p.0, subst₂ (λ C v. Derives C (expression_of known a) v) A U p.1)
 
-pub apply_answers : {X : Type 0} (known : Known) (f a : Expression) (t whole : Mono) (first : ℕ) (es : List Assumed) (s s1 s2 s3 : Solving) (outcome : Result X UnifyFault) → FactsBelow (bound s) (problem s) → AreAssumed s.given es → IsWellFormed s.given t →
-    s1 ≡ given_more s 1 → first ≡ s.given → monotype whole ≡ arrow (from_number false first 0) (monotype t) → SolvedBy (Checks known f whole es) s1 s2 → AnswersExpression known a (Var (var first)) es s2 s3 outcome → AnswersExpression known (application f a) t es s s3 outcome
+-- a function, at a variable of its own first
+
+abbrev pub ChecksFunction : Known → Expression → ℕ → Mono → List Assumed → (ℕ → Monotype) → Type 0
+ChecksFunction known f argument t es r = Derives (assumptions_put r (assumptions es)) (expression_of known f) (put r (arrow (monotype (Var (var argument))) (monotype t)))
+
+function_asked : Known → Expression → Mono → List Assumed → (ℕ → Monotype) → (ℕ → Monotype) → Type 0
+function_asked known f whole es r us = Derives (assumptions_put r (assumptions es)) (expression_of known f) (us 0) × (us 0 ≡ put r (monotype whole))
+
+function_local : (known : Known) (f : Expression) (whole : Mono) (es : List Assumed) (s : Solving) → AreAssumed s.given es → IsWellFormed s.given whole → IsLocalIn (bound s) 1 (function_asked known f whole es)
+unfolding function_asked
+function_local known f whole es s b w r q us ws g d p =
+    let A = assumptions_put-agree r q (assumptions es) (λ x z. sym (g x (assumed_below s.given es b x z))) in
+    let T = put-below (bound s) r q (monotype whole) g (monotype-below s.given whole w) in
+    let U = sym (d 0 (omega arith)) in
+    (subst₂ (λ C v. Derives C (expression_of known f) v) A U p.0, sym U ∙ (p.1 ∙ T))
+
+whole_turn : (argument : ℕ) (whole t : Mono) → monotype whole ≡ arrow (from_number false argument 0) (monotype t) → (r : ℕ → Monotype) → put r (monotype whole) ≡ put r (arrow (monotype (Var (var argument))) (monotype t))
+whole_turn argument whole t k r = ap (put r) (k ∙ ap (λ n. arrow (Var (number (var n))) (monotype t)) (let q : argument + 0 ≡ argument = omega arith in q))
+
+function_new : (known : Known) (f : Expression) (argument : ℕ) (t whole : Mono) (es : List Assumed) → monotype whole ≡ arrow (from_number false argument 0) (monotype t) → (r : ℕ → Monotype) → ChecksFunction known f argument t es r → (us : ℕ → Monotype) × function_asked known f whole es r us
+unfolding function_asked
+function_new known f argument t whole es k r d = ((λ i. put r (monotype whole)), (subst (Derives (assumptions_put r (assumptions es)) (expression_of known f)) (sym (whole_turn argument whole t k r)) d, refl))
+
+pub function_answers : {X : Type 0} (known : Known) (f : Expression) (argument : ℕ) (t whole : Mono) (own : ℕ) (es : List Assumed) (s s1 s2 s3 : Solving) (outcome : Result X UnifyFault) → FactsBelow (bound s) (problem s) → AreAssumed s.given es → IsWellFormed s.given whole →
+    s1 ≡ given_more s 1 → own ≡ s.given → monotype whole ≡ arrow (from_number false argument 0) (monotype t) → SolvedBy (Checks known f (Var (var own)) es) s1 s2 → Answers (Makes (Var (var own)) whole) s2 s3 outcome → Answers (ChecksFunction known f argument t es) s s3 outcome
+unfolding function_asked
+function_answers known f argument t whole own es s s1 s2 s3 outcome b as_ w e h k m n = over outcome n
+  where
+    z : s.given + 0 ≡ own
+    z = (let y = h in omega arith)
+
+    both_asked : (ℕ → Monotype) → Type 0
+    both_asked r = function_asked known f whole es r (new_at s.given r)
+
+    turn : (r : ℕ → Monotype) → r (number (var own)) ≡ new_at s.given r 0
+    turn r = ap (λ n. r (number (var n))) (sym z)
+
+    local1 : IsLocal (bound s1) (Makes (Var (var own)) whole)
+    local1 = subst (λ y. IsLocal (bound y) (Makes (Var (var own)) whole)) (sym e) (λ r q g p.
+        sym (put-below (bound (given_more s 1)) r q (monotype (Var (var own))) g (monotype-below (s.given + 1) (Var (var own)) (let y = h in omega arith)))
+        ∙ (p ∙ put-below (bound (given_more s 1)) r q (monotype whole) g (monotype-below (s.given + 1) whole (well_formed_more s.given (s.given + 1) whole (omega arith) w))))
+
+    to_both : (r : ℕ → Monotype) → Checks known f (Var (var own)) es r × Makes (Var (var own)) whole r → both_asked r
+    to_both r p = (subst (Derives (assumptions_put r (assumptions es)) (expression_of known f)) (turn r) p.0, sym (turn r) ∙ p.1)
+
+    from_both : (r : ℕ → Monotype) → both_asked r → Checks known f (Var (var own)) es r × Makes (Var (var own)) whole r
+    from_both r p = (subst (Derives (assumptions_put r (assumptions es)) (expression_of known f)) (sym (turn r)) p.0, turn r ∙ p.1)
+
+    over : {X : Type 0} (outcome : Result X UnifyFault) → Answers (Makes (Var (var own)) whole) s2 s3 outcome → Answers (ChecksFunction known f argument t es) s s3 outcome
+    over (Ok x) n =
+        solved_same {P = λ r. (us : ℕ → Monotype) × function_asked known f whole es r us} {Q = ChecksFunction known f argument t es} s s3 (λ r p. subst (Derives (assumptions_put r (assumptions es)) (expression_of known f)) (p.1.1 ∙ whole_turn argument whole t k r) p.1.0) (λ r p. function_new known f argument t whole es k r p)
+        (solved_new {P = function_asked known f whole es} s s3 1 b (function_local known f whole es s as_ w)
+        (subst (λ y. SolvedBy both_asked y s3) e (solved_same {P = λ r. Checks known f (Var (var own)) es r × Makes (Var (var own)) whole r} s1 s3 to_both from_both (solved_both s1 s2 s3 local1 m n))))
+    over (Err j) n =
+        pass_on {P = ChecksFunction known f argument t es} {Q = both_asked} s (given_more s 1) j (λ r u p. carries_new {P = function_asked known f whole es} s 1 b (function_local known f whole es s as_ w) r u (function_new known f argument t whole es k r p))
+        (subst (λ y. Refuses both_asked y j) e (pass_on {P = both_asked} {Q = Makes (Var (var own)) whole} s1 s2 j (λ r u p. carries_second {P = Checks known f (Var (var own)) es} {Q = Makes (Var (var own)) whole} s1 s2 local1 m r u (from_both r p)) n))
+
+pub function_refused : (known : Known) (f : Expression) (argument : ℕ) (t whole : Mono) (own : ℕ) (es : List Assumed) (s s1 : Solving) (j : UnifyFault) → FactsBelow (bound s) (problem s) → AreAssumed s.given es → IsWellFormed s.given whole →
+    s1 ≡ given_more s 1 → own ≡ s.given → monotype whole ≡ arrow (from_number false argument 0) (monotype t) → Refuses (Checks known f (Var (var own)) es) s1 j → Refuses (ChecksFunction known f argument t es) s j
+unfolding function_asked
+function_refused known f argument t whole own es s s1 j b as_ w e h k n =
+    pass_on {P = ChecksFunction known f argument t es} {Q = λ r. function_asked known f whole es r (new_at s.given r)} s (given_more s 1) j (λ r u p. carries_new {P = function_asked known f whole es} s 1 b (function_local known f whole es s as_ w) r u (function_new known f argument t whole es k r p))
+    (subst (λ y. Refuses (λ r. function_asked known f whole es r (new_at s.given r)) y j) e
+    (pass_on {P = λ r. function_asked known f whole es r (new_at s.given r)} {Q = Checks known f (Var (var own)) es} s1 s1 j (λ r u p. (r, u, subst (Derives (assumptions_put r (assumptions es)) (expression_of known f)) (sym (ap (λ n. r (number (var n))) z)) p.0)) n))
+  where
+    z : own ≡ s.given + 0
+    z = (let y = h in omega arith)
+
+pub apply_answers : {X : Type 0} (known : Known) (f a : Expression) (t : Mono) (first : ℕ) (es : List Assumed) (s s1 s2 s3 : Solving) (outcome : Result X UnifyFault) → FactsBelow (bound s) (problem s) → AreAssumed s.given es → IsWellFormed s.given t →
+    s1 ≡ given_more s 1 → first ≡ s.given → SolvedBy (ChecksFunction known f first t es) s1 s2 → AnswersExpression known a (Var (var first)) es s2 s3 outcome → AnswersExpression known (application f a) t es s s3 outcome
 unfolding applied
-apply_answers known f a t whole first es s s1 s2 s3 outcome b as_ w e h k m n = over outcome n
+apply_answers known f a t first es s s1 s2 s3 outcome b as_ w e h m n = over outcome n
   where
     z : s.given + 0 ≡ first
     z = (let y = h in omega arith)
@@ -122,40 +190,37 @@ apply_answers known f a t whole first es s s1 s2 s3 outcome b as_ w e h k m n = 
     both_asked : (ℕ → Monotype) → Type 0
     both_asked r = applied known f a t es r (new_at s.given r)
 
-    first_turn : (r : ℕ → Monotype) → put r (monotype whole) ≡ arrow (new_at s.given r 0) (put r (monotype t))
-    first_turn r = ap (put r) k ∙ ap (λ n. arrow (r (number (var n))) (put r (monotype t))) (let y = h in let q : first + 0 ≡ s.given + 0 = omega arith in q)
-
-    second_turn : (r : ℕ → Monotype) → r (number (var first)) ≡ new_at s.given r 0
-    second_turn r = ap (λ n. r (number (var n))) (sym z)
+    turn : (r : ℕ → Monotype) → r (number (var first)) ≡ new_at s.given r 0
+    turn r = ap (λ n. r (number (var n))) (sym z)
 
     local1 : IsLocal (bound s1) (Checks known a (Var (var first)) es)
     local1 = checks_local known a (Var (var first)) es s1 (subst (λ y. AreAssumed y.given es) (sym e) (assumed_later s.given (s.given + 1) es (omega arith) as_)) (subst (λ y. first < y.given) (sym e) (let y = h in omega arith))
 
-    to_both : (r : ℕ → Monotype) → Checks known f whole es r × Checks known a (Var (var first)) es r → both_asked r
-    to_both r p = (subst (Derives (assumptions_put r (assumptions es)) (expression_of known f)) (first_turn r) p.0, subst (Derives (assumptions_put r (assumptions es)) (expression_of known a)) (second_turn r) p.1)
+    to_both : (r : ℕ → Monotype) → ChecksFunction known f first t es r × Checks known a (Var (var first)) es r → both_asked r
+    to_both r p = (subst (λ v. Derives (assumptions_put r (assumptions es)) (expression_of known f) (arrow v (put r (monotype t)))) (turn r) p.0, subst (Derives (assumptions_put r (assumptions es)) (expression_of known a)) (turn r) p.1)
 
-    from_both : (r : ℕ → Monotype) → both_asked r → Checks known f whole es r × Checks known a (Var (var first)) es r
-    from_both r p = (subst (Derives (assumptions_put r (assumptions es)) (expression_of known f)) (sym (first_turn r)) p.0, subst (Derives (assumptions_put r (assumptions es)) (expression_of known a)) (sym (second_turn r)) p.1)
+    from_both : (r : ℕ → Monotype) → both_asked r → ChecksFunction known f first t es r × Checks known a (Var (var first)) es r
+    from_both r p = (subst (λ v. Derives (assumptions_put r (assumptions es)) (expression_of known f) (arrow v (put r (monotype t)))) (sym (turn r)) p.0, subst (Derives (assumptions_put r (assumptions es)) (expression_of known a)) (sym (turn r)) p.1)
 
     over : {X : Type 0} (outcome : Result X UnifyFault) → AnswersExpression known a (Var (var first)) es s2 s3 outcome → AnswersExpression known (application f a) t es s s3 outcome
     over (Ok x) n =
         solved_same {P = λ r. (us : ℕ → Monotype) × applied known f a t es r us} s s3 (λ r p. (p.0 0, p.1)) (λ r p. ((λ i. p.0), p.1))
         (solved_new {P = applied known f a t es} s s3 1 b (applied_local known f a t es s as_ w)
-        (subst (λ y. SolvedBy both_asked y s3) e (solved_same {P = λ r. Checks known f whole es r × Checks known a (Var (var first)) es r} s1 s3 to_both from_both (solved_both s1 s2 s3 local1 m n))))
+        (subst (λ y. SolvedBy both_asked y s3) e (solved_same {P = λ r. ChecksFunction known f first t es r × Checks known a (Var (var first)) es r} s1 s3 to_both from_both (solved_both s1 s2 s3 local1 m n))))
     over (Err j) n =
         pass_on {P = Checks known (application f a) t es} {Q = both_asked} s (given_more s 1) j (λ r u p. carries_new {P = applied known f a t es} s 1 b (applied_local known f a t es s as_ w) r u ((λ i. p.0), p.1))
-        (subst (λ y. Refuses both_asked y j) e (pass_on {P = both_asked} {Q = Checks known a (Var (var first)) es} s1 s2 j (λ r u p. carries_second {P = Checks known f whole es} {Q = Checks known a (Var (var first)) es} s1 s2 local1 m r u (from_both r p)) n))
+        (subst (λ y. Refuses both_asked y j) e (pass_on {P = both_asked} {Q = Checks known a (Var (var first)) es} s1 s2 j (λ r u p. carries_second {P = ChecksFunction known f first t es} {Q = Checks known a (Var (var first)) es} s1 s2 local1 m r u (from_both r p)) n))
 
-pub apply_refused : (known : Known) (f a : Expression) (t whole : Mono) (first : ℕ) (es : List Assumed) (s s1 : Solving) (j : UnifyFault) → FactsBelow (bound s) (problem s) → AreAssumed s.given es → IsWellFormed s.given t →
-    s1 ≡ given_more s 1 → first ≡ s.given → monotype whole ≡ arrow (from_number false first 0) (monotype t) → Refuses (Checks known f whole es) s1 j → Refuses (Checks known (application f a) t es) s j
+pub apply_refused : (known : Known) (f a : Expression) (t : Mono) (first : ℕ) (es : List Assumed) (s s1 : Solving) (j : UnifyFault) → FactsBelow (bound s) (problem s) → AreAssumed s.given es → IsWellFormed s.given t →
+    s1 ≡ given_more s 1 → first ≡ s.given → Refuses (ChecksFunction known f first t es) s1 j → Refuses (Checks known (application f a) t es) s j
 unfolding applied
-apply_refused known f a t whole first es s s1 j b as_ w e h k n =
+apply_refused known f a t first es s s1 j b as_ w e h n =
     pass_on {P = Checks known (application f a) t es} {Q = λ r. applied known f a t es r (new_at s.given r)} s (given_more s 1) j (λ r u p. carries_new {P = applied known f a t es} s 1 b (applied_local known f a t es s as_ w) r u ((λ i. p.0), p.1))
     (subst (λ y. Refuses (λ r. applied known f a t es r (new_at s.given r)) y j) e
-    (pass_on {P = λ r. applied known f a t es r (new_at s.given r)} {Q = Checks known f whole es} s1 s1 j (λ r u p. (r, u, subst (Derives (assumptions_put r (assumptions es)) (expression_of known f)) (sym (first_turn r)) p.0)) n))
+    (pass_on {P = λ r. applied known f a t es r (new_at s.given r)} {Q = ChecksFunction known f first t es} s1 s1 j (λ r u p. (r, u, subst (λ v. Derives (assumptions_put r (assumptions es)) (expression_of known f) (arrow v (put r (monotype t)))) (sym (ap (λ n. r (number (var n))) z)) p.0)) n))
   where
-    first_turn : (r : ℕ → Monotype) → put r (monotype whole) ≡ arrow (new_at s.given r 0) (put r (monotype t))
-    first_turn r = ap (put r) k ∙ ap (λ n. arrow (r (number (var n))) (put r (monotype t))) (let y = h in let q : first + 0 ≡ s.given + 0 = omega arith in q)
+    z : first ≡ s.given + 0
+    z = (let y = h in omega arith)
 
 -- a conditional
 

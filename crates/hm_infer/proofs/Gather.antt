@@ -91,7 +91,7 @@ gathers_same a b there back f = record { numbered = f.numbered; has = λ l. (λ 
 
 -- Arguments
 
-args_there : (l : Leaf) (ts : List Mono) (u : Mono) → InArgs l (arguments_of (ts ++ u ∷ [])) → InArgs l (arguments_of ts) ⊎ In l u
+pub args_there : (l : Leaf) (ts : List Mono) (u : Mono) → InArgs l (arguments_of (ts ++ u ∷ [])) → InArgs l (arguments_of ts) ⊎ In l u
 args_there l [] u (inl i) = inr i
 args_there l [] u (inr i) = absurd i
 args_there l (t ∷ ts) u (inl i) = inl (inl i)

@@ -44,7 +44,7 @@ or_true true b e = inl refl
 or_true false b e = inr e
 
 -- what is seen after the names of a group are bound to their schemes
-sees_after : (ds : Bindings) (L : Layout ds) (A : Assumptions) (finished g : Identifier → Bool) → IsNext ds L.own finished g → (xs : List Identifier) → ((y : Identifier) → Decides (g y) (IsOneOf y xs)) → (B B' : Identifier → Scheme) (es es' : List Assumed) → ((y : Identifier) → g y ≡ false → B' y ≡ B y) →
+pub sees_after : (ds : Bindings) (L : Layout ds) (A : Assumptions) (finished g : Identifier → Bool) → IsNext ds L.own finished g → (xs : List Identifier) → ((y : Identifier) → Decides (g y) (IsOneOf y xs)) → (B B' : Identifier → Scheme) (es es' : List Assumed) → ((y : Identifier) → g y ≡ false → B' y ≡ B y) →
     Sees ds A finished B es → Binds xs B' es es' → Sees ds A (λ y. finished y || g y) B' es'
 sees_after ds L A finished g next xs tests B B' es es' keep sees binds = record {
   known = λ r x w c t. known r x w c t (bool_cases (g x));

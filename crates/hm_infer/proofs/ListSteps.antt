@@ -43,6 +43,7 @@ pub record GroupsInferred (k : Known) (decls : List Declaration) (gs : List (Lis
   pub numbers : AreUpTo s.given types
   pub assumed : AreAssumed s.given es
   pub added : Extends es0 es
+  pub closed : AreAssumed 0 es0 → AreAssumed 0 es
   pub stage : ListStage k decls gs i s0 es0 s es
 
 drop_suc : {X : Type 0} (xs : List X) (i : ℕ) (x : X) → i < length xs → x ≡ get_or xs i x → drop i xs ≡ x ∷ drop (suc i) xs
@@ -137,12 +138,12 @@ pub rows_long : (rows : List (Vec ℕ Global)) (i : ℕ) → i < length rows →
 rows_long rows i l = let h = length-map rows (λ r. r.items) in omega (arith, h, l)
 
 -- a vector that was written to as a slice
-pub written_to : (new old : List ℕ) (n : ℕ) → n ≡ length old → length new ≡ length old → take n (new ++ drop (length new) old) ≡ new
-written_to new old n e f =
+pub written_to : {X : Type 0} (new old : List X) (n : ℕ) → n ≡ length old → length new ≡ length old → take n (new ++ drop (length new) old) ≡ new
+written_to {X} new old n e f =
     let none : drop (length new) old ≡ [] = past_end old (length new) (omega arith) in
     ap (λ z. take n (new ++ z)) none ∙ (ap (take n) (append_none new) ∙ take_all n new (omega arith))
   where
-    append_none : (xs : List ℕ) → xs ++ [] ≡ xs
+    append_none : (xs : List X) → xs ++ [] ≡ xs
     append_none [] = refl
     append_none (x ∷ xs) = ap (λ z. x ∷ z) (append_none xs)
 
@@ -159,11 +160,12 @@ pub deep_enough : (es0 es : List Assumed) (depth : ℕ) → depth ≡ length es0
 deep_enough es0 es depth e x = let h = ap length x.1 in let k = length-append x.0 es0 in omega (arith, h, k, e)
 
 pub next_stage : (k : Known) (decls : List Declaration) (gs : List (List ℕ)) (n : ℕ) (i : ℕ) (types types1 group : List ℕ) (s0 s s1 : Solving) (es0 es es1 : List Assumed) → AreAssumed s0.given es0 → GroupsInferred k decls gs n types i s0 es0 s es → i < length gs → group ≡ get_or gs i group → InfersGroup {X = Unit {0}} k decls group es0 s es s1 es1 (Ok tt) →
-    length types1 ≡ n → AreUpTo s1.given types1 → AreAssumed s1.given es1 → Extends es es1 → GroupsInferred k decls gs n types1 (i + 1) s0 es0 s1 es1
-next_stage k decls gs n i types types1 group s0 s s1 es0 es es1 a g l e infers sized numbers assumed added = record {
+    length types1 ≡ n → AreUpTo s1.given types1 → AreAssumed s1.given es1 → Extends es es1 → (AreAssumed 0 es0 → AreAssumed 0 es1) → GroupsInferred k decls gs n types1 (i + 1) s0 es0 s1 es1
+next_stage k decls gs n i types types1 group s0 s s1 es0 es es1 a g l e infers sized numbers assumed added closed = record {
   sized = sized;
   numbers = numbers;
   assumed = assumed;
   added = extended es0 es es1 g.added added;
+  closed = closed;
   stage = list_step (Unit {0}) k decls gs i group s0 s s1 es0 es es1 tt l e a g.stage infers;
 }

@@ -193,10 +193,10 @@ module _ (p : Pattern) (types : List ℕ) (own : ℕ) (τ : Identifier → Monot
           let k = length xs - 1 - j in
           let v : slice_get (variables_of xs) k ≡ Some (variable_of d) = stack_at variable_of xs [] j d f in
           let x = slice_name (variables_of xs) k (variable_of d) v in
-          let o = among (names_of (variables_of xs)) k d.name x in
+          let o = among (names_of (variables_of xs)) k (variable_of d).name x in
           let l = slice_get_within xs j d f in
           let many : length xs ≡ length (pattern_names p) = counted in
-          (d.name, (subst (IsOneOf d.name) names_are o, (sym (kept (variables_of xs) k (variable_of d) M.1.typed v), before k d.name (subst (λ zs. slice_get zs k ≡ Some (d.name)) names_are x) ∙ ap (type_at types) (omega (arith, l, many)))))
+          ((variable_of d).name, (subst (IsOneOf (variable_of d).name) names_are o, (sym (kept (variables_of xs) k (variable_of d) M.1.typed v), before k (variable_of d).name (subst (λ zs. slice_get zs k ≡ Some ((variable_of d).name)) names_are x) ∙ ap (type_at types) (omega (arith, l, many)))))
         where
           slice_name : (vs : List Variable) (i : ℕ) (w : Variable) → slice_get vs i ≡ Some w → slice_get (names_of vs) i ≡ Some (w.name)
           slice_name [] i w g = absurd_none g

@@ -1,5 +1,5 @@
 -- Signatures, and the variables that they bind.
-use Rattle.std.proofs.Common.{◌≡◌, ℕ, ◌-◌, ◌<◌, Bool, true, false, cond, nat_lt, ◌||◌, List, [], ◌∷◌, ◌++◌, Option, Some, None, option_map, bytes_eq, inl, inr, ◌⊎◌, ⊎_elim, ◌↔◌, refl, sym, ap, ap₂, ◌∙◌, subst, arith}
+use Rattle.std.proofs.Common.{◌≡◌, ℕ, ◌-◌, ◌<◌, Bool, true, false, cond, nat_lt, ◌||◌, List, [], ◌∷◌, ◌++◌, Option, Some, None, option_map, bytes_eq, inl, inr, ⊎_elim, ◌↔◌, refl, sym, ap, ap₂, ◌∙◌, subst, arith}
 use Rattle.std.specs.Map.{update}
 use Rattle.std.specs.Borrow.{Bor}
 use Rattle.std.proofs.lemmas.Map.{update_same, update_other}
@@ -9,7 +9,7 @@ use Rattle.std.proofs.lemmas.Slice.Eq.{bytes_eq-Decides}
 use Rattle.indexmap.specs.IndexMap.{get_by}
 use Rattle.hm_types.specs.Types.{Var, App, done, more, put_all}
 use Rattle.hm_types.specs.Monotypes.{Mono, Monos, var, rigid}
-use Rattle.hm_typing.specs.Names.{Identifier as Name, IsOneOf}
+use Rattle.hm_typing.specs.Names.{Identifier as Name}
 use Rattle.hm_typing.specs.Schemes.{Monotype, Scheme, Free, Quantified, closed}
 use Rattle.hm_typing.specs.Programs.{monotype_of, variable_of}
 use Rattle.hm_typing.specs.Syntax as typed

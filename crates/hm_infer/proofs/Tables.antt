@@ -35,41 +35,7 @@ pub stack_length : {A B : Type 0} (f : A → B) (xs : List A) (ys : List B) → 
 stack_length f [] ys = omega arith
 stack_length f (x ∷ xs) ys = stack_length f xs (f x ∷ ys) ∙ omega arith
 
--- Variables
-
-found_under : (x : Identifier) (t : Mono) (xs : List KeptVariable) (vs : List Variable) → IsTypeOf x t vs → IsTypeOf x t (stack variable_of xs vs)
-found_under x t [] vs h = h
-found_under x t (y ∷ xs) vs h = found_under x t xs (variable_of y ∷ vs) (inr h)
-
-pub found_at : (x : Identifier) (xs : List KeptVariable) (i : ℕ) (d : KeptVariable) (vs : List Variable) → i < length xs → d ≡ get_or xs i d → d.name ≡ x → IsTypeOf x (type_of d.ty) (stack variable_of xs vs)
-found_at x [] i d vs h e n = absurd (omega arith)
-found_at x (y ∷ xs) zero d vs h e n =
-    found_under x (type_of d.ty) xs (variable_of y ∷ vs) (inl (ap (λ z. z.name) (sym e) ∙ n, ap (λ z. type_of z.ty) (sym e)))
-found_at x (y ∷ xs) (suc i) d vs h e n = found_at x xs i d (variable_of y ∷ vs) (omega arith) e n
-
-pub none_more : (x : Identifier) (xs : List KeptVariable) (i : ℕ) (d : KeptVariable) → i < length xs → d ≡ get_or xs i d → (d.name ≡ x → ⊥) → (IsOneOf x (names_of (variables_of (take i xs))) → ⊥) →
-    IsOneOf x (names_of (variables_of (take (i + 1) xs))) → ⊥
-none_more x xs i d h e n m o =
-    ⊎_elim (λ k. n (sym k)) m (subst (λ vs. IsOneOf x (names_of vs)) (stack_one_more variable_of xs i d h e) o)
-
 -- Assumptions
-
--- the innermost scheme of x is to be looked for in the first i
-pub record LooksIn (x : Identifier) (es : List Assumed) (rest : List Assumed) : Type 0 where
-  pub here : (s : OpenScheme) → IsSchemeOf x s rest → IsSchemeOf x s es
-  pub none : (IsOneOf x (assumed_names rest) → ⊥) → IsOneOf x (assumed_names es) → ⊥
-
-pub looks_start : (x : Identifier) (es rest : List Assumed) → es ≡ rest → LooksIn x es rest
-looks_start x es rest e = record { here = λ s h. subst (IsSchemeOf x s) (sym e) h; none = λ n o. n (subst (λ z. IsOneOf x (assumed_names z)) e o) }
-
-pub looks_on : (x : Identifier) (es rest : List Assumed) (a : Assumed) (rest' : List Assumed) → rest ≡ a ∷ rest' → (a.name ≡ x → ⊥) → LooksIn x es rest → LooksIn x es rest'
-looks_on x es rest a rest' e n l = record {
-  here = λ s h. l.here s (subst (IsSchemeOf x s) (sym e) (inr (n, h)));
-  none = λ m. l.none (λ o. ⊎_elim (λ k. n (sym k)) m (subst (λ z. IsOneOf x (assumed_names z)) e o));
-}
-
-pub looks_found : (x : Identifier) (es rest : List Assumed) (a : Assumed) (rest' : List Assumed) → rest ≡ a ∷ rest' → a.name ≡ x → LooksIn x es rest → IsSchemeOf x a.scheme es
-looks_found x es rest a rest' e n l = l.here a.scheme (subst (IsSchemeOf x a.scheme) (sym e) (inl (n, refl)))
 
 -- a suffix is told by its length
 suffix : {B : Type 0} (us added base cs : List B) → us ++ cs ≡ added ++ base → length cs ≡ length base → cs ≡ base
@@ -97,24 +63,6 @@ truncated xs n es added base v e l =
     many : length (entries_of (take n xs)) ≡ length base
     many = (let k : length (entries_of (take n xs)) ≡ length (take n xs) + 0 = stack_length assumed_of (take n xs) [] in let a = all in let b : length (take n xs) ≡ n = length-take-le n xs (omega arith) in omega arith)
 
--- one step back
-abbrev pub looked : List Binding → ℕ → List Assumed
-looked xs i = entries_of (take i xs)
-
-step_back : (xs : List Binding) (i : ℕ) (d : Binding) → 0 < i → i ≤ length xs → d ≡ get_or xs (i - 1) d → looked xs i ≡ assumed_of d ∷ looked xs (i - 1)
-step_back xs i d p h e =
-    let k : i ≡ (i - 1) + 1 = omega arith in
-    ap (looked xs) k ∙ stack_one_more assumed_of xs (i - 1) d (omega arith) e
-
-pub looks_back : (x : Identifier) (es : List Assumed) (xs : List Binding) (i : ℕ) (d : Binding) → 0 < i → i ≤ length xs → d ≡ get_or xs (i - 1) d → (d.name ≡ x → ⊥) → LooksIn x es (looked xs i) → LooksIn x es (looked xs (i - 1))
-looks_back x es xs i d p h e n l = looks_on x es (looked xs i) (assumed_of d) (looked xs (i - 1)) (step_back xs i d p h e) n l
-
-pub looks_here : (x : Identifier) (es : List Assumed) (xs : List Binding) (i : ℕ) (d : Binding) → 0 < i → i ≤ length xs → d ≡ get_or xs (i - 1) d → d.name ≡ x → LooksIn x es (looked xs i) → IsSchemeOf x (assumed_of d).scheme es
-looks_here x es xs i d p h e n l = looks_found x es (looked xs i) (assumed_of d) (looked xs (i - 1)) (step_back xs i d p h e) n l
-
-pub looked_all : (x : Identifier) (es : List Assumed) (xs : List Binding) (i : ℕ) → i ≡ 0 → LooksIn x es (looked xs i) → IsOneOf x (assumed_names es) → ⊥
-looked_all x es xs i e l = (subst (λ k. LooksIn x es (looked xs k)) e l).none (λ o. o)
-
 -- variables, as assumptions
 
 pub monomorphic_stack : (xs : List KeptVariable) (vs : List Variable) (es : List Assumed) → stack monomorphic_of xs (monomorphic_entries vs ++ es) ≡ monomorphic_entries (stack variable_of xs vs) ++ es
@@ -122,9 +70,9 @@ monomorphic_stack [] vs es = refl
 monomorphic_stack (x ∷ xs) vs es = monomorphic_stack xs (variable_of x ∷ vs) es
 
 pub bound_more : (xs : List KeptVariable) (i : ℕ) (d : KeptVariable) (es fs gs : List Assumed) (key : Identifier) (t : Mono) → i < length xs → d ≡ get_or xs i d → fs ≡ stack monomorphic_of (take i xs) es → gs ≡ record { name = key; scheme = record { quantified = 0; body = t } } ∷ fs →
-    key ≡ d.name → t ≡ type_of d.ty → gs ≡ stack monomorphic_of (take (i + 1) xs) es
+    key ≡ (monomorphic_of d).name → t ≡ type_of d.ty → gs ≡ stack monomorphic_of (take (i + 1) xs) es
 bound_more xs i d es fs gs key t h e f g k n =
-    g ∙ (ap (λ y. record { name = y; scheme = record { quantified = 0; body = t } } ∷ fs) k ∙ (ap (λ y. record { name = d.name; scheme = record { quantified = 0; body = y } } ∷ fs) n ∙ (ap (λ y. monomorphic_of d ∷ y) f
+    g ∙ (ap (λ y. record { name = y; scheme = record { quantified = 0; body = t } } ∷ fs) k ∙ (ap (λ y. record { name = (monomorphic_of d).name; scheme = record { quantified = 0; body = y } } ∷ fs) n ∙ (ap (λ y. monomorphic_of d ∷ y) f
     ∙ sym (stack_push monomorphic_of (take i xs) (take (i + 1) xs) d es (take_more xs i d h ∙ ap (λ z. take i xs ++ z ∷ []) (sym e))))))
 
 pub bound_all : (xs : List KeptVariable) (i : ℕ) (vs : List Variable) (es fs : List Assumed) → length xs ≤ i → variables_of xs ≡ vs → fs ≡ stack monomorphic_of (take i xs) es → fs ≡ monomorphic_entries vs ++ es

@@ -1,37 +1,37 @@
 -- The types that constructors are declared with, as the program keeps them.
-use Rattle.std.specs.Prelude.{ℕ, List, [], ◌∷◌, refl}
+use Rattle.std.specs.Prelude.{ℕ, List, refl}
 use Rattle.std.specs.Coded.{Coded, code_by, coded×, coded_list, coded_ℕ}
-use Rattle.hm_types.specs.Schemes.{TypeScheme, coded_scheme}
-use Rattle.hm_typing.specs.Names.{Identifier}
-use Rattle.hm_typing.proofs.Names.{name_discrete}
-use Rattle.hm_infer.specs.Keys.{coded_name}
-use Rattle.hm_scope.specs.Syntax.{Known, name_of}
+use Rattle.hm_types.specs.Schemes.{coded_scheme}
+use Rattle.hm_types.specs.Interfaces.{coded_entity}
+use Rattle.hm_syntax.specs.Names.{Identifier}
+use Rattle.hm_syntax.specs.Trees.{Declaration, data_declaration, newtype_declaration, synonym_declaration, signature, clause, pattern_binding}
+use Rattle.hm_scope.specs.Faults.Lists.{Repeats}
+use Rattle.hm_scope.specs.Cores.{ConstructorScheme, scheme_or}
+use Rattle.hm_scope.specs.Described.{first_of}
+use Rattle.hm_scope.specs.Special.{special_of}
+use Rattle.hm_scope.specs.Syntax.{Known}
+use Rattle.hm_scope.specs.Types.{entity_of}
 
--- a constructor by its name, and its scheme
-pub record Declared : Type 0 where
-  pub name : Identifier
-  pub scheme : TypeScheme
-
-abbrev pub coded_declared : Coded Declared
-coded_declared = code_by (Identifier × TypeScheme) (coded× coded_name coded_scheme) (λ s. (s.name, s.scheme)) (λ p. record { name = p.0; scheme = p.1 }) (λ _. refl)
-
--- a module's name, the constructors, and what stands for any other
+-- a module's name, and constructors with their schemes
 pub record Table : Type 0 where
   pub home : List ℕ
-  pub entries : List Declared
-  pub other : TypeScheme
+  pub schemes : List ConstructorScheme
+
+abbrev pub coded_constructor : Coded ConstructorScheme
+coded_constructor = code_by _ (coded× coded_entity coded_scheme) (λ s. (s.entity, s.scheme)) (λ p. record { entity = p.0; scheme = p.1 }) (λ _. refl)
 
 abbrev pub coded_table : Coded Table
-coded_table = code_by (List ℕ × (List Declared × TypeScheme)) (coded× (coded_list coded_ℕ) (coded× (coded_list coded_declared) coded_scheme)) (λ s. (s.home, (s.entries, s.other))) (λ p. record { home = p.0; entries = p.1.0; other = p.1.1 }) (λ _. refl)
+coded_table = code_by _ (coded× (coded_list coded_ℕ) (coded_list coded_constructor)) (λ s. (s.home, s.schemes)) (λ p. record { home = p.0; schemes = p.1 }) (λ _. refl)
 
-abbrev pub chosen : {P : Type 0} → Dec P → TypeScheme → TypeScheme → TypeScheme
-chosen (yes p) s t = s
-chosen (no n) s t = t
-
--- the scheme of the first constructor of this name
-abbrev pub scheme_among : Identifier → List Declared → TypeScheme → TypeScheme
-scheme_among x [] other = other
-scheme_among x (e ∷ es) other = chosen (name_discrete e.name x) e.scheme (scheme_among x es other)
-
+-- of the schemes of one constructor the first counts
 abbrev pub known_of : Table → Known
-known_of t = record { home = t.home; scheme = λ n. scheme_among (name_of n) t.entries t.other }
+known_of t = record { home = t.home; scheme = λ n. scheme_or (special_of n) (first_of (λ d. d.entity) (entity_of n) t.schemes) }
+
+-- a type that is declared has distinct parameters
+abbrev pub HasDistinctParameters : Declaration → Type 0
+HasDistinctParameters (data_declaration n ps cs) = (k : Identifier) → ¬ (Repeats ps k)
+HasDistinctParameters (newtype_declaration n ps c) = (k : Identifier) → ¬ (Repeats ps k)
+HasDistinctParameters (synonym_declaration n ps t) = Unit {0}
+HasDistinctParameters (signature ns t) = Unit {0}
+HasDistinctParameters (clause n ps r) = Unit {0}
+HasDistinctParameters (pattern_binding l c p r) = Unit {0}

@@ -16,3 +16,16 @@ pub mod Stages
 pub mod OpenGroups
 pub mod SignedLists
 pub mod PrincipalLists
+pub mod Places
+pub mod Imported
+pub mod OwnSchemes
+pub mod Faults
+pub mod Outcomes
+pub mod Refusals
+pub mod JudgedGroups
+pub mod Dependences
+pub mod JudgedUnits
+pub mod UnitFaults
+pub mod SignedFaults
+pub mod Told
+pub mod UnitStarts

@@ -26,7 +26,7 @@ use std::alloc::Global;
 /// variable next to it.
 fn equate_types(
     solver: &mut Solver,
-    items: &[Variable],
+    items: &[Variable<'_>],
     types: &[usize],
     own: usize,
 ) -> Result<(), UnifyFault>
@@ -48,7 +48,7 @@ fn equate_types(
 
 /// Matches the pattern of a binding against the type of its node; each of its variables has the
 /// type of its own node, and these stand before that of the binding in the order of the variables.
-pub fn match_binding(
+pub(crate) fn match_binding(
     alloc: Global,
     solver: &mut Solver,
     constructors: &Constructors,

@@ -21,7 +21,7 @@ use hm_unify::{Solver, UnifyFault};
 use std::alloc::{AllocError, Global};
 
 /// The type that is declared.
-pub fn declare(alloc: Global, ty: &TypeExpr) -> Result<DeclaredType, AllocError>
+pub(crate) fn declare(alloc: Global, ty: &TypeExpr) -> Result<DeclaredType, AllocError>
     ensures body { IfOk result (λ d. monotype_of (type_of d.body) ≡ declared_type ty.now) }
     ensures given { IfOk result (λ d. IsWellFormed d.count (type_of d.body)) }
 {
@@ -30,13 +30,13 @@ pub fn declare(alloc: Global, ty: &TypeExpr) -> Result<DeclaredType, AllocError>
 
 /// A declared type whose variables are the rigid ones from `first` on.
 #[derive(Drop)]
-pub struct RigidType {
+pub(crate) struct RigidType {
     pub body: Ty,
     pub first: usize,
 }
 
 /// Takes the variables of a declared type as rigid ones that were not given before.
-pub fn with_rigid_variables(
+pub(crate) fn with_rigid_variables(
     alloc: Global,
     solver: &mut Solver,
     declared: &DeclaredType,
@@ -56,7 +56,7 @@ pub fn with_rigid_variables(
 }
 
 /// Makes a type equal to an instance of a declared type.
-pub fn check_instance(
+pub(crate) fn check_instance(
     alloc: Global,
     solver: &mut Solver,
     declared: &DeclaredType,

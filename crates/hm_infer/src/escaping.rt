@@ -19,7 +19,7 @@ use std::alloc::{AllocError, Global};
 fn has_escaped(
     alloc: Global,
     solver: &Solver,
-    environment: &Environment,
+    environment: &Environment<'_>,
     first: usize,
     count: usize,
 ) -> Result<bool, AllocError>
@@ -39,10 +39,10 @@ fn has_escaped(
 }
 
 /// Refuses rigid variables that escape: those from `first` on, so many.
-pub fn forbid_escape(
+pub(crate) fn forbid_escape(
     alloc: Global,
     solver: &Solver,
-    environment: &Environment,
+    environment: &Environment<'_>,
     first: usize,
     count: usize,
 ) -> Result<(), UnifyFault>

@@ -17,6 +17,7 @@ ghost use Rattle.hm_unify.specs.WellFormed.{IsWellFormed};
 ghost use Rattle.hm_infer.specs.Problems.{Answers, monotype};
 ghost use Rattle.hm_infer.specs.Environments.{AreAssumed, Assumed, assumptions};
 ghost use Rattle.hm_infer.specs.GroupQuestions.{AreGivenTypes, AreMembers, HaveTypesOf, HaveTypesOfAll, MemberHas, MembersHave, StandBefore, type_at};
+ghost use Rattle.hm_infer.specs.JudgedGroups.{JudgesGroup};
 ghost use Rattle.hm_infer.specs.Lists.{Listed};
 ghost use Rattle.hm_infer.specs.OpenGroups.{AreUpTo};
 ghost use Rattle.hm_infer.specs.BoundNames.{Extends};
@@ -37,7 +38,7 @@ use crate::environment::Environment;
 use crate::escaping::forbid_escape;
 use crate::functions::{open_alternative, open_function};
 use crate::grouping::{close_group, open_group};
-use crate::instances::check_declared;
+use crate::instances::check_constructor;
 use crate::names::check_name;
 use crate::parts::{list_part, tuple_parts};
 use crate::patterns::element;
@@ -53,12 +54,12 @@ use std::alloc::Global;
 
 /// Checks an expression against a type.
 #[cycle(checking)]
-pub fn check_expression(
+pub(crate) fn check_expression<'a>(
     alloc: Global,
     solver: &mut Solver,
-    environment: &mut Environment,
+    environment: &mut Environment<'a>,
     constructors: &Constructors,
-    e: &Expr,
+    e: &'a Expr,
     t: &Ty,
 ) -> Result<(), UnifyFault>
     requires given { IsWellFormed solver.old.given (type_of t.now) }
@@ -68,15 +69,14 @@ pub fn check_expression(
 {
     match &e.kind {
         ExprKind::Var(name) => check_name(alloc, solver, environment, name, t),
-        ExprKind::Con(name) => check_declared(alloc, solver, constructors.find(name), t),
+        ExprKind::Con(name) => check_constructor(alloc, solver, constructors, name, t),
         ExprKind::Literal(literal) => {
             let own = literal_type(alloc, literal)?;
             equate(solver, t, &own)
         }
         ExprKind::Apply(function, argument) => {
             let first = new_variables(solver, 1)?;
-            let whole = function_from(alloc, first, t)?;
-            check_expression(alloc, solver, environment, constructors, function, &whole)?;
+            check_function(alloc, solver, environment, constructors, function, first, t)?;
             check_expression(
                 alloc,
                 solver,
@@ -151,14 +151,46 @@ pub fn check_expression(
     }
 }
 
-/// Checks expressions against the variables from `first` on, or each against that one.
+/// Checks an expression against the type of functions from the variable `argument` to a type. It
+/// is checked against a variable of its own first, so that what is applied to many arguments
+/// doesn't have its type built again for each of them.
 #[cycle(checking)]
-pub fn check_expressions(
+fn check_function<'a>(
     alloc: Global,
     solver: &mut Solver,
-    environment: &mut Environment,
+    environment: &mut Environment<'a>,
     constructors: &Constructors,
-    parts: &[Expr],
+    function: &'a Expr,
+    argument: usize,
+    t: &Ty,
+) -> Result<(), UnifyFault>
+    requires argument { argument < solver.old.given }
+    requires given { IsWellFormed solver.old.given (type_of t.now) }
+    requires assumed { AreAssumed solver.old.given environment.old }
+    ensures answers { Answers (λ r. Derives (assumptions_put r (assumptions environment.old)) (expression_of (known_of constructors.now) function.now) (put r (arrow (monotype (Var (var argument))) (monotype (type_of t.now))))) solver.old solver.new result }
+    ensures same { OnOk result (environment.new ≡ environment.old) }
+{
+    let own = new_variables(solver, 1)?;
+    let whole = function_from(alloc, argument, t)?;
+    check_expression(
+        alloc,
+        solver,
+        environment,
+        constructors,
+        function,
+        &Ty::Var(own),
+    )?;
+    equate(solver, &Ty::Var(own), &whole)
+}
+
+/// Checks expressions against the variables from `first` on, or each against that one.
+#[cycle(checking)]
+pub(crate) fn check_expressions<'a>(
+    alloc: Global,
+    solver: &mut Solver,
+    environment: &mut Environment<'a>,
+    constructors: &Constructors,
+    parts: &'a [Expr],
     first: usize,
     same: bool,
 ) -> Result<(), UnifyFault>
@@ -185,13 +217,13 @@ pub fn check_expressions(
 
 /// Checks an expression, behind its guard, if it has one, against a type.
 #[cycle(checking)]
-pub fn check_body(
+pub(crate) fn check_body<'a>(
     alloc: Global,
     solver: &mut Solver,
-    environment: &mut Environment,
+    environment: &mut Environment<'a>,
     constructors: &Constructors,
-    guard: &Option<Expr>,
-    e: &Expr,
+    guard: &'a Option<Expr>,
+    e: &'a Expr,
     t: &Ty,
 ) -> Result<(), UnifyFault>
     requires given { IsWellFormed solver.old.given (type_of t.now) }
@@ -211,12 +243,12 @@ pub fn check_body(
 
 /// Checks the expressions of a right side, each behind its guard, against a type.
 #[cycle(checking)]
-pub fn check_bodies(
+pub(crate) fn check_bodies<'a>(
     alloc: Global,
     solver: &mut Solver,
-    environment: &mut Environment,
+    environment: &mut Environment<'a>,
     constructors: &Constructors,
-    parts: &[(Option<Expr>, Expr)],
+    parts: &'a [(Option<Expr>, Expr)],
     t: &Ty,
 ) -> Result<(), UnifyFault>
     requires given { IsWellFormed solver.old.given (type_of t.now) }
@@ -242,12 +274,12 @@ pub fn check_bodies(
 
 /// Checks a right side, with what is bound by its `where`, against a type.
 #[cycle(checking)]
-pub fn check_right_side(
+pub(crate) fn check_right_side<'a>(
     alloc: Global,
     solver: &mut Solver,
-    environment: &mut Environment,
+    environment: &mut Environment<'a>,
     constructors: &Constructors,
-    rhs: &Rhs,
+    rhs: &'a Rhs,
     t: &Ty,
 ) -> Result<(), UnifyFault>
     requires given { IsWellFormed solver.old.given (type_of t.now) }
@@ -266,13 +298,13 @@ pub fn check_right_side(
 /// Checks an alternative against types: its pattern against the variable `first`, its right side
 /// against `t`.
 #[cycle(checking)]
-pub fn check_alternative(
+pub(crate) fn check_alternative<'a>(
     alloc: Global,
     solver: &mut Solver,
-    environment: &mut Environment,
+    environment: &mut Environment<'a>,
     constructors: &Constructors,
-    pat: &Pat,
-    rhs: &Rhs,
+    pat: &'a Pat,
+    rhs: &'a Rhs,
     first: usize,
     t: &Ty,
 ) -> Result<(), UnifyFault>
@@ -293,12 +325,12 @@ pub fn check_alternative(
 /// Checks alternatives against types: their patterns against the variable `first`, their right
 /// sides against `t`.
 #[cycle(checking)]
-pub fn check_alternatives(
+pub(crate) fn check_alternatives<'a>(
     alloc: Global,
     solver: &mut Solver,
-    environment: &mut Environment,
+    environment: &mut Environment<'a>,
     constructors: &Constructors,
-    choices: &[Alt],
+    choices: &'a [Alt],
     first: usize,
     t: &Ty,
 ) -> Result<(), UnifyFault>
@@ -327,13 +359,13 @@ pub fn check_alternatives(
 
 /// Checks a clause, given by its patterns and its right side, against a type.
 #[cycle(checking)]
-pub fn check_clause(
+pub(crate) fn check_clause<'a>(
     alloc: Global,
     solver: &mut Solver,
-    environment: &mut Environment,
+    environment: &mut Environment<'a>,
     constructors: &Constructors,
-    pats: &[Pat],
-    rhs: &Rhs,
+    pats: &'a [Pat],
+    rhs: &'a Rhs,
     t: &Ty,
 ) -> Result<(), UnifyFault>
     requires given { IsWellFormed solver.old.given (type_of t.now) }
@@ -359,12 +391,12 @@ pub fn check_clause(
 /// Checks a declaration of a group: a clause has the type of its node; a pattern and its right
 /// side have that of theirs.
 #[cycle(checking)]
-fn check_member(
+fn check_member<'a>(
     alloc: Global,
     solver: &mut Solver,
-    environment: &mut Environment,
+    environment: &mut Environment<'a>,
     constructors: &Constructors,
-    decl: &Decl,
+    decl: &'a Decl,
     types: &[usize],
     own: usize,
 ) -> Result<(), UnifyFault>
@@ -422,12 +454,12 @@ fn check_member(
 
 /// Checks the declarations of a group.
 #[cycle(checking)]
-fn check_members(
+fn check_members<'a>(
     alloc: Global,
     solver: &mut Solver,
-    environment: &mut Environment,
+    environment: &mut Environment<'a>,
     constructors: &Constructors,
-    decls: &[Decl],
+    decls: &'a [Decl],
     members: &[Member],
     types: &[usize],
 ) -> Result<(), UnifyFault>
@@ -458,13 +490,13 @@ fn check_members(
 /// Infers the schemes of a group of a list, and binds its names in the environment. The
 /// assumptions of the list are the outermost `depth` ones.
 #[cycle(checking)]
-fn infer_group(
+pub(crate) fn infer_group<'a>(
     alloc: Global,
     solver: &mut Solver,
-    environment: &mut Environment,
+    environment: &mut Environment<'a>,
     constructors: &Constructors,
-    decls: &[Decl],
-    found: &BindingGroups,
+    decls: &'a [Decl],
+    found: &BindingGroups<'a>,
     group: &[usize],
     types: &mut [usize],
     depth: usize,
@@ -478,6 +510,8 @@ fn infer_group(
     requires depth { depth ≤ length environment.old }
     ensures inferred { (added base : List Assumed) → environment.old ≡ added ++ base → length base ≡ depth → InfersGroup (known_of constructors.now) decls.now group.now base solver.old environment.old solver.new environment.new result }
     ensures assumed { OnOk result (AreAssumed solver.new.given environment.new) }
+    ensures judged { (added base : List Assumed) → environment.old ≡ added ++ base → length base ≡ depth → JudgesGroup (known_of constructors.now) decls.now group.now base solver.old environment.old environment.new result }
+    ensures closed { OnOk result (AreAssumed 0 environment.old → AreAssumed 0 environment.new) }
     ensures numbers { OnOk result (AreUpTo solver.new.given types.new) }
     ensures added { OnOk result (Extends environment.old environment.new) }
 {
@@ -500,13 +534,13 @@ fn infer_group(
 /// Checks a clause of a variable that has a signature against the declared type, with new rigid
 /// variables for those of the type. Nothing is asked of other declarations.
 #[cycle(checking)]
-fn check_signed(
+pub(crate) fn check_signed<'a>(
     alloc: Global,
     solver: &mut Solver,
-    environment: &mut Environment,
+    environment: &mut Environment<'a>,
     constructors: &Constructors,
     signatures: &IndexMap<&str, &TypeExpr>,
-    decl: &Decl,
+    decl: &'a Decl,
 ) -> Result<(), UnifyFault>
     requires assumed { AreAssumed solver.old.given environment.old }
     ensures answers { (all : Declarations) → AreSignatures all signatures.now → Answers (λ r. SignedClauseHas (known_of constructors.now) all (assumptions_put r (assumptions environment.old)) decl.now) solver.old solver.new result }
@@ -537,13 +571,13 @@ fn check_signed(
 
 /// Checks the clauses of a list whose variables have signatures.
 #[cycle(checking)]
-fn check_all_signed(
+fn check_all_signed<'a>(
     alloc: Global,
     solver: &mut Solver,
-    environment: &mut Environment,
+    environment: &mut Environment<'a>,
     constructors: &Constructors,
     signatures: &IndexMap<&str, &TypeExpr>,
-    decls: &[Decl],
+    decls: &'a [Decl],
 ) -> Result<(), UnifyFault>
     requires signatures { AreSignatures (declarations decls.now) signatures.now }
     requires assumed { AreAssumed solver.old.given environment.old }
@@ -567,15 +601,16 @@ fn check_all_signed(
 /// Infers the schemes of a binding list, and binds its names in the environment: first those that
 /// are declared, then group after group, and at last the bindings with signatures are checked.
 #[cycle(checking)]
-pub fn check_bindings(
+pub(crate) fn check_bindings<'a>(
     alloc: Global,
     solver: &mut Solver,
-    environment: &mut Environment,
+    environment: &mut Environment<'a>,
     constructors: &Constructors,
-    list: &[Decl],
+    list: &'a [Decl],
 ) -> Result<(), UnifyFault>
     requires { AreAssumed solver.old.given environment.old }
-    ensures { Listed (list_of (known_of constructors.now) list.now) solver.old environment.old solver.new environment.new result }
+    ensures listed { Listed (list_of (known_of constructors.now) list.now) solver.old environment.old solver.new environment.new result }
+    ensures closed { OnOk result (AreAssumed 0 environment.old → AreAssumed 0 environment.new) }
 {
     solver.well_formed();
     if list.is_empty() {

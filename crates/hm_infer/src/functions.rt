@@ -26,12 +26,12 @@ use std::alloc::Global;
 
 /// Takes the type of a function apart, matches its patterns, and assumes their variables. Answers
 /// the number of the variable that is the type of the body.
-pub fn open_function(
+pub(crate) fn open_function<'a>(
     alloc: Global,
     solver: &mut Solver,
-    environment: &mut Environment,
+    environment: &mut Environment<'a>,
     constructors: &Constructors,
-    pats: &[Pat],
+    pats: &'a [Pat],
     t: &Ty,
 ) -> Result<usize, UnifyFault>
     requires given { IsWellFormed solver.old.given (type_of t.now) }
@@ -56,12 +56,12 @@ pub fn open_function(
 
 /// Matches the pattern of an alternative against the variable `first`, and assumes its variables.
 /// The body of the alternative has the type `t`.
-pub fn open_alternative(
+pub(crate) fn open_alternative<'a>(
     alloc: Global,
     solver: &mut Solver,
-    environment: &mut Environment,
+    environment: &mut Environment<'a>,
     constructors: &Constructors,
-    pat: &Pat,
+    pat: &'a Pat,
     first: usize,
     t: &Ty,
 ) -> Result<(), UnifyFault>

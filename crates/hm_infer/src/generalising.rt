@@ -1,6 +1,6 @@
 //! Types are generalised to schemes (Damas and Milner 1982, section 5; Haskell 98 Report, section 4.5.2).
 
-ghost use Rattle.std.specs.Prelude.{◌≡◌, ℕ, List, ◌+◌, length, IfOk, OnOk};
+ghost use Rattle.std.specs.Prelude.{◌≡◌, ℕ, List, ◌+◌, length, true, IfOk, OnOk};
 ghost use Rattle.hm_types.specs.Shape.{type_of};
 ghost use Rattle.hm_types.specs.Types.{Var as leaf, put};
 ghost use Rattle.hm_types.specs.Numbers.{Numbers};
@@ -15,6 +15,7 @@ ghost use Rattle.hm_unify.specs.Bindings.{solution};
 ghost use Rattle.hm_unify.specs.WellFormed.{IsWellFormed};
 ghost use Rattle.hm_infer.specs.Collected.{Gathers};
 ghost use Rattle.hm_infer.specs.Generalised.{IsFreeUnder, closing, IsClosing};
+ghost use Rattle.hm_infer.specs.Places.{IsClosedBody};
 
 use crate::collecting::{Collected, collect, has_number, none_collected, place_of, see_rigid};
 use hm_types::{Ty, Types};
@@ -23,7 +24,7 @@ use std::alloc::{AllocError, Global};
 
 /// Adds the variables that are free in a scheme, with what the solver knows put for its free
 /// variables.
-pub fn gather_free(
+pub(crate) fn gather_free(
     solver: &Solver,
     seen: &mut Collected,
     quantified: usize,
@@ -111,14 +112,14 @@ fn close(
 /// A scheme: the variables of `body` below `quantified` are quantified, and each other one stands
 /// for the variable whose number is less by as much.
 #[derive(Drop)]
-pub struct Generalised {
+pub(crate) struct Generalised {
     pub quantified: usize,
     pub body: Ty,
 }
 
 /// The scheme of a type, with what the solver knows put for its variables. The variables that are
 /// kept stay free.
-pub fn generalise(
+pub(crate) fn generalise(
     alloc: Global,
     solver: &Solver,
     kept: &Collected,
@@ -135,4 +136,22 @@ pub fn generalise(
     let quantified = sum(slots.plain.len(), slots.rigid.len())?;
     let body = close(alloc, kept, &slots, quantified, &value)?;
     Ok(Generalised { quantified, body })
+}
+
+/// Whether all variables of a type are below a number.
+pub(crate) fn is_closed(quantified: usize, body: &Ty) -> bool
+    ensures { result ≡ true → IsClosedBody quantified (type_of body.now) }
+{
+    match body {
+        Ty::Var(n) => *n < quantified,
+        Ty::Rigid(n) => *n < quantified,
+        Ty::App(_, arguments) => {
+            for argument in arguments.as_slice() {
+                if !is_closed(quantified, argument) {
+                    return false;
+                }
+            }
+            true
+        }
+    }
 }

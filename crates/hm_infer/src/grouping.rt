@@ -1,11 +1,13 @@
 //! The names of a binding group: their types while it is inferred, and their schemes afterwards
 //! (Haskell 98 Report, section 4.5.2).
 
-ghost use Rattle.std.specs.Prelude.{◌≡◌, ℕ, ◌+◌, ◌<◌, ◌≤◌, ◌^◌, ◌++◌, List, All, IfOk, IfErr, OnOk, length};
+ghost use Rattle.std.specs.Prelude.{◌≡◌, ℕ, ◌+◌, ◌<◌, ◌≤◌, ◌^◌, ◌++◌, List, All, IfOk, IfErr, OnOk, false, length};
 ghost use Rattle.hm_groups.specs.Nodes.{list_nodes};
 ghost use Rattle.hm_groups.specs.Groups.{node_name};
+ghost use Rattle.hm_types.specs.Monotypes.{Leaf};
 ghost use Rattle.hm_types.specs.Shape.{type_of};
 ghost use Rattle.hm_unify.specs.WellFormed.{IsWellFormed};
+ghost use Rattle.hm_infer.specs.Collected.{has_leaf};
 ghost use Rattle.hm_infer.specs.BoundNames.{ArePlaced, BindsNode, Extends, BindsTypes, BindsSchemes};
 ghost use Rattle.hm_infer.specs.Environments.{AreAssumed, Assumed, assumptions};
 ghost use Rattle.hm_infer.specs.Generalisations.{IsSolution, Keeps};
@@ -21,7 +23,6 @@ ghost use Rattle.hm_typing.specs.Schemes.{Monotype};
 use crate::collecting::Collected;
 use crate::environment::Environment;
 use crate::generalising::{Generalised, generalise};
-use crate::keys::Key;
 use crate::unifying::new_variables;
 use hm_groups::{BindingGroups, Member, Numbers, group_members};
 use hm_types::Ty;
@@ -29,7 +30,7 @@ use hm_unify::{Solver, UnifyFault};
 use std::alloc::{AllocError, Global};
 
 /// Gives the nodes of a group the variables from `first` on.
-pub fn place_types(types: &mut [usize], group: &[usize], first: usize)
+pub(crate) fn place_types(types: &mut [usize], group: &[usize], first: usize)
     requires nodes { All (λ j. j < length types.old) group.now }
     requires fits { first + length group.now < 2 ^ 64 }
     ensures placed { ArePlaced first group.now types.new }
@@ -41,10 +42,9 @@ pub fn place_types(types: &mut [usize], group: &[usize], first: usize)
 }
 
 /// Binds a node to a scheme, if it is a variable: a pattern binding's own name is never mentioned.
-fn bind_node(
-    alloc: Global,
-    environment: &mut Environment,
-    numbers: &Numbers,
+fn bind_node<'a>(
+    environment: &mut Environment<'a>,
+    numbers: &Numbers<'a>,
     node: usize,
     quantified: usize,
     body: Ty,
@@ -57,16 +57,15 @@ fn bind_node(
     let Some(name) = numbers.variable(node) else {
         return Ok(());
     };
-    let key = Key::of_lent(alloc, name)?;
-    environment.bind(key, quantified, body)?;
+    environment.bind(name, quantified, body)?;
     Ok(())
 }
 
 /// Binds the variables among the nodes of a group to their types.
-pub fn bind_types(
+pub(crate) fn bind_types<'a>(
     alloc: Global,
-    environment: &mut Environment,
-    numbers: &Numbers,
+    environment: &mut Environment<'a>,
+    numbers: &Numbers<'a>,
     group: &[usize],
     types: &[usize],
 ) -> Result<(), AllocError>
@@ -79,18 +78,18 @@ pub fn bind_types(
     'nodes: for place in 0..group.len() {
         let node = group[place];
         let number = types[node];
-        bind_node(alloc, environment, numbers, node, 0, Ty::Var(number))?;
+        bind_node(environment, numbers, node, 0, Ty::Var(number))?;
     }
     Ok(())
 }
 
 /// Binds the variables among the nodes of a group to the closures of their types, with what the
 /// solver knows put for their variables. The variables that are kept stay free.
-pub fn bind_schemes(
+pub(crate) fn bind_schemes<'a>(
     alloc: Global,
     solver: &Solver,
-    environment: &mut Environment,
-    numbers: &Numbers,
+    environment: &mut Environment<'a>,
+    numbers: &Numbers<'a>,
     group: &[usize],
     types: &[usize],
     kept: &Collected,
@@ -100,6 +99,7 @@ pub fn bind_schemes(
     requires numbers { AreGivenTypes solver.now.given types.now }
     ensures bound { OnOk result ((k : Known) (all : Declarations) → numbers.now ≡ list_nodes all all → (A : Assumptions) (m : ℕ → Monotype) → IsSolution solver.now.equations m → Keeps kept.now (assumptions_put m A) → BindsSchemes k all types.now m A group.now environment.old environment.new) }
     ensures given { OnOk result (AreAssumed solver.now.given environment.old → AreAssumed solver.now.given environment.new) }
+    ensures closed { OnOk result (((l : Leaf) → has_leaf kept.now l ≡ false) → AreAssumed 0 environment.old → AreAssumed 0 environment.new) }
     ensures added { OnOk result (Extends environment.old environment.new) }
 {
     'nodes: for place in 0..group.len() {
@@ -107,18 +107,18 @@ pub fn bind_schemes(
         let number = types[node];
         let scheme = generalise(alloc, solver, kept, &Ty::Var(number))?;
         let Generalised { quantified, body } = scheme;
-        bind_node(alloc, environment, numbers, node, quantified, body)?;
+        bind_node(environment, numbers, node, quantified, body)?;
     }
     Ok(())
 }
 
 /// Gives the nodes of a group new variables for their types, and binds its names to these. Answers
 /// the declarations of the group.
-pub fn open_group(
+pub(crate) fn open_group<'a>(
     alloc: Global,
     solver: &mut Solver,
-    environment: &mut Environment,
-    found: &BindingGroups,
+    environment: &mut Environment<'a>,
+    found: &BindingGroups<'a>,
     group: &[usize],
     types: &mut [usize],
 ) -> Result<Vec<Member>, UnifyFault>
@@ -139,11 +139,11 @@ pub fn open_group(
 
 /// Binds the names of a group to the closures of their types over the outermost `depth`
 /// assumptions.
-pub fn close_group(
+pub(crate) fn close_group<'a>(
     alloc: Global,
     solver: &Solver,
-    environment: &mut Environment,
-    found: &BindingGroups,
+    environment: &mut Environment<'a>,
+    found: &BindingGroups<'a>,
     group: &[usize],
     types: &[usize],
     depth: usize,
@@ -155,6 +155,7 @@ pub fn close_group(
     requires depth { depth ≤ length environment.old }
     ensures closed { OnOk result (IsClosedGroup found.now.numbers group.now types.now depth solver.now environment.old environment.new) }
     ensures assumed { OnOk result (AreAssumed solver.now.given environment.new) }
+    ensures closed_alone { OnOk result (AreAssumed 0 environment.old → AreAssumed 0 environment.new) }
     ensures added { OnOk result (Extends environment.old environment.new) }
     ensures refused { IfErr result (λ e. e ≡ Memory) }
 {

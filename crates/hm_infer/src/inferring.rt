@@ -1,30 +1,93 @@
-//! Principal schemes of binding lists (Damas and Milner 1982, section 6).
+//! Principal schemes of binding lists and of cores (Damas and Milner 1982, section 6).
 
+ghost use Rattle.std.specs.Prelude.{◌≡◌, IfOk, IfErr, OnOk};
+ghost use Rattle.hm_typing.specs.BindingLists.{HasSchemes};
+ghost use Rattle.hm_typing.specs.Names.{Identifier as Name};
+ghost use Rattle.hm_typing.specs.Schemes.{Scheme};
+ghost use Rattle.hm_scope.specs.Cores.{IsSomeCore, known, syntax_of, assumptions as assumptions_of};
+ghost use Rattle.hm_scope.specs.SchemeTables.{scheme_of};
+ghost use Rattle.hm_verdicts.specs.ModuleVerdicts.{ArePrincipal};
 ghost use Rattle.hm_infer.specs.Constructors.{known_of};
 ghost use Rattle.hm_infer.specs.Environments.{AreAssumed};
+ghost use Rattle.hm_infer.specs.Faults.{IsUntypable};
 ghost use Rattle.hm_infer.specs.PrincipalLists.{Inferred};
 ghost use Rattle.hm_infer.specs.Stages.{list_of};
 
+use crate::assuming::imported_environment;
 use crate::constructors::Constructors;
+use crate::declaring::known_constructors;
 use crate::environment::Environment;
 use crate::expressions::check_bindings;
-use hm_syntax::Decl;
+use crate::own_schemes::own_schemes;
+use crate::untyped_units::untyped_units;
+use hm_scope::{Core, Fault, Schemes};
+use hm_syntax::{Decl, Row};
 use hm_unify::{Solver, UnifyFault};
-use std::alloc::Global;
+use std::alloc::{AllocError, Global};
+
+/// Why a core has no schemes.
+#[derive(Drop)]
+pub enum InferFault {
+    /// Its type faults, ordered by place.
+    Untypable(Row<Fault>),
+    /// Memory ran out.
+    Memory,
+}
+
+impl From<AllocError> for InferFault {
+    ghost use Rattle.std.specs.Prelude.{◌≡◌};
+    ghost use Rattle.hm_infer.specs.declared.inferring.InferFault.TheVariants.{Memory};
+
+    ghost from_gives = { λ _ e. e ≡ Memory };
+
+    fn from(_e: AllocError) -> InferFault {
+        InferFault::Memory
+    }
+}
 
 /// Infers the principal schemes of a binding list under closed assumptions, with a solver of its
 /// own, and binds its names to them. Where the list has no typing the answer is `Clash`.
-pub fn infer_list(
+pub(crate) fn infer_list<'a>(
     alloc: Global,
-    environment: &mut Environment,
+    environment: &mut Environment<'a>,
     constructors: &Constructors,
-    list: &[Decl],
+    list: &'a [Decl],
 ) -> Result<(), UnifyFault>
     requires closed { AreAssumed 0 environment.old }
     ensures inferred { Inferred (list_of (known_of constructors.now) list.now) environment.old environment.new result }
+    ensures closed { OnOk result (AreAssumed 0 environment.new) }
 {
     let mut solver = Solver::new(alloc);
     check_bindings(alloc, &mut solver, environment, constructors, list)?;
     solver.has_solution();
     Ok(())
+}
+
+/// The fault of a core whose list has no typing.
+fn untypable(alloc: Global, core: &Core, constructors: &Constructors) -> InferFault
+    requires core { IsSomeCore core.now }
+    requires known { known_of constructors.now ≡ known core.now }
+    requires untyped { (B : Name → Scheme) → HasSchemes (assumptions_of core.now) (syntax_of core.now) B → ⊥ }
+    ensures { IsUntypable core.now result }
+{
+    match untyped_units(alloc, core, constructors) {
+        Ok(found) => InferFault::Untypable(found),
+        Err(_) => InferFault::Memory,
+    }
+}
+
+/// The principal schemes of a core's variables, or the units that have no type.
+pub fn infer(alloc: Global, core: &Core) -> Result<Schemes, InferFault>
+    requires core { IsSomeCore core.now }
+    ensures schemes { IfOk result (λ schemes. ArePrincipal core.now (scheme_of schemes)) }
+    ensures faults { IfErr result (IsUntypable core.now) }
+{
+    let constructors = known_constructors(alloc, core)?;
+    let mut environment = imported_environment(alloc, core.interfaces.as_slice())?;
+    let list = core.decls.as_slice();
+    match infer_list(alloc, &mut environment, &constructors, list) {
+        Ok(()) => Ok(own_schemes(alloc, core.name.as_str(), &environment)?),
+        Err(UnifyFault::Clash) => Err(untypable(alloc, core, &constructors)),
+        Err(UnifyFault::Memory) => Err(InferFault::Memory),
+    }
 }

@@ -2,32 +2,40 @@
 //! binding lists are checked against types, with a solver of equations.
 #![tactic(auto)]
 
+mod assuming;
 mod bindings;
+mod checking;
 mod collecting;
 mod constructors;
 mod declared;
+mod declaring;
+mod dependences;
 mod environment;
 mod escaping;
 mod expressions;
+mod finding_faults;
 mod functions;
 mod generalising;
 mod grouping;
 mod inferring;
 mod instances;
-mod judging;
-mod keys;
+mod judging_units;
 mod names;
+mod outcome;
+mod own_schemes;
 mod parts;
 mod patterns;
 mod shapes;
 mod signed;
+mod signed_faults;
+mod signed_starts;
+mod special;
+mod telling;
 mod unifying;
+mod unit_starts;
+mod untyped_units;
 mod variables;
 
-pub use constructors::{Constructors, Entry};
-pub use environment::{Environment, Scheme};
-pub use expressions::{check_bindings, check_expression};
-pub use inferring::infer_list;
-pub use judging::judge_expression;
-pub use keys::Key;
-pub use variables::{Variable, Variables};
+pub use checking::{CheckFault, check_module};
+pub use inferring::{InferFault, infer};
+pub use outcome::{Outcome, Verdict};

@@ -1,6 +1,9 @@
-//! Names are checked against types.
+//! Names: what they stand for, and the types that they are checked against.
 
-ghost use Rattle.std.specs.Prelude.{◌≡◌};
+ghost use Rattle.std.specs.Prelude.{◌≡◌, ℕ, List, IfSome, IfNone};
+ghost use Rattle.hm_groups.specs.Keys.{variable_of_key};
+ghost use Rattle.hm_groups.specs.Variables.{identifier};
+ghost use Rattle.hm_typing.specs.Names.{global};
 ghost use Rattle.hm_types.specs.Shape.{type_of};
 ghost use Rattle.hm_types.specs.Types.{put};
 ghost use Rattle.hm_typing.specs.Assumptions.{Has, assumptions_put};
@@ -11,16 +14,42 @@ ghost use Rattle.hm_scope.specs.Syntax.{name_of};
 
 use crate::environment::Environment;
 use crate::instances::check_scheme;
+use hm_groups::LentName;
 use hm_syntax::Name;
-use hm_types::Ty;
+use hm_types::{Entity, Ty};
 use hm_unify::{Solver, UnifyFault};
 use std::alloc::Global;
 
+/// The name of an entity.
+pub(crate) fn entity_name(entity: &Entity) -> LentName<'_>
+    ensures { identifier (variable_of_key result) ≡ global entity.now }
+{
+    LentName {
+        qualifier: Some(entity.module.as_str()),
+        text: entity.name.as_str(),
+    }
+}
+
+/// The text of a name, if it is that of an entity of the module `home`.
+pub(crate) fn own_text<'a>(name: LentName<'a>, home: &str) -> Option<&'a str>
+    ensures own { IfSome result (λ text. identifier (variable_of_key name.entry) ≡ global (record { «module» = home.now; name = text.now })) }
+    ensures other { IfNone result ((x : List ℕ) → ¬ (identifier (variable_of_key name.entry) ≡ global (record { «module» = home.now; name = x }))) }
+{
+    let Some(module) = name.qualifier else {
+        return None;
+    };
+    if module == home {
+        Some(name.text)
+    } else {
+        None
+    }
+}
+
 /// Checks a variable against a type.
-pub fn check_name(
+pub(crate) fn check_name(
     alloc: Global,
     solver: &mut Solver,
-    environment: &Environment,
+    environment: &Environment<'_>,
     name: &Name,
     t: &Ty,
 ) -> Result<(), UnifyFault>

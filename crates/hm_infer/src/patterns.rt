@@ -17,22 +17,22 @@ ghost use Rattle.hm_scope.specs.Syntax.{name_of, pattern_of, patterns_of};
 ghost use Rattle.hm_infer.specs.Constructors.{known_of};
 
 use crate::constructors::Constructors;
-use crate::keys::Key;
 use crate::parts::{constructor_parts, list_part, tuple_parts};
 use crate::shapes::literal_type;
 use crate::unifying::equate;
 use crate::variables::Variables;
+use hm_groups::key_of;
 use hm_syntax::{Name, Pat, PatKind};
 use hm_types::Ty;
 use hm_unify::{Solver, UnifyFault};
 use std::alloc::Global;
 
 /// Adds a variable of a pattern. One of its name that is there has its type.
-fn add_variable(
+fn add_variable<'a>(
     alloc: Global,
     solver: &mut Solver,
-    variables: &mut Variables,
-    name: &Name,
+    variables: &mut Variables<'a>,
+    name: &'a Name,
     t: &Ty,
 ) -> Result<(), UnifyFault>
     requires given { IsWellFormed solver.old.given (type_of t.now) }
@@ -42,13 +42,13 @@ fn add_variable(
     solver.well_formed();
     match variables.find(name) {
         None => {
-            variables.add(Key::of(name)?, t.copy(alloc)?)?;
+            variables.add(key_of(name), t.copy(alloc)?)?;
             Ok(())
         }
         Some(u) => {
             let known = u.copy(alloc)?;
             equate(solver, t, &known)?;
-            variables.add(Key::of(name)?, known)?;
+            variables.add(key_of(name), known)?;
             Ok(())
         }
     }
@@ -56,12 +56,12 @@ fn add_variable(
 
 /// Matches a pattern against a type, and adds its variables.
 #[cycle(matching)]
-pub fn match_pattern(
+pub(crate) fn match_pattern<'a>(
     alloc: Global,
     solver: &mut Solver,
     constructors: &Constructors,
-    variables: &mut Variables,
-    pattern: &Pat,
+    variables: &mut Variables<'a>,
+    pattern: &'a Pat,
     t: &Ty,
 ) -> Result<(), UnifyFault>
     requires given { IsWellFormed solver.old.given (type_of t.now) }
@@ -78,8 +78,8 @@ pub fn match_pattern(
             add_variable(alloc, solver, variables, name, t)
         }
         PatKind::Con(name, parts) => {
-            let scheme = constructors.find(name);
-            let first = constructor_parts(alloc, solver, scheme, parts.len(), t)?;
+            let scheme = constructors.find(alloc, name)?;
+            let first = constructor_parts(alloc, solver, &scheme, parts.len(), t)?;
             match_patterns(alloc, solver, constructors, variables, parts, first, false)
         }
         PatKind::Literal(literal) => {
@@ -102,12 +102,12 @@ pub fn match_pattern(
 /// Matches patterns, the last first: against the variables from `first` on, or each against that
 /// one.
 #[cycle(matching)]
-pub fn match_patterns(
+pub(crate) fn match_patterns<'a>(
     alloc: Global,
     solver: &mut Solver,
     constructors: &Constructors,
-    variables: &mut Variables,
-    parts: &[Pat],
+    variables: &mut Variables<'a>,
+    parts: &'a [Pat],
     first: usize,
     same: bool,
 ) -> Result<(), UnifyFault>
@@ -136,7 +136,7 @@ pub fn match_patterns(
 }
 
 /// The number of the j-th of some variables, or of the one that stands for each.
-pub fn element(first: usize, j: usize, same: bool) -> usize
+pub(crate) fn element(first: usize, j: usize, same: bool) -> usize
     requires { cond same first (first + j) < 2 ^ 64 }
     ensures { result ≡ cond same first (first + j) }
 {

@@ -19,7 +19,7 @@ use hm_types::{Entity, Head, Text, Ty, Types};
 use std::alloc::{AllocError, Global};
 
 /// The type of functions from the variables from `first` on, so many, to `outcome`.
-pub fn function_type(
+pub(crate) fn function_type(
     alloc: Global,
     first: usize,
     count: usize,
@@ -39,7 +39,7 @@ pub fn function_type(
 }
 
 /// The type of tuples of the variables from `first` on, so many.
-pub fn tuple_type(alloc: Global, first: usize, count: usize) -> Result<Ty, AllocError>
+pub(crate) fn tuple_type(alloc: Global, first: usize, count: usize) -> Result<Ty, AllocError>
     requires { first + count < 2 ^ 64 }
     ensures shape { IfOk result (λ t. monotype (type_of t) ≡ tuple count (from_number false first)) }
     ensures given { IfOk result (λ t. (g : ℕ) → first + count ≤ g → IsWellFormed g (type_of t)) }
@@ -52,7 +52,7 @@ pub fn tuple_type(alloc: Global, first: usize, count: usize) -> Result<Ty, Alloc
 }
 
 /// The type of lists of a type.
-pub fn list_of(alloc: Global, element: Ty) -> Result<Ty, AllocError>
+pub(crate) fn list_of(alloc: Global, element: Ty) -> Result<Ty, AllocError>
     ensures { IfOk result (λ t. type_of t ≡ app head.List (more (type_of element) none)) }
 {
     let mut parts = Vec::new(alloc);
@@ -61,7 +61,7 @@ pub fn list_of(alloc: Global, element: Ty) -> Result<Ty, AllocError>
 }
 
 /// The type of lists of a variable.
-pub fn list_type(alloc: Global, element: usize) -> Result<Ty, AllocError>
+pub(crate) fn list_type(alloc: Global, element: usize) -> Result<Ty, AllocError>
     ensures shape { IfOk result (λ t. monotype (type_of t) ≡ list (from_number false element 0)) }
     ensures given { IfOk result (λ t. (g : ℕ) → element < g → IsWellFormed g (type_of t)) }
 {
@@ -71,7 +71,7 @@ pub fn list_type(alloc: Global, element: usize) -> Result<Ty, AllocError>
 }
 
 /// A type of Prelude without arguments.
-pub fn prelude_type(alloc: Global, name: &str) -> Result<Ty, AllocError>
+pub(crate) fn prelude_type(alloc: Global, name: &str) -> Result<Ty, AllocError>
     ensures { IfOk result (λ t. type_of t ≡ app (head.Named (record { «module» = codes "Prelude"; name = name.now })) none) }
 {
     let entity = Entity {
@@ -82,7 +82,7 @@ pub fn prelude_type(alloc: Global, name: &str) -> Result<Ty, AllocError>
 }
 
 /// The type of a literal.
-pub fn literal_type(alloc: Global, literal: &Literal) -> Result<Ty, AllocError>
+pub(crate) fn literal_type(alloc: Global, literal: &Literal) -> Result<Ty, AllocError>
     ensures shape { IfOk result (λ t. monotype (type_of t) ≡ typed.literal_type (literal_of literal.now)) }
     ensures given { IfOk result (λ t. (g : ℕ) → IsWellFormed g (type_of t)) }
 {
@@ -97,7 +97,7 @@ pub fn literal_type(alloc: Global, literal: &Literal) -> Result<Ty, AllocError>
 }
 
 /// The type of functions from a variable to a type.
-pub fn function_from(alloc: Global, argument: usize, outcome: &Ty) -> Result<Ty, AllocError>
+pub(crate) fn function_from(alloc: Global, argument: usize, outcome: &Ty) -> Result<Ty, AllocError>
     ensures shape { IfOk result (λ t. monotype (type_of t) ≡ arrow (from_number false argument 0) (monotype (type_of outcome.now))) }
     ensures given { IfOk result (λ t. (g : ℕ) → argument < g → IsWellFormed g (type_of outcome.now) → IsWellFormed g (type_of t)) }
 {

@@ -12,8 +12,7 @@ ghost use Rattle.hm_infer.specs.Stages.{list_of};
 
 use crate::declared::declare;
 use crate::environment::Environment;
-use crate::keys::Key;
-use hm_groups::is_continued;
+use hm_groups::{is_continued, key_of};
 use hm_syntax::{Decl, DeclKind, Name, TypeExpr};
 use indexmap::IndexMap;
 use std::alloc::{AllocError, Global};
@@ -47,7 +46,7 @@ fn add_signature<'a>(
 
 /// The declared types of the variables of a list, by their texts. Of two signatures of one
 /// variable the first counts.
-pub fn signatures_of<'a>(
+pub(crate) fn signatures_of<'a>(
     alloc: Global,
     decls: &'a [Decl],
 ) -> Result<IndexMap<&'a str, &'a TypeExpr>, AllocError>
@@ -62,7 +61,7 @@ pub fn signatures_of<'a>(
 }
 
 /// The declared type of a variable, if it has a signature.
-pub fn declared_for<'a>(
+pub(crate) fn declared_for<'a>(
     signatures: &IndexMap<&str, &'a TypeExpr>,
     name: &Name,
 ) -> Option<&'a TypeExpr>
@@ -76,11 +75,11 @@ pub fn declared_for<'a>(
 
 /// Binds the variable of a declaration, if a binding ends with it whose variable has a signature,
 /// to the declared scheme.
-fn bind_declared(
+fn bind_declared<'a>(
     alloc: Global,
-    environment: &mut Environment,
+    environment: &mut Environment<'a>,
     signatures: &IndexMap<&str, &TypeExpr>,
-    decl: &Decl,
+    decl: &'a Decl,
     rest: &[Decl],
 ) -> Result<(), AllocError>
     ensures bound { OnOk result ((k : Known) (all : Declarations) → AreSignatures all signatures.now → BindsDeclaration k all decl.now (declarations rest.now) environment.old environment.new) }
@@ -96,18 +95,17 @@ fn bind_declared(
     let Some(ty) = declared_for(signatures, name) else {
         return Ok(());
     };
-    let key = Key::of(name)?;
     let declared = declare(alloc, ty)?;
-    environment.bind(key, declared.count, declared.body)?;
+    environment.bind(key_of(name), declared.count, declared.body)?;
     Ok(())
 }
 
 /// Binds the variables of a list that have signatures to their declared schemes.
-pub fn bind_signed(
+pub(crate) fn bind_signed<'a>(
     alloc: Global,
-    environment: &mut Environment,
+    environment: &mut Environment<'a>,
     signatures: &IndexMap<&str, &TypeExpr>,
-    decls: &[Decl],
+    decls: &'a [Decl],
 ) -> Result<(), AllocError>
     requires { AreSignatures (declarations decls.now) signatures.now }
     ensures bound { OnOk result ((k : Known) → BindsSigned (list_of k decls.now) environment.old environment.new) }

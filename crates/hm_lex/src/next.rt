@@ -12,7 +12,7 @@ use crate::symbols::symbols;
 
 /// What stands at the front of a text.
 #[derive(Clone, Copy, Debug, PartialEq, Eq)]
-pub enum Next {
+pub(crate) enum Next {
     /// An item of so many bytes.
     Item(Item, usize),
     OpenComment,
@@ -20,7 +20,7 @@ pub enum Next {
 }
 
 /// The longest item at the front of a text, which is not empty.
-pub fn next_item(bytes: &[u8]) -> Next
+pub(crate) fn next_item(bytes: &[u8]) -> Next
     requires { 0 < length bytes.now }
     ensures { IsNext bytes.now result }
 {

@@ -141,7 +141,7 @@ fn string_rest_len(bytes: &[u8]) -> Option<usize>
 }
 
 /// The string at the front.
-pub fn string(bytes: &[u8]) -> Next
+pub(crate) fn string(bytes: &[u8]) -> Next
     requires { StartsWith DoubleQuote bytes.now }
     ensures { IsNext bytes.now result }
 {
@@ -196,7 +196,7 @@ fn character_item_len(bytes: &[u8]) -> Option<usize>
 }
 
 /// The character at the front.
-pub fn character(bytes: &[u8]) -> Next
+pub(crate) fn character(bytes: &[u8]) -> Next
     requires { StartsWith Quote bytes.now }
     ensures { IsNext bytes.now result }
 {

@@ -25,7 +25,7 @@ fn are_dashes(bytes: &[u8]) -> bool
 }
 
 /// The operator or the line comment at the front.
-pub fn symbols(bytes: &[u8]) -> Next
+pub(crate) fn symbols(bytes: &[u8]) -> Next
     requires { StartsWith Symbol bytes.now }
     ensures { IsNext bytes.now result }
 {

@@ -43,14 +43,14 @@ fn is_one_of(words: &[&[u8]], text: &[u8]) -> bool
 }
 
 #[tactic(auto, unfolding(crate::specs::Names::is_reserved))]
-pub fn is_reserved(text: &[u8]) -> bool
+pub(crate) fn is_reserved(text: &[u8]) -> bool
     ensures { result ≡ is_reserved text.now }
 {
     is_one_of(&RESERVED_WORDS, text)
 }
 
 #[tactic(auto, unfolding(crate::specs::Symbols::is_operator))]
-pub fn is_operator(text: &[u8]) -> bool
+pub(crate) fn is_operator(text: &[u8]) -> bool
     ensures { result ≡ is_operator text.now }
 {
     is_one_of(&OPERATORS, text)
@@ -61,14 +61,14 @@ const OPENINGS: [&[u8]; 3] = [b"(", b"[", b"{"];
 const CLOSINGS: [&[u8]; 3] = [b")", b"]", b"}"];
 
 #[tactic(auto, unfolding(crate::specs::Cut::is_opening))]
-pub fn is_opening(text: &[u8]) -> bool
+pub(crate) fn is_opening(text: &[u8]) -> bool
     ensures { result ≡ is_opening text.now }
 {
     is_one_of(&OPENINGS, text)
 }
 
 #[tactic(auto, unfolding(crate::specs::Cut::is_closing))]
-pub fn is_closing(text: &[u8]) -> bool
+pub(crate) fn is_closing(text: &[u8]) -> bool
     ensures { result ≡ is_closing text.now }
 {
     is_one_of(&CLOSINGS, text)

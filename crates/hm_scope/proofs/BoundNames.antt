@@ -1,5 +1,5 @@
 -- The variables that declarations bind, declaration by declaration.
-use Rattle.std.proofs.Common.{◌≡◌, ℕ, List, [], ◌∷◌, ◌++◌, map, ◌⊎◌, inl, inr, ⊎_elim, refl, sym, ap, ◌∙◌, subst, Contains, Bor, append-nil}
+use Rattle.std.proofs.Common.{◌≡◌, ℕ, List, [], ◌∷◌, ◌++◌, map, inr, ⊎_elim, refl, sym, ap, ◌∙◌, subst, Contains, Bor, append-nil}
 use Rattle.std.specs.Prelude.{◌↔◌}
 use Rattle.std.proofs.lemmas.List.{map-append}
 use Rattle.std.proofs.lemmas.List.Elements.{Contains-append_left, Contains-append_right, Contains-append_cases}
@@ -8,7 +8,7 @@ use Rattle.hm_syntax.specs.Names.{Identifier}
 use Rattle.hm_syntax.specs.Trees.{Pattern, Patterns, RightSide, Declaration, data_declaration, newtype_declaration, synonym_declaration, signature, clause, pattern_binding}
 use Rattle.hm_scope.specs.Bindings.{Adds}
 use Rattle.hm_scope.specs.Variables.{bound_names, texts, pattern_variables}
-use Rattle.hm_scope.proofs.AddedPairs.{adds_like, adds_none, ForEach}
+use Rattle.hm_scope.proofs.AddedPairs.{adds_like, ForEach}
 use Rattle.hm_scope.proofs.Members.{none_in, cases, first, rest, mapped}
 
 abbrev pub BoundBy : Declaration → List ℕ → Type 0

@@ -1,5 +1,5 @@
 -- Clauses that go on a binding, and constructors in rows.
-use Rattle.std.proofs.Common.{◌≡◌, ℕ, ◌+◌, Bool, true, false, cond, ◌&&◌, ◌==◌, not, List, [], ◌∷◌, ◌++◌, Some, Option, suc, refl, sym, ap, ◌∙◌, subst, map, bytes_eq, Bor, length, append_assoc, arith}
+use Rattle.std.proofs.Common.{◌≡◌, ℕ, Bool, true, false, ◌==◌, not, List, [], ◌∷◌, ◌++◌, Some, Option, suc, refl, sym, ap, ◌∙◌, subst, map, bytes_eq, Bor, length, append_assoc}
 use Rattle.std.proofs.Math.Dec.{eqb-suc-zero}
 use Rattle.hm_syntax.specs.Names.{Identifier}
 use Rattle.hm_syntax.specs.Trees.{Pattern, DataConstructor, Declarations, more_declarations, data_declaration}

@@ -1,5 +1,5 @@
 -- The variables of a type whose synonyms are expanded are among its own, and the parameters of a declaration.
-use Rattle.std.proofs.Common.{◌≡◌, ℕ, zero, suc, Bool, true, false, cond, List, [], ◌∷◌, ◌++◌, map, Option, None, Some, ◌⊎◌, inl, inr, ⊎_elim, ◌↔◌, refl, sym, ap, ◌∙◌, subst, Contains, take, get_or, ◌<◌, ◌≤◌, ◌+◌, length, Bor, arith}
+use Rattle.std.proofs.Common.{◌≡◌, ℕ, zero, suc, Bool, true, false, cond, List, [], ◌∷◌, ◌++◌, map, Option, None, Some, inl, inr, ⊎_elim, ◌↔◌, refl, sym, ap, ◌∙◌, subst, Contains, take, get_or, ◌<◌, ◌+◌, length, Bor, arith}
 use Rattle.std.proofs.lemmas.Bool.{cases_Bool, both_ways}
 use Rattle.std.proofs.lemmas.List.{take_more, map-append}
 use Rattle.std.proofs.lemmas.List.Elements.{Contains-append_left, Contains-append_right, Contains-append_cases, Contains-push, Contains-push_cases}
@@ -12,13 +12,12 @@ use Rattle.hm_syntax.specs.Names.{Identifier}
 use Rattle.hm_syntax.specs.Trees.{TypeTree, variable_type, constructor_type, function_type, tuple_type, list_type, unit_type, TypeTrees, no_types, more_types}
 use Rattle.hm_scope.specs.Texts.{is_text_among}
 use Rattle.hm_scope.specs.Variables.{texts, type_variables, types_variables}
-use Rattle.hm_scope.specs.Expansion.{argument, function_of, list_of, applied_at, filled_at, all_filled_at, expanded}
+use Rattle.hm_scope.specs.Expansion.{argument, applied_at, filled_at, all_filled_at, expanded}
 use Rattle.hm_scope.specs.Faults.Lists.{Repeats}
 use Rattle.hm_scope.specs.Resolved.{Resolver, type_with, types_with}
 use Rattle.hm_scope.specs.Synonyms.{AreAmong, IsSound}
 use Rattle.hm_scope.specs.declared.namespace.Namespace.TheVariants.{Types}
 use Rattle.hm_scope.specs.Types.{entity_of, type_in, program_of, synonym_of}
-use Rattle.hm_scope.specs.Found.{Lookups, resolver_of}
 use Rattle.hm_scope.proofs.Members.{none_in, cases, first, rest}
 use Rattle.hm_scope.proofs.Standing.{among_decides}
 use Rattle.hm_scope.proofs.TypesOfTrees.{no_rigid, arities, closed}

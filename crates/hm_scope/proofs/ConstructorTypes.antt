@@ -1,13 +1,13 @@
 -- The types of constructors as they are made.
-use Rattle.std.proofs.Common.{◌≡◌, ℕ, zero, suc, ◌+◌, ◌<◌, List, [], ◌∷◌, ◌++◌, map, length, Option, Some, refl, sym, ap, ap₂, ◌∙◌, subst, arith, add-zero, zero-add, add-one, option_to_list, Contains}
+use Rattle.std.proofs.Common.{◌≡◌, ℕ, zero, suc, ◌+◌, List, [], ◌∷◌, ◌++◌, map, length, Option, Some, refl, sym, ap, ap₂, ◌∙◌, subst, arith, add-zero, zero-add, add-one, option_to_list, Contains}
 use Rattle.std.proofs.lemmas.List.{map-append}
 use Rattle.hm_types.specs.declared.Entity.{Entity}
 use Rattle.hm_types.specs.declared.Head.TheVariants as head
 use Rattle.hm_types.specs.declared.monotypes.Ty.{Ty}
-use Rattle.hm_types.specs.Monotypes.{Mono, Monos, var, arguments_of, list_of}
+use Rattle.hm_types.specs.Monotypes.{Mono, var, arguments_of}
 use Rattle.hm_types.specs.Schemes.{HasNoRigid, AllHaveNoRigid, HasArities, AllHaveArities, canonical_of}
 use Rattle.hm_types.specs.Shape.{type_of, types_of}
-use Rattle.hm_types.specs.Types.{Var, App, done, more, put, put_all}
+use Rattle.hm_types.specs.Types.{Var, App, done, more, put_all}
 use Rattle.hm_syntax.specs.Lists.{types}
 use Rattle.hm_syntax.specs.Names.{Identifier}
 use Rattle.hm_syntax.specs.Trees.{TypeTree, DataConstructor, data_constructor}
@@ -15,8 +15,8 @@ use Rattle.hm_scope.specs.DeclaredSchemes.{functions_to, numbered}
 use Rattle.hm_scope.specs.Entities.{named}
 use Rattle.hm_scope.specs.KnownExports.{fact_in}
 use Rattle.hm_scope.specs.Synonyms.{IsSound}
-use Rattle.hm_types.specs.Synonyms.{TypeSynonym, IsSynonym}
-use Rattle.hm_scope.specs.Types.{type_in, program_of, arguments_to, parameters_from, constructor_type_in, declared_scheme, synonym_of}
+use Rattle.hm_types.specs.Synonyms.{IsSynonym}
+use Rattle.hm_scope.specs.Types.{type_in, program_of, arguments_to, parameters_from, constructor_type_in, synonym_of}
 use Rattle.hm_scope.specs.Variables.{texts}
 use Rattle.hm_scope.proofs.TypesOfTrees.{no_rigid, arities, closed}
 

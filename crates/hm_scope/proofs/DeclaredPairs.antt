@@ -1,5 +1,5 @@
 -- The pairs of what a declaration declares.
-use Rattle.std.proofs.Common.{◌≡◌, ℕ, false, List, [], ◌∷◌, ◌++◌, Option, Some, None, ◌⊎◌, inl, inr, ⊎_elim, refl, sym, ap, ◌∙◌, subst, Contains, Bor, map, length, get_or, zero, suc, arith}
+use Rattle.std.proofs.Common.{◌≡◌, ℕ, false, List, [], ◌∷◌, ◌⊎◌, inl, inr, ⊎_elim, refl, sym, ap, ◌∙◌, subst, Contains, Bor, map, zero, suc, arith}
 use Rattle.std.proofs.lemmas.List.{get_or-map, length-map}
 use Rattle.std.proofs.lemmas.List.Elements.{Contains-append_left, Contains-append_right, Contains-push}
 use Rattle.hm_syntax.specs.Names.{Identifier}
@@ -8,7 +8,7 @@ use Rattle.hm_syntax.specs.Trees.{TypeTree, Pattern, Patterns, RightSide, DataCo
 use Rattle.hm_scope.specs.declared.namespace.Namespace.{Namespace}
 use Rattle.hm_scope.specs.declared.namespace.Namespace.TheVariants.{Types, Constructors, Values}
 use Rattle.hm_scope.specs.Bindings.{Pair, Adds, IsPairOf, IsDeclaredPair, IsOwnPair}
-use Rattle.hm_scope.specs.Entities.{DeclaredBy, a_data_type, a_newtype, a_synonym, a_constructor, a_newtype_constructor, a_variable, a_matched_variable, named, own, constructor_name, constructor_list, Declares}
+use Rattle.hm_scope.specs.Entities.{DeclaredBy, a_data_type, a_newtype, a_synonym, a_constructor, a_newtype_constructor, a_variable, a_matched_variable, named, constructor_name, constructor_list}
 use Rattle.hm_scope.specs.Variables.{pattern_variables}
 use Rattle.hm_syntax.specs.declared.ast.Module.{Module}
 use Rattle.hm_scope.proofs.AddedPairs.{adds_like, adds_then, adds_none, ForEach}

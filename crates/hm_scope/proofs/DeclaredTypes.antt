@@ -1,7 +1,7 @@
 -- The variables of a declared type have numbers below how often variables occur in it.
 use Rattle.std.proofs.Common.{◌≡◌, ℕ, ◌<◌, Bool, true, false, ◌||◌, List, length, inl, inr, refl, ap, sym, ◌∙◌, subst}
 use Rattle.std.proofs.lemmas.Bool.{eq-eqb}
-use Rattle.hm_types.specs.Types.{Args, Var, App, done, more, In, InArgs, put, put_all}
+use Rattle.hm_types.specs.Types.{Args, Var, App, done, more, In, InArgs, put_all}
 use Rattle.hm_types.specs.Monotypes.{var}
 use Rattle.hm_types.specs.Substitution.{occurs, occurs_in_any}
 use Rattle.hm_typing.specs.Schemes.{Monotype}

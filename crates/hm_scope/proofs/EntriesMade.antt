@@ -23,9 +23,9 @@ use Rattle.hm_syntax.specs.Trees.{TypeTree}
 use Rattle.hm_scope.specs.declared.cores.Exported.{Exported}
 use Rattle.hm_scope.specs.declared.keys.EntityKey.{EntityKey}
 use Rattle.hm_scope.specs.declared.known_exports.KnownType.{KnownType}
-use Rattle.hm_scope.specs.declared.known_exports.KnownType.TheVariants.{Algebraic, Declared, Imported}
+use Rattle.hm_scope.specs.declared.known_exports.KnownType.TheVariants.{Algebraic}
 use Rattle.hm_scope.specs.Cores.{HasArity, HasSynonym, synonym_in, imported_values, IsDescribed, IsTop, HasScheme, own, other, ConstructorScheme, constructor_scheme, declared_schemes, imported_schemes, scheme_in}
-use Rattle.hm_scope.specs.Described.{TypeMeaning, algebraic, declared_synonym, imported_synonym, TypeDescription, type_meant, first_of, ConstructorDescription, constructor_meant, declared_constructors, imported_constructors, described}
+use Rattle.hm_scope.specs.Described.{algebraic, TypeDescription, type_meant, first_of, ConstructorDescription, constructor_meant, declared_constructors, imported_constructors, described}
 use Rattle.hm_scope.specs.Entities.{constructor_list, named}
 use Rattle.hm_syntax.specs.Lists.{types}
 use Rattle.hm_scope.specs.KnownExports.{fact_in}
@@ -38,11 +38,10 @@ use Rattle.hm_scope.specs.declared.known_exports.KnownConstructor.{KnownConstruc
 use Rattle.hm_syntax.specs.Trees.{DataConstructor, data_constructor, Declaration, data_declaration, newtype_declaration, synonym_declaration, signature, clause, pattern_binding}
 use Rattle.hm_types.specs.Interfaces.{Exports as Interface}
 use Rattle.hm_scope.specs.ExportedEntries.{AreEntries, AreTypesOf, AreTypeEntries, AreSynonymEntries, AreConstructorEntries, AreValueEntries, AreConstructorsOf, AreValuesOf}
-use Rattle.hm_scope.specs.KnownExports.{Table, meaning_of, ConstructorFact, ConstructorSource, declared, imported, declared_sources, imported_sources, source_entity, source_of, fact}
+use Rattle.hm_scope.specs.KnownExports.{Table, meaning_of, ConstructorSource, declared, imported, declared_sources, imported_sources, source_entity, source_of, fact}
 use Rattle.hm_scope.specs.KnownTables.{entity_at}
 use Rattle.hm_scope.specs.ModuleCores.{ModuleCore}
 use Rattle.hm_scope.specs.Owners.{same_key}
-use Rattle.hm_scope.specs.Types.{synonym_of}
 use Rattle.hm_scope.proofs.Members.{none_in, cases, first, mapped}
 
 -- Names in order

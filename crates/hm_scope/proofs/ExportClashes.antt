@@ -1,12 +1,12 @@
 -- Clashes of exported names.
-use Rattle.std.proofs.Common.{◌≡◌, ℕ, ◌+◌, ◌<◌, Bool, true, false, List, [], ◌∷◌, ◌++◌, Option, None, Some, option_map, Bor, ◌⊎◌, inl, inr, ⊎_elim, refl, sym, ap, ap₂, ◌∙◌, subst, Contains, IsTrue, length, take, get_or, arith}
+use Rattle.std.proofs.Common.{◌≡◌, ℕ, ◌+◌, ◌<◌, true, false, List, [], ◌∷◌, ◌++◌, Option, None, Some, ◌⊎◌, inl, inr, ⊎_elim, refl, sym, ap, ap₂, ◌∙◌, subst, Contains, length, take, get_or, arith}
 use Rattle.std.specs.Prelude.{◌↔◌}
 use Rattle.std.specs.Ordering.{nat_cmp, ordering_then, is_lt}
 use Rattle.std.specs.declared.cmp.Ordering.{Ordering}
 use Rattle.std.specs.declared.cmp.Ordering.TheVariants.{Less, Equal, Greater}
 use Rattle.std.specs.Cmp.Lexicographic.{slice_cmp}
 use Rattle.std.proofs.lemmas.Bool.{cases_lt}
-use Rattle.std.proofs.lemmas.List.{take_more, take_all}
+use Rattle.std.proofs.lemmas.List.{take_more}
 use Rattle.std.proofs.lemmas.List.Elements.{Contains-push, Contains-push_cases, Contains-append_left}
 use Rattle.std.proofs.lemmas.Map.Lookups.{exact_unsigned}
 use Rattle.hm_types.specs.declared.Entity.{Entity}
@@ -18,11 +18,10 @@ use Rattle.hm_syntax.specs.declared.ast.Export.TheVariants as export
 use Rattle.hm_syntax.specs.declared.ast.Subs.{Subs}
 use Rattle.hm_syntax.specs.declared.ast.Subs.TheVariants as subs
 use Rattle.hm_scope.specs.declared.namespace.Namespace.{Namespace}
-use Rattle.hm_scope.specs.declared.namespace.Namespace.TheVariants.{Types, Constructors, Values}
+use Rattle.hm_scope.specs.declared.namespace.Namespace.TheVariants.{Types, Values}
 use Rattle.hm_scope.specs.declared.faults.Fault.{Fault}
 use Rattle.hm_scope.specs.declared.faults.Kind.TheVariants.{ExportClash}
 use Rattle.hm_scope.specs.Bindings.{Pair, Adds, IsSeveral}
-use Rattle.hm_scope.specs.ExportGroups.{IsOwned}
 use Rattle.hm_scope.specs.ExportItems.{bare_pair, GivesBehind, GivesPair, ClashFault, IsLeastOf, LeastFault}
 use Rattle.hm_scope.specs.Exports.{Gives, a_value, a_type, each_constructor, a_constructor, whole}
 use Rattle.hm_scope.specs.Faults.Exports.{IsAtMost, Clashes, item_name, bare_at}

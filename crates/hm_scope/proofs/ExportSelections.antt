@@ -16,7 +16,6 @@ use Rattle.hm_scope.specs.Bindings.{Pair, Adds, IsScopeOf}
 use Rattle.hm_scope.specs.Described.{ConstructorDescription, first_of, declared_constructors, imported_constructors}
 use Rattle.hm_scope.specs.Entities.{named}
 use Rattle.hm_scope.specs.ExportGroups.{same_selector, Groups, grouped, group_of, IsBoth, IsOwned, IsSelected, AreGroupsOf, IsOfWhole, IsOfOwner}
-use Rattle.hm_scope.specs.Exports.{HasConstructor}
 use Rattle.hm_scope.specs.Scope.{InScope}
 use Rattle.hm_scope.proofs.AddedPairs.{adds_push, adds_like, adds_none, adds_then, ForEach}
 use Rattle.hm_scope.proofs.BareSets.{same_space}

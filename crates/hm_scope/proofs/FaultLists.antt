@@ -1,5 +1,5 @@
 -- The faults of a list, kind by kind.
-use Rattle.std.proofs.Common.{◌≡◌, List, [], ◌++◌, None, sym, ap, ◌∙◌, map, append_assoc}
+use Rattle.std.proofs.Common.{◌≡◌, List, ◌++◌, None, ap, ◌∙◌, map, append_assoc}
 use Rattle.hm_syntax.specs.Trees.{Declarations}
 use Rattle.hm_scope.specs.declared.faults.Kind.TheVariants.{NoBinding, ClauseLength}
 use Rattle.hm_scope.specs.declared.faults.Fault.{Fault}

@@ -1,5 +1,5 @@
 -- Faults of the items of import lists.
-use Rattle.std.proofs.Common.{◌≡◌, ℕ, Bool, true, false, List, ◌⊎◌, inl, inr, ⊎_elim, refl, sym, ap, ◌∙◌, subst, Contains, IsTrue, map}
+use Rattle.std.proofs.Common.{◌≡◌, ℕ, Bool, true, false, List, refl, sym, ap, ◌∙◌, Contains, IsTrue, map}
 use Rattle.std.specs.Prelude.{◌↔◌}
 use Rattle.hm_types.specs.declared.Entity.{Entity}
 use Rattle.hm_types.specs.declared.entries.TypeEntry.{TypeEntry}

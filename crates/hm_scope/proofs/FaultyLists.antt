@@ -1,7 +1,6 @@
 -- Faults of import lists, and of all imports of a module.
-use Rattle.std.proofs.Common.{◌≡◌, ℕ, true, false, List, [], ◌⊎◌, inl, inr, ⊎_elim, refl, sym, ap, ◌∙◌, subst, Contains, Bor, map}
+use Rattle.std.proofs.Common.{◌≡◌, List, [], inr, ⊎_elim, refl, sym, ap, ◌∙◌, subst, Contains, Bor, map}
 use Rattle.std.specs.Prelude.{◌↔◌}
-use Rattle.hm_types.specs.declared.Entity.{Entity}
 use Rattle.hm_types.specs.Interfaces.{Exports as Interface}
 use Rattle.hm_syntax.specs.Names.{Identifier}
 use Rattle.hm_syntax.specs.declared.ast.Import.{Import}

@@ -1,5 +1,5 @@
 -- Tables that keep the first description of each entity.
-use Rattle.std.proofs.Common.{◌≡◌, ℕ, Bool, true, false, cond, List, [], ◌∷◌, ◌++◌, map, Option, None, Some, is_some, ◌⊎◌, inl, inr, refl, sym, ap, ◌∙◌, subst, take, get_or, length, ◌<◌, ◌≤◌, ◌+◌, append_assoc, append-nil, Bor, bytes_eq}
+use Rattle.std.proofs.Common.{◌≡◌, ℕ, Bool, true, false, cond, List, [], ◌∷◌, ◌++◌, map, Option, None, Some, is_some, inl, inr, refl, sym, ap, ◌∙◌, subst, take, get_or, length, ◌<◌, ◌≤◌, ◌+◌, append_assoc, append-nil, Bor}
 use Rattle.std.proofs.lemmas.Bool.{cases_Bool, both_ways}
 use Rattle.std.proofs.lemmas.List.{take_more, take_all, map-append}
 use Rattle.std.specs.Map.{lookup}

@@ -1,10 +1,9 @@
 -- What is gathered of import lists is what they list.
 use Rattle.std.proofs.Common.{◌≡◌, ℕ, Bool, true, false, List, [], ◌∷◌, ◌⊎◌, inl, inr, ⊎_elim, refl, sym, ap, ◌∙◌, subst, Contains, map}
-use Rattle.std.specs.Prelude.{◌↔◌}
 use Rattle.hm_types.specs.declared.Entity.{Entity}
 use Rattle.hm_types.specs.declared.entries.TypeEntry.{TypeEntry}
 use Rattle.hm_types.specs.declared.entries.ConstructorEntry.{ConstructorEntry}
-use Rattle.hm_types.specs.Interfaces.{Exports as Interface, IsInterface, AreOrdered}
+use Rattle.hm_types.specs.Interfaces.{Exports as Interface, AreOrdered}
 use Rattle.hm_syntax.specs.Names.{Identifier}
 use Rattle.hm_syntax.specs.declared.ast.Item.{Item}
 use Rattle.hm_syntax.specs.declared.ast.Item.TheVariants as item
@@ -20,7 +19,7 @@ use Rattle.hm_scope.specs.NameSets.{FullName}
 use Rattle.hm_scope.specs.Scope as listing
 use Rattle.hm_scope.specs.Scope.{Lists, Hides}
 use Rattle.hm_scope.specs.Selections.{IsListed, ListsOrHides}
-use Rattle.hm_scope.proofs.AddedPairs.{adds_then, adds_like, adds_none, adds_where, ForEach}
+use Rattle.hm_scope.proofs.AddedPairs.{adds_then, adds_like, adds_none}
 use Rattle.hm_scope.proofs.DeclaredPairs.{none_in}
 use Rattle.hm_scope.proofs.SortedNames.{one_by_name}
 

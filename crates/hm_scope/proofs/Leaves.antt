@@ -1,14 +1,7 @@
 -- Texts among texts, and groups of local names.
-use Rattle.std.proofs.Common.{◌≡◌, ℕ, zero, suc, append_assoc, take_all, ◌+◌, ◌<◌, ◌≤◌, Bool, true, false, cond, ◌||◌, List, [], ◌∷◌, ◌++◌, drop, take, map, reverse, length, get_or, refl, sym, ap, ◌∙◌, subst, arith}
-use Rattle.std.proofs.lemmas.List.{reverse-append, take_more, map-append}
-use Rattle.hm_syntax.specs.Names.{Identifier}
-use Rattle.hm_scope.specs.declared.faults.Kind.{Kind}
-use Rattle.hm_scope.specs.declared.faults.Fault.{Fault}
+use Rattle.std.proofs.Common.{◌≡◌, ℕ, append_assoc, Bool, true, false, ◌||◌, List, [], ◌∷◌, ◌++◌, refl, sym, ap, ◌∙◌}
 use Rattle.hm_scope.specs.Texts.{same_text, is_text_among}
-use Rattle.hm_scope.specs.Variables.{texts}
-use Rattle.hm_scope.specs.Faults.Phases.{fault}
-use Rattle.hm_scope.specs.Found.{Walking, noting, all_of, repeated}
-use Rattle.hm_scope.proofs.Rows.{unrolled, past, noting_more, noting_none}
+use Rattle.hm_scope.specs.Found.{all_of}
 
 pub among_append : (x : List ℕ) (xs ys : List (List ℕ)) → is_text_among x (xs ++ ys) ≡ (is_text_among x xs || is_text_among x ys)
 among_append x [] ys = refl

@@ -1,7 +1,7 @@
 -- What the items of an export list give together, and their faults.
-use Rattle.std.proofs.Common.{◌≡◌, ℕ, ◌+◌, ◌<◌, Bool, true, false, List, [], ◌∷◌, ◌++◌, Option, None, Some, Bor, ◌⊎◌, inl, inr, ⊎_elim, refl, sym, ap, ap₂, ◌∙◌, subst, Contains, length, take, get_or, arith, append_assoc}
+use Rattle.std.proofs.Common.{◌≡◌, ℕ, ◌+◌, ◌<◌, List, [], ◌∷◌, ◌++◌, None, Some, ◌⊎◌, inl, inr, ⊎_elim, refl, sym, ap, ap₂, ◌∙◌, subst, Contains, length, take, get_or, append_assoc}
 use Rattle.std.specs.Prelude.{◌↔◌}
-use Rattle.std.proofs.lemmas.List.{take_more, take_all}
+use Rattle.std.proofs.lemmas.List.{take_more}
 use Rattle.std.proofs.lemmas.List.Elements.{Contains-push, Contains-push_cases, Contains-append_left, Contains-append_right, Contains-append_cases}
 use Rattle.hm_types.specs.declared.Entity.{Entity}
 use Rattle.hm_types.specs.Interfaces.{Exports as Interface}
@@ -13,15 +13,14 @@ use Rattle.hm_syntax.specs.declared.ast.Subs.{Subs}
 use Rattle.hm_syntax.specs.declared.ast.Subs.TheVariants as subs
 use Rattle.hm_scope.specs.declared.exports.ModuleExports.{ModuleExports}
 use Rattle.hm_scope.specs.declared.namespace.Namespace.{Namespace}
-use Rattle.hm_scope.specs.declared.namespace.Namespace.TheVariants.{Types, Values}
+use Rattle.hm_scope.specs.declared.namespace.Namespace.TheVariants.{Types}
 use Rattle.hm_scope.specs.declared.faults.Fault.{Fault}
 use Rattle.hm_scope.specs.declared.faults.Kind.{Kind}
 use Rattle.hm_scope.specs.declared.faults.Kind.TheVariants.{Unbound, Ambiguous, ExportClash, NotImported}
-use Rattle.hm_scope.specs.Bindings.{Pair, Adds, IsOwnPair, IsPairOf}
-use Rattle.hm_scope.specs.Entities.{Declares, own}
+use Rattle.hm_scope.specs.Bindings.{Pair, Adds, IsOwnPair}
 use Rattle.hm_scope.specs.ExportItems.{bare_pair, GivesPair, NameFault, FaultBehind, ItemFault, ClashFault, LeastFault}
 use Rattle.hm_scope.specs.Exports.{IsExported, all, listed}
-use Rattle.hm_scope.specs.Faults.Exports.{ExportFault, unbound_value, unbound_type, ambiguous_value, ambiguous_type, unbound_constructor, clash, not_imported, Clashes, IsAtMost, item_name, bare_at}
+use Rattle.hm_scope.specs.Faults.Exports.{ExportFault, unbound_value, unbound_type, ambiguous_value, ambiguous_type, unbound_constructor, clash, not_imported, item_name, bare_at}
 use Rattle.hm_scope.specs.Faults.Phases.{HasFault, Exporting, fault}
 use Rattle.hm_scope.specs.ModuleExports.{AreListedExports, AreExportsSoFar, AreExportsOf}
 use Rattle.hm_scope.specs.Scope.{Means}

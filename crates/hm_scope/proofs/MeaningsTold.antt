@@ -1,5 +1,5 @@
 -- What a table tells of a name is what the pairs give it.
-use Rattle.std.proofs.Common.{◌≡◌, ℕ, true, false, List, Option, Some, None, refl, sym, ap, ◌∙◌, subst, option_map, Contains}
+use Rattle.std.proofs.Common.{◌≡◌, true, false, List, None, refl, sym, ap, ◌∙◌, subst, Contains}
 use Rattle.hm_types.specs.declared.Entity.{Entity}
 use Rattle.hm_syntax.specs.Names.{Identifier}
 use Rattle.hm_scope.specs.declared.namespace.Namespace.{Namespace}

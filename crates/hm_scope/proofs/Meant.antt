@@ -1,5 +1,5 @@
 -- What the pairs of a scope give a name is what the name means.
-use Rattle.std.proofs.Common.{◌≡◌, ℕ, Bool, true, false, cond, ◌&&◌, List, [], ◌∷◌, Option, None, Some, ◌⊎◌, inl, inr, ⊎_elim, ◌↔◌, refl, sym, ap, ap₂, ◌∙◌, subst, Decides}
+use Rattle.std.proofs.Common.{◌≡◌, ℕ, Bool, true, false, cond, ◌&&◌, List, [], ◌∷◌, Option, None, Some, ⊎_elim, refl, sym, ap, ap₂, ◌∙◌, subst, Decides}
 use Rattle.std.specs.List.{Contains}
 use Rattle.std.proofs.lemmas.Bool.Decides.{Decides-and}
 use Rattle.std.proofs.lemmas.Slice.Eq.{bytes_eq-Decides}
@@ -10,9 +10,9 @@ use Rattle.hm_syntax.specs.declared.ast.Module.{Module}
 use Rattle.hm_scope.specs.declared.namespace.Namespace.{Namespace}
 use Rattle.hm_scope.specs.declared.namespace.Namespace.TheVariants.{Types, Constructors, Values}
 use Rattle.hm_scope.specs.Texts.{same_text, same_entity}
-use Rattle.hm_scope.specs.Scope.{InScope, IsUnbound, IsAmbiguous, Means}
+use Rattle.hm_scope.specs.Scope.{IsUnbound, IsAmbiguous, Means}
 use Rattle.hm_scope.specs.Bindings.{Pair, IsScopeOf, MeaningOf, unbound, ambiguous, entity, same_qualifier, same_space, is_for, joined, meaning_of}
-use Rattle.hm_scope.proofs.Members.{none_in, cases, first, first_by, rest}
+use Rattle.hm_scope.proofs.Members.{none_in, cases, first_by, rest}
 
 pub text_decides : (x y : List ℕ) → Decides (same_text x y) (x ≡ y)
 text_decides x y = bytes_eq-Decides x y

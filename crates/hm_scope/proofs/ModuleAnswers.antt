@@ -1,7 +1,6 @@
 -- The answers of the phases, one after another.
-use Rattle.std.proofs.Common.{◌≡◌, ℕ, ◌<◌, ◌++◌, ◌∷◌, [], Bool, true, false, cond, List, map, filter, ◌⊎◌, inl, inr, ⊎_elim, ◌↔◌, refl, sym, ap, ◌∙◌, subst, Contains, Option, None, Some, arith}
+use Rattle.std.proofs.Common.{◌≡◌, ℕ, ◌<◌, ◌++◌, ◌∷◌, [], Bool, true, false, cond, List, map, filter, inl, inr, ⊎_elim, ◌↔◌, refl, sym, ap, ◌∙◌, subst, Contains, arith}
 use Rattle.std.proofs.lemmas.List.Elements.{Contains-append_left, Contains-append_right, Contains-append_cases}
-use Rattle.std.proofs.lemmas.Bool.{cases_Bool}
 use Rattle.hm_types.specs.declared.Entity.{Entity}
 use Rattle.hm_types.specs.Interfaces.{Exports as Interface, AreOrdered}
 use Rattle.hm_syntax.specs.Trees.{Declaration}
@@ -12,21 +11,19 @@ use Rattle.hm_scope.specs.declared.namespace.Namespace.{Namespace}
 use Rattle.hm_scope.specs.declared.namespace.Namespace.TheVariants.{Types, Constructors, Values}
 use Rattle.hm_scope.specs.declared.exports.ModuleExports.{ModuleExports}
 use Rattle.hm_scope.specs.declared.scoping.Trees.{Trees}
-use Rattle.hm_scope.specs.Described.{TypeDescription, type_meant}
 use Rattle.hm_scope.specs.ModuleCores.{ModuleCore}
 use Rattle.hm_scope.specs.Cores.{IsCore, exports_in}
-use Rattle.hm_scope.specs.Exports.{IsExported}
 use Rattle.hm_scope.specs.Bindings.{Pair, IsScopeOf}
-use Rattle.hm_scope.specs.ExportedRows.{HaveOneEntity, IsBound}
+use Rattle.hm_scope.specs.ExportedRows.{IsBound}
 use Rattle.hm_scope.specs.ModuleExports.{AreExportsOf}
 use Rattle.hm_scope.specs.Walk.{Somewhere}
-use Rattle.hm_scope.specs.Resolved.{resolved, top, declaration_with}
+use Rattle.hm_scope.specs.Resolved.{top, declaration_with}
 use Rattle.hm_scope.specs.Found.{Lookups, lookups_in, resolver_of}
 use Rattle.hm_scope.specs.KnownTables.{KnownTables, AreTablesOf, lookups_of}
 use Rattle.hm_scope.specs.NodeFaults.{NodeFault, AreLookupsOf}
 use Rattle.hm_scope.specs.Synonyms.{HasSynonymFault, AreResolved}
-use Rattle.hm_scope.specs.Faults.Phases.{Phase, Importing, Declaring, Exporting, Naming, Counting, phase_number, HasFault, IsWellFormed, AreFaults}
-use Rattle.hm_scope.specs.Answers.{AreExact, IsPhaseAnswer, is_of_lists, is_of_names, is_of_numbers, AreResolvedTrees, AreTrees, IsResolvedModule, AreExportedRows}
+use Rattle.hm_scope.specs.Faults.Phases.{Phase, Importing, Declaring, Exporting, Naming, Counting, phase_number, HasFault, IsWellFormed}
+use Rattle.hm_scope.specs.Answers.{is_of_lists, is_of_names, is_of_numbers, AreTrees, IsResolvedModule, AreExportedRows}
 use Rattle.hm_scope.proofs.Members.{none_in, cases, first, rest}
 use Rattle.hm_scope.proofs.OneEntity.{one_entity, bound_is_exported}
 use Rattle.hm_scope.proofs.Resolves.{resolves}

@@ -1,5 +1,5 @@
 -- What a table tells of a name is what the name means in the scope.
-use Rattle.std.proofs.Common.{◌≡◌, ℕ, true, false, List, Option, Some, None, refl, sym, ap, ◌∙◌, subst, option_map, Contains}
+use Rattle.std.proofs.Common.{◌≡◌, true, false, List, None, sym, ◌∙◌, subst, option_map, Contains}
 use Rattle.hm_types.specs.declared.Entity.{Entity}
 use Rattle.hm_types.specs.Interfaces.{Exports as Interface}
 use Rattle.hm_syntax.specs.Names.{Identifier}

@@ -1,8 +1,8 @@
 -- Sets of names: what a set has.
-use Rattle.std.proofs.Common.{◌≡◌, ℕ, ◌<◌, Bool, true, false, List, [], ◌∷◌, ◌++◌, cond, Option, ◌⊎◌, inl, inr, refl, sym, ap, ◌∙◌, subst, Contains, Decides, IsTrue, option_map, map, length, get_or, arith}
+use Rattle.std.proofs.Common.{◌≡◌, ℕ, ◌<◌, List, [], ◌∷◌, ◌++◌, cond, ◌⊎◌, inl, inr, refl, sym, ap, ◌∙◌, subst, Contains, Decides, option_map, length}
 use Rattle.std.specs.Prelude.{◌↔◌}
 use Rattle.std.specs.List.{list_any, HoldsAt}
-use Rattle.std.proofs.lemmas.Bool.{cases_Bool, both_ways}
+use Rattle.std.proofs.lemmas.Bool.{cases_Bool}
 use Rattle.std.proofs.lemmas.Bool.Decides.{Decides-by_or, Decides-like}
 use Rattle.std.proofs.lemmas.List.{get_or-map, length-map, map-append}
 use Rattle.std.proofs.lemmas.List.Elements.{Contains-push, Contains-push_cases, Contains-append_left}
@@ -10,7 +10,7 @@ use Rattle.indexmap.specs.IndexSet.{insert_key}
 use Rattle.hm_scope.specs.declared.keys.Key.{Key}
 use Rattle.hm_scope.specs.NameSets.{FullName, full_name, full_names}
 use Rattle.hm_scope.specs.Tables.{same_key}
-use Rattle.hm_scope.proofs.NameTables.{IsSameName, same_key_decides}
+use Rattle.hm_scope.proofs.NameTables.{same_key_decides}
 
 same_full : (j k : Key) → Decides (same_key j k) (full_name k ≡ full_name j)
 same_full j k = Decides-like (same_key j k) (λ s. let a : j.space ≡ k.space = s.space in let b : option_map (λ q. q.now) j.qualifier ≡ option_map (λ q. q.now) k.qualifier = s.qualifier in let d : j.text.now ≡ k.text.now = s.text in cc)

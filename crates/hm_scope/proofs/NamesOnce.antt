@@ -1,5 +1,5 @@
 -- One binding for each name.
-use Rattle.std.proofs.Common.{◌≡◌, ℕ, ◌+◌, ◌<◌, Bool, true, false, cond, not, ◌||◌, List, [], ◌∷◌, ◌++◌, map, length, take, get_or, ◌⊎◌, inl, inr, ⊎_elim, refl, sym, ap, ◌∙◌, subst, arith, Contains, bytes_eq, IsPermutation}
+use Rattle.std.proofs.Common.{◌≡◌, ℕ, Bool, true, false, cond, not, ◌||◌, List, [], ◌∷◌, ◌++◌, map, ⊎_elim, refl, sym, ap, ◌∙◌, subst, Contains, bytes_eq, IsPermutation}
 use Rattle.std.specs.Prelude.{◌↔◌}
 use Rattle.std.specs.Cmp.Lexicographic.{slice_cmp, nat_list_eq_equiv}
 use denote.Enum.Bare.{sameb}
@@ -7,19 +7,18 @@ use Rattle.hm_scope.specs.contracts.namespace.Namespace.{the_type}
 use Rattle.std.specs.List.{IsDistinct, list_any}
 use Rattle.std.specs.List.Sorted.{IsSortedBy}
 use Rattle.std.specs.Ordering.{nat_cmp, is_lt}
-use Rattle.std.proofs.lemmas.Bool.{cases_Bool, both_ways}
+use Rattle.std.proofs.lemmas.Bool.{both_ways}
 use Rattle.std.proofs.lemmas.List.{map-append}
 use Rattle.std.proofs.lemmas.List.Elements.{Contains-push, Contains-push_cases, Contains-append_left}
 use Rattle.std.proofs.lemmas.List.Sorted.{Contains-permutation, IsPermutation-sym, IsPermutation-map}
 use Rattle.std.proofs.lemmas.Map.Keys.{IsDistinct-push, IsDistinct-IsPermutation}
-use Rattle.std.proofs.lemmas.Slice.Eq.{bytes_eq-Decides}
 use Rattle.hm_types.specs.declared.Entity.{Entity}
 use Rattle.hm_types.specs.Interfaces.{AreOrdered}
 use Rattle.hm_types.proofs.Sorting.{ordered_from_sort_by_key}
 use Rattle.hm_scope.specs.declared.cores.Exported.{Exported}
 use Rattle.hm_scope.specs.declared.namespace.Namespace.{Namespace}
 use Rattle.hm_scope.specs.Bindings.{Pair}
-use Rattle.hm_scope.specs.ExportedRows.{HaveOneEntity, IsBound, IsOnce, exported_of}
+use Rattle.hm_scope.specs.ExportedRows.{HaveOneEntity, IsBound, AreOnePerName, exported_of}
 use Rattle.hm_scope.specs.Texts.{is_text_among}
 use Rattle.hm_scope.proofs.BareSets.{same_space}
 use Rattle.hm_scope.proofs.Standing.{among_decides}
@@ -51,11 +50,11 @@ is_new names x y r is same t = ap (λ z. is_text_among z names) (sym same) ∙ n
 pub isnt_new : (names : List (List ℕ)) (x y : List ℕ) (r : Bool) → r ≡ not (is_text_among x names) → x ≡ y → r ≡ false → is_text_among y names ≡ true
 isnt_new names x y r is same f = ap (λ z. is_text_among z names) (sym same) ∙ not_false (is_text_among x names) r is f
 
-module _ (s : Namespace) (seen : List Pair) (names : List (List ℕ)) (out : List Pair) (p : Pair) (once : IsOnce s seen names out) where
+module _ (s : Namespace) (seen : List Pair) (names : List (List ℕ)) (out : List Pair) (p : Pair) (once : AreOnePerName s seen names out) where
   wider : (q : Pair) → Contains seen q → Contains (seen ++ p ∷ []) q
   wider q c = Contains-append_left seen (p ∷ []) q c
 
-  pub once_other : ¬ (p.space ≡ s) → IsOnce s (seen ++ p ∷ []) names out
+  pub once_other : ¬ (p.space ≡ s) → AreOnePerName s (seen ++ p ∷ []) names out
   once_other apart = record {
     names_are = once.names_are;
     distinct = once.distinct;
@@ -63,36 +62,36 @@ module _ (s : Namespace) (seen : List Pair) (names : List (List ℕ)) (out : Lis
     complete = λ q c e. ⊎_elim (λ b. once.complete q b e) (λ l. absurd (apart (ap (λ z. z.space) l ∙ e))) (Contains-push_cases seen p q c);
   }
 
-  pub once_before : (new : List (List ℕ)) → new ≡ cond (is_text_among p.text names) names (names ++ p.text ∷ []) → is_text_among p.text names ≡ true → IsOnce s (seen ++ p ∷ []) new out
+  pub once_before : (new : List (List ℕ)) → new ≡ cond (is_text_among p.text names) names (names ++ p.text ∷ []) → is_text_among p.text names ≡ true → AreOnePerName s (seen ++ p ∷ []) new out
   once_before new is there =
       let same : new ≡ names = is ∙ ap (λ b. cond b names (names ++ p.text ∷ [])) there in
-      subst (λ l. IsOnce s (seen ++ p ∷ []) l out) (sym same) (record {
+      subst (λ l. AreOnePerName s (seen ++ p ∷ []) l out) (sym same) (record {
         names_are = once.names_are;
         distinct = once.distinct;
         sound = λ q c. let h = once.sound q c in (wider q h.0, h.1);
         complete = λ q c e. ⊎_elim (λ b. once.complete q b e) (λ l. subst (λ z. Contains names z.text) l ((among_decides p.text names).0 there)) (Contains-push_cases seen p q c);
       })
 
-  pub once_more : (new : List (List ℕ)) (more : List Pair) → p.space ≡ s → new ≡ cond (is_text_among p.text names) names (names ++ p.text ∷ []) → is_text_among p.text names ≡ false → more ≡ out ++ p ∷ [] → IsOnce s (seen ++ p ∷ []) new more
+  pub once_more : (new : List (List ℕ)) (more : List Pair) → p.space ≡ s → new ≡ cond (is_text_among p.text names) names (names ++ p.text ∷ []) → is_text_among p.text names ≡ false → more ≡ out ++ p ∷ [] → AreOnePerName s (seen ++ p ∷ []) new more
   once_more new more here is absent pushed =
       let added : new ≡ names ++ p.text ∷ [] = is ∙ ap (λ b. cond b names (names ++ p.text ∷ [])) absent in
-      subst (λ l. IsOnce s (seen ++ p ∷ []) l more) (sym added) (subst (λ l. IsOnce s (seen ++ p ∷ []) (names ++ p.text ∷ []) l) (sym pushed) (record {
+      subst (λ l. AreOnePerName s (seen ++ p ∷ []) l more) (sym added) (subst (λ l. AreOnePerName s (seen ++ p ∷ []) (names ++ p.text ∷ []) l) (sym pushed) (record {
         names_are = ap (λ l. l ++ p.text ∷ []) once.names_are ∙ sym (map-append (λ (q : Pair). q.text) out (p ∷ []));
         distinct = IsDistinct-push nat_list_eq_equiv names p.text once.distinct (any_among p.text names ∙ absent);
         sound = λ q c. ⊎_elim (λ b. let h = once.sound q b in (wider q h.0, h.1)) (λ l. (subst (λ z. Contains (seen ++ p ∷ []) z) l (Contains-push seen p), sym (ap (λ z. z.space) l) ∙ here)) (Contains-push_cases out p q c);
         complete = λ q c e. ⊎_elim (λ b. Contains-append_left names (p.text ∷ []) q.text (once.complete q b e)) (λ l. subst (λ z. Contains (names ++ p.text ∷ []) z.text) l (Contains-push names p.text)) (Contains-push_cases seen p q c);
       }))
 
-pub once_none : (s : Namespace) (names : List (List ℕ)) (out : List Pair) → names ≡ [] → out ≡ [] → IsOnce s [] names out
+pub once_none : (s : Namespace) (names : List (List ℕ)) (out : List Pair) → names ≡ [] → out ≡ [] → AreOnePerName s [] names out
 unfolding IsDistinct
-once_none s names out n o = subst (λ l. IsOnce s [] l out) (sym n) (subst (λ l. IsOnce s [] [] l) (sym o) (record {
+once_none s names out n o = subst (λ l. AreOnePerName s [] l out) (sym n) (subst (λ l. AreOnePerName s [] [] l) (sym o) (record {
   names_are = refl;
   distinct = tt;
   sound = λ q c. absurd (none_in q c);
   complete = λ q c e. absurd (none_in q c);
 }))
 
-module _ (s : Namespace) (given out sorted : List Pair) (once : IsOnce s given (map (λ (p : Pair). p.text) out) out) (moved : IsPermutation out sorted) where
+module _ (s : Namespace) (given out sorted : List Pair) (once : AreOnePerName s given (map (λ (p : Pair). p.text) out) out) (moved : IsPermutation out sorted) where
   pub row_exact : HaveOneEntity given → (x : List ℕ) (e : Entity) → Contains (map exported_of sorted) (record { name = x; entity = e }) ↔ IsBound given s x e
   row_exact one x e = (there, back)
     where

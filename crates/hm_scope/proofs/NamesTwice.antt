@@ -1,5 +1,5 @@
 -- Names that stand twice, name by name.
-use Rattle.std.proofs.Common.{◌≡◌, ℕ, ◌<◌, ◌+◌, Bool, true, false, cond, ◌||◌, inl, inr, Bor, add-one, suc, ◌≤◌, append-nil, List, [], ◌∷◌, ◌++◌, refl, sym, ap, ◌∙◌, subst, map, bytes_eq, not, append_assoc, drop, length, get_or, drop-cons}
+use Rattle.std.proofs.Common.{◌≡◌, ℕ, ◌<◌, ◌+◌, Bool, true, false, cond, ◌||◌, inl, inr, Bor, add-one, suc, ◌≤◌, append-nil, List, [], ◌∷◌, ◌++◌, refl, sym, ap, ◌∙◌, map, bytes_eq, not, append_assoc, drop, length, get_or, drop-cons}
 use Rattle.std.proofs.lemmas.Bool.{cases_Bool}
 use Rattle.std.proofs.lemmas.List.{drop_all}
 use Rattle.std.proofs.lemmas.Slice.Eq.{bytes_eq-Decides}

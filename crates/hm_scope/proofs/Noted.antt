@@ -1,13 +1,13 @@
 -- The faults that the walk notes are those that stand somewhere in the tree, where this holds at each node.
-use Rattle.std.proofs.Common.{◌≡◌, List, [], ◌∷◌, ◌++◌, ◌⊎◌, inl, inr, ⊎_elim, ◌↔◌}
+use Rattle.std.proofs.Common.{List, ◌↔◌}
 use Rattle.std.specs.List.{Contains}
 use Rattle.hm_syntax.specs.Names.{Identifier}
-use Rattle.hm_syntax.specs.Trees.{TypeTree, variable_type, constructor_type, function_type, tuple_type, list_type, unit_type, TypeTrees, no_types, more_types, DataConstructor, data_constructor, DataConstructors, no_constructors, more_constructors, Pattern, variable_pattern, bound_pattern, constructor_pattern, literal_pattern, wildcard_pattern, tuple_pattern, list_pattern, lazy_pattern, Patterns, no_patterns, more_patterns, Expression, variable_expression, constructor_expression, literal_expression, application, lambda, let_expression, if_expression, case_expression, tuple_expression, list_expression, typed_expression, Expressions, no_expressions, more_expressions, Declaration, data_declaration, newtype_declaration, synonym_declaration, signature, clause, pattern_binding, Declarations, no_declarations, more_declarations, RightSide, right_side, Bodies, no_bodies, plain_body, guarded_body, Alternative, alternative, Alternatives, no_alternatives, more_alternatives}
-use Rattle.hm_scope.specs.declared.namespace.Namespace.TheVariants.{Types, Constructors, Values}
+use Rattle.hm_syntax.specs.Trees.{TypeTree, variable_type, constructor_type, function_type, tuple_type, list_type, unit_type, TypeTrees, no_types, more_types, DataConstructor, data_constructor, DataConstructors, no_constructors, more_constructors, Pattern, variable_pattern, bound_pattern, constructor_pattern, literal_pattern, wildcard_pattern, tuple_pattern, list_pattern, lazy_pattern, Patterns, no_patterns, more_patterns, Expression, variable_expression, constructor_expression, literal_expression, application, lambda, let_expression, if_expression, case_expression, tuple_expression, list_expression, typed_expression, Expressions, no_expressions, more_expressions, Declaration, data_declaration, newtype_declaration, synonym_declaration, signature, clause, pattern_binding, Declarations, no_declarations, more_declarations, RightSide, right_side, Bodies, no_bodies, plain_body, guarded_body, alternative, Alternatives, no_alternatives, more_alternatives}
+use Rattle.hm_scope.specs.declared.namespace.Namespace.TheVariants.{Constructors, Values}
 use Rattle.hm_scope.specs.declared.faults.Fault.{Fault}
 use Rattle.hm_scope.specs.Variables.{patterns_variables, type_variables, constructor_variables, constructors_variables, type_count, pattern_count}
 use Rattle.hm_scope.specs.Walk.{Locals, Node, at_expression, at_pattern, at_type, at_head, at_parameters, at_list, with_patterns, with_list, InType, InTypes, InConstructor, InConstructors, InPattern, InPatterns, InHead, InExpression, InExpressions, InAlternatives, InRightSide, InBodies, InDeclarations, InDeclaration}
-use Rattle.hm_scope.specs.Found.{Lookups, name_faults, type_name_faults, pattern_name_faults, non_linear, parameter_faults, list_faults, alone, type_faults, types_faults, constructor_faults, constructors_faults, pattern_faults, patterns_faults, head_faults, expression_faults, expressions_faults, alternative_faults, alternatives_faults, right_side_faults, bodies_faults, declarations_faults, declaration_faults}
+use Rattle.hm_scope.specs.Found.{Lookups, name_faults, type_name_faults, pattern_name_faults, non_linear, parameter_faults, list_faults, alone, type_faults, types_faults, constructor_faults, constructors_faults, pattern_faults, patterns_faults, head_faults, expression_faults, expressions_faults, alternatives_faults, right_side_faults, bodies_faults, declarations_faults, declaration_faults}
 use Rattle.hm_scope.proofs.Members.{both, three, nothing, nothing_by}
 
 -- at each node just what the rule says is noted of the fault f

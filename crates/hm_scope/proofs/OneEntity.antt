@@ -1,12 +1,11 @@
 -- Where the export list has no fault, each exported name is of one entity; and what a row of exports then has.
 use Rattle.std.proofs.Common.{◌≡◌, ℕ, List, [], ◌∷◌, ◌++◌, None, Some, ◌⊎◌, inl, inr, ⊎_elim, refl, sym, ap, ◌∙◌, subst, Contains}
 use Rattle.std.specs.Prelude.{◌↔◌}
-use Rattle.std.proofs.lemmas.List.Elements.{Contains-push, Contains-append_left, Contains-append_right}
+use Rattle.std.proofs.lemmas.List.Elements.{Contains-append_right}
 use Rattle.hm_types.specs.declared.Entity.{Entity}
 use Rattle.hm_types.specs.Interfaces.{Exports as Interface}
 use Rattle.hm_syntax.specs.declared.ast.Module.{Module}
 use Rattle.hm_syntax.specs.declared.ast.Export.{Export}
-use Rattle.hm_scope.specs.declared.cores.Exported.{Exported}
 use Rattle.hm_scope.specs.declared.exports.ModuleExports.{ModuleExports}
 use Rattle.hm_scope.specs.declared.faults.Fault.{Fault}
 use Rattle.hm_scope.specs.declared.faults.Kind.TheVariants.{ExportClash}

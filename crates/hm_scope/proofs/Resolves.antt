@@ -6,14 +6,12 @@ use Rattle.hm_syntax.specs.Names.{Identifier}
 use Rattle.hm_syntax.specs.declared.ast.Module.{Module}
 use Rattle.hm_scope.specs.declared.namespace.Namespace.{Namespace}
 use Rattle.hm_scope.specs.declared.namespace.Namespace.TheVariants.{Types, Constructors, Values}
-use Rattle.hm_scope.specs.Special.{IsSpecial}
 use Rattle.hm_scope.specs.Described.{TypeDescription, type_meant}
 use Rattle.hm_scope.specs.Expansion.{as_entity}
 use Rattle.hm_scope.specs.Scope.{Means}
 use Rattle.hm_scope.specs.Walk.{Locals}
-use Rattle.hm_scope.specs.Faults.Names.{IsLocal}
-use Rattle.hm_scope.specs.Resolved.{Resolver, IsResolver, synonym_meant}
-use Rattle.hm_scope.specs.Bindings.{MeaningOf, entity, meaning_of, meaning_in}
+use Rattle.hm_scope.specs.Resolved.{IsResolver, synonym_meant}
+use Rattle.hm_scope.specs.Bindings.{entity, meaning_of, meaning_in}
 use Rattle.hm_scope.specs.Found.{Lookups, is_local, is_special, stays, as_meant, resolved_name, resolver_of, synonym_among}
 use Rattle.hm_scope.specs.NodeFaults.{AreLookupsOf}
 use Rattle.hm_scope.proofs.Meant.{meant, one_meaning}

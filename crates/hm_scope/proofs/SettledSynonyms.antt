@@ -1,12 +1,11 @@
 -- A module's synonyms, finished one after another, are what a resolver of the module has.
-use Rattle.std.proofs.Common.{◌≡◌, ℕ, zero, suc, ◌+◌, ◌<◌, ◌≤◌, Bool, true, false, cond, List, [], ◌∷◌, ◌++◌, map, length, take, get_or, Option, None, Some, ◌⊎◌, inl, inr, ⊎_elim, ◌↔◌, refl, sym, ap, ◌∙◌, subst, Contains, arith}
+use Rattle.std.proofs.Common.{◌≡◌, ℕ, zero, suc, ◌+◌, ◌<◌, ◌≤◌, true, false, cond, List, [], ◌∷◌, ◌++◌, map, length, take, get_or, Option, Some, ◌⊎◌, inl, inr, ⊎_elim, refl, sym, ap, ◌∙◌, subst, Contains, arith}
 use Rattle.std.specs.Prelude.{slice_index_or}
 use Rattle.std.proofs.lemmas.Bool.{cases_Bool}
-use Rattle.std.proofs.lemmas.List.{take_more, take_all, get_or_default, length-map}
-use Rattle.std.proofs.lemmas.List.Elements.{Contains-append_left, Contains-append_right, Contains-append_cases, Contains-push_cases, Contains-get_or}
+use Rattle.std.proofs.lemmas.List.{take_more, get_or_default, length-map}
+use Rattle.std.proofs.lemmas.List.Elements.{Contains-push_cases, Contains-get_or}
 use Rattle.hm_types.specs.declared.Entity.{Entity}
 use Rattle.hm_types.specs.Interfaces.{Exports as Interface}
-use Rattle.hm_types.specs.Synonyms.{TypeSynonym}
 use Rattle.hm_graph.specs.Closure.{Closure, one, more}
 use Rattle.hm_graph.specs.Digraph.{Graph, Edge}
 use Rattle.hm_graph.specs.Digraph.{Reaches as GraphReaches}
@@ -19,7 +18,7 @@ use Rattle.hm_scope.specs.declared.own_synonyms.OwnSynonym.{OwnSynonym}
 use Rattle.hm_scope.specs.declared.own_synonyms.OwnSynonyms.{OwnSynonyms}
 use Rattle.hm_scope.specs.declared.faults.Kind.TheVariants.{Duplicate, Unbound}
 use Rattle.hm_scope.specs.Texts.{same_entity}
-use Rattle.hm_scope.specs.Variables.{texts, type_variables, constructors_in}
+use Rattle.hm_scope.specs.Variables.{texts, constructors_in}
 use Rattle.hm_scope.specs.Entities.{named, own}
 use Rattle.hm_scope.specs.Scope.{Means}
 use Rattle.hm_scope.specs.Described.{first_of, TypeMeaning, algebraic, declared_synonym, imported_synonym, TypeDescription, declared_types, imported_types, type_meant}
@@ -27,19 +26,19 @@ use Rattle.hm_scope.specs.Walk.{Rule, InDeclaration, InDeclarations}
 use Rattle.hm_scope.specs.Expansion.{as_entity}
 use Rattle.hm_scope.specs.Types.{entity_of, synonym_of}
 use Rattle.hm_scope.specs.Resolved.{Resolver, IsResolver, synonym_meant, type_with}
-use Rattle.hm_scope.specs.Bindings.{Pair, IsScopeOf, MeaningOf, entity, meaning_of, meaning_in}
-use Rattle.hm_scope.specs.Found.{KnownSynonym, KnownArity, Lookups, lookups_in, resolver_of, resolved_name, as_meant, synonym_among}
+use Rattle.hm_scope.specs.Bindings.{Pair, IsScopeOf, entity, meaning_of, meaning_in}
+use Rattle.hm_scope.specs.Found.{KnownSynonym, KnownArity, lookups_in, resolver_of, resolved_name, as_meant, synonym_among}
 use Rattle.hm_scope.specs.KnownTables.{KnownTables, AreTablesOf, imported_of, imported_in, lookups_of}
 use Rattle.hm_scope.specs.Faults.Lists.{Repeats, type_names, second_type, second_parameter}
 use Rattle.hm_scope.specs.Faults.Names.{no_parameter}
 use Rattle.hm_scope.specs.Faults.Arities.{RefersTo, refers, Reaches}
 use Rattle.hm_scope.specs.Faults.Phases.{IsWellFormed, Declaring, Naming, fault}
 use Rattle.hm_scope.specs.SynonymGraphs.{IsOrder}
-use Rattle.hm_scope.specs.Synonyms.{AreSynonyms, AreOwnSynonyms, declaration_of, IsReferenceGraph, AreAmong, IsSound, IsSettled, IsExpandable, Finishes, AreResolved}
+use Rattle.hm_scope.specs.Synonyms.{AreOwnSynonyms, IsReferenceGraph, IsSound, IsSettled, IsExpandable, Finishes, AreResolved}
 use Rattle.hm_scope.proofs.Members.{none_in, cases, first, rest, contains_dec, name_discrete, optional_synonym_discrete, same_entity-Decides}
 use Rattle.hm_scope.proofs.Listings.{both_dec}
 use Rattle.hm_scope.proofs.Meant.{meant, one_meaning}
-use Rattle.hm_scope.proofs.Synonyms.{IsDeclared, is_declared, is_described, not_recursive}
+use Rattle.hm_scope.proofs.Synonyms.{is_declared, is_described, not_recursive}
 use Rattle.hm_scope.proofs.Agreement.{nothing_wrong, clean_right_sides, clear_type, Alike, same_type, stably}
 use Rattle.hm_scope.proofs.References.{reached}
 

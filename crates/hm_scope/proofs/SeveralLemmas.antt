@@ -1,5 +1,5 @@
 -- Whether a name means several entities.
-use Rattle.std.proofs.Common.{◌≡◌, ℕ, Bool, true, false, List, Option, None, Some, ◌⊎◌, inl, inr, refl, sym, ap, ◌∙◌, subst, Bor, option_map, Contains, IsTrue}
+use Rattle.std.proofs.Common.{◌≡◌, true, false, List, None, inl, inr, sym, ◌∙◌, option_map, IsTrue}
 use Rattle.std.specs.Prelude.{◌↔◌}
 use Rattle.std.proofs.lemmas.Bool.{cases_Bool}
 use Rattle.hm_scope.specs.declared.keys.Key.{Key}

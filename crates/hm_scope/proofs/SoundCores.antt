@@ -1,8 +1,7 @@
 -- What the declarations of a core keep of their module's: parameters are distinct, and synonyms have no other variables; and interfaces of entries.
-use Rattle.std.proofs.Common.{◌≡◌, ℕ, Bool, true, false, List, [], ◌∷◌, ◌++◌, map, Option, None, Some, option_map, Bor, ◌⊎◌, inl, inr, ⊎_elim, refl, sym, ap, ap₂, ◌∙◌, subst, Contains}
+use Rattle.std.proofs.Common.{◌≡◌, ℕ, List, [], ◌∷◌, ◌++◌, map, Option, None, Some, option_map, Bor, inl, inr, ⊎_elim, refl, sym, ap, ap₂, ◌∙◌, subst, Contains}
 use Rattle.std.specs.Prelude.{◌↔◌}
 use Rattle.std.proofs.lemmas.List.Elements.{Contains-append_cases}
-use Rattle.indexmap.specs.IndexMap.{get_by}
 use Rattle.hm_types.specs.declared.Entity.{Entity}
 use Rattle.hm_types.specs.declared.entries.TypeEntry.{TypeEntry}
 use Rattle.hm_types.specs.declared.entries.SynonymEntry.{SynonymEntry}
@@ -18,12 +17,11 @@ use Rattle.hm_syntax.specs.declared.ast.Module.{Module}
 use Rattle.hm_scope.specs.declared.cores.Exported.{Exported}
 use Rattle.hm_scope.specs.declared.exporting.Values.{Values}
 use Rattle.hm_scope.specs.declared.faults.Kind.TheVariants.{Duplicate}
-use Rattle.hm_scope.specs.declared.keys.EntityKey.{EntityKey}
 use Rattle.hm_scope.specs.declared.known_exports.KnownType.{KnownType}
 use Rattle.hm_scope.specs.declared.known_exports.KnownConstructor.{KnownConstructor}
 use Rattle.hm_scope.specs.declared.namespace.Namespace.TheVariants as namespace
-use Rattle.hm_scope.specs.Cores.{IsCore, IsTop, HasArity, HasSynonym, synonym_in, imported_values, IsInterfaceOf}
-use Rattle.hm_scope.specs.Described.{first_of, algebraic, declared_synonym, TypeDescription, declared_types, imported_types, type_meant}
+use Rattle.hm_scope.specs.Cores.{IsCore, HasArity, HasSynonym, synonym_in, imported_values, IsInterfaceOf}
+use Rattle.hm_scope.specs.Described.{first_of, declared_synonym, TypeDescription, declared_types, imported_types, type_meant}
 use Rattle.hm_scope.specs.Entities.{constructor_list}
 use Rattle.hm_scope.specs.ExportedEntries.{AreTypesOf, AreConstructorsOf, AreValuesOf, HasSoundSynonyms, HasDistinctParameters, AreTypeEntries, AreSynonymEntries, AreConstructorEntries, AreValueEntries}
 use Rattle.hm_scope.specs.Faults.Lists.{Repeats, second_parameter}
@@ -31,7 +29,6 @@ use Rattle.hm_scope.specs.Faults.Phases.{Declaring, fault}
 use Rattle.hm_scope.specs.KnownExports.{Table, KnowsTypes, KnowsConstructors, KnowsValues, meaning_of, source_of, source_entity, ConstructorSource, declared, imported, declared_sources, imported_sources}
 use Rattle.hm_scope.specs.KnownTables.{entity_at}
 use Rattle.hm_scope.specs.ModuleCores.{ModuleCore}
-use Rattle.hm_scope.specs.Owners.{same_key}
 use Rattle.hm_scope.specs.Resolved.{declaration_with, type_with, top}
 use Rattle.hm_scope.specs.Synonyms.{IsSound}
 use Rattle.hm_scope.specs.Variables.{texts, type_variables, bound_names}
@@ -45,7 +42,7 @@ use Rattle.hm_scope.proofs.Synonyms.{is_declared}
 use Rattle.hm_scope.proofs.TopEntities.{top_is_bound}
 
 -- the parameters of a type's declaration
-abbrev parameters_in : Declaration → List Identifier
+abbrev pub parameters_in : Declaration → List Identifier
 parameters_in (data_declaration n ps cs) = ps
 parameters_in (newtype_declaration n ps c) = ps
 parameters_in (synonym_declaration n ps t) = ps
@@ -107,7 +104,7 @@ module _ (m : Module) (fs : List Interface) (c : ModuleCore) (core : IsCore m fs
   parameters_kept (clause n ps g) = refl
   parameters_kept (pattern_binding a b p g) = refl
 
-  distinct_there : (d : Declaration) → Contains c.decls d → (k : Identifier) → ¬ (Repeats (parameters_in d) k)
+  pub distinct_there : (d : Declaration) → Contains c.decls d → (k : Identifier) → ¬ (Repeats (parameters_in d) k)
   distinct_there d h k r = let o = was d h in none_repeated o.0 o.1.0 k (subst (λ ps. Repeats ps k) (ap parameters_in o.1.1 ∙ parameters_kept o.0) r)
 
   sound_there : (n : Identifier) (ps : List Identifier) (t : TypeTree) → Contains c.decls (synonym_declaration n ps t) → IsSound ps t

@@ -1,5 +1,5 @@
 -- What is noted at a node are its faults.
-use Rattle.std.proofs.Common.{◌≡◌, ℕ, Bool, true, false, cond, ◌&&◌, ◌||◌, ◌==◌, List, [], ◌∷◌, ◌++◌, map, Option, None, Some, ◌⊎◌, inl, inr, ⊎_elim, ◌↔◌, refl, sym, ap, ap₂, ◌∙◌, subst, Decides, is_some}
+use Rattle.std.proofs.Common.{◌≡◌, ℕ, Bool, true, false, cond, ◌==◌, List, [], ◌∷◌, ◌++◌, map, Option, None, Some, ◌⊎◌, inl, inr, ⊎_elim, ◌↔◌, refl, sym, ap, ◌∙◌, subst, Decides, is_some}
 use Rattle.std.specs.List.{Contains}
 use Rattle.std.proofs.lemmas.Bool.Decides.{Decides-and, Decides-or, Decides-eqb}
 use Rattle.hm_types.specs.declared.Entity.{Entity}
@@ -17,16 +17,16 @@ use Rattle.hm_scope.specs.Variables.{texts, patterns_variables, clause_names, ty
 use Rattle.hm_scope.specs.Special.{Special, IsSpecial, special_of, special_arity}
 use Rattle.hm_scope.specs.Described.{TypeDescription, arity, type_meant, ConstructorDescription, constructor_meant}
 use Rattle.hm_scope.specs.Scope.{IsUnbound, IsAmbiguous, Means}
-use Rattle.hm_scope.specs.Walk.{Locals, Node, Somewhere, at_expression, at_pattern, at_type, at_head, at_parameters, at_list}
+use Rattle.hm_scope.specs.Walk.{Locals, Somewhere, at_expression, at_pattern, at_type, at_head, at_parameters, at_list}
 use Rattle.hm_scope.specs.Faults.Lists.{Repeats, ListFault, second_type, second_constructor, second_binding, second_signature, second_parameter, no_binding, type_names, constructor_names, binding_names, signed_names, other_lengths}
-use Rattle.hm_scope.specs.Faults.Names.{IsLocal, Uses, a_variable, a_constructor, a_pattern, a_type_constructor, NameFault, no_parameter, non_linear as is_non_linear, unbound as is_unbound, ambiguous as is_ambiguous}
+use Rattle.hm_scope.specs.Faults.Names.{IsLocal, a_variable, a_constructor, a_pattern, a_type_constructor, NameFault, no_parameter, non_linear as is_non_linear, unbound as is_unbound, ambiguous as is_ambiguous}
 use Rattle.hm_scope.specs.Faults.Arities.{ArityFault, a_type as type_arity_fault, a_pattern as pattern_arity_fault, a_special as special_arity_fault, another_length}
 use Rattle.hm_scope.specs.Faults.Phases.{fault}
-use Rattle.hm_scope.specs.Bindings.{Pair, IsScopeOf, MeaningOf, unbound, ambiguous, entity, meaning_of, meaning_in}
-use Rattle.hm_scope.specs.Found.{Lookups, no_qualifier, is_local, is_special, stays, meaning_faults, name_faults, other_arity, arity_among, type_arity_meant, constructor_arity_meant, pattern_arity, type_name_faults, pattern_name_faults, repeated, outside, non_linear, duplicates, parameter_faults, list_faults, declarations_faults}
+use Rattle.hm_scope.specs.Bindings.{MeaningOf, unbound, ambiguous, entity, meaning_of, meaning_in}
+use Rattle.hm_scope.specs.Found.{Lookups, no_qualifier, is_local, is_special, stays, meaning_faults, name_faults, other_arity, type_arity_meant, constructor_arity_meant, pattern_arity, type_name_faults, pattern_name_faults, repeated, outside, non_linear, duplicates, parameter_faults, list_faults, declarations_faults}
 use Rattle.hm_syntax.specs.Lists.{declarations}
 use Rattle.hm_scope.specs.NodeFaults.{NodeFault, arity_of_type, arity_of_constructor, AreLookupsOf}
-use Rattle.hm_scope.proofs.Members.{none_in, cases, first, first_by, rest, both, nothing, nothing_by, mapped}
+use Rattle.hm_scope.proofs.Members.{none_in, cases, first_by, rest, both, nothing_by, mapped}
 use Rattle.hm_scope.proofs.Meant.{text_decides, Meant, meant, one_meaning}
 use Rattle.hm_scope.proofs.Noted.{Leaves, in_declarations}
 

@@ -1,15 +1,14 @@
 -- The groups of a graph: the nodes that reach themselves, and an order.
-use Rattle.std.proofs.Common.{◌≡◌, append-nil, Vec, ℕ, zero, suc, ◌+◌, ◌-◌, ◌<◌, ◌≤◌, Bool, true, false, List, [], ◌∷◌, ◌++◌, length, length-append, length-set, replicate, map, take, get_or, set, ◌⊎◌, inl, inr, ⊎_elim, ◌↔◌, refl, sym, ap, ◌∙◌, subst, Contains, arith}
+use Rattle.std.proofs.Common.{◌≡◌, append-nil, Vec, ℕ, zero, suc, ◌+◌, ◌-◌, ◌<◌, ◌≤◌, Bool, true, false, List, [], ◌∷◌, ◌++◌, length, length-append, length-set, replicate, take, get_or, set, ◌⊎◌, inl, inr, ⊎_elim, ◌↔◌, refl, sym, ap, ◌∙◌, subst, Contains, arith}
 use Rattle.std.specs.List.{concat, All}
 use Rattle.std.proofs.lemmas.List.{length-map, take_more, take_all, get_or_default, get_or_append_left, get_or-append_right, map-append}
 use Rattle.std.proofs.lemmas.List.Folds.{concat-append}
 use Rattle.std.proofs.lemmas.List.Elements.{Contains-append_left, Contains-append_right, Contains-append_cases, Contains-push, Contains-push_cases, Contains-get_or}
-use Rattle.std.specs.List.Sorted.{IsStrictlyIncreasing}
-use Rattle.hm_graph.specs.Closure.{Closure, one, more}
-use Rattle.hm_graph.specs.Digraph.{Graph, Edge, Reaches, AddsEdge, IsTogether, IsGroupOf, MayCome, IsNext, AreGroups, lists}
+use Rattle.hm_graph.specs.Closure.{one, more}
+use Rattle.hm_graph.specs.Digraph.{Graph, Edge, Reaches, AddsEdge, IsTogether, IsGroupOf, AreGroups, lists}
 use Rattle.hm_graph.proofs.Closures.{Closure-trans}
 use Rattle.hm_scope.specs.SynonymGraphs.{MarksLoops, InLargeGroup, IsOrder}
-use Rattle.hm_scope.proofs.Members.{none_in, cases, first, rest}
+use Rattle.hm_scope.proofs.Members.{none_in, cases}
 use Rattle.std.specs.declared.alloc.Global.{Global}
 use native.Mathlib.Decide.{ℕ_discrete}
 

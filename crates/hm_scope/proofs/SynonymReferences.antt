@@ -3,7 +3,7 @@ use Rattle.std.proofs.Common.{◌≡◌, ℕ, zero, suc, ◌+◌, ◌<◌, ◌�
 use Rattle.std.specs.Prelude.{slice_index_or, IfSome, IfNone}
 use Rattle.std.specs.List.{position, position_or_len}
 use Rattle.std.proofs.lemmas.Bool.{cases_Bool, both_ways, ltb-false, ltb-true}
-use Rattle.std.proofs.lemmas.List.{take_more, take_all, map-append, get_or_append_left, get_or-append_right, get_or_default}
+use Rattle.std.proofs.lemmas.List.{take_more, take_all, map-append, get_or_append_left, get_or_default}
 use Rattle.std.proofs.lemmas.List.Elements.{Contains-append_left, Contains-append_right, Contains-push, Contains-push_cases, Contains-get_or}
 use Rattle.std.proofs.lemmas.Slice.Eq.{bytes_eq-Decides}
 use Rattle.hm_types.specs.Interfaces.{Exports as Interface}
@@ -18,7 +18,7 @@ use Rattle.hm_scope.specs.declared.own_synonyms.OwnSynonyms.{OwnSynonyms}
 use Rattle.hm_scope.specs.Texts.{same_text, is_text_among}
 use Rattle.hm_scope.specs.Variables.{constructors_in}
 use Rattle.hm_scope.specs.Entities.{own}
-use Rattle.hm_scope.specs.Scope.{InScope, Means, IsUnbound, IsAmbiguous}
+use Rattle.hm_scope.specs.Scope.{Means, IsUnbound, IsAmbiguous}
 use Rattle.hm_graph.specs.Digraph.{Reaches as GraphReaches}
 use Rattle.hm_scope.specs.declared.faults.Kind.{Kind}
 use Rattle.hm_scope.specs.declared.faults.Kind.TheVariants.{Recursive}
@@ -28,9 +28,8 @@ use Rattle.hm_scope.specs.Faults.Phases.{fault}
 use Rattle.hm_scope.specs.Faults.Arities.{RefersTo, refers, Reaches, SynonymFault, recursive}
 use Rattle.hm_scope.proofs.References.{reached, reaches}
 use Rattle.hm_scope.specs.Synonyms.{DeclaresSynonym, IsOnce, AreSynonyms, IsReferenceGraph, NamesOwn, declaration_of, AreOwnSynonyms, RefersIn, AddsReferences, IsMarked, IsMarkedFault, HasSynonymFault}
-use Rattle.hm_scope.proofs.Members.{none_in, cases, first, rest}
+use Rattle.hm_scope.proofs.Members.{none_in, cases, first}
 use Rattle.hm_scope.proofs.Standing.{among_decides}
-use Rattle.hm_scope.proofs.SynonymGroups.{from_node}
 
 -- Lists of names
 

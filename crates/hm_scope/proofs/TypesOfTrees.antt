@@ -1,9 +1,9 @@
 -- Types of the type system that are made from trees: the places of their variables, their arguments, and what they have.
-use Rattle.std.proofs.Common.{◌≡◌, ◌⊎◌, Contains, ◌||◌, ℕ, zero, suc, ◌+◌, ◌<◌, ◌≤◌, nat_lt, not, Bool, true, false, cond, List, [], ◌∷◌, ◌++◌, map, length, Option, None, Some, inl, inr, refl, sym, ap, ◌∙◌, subst, arith}
+use Rattle.std.proofs.Common.{◌≡◌, ◌⊎◌, Contains, ◌||◌, ℕ, suc, ◌+◌, ◌<◌, ◌≤◌, nat_lt, not, Bool, true, false, cond, List, [], ◌∷◌, map, length, None, Some, inl, inr, refl, sym, ap, ◌∙◌, subst, arith}
 use Rattle.std.specs.List.{position, position_or_len}
 use Rattle.std.proofs.lemmas.Bool.{cases_Bool, ltb-false}
-use Rattle.hm_types.specs.Types.{App, done, more, put, put_all}
-use Rattle.hm_types.specs.Monotypes.{Mono, Monos, var, arguments_of, list_of}
+use Rattle.hm_types.specs.Types.{App, more, put_all}
+use Rattle.hm_types.specs.Monotypes.{Mono, var, arguments_of, list_of}
 use Rattle.hm_types.specs.Types.{Var}
 use Rattle.hm_syntax.specs.Trees.{TypeTree, variable_type, constructor_type, function_type, tuple_type, list_type, unit_type, TypeTrees, no_types, more_types}
 use Rattle.hm_syntax.specs.Names.{Identifier}

@@ -1,5 +1,5 @@
 -- Heads, and the walk over a whole module.
-use Rattle.std.proofs.Common.{◌≡◌, List, [], ◌∷◌, ◌++◌, map, None, refl, sym, ap, ap₂, ◌∙◌}
+use Rattle.std.proofs.Common.{◌≡◌, List, [], ◌++◌, map, None, sym, ap, ap₂, ◌∙◌}
 use Rattle.hm_syntax.specs.Trees.{Pattern, Declaration}
 use Rattle.hm_syntax.specs.Lists.{declarations}
 use Rattle.hm_scope.specs.declared.faults.Fault.{Fault}

@@ -1,12 +1,12 @@
 -- The names under which modules can be exported whole.
-use Rattle.std.proofs.Common.{◌≡◌, ℕ, Bool, true, false, cond, List, [], ◌∷◌, ◌++◌, ◌⊎◌, inl, inr, ⊎_elim, refl, sym, ap, ◌∙◌, subst, Contains, Decides, IsTrue, arith}
+use Rattle.std.proofs.Common.{◌≡◌, ℕ, cond, List, [], ◌∷◌, ◌++◌, inl, inr, ⊎_elim, refl, sym, ap, ◌∙◌, subst, Contains}
 use Rattle.std.specs.Prelude.{◌↔◌}
 use Rattle.std.proofs.lemmas.Bool.{cases_Bool}
 use Rattle.hm_syntax.specs.declared.ast.Import.{Import}
 use Rattle.hm_syntax.specs.declared.ast.Module.{Module}
 use Rattle.hm_scope.specs.Bindings.{Adds}
 use Rattle.hm_scope.specs.Exports.{IsModuleName, this, an_import}
-use Rattle.hm_scope.specs.Scope.{Imports, written, added, known_as, prelude_name, import_prelude}
+use Rattle.hm_scope.specs.Scope.{Imports, written, added, known_as, prelude_name}
 use Rattle.hm_scope.specs.Texts.{is_text_among}
 use Rattle.hm_scope.proofs.AddedPairs.{adds_push}
 use Rattle.hm_scope.proofs.Standing.{among_decides}

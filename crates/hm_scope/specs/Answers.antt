@@ -1,8 +1,6 @@
 -- What is answered for the faults of one phase, and of all. No public clause names these.
 use Rattle.std.specs.Prelude.{◌≡◌, Bool, true, false, ◌<◌, ◌⊎◌, ◌↔◌, List, Option, None, Some, map, Contains}
 use Rattle.hm_types.specs.Interfaces.{Exports as Interface}
-use Rattle.hm_syntax.specs.Names.{Identifier}
-use Rattle.hm_syntax.specs.Trees.{Declarations}
 use Rattle.hm_syntax.specs.declared.ast.Module.{Module}
 use Rattle.hm_scope.specs.declared.faults.Kind.{Kind}
 use Rattle.hm_scope.specs.declared.faults.Kind.TheVariants.{NotExported, Duplicate, NoBinding, Unbound, Ambiguous, ExportClash, NotImported, NonLinear, Arity, ClauseLength, Untyped, Recursive}
@@ -11,7 +9,6 @@ use Rattle.hm_types.specs.declared.Entity.{Entity}
 use Rattle.hm_types.specs.Interfaces.{AreOrdered}
 use Rattle.hm_syntax.specs.Trees.{Declaration}
 use Rattle.hm_scope.specs.declared.namespace.Namespace.{Namespace}
-use Rattle.hm_scope.specs.declared.cores.Exported.{Exported}
 use Rattle.hm_scope.specs.declared.scoping.Answer.{Answer}
 use Rattle.hm_scope.specs.declared.scoping.Answer.TheVariants.{Resolved, Faulty}
 use Rattle.hm_scope.specs.declared.scoping.Trees.{Trees}
@@ -21,10 +18,7 @@ use Rattle.hm_scope.specs.Exports.{IsExported}
 use Rattle.hm_scope.specs.Bindings.{Pair}
 use Rattle.hm_scope.specs.ExportedRows.{HaveOneEntity, IsBound}
 use Rattle.hm_scope.specs.Resolved.{Resolver, IsResolver, resolved}
-use Rattle.hm_scope.specs.Walk.{at_list}
-use Rattle.hm_scope.specs.Faults.Lists.{ListFault}
-use Rattle.hm_scope.specs.Faults.Arities.{ArityFault}
-use Rattle.hm_scope.specs.Faults.Phases.{Phase, Importing, Declaring, Naming, Counting, phase_number, HasFault, IsWellFormed, AreFaults, fault}
+use Rattle.hm_scope.specs.Faults.Phases.{Phase, Importing, Declaring, Naming, Counting, phase_number, HasFault, IsWellFormed, AreFaults}
 
 -- the list has just the faults of the phase
 abbrev pub AreExact : Module → List Interface → Phase → List Fault → Type 0

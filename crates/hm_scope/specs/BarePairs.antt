@@ -1,5 +1,5 @@
 -- Sets of bare names with their entities. No public clause names these.
-use Rattle.std.specs.Prelude.{◌≡◌, List, Option, None, map, Bool, ◌&&◌}
+use Rattle.std.specs.Prelude.{List, None, map, Bool, ◌&&◌}
 use Rattle.std.specs.Str.{bytes_eq}
 use denote.Enum.Bare.{sameb}
 use Rattle.hm_scope.specs.contracts.namespace.Namespace.{the_type}

@@ -1,5 +1,5 @@
 -- What an item of an export list gives, and its faults, by cases of the item. No public clause names these.
-use Rattle.std.specs.Prelude.{◌≡◌, ℕ, List, [], ◌∷◌, ◌++◌, Option, None, Some, ◌⊎◌, ◌↔◌, Contains, option_map}
+use Rattle.std.specs.Prelude.{◌≡◌, ℕ, List, Option, None, Some, ◌⊎◌, ◌↔◌, Contains}
 use Rattle.hm_types.specs.declared.Entity.{Entity}
 use Rattle.hm_types.specs.Interfaces.{Exports as Interface}
 use Rattle.hm_syntax.specs.Names.{Identifier}
@@ -9,7 +9,7 @@ use Rattle.hm_syntax.specs.declared.ast.Export.TheVariants as export
 use Rattle.hm_syntax.specs.declared.ast.Subs.{Subs}
 use Rattle.hm_syntax.specs.declared.ast.Subs.TheVariants as subs
 use Rattle.hm_scope.specs.declared.namespace.Namespace.{Namespace}
-use Rattle.hm_scope.specs.declared.namespace.Namespace.TheVariants.{Types, Constructors, Values}
+use Rattle.hm_scope.specs.declared.namespace.Namespace.TheVariants.{Types, Values}
 use Rattle.hm_scope.specs.declared.faults.Fault.{Fault}
 use Rattle.hm_scope.specs.declared.faults.Kind.TheVariants.{Unbound, Ambiguous, ExportClash, NotImported}
 use Rattle.hm_scope.specs.declared.exports.Exporter.{Exporter}

@@ -19,7 +19,7 @@ abbrev pub exported_of : Pair → Exported
 exported_of p = record { name = p.text; entity = p.entity }
 
 -- of the bindings that are seen, one for each name of the namespace
-pub record IsOnce (s : Namespace) (seen : List Pair) (names : List (List ℕ)) (out : List Pair) : Type 0 where
+pub record AreOnePerName (s : Namespace) (seen : List Pair) (names : List (List ℕ)) (out : List Pair) : Type 0 where
   pub names_are : names ≡ map (λ p. p.text) out
   pub distinct : IsDistinct bytes_eq names
   pub sound : (p : Pair) → Contains out p → Contains seen p × (p.space ≡ s)

@@ -1,5 +1,5 @@
 -- The faults of names, of numbers of arguments and of declaration lists, as the walk over a tree notes them in order, and the state of the walk. No public contract names what stands here.
-use Rattle.std.specs.Prelude.{◌≡◌, ℕ, Bool, true, false, cond, ◌&&◌, ◌==◌, List, [], ◌∷◌, ◌++◌, map, length, Option, None, Some, is_some}
+use Rattle.std.specs.Prelude.{ℕ, Bool, true, false, cond, ◌&&◌, ◌==◌, List, [], ◌∷◌, ◌++◌, map, Option, None, Some, is_some}
 use Rattle.hm_types.specs.declared.Entity.{Entity}
 use Rattle.hm_types.specs.Synonyms.{TypeSynonym}
 use Rattle.hm_syntax.specs.Names.{Identifier}
@@ -9,8 +9,8 @@ use Rattle.hm_scope.specs.declared.namespace.Namespace.{Namespace}
 use Rattle.hm_scope.specs.declared.namespace.Namespace.TheVariants.{Types, Constructors, Values}
 use Rattle.hm_scope.specs.declared.faults.Kind.TheVariants.{Duplicate, NoBinding, Unbound, Ambiguous, NonLinear, Arity, ClauseLength}
 use Rattle.hm_scope.specs.declared.faults.Fault.{Fault}
-use Rattle.hm_scope.specs.Texts.{same_entity, is_text_among}
-use Rattle.hm_scope.specs.Variables.{texts, patterns_variables, types_variables, type_variables, constructor_variables, constructors_variables, clause_names, type_count, pattern_count}
+use Rattle.hm_scope.specs.Texts.{is_text_among}
+use Rattle.hm_scope.specs.Variables.{texts, patterns_variables, type_variables, constructor_variables, constructors_variables, clause_names, type_count, pattern_count}
 use Rattle.hm_scope.specs.Entities.{named}
 use Rattle.hm_scope.specs.Special.{Special, special_of, special_arity}
 use Rattle.hm_scope.specs.Described.{first_of}
@@ -18,7 +18,7 @@ use Rattle.hm_scope.specs.Walk.{Locals, with_patterns, with_list}
 use Rattle.hm_scope.specs.Faults.Lists.{type_names, constructor_names, binding_names, signed_names, other_lengths}
 use Rattle.hm_scope.specs.Faults.Phases.{fault}
 use Rattle.hm_scope.specs.Expansion.{as_entity}
-use Rattle.hm_scope.specs.Resolved.{Resolver, Binders, unchanged, constructor_with, expression_with, pattern_with, right_side_with}
+use Rattle.hm_scope.specs.Resolved.{Resolver, Binders, unchanged, expression_with, pattern_with, right_side_with}
 use Rattle.hm_scope.specs.Bindings.{Pair, MeaningOf, unbound, ambiguous, entity, meaning_in}
 
 -- a synonym with its entity

@@ -1,6 +1,5 @@
 -- Which of the exported names an import selects. No public clause names these.
-use Rattle.std.specs.Prelude.{◌≡◌, ℕ, List, Bool, true, false, Contains, None, ◌↔◌}
-use Rattle.hm_types.specs.declared.Entity.{Entity}
+use Rattle.std.specs.Prelude.{◌≡◌, ℕ, List, Bool, true, false, Contains, ◌↔◌}
 use Rattle.hm_types.specs.Interfaces.{Exports as Interface}
 use Rattle.hm_syntax.specs.declared.ast.Import.{Import}
 use Rattle.hm_syntax.specs.declared.ast.Item.{Item}

@@ -1,5 +1,5 @@
 -- What is computed of graphs of synonyms: which nodes are in cycles, and an order in which each node stands after those that it reaches. No public clause names these.
-use Rattle.std.specs.Prelude.{◌≡◌, ℕ, ◌<◌, ◌⊎◌, ◌↔◌, Bool, true, false, List, [], length, take, slice_index, slice_index_or, Contains}
+use Rattle.std.specs.Prelude.{◌≡◌, ℕ, ◌<◌, ◌⊎◌, ◌↔◌, Bool, true, false, List, length, take, slice_index, slice_index_or, Contains}
 use Rattle.hm_graph.specs.Digraph.{Graph, Edge, Reaches}
 
 -- the nodes with an edge to themselves are marked

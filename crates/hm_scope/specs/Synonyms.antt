@@ -1,12 +1,11 @@
 -- The references of a module's synonyms to each other, as they are computed. No public clause names these.
-use Rattle.std.specs.Prelude.{◌≡◌, ℕ, ◌<◌, ◌↔◌, ◌⊎◌, Bool, true, false, List, [], ◌∷◌, map, length, Option, None, Some, slice_index, slice_index_or, take, Contains}
+use Rattle.std.specs.Prelude.{◌≡◌, ℕ, ◌<◌, ◌↔◌, ◌⊎◌, Bool, true, false, List, [], map, length, Some, slice_index, slice_index_or, take, Contains}
 use Rattle.hm_types.specs.Interfaces.{Exports as Interface}
 use Rattle.hm_syntax.specs.Names.{Identifier}
 use Rattle.hm_syntax.specs.Trees.{TypeTree, Declaration, synonym_declaration}
 use Rattle.hm_syntax.specs.declared.ast.Module.{Module}
 use Rattle.hm_graph.specs.Digraph.{Graph, Edge}
 use Rattle.hm_types.specs.declared.Entity.{Entity}
-use Rattle.hm_types.specs.Synonyms.{TypeSynonym}
 use Rattle.hm_scope.specs.declared.own_synonyms.OwnSynonym.{OwnSynonym}
 use Rattle.hm_scope.specs.declared.own_synonyms.OwnSynonyms.{OwnSynonyms}
 use Rattle.hm_scope.specs.declared.faults.Kind.{Kind}

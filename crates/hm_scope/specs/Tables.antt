@@ -1,12 +1,11 @@
 -- What the table of a scope keeps. No public clause names these.
-use Rattle.std.specs.Prelude.{◌≡◌, ℕ, List, Option, Some, None, Contains, Bool, true, false, ◌&&◌, option_map}
+use Rattle.std.specs.Prelude.{◌≡◌, List, Option, Some, None, Contains, Bool, true, false, ◌&&◌, option_map}
 use Rattle.std.specs.Str.{bytes_eq}
 use Rattle.std.specs.Option.{option_eq}
 use Rattle.std.specs.declared.hash.FoldHasher.{FoldHasher}
 use Rattle.std.specs.declared.hash.BuildHasherDefault.{BuildHasherDefault}
 use Rattle.indexmap.specs.IndexMap.{IndexMap, get_by}
 use denote.Enum.Bare.{sameb}
-use Rattle.hm_types.specs.declared.Entity.{Entity}
 use Rattle.hm_scope.specs.contracts.namespace.Namespace.{the_type}
 use Rattle.hm_scope.specs.declared.keys.Key.{Key}
 use Rattle.hm_scope.specs.declared.table.Slot.{Slot}

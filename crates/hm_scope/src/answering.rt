@@ -12,7 +12,7 @@ use hm_syntax::Row;
 use std::alloc::AllocError;
 
 /// The answer for a module with these faults of one phase, if there are any.
-pub fn phase_answer(faults: Vec<Fault>) -> Result<Option<Row<Fault>>, AllocError>
+pub(crate) fn phase_answer(faults: Vec<Fault>) -> Result<Option<Row<Fault>>, AllocError>
     ensures { IfOk result (λ answer. (m : Module) (fs : List Interface) (p : Phase) → AreExact m fs p faults.items → IsPhaseAnswer m fs p answer) }
 {
     let items = sort_faults(faults)?;

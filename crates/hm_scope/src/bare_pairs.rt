@@ -21,7 +21,7 @@ struct BareKey<'a> {
 
 /// A set of bare names, each with an entity that it stands for.
 #[derive(Drop)]
-pub struct BarePairs<'a> {
+pub(crate) struct BarePairs<'a> {
     keys: IndexSet<BareKey<'a>>,
 }
 
@@ -49,7 +49,7 @@ fn bare_key<'a>(binding: &Binding<'a>) -> BareKey<'a>
 
 impl<'a> BarePairs<'a> {
     /// No names.
-    pub fn new(alloc: Global) -> BarePairs<'a>
+    pub(crate) fn new(alloc: Global) -> BarePairs<'a>
         ensures { result ≡ [] }
     {
         BarePairs {
@@ -58,14 +58,14 @@ impl<'a> BarePairs<'a> {
     }
 
     /// Whether the set has the bare name of a binding, with its entity.
-    pub fn contains(&self, binding: &Binding<'a>) -> bool
+    pub(crate) fn contains(&self, binding: &Binding<'a>) -> bool
         ensures { IsTrue result ↔ Contains self.now (bare_of binding.now) }
     {
         self.keys.contains(&bare_key(binding))
     }
 
     /// Adds it.
-    pub fn insert(&mut self, binding: &Binding<'a>) -> Result<(), AllocError>
+    pub(crate) fn insert(&mut self, binding: &Binding<'a>) -> Result<(), AllocError>
         ensures { OnOk result (Adds self.old self.new (λ p. bare_of binding.now ≡ p)) }
     {
         self.keys.insert(bare_key(binding))?;
@@ -85,7 +85,10 @@ fn add_bare<'a>(bare: &mut BarePairs<'a>, pair: &Binding<'a>) -> Result<(), Allo
 }
 
 /// The bindings that have no qualifier.
-pub fn bare_pairs<'a>(alloc: Global, pairs: &[Binding<'a>]) -> Result<BarePairs<'a>, AllocError>
+pub(crate) fn bare_pairs<'a>(
+    alloc: Global,
+    pairs: &[Binding<'a>],
+) -> Result<BarePairs<'a>, AllocError>
     ensures { IfOk result (λ bare. (p : Pair) → Contains bare p ↔ (Contains pairs.now p × (p.qualifier ≡ None))) }
 {
     let mut bare = BarePairs::new(alloc);

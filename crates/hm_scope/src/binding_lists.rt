@@ -57,7 +57,10 @@ fn add_binding<'a>(
 }
 
 /// The variables of the bindings of a list.
-pub fn binding_names<'a>(alloc: Global, decls: &'a [Decl]) -> Result<LentNames<'a>, AllocError>
+pub(crate) fn binding_names<'a>(
+    alloc: Global,
+    decls: &'a [Decl],
+) -> Result<LentNames<'a>, AllocError>
     ensures { IfOk result (λ names. names ≡ binding_names None (declarations decls.now)) }
 {
     let mut names = LentNames::new(alloc);
@@ -95,7 +98,10 @@ fn add_other_length<'a>(
 }
 
 /// The clauses that go on a binding with another number of patterns than its first one has.
-pub fn other_lengths<'a>(alloc: Global, decls: &'a [Decl]) -> Result<LentNames<'a>, AllocError>
+pub(crate) fn other_lengths<'a>(
+    alloc: Global,
+    decls: &'a [Decl],
+) -> Result<LentNames<'a>, AllocError>
     ensures { IfOk result (λ names. names ≡ other_lengths None (declarations decls.now)) }
 {
     let mut names = LentNames::new(alloc);

@@ -112,7 +112,7 @@ fn note_exported<'a>(
 }
 
 /// The type of each constructor, by its first description: the module's own, then those of the interfaces in order.
-pub fn owners_of<'a>(
+pub(crate) fn owners_of<'a>(
     alloc: Global,
     program: &'a Module,
     interfaces: &[&'a Interface],
@@ -128,7 +128,7 @@ pub fn owners_of<'a>(
 }
 
 /// The type to which a constructor belongs.
-pub fn owner_of<'o, 'a>(
+pub(crate) fn owner_of<'o, 'a>(
     owners: &'o IndexMap<EntityKey<'a>, EntityRef<'a>>,
     constructor: &EntityRef<'a>,
 ) -> Option<&'o EntityRef<'a>>

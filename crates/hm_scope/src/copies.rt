@@ -20,7 +20,7 @@ fn copy_qualifier(qualifier: &Option<String>) -> Result<Option<String>, AllocErr
 }
 
 /// The same name at the same place.
-pub fn copy_name(name: &Name) -> Result<Name, AllocError>
+pub(crate) fn copy_name(name: &Name) -> Result<Name, AllocError>
     ensures { IfOk result (λ copy. copy ≡ name.now) }
 {
     Ok(Name {
@@ -31,7 +31,7 @@ pub fn copy_name(name: &Name) -> Result<Name, AllocError>
 }
 
 /// Names of its own for each that is lent.
-pub fn owned_names(alloc: Global, names: &LentNames<'_>) -> Result<Vec<Name>, AllocError>
+pub(crate) fn owned_names(alloc: Global, names: &LentNames<'_>) -> Result<Vec<Name>, AllocError>
     ensures { IfOk result (λ copies. copies.items ≡ names.now) }
 {
     let mut copies = Vec::new(alloc);
@@ -43,7 +43,7 @@ pub fn owned_names(alloc: Global, names: &LentNames<'_>) -> Result<Vec<Name>, Al
 }
 
 /// The same names.
-pub fn copy_names(alloc: Global, names: &[Name]) -> Result<Vec<Name>, AllocError>
+pub(crate) fn copy_names(alloc: Global, names: &[Name]) -> Result<Vec<Name>, AllocError>
     ensures { IfOk result (λ copies. copies.items ≡ names.now) }
 {
     let mut copies = Vec::new(alloc);
@@ -54,7 +54,11 @@ pub fn copy_names(alloc: Global, names: &[Name]) -> Result<Vec<Name>, AllocError
 }
 
 /// The name of an entity, in the place of a name.
-pub fn entity_name(alloc: Global, name: &Name, entity: &EntityRef<'_>) -> Result<Name, AllocError>
+pub(crate) fn entity_name(
+    alloc: Global,
+    name: &Name,
+    entity: &EntityRef<'_>,
+) -> Result<Name, AllocError>
     ensures { IfOk result (λ copy. copy ≡ as_entity name.now entity.now) }
 {
     Ok(Name {
@@ -65,7 +69,11 @@ pub fn entity_name(alloc: Global, name: &Name, entity: &EntityRef<'_>) -> Result
 }
 
 /// What a name becomes that is bound in the list of this module, or in another.
-pub fn bound_name(alloc: Global, home: &Option<Text>, name: &Name) -> Result<Name, AllocError>
+pub(crate) fn bound_name(
+    alloc: Global,
+    home: &Option<Text>,
+    name: &Name,
+) -> Result<Name, AllocError>
     ensures { IfOk result (λ copy. copy ≡ binder_of home.now name.now) }
 {
     match home {
@@ -79,7 +87,7 @@ pub fn bound_name(alloc: Global, home: &Option<Text>, name: &Name) -> Result<Nam
 }
 
 /// The same of names in a row.
-pub fn bound_names(
+pub(crate) fn bound_names(
     alloc: Global,
     home: &Option<Text>,
     names: &[Name],
@@ -94,7 +102,7 @@ pub fn bound_names(
 }
 
 /// The same literal.
-pub fn copy_literal(literal: &Literal) -> Result<Literal, AllocError>
+pub(crate) fn copy_literal(literal: &Literal) -> Result<Literal, AllocError>
     ensures { IfOk result (λ copy. copy ≡ literal.now) }
 {
     match &literal.kind {
@@ -111,7 +119,7 @@ pub fn copy_literal(literal: &Literal) -> Result<Literal, AllocError>
 }
 
 /// Whether a name is written without a qualifier.
-pub fn is_unqualified(name: &Name) -> bool
+pub(crate) fn is_unqualified(name: &Name) -> bool
     ensures { result ≡ no_qualifier name.now.qualifier }
 {
     match &name.qualifier {
@@ -121,7 +129,7 @@ pub fn is_unqualified(name: &Name) -> bool
 }
 
 /// Whether a name is that of a special constructor.
-pub fn is_special(name: &Name) -> bool
+pub(crate) fn is_special(name: &Name) -> bool
     ensures { result ≡ is_special name.now }
 {
     match special_arity(name) {
@@ -131,7 +139,7 @@ pub fn is_special(name: &Name) -> bool
 }
 
 /// How many arguments a special constructor takes.
-pub fn special_arity(name: &Name) -> Option<usize>
+pub(crate) fn special_arity(name: &Name) -> Option<usize>
     ensures { result ≡ option_map special_arity (special_of name.now) }
 {
     if !is_unqualified(name) {
@@ -148,7 +156,7 @@ pub fn special_arity(name: &Name) -> Option<usize>
 }
 
 /// How many components the tuples of a constructor have.
-fn tuple_arity(text: &[u8]) -> Option<usize>
+pub fn tuple_arity(text: &[u8]) -> Option<usize>
     ensures { result ≡ option_map special_arity (tuple_of text.now) }
 {
     let len = text.len();

@@ -18,7 +18,7 @@ use hm_types::{Entity, Head, Scheme, Synonym, Text, Ty, Types, canonical};
 use std::alloc::{AllocError, Global};
 
 /// The synonym of a declaration whose right side has resolved names.
-pub fn declared_synonym(
+pub(crate) fn declared_synonym(
     alloc: Global,
     params: &[Name],
     ty: &TypeExpr,

@@ -136,7 +136,7 @@ fn applied(
 
 /// The right side of a synonym, with the arguments in the place of its parameters.
 #[tactic(auto, using(crate::proofs::Expanded::all_filled))]
-pub fn filled(
+pub(crate) fn filled(
     alloc: Global,
     name: &Name,
     args: &[TypeExpr],

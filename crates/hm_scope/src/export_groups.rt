@@ -21,7 +21,7 @@ use std::alloc::{AllocError, Global};
 /// What an item, or a part of one, selects: what is in scope under a qualifier, the constructors of a type, or those of
 /// one name.
 #[derive(Clone, Copy, Hash, PartialEq, Eq)]
-pub struct Selector<'a> {
+pub(crate) struct Selector<'a> {
     module: &'a str,
     owner: Option<&'a str>,
     part: Option<&'a str>,
@@ -29,7 +29,7 @@ pub struct Selector<'a> {
 
 impl<'a> Selector<'a> {
     /// What is in scope both bare and under this qualifier.
-    pub fn whole(qualifier: &'a str) -> Selector<'a>
+    pub(crate) fn whole(qualifier: &'a str) -> Selector<'a>
         ensures { result ≡ record { «module» = qualifier.entry; owner = None; part = None } }
     {
         Selector {
@@ -40,7 +40,7 @@ impl<'a> Selector<'a> {
     }
 
     /// The constructors of a type that are in scope.
-    pub fn constructors(owner: &EntityRef<'a>) -> Selector<'a>
+    pub(crate) fn constructors(owner: &EntityRef<'a>) -> Selector<'a>
         ensures module { result.«module».now ≡ owner.now.«module» }
         ensures owner { option_map (λ t. t.now) result.owner ≡ Some owner.now.name }
         ensures part { result.part ≡ None }
@@ -53,7 +53,7 @@ impl<'a> Selector<'a> {
     }
 
     /// Those of this name.
-    pub fn constructor(owner: &EntityRef<'a>, text: &'a str) -> Selector<'a>
+    pub(crate) fn constructor(owner: &EntityRef<'a>, text: &'a str) -> Selector<'a>
         ensures module { result.«module».now ≡ owner.now.«module» }
         ensures owner { option_map (λ t. t.now) result.owner ≡ Some owner.now.name }
         ensures part { result.part ≡ Some text.entry }
@@ -67,7 +67,7 @@ impl<'a> Selector<'a> {
 }
 
 /// Adds a binding to a group.
-pub fn add_to_group<'a>(
+pub(crate) fn add_to_group<'a>(
     alloc: Global,
     groups: &mut IndexMap<Selector<'a>, Vec<Binding<'a>>>,
     selector: Selector<'a>,
@@ -86,7 +86,7 @@ pub fn add_to_group<'a>(
 }
 
 /// Adds the bindings of a group to others. Whether there is one.
-pub fn add_group<'a>(
+pub(crate) fn add_group<'a>(
     out: &mut Vec<Binding<'a>>,
     groups: &IndexMap<Selector<'a>, Vec<Binding<'a>>>,
     selector: &Selector<'_>,
@@ -114,7 +114,7 @@ fn add_copies<'a>(out: &mut Vec<Binding<'a>>, bindings: &[Binding<'a>]) -> Resul
 }
 
 /// The same binding.
-pub fn copy_of<'a>(binding: &Binding<'a>) -> Binding<'a>
+pub(crate) fn copy_of<'a>(binding: &Binding<'a>) -> Binding<'a>
     ensures { result ≡ binding.now }
 {
     Binding::new(
@@ -206,7 +206,7 @@ fn add_pairs<'a>(
 }
 
 /// What is in a scope, in groups by what selects it.
-pub fn groups_of<'a>(
+pub(crate) fn groups_of<'a>(
     alloc: Global,
     program: &'a Module,
     interfaces: &[&'a Interface],

@@ -4,7 +4,7 @@ ghost use Rattle.std.specs.Prelude.{◌≡◌, ◌↔◌, ◌++◌, ◌∷◌, [
 ghost use Rattle.hm_types.specs.declared.Entity.{Entity};
 ghost use Rattle.hm_types.specs.Interfaces.{AreOrdered};
 ghost use Rattle.hm_scope.specs.Bindings.{Pair};
-ghost use Rattle.hm_scope.specs.ExportedRows.{IsOnce, HaveOneEntity, IsBound, exported_of};
+ghost use Rattle.hm_scope.specs.ExportedRows.{AreOnePerName, HaveOneEntity, IsBound, exported_of};
 
 use crate::bindings::Binding;
 use crate::cores::Exported;
@@ -22,7 +22,7 @@ fn add_once<'a>(
     space: Namespace,
     binding: &Binding<'a>,
 ) -> Result<(), AllocError>
-    ensures { OnOk result ((seen : List Pair) → IsOnce space seen names.old out.old.items → IsOnce space (seen ++ binding.now ∷ []) names.new out.new.items) }
+    ensures { OnOk result ((seen : List Pair) → AreOnePerName space seen names.old out.old.items → AreOnePerName space (seen ++ binding.now ∷ []) names.new out.new.items) }
 {
     if binding.space() != space {
         return Ok(());
@@ -40,7 +40,7 @@ fn of_namespace<'a>(
     given: &[Binding<'a>],
     space: Namespace,
 ) -> Result<Vec<Binding<'a>>, AllocError>
-    ensures { IfOk result (λ out. IsOnce space given.now (map (λ p. p.text) out.items) out.items) }
+    ensures { IfOk result (λ out. AreOnePerName space given.now (map (λ p. p.text) out.items) out.items) }
 {
     let mut names = TextSet::new(alloc);
     let mut out = Vec::new(alloc);
@@ -67,7 +67,7 @@ fn exported(alloc: Global, binding: &Binding<'_>) -> Result<Exported, AllocError
 }
 
 /// What is exported in a namespace, ordered by name, each name once.
-pub fn exported_in(
+pub(crate) fn exported_in(
     alloc: Global,
     given: &[Binding<'_>],
     space: Namespace,

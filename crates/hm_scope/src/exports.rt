@@ -44,9 +44,9 @@ struct Exporter<'s, 'a> {
 
 /// What a module exports under which names, and the faults of its export list.
 #[derive(Drop)]
-pub struct ModuleExports<'a> {
-    pub given: Vec<Binding<'a>>,
-    pub faults: Vec<Fault>,
+pub(crate) struct ModuleExports<'a> {
+    pub(crate) given: Vec<Binding<'a>>,
+    pub(crate) faults: Vec<Fault>,
 }
 
 /// Adds a fault.
@@ -378,7 +378,7 @@ fn declared_exports<'a>(alloc: Global, program: &'a Module) -> Result<Vec<Bindin
 }
 
 /// What a module exports, each entity once or more, and the faults of its export list.
-pub fn module_exports<'a>(
+pub(crate) fn module_exports<'a>(
     alloc: Global,
     program: &'a Module,
     interfaces: &[&'a Interface],

@@ -9,7 +9,7 @@ use hm_types::Text;
 use std::alloc::{AllocError, Global};
 
 /// A name as it is written.
-pub fn written(alloc: Global, name: &Name) -> Result<Text, AllocError>
+pub(crate) fn written(alloc: Global, name: &Name) -> Result<Text, AllocError>
     ensures { IfOk result (λ t. t ≡ written name.now) }
 {
     let mut text = String::new(alloc);
@@ -22,7 +22,7 @@ pub fn written(alloc: Global, name: &Name) -> Result<Text, AllocError>
 }
 
 /// The fault of a kind at a name.
-pub fn fault_at(alloc: Global, kind: Kind, name: &Name) -> Result<Fault, AllocError>
+pub(crate) fn fault_at(alloc: Global, kind: Kind, name: &Name) -> Result<Fault, AllocError>
     ensures { IfOk result (λ f. f ≡ fault kind name.now) }
 {
     let text = written(alloc, name)?;

@@ -199,7 +199,7 @@ fn add_import_faults(
 }
 
 /// The faults of the imports of a module, for the interfaces of the imported modules.
-pub fn import_faults(
+pub(crate) fn import_faults(
     alloc: Global,
     program: &Module,
     interfaces: &[&Interface],

@@ -31,7 +31,10 @@ use hm_types::Synonym;
 use std::alloc::{AllocError, Global};
 
 /// The parameters of a declaration, as type variables.
-pub fn parameters_of<'a>(alloc: Global, params: &'a [Name]) -> Result<TypeVariables<'a>, AllocError>
+pub(crate) fn parameters_of<'a>(
+    alloc: Global,
+    params: &'a [Name],
+) -> Result<TypeVariables<'a>, AllocError>
     ensures { IfOk result (λ set. ((n : Identifier) → ¬ Repeats params.now n) → set ≡ texts params.now) }
 {
     let mut names = LentNames::new(alloc);
@@ -142,7 +145,7 @@ fn add_in_order<'a>(
 }
 
 /// Adds the synonyms of a module, each after those that its right side names. Those of a module with faults may be left out.
-pub fn add_synonyms<'a>(
+pub(crate) fn add_synonyms<'a>(
     alloc: Global,
     tables: &mut Tables<'a>,
     scope: &Scope<'_>,

@@ -161,7 +161,7 @@ fn add_selected<'a>(
 }
 
 /// The name under which a module is imported.
-pub fn import_name(import: &Import) -> &str
+pub(crate) fn import_name(import: &Import) -> &str
     ensures { result.now ≡ known_as import.now }
 {
     match &import.alias {
@@ -248,7 +248,7 @@ fn add_all_of_prelude<'a>(
 }
 
 /// Whether an import that is written names Prelude.
-pub fn names_prelude(imports: &[Import]) -> bool
+pub(crate) fn names_prelude(imports: &[Import]) -> bool
     ensures { IsTrue result ↔ ((i : Import) × (Contains imports.now i × (i.name.text ≡ prelude_name))) }
 {
     for import in imports {
@@ -293,7 +293,7 @@ fn add_imports<'a>(
 }
 
 /// The interfaces for which a module is looked at: Prelude's, and those of its imports.
-pub fn interfaces_of<'a>(
+pub(crate) fn interfaces_of<'a>(
     alloc: Global,
     prelude: &'a Interface,
     imports: &'a [Arc<Interface>],
@@ -309,7 +309,7 @@ pub fn interfaces_of<'a>(
 }
 
 /// The scope of a module, for Prelude's interface and those of its imports.
-pub fn scope_of<'a>(
+pub(crate) fn scope_of<'a>(
     alloc: Global,
     program: &'a Module,
     prelude: &'a Interface,

@@ -16,7 +16,7 @@ use hm_syntax::{Constr, Decl, DeclKind, Module, Name, Pat};
 use std::alloc::{AllocError, Global};
 
 /// Adds an entity under its name, qualified, and bare unless a qualifier is asked for.
-pub fn add<'a>(
+pub(crate) fn add<'a>(
     pairs: &mut Vec<Binding<'a>>,
     qualified: bool,
     qualifier: &'a str,
@@ -125,7 +125,7 @@ fn add_declaration<'a>(
 }
 
 /// Adds what a module declares.
-pub fn add_declared<'a>(
+pub(crate) fn add_declared<'a>(
     alloc: Global,
     pairs: &mut Vec<Binding<'a>>,
     program: &'a Module,

@@ -8,22 +8,22 @@ use crate::namespace::Namespace;
 
 /// A name, bare or qualified, in a namespace.
 #[derive(Clone, Copy, Hash, PartialEq, Eq)]
-pub struct Key<'a> {
-    pub space: Namespace,
-    pub qualifier: Option<&'a str>,
-    pub text: &'a str,
+pub(crate) struct Key<'a> {
+    pub(crate) space: Namespace,
+    pub(crate) qualifier: Option<&'a str>,
+    pub(crate) text: &'a str,
 }
 
 /// An entity, by its two texts.
 #[derive(Clone, Copy, Hash, PartialEq, Eq)]
-pub struct EntityKey<'a> {
-    pub module: &'a str,
-    pub name: &'a str,
+pub(crate) struct EntityKey<'a> {
+    pub(crate) module: &'a str,
+    pub(crate) name: &'a str,
 }
 
 impl<'a> EntityKey<'a> {
     /// The key of an entity.
-    pub fn of(entity: &EntityRef<'a>) -> EntityKey<'a>
+    pub(crate) fn of(entity: &EntityRef<'a>) -> EntityKey<'a>
         ensures { entity_at result ≡ entity.now }
     {
         EntityKey {

@@ -28,7 +28,7 @@ use std::alloc::{AllocError, Global};
 
 /// What a type constructor is (Report, sections 4.2.1 to 4.2.3).
 #[derive(Drop)]
-pub enum KnownType<'a> {
+pub(crate) enum KnownType<'a> {
     /// A data type or newtype with so many parameters.
     Algebraic(usize),
     /// A synonym of the core, by its parameters and its right side.
@@ -38,7 +38,7 @@ pub enum KnownType<'a> {
 
 /// What a constructor is (Report, sections 4.2.1 and 4.2.3).
 #[derive(Drop)]
-pub enum KnownConstructor<'a> {
+pub(crate) enum KnownConstructor<'a> {
     /// One of the core, by the name and the parameters of its type.
     Declared(&'a Name, &'a [Name], &'a Constr),
     Imported(&'a ConstructorEntry),
@@ -142,7 +142,7 @@ fn note_synonym_entries<'a>(
 }
 
 /// The type constructors that a core can export.
-pub fn known_types<'a>(
+pub(crate) fn known_types<'a>(
     alloc: Global,
     home: &'a str,
     decls: &'a [Decl],
@@ -238,7 +238,7 @@ fn note_constructor_entries<'a>(
 }
 
 /// The constructors that a core can export.
-pub fn known_constructors<'a>(
+pub(crate) fn known_constructors<'a>(
     alloc: Global,
     home: &'a str,
     decls: &'a [Decl],
@@ -269,7 +269,7 @@ fn note_value_entries<'a>(
 }
 
 /// The variables that a core imports.
-pub fn known_values<'a>(
+pub(crate) fn known_values<'a>(
     alloc: Global,
     interfaces: &[&'a Interface],
 ) -> Result<IndexMap<EntityKey<'a>, &'a ValueEntry>, AllocError>
@@ -314,7 +314,10 @@ fn add_bound<'a>(alloc: Global, out: &mut TextSet<'a>, decl: &'a Decl) -> Result
 }
 
 /// The variables that declarations bind.
-pub fn bound_variables<'a>(alloc: Global, decls: &'a [Decl]) -> Result<TextSet<'a>, AllocError>
+pub(crate) fn bound_variables<'a>(
+    alloc: Global,
+    decls: &'a [Decl],
+) -> Result<TextSet<'a>, AllocError>
     ensures { IfOk result (λ bound. (x : List ℕ) → Contains bound x ↔ Contains (texts (bound_names (declarations decls.now))) x) }
 {
     let mut bound = TextSet::new(alloc);

@@ -60,9 +60,12 @@ mod types;
 mod variables;
 mod walking;
 
+pub use crate::copies::tuple_arity;
 pub use crate::cores::{Core, Exported};
 pub use crate::declared::{DeclaredType, declared_type};
+pub use crate::declared_schemes::{declared_scheme, own_entity};
 pub use crate::exporting::export;
+pub use crate::fault_order::sort_faults;
 pub use crate::faults::{Fault, Kind, ScopeFault};
 pub use crate::imported::{are_imports_of, imported_names};
 pub use crate::namespace::Namespace;

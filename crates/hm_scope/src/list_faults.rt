@@ -31,7 +31,7 @@ fn add_faults(
 }
 
 /// Adds what is declared twice in a list, signatures without a binding, and clauses of another length than their binding's first.
-pub fn add_list_faults(
+pub(crate) fn add_list_faults(
     alloc: Global,
     faults: &mut Vec<Fault>,
     decls: &[Decl],

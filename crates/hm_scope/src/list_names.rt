@@ -12,7 +12,7 @@ use hm_syntax::{Constr, Decl, DeclKind, Name};
 use std::alloc::{AllocError, Global};
 
 /// Adds names.
-pub fn add_names<'a>(out: &mut LentNames<'a>, names: &'a [Name]) -> Result<(), AllocError>
+pub(crate) fn add_names<'a>(out: &mut LentNames<'a>, names: &'a [Name]) -> Result<(), AllocError>
     ensures { OnOk result (out.new ≡ out.old ++ names.now) }
 {
     'names: for name in names {
@@ -46,7 +46,7 @@ fn add_type<'a>(out: &mut LentNames<'a>, decl: &'a Decl) -> Result<(), AllocErro
 }
 
 /// The types that a list declares.
-pub fn type_names<'a>(alloc: Global, decls: &'a [Decl]) -> Result<LentNames<'a>, AllocError>
+pub(crate) fn type_names<'a>(alloc: Global, decls: &'a [Decl]) -> Result<LentNames<'a>, AllocError>
     ensures { IfOk result (λ names. names ≡ type_names (declarations decls.now)) }
 {
     let mut names = LentNames::new(alloc);
@@ -71,7 +71,10 @@ fn add_declared_constructors<'a>(out: &mut LentNames<'a>, decl: &'a Decl) -> Res
 }
 
 /// The constructors that a list declares.
-pub fn constructor_names<'a>(alloc: Global, decls: &'a [Decl]) -> Result<LentNames<'a>, AllocError>
+pub(crate) fn constructor_names<'a>(
+    alloc: Global,
+    decls: &'a [Decl],
+) -> Result<LentNames<'a>, AllocError>
     ensures { IfOk result (λ names. names ≡ constructor_names (declarations decls.now)) }
 {
     let mut names = LentNames::new(alloc);
@@ -96,7 +99,10 @@ fn add_signed<'a>(out: &mut LentNames<'a>, decl: &'a Decl) -> Result<(), AllocEr
 }
 
 /// The variables that have a signature in a list.
-pub fn signed_names<'a>(alloc: Global, decls: &'a [Decl]) -> Result<LentNames<'a>, AllocError>
+pub(crate) fn signed_names<'a>(
+    alloc: Global,
+    decls: &'a [Decl],
+) -> Result<LentNames<'a>, AllocError>
     ensures { IfOk result (λ names. names ≡ signed_names (declarations decls.now)) }
 {
     let mut names = LentNames::new(alloc);
@@ -121,7 +127,10 @@ fn add_clause<'a>(out: &mut LentNames<'a>, decl: &'a Decl) -> Result<(), AllocEr
 }
 
 /// The variables that a list binds by clauses, each clause's.
-pub fn clause_names<'a>(alloc: Global, decls: &'a [Decl]) -> Result<LentNames<'a>, AllocError>
+pub(crate) fn clause_names<'a>(
+    alloc: Global,
+    decls: &'a [Decl],
+) -> Result<LentNames<'a>, AllocError>
     ensures { IfOk result (λ names. names ≡ clause_names (declarations decls.now)) }
 {
     let mut names = LentNames::new(alloc);

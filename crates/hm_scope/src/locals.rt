@@ -80,7 +80,7 @@ fn forget_all(depths: &mut HashMap<String, usize>, names: &[Name], depth: usize)
 /// The local names at a place, each list of them by itself. Contracts see the innermost first. A table has, for each text, the depth of the
 /// outermost list with a name of this text, so that nesting costs a look-up nothing.
 #[derive(Drop)]
-pub struct Locals {
+pub(crate) struct Locals {
     alloc: Global,
     groups: Vec<Group>,
     depths: HashMap<String, usize>,
@@ -99,7 +99,7 @@ impl Model for Locals {
 
 impl Locals {
     /// No names.
-    pub fn new(alloc: Global) -> Locals
+    pub(crate) fn new(alloc: Global) -> Locals
         ensures { result ≡ [] }
     {
         Locals {
@@ -110,7 +110,7 @@ impl Locals {
     }
 
     /// Goes to where these names are bound too. Where memory runs out, no name is left.
-    pub fn enter(&mut self, names: Vec<Name>) -> Result<(), AllocError>
+    pub(crate) fn enter(&mut self, names: Vec<Name>) -> Result<(), AllocError>
         ensures { OnOk result (self.new ≡ texts names.items ∷ self.old) }
     {
         match enter_group(&mut self.groups, &mut self.depths, names) {
@@ -124,14 +124,14 @@ impl Locals {
     }
 
     /// Goes back to where the names of the last `enter` were not bound.
-    pub fn leave(&mut self)
+    pub(crate) fn leave(&mut self)
         ensures { self.new ≡ rest_of self.old }
     {
         leave_group(&mut self.groups, &mut self.depths);
     }
 
     /// Whether a name with this text is bound.
-    pub fn contains(&self, text: &str) -> bool
+    pub(crate) fn contains(&self, text: &str) -> bool
         ensures { result ≡ is_text_among text.now (all_of self.now) }
     {
         self.depths.contains_key(text)

@@ -10,7 +10,7 @@ ghost use Rattle.hm_types.specs.declared.entries.ValueEntry.{ValueEntry};
 use hm_types::{ConstructorEntry, SynonymEntry, TypeEntry, ValueEntry};
 
 /// The type of this name.
-pub fn type_named<'a>(entries: &'a [TypeEntry], name: &str) -> Option<&'a TypeEntry>
+pub(crate) fn type_named<'a>(entries: &'a [TypeEntry], name: &str) -> Option<&'a TypeEntry>
     requires { AreOrdered (map (λ x. x.name) entries.now) }
     ensures { MatchOption result ((r : TypeEntry) → Contains entries.now r → ¬ (r.name ≡ name.now)) (λ r. Contains entries.now r.now × (r.now.name ≡ name.now)) }
 {
@@ -21,7 +21,7 @@ pub fn type_named<'a>(entries: &'a [TypeEntry], name: &str) -> Option<&'a TypeEn
 }
 
 /// The synonym of this name.
-pub fn synonym_named<'a>(entries: &'a [SynonymEntry], name: &str) -> Option<&'a SynonymEntry>
+pub(crate) fn synonym_named<'a>(entries: &'a [SynonymEntry], name: &str) -> Option<&'a SynonymEntry>
     requires { AreOrdered (map (λ x. x.name) entries.now) }
     ensures { MatchOption result ((r : SynonymEntry) → Contains entries.now r → ¬ (r.name ≡ name.now)) (λ r. Contains entries.now r.now × (r.now.name ≡ name.now)) }
 {
@@ -32,7 +32,7 @@ pub fn synonym_named<'a>(entries: &'a [SynonymEntry], name: &str) -> Option<&'a 
 }
 
 /// The constructor of this name.
-pub fn constructor_named<'a>(
+pub(crate) fn constructor_named<'a>(
     entries: &'a [ConstructorEntry],
     name: &str,
 ) -> Option<&'a ConstructorEntry>
@@ -46,7 +46,7 @@ pub fn constructor_named<'a>(
 }
 
 /// The variable of this name.
-pub fn value_named<'a>(entries: &'a [ValueEntry], name: &str) -> Option<&'a ValueEntry>
+pub(crate) fn value_named<'a>(entries: &'a [ValueEntry], name: &str) -> Option<&'a ValueEntry>
     requires { AreOrdered (map (λ x. x.name) entries.now) }
     ensures { MatchOption result ((r : ValueEntry) → Contains entries.now r → ¬ (r.name ≡ name.now)) (λ r. Contains entries.now r.now × (r.now.name ≡ name.now)) }
 {

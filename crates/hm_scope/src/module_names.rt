@@ -30,7 +30,10 @@ fn add_imports<'a>(names: &mut TextSet<'a>, imports: &'a [Import]) -> Result<(),
 }
 
 /// This module's name, and those under which modules are imported, Prelude among them.
-pub fn module_names<'a>(alloc: Global, program: &'a Module) -> Result<TextSet<'a>, AllocError>
+pub(crate) fn module_names<'a>(
+    alloc: Global,
+    program: &'a Module,
+) -> Result<TextSet<'a>, AllocError>
     ensures { IfOk result (λ names. (x : List ℕ) → Contains names x ↔ IsModuleName program.now x) }
 {
     let imports = program.header.imports.as_slice();

@@ -10,7 +10,7 @@ use hm_types::{Entity, Head, Text, Ty, Types};
 use std::alloc::{AllocError, Global};
 
 /// The entity of a resolved name.
-pub fn entity_of(alloc: Global, name: &Name) -> Result<Entity, AllocError>
+pub(crate) fn entity_of(alloc: Global, name: &Name) -> Result<Entity, AllocError>
     ensures { IfOk result (λ e. e ≡ entity_of name.now) }
 {
     match &name.qualifier {
@@ -28,7 +28,7 @@ pub fn entity_of(alloc: Global, name: &Name) -> Result<Entity, AllocError>
 /// A type with resolved names, where a variable has the number of its place among these. It takes no look at the arities of its type constructors.
 #[cycle(types)]
 #[tactic(auto, using(crate::proofs::Rows::type_falls))]
-pub fn monotype(
+pub(crate) fn monotype(
     alloc: Global,
     variables: &TypeVariables<'_>,
     ty: &TypeExpr,
@@ -64,7 +64,7 @@ pub fn monotype(
 /// Types in a row.
 #[cycle(types)]
 #[tactic(auto, using(crate::proofs::Rows::type_falls))]
-pub fn monotypes(
+pub(crate) fn monotypes(
     alloc: Global,
     variables: &TypeVariables<'_>,
     row: &[TypeExpr],

@@ -9,7 +9,7 @@ use std::marker::Model;
 
 /// The binding that the next clause may go on: its variable, and how many patterns its first clause has.
 #[derive(Drop)]
-pub struct OpenBinding<'a> {
+pub(crate) struct OpenBinding<'a> {
     binding: Option<(&'a str, usize)>,
 }
 
@@ -24,14 +24,14 @@ impl<'a> Model for OpenBinding<'a> {
 
 impl<'a> OpenBinding<'a> {
     /// No binding that a clause may go on.
-    pub fn none() -> OpenBinding<'a>
+    pub(crate) fn none() -> OpenBinding<'a>
         ensures { result ≡ None }
     {
         OpenBinding { binding: None }
     }
 
     /// What a first clause opens.
-    pub fn opened(name: &'a Name, pats: &[Pat]) -> OpenBinding<'a>
+    pub(crate) fn opened(name: &'a Name, pats: &[Pat]) -> OpenBinding<'a>
         ensures { result ≡ opened name.now (patterns pats.now) }
     {
         if pats.is_empty() {
@@ -43,7 +43,7 @@ impl<'a> OpenBinding<'a> {
     }
 
     /// Whether a clause goes on.
-    pub fn goes_on(&self, name: &Name, pats: &[Pat]) -> bool
+    pub(crate) fn goes_on(&self, name: &Name, pats: &[Pat]) -> bool
         ensures { result ≡ goes_on self.now name.now (patterns pats.now) }
     {
         let Some((text, _)) = self.binding else {
@@ -56,7 +56,7 @@ impl<'a> OpenBinding<'a> {
     }
 
     /// Whether a clause has another number of patterns than the first.
-    pub fn has_other_length(&self, pats: &[Pat]) -> bool
+    pub(crate) fn has_other_length(&self, pats: &[Pat]) -> bool
         ensures { result ≡ has_other_length self.now (patterns pats.now) }
     {
         let Some((_, count)) = self.binding else {

@@ -21,18 +21,18 @@ use std::alloc::{AllocError, Global};
 
 /// A synonym that a module declares.
 #[derive(Drop)]
-pub struct OwnSynonym<'a> {
-    pub name: &'a Name,
-    pub params: &'a [Name],
-    pub ty: &'a TypeExpr,
+pub(crate) struct OwnSynonym<'a> {
+    pub(crate) name: &'a Name,
+    pub(crate) params: &'a [Name],
+    pub(crate) ty: &'a TypeExpr,
 }
 
 /// The synonyms that a module declares, numbered in order, each name once.
 #[derive(Drop)]
-pub struct OwnSynonyms<'a> {
-    pub names: TextSet<'a>,
+pub(crate) struct OwnSynonyms<'a> {
+    pub(crate) names: TextSet<'a>,
     /// The first declaration of each name.
-    pub declared: Vec<OwnSynonym<'a>>,
+    pub(crate) declared: Vec<OwnSynonym<'a>>,
 }
 
 /// Adds a synonym, unless its name stands there.
@@ -66,7 +66,10 @@ fn add_declared<'a>(synonyms: &mut OwnSynonyms<'a>, decl: &'a Decl) -> Result<()
 }
 
 /// The synonyms of a module.
-pub fn own_synonyms<'a>(alloc: Global, decls: &'a [Decl]) -> Result<OwnSynonyms<'a>, AllocError>
+pub(crate) fn own_synonyms<'a>(
+    alloc: Global,
+    decls: &'a [Decl],
+) -> Result<OwnSynonyms<'a>, AllocError>
     ensures { IfOk result (λ synonyms. AreOwnSynonyms decls.now synonyms) }
 {
     let mut synonyms = OwnSynonyms {
@@ -177,7 +180,7 @@ fn add_declaration(
 }
 
 /// The graph of the synonyms of a module, with an edge where one refers to another.
-pub fn reference_graph(
+pub(crate) fn reference_graph(
     alloc: Global,
     scope: &Scope<'_>,
     program: &Module,

@@ -8,10 +8,10 @@ use std::alloc::{AllocError, Global};
 
 /// The faults of a module's trees: of declaration lists, of names, and of numbers of arguments.
 #[derive(Drop)]
-pub struct TreeFaults {
-    pub lists: Vec<Fault>,
-    pub names: Vec<Fault>,
-    pub numbers: Vec<Fault>,
+pub(crate) struct TreeFaults {
+    pub(crate) lists: Vec<Fault>,
+    pub(crate) names: Vec<Fault>,
+    pub(crate) numbers: Vec<Fault>,
 }
 
 /// Adds a fault to those of its phase.
@@ -38,7 +38,7 @@ fn add_fault(parts: &mut TreeFaults, fault: Fault) -> Result<(), AllocError>
 }
 
 /// The faults that a walk over a module's trees noted, by phases.
-pub fn by_phases(alloc: Global, faults: Vec<Fault>) -> Result<TreeFaults, AllocError>
+pub(crate) fn by_phases(alloc: Global, faults: Vec<Fault>) -> Result<TreeFaults, AllocError>
     ensures lists { IfOk result (λ parts. parts.lists.items ≡ filter is_of_lists faults.items) }
     ensures names { IfOk result (λ parts. parts.names.items ≡ filter is_of_names faults.items) }
     ensures numbers { IfOk result (λ parts. parts.numbers.items ≡ filter is_of_numbers faults.items) }

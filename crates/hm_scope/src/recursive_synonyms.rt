@@ -52,7 +52,7 @@ fn add_recursive(
 }
 
 /// The faults of synonyms that reach themselves.
-pub fn synonym_faults(
+pub(crate) fn synonym_faults(
     alloc: Global,
     program: &Module,
     names: &TextSet<'_>,

@@ -15,7 +15,7 @@ use hm_syntax::Name;
 use std::alloc::{AllocError, Global};
 
 /// Adds a fault of each name behind another of its text.
-pub fn add_repeated(
+pub(crate) fn add_repeated(
     alloc: Global,
     faults: &mut Vec<Fault>,
     kind: Kind,
@@ -45,7 +45,7 @@ fn texts_of<'a>(alloc: Global, names: &[&'a Name]) -> Result<TextSet<'a>, AllocE
 }
 
 /// Adds a fault of each name whose text isn't that of one of these.
-pub fn add_outside(
+pub(crate) fn add_outside(
     alloc: Global,
     faults: &mut Vec<Fault>,
     kind: Kind,
@@ -65,7 +65,7 @@ pub fn add_outside(
 }
 
 /// Adds each name that is the first of its text.
-pub fn add_firsts<'a>(
+pub(crate) fn add_firsts<'a>(
     alloc: Global,
     out: &mut LentNames<'a>,
     names: &LentNames<'a>,

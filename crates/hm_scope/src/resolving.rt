@@ -26,7 +26,7 @@ use std::marker::Model;
 
 /// Where the walk is: the scope, the local names around, and the faults so far.
 #[derive(Drop)]
-pub struct Resolving<'a> {
+pub(crate) struct Resolving<'a> {
     scope: &'a Scope<'a>,
     tables: &'a Tables<'a>,
     locals: Locals,

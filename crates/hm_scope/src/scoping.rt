@@ -37,16 +37,16 @@ use std::sync::Arc;
 /// The resolved declarations of a module, and the faults of its trees by phases: of declaration lists, of names, of numbers of arguments
 /// and of synonyms that are recursive.
 #[derive(Drop)]
-pub struct Trees {
-    pub decls: Vec<Decl>,
-    pub lists: Vec<Fault>,
-    pub names: Vec<Fault>,
-    pub numbers: Vec<Fault>,
+pub(crate) struct Trees {
+    pub(crate) decls: Vec<Decl>,
+    pub(crate) lists: Vec<Fault>,
+    pub(crate) names: Vec<Fault>,
+    pub(crate) numbers: Vec<Fault>,
 }
 
 /// What the phases answer of a module: its resolved declarations and its exports, or the faults of the first phase that has any.
 #[derive(Drop)]
-pub enum Answer<'a> {
+pub(crate) enum Answer<'a> {
     Resolved(Vec<Decl>, Vec<Binding<'a>>),
     Faulty(Row<Fault>),
 }

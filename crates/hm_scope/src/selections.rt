@@ -208,7 +208,7 @@ fn listed<'a>(
 
 /// Which names of an interface an import list selects.
 #[derive(Drop)]
-pub enum Selection<'a> {
+pub(crate) enum Selection<'a> {
     Every,
     Only(NameSet<'a>),
     /// All but these.
@@ -217,7 +217,7 @@ pub enum Selection<'a> {
 
 impl<'a> Selection<'a> {
     /// What the list of an import selects of its module's interface.
-    pub fn new(
+    pub(crate) fn new(
         alloc: Global,
         interface: &'a Interface,
         list: &'a List,
@@ -242,7 +242,7 @@ impl<'a> Selection<'a> {
     }
 
     /// Whether it selects the name.
-    pub fn selects(&self, space: Namespace, text: &str) -> bool
+    pub(crate) fn selects(&self, space: Namespace, text: &str) -> bool
         ensures { IsTrue result ↔ Selects self.now space text.now }
     {
         match self {

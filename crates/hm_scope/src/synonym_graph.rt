@@ -11,7 +11,7 @@ use std::marker::Model;
 
 /// A graph whose nodes are the synonyms of a module, by their numbers.
 #[derive(Drop)]
-pub struct SynonymGraph {
+pub(crate) struct SynonymGraph {
     graph: Digraph,
     /// Whether a node has an edge to itself.
     loops: Vec<bool>,
@@ -30,7 +30,7 @@ impl Model for SynonymGraph {
 
 impl SynonymGraph {
     /// A graph of `nodes` nodes and no edge.
-    pub fn new(alloc: Global, nodes: usize) -> Result<SynonymGraph, AllocError>
+    pub(crate) fn new(alloc: Global, nodes: usize) -> Result<SynonymGraph, AllocError>
         ensures nodes { IfOk result (λ graph. length graph ≡ nodes) }
         ensures edges { IfOk result (λ graph. (x y : ℕ) → ¬ Edge graph x y) }
     {
@@ -41,14 +41,14 @@ impl SynonymGraph {
     }
 
     /// The number of nodes.
-    pub fn len(&self) -> usize
+    pub(crate) fn len(&self) -> usize
         ensures { result ≡ length self.now }
     {
         self.graph.len()
     }
 
     /// Adds the edge from `from` to `to`.
-    pub fn add(&mut self, from: usize, to: usize) -> Result<(), AllocError>
+    pub(crate) fn add(&mut self, from: usize, to: usize) -> Result<(), AllocError>
         requires from { from < length self.old }
         requires to { to < length self.old }
         ensures added { OnOk result (AddsEdge self.old self.new from to) }
@@ -61,7 +61,7 @@ impl SynonymGraph {
     }
 
     /// For each node, whether it reaches itself.
-    pub fn recursive(&self, alloc: Global) -> Result<Vec<bool>, AllocError>
+    pub(crate) fn recursive(&self, alloc: Global) -> Result<Vec<bool>, AllocError>
         ensures nodes { IfOk result (λ marks. length marks.items ≡ length self.now) }
         ensures marks { IfOk result (λ marks. (x : ℕ) → x < length self.now → (slice_index_or marks.items x false ≡ true) ↔ Reaches self.now x x) }
     {
@@ -73,7 +73,7 @@ impl SynonymGraph {
     }
 
     /// The nodes in an order in which each stands after those that it reaches, but for those that reach it too.
-    pub fn order(&self, alloc: Global) -> Result<Vec<usize>, AllocError>
+    pub(crate) fn order(&self, alloc: Global) -> Result<Vec<usize>, AllocError>
         ensures { IfOk result (λ order. IsOrder self.now order.items) }
     {
         let groups = self.graph.groups()?;

@@ -17,7 +17,7 @@ use std::marker::Model;
 
 /// What a name means in a scope (Report, section 5.5.2).
 #[derive(Drop)]
-pub enum Meaning<'a> {
+pub(crate) enum Meaning<'a> {
     /// No entity.
     Unbound,
     /// Two entities or more.
@@ -27,14 +27,14 @@ pub enum Meaning<'a> {
 
 /// What is known of a name: an entity that it means, and whether it means others too.
 #[derive(Drop)]
-pub struct Slot<'a> {
+pub(crate) struct Slot<'a> {
     entity: EntityRef<'a>,
     several: bool,
 }
 
 /// The scope of a module: its pairs of a name and an entity, and a table of what each name means.
 #[derive(Drop)]
-pub struct Scope<'a> {
+pub(crate) struct Scope<'a> {
     pairs: Vec<Binding<'a>>,
     table: IndexMap<Key<'a>, Slot<'a>>,
 }
@@ -53,7 +53,7 @@ impl<'a> Model for Scope<'a> {
 
 impl<'a> Scope<'a> {
     /// The scope of these pairs.
-    pub fn of(alloc: Global, pairs: Vec<Binding<'a>>) -> Result<Scope<'a>, AllocError>
+    pub(crate) fn of(alloc: Global, pairs: Vec<Binding<'a>>) -> Result<Scope<'a>, AllocError>
         ensures { IfOk result (λ scope. scope ≡ pairs.entry.items) }
     {
         let mut table = IndexMap::new(alloc);
@@ -64,14 +64,14 @@ impl<'a> Scope<'a> {
     }
 
     /// The pairs.
-    pub fn pairs(&self) -> &[Binding<'a>]
+    pub(crate) fn pairs(&self) -> &[Binding<'a>]
         ensures { result.now ≡ self.now }
     {
         &self.pairs
     }
 
     /// What a name means that isn't bound locally.
-    pub fn meaning(&self, space: Namespace, name: &Name) -> Meaning<'a>
+    pub(crate) fn meaning(&self, space: Namespace, name: &Name) -> Meaning<'a>
         ensures means { (m : Module) (fs : List Interface) → IsScopeOf m fs self.now → IsMeaning m fs space name.now result }
         ensures meaning { meaning_is result (meaning_in self.now space name.now) }
     {
@@ -116,7 +116,7 @@ fn with_entity<'a>(slot: &Slot<'a>, entity: &EntityRef<'a>) -> Slot<'a>
 }
 
 /// Whether the name of a pair means several entities.
-pub fn is_several<'a>(table: &IndexMap<Key<'a>, Slot<'a>>, pair: &Binding<'a>) -> bool
+pub(crate) fn is_several<'a>(table: &IndexMap<Key<'a>, Slot<'a>>, pair: &Binding<'a>) -> bool
     ensures { (pairs : List Pair) → IsTable pairs table.now → (IsTrue result ↔ IsSeveral pairs pair.now) }
 {
     let key = Key {
@@ -131,7 +131,7 @@ pub fn is_several<'a>(table: &IndexMap<Key<'a>, Slot<'a>>, pair: &Binding<'a>) -
 }
 
 /// Notes a pair in the table.
-pub fn note<'a>(
+pub(crate) fn note<'a>(
     table: &mut IndexMap<Key<'a>, Slot<'a>>,
     binding: &Binding<'a>,
 ) -> Result<(), AllocError>

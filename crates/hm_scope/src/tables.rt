@@ -22,7 +22,7 @@ use std::marker::Model;
 
 /// What is known of type constructors, synonyms and constructors.
 #[derive(Drop)]
-pub struct Tables<'a> {
+pub(crate) struct Tables<'a> {
     types: IndexMap<EntityKey<'a>, usize>,
     constructors: IndexMap<EntityKey<'a>, usize>,
     imported: IndexMap<EntityKey<'a>, &'a Synonym>,
@@ -279,7 +279,7 @@ fn add_imported_constructors<'a>(
 
 impl<'a> Tables<'a> {
     /// What is known in a module for these interfaces, but the module's own synonyms.
-    pub fn of(
+    pub(crate) fn of(
         alloc: Global,
         program: &'a Module,
         interfaces: &[&'a Interface],
@@ -304,7 +304,7 @@ impl<'a> Tables<'a> {
     }
 
     /// Adds a synonym of the module, whose right side is finished.
-    pub fn add_synonym(
+    pub(crate) fn add_synonym(
         &mut self,
         home: &'a str,
         name: &'a str,
@@ -320,21 +320,21 @@ impl<'a> Tables<'a> {
     }
 
     /// How many arguments a type constructor takes.
-    pub fn type_arity(&self, entity: &EntityRef<'_>) -> Option<usize>
+    pub(crate) fn type_arity(&self, entity: &EntityRef<'_>) -> Option<usize>
         ensures { result ≡ arity_among self.now.types entity.now }
     {
         arity_in(&self.types, entity)
     }
 
     /// How many arguments a constructor takes.
-    pub fn constructor_arity(&self, entity: &EntityRef<'_>) -> Option<usize>
+    pub(crate) fn constructor_arity(&self, entity: &EntityRef<'_>) -> Option<usize>
         ensures { result ≡ arity_among self.now.constructors entity.now }
     {
         arity_in(&self.constructors, entity)
     }
 
     /// The synonym that a resolved name is.
-    pub fn synonym<'s>(&'s self, name: &'s Name) -> Option<&'s Synonym>
+    pub(crate) fn synonym<'s>(&'s self, name: &'s Name) -> Option<&'s Synonym>
         ensures { option_map (λ s. s.now) result ≡ synonym_among self.now.synonyms (entity_of name.now) }
     {
         let key = key_of(name);

@@ -11,7 +11,7 @@ use std::alloc::AllocError;
 /// Adds the type constructors in a type.
 #[cycle(types)]
 #[tactic(auto, using(crate::proofs::Rows::type_falls))]
-pub fn add_type<'a>(out: &mut LentNames<'a>, ty: &'a TypeExpr) -> Result<(), AllocError>
+pub(crate) fn add_type<'a>(out: &mut LentNames<'a>, ty: &'a TypeExpr) -> Result<(), AllocError>
     ensures { OnOk result (out.new ≡ out.old ++ constructors_in ty.now) }
 {
     match &ty.kind {
@@ -35,7 +35,7 @@ pub fn add_type<'a>(out: &mut LentNames<'a>, ty: &'a TypeExpr) -> Result<(), All
 /// Adds the type constructors in types in a row.
 #[cycle(types)]
 #[tactic(auto, using(crate::proofs::Rows::type_falls))]
-pub fn add_types<'a>(out: &mut LentNames<'a>, row: &'a [TypeExpr]) -> Result<(), AllocError>
+pub(crate) fn add_types<'a>(out: &mut LentNames<'a>, row: &'a [TypeExpr]) -> Result<(), AllocError>
     ensures { OnOk result (out.new ≡ out.old ++ constructors_in_all (types row.now)) }
 {
     'row: for ty in row {

@@ -14,7 +14,7 @@ use std::marker::Model;
 
 /// The texts of type variables, in order, each perhaps several times.
 #[derive(Drop)]
-pub struct TypeVariables<'a> {
+pub(crate) struct TypeVariables<'a> {
     texts: Vec<&'a str>,
     first: IndexMap<&'a str, usize>,
 }
@@ -33,7 +33,7 @@ impl<'a> Model for TypeVariables<'a> {
 
 impl<'a> TypeVariables<'a> {
     /// The variables with these names.
-    pub fn of(alloc: Global, names: &LentNames<'a>) -> Result<TypeVariables<'a>, AllocError>
+    pub(crate) fn of(alloc: Global, names: &LentNames<'a>) -> Result<TypeVariables<'a>, AllocError>
         ensures { IfOk result (λ v. v ≡ texts names.now) }
     {
         let texts = texts_of(alloc, names.as_slice())?;
@@ -42,21 +42,21 @@ impl<'a> TypeVariables<'a> {
     }
 
     /// How many there are, each time that one occurs.
-    pub fn len(&self) -> usize
+    pub(crate) fn len(&self) -> usize
         ensures { result ≡ length self.now }
     {
         self.texts.len()
     }
 
     /// Whether a text is among them.
-    pub fn contains(&self, text: &str) -> bool
+    pub(crate) fn contains(&self, text: &str) -> bool
         ensures { result ≡ is_text_among text.now self.now }
     {
         self.first.contains_key(text)
     }
 
     /// The first place of a text, or how many there are if it isn't among them.
-    pub fn place(&self, text: &str) -> usize
+    pub(crate) fn place(&self, text: &str) -> usize
         ensures { result ≡ place text.now self.now }
     {
         match self.first.get(text) {

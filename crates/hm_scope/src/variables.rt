@@ -10,7 +10,7 @@ use std::marker::Model;
 
 /// Names, lent.
 #[derive(Drop)]
-pub struct LentNames<'a> {
+pub(crate) struct LentNames<'a> {
     names: Vec<&'a Name>,
 }
 
@@ -25,7 +25,7 @@ impl<'a> Model for LentNames<'a> {
 
 impl<'a> LentNames<'a> {
     /// No names.
-    pub fn new(alloc: Global) -> LentNames<'a>
+    pub(crate) fn new(alloc: Global) -> LentNames<'a>
         ensures { result ≡ [] }
     {
         LentNames {
@@ -34,7 +34,7 @@ impl<'a> LentNames<'a> {
     }
 
     /// Adds a name.
-    pub fn push(&mut self, name: &'a Name) -> Result<(), AllocError>
+    pub(crate) fn push(&mut self, name: &'a Name) -> Result<(), AllocError>
         ensures { OnOk result (self.new ≡ self.old ++ name.now ∷ []) }
     {
         self.names.push(name)?;
@@ -42,7 +42,7 @@ impl<'a> LentNames<'a> {
     }
 
     /// The names in order.
-    pub fn as_slice(&self) -> &[&'a Name]
+    pub(crate) fn as_slice(&self) -> &[&'a Name]
         ensures { map (λ x. x.now) result.now ≡ self.now }
     {
         &self.names
@@ -52,7 +52,7 @@ impl<'a> LentNames<'a> {
 /// Adds the variables of a pattern.
 #[cycle(patterns)]
 #[tactic(auto, using(crate::proofs::Rows::pattern_falls))]
-pub fn add_pattern<'a>(out: &mut LentNames<'a>, pat: &'a Pat) -> Result<(), AllocError>
+pub(crate) fn add_pattern<'a>(out: &mut LentNames<'a>, pat: &'a Pat) -> Result<(), AllocError>
     ensures { OnOk result (out.new ≡ out.old ++ pattern_variables pat.now) }
 {
     match &pat.kind {
@@ -74,7 +74,7 @@ pub fn add_pattern<'a>(out: &mut LentNames<'a>, pat: &'a Pat) -> Result<(), Allo
 /// Adds the variables of patterns in a row.
 #[cycle(patterns)]
 #[tactic(auto, using(crate::proofs::Rows::pattern_falls))]
-pub fn add_patterns<'a>(out: &mut LentNames<'a>, row: &'a [Pat]) -> Result<(), AllocError>
+pub(crate) fn add_patterns<'a>(out: &mut LentNames<'a>, row: &'a [Pat]) -> Result<(), AllocError>
     ensures { OnOk result (out.new ≡ out.old ++ patterns_variables (patterns row.now)) }
 {
     'row: for pat in row {
@@ -86,7 +86,7 @@ pub fn add_patterns<'a>(out: &mut LentNames<'a>, row: &'a [Pat]) -> Result<(), A
 /// Adds the variables of a type.
 #[cycle(types)]
 #[tactic(auto, using(crate::proofs::Rows::type_falls))]
-pub fn add_type<'a>(out: &mut LentNames<'a>, ty: &'a TypeExpr) -> Result<(), AllocError>
+pub(crate) fn add_type<'a>(out: &mut LentNames<'a>, ty: &'a TypeExpr) -> Result<(), AllocError>
     ensures { OnOk result (out.new ≡ out.old ++ type_variables ty.now) }
 {
     match &ty.kind {
@@ -109,7 +109,7 @@ pub fn add_type<'a>(out: &mut LentNames<'a>, ty: &'a TypeExpr) -> Result<(), All
 /// Adds the variables of types in a row.
 #[cycle(types)]
 #[tactic(auto, using(crate::proofs::Rows::type_falls))]
-pub fn add_types<'a>(out: &mut LentNames<'a>, row: &'a [TypeExpr]) -> Result<(), AllocError>
+pub(crate) fn add_types<'a>(out: &mut LentNames<'a>, row: &'a [TypeExpr]) -> Result<(), AllocError>
     ensures { OnOk result (out.new ≡ out.old ++ types_variables (types row.now)) }
 {
     'row: for ty in row {
@@ -119,14 +119,20 @@ pub fn add_types<'a>(out: &mut LentNames<'a>, row: &'a [TypeExpr]) -> Result<(),
 }
 
 /// Adds the type variables of a constructor's arguments.
-pub fn add_constructor<'a>(out: &mut LentNames<'a>, constr: &'a Constr) -> Result<(), AllocError>
+pub(crate) fn add_constructor<'a>(
+    out: &mut LentNames<'a>,
+    constr: &'a Constr,
+) -> Result<(), AllocError>
     ensures { OnOk result (out.new ≡ out.old ++ constructor_variables constr.now) }
 {
     Ok(add_types(out, &constr.args)?)
 }
 
 /// Adds the type variables of constructors in a row.
-pub fn add_constructors<'a>(out: &mut LentNames<'a>, row: &'a [Constr]) -> Result<(), AllocError>
+pub(crate) fn add_constructors<'a>(
+    out: &mut LentNames<'a>,
+    row: &'a [Constr],
+) -> Result<(), AllocError>
     ensures { OnOk result (out.new ≡ out.old ++ constructors_variables (constructors row.now)) }
 {
     'row: for constr in row {
@@ -153,7 +159,10 @@ fn add_bound<'a>(out: &mut LentNames<'a>, decl: &'a Decl) -> Result<(), AllocErr
 }
 
 /// Adds the names that a list of declarations binds.
-pub fn add_all_bound<'a>(out: &mut LentNames<'a>, decls: &'a [Decl]) -> Result<(), AllocError>
+pub(crate) fn add_all_bound<'a>(
+    out: &mut LentNames<'a>,
+    decls: &'a [Decl],
+) -> Result<(), AllocError>
     ensures { OnOk result (out.new ≡ out.old ++ bound_names (declarations decls.now)) }
 {
     'row: for decl in decls {

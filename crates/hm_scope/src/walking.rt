@@ -17,16 +17,16 @@ use std::alloc::{AllocError, Global};
 
 /// What the walk over a module finds.
 #[derive(Drop)]
-pub struct Walked {
+pub(crate) struct Walked {
     /// The declarations with their names resolved, which is of use where there are no faults.
-    pub decls: Vec<Decl>,
+    pub(crate) decls: Vec<Decl>,
     /// The faults of declaration lists, of names and of numbers of arguments, in no order.
-    pub faults: Vec<Fault>,
+    pub(crate) faults: Vec<Fault>,
 }
 
 /// The faults that stand somewhere in a module's trees, and its declarations with their names resolved.
 #[tactic(auto, using(crate::proofs::Standing::noted_somewhere))]
-pub fn walk(
+pub(crate) fn walk(
     alloc: Global,
     scope: &Scope<'_>,
     tables: &Tables<'_>,

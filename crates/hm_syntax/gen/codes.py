@@ -1,96 +1,58 @@
-# Writes specs/Codes.antt: the codes of the trees of specs/Trees.antt.
-# Run it in the crate's folder: python3 gen/codes.py
-# A group of families that refer to one another, each with its constructors and the kinds of their parts.
-groups = [
- [("TypeTree",[("variable_type",["Identifier"]),("constructor_type",["Identifier","TypeTrees"]),("function_type",["TypeTree","TypeTree"]),("tuple_type",["TypeTrees"]),("list_type",["TypeTree"]),("unit_type",[])]),
-  ("TypeTrees",[("no_types",[]),("more_types",["TypeTree","TypeTrees"])])],
- [("DataConstructor",[("data_constructor",["Identifier","TypeTrees"])])],
- [("DataConstructors",[("no_constructors",[]),("more_constructors",["DataConstructor","DataConstructors"])])],
- [("Pattern",[("variable_pattern",["Identifier"]),("bound_pattern",["Identifier","Pattern"]),("constructor_pattern",["Identifier","Patterns"]),("literal_pattern",["LiteralTree"]),("wildcard_pattern",[]),("tuple_pattern",["Patterns"]),("list_pattern",["Patterns"]),("lazy_pattern",["Pattern"])]),
-  ("Patterns",[("no_patterns",[]),("more_patterns",["Pattern","Patterns"])])],
- [("Expression",[("variable_expression",["Identifier"]),("constructor_expression",["Identifier"]),("literal_expression",["LiteralTree"]),("application",["Expression","Expression"]),("lambda",["Patterns","Expression"]),("let_expression",["Declarations","Expression"]),("if_expression",["Expression","Expression","Expression"]),("case_expression",["Expression","Alternatives"]),("tuple_expression",["Expressions"]),("list_expression",["Expressions"]),("typed_expression",["Expression","TypeTree"])]),
-  ("Expressions",[("no_expressions",[]),("more_expressions",["Expression","Expressions"])]),
-  ("Declaration",[("data_declaration",["Identifier","Identifiers","DataConstructors"]),("newtype_declaration",["Identifier","Identifiers","DataConstructor"]),("synonym_declaration",["Identifier","Identifiers","TypeTree"]),("signature",["Identifiers","TypeTree"]),("clause",["Identifier","Patterns","RightSide"]),("pattern_binding",["Number","Number","Pattern","RightSide"])]),
-  ("Declarations",[("no_declarations",[]),("more_declarations",["Declaration","Declarations"])]),
-  ("RightSide",[("right_side",["Bodies","Declarations"])]),
-  ("Bodies",[("no_bodies",[]),("plain_body",["Expression","Bodies"]),("guarded_body",["Expression","Expression","Bodies"])]),
-  ("Alternative",[("alternative",["Pattern","RightSide"])]),
-  ("Alternatives",[("no_alternatives",[]),("more_alternatives",["Alternative","Alternatives"])])],
-]
-# How the names of a family's functions begin, and the name of its code, where others need it.
-stem={"TypeTree":"type","TypeTrees":"types","DataConstructor":"constructor","DataConstructors":"constructors","Pattern":"pattern","Patterns":"patterns","Expression":"expression","Expressions":"expressions","Declaration":"declaration","Declarations":"declarations","RightSide":"right_side","Bodies":"bodies","Alternative":"alternative","Alternatives":"alternatives"}
-leaf={"Number":"num","Identifier":"name","LiteralTree":"literal","Identifiers":"names"}
-def code(t,x):
-    return f"{leaf[t]} {x}" if t in leaf else f"{stem[t]}_code {x}"
-def pat(t,x):
-    return f"({leaf[t]} {x})" if t in leaf else x
-def back(t,x):
-    return x if t in leaf else f"({stem[t]}_back {x})"
-def nest(xs):
-    if len(xs)==0: return "nil"
-    if len(xs)==1: return xs[0] if ' ' not in xs[0] or xs[0][0]=='(' else f"({xs[0]})"
-    return f"(node ({xs[0]}) {nest(xs[1:])})"
-def nestp(xs):
-    if len(xs)==0: return "_"
-    if len(xs)==1: return xs[0]
-    return f"(node {xs[0]} {nestp(xs[1:])})"
-def num(k):
-    s="zero"
-    for _ in range(k): s=f"(suc {s})"
-    return s
-import sys
-out=[]
-names="abcdefg"
-for g in groups:
-    out.append("abbrev mutual")
-    for t,cs in g:
-        l=stem[t]
-        out.append(f"  pub {l}_code : {t} → BinaryTree")
-        for k,(c,fs) in enumerate(cs):
-            vs=list(names[:len(fs)])
-            lhs=f"({c} {' '.join(vs)})" if fs else c
-            body=nest([code(f,v) for f,v in zip(fs,vs)])
-            out.append(f"  {l}_code {lhs} = node (num {k}) {body}")
-        out.append("")
-    out.append("abbrev mutual")
-    for t,cs in g:
-        l=stem[t]
-        out.append(f"  pub {l}_back : BinaryTree → {t}")
-        # default: a constructor without recursion needed
-        for k,(c,fs) in enumerate(cs):
-            vs=list(names[:len(fs)])
-            p=nestp([pat(f,v) for f,v in zip(fs,vs)])
-            rhs=" ".join([c]+[back(f,v) for f,v in zip(fs,vs)])
-            out.append(f"  {l}_back (node (num {num(k)}) {p}) = {rhs}")
-        # default
-        dflt={"TypeTree":"unit_type","DataConstructor":"data_constructor no_name no_types","DataConstructors":"no_constructors","TypeTrees":"no_types","Pattern":"wildcard_pattern","Patterns":"no_patterns","Expression":"tuple_expression no_expressions","Expressions":"no_expressions","Declarations":"no_declarations","Declaration":"signature [] unit_type","RightSide":"right_side no_bodies no_declarations","Bodies":"no_bodies","Alternative":"alternative wildcard_pattern (right_side no_bodies no_declarations)","Alternatives":"no_alternatives"}[t]
-        out.append(f"  {l}_back _ = {dflt}")
-        out.append("")
-    out.append("mutual")
-    for t,cs in g:
-        l=stem[t]
-        out.append(f"  pub {l}_same : (x : {t}) → {l}_back ({l}_code x) ≡ x")
-        for k,(c,fs) in enumerate(cs):
-            vs=list(names[:len(fs)])
-            lhs=f"({c} {' '.join(vs)})" if fs else c
-            if all(f in leaf for f in fs):
-                out.append(f"  {l}_same {lhs} = refl")
-            else:
-                args=" ".join(v if f in leaf else f"({stem[f]}_same {v} i)" for f,v in zip(fs,vs))
-                out.append(f"  {l}_same {lhs} = λ i. {c} {args}")
-        out.append("")
-    for t,cs in g:
-        if t in ("TypeTree","DataConstructor","Pattern","Expression","Declaration","RightSide","Alternative"):
-            out.append(f"abbrev pub coded_{stem[t]} : Coded {t}\ncoded_{stem[t]} = code_by BinaryTree coded_tree {stem[t]}_code {stem[t]}_back {stem[t]}_same\n")
-ctors=[c for g in groups for t,cs in g for c,_ in cs]; tys=[t for g in groups for t,_ in g]
-crate="hm_syntax"
-head=f"""-- Generated by gen/codes.py, which says how: edit that. Only the models of src/ast.rt cite it.
+"""Writes specs/Codes.antt, the codes of the trees that specs/Trees.antt declares.
+
+Run it in the crate's folder: python3 gen/codes.py
+
+The model of a Rust type needs a code of its values: a function into ghost values that gives no two
+values one code. Here each tree is first coded as a binary tree with numbers, names and literals at
+its leaves, and one code of binary trees serves for all. For each family T of trees the file has
+
+    T_code : T -> BinaryTree                        a constructor's number, beside the codes of its parts
+    T_back : BinaryTree -> T                        the inverse
+    T_same : (x : T) -> T_back (T_code x) = x       the proof that it is one
+
+and `coded_T`, made of these three, unless T is a list, which no Rust type is seen as.
+"""
+
+from dataclasses import dataclass, field
+
+TREES = "specs/Trees.antt"
+CODES = "specs/Codes.antt"
+
+# The kinds of parts that are leaves of a binary tree, each with the constructor of such a leaf.
+LEAVES = {"ℕ": "num", "Identifier": "name", "LiteralTree": "literal", "List Identifier": "names"}
+
+# The constructors of binary trees, each with the number of its arguments.
+BINARY_TREE = {"nil": 0, "num": 1, "name": 1, "literal": 1, "names": 1, "node": 2}
+
+# How the names of a family's functions begin. A family that isn't here gives its own name in lower case.
+STEMS = {
+    "TypeTree": "type",
+    "TypeTrees": "types",
+    "DataConstructor": "constructor",
+    "DataConstructors": "constructors",
+    "RightSide": "right_side",
+}
+
+# What is read back from a binary tree that is no tree's code; of a list it is the empty list.
+DEFAULTS = {
+    "TypeTree": "unit_type",
+    "DataConstructor": "data_constructor no_name no_types",
+    "Pattern": "wildcard_pattern",
+    "Expression": "tuple_expression no_expressions",
+    "Declaration": "signature [] unit_type",
+    "RightSide": "right_side no_bodies no_declarations",
+    "Alternative": "alternative wildcard_pattern (right_side no_bodies no_declarations)",
+}
+
+# What stands before the functions of the families. `format` fills in the names in single braces, and turns {{ into {.
+HEAD = """\
+-- Generated by gen/codes.py, which says how: edit that. Only the models of src/ast.rt cite it.
 -- The trees as ghost values: each is coded as a binary tree with names at its leaves.
 use Rattle.std.specs.Prelude.{{◌≡◌, ◌⊎◌, ℕ, zero, suc, List, [], Option, None, refl}}
 use Rattle.std.proofs.Common.{{ap, inl, inr}}
 use Rattle.std.specs.Coded.{{Coded, code_by, coded×, coded⊎, coded_ℕ, coded_list, coded_option}}
-use Rattle.{crate}.specs.Names.{{Identifier, LiteralTree, integer, character, string}}
-use Rattle.{crate}.specs.Trees.{{{', '.join(tys+ctors)}}}
+use Rattle.hm_syntax.specs.Names.{{Identifier, LiteralTree, integer, character, string}}
+use Rattle.hm_syntax.specs.Trees.{{{names}}}
 use base.Stored.{{Gv, gnil, gnum, gcons}}
 
 abbrev pub coded_identifier : Coded Identifier
@@ -150,18 +112,171 @@ tree_inj (name m) (name n) p = ap name (coded_identifier.inj m n (ap tail p))
 tree_inj (literal m) (literal n) p = ap literal (coded_literal.inj m n (ap tail p))
 tree_inj (names m) (names n) p = ap names ((coded_list coded_identifier).inj m n (ap tail p))
 tree_inj (node a b) (node c d) p = λ i. node (tree_inj a c (ap (λ g. head (tail g)) p) i) (tree_inj b d (ap (λ g. tail (tail g)) p) i)
-"""
-rc=[("nil",0),("num",1),("name",1),("literal",1),("names",1),("node",2)]
-body=""
-for c,n in rc:
-    for d,m in rc:
-        if c!=d:
-            l=f"({c} {' '.join('xy'[:n])})" if n else c
-            r=f"({d} {' '.join('uv'[:m])})" if m else d
-            body+=f"tree_inj {l} {r} p = cc\n"
-head+=body+"""
-abbrev pub coded_tree : Coded BinaryTree
-coded_tree = record { code = tree_code; inj = tree_inj }
+{clashes}
 
+abbrev pub coded_tree : Coded BinaryTree
+coded_tree = record {{ code = tree_code; inj = tree_inj }}
 """
-open("specs/Codes.antt","w").write((head+"\n".join(out)).rstrip("\n")+"\n")
+
+
+@dataclass
+class Family:
+    """A family of trees, with the kinds of parts of each of its constructors."""
+
+    name: str
+    constructors: dict[str, list[str]] = field(default_factory=dict)
+
+    @property
+    def stem(self):
+        return stem_of(self.name)
+
+    @property
+    def is_list(self):
+        return self.name not in DEFAULTS
+
+    @property
+    def default(self):
+        return next(iter(self.constructors)) if self.is_list else DEFAULTS[self.name]
+
+
+def read_groups(lines):
+    """The families of each `mutual` block, and each family outside of one by itself."""
+    groups = []
+    for line in lines:
+        words = line.split()
+        if words[:1] == ["mutual"]:
+            groups.append([])
+        elif words[:2] == ["pub", "data"]:
+            if not line.startswith(" "):
+                groups.append([])
+            groups[-1].append(Family(words[2]))
+        elif " : " in line and not line.lstrip().startswith("--"):
+            constructor, kind = line.strip().split(" : ")
+            *parts, _result = kind.split(" → ")
+            groups[-1][-1].constructors[constructor] = parts
+    return groups
+
+
+def stem_of(kind):
+    return STEMS.get(kind, kind.lower())
+
+
+def variables(parts):
+    """A variable for each part of a constructor."""
+    return list("abcdefg"[: len(parts)])
+
+
+def applied(constructor, arguments):
+    """A constructor with its arguments, in parentheses where it has any."""
+    return f"({' '.join([constructor, *arguments])})" if arguments else constructor
+
+
+def numeral(number):
+    """A number as a pattern."""
+    return "zero" if number == 0 else f"(suc {numeral(number - 1)})"
+
+
+def nested(trees, none):
+    """One binary tree of several, to the right; `none` where there are none."""
+    if len(trees) < 2:
+        return trees[0] if trees else none
+    return f"(node {trees[0]} {nested(trees[1:], none)})"
+
+
+def each_part(write, parts):
+    """What `write` makes of each part, from its kind and its variable."""
+    return [write(kind, variable) for kind, variable in zip(parts, variables(parts))]
+
+
+def code_of_part(kind, variable):
+    return f"({LEAVES[kind]} {variable})" if kind in LEAVES else f"({stem_of(kind)}_code {variable})"
+
+
+def pattern_of_code(kind, variable):
+    return f"({LEAVES[kind]} {variable})" if kind in LEAVES else variable
+
+
+def part_read_back(kind, variable):
+    return variable if kind in LEAVES else f"({stem_of(kind)}_back {variable})"
+
+
+def path_to_part(kind, variable):
+    """The path, at `i`, from what is read back of a part's code to the part."""
+    return variable if kind in LEAVES else f"({stem_of(kind)}_same {variable} i)"
+
+
+def code_lines(family):
+    """The function that codes the trees of a family."""
+    yield f"  pub {family.stem}_code : {family.name} → BinaryTree"
+    for number, (constructor, parts) in enumerate(family.constructors.items()):
+        tree = applied(constructor, variables(parts))
+        code = nested(each_part(code_of_part, parts), none="nil")
+        yield f"  {family.stem}_code {tree} = node (num {number}) {code}"
+    yield ""
+
+
+def back_lines(family):
+    """The function that reads their codes back."""
+    yield f"  pub {family.stem}_back : BinaryTree → {family.name}"
+    for number, (constructor, parts) in enumerate(family.constructors.items()):
+        code = nested(each_part(pattern_of_code, parts), none="_")
+        tree = " ".join([constructor, *each_part(part_read_back, parts)])
+        yield f"  {family.stem}_back (node (num {numeral(number)}) {code}) = {tree}"
+    yield f"  {family.stem}_back _ = {family.default}"
+    yield ""
+
+
+def same_lines(family):
+    """The proof that what is read back is what was coded."""
+    yield f"  pub {family.stem}_same : (x : {family.name}) → {family.stem}_back ({family.stem}_code x) ≡ x"
+    for constructor, parts in family.constructors.items():
+        tree = applied(constructor, variables(parts))
+        if all(kind in LEAVES for kind in parts):
+            yield f"  {family.stem}_same {tree} = refl"
+        else:
+            yield f"  {family.stem}_same {tree} = λ i. {' '.join([constructor, *each_part(path_to_part, parts)])}"
+    yield ""
+
+
+def coded_lines(family):
+    """The code of a family, as a model takes it."""
+    stem = family.stem
+    yield f"abbrev pub coded_{stem} : Coded {family.name}"
+    yield f"coded_{stem} = code_by BinaryTree coded_tree {stem}_code {stem}_back {stem}_same"
+    yield ""
+
+
+def group_lines(group):
+    """All that the file has of a group of families."""
+    for block, lines in [("abbrev mutual", code_lines), ("abbrev mutual", back_lines), ("mutual", same_lines)]:
+        yield block
+        for family in group:
+            yield from lines(family)
+    for family in group:
+        if not family.is_list:
+            yield from coded_lines(family)
+
+
+def clash_lines():
+    """The cases of `tree_inj` for two different constructors of binary trees, whose codes differ."""
+    for left, left_count in BINARY_TREE.items():
+        for right, right_count in BINARY_TREE.items():
+            if left != right:
+                yield f"tree_inj {applied(left, 'xy'[:left_count])} {applied(right, 'uv'[:right_count])} p = cc"
+
+
+def main():
+    with open(TREES, encoding="utf-8") as trees:
+        groups = read_groups(trees)
+    families = [family for group in groups for family in group]
+    constructors = [constructor for family in families for constructor in family.constructors]
+    names = ", ".join([*(family.name for family in families), *constructors])
+    lines = [HEAD.format(names=names, clashes="\n".join(clash_lines()))]
+    for group in groups:
+        lines.extend(group_lines(group))
+    with open(CODES, "w", encoding="utf-8") as codes:
+        codes.write("\n".join(lines).rstrip("\n") + "\n")
+
+
+if __name__ == "__main__":
+    main()

@@ -1,8 +1,13 @@
-use Rattle.std.proofs.Common.{take}
+use Rattle.std.proofs.Common.{◌≤◌, length}
 use Rattle.hm_infer.specs.Collected.{Gathers}
-use Rattle.hm_infer.specs.Generalised.{IsFreeAmong}
-use Rattle.hm_infer.specs.Kept.{entries_of}
+use Rattle.hm_infer.proofs.ClosedRuns.{FreeFrom}
 use Rattle.hm_infer.proofs.environment.gather_all.Given as goal
 
-abbrev pub invariant-loop-item : goal.invariant-loop-item
-invariant-loop-item l = Gathers (λ k. IsFreeAmong l.solver.equations k (entries_of (take l.item-index l.items))) l.initial.found l.found
+abbrev pub invariant-items : goal.invariant-items
+invariant-items l = record {
+  inside : l.left ≤ length l.items;
+  gathered : Gathers (FreeFrom l.solver.equations l.items l.left) l.initial.found l.found;
+}
+
+abbrev pub decreases-items : goal.decreases-items
+decreases-items l = l.left

@@ -1,14 +1,14 @@
 use Rattle.std.proofs.Common.{◌<◌, suc, ap, sym, ◌∙◌, subst, refl, arith, rules, Ok, Err, Some, None}
 use Rattle.hm_types.specs.Shape.{type_of}
-use Rattle.hm_types.specs.Types.{Var, put}
+use Rattle.hm_types.specs.Types.{Var}
 use Rattle.hm_types.specs.Monotypes.{var}
 use Rattle.hm_syntax.specs.Lists.{expressions, patterns, declarations, body, bodies, alternatives}
 use Rattle.hm_syntax.specs.Sizes.{expression_size, expressions_size, bodies_size, right_side_size, alternatives_size, declaration_size}
 use Rattle.hm_syntax.specs.Trees.{variable_expression, constructor_expression, literal_expression, application, if_expression, tuple_expression, list_expression, lambda, let_expression, right_side, case_expression, typed_expression, no_bodies}
 use Rattle.hm_syntax.specs.Views.OfExpressions.{expression_of as tree_of, declaration_of as declaration_tree}
+use Rattle.hm_infer.proofs.JudgedGroups.{judges_passed, judges_refused, judges_solved}
+use Rattle.hm_infer.specs.Environments.{AreAssumed}
 use Rattle.hm_infer.specs.GroupQuestions.{HaveTypesOf}
-use Rattle.hm_typing.specs.Programs.{monotype_of}
-use Rattle.hm_typing.specs.Patterns.{Instantiates}
 use Rattle.hm_infer.specs.Problems.{monotype, Answers, Refuses}
 use Rattle.hm_unify.specs.WellFormed.{IsWellFormed}
 use Rattle.hm_infer.specs.Constructors.{known_of}
@@ -19,7 +19,7 @@ use Rattle.hm_infer.proofs.OpenedForms.{lambda_answers, lambda_refused, let_answ
 use Rattle.hm_infer.proofs.States.{problem_below}
 use Rattle.hm_infer.proofs.Opened.{more_given}
 use Rattle.hm_infer.proofs.MatchedForms.{numbers_given, number_given}
-use Rattle.hm_infer.proofs.Derived.{Checks, ChecksAll, expression_is, literal_checked, apply_answers, apply_refused, if_answers, if_refused_second, tuple_checked, tuple_unchecked, list_checked, list_unchecked, row_nothing, row_more, row_unchecked, row_all, solved_grows, size_of_item, moved_solved, moved_refused, moved_answers, assumed_at, type_at, given_next, first_given, parts_assumed, refused_by, row_number}
+use Rattle.hm_infer.proofs.Derived.{Checks, ChecksFunction, function_answers, function_refused, ChecksAll, expression_is, literal_checked, apply_answers, apply_refused, if_answers, if_refused_second, tuple_checked, tuple_unchecked, list_checked, list_unchecked, row_nothing, row_more, row_unchecked, row_all, solved_grows, size_of_item, moved_solved, moved_refused, moved_answers, assumed_at, type_at, given_next, first_given, parts_assumed, refused_by, row_number}
 use Rattle.hm_infer.proofs.Choices.{choices_none, choices_more, choices_refused, choices_all, choices_moved, case_answers, case_refused, expression_positive, size_of_part, size_of_choice}
 use Rattle.std.proofs.Common.{◌≡◌, ◌≤◌, length, get_or}
 use Rattle.hm_groups.proofs.Rows.{declaration_falls}
@@ -34,7 +34,8 @@ use Rattle.hm_infer.proofs.ListSteps.{GroupsInferred, is_zero, list_refused, gro
 use Rattle.std.proofs.lemmas.List.{length-map}
 use Rattle.hm_groups.specs.Groups.{node_name}
 use Rattle.hm_infer.specs.Stages.{list_of}
-use Rattle.std.proofs.Common.{◌+◌}
+use Rattle.std.proofs.Common.{◌+◌, ◌*◌}
+use Rattle.hm_unify.proofs.WellFormed.{well_formed_more}
 use Rattle.hm_infer.proofs.GroupEnds.{group_members_are, infers_refused, infers_solved, infers_passed, given_up_to}
 use Rattle.hm_infer.proofs.NodeTypes.{types_later}
 use Rattle.hm_infer.proofs.MemberForms.{answers_grow, later_grow, same_member, is_member, declaration_at, AsksMember, clause_member, pattern_member, members_none, members_more, members_refused, members_all}
@@ -49,35 +50,62 @@ use Rattle.hm_infer.proofs.SignedSteps.{SignedAll, signed_done, signed_nothing, 
 use Rattle.hm_infer.proofs.SignedLists.{signed_end, signed_end_refused, signed_start}
 use Rattle.hm_infer.proofs.expressions.+checking.Goals as goal
 
+pub check_expression-check_function-requires : goal.check_expression-check_function-requires
+check_expression-check_function-requires t c =
+    let z = ap expression_size (sym (ap tree_of c.in-Apply.is) ∙ c.e.view_is) in
+    let y = ap expression_size c.deref.ensures in
+    let smaller : 8 * expression_size c.deref.result.now + 1 < 8 * expression_size c.args.e.now = omega (arith, z, y) in
+    let k = given_next c.args.solver.now c.new_variables.new.solver 1 c.in_ok-first-in-Apply.ensures.next in
+    (search rules, (first_given c.args.solver.now c.new_variables.new.solver c.in_ok-first-in-Apply.first c.in_ok-first-in-Apply.ensures.next c.in_ok-first-in-Apply.ensures.first, (more_given c.args.solver.now c.new_variables.new.solver 1 (type_of c.args.t.now) c.in_ok-first-in-Apply.ensures.next c.requires.given, assumed_at c.args.solver.now c.new_variables.new.solver c.args.environment.now c.args.environment.now refl k c.requires.assumed)))
+
+pub check_expression-returns-in_err-check_function-in-Apply-clause-answers : goal.check_expression-returns-in_err-check_function-in-Apply-clause-answers
+check_expression-returns-in_err-check_function-in-Apply-clause-answers t c =
+    expression_is (known_of c.args.constructors.now) (application c.in-Apply.function.value c.in-Apply.argument.value) c.args.e.now (type_of c.args.t.now) c.args.environment.now c.args.solver.now c.check_function.new.solver c.from_residual-in_err-check_function-in-Apply.result (sym (ap tree_of c.in-Apply.is) ∙ c.e.view_is)
+    (refused_by (Checks (known_of c.args.constructors.now) (application c.in-Apply.function.value c.in-Apply.argument.value) (type_of c.args.t.now) c.args.environment.now) c.args.solver.now c.check_function.new.solver c.from_residual-in_err-check_function-in-Apply.result c.in_err-check_function-in-Apply.field-0.0 c.from_residual-in_err-check_function-in-Apply.ensures.1
+    (apply_refused (known_of c.args.constructors.now) c.in-Apply.function.value c.in-Apply.argument.value (type_of c.args.t.now) c.in_ok-first-in-Apply.first c.args.environment.now c.args.solver.now c.new_variables.new.solver c.in_err-check_function-in-Apply.field-0.0 c.in_ok-first-in-Apply.ensures.below c.requires.assumed c.requires.given c.in_ok-first-in-Apply.ensures.next c.in_ok-first-in-Apply.ensures.first
+    (subst (λ f. Refuses (ChecksFunction (known_of c.args.constructors.now) f c.in_ok-first-in-Apply.first (type_of c.args.t.now) c.args.environment.now) c.new_variables.new.solver c.in_err-check_function-in-Apply.field-0.0) c.deref.ensures c.in_err-check_function-in-Apply.ensures.answers)))
+
 pub check_expression-check_expression-requires : goal.check_expression-check_expression-requires
 check_expression-check_expression-requires t c =
     let z = ap expression_size (sym (ap tree_of c.in-Apply.is) ∙ c.e.view_is) in
-    let y = ap expression_size c.deref.ensures in
-    let smaller : expression_size c.deref.result.now < expression_size c.args.e.now = omega (arith, z, y) in
-    (search rules, (c.in_ok-whole-in-Apply.ensures.given c.new_variables.new.solver.given (first_given c.args.solver.now c.new_variables.new.solver c.in_ok-first-in-Apply.first c.in_ok-first-in-Apply.ensures.next c.in_ok-first-in-Apply.ensures.first) (more_given c.args.solver.now c.new_variables.new.solver 1 (type_of c.args.t.now) c.in_ok-first-in-Apply.ensures.next c.requires.given), assumed_at c.args.solver.now c.new_variables.new.solver c.args.environment.now c.args.environment.now refl (given_next c.args.solver.now c.new_variables.new.solver 1 c.in_ok-first-in-Apply.ensures.next) c.requires.assumed))
-
-pub check_expression-returns-in_err-check_expression-in-Apply-clause-answers : goal.check_expression-returns-in_err-check_expression-in-Apply-clause-answers
-check_expression-returns-in_err-check_expression-in-Apply-clause-answers t c =
-    expression_is (known_of c.args.constructors.now) (application c.in-Apply.function.value c.in-Apply.argument.value) c.args.e.now (type_of c.args.t.now) c.args.environment.now c.args.solver.now c.check_expression.new.solver c.from_residual-in_err-check_expression-in-Apply.result (sym (ap tree_of c.in-Apply.is) ∙ c.e.view_is)
-    (refused_by (Checks (known_of c.args.constructors.now) (application c.in-Apply.function.value c.in-Apply.argument.value) (type_of c.args.t.now) c.args.environment.now) c.args.solver.now c.check_expression.new.solver c.from_residual-in_err-check_expression-in-Apply.result c.in_err-check_expression-in-Apply.field-0.0 c.from_residual-in_err-check_expression-in-Apply.ensures.1
-    (apply_refused (known_of c.args.constructors.now) c.in-Apply.function.value c.in-Apply.argument.value (type_of c.args.t.now) (type_of c.in_ok-whole-in-Apply.whole) c.in_ok-first-in-Apply.first c.args.environment.now c.args.solver.now c.new_variables.new.solver c.in_err-check_expression-in-Apply.field-0.0 c.in_ok-first-in-Apply.ensures.below c.requires.assumed c.requires.given c.in_ok-first-in-Apply.ensures.next c.in_ok-first-in-Apply.ensures.first c.in_ok-whole-in-Apply.ensures.shape (moved_refused (known_of c.args.constructors.now) c.deref.result.now c.in-Apply.function.value (type_of c.in_ok-whole-in-Apply.whole) c.args.environment.now c.args.environment.now c.new_variables.new.solver c.in_err-check_expression-in-Apply.field-0.0 refl c.deref.ensures c.in_err-check_expression-in-Apply.ensures.answers)))
-
-pub check_expression-check_expression-requires-in-Apply : goal.check_expression-check_expression-requires-in-Apply
-check_expression-check_expression-requires-in-Apply t c =
-    let z = ap expression_size (sym (ap tree_of c.in-Apply.is) ∙ c.e.view_is) in
     let y = ap expression_size c.deref-in-Apply.ensures in
     let smaller : expression_size c.deref-in-Apply.result.now < expression_size c.args.e.now = omega (arith, z, y) in
-    let l = solved_grows _ c.new_variables.new.solver c.check_expression.new.solver c.in_ok-check_expression-in-Apply.ensures.answers in
+    let l = solved_grows _ c.new_variables.new.solver c.check_function.new.solver c.in_ok-check_function-in-Apply.ensures.answers in
     let f = first_given c.args.solver.now c.new_variables.new.solver c.in_ok-first-in-Apply.first c.in_ok-first-in-Apply.ensures.next c.in_ok-first-in-Apply.ensures.first in
     let k = given_next c.args.solver.now c.new_variables.new.solver 1 c.in_ok-first-in-Apply.ensures.next in
-    (search rules, (omega (arith, l, f), assumed_at c.args.solver.now c.check_expression.new.solver c.args.environment.now c.check_expression.new.environment c.in_ok-check_expression-in-Apply.ensures.same (omega (arith, l, k)) c.requires.assumed))
+    (search rules, (omega (arith, l, f), assumed_at c.args.solver.now c.check_function.new.solver c.args.environment.now c.check_function.new.environment c.in_ok-check_function-in-Apply.ensures.same (omega (arith, l, k)) c.requires.assumed))
 
-pub check_expression-returns-in_ok-check_expression-in-Apply-clause-answers : goal.check_expression-returns-in_ok-check_expression-in-Apply-clause-answers
-check_expression-returns-in_ok-check_expression-in-Apply-clause-answers t c =
-    expression_is (known_of c.args.constructors.now) (application c.in-Apply.function.value c.in-Apply.argument.value) c.args.e.now (type_of c.args.t.now) c.args.environment.now c.args.solver.now c.check_expression-in-Apply.new.solver c.check_expression-in-Apply.result (sym (ap tree_of c.in-Apply.is) ∙ c.e.view_is)
-    (apply_answers (known_of c.args.constructors.now) c.in-Apply.function.value c.in-Apply.argument.value (type_of c.args.t.now) (type_of c.in_ok-whole-in-Apply.whole) c.in_ok-first-in-Apply.first c.args.environment.now c.args.solver.now c.new_variables.new.solver c.check_expression.new.solver c.check_expression-in-Apply.new.solver c.check_expression-in-Apply.result c.in_ok-first-in-Apply.ensures.below c.requires.assumed c.requires.given c.in_ok-first-in-Apply.ensures.next c.in_ok-first-in-Apply.ensures.first c.in_ok-whole-in-Apply.ensures.shape
-    (moved_solved (known_of c.args.constructors.now) c.deref.result.now c.in-Apply.function.value (type_of c.in_ok-whole-in-Apply.whole) c.args.environment.now c.args.environment.now c.new_variables.new.solver c.check_expression.new.solver refl c.deref.ensures c.in_ok-check_expression-in-Apply.ensures.answers)
-    (moved_answers (known_of c.args.constructors.now) c.deref-in-Apply.result.now c.in-Apply.argument.value (Var (var c.in_ok-first-in-Apply.first)) c.args.environment.now c.check_expression.new.environment c.check_expression.new.solver c.check_expression-in-Apply.new.solver c.check_expression-in-Apply.result c.in_ok-check_expression-in-Apply.ensures.same c.deref-in-Apply.ensures c.check_expression-in-Apply.ensures.answers))
+pub check_expression-returns-in_ok-check_function-in-Apply-clause-answers : goal.check_expression-returns-in_ok-check_function-in-Apply-clause-answers
+check_expression-returns-in_ok-check_function-in-Apply-clause-answers t c =
+    expression_is (known_of c.args.constructors.now) (application c.in-Apply.function.value c.in-Apply.argument.value) c.args.e.now (type_of c.args.t.now) c.args.environment.now c.args.solver.now c.check_expression.new.solver c.check_expression.result (sym (ap tree_of c.in-Apply.is) ∙ c.e.view_is)
+    (apply_answers (known_of c.args.constructors.now) c.in-Apply.function.value c.in-Apply.argument.value (type_of c.args.t.now) c.in_ok-first-in-Apply.first c.args.environment.now c.args.solver.now c.new_variables.new.solver c.check_function.new.solver c.check_expression.new.solver c.check_expression.result c.in_ok-first-in-Apply.ensures.below c.requires.assumed c.requires.given c.in_ok-first-in-Apply.ensures.next c.in_ok-first-in-Apply.ensures.first
+    (subst (λ f. SolvedBy (ChecksFunction (known_of c.args.constructors.now) f c.in_ok-first-in-Apply.first (type_of c.args.t.now) c.args.environment.now) c.new_variables.new.solver c.check_function.new.solver) c.deref.ensures c.in_ok-check_function-in-Apply.ensures.answers)
+    (moved_answers (known_of c.args.constructors.now) c.deref-in-Apply.result.now c.in-Apply.argument.value (Var (var c.in_ok-first-in-Apply.first)) c.args.environment.now c.check_function.new.environment c.check_function.new.solver c.check_expression.new.solver c.check_expression.result c.in_ok-check_function-in-Apply.ensures.same c.deref-in-Apply.ensures c.check_expression.ensures.answers))
+
+pub check_function-check_expression-requires : goal.check_function-check_expression-requires
+check_function-check_expression-requires t c =
+    let f = first_given c.args.solver.now c.new_variables.new.solver c.in_ok-own.own c.in_ok-own.ensures.next c.in_ok-own.ensures.first in
+    let k = given_next c.args.solver.now c.new_variables.new.solver 1 c.in_ok-own.ensures.next in
+    let smaller : 8 * expression_size c.args.function.now < 8 * expression_size c.args.function.now + 1 = omega arith in
+    (search rules, (f, assumed_at c.args.solver.now c.new_variables.new.solver c.args.environment.now c.args.environment.now refl k c.requires.assumed))
+
+pub check_function-returns-in_err-check_expression-clause-answers : goal.check_function-returns-in_err-check_expression-clause-answers
+check_function-returns-in_err-check_expression-clause-answers t c =
+    refused_by (ChecksFunction (known_of c.args.constructors.now) c.args.function.now c.args.argument (type_of c.args.t.now) c.args.environment.now) c.args.solver.now c.check_expression.new.solver c.from_residual-in_err-check_expression.result c.in_err-check_expression.field-0.0 c.from_residual-in_err-check_expression.ensures.1
+    (function_refused (known_of c.args.constructors.now) c.args.function.now c.args.argument (type_of c.args.t.now) (type_of c.in_ok-whole.whole) c.in_ok-own.own c.args.environment.now c.args.solver.now c.new_variables.new.solver c.in_err-check_expression.field-0.0 c.in_ok-own.ensures.below c.requires.assumed
+    (c.in_ok-whole.ensures.given c.args.solver.now.given c.requires.argument c.requires.given) c.in_ok-own.ensures.next c.in_ok-own.ensures.first c.in_ok-whole.ensures.shape c.in_err-check_expression.ensures.answers)
+
+pub check_function-equate-requires-clause-right : goal.check_function-equate-requires-clause-right
+check_function-equate-requires-clause-right t c =
+    let l = solved_grows _ c.new_variables.new.solver c.check_expression.new.solver c.in_ok-check_expression.ensures.answers in
+    let k = given_next c.args.solver.now c.new_variables.new.solver 1 c.in_ok-own.ensures.next in
+    let h = c.requires.argument in
+    c.in_ok-whole.ensures.given c.check_expression.new.solver.given (omega (arith, l, k, h)) (well_formed_more c.args.solver.now.given c.check_expression.new.solver.given (type_of c.args.t.now) (omega (arith, l, k)) c.requires.given)
+
+pub check_function-returns-clause-answers : goal.check_function-returns-clause-answers
+check_function-returns-clause-answers t c =
+    function_answers (known_of c.args.constructors.now) c.args.function.now c.args.argument (type_of c.args.t.now) (type_of c.in_ok-whole.whole) c.in_ok-own.own c.args.environment.now c.args.solver.now c.new_variables.new.solver c.check_expression.new.solver c.equate.new.solver c.equate.result c.in_ok-own.ensures.below c.requires.assumed
+    (c.in_ok-whole.ensures.given c.args.solver.now.given c.requires.argument c.requires.given) c.in_ok-own.ensures.next c.in_ok-own.ensures.first c.in_ok-whole.ensures.shape c.in_ok-check_expression.ensures.answers c.equate.ensures.answers
 
 pub check_expression-check_expression-requires-in-If-2 : goal.check_expression-check_expression-requires-in-If-2
 check_expression-check_expression-requires-in-If-2 t c =
@@ -149,8 +177,7 @@ check_expression-returns-in-Var-clause-answers t c =
 
 pub check_expression-returns-in-Con-clause-answers : goal.check_expression-returns-in-Con-clause-answers
 check_expression-returns-in-Con-clause-answers t c =
-    expression_is (known_of c.args.constructors.now) (constructor_expression c.in-Con.name) c.args.e.now (type_of c.args.t.now) c.args.environment.now c.args.solver.now c.check_declared.new.solver c.check_declared.result (sym (ap tree_of c.in-Con.is) ∙ c.e.view_is)
-    (subst (λ k. Answers (λ r. Instantiates (monotype_of k.body) (put r (monotype (type_of c.args.t.now)))) c.args.solver.now c.check_declared.new.solver c.check_declared.result) c.find.ensures c.check_declared.ensures)
+    expression_is (known_of c.args.constructors.now) (constructor_expression c.in-Con.name) c.args.e.now (type_of c.args.t.now) c.args.environment.now c.args.solver.now c.check_constructor.new.solver c.check_constructor.result (sym (ap tree_of c.in-Con.is) ∙ c.e.view_is) c.check_constructor.ensures
 
 pub check_expression-returns-in_ok-own-in-Literal-clause-answers : goal.check_expression-returns-in_ok-own-in-Literal-clause-answers
 check_expression-returns-in_ok-own-in-Literal-clause-answers t c =
@@ -217,30 +244,30 @@ pub check_expression-returns-in_err-check_bindings-in-Let-clause-answers : goal.
 check_expression-returns-in_err-check_bindings-in-Let-clause-answers t c =
     expression_is (known_of c.args.constructors.now) (let_expression (declarations c.in-Let.list.items) c.in-Let.body.value) c.args.e.now (type_of c.args.t.now) c.args.environment.now c.args.solver.now c.check_bindings.new.solver c.from_residual-in_err-check_bindings-in-Let.result (sym (ap tree_of c.in-Let.is) ∙ c.e.view_is)
     (refused_by (Checks (known_of c.args.constructors.now) (let_expression (declarations c.in-Let.list.items) c.in-Let.body.value) (type_of c.args.t.now) c.args.environment.now) c.args.solver.now c.check_bindings.new.solver c.from_residual-in_err-check_bindings-in-Let.result c.in_err-check_bindings-in-Let.field-0.0 c.from_residual-in_err-check_bindings-in-Let.ensures.1
-    (let_refused (known_of c.args.constructors.now) (declarations c.in-Let.list.items) c.in-Let.body.value (type_of c.args.t.now) c.args.solver.now c.args.environment.now c.in_err-check_bindings-in-Let.field-0.0 (subst (λ ds. RefusesList (bindings_of (known_of c.args.constructors.now) (declarations ds) (declarations ds)) c.args.solver.now c.args.environment.now c.in_err-check_bindings-in-Let.field-0.0) c.deref-in-Let.ensures.value c.in_err-check_bindings-in-Let.ensures)))
+    (let_refused (known_of c.args.constructors.now) (declarations c.in-Let.list.items) c.in-Let.body.value (type_of c.args.t.now) c.args.solver.now c.args.environment.now c.in_err-check_bindings-in-Let.field-0.0 (subst (λ ds. RefusesList (bindings_of (known_of c.args.constructors.now) (declarations ds) (declarations ds)) c.args.solver.now c.args.environment.now c.in_err-check_bindings-in-Let.field-0.0) c.deref-in-Let.ensures.value c.in_err-check_bindings-in-Let.ensures.listed)))
 
 pub check_expression-check_expression-requires-in-Let : goal.check_expression-check_expression-requires-in-Let
 check_expression-check_expression-requires-in-Let t c =
     let z = ap expression_size (sym (ap tree_of c.in-Let.is) ∙ c.e.view_is) in
     let y = ap expression_size c.deref-in-Let-2.ensures in
     let smaller : expression_size c.deref-in-Let-2.result.now < expression_size c.args.e.now = omega (arith, z, y) in
-    let o = (subst (λ ds. IsBound (bindings_of (known_of c.args.constructors.now) (declarations ds) (declarations ds)) c.args.solver.now c.args.environment.now c.check_bindings.new.solver c.check_bindings.new.environment) c.deref-in-Let.ensures.value c.in_ok-check_bindings-in-Let.ensures) in
+    let o = (subst (λ ds. IsBound (bindings_of (known_of c.args.constructors.now) (declarations ds) (declarations ds)) c.args.solver.now c.args.environment.now c.check_bindings.new.solver c.check_bindings.new.environment) c.deref-in-Let.ensures.value c.in_ok-check_bindings-in-Let.ensures.listed) in
     (search rules, (type_at c.args.solver.now c.check_bindings.new.solver (type_of c.args.t.now) o.listed.grows c.requires.given, o.given))
 
 pub check_expression-returns-in_err-check_expression-in-Let-clause-answers : goal.check_expression-returns-in_err-check_expression-in-Let-clause-answers
 check_expression-returns-in_err-check_expression-in-Let-clause-answers t c =
     expression_is (known_of c.args.constructors.now) (let_expression (declarations c.in-Let.list.items) c.in-Let.body.value) c.args.e.now (type_of c.args.t.now) c.args.environment.now c.args.solver.now c.check_expression-in-Let.new.solver c.from_residual-in_err-check_expression-in-Let.result (sym (ap tree_of c.in-Let.is) ∙ c.e.view_is)
     (refused_by (Checks (known_of c.args.constructors.now) (let_expression (declarations c.in-Let.list.items) c.in-Let.body.value) (type_of c.args.t.now) c.args.environment.now) c.args.solver.now c.check_expression-in-Let.new.solver c.from_residual-in_err-check_expression-in-Let.result c.in_err-check_expression-in-Let.field-0.0 c.from_residual-in_err-check_expression-in-Let.ensures.1
-    (let_answers {X = Unit {0}} (known_of c.args.constructors.now) (declarations c.in-Let.list.items) c.in-Let.body.value (type_of c.args.t.now) c.args.solver.now c.check_bindings.new.solver c.check_expression-in-Let.new.solver c.args.environment.now c.check_bindings.new.environment (Err c.in_err-check_expression-in-Let.field-0.0) c.requires.assumed c.requires.given (subst (λ ds. IsBound (bindings_of (known_of c.args.constructors.now) (declarations ds) (declarations ds)) c.args.solver.now c.args.environment.now c.check_bindings.new.solver c.check_bindings.new.environment) c.deref-in-Let.ensures.value c.in_ok-check_bindings-in-Let.ensures) (moved_refused (known_of c.args.constructors.now) c.deref-in-Let-2.result.now c.in-Let.body.value (type_of c.args.t.now) c.check_bindings.new.environment c.check_bindings.new.environment c.check_bindings.new.solver c.in_err-check_expression-in-Let.field-0.0 refl c.deref-in-Let-2.ensures c.in_err-check_expression-in-Let.ensures.answers)))
+    (let_answers {X = Unit {0}} (known_of c.args.constructors.now) (declarations c.in-Let.list.items) c.in-Let.body.value (type_of c.args.t.now) c.args.solver.now c.check_bindings.new.solver c.check_expression-in-Let.new.solver c.args.environment.now c.check_bindings.new.environment (Err c.in_err-check_expression-in-Let.field-0.0) c.requires.assumed c.requires.given (subst (λ ds. IsBound (bindings_of (known_of c.args.constructors.now) (declarations ds) (declarations ds)) c.args.solver.now c.args.environment.now c.check_bindings.new.solver c.check_bindings.new.environment) c.deref-in-Let.ensures.value c.in_ok-check_bindings-in-Let.ensures.listed) (moved_refused (known_of c.args.constructors.now) c.deref-in-Let-2.result.now c.in-Let.body.value (type_of c.args.t.now) c.check_bindings.new.environment c.check_bindings.new.environment c.check_bindings.new.solver c.in_err-check_expression-in-Let.field-0.0 refl c.deref-in-Let-2.ensures c.in_err-check_expression-in-Let.ensures.answers)))
 
 pub check_expression-returns-in_ok-check_expression-in-Let-clause-answers : goal.check_expression-returns-in_ok-check_expression-in-Let-clause-answers
 check_expression-returns-in_ok-check_expression-in-Let-clause-answers t c =
     expression_is {X = Unit {0}} (known_of c.args.constructors.now) (let_expression (declarations c.in-Let.list.items) c.in-Let.body.value) c.args.e.now (type_of c.args.t.now) c.args.environment.now c.args.solver.now c.check_expression-in-Let.new.solver (Ok tt) (sym (ap tree_of c.in-Let.is) ∙ c.e.view_is)
-    (let_answers {X = Unit {0}} (known_of c.args.constructors.now) (declarations c.in-Let.list.items) c.in-Let.body.value (type_of c.args.t.now) c.args.solver.now c.check_bindings.new.solver c.check_expression-in-Let.new.solver c.args.environment.now c.check_bindings.new.environment (Ok tt) c.requires.assumed c.requires.given (subst (λ ds. IsBound (bindings_of (known_of c.args.constructors.now) (declarations ds) (declarations ds)) c.args.solver.now c.args.environment.now c.check_bindings.new.solver c.check_bindings.new.environment) c.deref-in-Let.ensures.value c.in_ok-check_bindings-in-Let.ensures) (moved_solved (known_of c.args.constructors.now) c.deref-in-Let-2.result.now c.in-Let.body.value (type_of c.args.t.now) c.check_bindings.new.environment c.check_bindings.new.environment c.check_bindings.new.solver c.check_expression-in-Let.new.solver refl c.deref-in-Let-2.ensures c.in_ok-check_expression-in-Let.ensures.answers))
+    (let_answers {X = Unit {0}} (known_of c.args.constructors.now) (declarations c.in-Let.list.items) c.in-Let.body.value (type_of c.args.t.now) c.args.solver.now c.check_bindings.new.solver c.check_expression-in-Let.new.solver c.args.environment.now c.check_bindings.new.environment (Ok tt) c.requires.assumed c.requires.given (subst (λ ds. IsBound (bindings_of (known_of c.args.constructors.now) (declarations ds) (declarations ds)) c.args.solver.now c.args.environment.now c.check_bindings.new.solver c.check_bindings.new.environment) c.deref-in-Let.ensures.value c.in_ok-check_bindings-in-Let.ensures.listed) (moved_solved (known_of c.args.constructors.now) c.deref-in-Let-2.result.now c.in-Let.body.value (type_of c.args.t.now) c.check_bindings.new.environment c.check_bindings.new.environment c.check_bindings.new.solver c.check_expression-in-Let.new.solver refl c.deref-in-Let-2.ensures c.in_ok-check_expression-in-Let.ensures.answers))
 
 pub check_expression-returns-in_ok-check_expression-in-Let-clause-same : goal.check_expression-returns-in_ok-check_expression-in-Let-clause-same
 check_expression-returns-in_ok-check_expression-in-Let-clause-same t c =
-    let o = (subst (λ ds. IsBound (bindings_of (known_of c.args.constructors.now) (declarations ds) (declarations ds)) c.args.solver.now c.args.environment.now c.check_bindings.new.solver c.check_bindings.new.environment) c.deref-in-Let.ensures.value c.in_ok-check_bindings-in-Let.ensures) in
+    let o = (subst (λ ds. IsBound (bindings_of (known_of c.args.constructors.now) (declarations ds) (declarations ds)) c.args.solver.now c.args.environment.now c.check_bindings.new.solver c.check_bindings.new.environment) c.deref-in-Let.ensures.value c.in_ok-check_bindings-in-Let.ensures.listed) in
     c.truncate-in-Let.ensures o.added c.args.environment.now (c.in_ok-check_expression-in-Let.ensures.same ∙ o.entries) (sym c.len-depth-in-Let.ensures)
 
 pub check_body-returns-in-None-clause-answers : goal.check_body-returns-in-None-clause-answers
@@ -272,18 +299,18 @@ check_bodies-returns-clause-answers t c = bodies_all (known_of c.args.constructo
 pub check_right_side-returns-in_err-check_bindings-clause-answers : goal.check_right_side-returns-in_err-check_bindings-clause-answers
 check_right_side-returns-in_err-check_bindings-clause-answers t c =
     subst (λ q. Answers (ChecksSide (known_of c.args.constructors.now) q (type_of c.args.t.now) c.args.environment.now) c.args.solver.now c.check_bindings.new.solver c.from_residual.result) c.rhs.view_is
-    (refused_by (ChecksSide (known_of c.args.constructors.now) (right_side (bodies c.rhs.inside.parts.items) (declarations c.rhs.inside.local.items)) (type_of c.args.t.now) c.args.environment.now) c.args.solver.now c.check_bindings.new.solver c.from_residual.result c.in_err-check_bindings.field-0.0 c.from_residual.ensures.1 (side_refused (known_of c.args.constructors.now) c.rhs.inside.parts.items (declarations c.rhs.inside.local.items) (type_of c.args.t.now) c.args.solver.now c.args.environment.now c.in_err-check_bindings.field-0.0 (subst (λ ds. RefusesList (bindings_of (known_of c.args.constructors.now) (declarations ds) (declarations ds)) c.args.solver.now c.args.environment.now c.in_err-check_bindings.field-0.0) c.deref.ensures.value c.in_err-check_bindings.ensures)))
+    (refused_by (ChecksSide (known_of c.args.constructors.now) (right_side (bodies c.rhs.inside.parts.items) (declarations c.rhs.inside.local.items)) (type_of c.args.t.now) c.args.environment.now) c.args.solver.now c.check_bindings.new.solver c.from_residual.result c.in_err-check_bindings.field-0.0 c.from_residual.ensures.1 (side_refused (known_of c.args.constructors.now) c.rhs.inside.parts.items (declarations c.rhs.inside.local.items) (type_of c.args.t.now) c.args.solver.now c.args.environment.now c.in_err-check_bindings.field-0.0 (subst (λ ds. RefusesList (bindings_of (known_of c.args.constructors.now) (declarations ds) (declarations ds)) c.args.solver.now c.args.environment.now c.in_err-check_bindings.field-0.0) c.deref.ensures.value c.in_err-check_bindings.ensures.listed)))
 
 pub check_right_side-returns-in_err-check_bodies-clause-answers : goal.check_right_side-returns-in_err-check_bodies-clause-answers
 check_right_side-returns-in_err-check_bodies-clause-answers t c =
     let f = c.from_residual-in_err-check_bodies in
     subst (λ q. Answers (ChecksSide (known_of c.args.constructors.now) q (type_of c.args.t.now) c.args.environment.now) c.args.solver.now c.check_bodies.new.solver c.from_residual-in_err-check_bodies.result) c.rhs.view_is
-    (refused_by (ChecksSide (known_of c.args.constructors.now) (right_side (bodies c.rhs.inside.parts.items) (declarations c.rhs.inside.local.items)) (type_of c.args.t.now) c.args.environment.now) c.args.solver.now c.check_bodies.new.solver c.from_residual-in_err-check_bodies.result c.in_err-check_bodies.field-0.0 c.from_residual-in_err-check_bodies.ensures.1 (side_answers {X = Unit {0}} (known_of c.args.constructors.now) c.rhs.inside.parts.items (declarations c.rhs.inside.local.items) (type_of c.args.t.now) c.args.solver.now c.check_bindings.new.solver c.check_bodies.new.solver c.args.environment.now c.check_bindings.new.environment (Err c.in_err-check_bodies.field-0.0) c.requires.assumed c.requires.given (subst (λ ds. IsBound (bindings_of (known_of c.args.constructors.now) (declarations ds) (declarations ds)) c.args.solver.now c.args.environment.now c.check_bindings.new.solver c.check_bindings.new.environment) c.deref.ensures.value c.in_ok-check_bindings.ensures) (subst (λ z. Refuses (ChecksBodies (known_of c.args.constructors.now) z (type_of c.args.t.now) c.check_bindings.new.environment) c.check_bindings.new.solver c.in_err-check_bodies.field-0.0) c.deref-2.ensures.value c.in_err-check_bodies.ensures.answers)))
+    (refused_by (ChecksSide (known_of c.args.constructors.now) (right_side (bodies c.rhs.inside.parts.items) (declarations c.rhs.inside.local.items)) (type_of c.args.t.now) c.args.environment.now) c.args.solver.now c.check_bodies.new.solver c.from_residual-in_err-check_bodies.result c.in_err-check_bodies.field-0.0 c.from_residual-in_err-check_bodies.ensures.1 (side_answers {X = Unit {0}} (known_of c.args.constructors.now) c.rhs.inside.parts.items (declarations c.rhs.inside.local.items) (type_of c.args.t.now) c.args.solver.now c.check_bindings.new.solver c.check_bodies.new.solver c.args.environment.now c.check_bindings.new.environment (Err c.in_err-check_bodies.field-0.0) c.requires.assumed c.requires.given (subst (λ ds. IsBound (bindings_of (known_of c.args.constructors.now) (declarations ds) (declarations ds)) c.args.solver.now c.args.environment.now c.check_bindings.new.solver c.check_bindings.new.environment) c.deref.ensures.value c.in_ok-check_bindings.ensures.listed) (subst (λ z. Refuses (ChecksBodies (known_of c.args.constructors.now) z (type_of c.args.t.now) c.check_bindings.new.environment) c.check_bindings.new.solver c.in_err-check_bodies.field-0.0) c.deref-2.ensures.value c.in_err-check_bodies.ensures.answers)))
 
 pub check_right_side-returns-clause-answers : goal.check_right_side-returns-clause-answers
 check_right_side-returns-clause-answers t c =
     subst (λ q. Answers {X = Unit {0}} (ChecksSide (known_of c.args.constructors.now) q (type_of c.args.t.now) c.args.environment.now) c.args.solver.now c.check_bodies.new.solver (Ok tt)) c.rhs.view_is
-    (side_answers {X = Unit {0}} (known_of c.args.constructors.now) c.rhs.inside.parts.items (declarations c.rhs.inside.local.items) (type_of c.args.t.now) c.args.solver.now c.check_bindings.new.solver c.check_bodies.new.solver c.args.environment.now c.check_bindings.new.environment (Ok tt) c.requires.assumed c.requires.given (subst (λ ds. IsBound (bindings_of (known_of c.args.constructors.now) (declarations ds) (declarations ds)) c.args.solver.now c.args.environment.now c.check_bindings.new.solver c.check_bindings.new.environment) c.deref.ensures.value c.in_ok-check_bindings.ensures) (subst (λ z. Answers {X = Unit {0}} (ChecksBodies (known_of c.args.constructors.now) z (type_of c.args.t.now) c.check_bindings.new.environment) c.check_bindings.new.solver c.check_bodies.new.solver (Ok tt)) c.deref-2.ensures.value c.in_ok-check_bodies.ensures.answers))
+    (side_answers {X = Unit {0}} (known_of c.args.constructors.now) c.rhs.inside.parts.items (declarations c.rhs.inside.local.items) (type_of c.args.t.now) c.args.solver.now c.check_bindings.new.solver c.check_bodies.new.solver c.args.environment.now c.check_bindings.new.environment (Ok tt) c.requires.assumed c.requires.given (subst (λ ds. IsBound (bindings_of (known_of c.args.constructors.now) (declarations ds) (declarations ds)) c.args.solver.now c.args.environment.now c.check_bindings.new.solver c.check_bindings.new.environment) c.deref.ensures.value c.in_ok-check_bindings.ensures.listed) (subst (λ z. Answers {X = Unit {0}} (ChecksBodies (known_of c.args.constructors.now) z (type_of c.args.t.now) c.check_bindings.new.environment) c.check_bindings.new.solver c.check_bodies.new.solver (Ok tt)) c.deref-2.ensures.value c.in_ok-check_bodies.ensures.answers))
 
 pub check_body-check_expression-requires : goal.check_body-check_expression-requires
 check_body-check_expression-requires t c =
@@ -314,7 +341,7 @@ check_right_side-check_bodies-requires t c =
     let z = ap right_side_size c.rhs.view_is in
     let y = ap (λ ps. bodies_size (bodies ps)) c.deref-2.ensures.value in
     let smaller : suc (bodies_size (bodies c.deref-2.result.now)) < suc (right_side_size c.args.rhs.now) = omega (arith, z, y) in
-    let o = (subst (λ ds. IsBound (bindings_of (known_of c.args.constructors.now) (declarations ds) (declarations ds)) c.args.solver.now c.args.environment.now c.check_bindings.new.solver c.check_bindings.new.environment) c.deref.ensures.value c.in_ok-check_bindings.ensures) in
+    let o = (subst (λ ds. IsBound (bindings_of (known_of c.args.constructors.now) (declarations ds) (declarations ds)) c.args.solver.now c.args.environment.now c.check_bindings.new.solver c.check_bindings.new.environment) c.deref.ensures.value c.in_ok-check_bindings.ensures.listed) in
     (search rules, (type_at c.args.solver.now c.check_bindings.new.solver (type_of c.args.t.now) o.listed.grows c.requires.given, o.given))
 
 pub check_alternative-returns-in_err-open_alternative-clause-answers : goal.check_alternative-returns-in_err-open_alternative-clause-answers
@@ -484,8 +511,8 @@ pub check_clause-returns-clause-answers : goal.check_clause-returns-clause-answe
 check_clause-returns-clause-answers t c =
     clause_answers {X = Unit {0}} (known_of c.args.constructors.now) c.args.pats.now c.args.rhs.now (type_of c.args.t.now) (Var (var c.in_ok-outcome.outcome)) c.args.solver.now c.open_function.new.solver c.check_right_side.new.solver c.args.environment.now c.open_function.new.environment (Ok tt) c.requires.assumed c.in_ok-outcome.ensures c.in_ok-check_right_side.ensures.answers
 
-pub check_bindings-returns-then-is_empty : goal.check_bindings-returns-then-is_empty
-check_bindings-returns-then-is_empty t c =
+pub check_bindings-returns-then-is_empty-clause-listed : goal.check_bindings-returns-then-is_empty-clause-listed
+check_bindings-returns-then-is_empty-clause-listed t c =
     empty_listed {X = Unit {0}} (known_of c.args.constructors.now) c.args.list.now c.args.solver.now c.args.environment.now tt (none_of c.args.list.now (is_zero _ (sym c.is_empty.ensures ∙ c.if-is_empty.true))) (problem_below c.args.solver.now c.well_formed-2.ensures) c.requires
 
 pub check_bindings-groups-init : goal.check_bindings-groups-init
@@ -496,6 +523,7 @@ check_bindings-groups-init t c =
       numbers = zeroes_up_to c.args.solver.now.given (length c.in_ok-found.found.numbers) c.in_ok-types.types.items (search rules);
       assumed = c.in_ok-bind_signed.ensures.given c.args.solver.now.given c.requires;
       added = c.in_ok-bind_signed.ensures.added;
+      closed = c.in_ok-bind_signed.ensures.given 0;
       stage = signed_start k c.args.list.now (lists c.in_ok-found.found.groups.items) (length c.in_ok-found.found.numbers) (c.in_ok-found.ensures.distinct k) (c.in_ok-found.ensures.groups k) c.args.solver.now c.args.environment.now c.bind_signed.new.environment (c.in_ok-bind_signed.ensures.bound k) (problem_below c.args.solver.now c.well_formed-2.ensures);
     }
 
@@ -530,8 +558,8 @@ check_bindings-infer_group-requires t c =
       ),
     )
 
-pub check_bindings-returns-in_err-infer_group : goal.check_bindings-returns-in_err-infer_group
-check_bindings-returns-in_err-infer_group t c =
+pub check_bindings-returns-in_err-infer_group-clause-listed : goal.check_bindings-returns-in_err-infer_group-clause-listed
+check_bindings-returns-in_err-infer_group-clause-listed t c =
     let k = (known_of c.args.constructors.now) in
     let gs = lists c.in_ok-found.found.groups.items in
     let n = length c.in_ok-found.found.numbers in
@@ -558,14 +586,17 @@ check_bindings-groups-preserved t c =
     let kept : length c.infer_group.new.types ≡ length c.groups.types.items = c.infer_group.auto.types ∙ ap length c.deref_mut.ensures.value in
     let new = written_to c.infer_group.new.types c.groups.types.items c.groups.types.len (c.groups.types.ok.0) kept in
     subst (λ z. GroupsInferred k c.args.list.now gs n z (c.groups.i + 1) c.args.solver.now c.args.environment.now c.infer_group.new.solver c.infer_group.new.environment) (sym new)
-    (next_stage k c.args.list.now gs n c.groups.i c.groups.types.items c.infer_group.new.types c.deref.result.now c.args.solver.now c.groups.solver c.infer_group.new.solver c.args.environment.now c.groups.environment c.infer_group.new.environment c.requires v within here (c.in_ok-infer_group.ensures.inferred v.added.0 c.args.environment.now v.added.1 (sym c.len-depth.ensures)) (kept ∙ v.sized) c.in_ok-infer_group.ensures.numbers c.in_ok-infer_group.ensures.assumed c.in_ok-infer_group.ensures.added)
+    (next_stage k c.args.list.now gs n c.groups.i c.groups.types.items c.infer_group.new.types c.deref.result.now c.args.solver.now c.groups.solver c.infer_group.new.solver c.args.environment.now c.groups.environment c.infer_group.new.environment c.requires v within here (c.in_ok-infer_group.ensures.inferred v.added.0 c.args.environment.now v.added.1 (sym c.len-depth.ensures)) (kept ∙ v.sized) c.in_ok-infer_group.ensures.numbers c.in_ok-infer_group.ensures.assumed c.in_ok-infer_group.ensures.added (λ a. c.in_ok-infer_group.ensures.closed (v.closed a)))
 
-pub check_bindings-returns : goal.check_bindings-returns
-check_bindings-returns t c =
+pub check_bindings-returns-clause-listed : goal.check_bindings-returns-clause-listed
+check_bindings-returns-clause-listed t c =
     let k = (known_of c.args.constructors.now) in
     let v = c.groups.invariant in
     let last : length c.in_ok-found.found.groups.items ≤ c.groups.i = (let h = c.groups-test.false in omega (arith, h, c.len-i-end.ensures, c.in_ok-found.found.groups.ok.0)) in
     signed_end k c.args.list.now (lists c.in_ok-found.found.groups.items) c.groups.i c.args.solver.now c.groups.solver c.args.environment.now c.groups.environment (subst (λ z. z ≤ c.groups.i) (sym (length-map c.in_ok-found.found.groups.items (λ r. r.items))) last) c.requires v.stage c.check_all_signed.new.solver c.check_all_signed.new.environment c.in_ok-check_all_signed.ensures.same v.assumed v.added c.in_ok-check_all_signed.ensures.answers
+
+pub check_bindings-returns-clause-closed : goal.check_bindings-returns-clause-closed
+check_bindings-returns-clause-closed t c = λ a. subst (AreAssumed 0) (sym c.in_ok-check_all_signed.ensures.same) (c.groups.invariant.closed a)
 
 pub check_member-check_clause-requires-in-Pattern : goal.check_member-check_clause-requires-in-Pattern
 check_member-check_clause-requires-in-Pattern t c =
@@ -645,6 +676,11 @@ infer_group-returns-in_err-check_members-clause-inferred t c = λ added base e l
     infers_passed (Unit {0}) (known_of c.args.constructors.now) c.args.decls.now c.args.group.now base c.args.solver.now c.args.environment.now c.check_members.new.solver c.check_members.new.environment c.from_residual-in_err-check_members.result c.in_err-check_members.field-0.0 c.from_residual-in_err-check_members.ensures.1
     (infers_refused (known_of c.args.constructors.now) c.args.decls.now c.args.found.now.numbers (lists c.args.found.now.rows.items) c.args.group.now c.open_group.new.types c.deref.result.now c.args.solver.now c.args.environment.now c.open_group.new.solver c.open_group.new.environment c.requires.list c.requires.nodes (subst (λ z. IsOpenGroup c.args.found.now.numbers (lists c.args.found.now.rows.items) c.args.group.now c.args.solver.now c.args.environment.now c.open_group.new.solver c.open_group.new.environment c.open_group.new.types z) (sym c.deref.ensures.value) c.in_ok-members.ensures.opened) (Unit {0}) base c.check_members.new.solver c.check_members.new.environment c.in_err-check_members.field-0.0 c.in_err-check_members.ensures.answers)
 
+pub infer_group-returns-in_err-check_members-clause-judged : goal.infer_group-returns-in_err-check_members-clause-judged
+infer_group-returns-in_err-check_members-clause-judged t c = λ added base e l.
+    judges_passed (Unit {0}) (known_of c.args.constructors.now) c.args.decls.now c.args.group.now base c.args.solver.now c.args.environment.now c.check_members.new.environment c.from_residual-in_err-check_members.result c.in_err-check_members.field-0.0 c.from_residual-in_err-check_members.ensures.1
+    (judges_refused (known_of c.args.constructors.now) c.args.decls.now c.args.found.now.numbers (lists c.args.found.now.rows.items) c.args.group.now c.open_group.new.types c.deref.result.now c.args.solver.now c.args.environment.now c.open_group.new.solver c.open_group.new.environment c.requires.list c.requires.nodes (subst (λ z. IsOpenGroup c.args.found.now.numbers (lists c.args.found.now.rows.items) c.args.group.now c.args.solver.now c.args.environment.now c.open_group.new.solver c.open_group.new.environment c.open_group.new.types z) (sym c.deref.ensures.value) c.in_ok-members.ensures.opened) base (Unit {0}) c.check_members.new.solver c.check_members.new.environment c.in_err-check_members.field-0.0 c.in_err-check_members.ensures.answers)
+
 pub infer_group-close_group-requires-clause-numbers : goal.infer_group-close_group-requires-clause-numbers
 infer_group-close_group-requires-clause-numbers t c = types_later c.open_group.new.solver.given c.check_members.new.solver.given c.open_group.new.types c.in_ok-check_members.ensures.grows c.in_ok-members.ensures.opened.numbers
 
@@ -667,8 +703,21 @@ infer_group-returns-clause-inferred t c = λ added base e l.
     infers_solved (known_of c.args.constructors.now) c.args.decls.now c.args.found.now.numbers (lists c.args.found.now.rows.items) c.args.group.now c.open_group.new.types c.deref.result.now c.args.solver.now c.args.environment.now c.open_group.new.solver c.open_group.new.environment c.requires.list c.requires.nodes (subst (λ z. IsOpenGroup c.args.found.now.numbers (lists c.args.found.now.rows.items) c.args.group.now c.args.solver.now c.args.environment.now c.open_group.new.solver c.open_group.new.environment c.open_group.new.types z) (sym c.deref.ensures.value) c.in_ok-members.ensures.opened) (Unit {0}) added base c.args.depth c.check_members.new.solver c.close_group.new.environment tt e l c.in_ok-check_members.ensures.answers
     (subst (λ z. IsClosedGroup c.args.found.now.numbers c.args.group.now c.open_group.new.types c.args.depth c.check_members.new.solver z c.close_group.new.environment) back c.in_ok-close_group.ensures.closed)
 
+pub infer_group-returns-clause-judged : goal.infer_group-returns-clause-judged
+infer_group-returns-clause-judged t c = λ added base e l.
+    let o = c.in_ok-members.ensures.opened in
+    let back : c.truncate.new.self ≡ c.args.environment.now = c.truncate.ensures o.added.0 c.args.environment.now (c.in_ok-check_members.ensures.same ∙ o.added.1) (sym c.len-inner.ensures) in
+    judges_solved (known_of c.args.constructors.now) c.args.decls.now c.args.found.now.numbers (lists c.args.found.now.rows.items) c.args.group.now c.open_group.new.types c.deref.result.now c.args.solver.now c.args.environment.now c.open_group.new.solver c.open_group.new.environment c.requires.list c.requires.nodes (subst (λ z. IsOpenGroup c.args.found.now.numbers (lists c.args.found.now.rows.items) c.args.group.now c.args.solver.now c.args.environment.now c.open_group.new.solver c.open_group.new.environment c.open_group.new.types z) (sym c.deref.ensures.value) c.in_ok-members.ensures.opened) base (Unit {0}) added c.args.depth c.check_members.new.solver c.close_group.new.environment tt e l c.in_ok-check_members.ensures.answers
+    (subst (λ z. IsClosedGroup c.args.found.now.numbers c.args.group.now c.open_group.new.types c.args.depth c.check_members.new.solver z c.close_group.new.environment) back c.in_ok-close_group.ensures.closed)
+
 pub infer_group-returns-clause-numbers : goal.infer_group-returns-clause-numbers
 infer_group-returns-clause-numbers t c = given_up_to c.check_members.new.solver.given c.open_group.new.types (types_later c.open_group.new.solver.given c.check_members.new.solver.given c.open_group.new.types c.in_ok-check_members.ensures.grows c.in_ok-members.ensures.opened.numbers)
+
+pub infer_group-returns-clause-closed : goal.infer_group-returns-clause-closed
+infer_group-returns-clause-closed t c = λ a.
+    let o = c.in_ok-members.ensures.opened in
+    let back : c.truncate.new.self ≡ c.args.environment.now = c.truncate.ensures o.added.0 c.args.environment.now (c.in_ok-check_members.ensures.same ∙ o.added.1) (sym c.len-inner.ensures) in
+    c.in_ok-close_group.ensures.closed_alone (subst (AreAssumed 0) (sym back) a)
 
 pub infer_group-returns-clause-added : goal.infer_group-returns-clause-added
 infer_group-returns-clause-added t c =
@@ -806,8 +855,8 @@ check_all_signed-decls-preserved t c =
 pub check_all_signed-returns-clause-answers : goal.check_all_signed-returns-clause-answers
 check_all_signed-returns-clause-answers t c = signed_done (known_of c.args.constructors.now) (declarations c.args.decls.now) c.args.decls.now c.decls.j c.args.environment.now c.args.solver.now c.decls.solver c.decls-test.false c.decls.invariant.checked
 
-pub check_bindings-returns-in_err-check_all_signed : goal.check_bindings-returns-in_err-check_all_signed
-check_bindings-returns-in_err-check_all_signed t c =
+pub check_bindings-returns-in_err-check_all_signed-clause-listed : goal.check_bindings-returns-in_err-check_all_signed-clause-listed
+check_bindings-returns-in_err-check_all_signed-clause-listed t c =
     let k = (known_of c.args.constructors.now) in
     let v = c.groups.invariant in
     let last : length c.in_ok-found.found.groups.items ≤ c.groups.i = (let h = c.groups-test.false in omega (arith, h, c.len-i-end.ensures, c.in_ok-found.found.groups.ok.0)) in

@@ -19,6 +19,9 @@ use Rattle.hm_infer.proofs.expressions.+checking.Given as goal
 abbrev pub decreases-check_expression : goal.decreases-check_expression
 decreases-check_expression l = 8 * expression_size l.e.now
 
+abbrev pub decreases-check_function : goal.decreases-check_function
+decreases-check_function l = 8 * expression_size l.function.now + 1
+
 abbrev pub decreases-check_expressions : goal.decreases-check_expressions
 decreases-check_expressions l = 8 * expressions_size (expressions l.parts.now)
 

@@ -1,4 +1,6 @@
-use Rattle.std.proofs.Common.{◌≡◌, ℕ, take}
+use Rattle.std.proofs.Common.{◌≡◌, ℕ, false, take}
+use Rattle.hm_types.specs.Monotypes.{Leaf}
+use Rattle.hm_infer.specs.Collected.{has_leaf}
 use Rattle.hm_syntax.specs.Trees.{Declarations}
 use Rattle.hm_scope.specs.Syntax.{Known}
 use Rattle.hm_typing.specs.Assumptions.{Assumptions, assumptions_put}
@@ -13,5 +15,6 @@ abbrev pub invariant-nodes : goal.invariant-nodes
 invariant-nodes l = record {
   bound : (k : Known) (all : Declarations) → l.numbers ≡ list_nodes all all → (A : Assumptions) (m : ℕ → Monotype) → IsSolution l.solver.equations m → Keeps l.kept (assumptions_put m A) → BindsSchemes k all l.types m A (take l.place l.group) l.initial.environment l.environment;
   given : AreAssumed l.solver.given l.initial.environment → AreAssumed l.solver.given l.environment;
+  closed : ((k : Leaf) → has_leaf l.kept k ≡ false) → AreAssumed 0 l.initial.environment → AreAssumed 0 l.environment;
   added : Extends l.initial.environment l.environment;
 }

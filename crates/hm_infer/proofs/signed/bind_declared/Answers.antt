@@ -2,6 +2,7 @@ use Rattle.std.proofs.Common.{◌+◌, [], ◌∷◌, option_map, refl, sym, ap,
 use Rattle.hm_types.specs.Shape.{type_of}
 use Rattle.hm_syntax.specs.Lists.{declarations, patterns}
 use Rattle.hm_syntax.specs.Views.OfExpressions.{declaration_of}
+use Rattle.hm_groups.specs.Variables.{identifier}
 use Rattle.hm_scope.specs.Syntax.{is_continued}
 use Rattle.hm_scope.specs.Types.{declared_type}
 use Rattle.hm_unify.proofs.WellFormed.{well_formed_more}
@@ -37,7 +38,7 @@ returns-clause-bound c = λ k all a.
     (ap (λ ps. is_continued c.in-Clause.name.text (patterns ps) (declarations c.args.rest.now)) (sym c.deref.ensures.value) ∙ (sym c.is_continued.ensures ∙ c.if-is_continued.false))
     (sym (a c.in-Clause.name.text) ∙ (sym c.declared_for.ensures ∙ ap (option_map (λ t. declared_type t.now)) c.in-Some.is))
     c.in_ok-declared.ensures.given c.in_ok-declared.ensures.body
-    (c.in_ok-bind.ensures ∙ ap (λ z. record { name = z; scheme = record { quantified = c.in_ok-declared.declared.count; body = type_of c.in_ok-declared.declared.body } } ∷ c.args.environment.now) c.in_ok-key.ensures))
+    (c.in_ok-bind.ensures ∙ ap (λ z. record { name = z; scheme = record { quantified = c.in_ok-declared.declared.count; body = type_of c.in_ok-declared.declared.body } } ∷ c.args.environment.now) (ap identifier c.key_of.ensures)))
 
 pub returns-clause-given : goal.returns-clause-given
 returns-clause-given c = λ g a. subst (AreAssumed g) (sym c.in_ok-bind.ensures) (well_formed_more c.in_ok-declared.declared.count (c.in_ok-declared.declared.count + g) (type_of c.in_ok-declared.declared.body) (omega arith) c.in_ok-declared.ensures.given, a)

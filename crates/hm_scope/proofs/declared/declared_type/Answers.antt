@@ -1,7 +1,5 @@
-use Rattle.std.proofs.Common.{rules, ap, sym, ◌∙◌, ◌++◌, [], subst}
+use Rattle.std.proofs.Common.{rules, sym, subst}
 use Rattle.hm_types.specs.Schemes.{HasArities}
-use Rattle.hm_scope.specs.Types.{type_in}
-use Rattle.hm_scope.specs.Variables.{texts}
 use Rattle.hm_scope.proofs.DeclaredTypes.{declared_below}
 use Rattle.hm_scope.proofs.TypesOfTrees.{arities}
 use Rattle.hm_scope.proofs.declared.declared_type.Goals as goal

@@ -1,4 +1,4 @@
-use Rattle.std.proofs.Common.{◌≡◌, ◌∙◌, ap, map, length, List}
+use Rattle.std.proofs.Common.{◌∙◌, ap, map, length, List}
 use Rattle.hm_types.specs.Shape.{type_of, types_of}
 use Rattle.hm_syntax.specs.Trees.{TypeTree}
 use Rattle.hm_scope.specs.Types.{program_of, type_in}

@@ -1,4 +1,4 @@
-use Rattle.std.proofs.Common.{◌≡◌, ◌∙◌}
+use Rattle.std.proofs.Common.{◌∙◌}
 use Rattle.hm_scope.proofs.ConstructorTypes.{synonym_fits, synonym_equal}
 use Rattle.hm_scope.proofs.declared_schemes.declared_synonym.Goals as goal
 

@@ -1,4 +1,4 @@
-use Rattle.std.proofs.Common.{◌≡◌, ◌∙◌, ap, sym}
+use Rattle.std.proofs.Common.{◌∙◌, ap}
 use Rattle.hm_scope.specs.ExportGroups.{grouped}
 use Rattle.hm_scope.proofs.Selectors.{group_added, group_found}
 use Rattle.hm_scope.proofs.export_groups.add_group.Goals as goal

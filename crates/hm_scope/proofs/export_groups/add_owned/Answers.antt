@@ -1,7 +1,6 @@
-use Rattle.std.proofs.Common.{◌≡◌, ◌∙◌, sym, ap, None, Some, true, false, option_map, subst}
+use Rattle.std.proofs.Common.{◌≡◌, ◌∙◌, sym, ap, Some, option_map, subst}
 use Rattle.hm_types.specs.declared.Entity.{Entity}
 use Rattle.hm_scope.specs.Bindings.{Pair, Adds}
-use Rattle.hm_scope.specs.BarePairs.{bare_of}
 use Rattle.hm_scope.specs.Described.{first_of}
 use Rattle.hm_scope.specs.ExportGroups.{group_of}
 use Rattle.hm_scope.specs.declared.export_groups.Selector.{Selector}

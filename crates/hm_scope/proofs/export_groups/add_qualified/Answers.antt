@@ -1,6 +1,5 @@
-use Rattle.std.proofs.Common.{◌≡◌, ◌∙◌, sym, ap, inl, inr, None, Some, true, false, Contains, subst}
+use Rattle.std.proofs.Common.{◌≡◌, ◌∙◌, sym, inl, inr, None, Some, true, false, subst}
 use Rattle.hm_scope.specs.Bindings.{Pair, Adds}
-use Rattle.hm_scope.specs.BarePairs.{bare_of}
 use Rattle.hm_scope.specs.ExportGroups.{group_of}
 use Rattle.hm_scope.specs.declared.export_groups.Selector.{Selector}
 use Rattle.hm_scope.proofs.ExportSelections.{no_whole, whole_added, grouped_more}

@@ -1,4 +1,4 @@
-use Rattle.std.proofs.Common.{◌≡◌, ◌∙◌, ◌++◌, ◌∷◌, [], ap}
+use Rattle.std.proofs.Common.{◌∙◌, ◌++◌, ◌∷◌, [], ap}
 use Rattle.hm_scope.proofs.Selectors.{first_of_group}
 use Rattle.hm_scope.proofs.export_groups.add_to_group.Goals as goal
 

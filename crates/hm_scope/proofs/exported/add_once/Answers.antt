@@ -1,4 +1,4 @@
-use Rattle.std.proofs.Common.{◌≡◌, ◌∙◌, ◌++◌, ◌∷◌, [], sym, ap, List, ℕ, cond}
+use Rattle.std.proofs.Common.{◌∙◌, ◌++◌, ◌∷◌, [], sym, ap, List, ℕ, cond}
 use Rattle.hm_scope.specs.Bindings.{Pair}
 use Rattle.hm_scope.specs.Texts.{is_text_among}
 use Rattle.hm_scope.proofs.NamesOnce.{once_other, once_before, once_more, is_space, isnt_space, is_new, isnt_new}

@@ -1,7 +1,7 @@
-use Rattle.std.proofs.Common.{◌≡◌, ◌∙◌, ◌++◌, ◌∷◌, [], List, ℕ, sym, ap, subst, take}
+use Rattle.std.proofs.Common.{◌∙◌, ◌++◌, ◌∷◌, [], List, ℕ, sym, ap, subst, take}
 use Rattle.std.proofs.lemmas.List.{take_more, take_all}
 use Rattle.hm_scope.specs.Bindings.{Pair}
-use Rattle.hm_scope.specs.ExportedRows.{IsOnce}
+use Rattle.hm_scope.specs.ExportedRows.{AreOnePerName}
 use Rattle.hm_scope.proofs.NamesOnce.{once_none}
 use Rattle.hm_scope.proofs.exported.of_namespace.Goals as goal
 
@@ -12,9 +12,9 @@ pub loop-binding-preserved : goal.loop-binding-preserved
 loop-binding-preserved c =
     let xs : List Pair = c.args.given.now in
     let x : Pair = c.binding-item.result in
-    subst (λ (l : List Pair). IsOnce c.args.space l c.add_once.new.names c.add_once.new.out.items) (sym (take_more xs c.loop-binding.binding-index x c.loop-binding-test.true ∙ ap (λ (y : Pair). take c.loop-binding.binding-index xs ++ y ∷ []) (sym c.binding-item.is)))
+    subst (λ (l : List Pair). AreOnePerName c.args.space l c.add_once.new.names c.add_once.new.out.items) (sym (take_more xs c.loop-binding.binding-index x c.loop-binding-test.true ∙ ap (λ (y : Pair). take c.loop-binding.binding-index xs ++ y ∷ []) (sym c.binding-item.is)))
     (c.in_ok-add_once.ensures _ c.loop-binding.invariant)
 
 pub returns : goal.returns
-returns c = subst (λ (n : List (List ℕ)). IsOnce c.args.space c.args.given.now n c.loop-binding.out.items) c.loop-binding.invariant.names_are
-    (subst (λ (l : List Pair). IsOnce c.args.space l c.loop-binding.names c.loop-binding.out.items) (take_all c.loop-binding.binding-index c.args.given.now c.loop-binding-test.false) c.loop-binding.invariant)
+returns c = subst (λ (n : List (List ℕ)). AreOnePerName c.args.space c.args.given.now n c.loop-binding.out.items) c.loop-binding.invariant.names_are
+    (subst (λ (l : List Pair). AreOnePerName c.args.space l c.loop-binding.names c.loop-binding.out.items) (take_all c.loop-binding.binding-index c.args.given.now c.loop-binding-test.false) c.loop-binding.invariant)

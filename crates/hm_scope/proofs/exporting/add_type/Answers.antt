@@ -1,6 +1,5 @@
-use Rattle.std.proofs.Common.{◌≡◌, ◌∙◌, ◌++◌, ◌∷◌, [], sym, ap, Some, List, refl}
+use Rattle.std.proofs.Common.{◌∙◌, ◌++◌, ◌∷◌, [], sym, ap, Some}
 use Rattle.hm_types.specs.declared.entries.TypeEntry.{TypeEntry}
-use Rattle.hm_types.specs.declared.entries.SynonymEntry.{SynonymEntry}
 use Rattle.hm_types.specs.Synonyms.{TypeSynonym}
 use Rattle.hm_scope.specs.Cores.{synonym_in}
 use Rattle.hm_scope.specs.KnownExports.{meaning_of}

@@ -1,5 +1,5 @@
-use Rattle.std.proofs.Common.{◌≡◌, ◌++◌, ◌∷◌, [], ◌∙◌, None, ap, subst}
-use Rattle.hm_scope.specs.Bindings.{Pair, Adds}
+use Rattle.std.proofs.Common.{◌≡◌, ◌++◌, ◌∷◌, [], ◌∙◌, None, ap}
+use Rattle.hm_scope.specs.Bindings.{Pair}
 use Rattle.hm_scope.proofs.AddedPairs.{adds_where, adds_where_not, adds_push}
 use Rattle.hm_scope.proofs.BareSets.{qualified, unqualified}
 use Rattle.hm_scope.proofs.exports.add_bare.Goals as goal

@@ -1,4 +1,4 @@
-use Rattle.std.proofs.Common.{◌≡◌, sym, ap, option_map, subst}
+use Rattle.std.proofs.Common.{sym, ap, option_map, subst}
 use Rattle.hm_syntax.specs.declared.ast.Subs.{Subs}
 use Rattle.hm_scope.specs.Bindings.{Adds}
 use Rattle.hm_scope.specs.ExportItems.{GivesBehind, FaultBehind}

@@ -1,8 +1,4 @@
-use Rattle.std.proofs.Common.{◌≡◌, ◌∙◌, sym, ap, subst, option_map, None, Some, Option, List, ℕ}
-use Rattle.hm_scope.specs.ExportItems.{IsLeastOf}
-use Rattle.hm_scope.specs.Faults.Exports.{item_name, bare_at}
-use Rattle.hm_scope.specs.Faults.Phases.{fault}
-use Rattle.hm_scope.specs.declared.faults.Fault.{Fault}
+use Rattle.std.proofs.Common.{◌∙◌}
 use Rattle.hm_scope.specs.declared.faults.Kind.TheVariants.{ExportClash}
 use Rattle.hm_scope.proofs.ExportClashes.{no_clash, one_clash}
 use Rattle.hm_scope.proofs.exports.add_clash.Goals as goal

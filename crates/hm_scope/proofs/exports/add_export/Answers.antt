@@ -1,4 +1,4 @@
-use Rattle.std.proofs.Common.{◌≡◌, subst, List}
+use Rattle.std.proofs.Common.{subst, List}
 use Rattle.hm_scope.specs.declared.exports.ModuleExports.{ModuleExports}
 use Rattle.hm_scope.specs.Bindings.{Pair, Adds}
 use Rattle.hm_scope.specs.ExportItems.{LeastFault}

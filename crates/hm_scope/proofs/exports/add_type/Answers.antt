@@ -1,8 +1,8 @@
-use Rattle.std.proofs.Common.{◌≡◌, ◌∙◌, None, Some, Option, List, subst}
+use Rattle.std.proofs.Common.{◌≡◌, Option, List, subst}
 use Rattle.hm_types.specs.declared.Entity.{Entity}
 use Rattle.hm_scope.specs.declared.faults.Fault.{Fault}
 use Rattle.hm_scope.specs.declared.namespace.Namespace.TheVariants.{Types}
-use Rattle.hm_scope.specs.Bindings.{Pair, Adds}
+use Rattle.hm_scope.specs.Bindings.{Adds}
 use Rattle.hm_scope.specs.ExportItems.{IsExportMeaning, bare_pair, FaultBehind}
 use Rattle.hm_scope.proofs.ExportedItems.{type_missing, type_unknown, type_given, type_faults}
 use Rattle.hm_scope.proofs.exports.add_type.Goals as goal

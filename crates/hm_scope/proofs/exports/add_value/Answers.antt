@@ -1,4 +1,4 @@
-use Rattle.std.proofs.Common.{◌≡◌, None, Some, Option, subst}
+use Rattle.std.proofs.Common.{Option, subst}
 use Rattle.hm_types.specs.declared.Entity.{Entity}
 use Rattle.hm_scope.specs.declared.namespace.Namespace.TheVariants.{Values}
 use Rattle.hm_scope.specs.ExportItems.{IsExportMeaning}

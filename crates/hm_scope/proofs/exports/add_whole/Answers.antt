@@ -1,4 +1,3 @@
-use Rattle.std.proofs.Common.{◌≡◌, false, true}
 use Rattle.hm_scope.proofs.ExportedItems.{whole_missing, whole_fault, whole_fine, whole_group, is_named, isnt_named}
 use Rattle.hm_scope.proofs.exports.add_whole.Goals as goal
 

@@ -1,6 +1,6 @@
-use Rattle.std.proofs.Common.{◌≡◌, None, [], refl, List, subst, ⊎_elim, inr}
-use Rattle.hm_scope.specs.Bindings.{Pair, Adds, IsOwnPair}
-use Rattle.hm_scope.proofs.AddedPairs.{for_none, for_more, for_all, ForEach}
+use Rattle.std.proofs.Common.{◌≡◌, None, ⊎_elim, inr}
+use Rattle.hm_scope.specs.Bindings.{Pair}
+use Rattle.hm_scope.proofs.AddedPairs.{for_more, for_all}
 use Rattle.hm_scope.proofs.BareSets.{bare_exact}
 use Rattle.hm_scope.proofs.Members.{none_in}
 use Rattle.hm_scope.proofs.exports.declared_exports.Goals as goal

@@ -1,4 +1,4 @@
-use Rattle.std.proofs.Common.{List, option_map, subst, ℕ}
+use Rattle.std.proofs.Common.{List, option_map, subst}
 use Rattle.std.proofs.lemmas.List.{take_all}
 use Rattle.hm_scope.specs.Bindings.{Pair}
 use Rattle.hm_scope.specs.ExportItems.{IsLeastOf}

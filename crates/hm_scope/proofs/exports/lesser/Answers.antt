@@ -1,5 +1,4 @@
-use Rattle.std.proofs.Common.{◌≡◌, true, false, sym, ◌∙◌, ap, subst, option_map, Option, List, ℕ, ◌++◌, ◌∷◌, [], None, Some}
-use Rattle.hm_scope.specs.Bindings.{Pair}
+use Rattle.std.proofs.Common.{◌≡◌, true, false, sym, ◌∙◌, ap, subst, option_map, Option, List, ℕ, ◌++◌, ◌∷◌, [], Some}
 use Rattle.hm_scope.specs.ExportItems.{IsLeastOf}
 use Rattle.hm_scope.proofs.ExportClashes.{least_kept, least_first, least_less, least_more, at_most_test, at_most_not}
 use Rattle.hm_scope.proofs.exports.lesser.Goals as goal

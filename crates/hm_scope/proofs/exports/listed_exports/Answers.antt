@@ -1,8 +1,8 @@
-use Rattle.std.proofs.Common.{◌≡◌, List, [], take, subst, ap, ◌∙◌, sym}
+use Rattle.std.proofs.Common.{List, subst}
 use Rattle.std.proofs.lemmas.List.{take_all}
 use Rattle.hm_syntax.specs.declared.ast.Export.{Export}
 use Rattle.hm_scope.specs.declared.exports.ModuleExports.{ModuleExports}
-use Rattle.hm_scope.specs.ModuleExports.{AreExportsSoFar, AreListedExports}
+use Rattle.hm_scope.specs.ModuleExports.{AreListedExports}
 use Rattle.hm_scope.proofs.ListedExports.{none_so_far, no_table, so_far_none, so_far_more}
 use Rattle.hm_scope.proofs.exports.listed_exports.Goals as goal
 

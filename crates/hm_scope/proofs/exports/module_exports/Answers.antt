@@ -1,4 +1,4 @@
-use Rattle.std.proofs.Common.{◌≡◌, List, map, subst, sym}
+use Rattle.std.proofs.Common.{List, map, subst, sym}
 use Rattle.hm_syntax.specs.declared.ast.Export.{Export}
 use Rattle.hm_scope.specs.declared.exports.ModuleExports.{ModuleExports}
 use Rattle.hm_scope.specs.Bindings.{Pair, IsScopeOf}

@@ -3,7 +3,7 @@ use Rattle.hm_types.specs.Interfaces.{Exports as Interface}
 use Rattle.hm_syntax.specs.Names.{Identifier}
 use Rattle.hm_scope.specs.declared.faults.Fault.{Fault}
 use Rattle.hm_scope.specs.declared.faults.Kind.TheVariants.{NotExported}
-use Rattle.hm_scope.specs.Faults.Items.{IsItemFault, IsListFault}
+use Rattle.hm_scope.specs.Faults.Items.{IsListFault}
 use Rattle.hm_scope.specs.Faults.Phases.{fault}
 use Rattle.hm_scope.proofs.AddedPairs.{for_more, for_all}
 use Rattle.hm_scope.proofs.faulty_imports.add_import_faults.Goals as goal

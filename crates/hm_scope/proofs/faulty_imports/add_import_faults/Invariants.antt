@@ -4,7 +4,7 @@ use Rattle.hm_syntax.specs.Names.{Identifier}
 use Rattle.hm_scope.specs.declared.faults.Fault.{Fault}
 use Rattle.hm_scope.specs.declared.faults.Kind.TheVariants.{NotExported}
 use Rattle.hm_scope.specs.Bindings.{Adds}
-use Rattle.hm_scope.specs.Faults.Items.{IsItemFault, IsListFault}
+use Rattle.hm_scope.specs.Faults.Items.{IsListFault}
 use Rattle.hm_scope.specs.Faults.Phases.{fault}
 use Rattle.hm_scope.proofs.AddedPairs.{ForEach}
 use Rattle.hm_scope.proofs.faulty_imports.add_import_faults.Given as goal

@@ -1,4 +1,3 @@
-use Rattle.std.proofs.Common.{◌≡◌}
 use Rattle.std.proofs.lemmas.Bool.{both_ways}
 use Rattle.hm_syntax.specs.declared.ast.Item.TheVariants as item
 use Rattle.hm_syntax.specs.declared.ast.Subs.TheVariants as subs

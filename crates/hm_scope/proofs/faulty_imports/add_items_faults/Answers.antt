@@ -1,9 +1,9 @@
-use Rattle.std.proofs.Common.{◌≡◌, Bor}
+use Rattle.std.proofs.Common.{◌≡◌}
 use Rattle.hm_syntax.specs.declared.ast.Item.{Item}
 use Rattle.hm_syntax.specs.Names.{Identifier}
 use Rattle.hm_scope.specs.declared.faults.Fault.{Fault}
 use Rattle.hm_scope.specs.declared.faults.Kind.TheVariants.{NotExported}
-use Rattle.hm_scope.specs.Faults.Items.{IsItemFault, IsListFault}
+use Rattle.hm_scope.specs.Faults.Items.{IsItemFault}
 use Rattle.hm_scope.specs.Faults.Phases.{fault}
 use Rattle.hm_scope.proofs.AddedPairs.{for_more, for_all}
 use Rattle.hm_scope.proofs.faulty_imports.add_items_faults.Goals as goal

@@ -1,10 +1,10 @@
-use Rattle.std.proofs.Common.{◌≡◌, take, Bor}
+use Rattle.std.proofs.Common.{◌≡◌, take}
 use Rattle.hm_syntax.specs.declared.ast.Item.{Item}
 use Rattle.hm_syntax.specs.Names.{Identifier}
 use Rattle.hm_scope.specs.declared.faults.Fault.{Fault}
 use Rattle.hm_scope.specs.declared.faults.Kind.TheVariants.{NotExported}
 use Rattle.hm_scope.specs.Bindings.{Adds}
-use Rattle.hm_scope.specs.Faults.Items.{IsItemFault, IsListFault}
+use Rattle.hm_scope.specs.Faults.Items.{IsItemFault}
 use Rattle.hm_scope.specs.Faults.Phases.{fault}
 use Rattle.hm_scope.proofs.AddedPairs.{ForEach}
 use Rattle.hm_scope.proofs.faulty_imports.add_items_faults.Given as goal

@@ -1,4 +1,4 @@
-use Rattle.std.proofs.Common.{◌≡◌, List, [], subst}
+use Rattle.std.proofs.Common.{List, subst}
 use Rattle.hm_syntax.specs.declared.ast.Import.{Import}
 use Rattle.hm_scope.specs.Bindings.{Adds}
 use Rattle.hm_scope.specs.declared.faults.Fault.{Fault}

@@ -1,4 +1,4 @@
-use Rattle.std.proofs.Common.{◌≡◌, ◌∙◌, ap, Some}
+use Rattle.std.proofs.Common.{◌∙◌, ap, Some}
 use Rattle.hm_scope.specs.Found.{Walking, resolver_of}
 use Rattle.hm_scope.specs.Resolved.{type_with}
 use Rattle.hm_scope.specs.KnownTables.{lookups_of}

@@ -1,4 +1,4 @@
-use Rattle.std.proofs.Common.{◌≡◌, ◌<◌, ℕ, List, [], Bor, map, length, get_or, rules, subst, sym, ◌∙◌, ap, false, true, refl}
+use Rattle.std.proofs.Common.{◌≡◌, ◌<◌, ℕ, List, [], Bor, length, get_or, rules, subst, sym, ◌∙◌, ap, false, true, refl}
 use Rattle.std.specs.Arc.{arc_value}
 use Rattle.hm_types.specs.Interfaces.{Exports}
 use Rattle.hm_scope.proofs.SameNames.{one_more, same_there}

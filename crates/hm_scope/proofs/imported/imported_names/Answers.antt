@@ -1,4 +1,4 @@
-use Rattle.std.proofs.Common.{◌≡◌, ◌++◌, ◌∷◌, [], map, rules, sym, ap, ◌∙◌}
+use Rattle.std.proofs.Common.{rules, ap, ◌∙◌}
 use Rattle.hm_scope.specs.Imports.{imported}
 use Rattle.hm_scope.proofs.ImportedNames.{gathered_new, gathered_old}
 use Rattle.hm_scope.proofs.imported.imported_names.Goals.{then-branch+in_ok-push, else-branch}

@@ -1,9 +1,9 @@
-use Rattle.std.proofs.Common.{◌≡◌, ℕ, List, false, subst, ap}
+use Rattle.std.proofs.Common.{ℕ, List, false, subst, ap}
 use Rattle.hm_syntax.specs.Trees.{DataConstructor}
-use Rattle.hm_scope.specs.Bindings.{Pair, Adds, IsPairOf, IsDeclaredPair}
+use Rattle.hm_scope.specs.Bindings.{Adds, IsPairOf}
 use Rattle.hm_scope.specs.Entities.{named, constructor_name}
-use Rattle.hm_scope.specs.declared.namespace.Namespace.TheVariants.{Constructors, Values}
-use Rattle.hm_scope.proofs.AddedPairs.{for_none, for_more, for_all}
+use Rattle.hm_scope.specs.declared.namespace.Namespace.TheVariants.{Constructors}
+use Rattle.hm_scope.proofs.AddedPairs.{for_more, for_all}
 use Rattle.hm_scope.proofs.in_scope.add_constructors.Goals as goal
 
 pub loop-constr-preserved : goal.loop-constr-preserved

@@ -1,10 +1,10 @@
-use Rattle.std.proofs.Common.{◌≡◌, ℕ, List, ◌∙◌, sym, ap, subst}
+use Rattle.std.proofs.Common.{ℕ, List, ◌∙◌, sym, ap, subst}
 use Rattle.hm_syntax.specs.Trees.{Declaration, DataConstructor}
 use Rattle.hm_syntax.specs.Views.OfExpressions.{declaration_of}
-use Rattle.hm_scope.specs.Bindings.{Pair, Adds, IsDeclaredPair}
+use Rattle.hm_scope.specs.Bindings.{Adds, IsDeclaredPair}
 use Rattle.hm_scope.specs.Entities.{constructor_name}
 use Rattle.hm_scope.specs.declared.namespace.Namespace.TheVariants.{Constructors}
-use Rattle.hm_scope.proofs.DeclaredPairs.{OwnPair, data_adds, newtype_adds, synonym_adds, signature_adds, clause_adds, pattern_adds}
+use Rattle.hm_scope.proofs.DeclaredPairs.{OwnPair, data_adds, newtype_adds, synonym_adds, clause_adds, pattern_adds}
 use Rattle.hm_scope.proofs.in_scope.add_declaration.Goals as goal
 
 pub returns-in_ok-add_constructors-in-DataType : goal.returns-in_ok-add_constructors-in-DataType

@@ -1,6 +1,6 @@
-use Rattle.std.proofs.Common.{◌≡◌, ◌<◌, ◌≤◌, List, length, sym, ap, subst, get_or}
+use Rattle.std.proofs.Common.{List}
 use Rattle.hm_syntax.specs.Trees.{Declaration}
-use Rattle.hm_scope.specs.Bindings.{Pair, Adds, IsDeclaredPair}
+use Rattle.hm_scope.specs.Bindings.{IsDeclaredPair}
 use Rattle.hm_scope.proofs.AddedPairs.{for_more, for_all}
 use Rattle.hm_scope.proofs.DeclaredPairs.{module_adds}
 use Rattle.hm_scope.proofs.in_scope.add_declared.Goals as goal

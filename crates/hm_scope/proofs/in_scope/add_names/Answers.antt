@@ -1,9 +1,9 @@
-use Rattle.std.proofs.Common.{◌≡◌, List, false, Bor, rules}
+use Rattle.std.proofs.Common.{false, Bor}
 use Rattle.hm_syntax.specs.Names.{Identifier}
-use Rattle.hm_scope.specs.Bindings.{Pair, IsPairOf, IsDeclaredPair}
-use Rattle.hm_scope.specs.Entities.{named, constructor_name}
-use Rattle.hm_scope.specs.declared.namespace.Namespace.TheVariants.{Constructors, Values}
-use Rattle.hm_scope.proofs.AddedPairs.{for_none, for_more, for_all}
+use Rattle.hm_scope.specs.Bindings.{IsPairOf}
+use Rattle.hm_scope.specs.Entities.{named}
+use Rattle.hm_scope.specs.declared.namespace.Namespace.TheVariants.{Values}
+use Rattle.hm_scope.proofs.AddedPairs.{for_more, for_all}
 use Rattle.hm_scope.proofs.in_scope.add_names.Goals as goal
 
 pub loop-name-preserved : goal.loop-name-preserved

@@ -1,4 +1,4 @@
-use Rattle.std.proofs.Common.{◌≡◌, ℕ, List, take, Contains, ◌∷◌, []}
+use Rattle.std.proofs.Common.{ℕ, List, take, Contains, ◌∷◌, []}
 use Rattle.hm_syntax.specs.Lists.{declarations}
 use Rattle.hm_syntax.specs.Trees.{Declaration}
 use Rattle.hm_scope.specs.Bindings.{Adds}

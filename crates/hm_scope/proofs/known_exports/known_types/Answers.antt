@@ -1,17 +1,8 @@
-use Rattle.std.proofs.Common.{◌≡◌, ◌++◌, ◌∷◌, [], ◌∙◌, sym, ap, refl, subst, map, take, List, ℕ, Bor}
-use Rattle.hm_types.specs.declared.Entity.{Entity}
-use Rattle.hm_types.specs.declared.entries.TypeEntry.{TypeEntry}
-use Rattle.hm_types.specs.declared.entries.SynonymEntry.{SynonymEntry}
-use Rattle.hm_types.specs.declared.entries.ConstructorEntry.{ConstructorEntry}
-use Rattle.hm_types.specs.declared.entries.ValueEntry.{ValueEntry}
+use Rattle.std.proofs.Common.{◌++◌, [], refl, subst, map, take, List, Bor}
 use Rattle.hm_types.specs.Interfaces.{Exports as Interface}
-use Rattle.hm_syntax.specs.Trees.{Declaration, DataConstructor}
-use Rattle.hm_syntax.specs.Views.OfExpressions.{declaration_of}
-use Rattle.hm_scope.specs.Described.{TypeDescription, TypeMeaning, declared_types, imported_types}
-use Rattle.hm_scope.specs.KnownExports.{KnowsTypes, KnowsConstructors, KnowsValues, ConstructorSource, declared, imported, source_entity, source_of, meaning_of, declared_sources, imported_sources}
-use Rattle.hm_scope.specs.declared.known_exports.KnownType.{KnownType}
-use Rattle.hm_scope.specs.declared.known_exports.KnownConstructor.{KnownConstructor}
-use Rattle.hm_scope.proofs.FirstTables.{noted, nothing_known, more_described, none_described, all_described, joined_types, joined_sources, joined_interfaces, joined_imports, joined_values, joined_map, joined_same, type_of_entry, synonym_of_entry, types_of_all, types_of_one, sources_of_all, sources_of_one, values_of_all, values_of_one, sources_of_data}
+use Rattle.hm_scope.specs.Described.{TypeDescription, declared_types}
+use Rattle.hm_scope.specs.KnownExports.{KnowsTypes, meaning_of}
+use Rattle.hm_scope.proofs.FirstTables.{nothing_known, more_described, none_described, all_described, joined_interfaces, type_of_entry, synonym_of_entry, types_of_all, types_of_one}
 use Rattle.std.proofs.Common.{append_assoc}
 use Rattle.hm_scope.proofs.known_exports.known_types.Goals as goal
 

@@ -1,4 +1,4 @@
-use Rattle.std.proofs.Common.{◌≡◌, ◌∙◌, sym, ap, cond, is_some, Some}
+use Rattle.std.proofs.Common.{◌∙◌, sym, ap, cond, Some}
 use Rattle.indexmap.specs.IndexMap.{get_by}
 use Rattle.hm_scope.specs.Owners.{same_key}
 use Rattle.hm_scope.proofs.known_exports.note.Goals as goal

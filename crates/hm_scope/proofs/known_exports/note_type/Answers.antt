@@ -1,11 +1,11 @@
-use Rattle.std.proofs.Common.{◌≡◌, ◌++◌, ◌∷◌, [], ◌∙◌, sym, ap, refl, subst, map, List, length, arith}
+use Rattle.std.proofs.Common.{◌++◌, ◌∷◌, [], ◌∙◌, sym, ap, subst, List, length, arith}
 use Rattle.hm_syntax.specs.Names.{Identifier}
-use Rattle.hm_syntax.specs.Trees.{Declaration, DataConstructor}
+use Rattle.hm_syntax.specs.Trees.{Declaration}
 use Rattle.hm_syntax.specs.Views.OfExpressions.{declaration_of}
 use Rattle.hm_scope.specs.Described.{TypeDescription, algebraic, declared_synonym, declared_types}
 use Rattle.hm_scope.specs.Entities.{named}
-use Rattle.hm_scope.specs.KnownExports.{KnowsTypes, KnowsConstructors, ConstructorSource, declared, imported, source_entity, source_of, meaning_of, declared_sources}
-use Rattle.hm_scope.proofs.FirstTables.{noted, sources_of_data}
+use Rattle.hm_scope.specs.KnownExports.{KnowsTypes, meaning_of}
+use Rattle.hm_scope.proofs.FirstTables.{noted}
 use Rattle.hm_scope.proofs.known_exports.note_type.Goals as goal
 
 pub returns-in_ok-note-in-DataType : goal.returns-in_ok-note-in-DataType

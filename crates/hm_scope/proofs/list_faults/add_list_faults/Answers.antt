@@ -1,4 +1,3 @@
-use Rattle.std.proofs.Common.{◌∙◌, ap, ◌++◌, map}
 use Rattle.hm_syntax.specs.Lists.{declarations}
 use Rattle.hm_scope.proofs.FaultLists.{all_faults}
 use Rattle.hm_scope.proofs.list_faults.add_list_faults.Goals as goal

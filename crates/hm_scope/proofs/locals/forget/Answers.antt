@@ -1,4 +1,4 @@
-use Rattle.std.proofs.Common.{◌≡◌, sym, ap, ◌∙◌, subst, cond, None, Some, ℕ, List, bytes_eq}
+use Rattle.std.proofs.Common.{sym, ap, ◌∙◌, cond, None, ℕ, List, bytes_eq}
 use Rattle.std.specs.HashMap.{get_by_text}
 use Rattle.std.proofs.lemmas.Map.Text.{hash_map_updates_text}
 use Rattle.hm_scope.proofs.DepthTables.{forgotten}

@@ -1,4 +1,4 @@
-use Rattle.std.proofs.Common.{◌≡◌, ℕ, List, ap, ◌∙◌, subst, length, arith, cond, sym, rules, ◌++◌, ◌∷◌, []}
+use Rattle.std.proofs.Common.{◌≡◌, ℕ, List, ap, ◌∙◌, subst, arith, cond, sym, rules, ◌++◌, ◌∷◌, []}
 use Rattle.std.specs.HashMap.{get_by_text}
 use Rattle.hm_syntax.specs.Names.{Identifier}
 use Rattle.hm_scope.specs.Variables.{texts}

@@ -1,4 +1,4 @@
-use Rattle.std.proofs.Common.{◌≡◌, sym, ap, ◌∙◌, subst, string_bytes, rules}
+use Rattle.std.proofs.Common.{◌≡◌, sym, ap, ◌∙◌, string_bytes, rules}
 use Rattle.std.specs.HashMap.{get_by_text}
 use Rattle.std.proofs.lemmas.Map.Text.{hash_map_updates_text}
 use Rattle.hm_scope.proofs.DepthTables.{noted}

@@ -1,7 +1,5 @@
-use Rattle.std.proofs.Common.{◌≡◌, ℕ, List, [], Contains, subst, true, false, ◌∙◌, sym}
-use Rattle.hm_syntax.specs.declared.ast.Import.{Import}
+use Rattle.std.proofs.Common.{◌≡◌, ℕ, List, subst, true, false, ◌∙◌, sym}
 use Rattle.hm_scope.specs.Bindings.{Adds}
-use Rattle.hm_scope.specs.Scope.{known_as, prelude_name}
 use Rattle.hm_scope.proofs.WholeNames.{names_with, names_without}
 use Rattle.hm_scope.proofs.module_names.module_names.Goals as goal
 

@@ -1,10 +1,10 @@
-use Rattle.std.proofs.Common.{◌≡◌, ◌∙◌, ap, sym, subst, map, arith, List}
+use Rattle.std.proofs.Common.{◌≡◌, ◌∙◌, ap, sym, subst, arith}
 use Rattle.hm_types.specs.declared.Head.TheVariants as head
 use Rattle.hm_types.specs.Types.{App}
-use Rattle.hm_types.specs.Monotypes.{Mono, arguments_of}
+use Rattle.hm_types.specs.Monotypes.{arguments_of}
 use Rattle.hm_syntax.specs.Trees.{TypeTree}
 use Rattle.hm_syntax.specs.Views.OfTypes.{type_of as tree_of}
-use Rattle.hm_scope.specs.Types.{entity_of, type_in, program_of}
+use Rattle.hm_scope.specs.Types.{type_in, program_of}
 use Rattle.hm_scope.proofs.TypesOfTrees.{constructor_is, tuple_is}
 use Rattle.hm_scope.proofs.monotypes.+types.Goals as goal
 

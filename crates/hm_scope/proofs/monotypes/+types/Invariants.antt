@@ -1,7 +1,7 @@
 use Rattle.std.proofs.Common.{◌≡◌, ◌++◌, drop, map}
 use Rattle.hm_syntax.specs.Lists.{types}
 use Rattle.hm_syntax.specs.Sizes.{type_size, types_size}
-use Rattle.hm_types.specs.Shape.{type_of, types_of}
+use Rattle.hm_types.specs.Shape.{types_of}
 use Rattle.hm_scope.specs.Types.{type_in, program_of}
 use Rattle.hm_scope.proofs.monotypes.+types.Given as goal
 

@@ -1,4 +1,4 @@
-use Rattle.std.proofs.Common.{◌∙◌, ◌≡◌, List, Bor, map, take, subst}
+use Rattle.std.proofs.Common.{◌∙◌, ◌≡◌, List, Bor, map}
 use Rattle.hm_scope.proofs.SynonymReferences.{used_more, all_of}
 use Rattle.hm_syntax.specs.Names.{Identifier}
 use Rattle.hm_scope.specs.Synonyms.{NamesOwn, AddsReferences}

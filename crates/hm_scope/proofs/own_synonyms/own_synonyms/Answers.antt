@@ -1,4 +1,4 @@
-use Rattle.std.proofs.Common.{take, length}
+use Rattle.std.proofs.Common.{take}
 use Rattle.hm_scope.proofs.SynonymReferences.{more_of}
 use Rattle.hm_syntax.specs.Trees.{Declaration}
 use Rattle.std.proofs.Common.{List}

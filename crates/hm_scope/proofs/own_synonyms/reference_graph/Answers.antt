@@ -1,8 +1,8 @@
-use Rattle.std.proofs.Common.{◌≡◌, List, [], ◌∙◌, sym, subst}
+use Rattle.std.proofs.Common.{List, [], ◌∙◌}
 use Rattle.std.specs.Prelude.{slice_index_or}
 use Rattle.hm_syntax.specs.Trees.{Declaration}
 use Rattle.hm_scope.specs.Synonyms.{RefersIn, AddsReferences}
-use Rattle.hm_scope.proofs.SynonymReferences.{declarations_more, graph_of_references, all_of, no_declarations}
+use Rattle.hm_scope.proofs.SynonymReferences.{declarations_more, graph_of_references, all_of}
 use Rattle.hm_scope.proofs.own_synonyms.reference_graph.Goals as goal
 
 pub decls-preserved : goal.decls-preserved

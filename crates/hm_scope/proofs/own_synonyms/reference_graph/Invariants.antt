@@ -1,4 +1,4 @@
-use Rattle.std.proofs.Common.{◌≡◌, ℕ, List, [], length, take}
+use Rattle.std.proofs.Common.{◌≡◌, List, [], length, take}
 use Rattle.std.specs.Prelude.{slice_index_or}
 use Rattle.hm_types.specs.Interfaces.{Exports as Interface}
 use Rattle.hm_scope.specs.Bindings.{IsScopeOf}

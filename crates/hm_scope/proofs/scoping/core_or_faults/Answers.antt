@@ -1,4 +1,4 @@
-use Rattle.std.proofs.Common.{◌≡◌, ◌∷◌, ◌∙◌, List, Option, map, Bor, ap, sym, subst}
+use Rattle.std.proofs.Common.{◌∷◌, ◌∙◌, List, Option, map, Bor, ap, sym, subst}
 use Rattle.std.specs.Arc.{arc_value}
 use Rattle.hm_types.specs.Interfaces.{Exports as Interface}
 use Rattle.hm_types.specs.StandardPrelude.{prelude_interface}
@@ -6,7 +6,7 @@ use Rattle.hm_scope.specs.declared.faults.Fault.{Fault}
 use Rattle.hm_scope.specs.declared.scoping.Answer.{Answer}
 use Rattle.hm_scope.specs.Bindings.{Pair, IsScopeOf}
 use Rattle.hm_scope.specs.ExportedRows.{HaveOneEntity}
-use Rattle.hm_scope.specs.Faults.Phases.{Importing, AreFaults}
+use Rattle.hm_scope.specs.Faults.Phases.{Importing}
 use Rattle.hm_scope.specs.Answers.{AreExact, IsPhaseAnswer, IsAnswer, IsAnswerBehind, AreExportedRows}
 use Rattle.hm_scope.proofs.ModuleAnswers.{before_importing, core_is}
 use Rattle.hm_scope.proofs.scoping.core_or_faults.Goals as goal

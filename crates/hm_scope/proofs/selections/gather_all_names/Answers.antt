@@ -1,8 +1,6 @@
-use Rattle.std.proofs.Common.{◌≡◌, Contains}
 use Rattle.hm_syntax.specs.declared.ast.Item.{Item}
 use Rattle.hm_scope.specs.NameSets.{FullName}
-use Rattle.hm_scope.specs.Gathered.{bare, type_name, IsOwned, IsNamedBy, IsOpenedBy}
-use Rattle.hm_scope.specs.declared.namespace.Namespace.TheVariants.{Constructors}
+use Rattle.hm_scope.specs.Gathered.{IsNamedBy}
 use Rattle.hm_scope.proofs.AddedPairs.{for_more, for_all}
 use Rattle.hm_scope.proofs.selections.gather_all_names.Goals as goal
 

@@ -1,9 +1,8 @@
-use Rattle.std.proofs.Common.{◌≡◌, take, Contains}
+use Rattle.std.proofs.Common.{take}
 use Rattle.hm_syntax.specs.declared.ast.Item.{Item}
 use Rattle.hm_scope.specs.Bindings.{Adds}
 use Rattle.hm_scope.specs.NameSets.{FullName}
-use Rattle.hm_scope.specs.Gathered.{bare, type_name, IsOwned, IsNamedBy, IsOpenedBy}
-use Rattle.hm_scope.specs.declared.namespace.Namespace.TheVariants.{Constructors}
+use Rattle.hm_scope.specs.Gathered.{IsOpenedBy}
 use Rattle.hm_scope.proofs.AddedPairs.{ForEach}
 use Rattle.hm_scope.proofs.selections.gather_all_opened.Given as goal
 

@@ -1,7 +1,7 @@
-use Rattle.std.proofs.Common.{◌≡◌, Contains}
+use Rattle.std.proofs.Common.{◌≡◌}
 use Rattle.hm_syntax.specs.Names.{Identifier}
 use Rattle.hm_scope.specs.NameSets.{FullName}
-use Rattle.hm_scope.specs.Gathered.{bare, type_name, IsOwned, IsNamedBy, IsOpenedBy}
+use Rattle.hm_scope.specs.Gathered.{bare, IsOwned}
 use Rattle.hm_scope.specs.declared.namespace.Namespace.TheVariants.{Constructors}
 use Rattle.hm_scope.proofs.AddedPairs.{for_more, for_all}
 use Rattle.hm_scope.proofs.selections.gather_parts.Goals as goal

@@ -1,8 +1,8 @@
-use Rattle.std.proofs.Common.{◌≡◌, take, Contains}
+use Rattle.std.proofs.Common.{◌≡◌, take}
 use Rattle.hm_syntax.specs.Names.{Identifier}
 use Rattle.hm_scope.specs.Bindings.{Adds}
 use Rattle.hm_scope.specs.NameSets.{FullName}
-use Rattle.hm_scope.specs.Gathered.{bare, type_name, IsOwned, IsNamedBy, IsOpenedBy}
+use Rattle.hm_scope.specs.Gathered.{bare, IsOwned}
 use Rattle.hm_scope.specs.declared.namespace.Namespace.TheVariants.{Constructors}
 use Rattle.hm_scope.proofs.AddedPairs.{ForEach}
 use Rattle.hm_scope.proofs.selections.gather_parts.Given as goal

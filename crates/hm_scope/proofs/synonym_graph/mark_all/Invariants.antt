@@ -1,4 +1,4 @@
-use Rattle.std.proofs.Common.{◌≡◌, ◌↔◌, ◌⊎◌, ℕ, true, false, take, get_or, Contains, length}
+use Rattle.std.proofs.Common.{◌≡◌, ◌↔◌, ◌⊎◌, ℕ, true, false, take, get_or, Contains}
 use Rattle.hm_scope.proofs.synonym_graph.mark_all.Given as goal
 
 abbrev pub invariant-nodes : goal.invariant-nodes

@@ -1,4 +1,4 @@
-use Rattle.std.proofs.Common.{◌≡◌, ℕ, ◌<◌, length, subst, sym, refl}
+use Rattle.std.proofs.Common.{ℕ, ◌<◌, length, subst, sym}
 use Rattle.std.specs.List.{All}
 use Rattle.hm_graph.specs.Digraph.{lists}
 use Rattle.hm_scope.proofs.SynonymGroups.{group_within, group_marked, groups_marked}

@@ -1,4 +1,4 @@
-use Rattle.std.proofs.Common.{◌≡◌, ◌↔◌, ◌⊎◌, ℕ, true, false, take, get_or, Contains}
+use Rattle.std.proofs.Common.{◌≡◌, ◌↔◌, ◌⊎◌, ℕ, true, false, take, get_or}
 use Rattle.hm_graph.specs.Digraph.{lists}
 use Rattle.hm_scope.specs.SynonymGraphs.{InLargeGroup}
 use Rattle.hm_scope.proofs.synonym_graph.mark_groups.Given as goal

@@ -1,4 +1,4 @@
-use Rattle.std.proofs.Common.{◌≡◌, ◌++◌, ◌∷◌, [], List, map, take, ap, sym, ◌∙◌, subst, refl, arith, Bor, length}
+use Rattle.std.proofs.Common.{◌++◌, ◌∷◌, [], map, ap, subst, arith}
 use Rattle.hm_scope.specs.Described.{described}
 use Rattle.hm_scope.specs.Entities.{named}
 use Rattle.hm_scope.specs.KnownTables.{known_arity, KnowsConstructors}

@@ -1,7 +1,6 @@
-use Rattle.std.proofs.Common.{◌≡◌, ◌++◌, List, map, take}
+use Rattle.std.proofs.Common.{◌++◌, List, map, take}
 use Rattle.hm_scope.specs.Described.{ConstructorDescription}
-use Rattle.hm_scope.specs.Found.{KnownSynonym}
-use Rattle.hm_scope.specs.KnownTables.{known_arity, known_imported, constructor_description, KnowsConstructors}
+use Rattle.hm_scope.specs.KnownTables.{known_arity, constructor_description, KnowsConstructors}
 use Rattle.hm_scope.proofs.tables.add_constructor_entries.Given as goal
 
 abbrev pub invariant-entries : goal.invariant-entries

@@ -1,7 +1,7 @@
-use Rattle.std.proofs.Common.{◌≡◌, ◌++◌, ◌∷◌, [], List, map, take, ap, sym, ◌∙◌, subst, refl, arith, Bor, length}
+use Rattle.std.proofs.Common.{◌++◌, ◌∷◌, [], List, map, ap, sym, ◌∙◌, subst}
 use Rattle.hm_syntax.specs.Trees.{Declaration}
 use Rattle.hm_syntax.specs.Views.OfExpressions.{declaration_of}
-use Rattle.hm_scope.specs.Described.{ConstructorDescription, described, declared_constructors}
+use Rattle.hm_scope.specs.Described.{ConstructorDescription, declared_constructors}
 use Rattle.hm_scope.specs.KnownTables.{known_arity, KnowsConstructors}
 use Rattle.hm_scope.proofs.FirstDescriptions.{declared_row}
 use Rattle.hm_scope.proofs.tables.add_constructors_of.Goals as goal

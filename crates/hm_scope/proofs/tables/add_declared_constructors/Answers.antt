@@ -1,4 +1,4 @@
-use Rattle.std.proofs.Common.{◌≡◌, ◌++◌, ◌∷◌, [], List, map, take, ap, sym, ◌∙◌, subst, refl, arith, Bor, length}
+use Rattle.std.proofs.Common.{◌++◌, List, map, take}
 use Rattle.hm_scope.specs.Described.{ConstructorDescription, declared_constructors}
 use Rattle.hm_scope.specs.KnownTables.{known_arity, KnowsConstructors}
 use Rattle.hm_scope.proofs.FirstDescriptions.{described_more, declared_constructors_join}

@@ -1,7 +1,6 @@
-use Rattle.std.proofs.Common.{◌≡◌, ◌++◌, List, map, take}
+use Rattle.std.proofs.Common.{◌++◌, List, map, take}
 use Rattle.hm_scope.specs.Described.{ConstructorDescription, declared_constructors}
-use Rattle.hm_scope.specs.Found.{KnownSynonym}
-use Rattle.hm_scope.specs.KnownTables.{known_arity, known_imported, KnowsConstructors}
+use Rattle.hm_scope.specs.KnownTables.{known_arity, KnowsConstructors}
 use Rattle.hm_scope.proofs.tables.add_declared_constructors.Given as goal
 
 abbrev pub invariant-decls : goal.invariant-decls

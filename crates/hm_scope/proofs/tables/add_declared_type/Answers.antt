@@ -1,6 +1,5 @@
-use Rattle.std.proofs.Common.{◌≡◌, ◌++◌, ◌∷◌, [], List, map, take, ap, sym, ◌∙◌, subst, refl, arith, Bor, length}
+use Rattle.std.proofs.Common.{◌++◌, ◌∷◌, [], map, ap, sym, ◌∙◌, subst, refl, arith, length}
 use Rattle.hm_scope.specs.Entities.{named}
-use Rattle.hm_syntax.specs.Views.OfTypes.{type_of as tree_of}
 use Rattle.hm_syntax.specs.Trees.{Declaration}
 use Rattle.hm_syntax.specs.Views.OfExpressions.{declaration_of}
 use Rattle.hm_scope.specs.Described.{algebraic, declared_synonym, declared_types}

@@ -1,5 +1,4 @@
-use Rattle.std.proofs.Common.{◌≡◌, ◌++◌, ◌∷◌, [], List, map, take, ap, sym, ◌∙◌, subst, refl, arith, Bor, length}
-use Rattle.hm_scope.specs.Found.{KnownSynonym}
+use Rattle.std.proofs.Common.{◌++◌, List, map, take}
 use Rattle.hm_scope.specs.Described.{TypeDescription, declared_types}
 use Rattle.hm_scope.specs.KnownTables.{known_arity, KnowsTypes}
 use Rattle.hm_scope.proofs.FirstDescriptions.{described_more, declared_types_join}

@@ -1,7 +1,7 @@
-use Rattle.std.proofs.Common.{◌≡◌, ◌++◌, List, map, take}
+use Rattle.std.proofs.Common.{◌++◌, List, map, take}
 use Rattle.hm_scope.specs.Described.{TypeDescription, declared_types}
 use Rattle.hm_scope.specs.Found.{KnownSynonym}
-use Rattle.hm_scope.specs.KnownTables.{known_arity, known_imported, KnowsTypes}
+use Rattle.hm_scope.specs.KnownTables.{known_arity, KnowsTypes}
 use Rattle.hm_scope.proofs.tables.add_declared_types.Given as goal
 
 abbrev pub invariant-decls : goal.invariant-decls

@@ -1,7 +1,7 @@
-use Rattle.std.proofs.Common.{◌≡◌, ◌++◌, ◌∷◌, [], List, map, take, ap, sym, ◌∙◌, subst, refl, arith, Bor, length}
+use Rattle.std.proofs.Common.{◌++◌, List, map, take, Bor}
 use Rattle.hm_types.specs.Interfaces.{Exports as Interface}
 use Rattle.hm_scope.specs.Described.{ConstructorDescription, imported_constructors}
-use Rattle.hm_scope.specs.KnownTables.{known_arity, constructor_description, KnowsConstructors}
+use Rattle.hm_scope.specs.KnownTables.{known_arity, KnowsConstructors}
 use Rattle.hm_scope.proofs.FirstDescriptions.{described_more, imported_constructors_join, one_more_row}
 use Rattle.hm_scope.proofs.tables.add_imported_constructors.Goals as goal
 

@@ -1,7 +1,6 @@
-use Rattle.std.proofs.Common.{◌≡◌, ◌++◌, List, map, take}
+use Rattle.std.proofs.Common.{◌++◌, List, map, take}
 use Rattle.hm_scope.specs.Described.{ConstructorDescription, imported_constructors}
-use Rattle.hm_scope.specs.Found.{KnownSynonym}
-use Rattle.hm_scope.specs.KnownTables.{known_arity, known_imported, KnowsConstructors}
+use Rattle.hm_scope.specs.KnownTables.{known_arity, KnowsConstructors}
 use Rattle.hm_scope.proofs.tables.add_imported_constructors.Given as goal
 
 abbrev pub invariant-interfaces : goal.invariant-interfaces

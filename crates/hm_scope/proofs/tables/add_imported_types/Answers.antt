@@ -1,7 +1,7 @@
-use Rattle.std.proofs.Common.{◌≡◌, ◌++◌, ◌∷◌, [], List, map, take, ap, sym, ◌∙◌, subst, refl, arith, Bor, length}
+use Rattle.std.proofs.Common.{◌++◌, List, map, take, Bor}
 use Rattle.hm_types.specs.Interfaces.{Exports as Interface}
 use Rattle.hm_scope.specs.Described.{TypeDescription, imported_types}
-use Rattle.hm_scope.specs.KnownTables.{known_arity, known_imported, type_description, synonym_description, KnowsTypes}
+use Rattle.hm_scope.specs.KnownTables.{known_arity, known_imported, type_description, KnowsTypes}
 use Rattle.hm_scope.proofs.FirstDescriptions.{described_more, imported_types_join, two_more}
 use Rattle.hm_scope.proofs.tables.add_imported_types.Goals as goal
 

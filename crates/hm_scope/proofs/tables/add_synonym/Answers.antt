@@ -1,5 +1,5 @@
-use Rattle.std.proofs.Common.{◌≡◌, ◌++◌, ◌∷◌, [], List, map, take, ap, sym, ◌∙◌, subst, refl, arith, Bor, length}
-use Rattle.hm_scope.specs.KnownTables.{known_arity, known_imported, synonym_description}
+use Rattle.std.proofs.Common.{map, ◌∙◌, refl}
+use Rattle.hm_scope.specs.KnownTables.{known_imported, synonym_description}
 use Rattle.hm_scope.proofs.FirstDescriptions.{synonym_known, synonym_new}
 use Rattle.hm_scope.proofs.tables.add_synonym.Goals as goal
 

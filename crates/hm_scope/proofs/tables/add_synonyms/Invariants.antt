@@ -1,6 +1,5 @@
-use Rattle.std.proofs.Common.{◌≡◌, ◌++◌, List, map, take}
+use Rattle.std.proofs.Common.{◌++◌, List, map, take}
 use Rattle.hm_scope.specs.Described.{TypeDescription}
-use Rattle.hm_scope.specs.Found.{KnownSynonym}
 use Rattle.hm_scope.specs.KnownTables.{known_arity, known_imported, synonym_description, KnowsTypes}
 use Rattle.hm_scope.proofs.tables.add_synonyms.Given as goal
 

@@ -1,7 +1,7 @@
-use Rattle.std.proofs.Common.{◌≡◌, ◌++◌, List, map, take}
+use Rattle.std.proofs.Common.{◌++◌, List, map, take}
 use Rattle.hm_scope.specs.Described.{TypeDescription}
 use Rattle.hm_scope.specs.Found.{KnownSynonym}
-use Rattle.hm_scope.specs.KnownTables.{known_arity, known_imported, type_description, KnowsTypes}
+use Rattle.hm_scope.specs.KnownTables.{known_arity, type_description, KnowsTypes}
 use Rattle.hm_scope.proofs.tables.add_types.Given as goal
 
 abbrev pub invariant-entries : goal.invariant-entries

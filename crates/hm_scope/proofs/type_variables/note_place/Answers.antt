@@ -1,4 +1,4 @@
-use Rattle.std.proofs.Common.{◌≡◌, ℕ, List, Some, ◌∙◌, sym, ap, bytes_eq}
+use Rattle.std.proofs.Common.{Some, ◌∙◌, sym, ap, bytes_eq}
 use Rattle.std.proofs.lemmas.Map.Text.{hash_map_updates_str}
 use Rattle.std.specs.Map.{update}
 use Rattle.hm_scope.specs.TypeVariables.{place_in}

@@ -3,7 +3,7 @@ use Rattle.std.specs.Map.{lookup}
 use Rattle.std.proofs.lemmas.List.{length-map}
 use Rattle.hm_groups.specs.Variables.{Variable, variable_of}
 use Rattle.hm_groups.specs.Keys.{number_of, nodes_of, same_variable, variable_of_key, IsNode, IsNumbering}
-use Rattle.hm_groups.proofs.Numberings.{inserted, IsNumbering-more, IsNumbering-same, nodes_of-push, take_all_but}
+use Rattle.hm_groups.proofs.Numberings.{updated, IsNumbering-more, IsNumbering-same, nodes_of-push, take_all_but}
 use Rattle.hm_groups.proofs.numbers.Numbers.add.Goals as goal
 
 pub invariant_of-self-in-Ok : goal.invariant_of-self-in-Ok
@@ -12,7 +12,7 @@ invariant_of-self-in-Ok c =
     let x : Variable = variable_of c.args.name.now in
     let count : c.len-number.result ≡ length nodes = omega (arith, c.len-number.ensures, c.self.inside.nodes.ok.0, length-map c.self.inside.nodes.items (λ k. Rattle.std.specs.Prelude.option_map variable_of_key k)) in
     let u : (y : Variable) → number_of c.insert.new.self y ≡ cond (same_variable x y) (Some (length nodes)) (number_of c.self.inside.table y) =
-    λ y. inserted c.self.inside.table c.insert.new.self c.key_of-key.result x c.len-number.result c.key_of-key.ensures c.in-Ok.ensures.updates.0 y ∙ ap (λ n. cond (same_variable x y) (Some n) (number_of c.self.inside.table y)) count in
+    λ y. updated c.self.inside.table c.insert.new.self c.key_of-key.result x (Some c.len-number.result) c.key_of-key.ensures c.in-Ok.ensures.updates.0 y ∙ ap (λ n. cond (same_variable x y) (Some n) (number_of c.self.inside.table y)) count in
     subst (λ ns. IsNumbering ns c.insert.new.self)
     (sym (ap nodes_of c.in_ok-push.ensures.items ∙ (nodes_of-push c.self.inside.nodes.items (Some c.key_of-key.result) ∙ ap (λ z. nodes ++ Some z ∷ []) c.key_of-key.ensures)))
     (IsNumbering-more nodes c.self.inside.table c.insert.new.self x c.self.invariant (subst (λ ns. ¬ (IsNode ns x)) (sym c.self.view_is) c.in-None.ensures.none) u)

@@ -6,6 +6,8 @@ use Rattle.hm_infer.specs.Environments.{AreAssumed}
 use Rattle.hm_infer.specs.Kept.{assumed_of, entries_of}
 use Rattle.hm_infer.proofs.Tables.{stack_length, truncated}
 use Rattle.hm_infer.proofs.Quantifying.{keeps}
+use Rattle.hm_infer.specs.Places.{HaveRuns}
+use Rattle.hm_infer.proofs.ClosedRuns.{runs_taken}
 use Rattle.hm_infer.proofs.Closing.{assumed_take, free_only}
 use Rattle.hm_infer.proofs.environment.Environment.free_variables.Goals as goal
 
@@ -18,7 +20,10 @@ slice_bounds-gather_all-end c =
 pub gather_all-requires : goal.gather_all-requires
 gather_all-requires c =
     let view = ap entries_of c.deref.ensures.value ∙ c.self.view_is in
-    assumed_take c.args.solver.now.given c.deref.result.now c.args.depth (subst (AreAssumed c.args.solver.now.given) (sym view) c.requires.given) (omega (arith, c.requires.depth, ap length view, stack_length assumed_of c.deref.result.now []))
+    record {
+      given = assumed_take c.args.solver.now.given c.deref.result.now c.args.depth (subst (AreAssumed c.args.solver.now.given) (sym view) c.requires.given) (omega (arith, c.requires.depth, ap length view, stack_length assumed_of c.deref.result.now []));
+      runs = runs_taken c.deref.result.now c.args.depth (subst HaveRuns (sym c.deref.ensures.value) c.self.invariant.1);
+    }
 
 pub returns : goal.returns
 returns c = λ added base e l.

@@ -1,17 +1,30 @@
-use Rattle.std.proofs.Common.{[], sym, ap, ◌∙◌, subst, true≢false}
+use Rattle.std.proofs.Common.{◌≡◌, Some, None, refl, sym, subst, ap, ◌∙◌, arith, length}
+use Rattle.std.proofs.lemmas.Option.{slice_get_read}
 use Rattle.hm_types.specs.Shape.{type_of}
-use Rattle.hm_infer.specs.Patterns.{IsTypeOf}
-use Rattle.hm_infer.specs.Kept.{variables_of}
+use Rattle.hm_typing.specs.Names.{IsOneOf}
+use Rattle.hm_groups.specs.Keys.{number_of}
+use Rattle.hm_groups.specs.Variables.{variable_of}
+use Rattle.hm_groups.proofs.Numberings.{look_up}
+use Rattle.hm_infer.specs.Patterns.{IsTypeOf, names_of}
 use Rattle.hm_scope.specs.Syntax.{name_of}
-use Rattle.hm_infer.proofs.Tables.{found_at, none_more}
+use Rattle.hm_infer.proofs.Placed.{noted_inside, noted_type}
 use Rattle.hm_infer.proofs.variables.Variables.find.Goals as goal
 
-pub returns-then-is_of : goal.returns-then-is_of
-returns-then-is_of c =
-    let x = name_of c.args.name.now in
-    subst (IsTypeOf x (type_of c.item-item.result.ty)) (ap variables_of c.deref-item-items.ensures.value ∙ c.self.view_is)
-    (found_at x c.deref-item-items.result.now c.loop-item.item-index c.item-item.result [] c.loop-item-test.true c.item-item.is (c.is_of.ensures.0 c.if-is_of.true))
+pub index-requires : goal.index-requires
+index-requires c =
+    let e : number_of c.self.inside.places (variable_of c.args.name.now) ≡ Some c.in-Some.place.now = sym (look_up c.self.inside.places c.key_of.result (variable_of c.args.name.now) c.key_of.ensures) ∙ sym c.in-Some.ensures.value in
+    let h = noted_inside c.self.inside.items.items c.self.inside.places (variable_of c.args.name.now) c.in-Some.place.now c.self.invariant e in
+    omega (arith, h, c.self.inside.items.ok.0)
 
-pub loop-item-preserved : goal.loop-item-preserved
-loop-item-preserved c =
-    none_more (name_of c.args.name.now) _ c.loop-item.item-index c.item-item.result c.loop-item-test.true c.item-item.is (λ e. true≢false (sym (c.is_of.ensures.1 e) ∙ c.if-is_of.false)) c.loop-item.invariant
+pub returns-in-Some : goal.returns-in-Some
+returns-in-Some c =
+    let e : number_of c.self.inside.places (variable_of c.args.name.now) ≡ Some c.in-Some.place.now = sym (look_up c.self.inside.places c.key_of.result (variable_of c.args.name.now) c.key_of.ensures) ∙ sym c.in-Some.ensures.value in
+    let h = noted_inside c.self.inside.items.items c.self.inside.places (variable_of c.args.name.now) c.in-Some.place.now c.self.invariant e in
+    subst (λ vs. IsTypeOf (name_of c.args.name.now) (type_of c.index.result.now.ty) vs) c.self.view_is
+    (noted_type c.self.inside.items.items c.self.inside.places (variable_of c.args.name.now) c.in-Some.place.now c.index.result.now c.self.invariant e
+    (slice_get_read c.self.inside.items.items (length c.self.inside.items.items) c.in-Some.place.now c.index.result.now refl h c.index.ensures))
+
+pub returns-in-None : goal.returns-in-None
+returns-in-None c =
+    let e : number_of c.self.inside.places (variable_of c.args.name.now) ≡ None = sym (look_up c.self.inside.places c.key_of.result (variable_of c.args.name.now) c.key_of.ensures) ∙ sym c.in-None.ensures.value in
+    subst (λ vs. ¬ (IsOneOf (name_of c.args.name.now) (names_of vs))) c.self.view_is (c.self.invariant.none (variable_of c.args.name.now) e)

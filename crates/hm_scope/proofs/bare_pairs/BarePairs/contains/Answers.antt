@@ -1,4 +1,4 @@
-use Rattle.std.proofs.Common.{◌≡◌, List, sym, ◌∙◌, subst, Contains}
+use Rattle.std.proofs.Common.{sym, ◌∙◌, subst, Contains}
 use Rattle.hm_scope.specs.declared.bare_pairs.BareKey.{BareKey}
 use Rattle.hm_scope.specs.BarePairs.{pairs_at}
 use Rattle.hm_scope.specs.Bindings.{Pair}

@@ -1,5 +1,4 @@
-use Rattle.std.proofs.Common.{◌≡◌, List, subst}
-use Rattle.hm_scope.specs.declared.bare_pairs.BareKey.{BareKey}
+use Rattle.std.proofs.Common.{◌≡◌, subst}
 use Rattle.hm_scope.specs.BarePairs.{pairs_at}
 use Rattle.hm_scope.specs.Bindings.{Pair, Adds}
 use Rattle.hm_scope.proofs.BareSets.{after_insert}

@@ -1,4 +1,4 @@
-use Rattle.std.proofs.Common.{◌≡◌, ap, ◌∙◌, is_some, List}
+use Rattle.std.proofs.Common.{ap, ◌∙◌, is_some}
 use Rattle.hm_scope.specs.Texts.{is_text_among}
 use Rattle.hm_scope.specs.Found.{all_of}
 use Rattle.hm_scope.proofs.DepthTables.{has_depth}

@@ -1,4 +1,4 @@
-use Rattle.std.proofs.Common.{◌≡◌, List, refl, ap, ◌∙◌}
+use Rattle.std.proofs.Common.{◌≡◌, refl, ap, ◌∙◌}
 use Rattle.hm_syntax.specs.Lists.{patterns}
 use Rattle.hm_scope.specs.Resolved.{pattern_with}
 use Rattle.hm_scope.specs.Found.{Walking, resolver_of, binder_of, pattern_faults, patterns_faults}

@@ -1,4 +1,4 @@
-use Rattle.std.proofs.Common.{◌≡◌, Bool, List, false, arith, ap, length, ◌∙◌, get_or, replicate, rules}
+use Rattle.std.proofs.Common.{◌≡◌, Bool, List, false, arith, ap, ◌∙◌, get_or, replicate, rules}
 use Rattle.hm_scope.proofs.SynonymGroups.{no_loops, clear}
 use Rattle.hm_scope.proofs.synonym_graph.SynonymGraph.new.Goals as goal
 

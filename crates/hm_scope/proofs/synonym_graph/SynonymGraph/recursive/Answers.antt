@@ -1,4 +1,4 @@
-use Rattle.std.proofs.Common.{◌≡◌, ◌++◌, ℕ, ◌<◌, ◌⊎◌, ◌↔◌, List, Bool, Vec, true, false, length, subst, sym, ap, ◌∙◌, get_or, arith, rules}
+use Rattle.std.proofs.Common.{◌≡◌, ◌++◌, ℕ, ◌<◌, ◌⊎◌, ◌↔◌, List, Bool, Vec, true, false, length, subst, sym, ap, ◌∙◌, get_or, arith}
 use Rattle.std.specs.List.{All}
 use Rattle.std.specs.declared.alloc.Global.{Global}
 use Rattle.std.proofs.lemmas.List.{with_items_is}

@@ -1,7 +1,6 @@
-use Rattle.std.proofs.Common.{◌≡◌, ◌++◌, ◌∷◌, [], List, map, take, ap, sym, ◌∙◌, subst, refl, arith, Bor, length}
-use Rattle.hm_scope.specs.KnownTables.{known_own, known_imported}
+use Rattle.std.proofs.Common.{map}
+use Rattle.hm_scope.specs.KnownTables.{known_imported}
 use Rattle.hm_scope.proofs.FirstDescriptions.{own_put}
-use Rattle.hm_types.specs.declared.Entity.{Entity}
 use Rattle.hm_scope.proofs.tables.Tables.add_synonym.Goals as goal
 
 pub returns-clause-synonyms : goal.returns-clause-synonyms

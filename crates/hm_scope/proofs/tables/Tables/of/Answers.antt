@@ -1,6 +1,6 @@
-use Rattle.std.proofs.Common.{◌≡◌, ◌++◌, [], List, map, ap, Bor, sym, subst}
+use Rattle.std.proofs.Common.{[], map, Bor}
 use Rattle.hm_types.specs.Interfaces.{Exports as Interface}
-use Rattle.hm_scope.specs.KnownTables.{known_arity, known_own, known_imported, KnowsTypes, KnowsConstructors}
+use Rattle.hm_scope.specs.KnownTables.{known_arity, known_imported, KnowsTypes, KnowsConstructors}
 use Rattle.hm_scope.proofs.FirstDescriptions.{knows_nothing, knows_no_constructor, types_of_module, constructors_of_module}
 use Rattle.hm_scope.proofs.tables.Tables.of.Goals as goal
 

@@ -1,4 +1,4 @@
-use Rattle.std.proofs.Common.{◌≡◌, ap, sym, ◌∙◌}
+use Rattle.std.proofs.Common.{ap, ◌∙◌}
 use Rattle.hm_scope.specs.Texts.{is_text_among}
 use Rattle.hm_scope.proofs.TypePlaces.{place_known}
 use Rattle.hm_scope.proofs.type_variables.TypeVariables.contains.Goals as goal

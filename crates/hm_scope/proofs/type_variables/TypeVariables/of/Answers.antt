@@ -1,4 +1,4 @@
-use Rattle.std.proofs.Common.{ap, map, ◌∙◌, sym}
+use Rattle.std.proofs.Common.{ap, ◌∙◌, sym}
 use Rattle.std.proofs.lemmas.Simd.{map-map}
 use Rattle.hm_scope.specs.Variables.{texts}
 use Rattle.hm_scope.proofs.type_variables.TypeVariables.of.Goals as goal

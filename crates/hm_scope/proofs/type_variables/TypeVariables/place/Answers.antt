@@ -1,4 +1,4 @@
-use Rattle.std.proofs.Common.{◌≡◌, ap, sym, ◌∙◌, length, None}
+use Rattle.std.proofs.Common.{◌≡◌, ap, sym, ◌∙◌, None}
 use Rattle.std.proofs.lemmas.List.{length-map}
 use Rattle.hm_scope.specs.Types.{place}
 use Rattle.hm_scope.specs.TypeVariables.{place_in}

@@ -1,0 +1,104 @@
+//! How `run` ends at its bounds, and where its devices fail.
+use crate::check::check_run;
+use crate::devices::{Short, Slow, Then};
+use hm_build::{Options, RunFault, Status, Watched, run};
+use std::test::Fail;
+
+const OPTIONS: Options = Options {
+    workers: 4,
+    journal: false,
+};
+
+#[test]
+fn reports_a_source_of_the_greatest_length(rt: HostRuntime) -> Result<(), Fail> {
+    let source = vec![in rt.alloc(); b' '; 1_048_576]?;
+    check_run(
+        &rt,
+        source.as_slice(),
+        Status::Good,
+        b"0 modules: 0 good, 0 faulty, 0 skipped\n",
+    )?;
+    Ok(())
+}
+
+#[test]
+fn reports_the_most_modules(rt: HostRuntime) -> Result<(), Fail> {
+    let mut source = String::new(rt.alloc());
+    for number in 0..256usize {
+        write!(source, "module M{number} where {{ }}\n")?;
+    }
+    let mut readers = [Watched::new(source.as_bytes())];
+    let mut printed = Vec::new(rt.alloc());
+    let mut writer = Watched::new(&mut printed);
+    let ended = run(
+        &rt,
+        rt.alloc(),
+        readers.as_mut_slice(),
+        &mut writer,
+        OPTIONS,
+    );
+    assert_eq!(rt; ended, Ok(Status::Good));
+    assert!(rt;
+        printed
+            .as_slice()
+            .starts_with(b"module M0\nmodule M1\nmodule M10\n")
+    );
+    assert!(rt;
+        printed.as_slice().ends_with(b"module M99\n256 modules: 256 good, 0 faulty, 0 skipped\n")
+    );
+    Ok(())
+}
+
+#[test]
+fn refuses_numbers_of_workers(rt: HostRuntime) -> Result<(), Fail> {
+    for workers in [0usize, 17] {
+        let source: &[u8] = b"module A where { x = }";
+        let mut readers = [Watched::new(source)];
+        let mut printed = Vec::new(rt.alloc());
+        let mut writer = Watched::new(&mut printed);
+        let options = Options {
+            workers,
+            journal: false,
+        };
+        let ended = run(
+            &rt,
+            rt.alloc(),
+            readers.as_mut_slice(),
+            &mut writer,
+            options,
+        );
+        assert_eq!(rt; ended, Err(RunFault::Workers));
+        assert_eq!(rt; readers[0].reads(), 0);
+        assert!(rt; printed.is_empty());
+    }
+    Ok(())
+}
+
+#[test]
+fn answers_failed_devices(rt: HostRuntime) -> Result<(), Fail> {
+    let mut readers = [Watched::new(Slow::new(b"", 1))];
+    let mut device = Short::new(rt.alloc(), 9, Then::Fails);
+    let mut writer = Watched::new(&mut device);
+    let ended = run(
+        &rt,
+        rt.alloc(),
+        readers.as_mut_slice(),
+        &mut writer,
+        OPTIONS,
+    );
+    assert_eq!(rt; ended, Err(RunFault::Read));
+    assert!(rt; device.taken.is_empty());
+    let mut readers: [Watched<&[u8]>; 0] = [];
+    let mut device = Short::new(rt.alloc(), 5, Then::Fails);
+    let mut writer = Watched::new(&mut device);
+    let ended = run(
+        &rt,
+        rt.alloc(),
+        readers.as_mut_slice(),
+        &mut writer,
+        OPTIONS,
+    );
+    assert_eq!(rt; ended, Err(RunFault::Write));
+    assert!(rt; device.taken.as_slice() == b"0 mod".as_slice());
+    Ok(())
+}

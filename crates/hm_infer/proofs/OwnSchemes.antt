@@ -1,0 +1,131 @@
+-- The canonical schemes of a module's own variables.
+use Rattle.std.proofs.Common.{◌≡◌, ℕ, ◌+◌, ◌<◌, ◌≤◌, List, [], ◌∷◌, length, take, get_or, Bool, true, false, if◌then◌else◌, Option, Some, bytes_eq, inl, inr, ⊎_elim, ◌↔◌, refl, sym, ap, ◌∙◌, subst}
+use Rattle.std.proofs.lemmas.Slice.Eq.{bytes_eq-Decides}
+use Rattle.std.proofs.lemmas.List.{take_all}
+use Rattle.hm_types.specs.Monotypes.{Mono}
+use Rattle.hm_types.specs.Schemes.{TypeScheme, canonical_of}
+use Rattle.hm_types.specs.Shape.{type_of}
+use Rattle.hm_types.specs.Types.{Var, put}
+use Rattle.hm_types.specs.declared.Entity.{Entity}
+use Rattle.hm_types.specs.Interfaces.{Exports as Interface}
+use Rattle.hm_typing.specs.Names.{Identifier, local, global, binding}
+use Rattle.hm_typing.specs.Assumptions.{Has, assumptions_put}
+use Rattle.hm_typing.specs.Schemes.{Monotype, IsInstance, instance, scheme_put}
+use Rattle.hm_typing.specs.Programs.{scheme_of}
+use Rattle.hm_typing.specs.Syntax.{names}
+use Rattle.hm_typing.proofs.Bind.{Has-Sees, Sees-Has}
+use Rattle.hm_typing.proofs.Names.{name_discrete}
+use Rattle.hm_unify.specs.WellFormed.{IsWellFormed}
+use Rattle.hm_syntax.specs.declared.ast.Module.{Module}
+use Rattle.hm_scope.specs.Cores.{IsCore, IsTop, syntax_of}
+use Rattle.hm_scope.specs.Cores as cores
+use Rattle.hm_scope.specs.ModuleCores.{ModuleCore}
+use Rattle.hm_scope.proofs.TopEntities.{top_is_bound}
+use Rattle.hm_verdicts.specs.ModuleVerdicts.{ArePrincipal, IsCanonical, AreEquallyGeneral}
+use Rattle.hm_infer.specs.Environments.{Assumed, AreAssumed, OpenScheme, IsSchemeOf, assumptions, opened, scheme_in}
+use Rattle.hm_infer.specs.Kept.{assumed_of, entries_of}
+use Rattle.hm_infer.specs.OwnSchemes.{HaveCanonical, canonical_scheme}
+use Rattle.hm_infer.specs.PrincipalLists.{IsInferred}
+use Rattle.hm_infer.specs.declared.environment.Binding.{Binding}
+use Rattle.hm_infer.proofs.CanonicalSchemes.{canonical_instances, canonical_whole, in_order_canonical}
+use Rattle.hm_infer.proofs.Tables.{stack_one_more}
+
+abbrev own : List ℕ → List ℕ → Identifier
+own home x = global (record { «module» = home; name = x })
+
+name_in : Identifier → List ℕ
+name_in (local x) = x
+name_in (global e) = e.name
+name_in (binding m k) = []
+
+-- One more scheme
+
+pub none_put : (home : List ℕ) (b : Binding) (given : List ℕ → Option TypeScheme) → ((x : List ℕ) → ¬ ((assumed_of b).name ≡ own home x)) → (es : List Assumed) → HaveCanonical home es given → HaveCanonical home (assumed_of b ∷ es) given
+none_put home b given n es h x s i = ⊎_elim (λ p. absurd (n x p.0)) (λ p. h x s p.1) i
+
+pub one_put : (home text : List ℕ) (b : Binding) (u : Mono) (scheme : TypeScheme) (given given1 : List ℕ → Option TypeScheme) → (assumed_of b).name ≡ own home text → u ≡ put (opened false b.quantified 0) (type_of b.body) → scheme ≡ canonical_of u →
+    ((x : List ℕ) → given1 x ≡ (if bytes_eq text x then Some scheme else given x)) → (es : List Assumed) → HaveCanonical home es given → HaveCanonical home (assumed_of b ∷ es) given1
+unfolding name_in
+one_put home text b u scheme given given1 named e f g es h x s i = at (bytes_eq text x) refl
+  where
+    same : bytes_eq text x ≡ true → text ≡ x
+    same t = (bytes_eq-Decides text x).0 t
+
+    here : given1 x ≡ Some scheme → text ≡ x → given1 x ≡ Some (canonical_scheme s)
+    here k t = ⊎_elim (λ p. k ∙ ap Some (f ∙ ap canonical_of e) ∙ ap (λ z. Some (canonical_scheme z)) p.1) (λ p. absurd (p.0 (named ∙ ap (own home) t))) i
+
+    there : given1 x ≡ given x → ¬ (text ≡ x) → given1 x ≡ Some (canonical_scheme s)
+    there k t = ⊎_elim (λ p. absurd (t (ap name_in (sym named ∙ p.0)))) (λ p. k ∙ h x s p.1) i
+
+    at : (c : Bool) → bytes_eq text x ≡ c → given1 x ≡ Some (canonical_scheme s)
+    at true t = here (g x ∙ ap (λ c. if c then Some scheme else given x) t) (same t)
+    at false t = there (g x ∙ ap (λ c. if c then Some scheme else given x) t) (λ k. clash (sym ((bytes_eq-Decides text x).1 k) ∙ t))
+      where
+        clash : true ≡ false → ⊥
+        clash z = cc
+
+pub step_put : (home : List ℕ) (bs : List Binding) (i : ℕ) (b : Binding) (given given1 : List ℕ → Option TypeScheme) → i < length bs → b ≡ get_or bs i b → HaveCanonical home (entries_of (take i bs)) given →
+    ((es : List Assumed) → HaveCanonical home es given → HaveCanonical home (assumed_of b ∷ es) given1) → HaveCanonical home (entries_of (take (i + 1) bs)) given1
+step_put home bs i b given given1 l e h f = subst (λ es. HaveCanonical home es given1) (sym (stack_one_more assumed_of bs i b l e)) (f (entries_of (take i bs)) h)
+
+pub all_put : (home : List ℕ) (bs : List Binding) (i : ℕ) (given : List ℕ → Option TypeScheme) (es : List Assumed) → length bs ≤ i → entries_of bs ≡ es → HaveCanonical home (entries_of (take i bs)) given → HaveCanonical home es given
+all_put home bs i given es l e h = subst (λ z. HaveCanonical home z given) (ap entries_of (take_all i bs l) ∙ e) h
+
+-- What is assumed of a name, by its innermost assumption
+
+assumed_scheme : (es : List Assumed) (x : Identifier) (s : OpenScheme) → AreAssumed 0 es → IsSchemeOf x s es → IsWellFormed (s.quantified + 0) s.body
+assumed_scheme [] x s a i = absurd i
+assumed_scheme (e ∷ es) x s a (inl p) = subst (λ z. IsWellFormed (z.quantified + 0) z.body) p.1 a.0
+assumed_scheme (e ∷ es) x s a (inr p) = assumed_scheme es x s a.1 p.1
+
+record Found (es : List Assumed) (r : ℕ → Monotype) (x : Identifier) : Type 0 where
+  scheme : OpenScheme
+  is : IsSchemeOf x scheme es
+  has : (t : Monotype) → Has (assumptions_put r (assumptions es)) x t ↔ IsInstance t (scheme_put r (scheme_in scheme))
+
+found_in : (es : List Assumed) (r : ℕ → Monotype) (x : Identifier) (t : Monotype) → Has (assumptions_put r (assumptions es)) x t → Found es r x
+found_in [] r x t h = absurd h
+found_in (e ∷ es) r x t h = at (name_discrete x e.name) h (found_in es r x t)
+  where
+    at : Dec (x ≡ e.name) → Has (assumptions_put r (assumptions (e ∷ es))) x t → (Has (assumptions_put r (assumptions es)) x t → Found es r x) → Found (e ∷ es) r x
+    at (yes k) i f = record {
+      scheme = e.scheme;
+      is = inl (sym k, refl);
+      has = λ v. ((λ j. ⊎_elim (λ p. p.1) (λ p. absurd (p.0 k)) j), (λ j. inl (k, j)));
+    }
+    at (no n) i f =
+        let g = f (⊎_elim (λ p. absurd (n p.0)) (λ p. p.1) i) in
+        record {
+          scheme = g.scheme;
+          is = inr ((λ k. n (sym k)), g.is);
+          has = λ v. ((λ j. (g.has v).0 (⊎_elim (λ p. absurd (n p.0)) (λ p. p.1) j)), (λ j. inr (n, (g.has v).1 j)));
+        }
+
+-- They are as general as the principal ones
+
+pub are_principal : (m : Module) (fs : List Interface) (c : ModuleCore) → IsCore m fs c → (es es1 : List Assumed) → assumptions es ≡ cores.assumptions c → AreAssumed 0 es1 → IsInferred (syntax_of c) es es1 → (given : List ℕ → Option TypeScheme) → HaveCanonical c.name es1 given → ArePrincipal c given
+are_principal m fs c core es es1 base closed i given have = record {
+  schemes = i.schemes;
+  principal = subst (λ A. Rattle.hm_typing.specs.BindingLists.HasPrincipalSchemes A (syntax_of c) i.schemes) base i.principal;
+  each = each;
+}
+  where
+    each : (e : Entity) → IsTop c e → (s : TypeScheme) × ((given e.name ≡ Some s) × IsCanonical s × AreEquallyGeneral (i.schemes (global e)) (scheme_of s))
+    each e top =
+        let x : Identifier = global e in
+        let home : e.«module» ≡ c.name = ((top_is_bound m fs c core e).0 top).0 in
+        let t0 = instance (i.schemes (global e)) Var in
+        let f = found_in es1 i.map (global e) t0 ((i.seen (global e) tt t0).1 (Sees-Has (names (syntax_of c)) i.schemes (assumptions es) (global e) t0 (inl (top, (Var, refl))))) in
+        let w = assumed_scheme es1 (global e) f.scheme closed f.is in
+        let here : IsSchemeOf (own c.name e.name) f.scheme es1 = subst (λ h. IsSchemeOf (own h e.name) f.scheme es1) home f.is in
+        let whole = canonical_whole f.scheme w in (
+          canonical_scheme f.scheme,
+          (
+            have e.name f.scheme here,
+            record { not_rigid = whole.not_rigid; numbered = in_order_canonical (canonical_scheme f.scheme) whole },
+            (
+              (λ t j. (canonical_instances f.scheme w i.map t).0 ((f.has t).0 ((i.seen (global e) tt t).1 (Sees-Has (names (syntax_of c)) i.schemes (assumptions es) (global e) t (inl (top, j)))))),
+              (λ t j. ⊎_elim (λ p. p.1) (λ p. absurd (p.0 top)) (Has-Sees (names (syntax_of c)) i.schemes (assumptions es) (global e) t ((i.seen (global e) tt t).0 ((f.has t).1 ((canonical_instances f.scheme w i.map t).1 j))))),
+            ),
+          ),
+        )

@@ -1,0 +1,7 @@
+use Rattle.std.proofs.Common.{◌≡◌, ◌++◌, map, drop}
+use Rattle.hm_scope.specs.Cores.{scheme_in}
+use Rattle.hm_infer.specs.Kept.{schemes_of}
+use Rattle.hm_infer.proofs.declaring.add_constructors.Given as goal
+
+abbrev pub invariant-constrs : goal.invariant-constrs
+invariant-constrs l = schemes_of l.entries.items ++ map (scheme_in l.home l.owner l.params) (drop l.constr-index l.constrs) ≡ schemes_of l.initial.entries.items ++ map (scheme_in l.home l.owner l.params) l.constrs

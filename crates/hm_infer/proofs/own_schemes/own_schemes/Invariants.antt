@@ -1,0 +1,8 @@
+use Rattle.std.proofs.Common.{take}
+use Rattle.hm_scope.specs.SchemeTables.{scheme_of}
+use Rattle.hm_infer.specs.Kept.{entries_of}
+use Rattle.hm_infer.specs.OwnSchemes.{HaveCanonical}
+use Rattle.hm_infer.proofs.own_schemes.own_schemes.Given as goal
+
+abbrev pub invariant-bindings : goal.invariant-bindings
+invariant-bindings l = HaveCanonical l.home (entries_of (take l.binding-index l.binding-items)) (scheme_of l.schemes)

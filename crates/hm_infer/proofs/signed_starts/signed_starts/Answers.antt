@@ -1,0 +1,8 @@
+use Rattle.hm_graph.specs.Digraph.{lists}
+use Rattle.hm_syntax.specs.Lists.{declarations}
+use Rattle.hm_infer.specs.Constructors.{known_of}
+use Rattle.hm_infer.proofs.SignedStarts.{tells_signed}
+use Rattle.hm_infer.proofs.signed_starts.signed_starts.Goals as goal
+
+pub returns : goal.returns
+returns c = tells_signed (known_of c.args.constructors.now) c.args.decls.now c.args.found.now.numbers (lists c.args.found.now.rows.items) (lists c.args.found.now.groups.items) c.args.environment.now c.args.typed.now c.in_ok-signed_faults.field-0.items c.requires.closed (c.in_ok-signed_faults.ensures.told (declarations c.args.decls.now) c.requires.signatures)

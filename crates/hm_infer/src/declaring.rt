@@ -1,0 +1,143 @@
+//! The constructors that a core declares and imports (Haskell 98 Report, sections 4.2.1 and 4.2.3).
+
+ghost use Rattle.std.specs.Prelude.{◌≡◌, ◌++◌, ◌∷◌, [], IfOk, OnOk, Contains, map};
+ghost use Rattle.std.specs.Arc.{arc_value};
+ghost use Rattle.hm_syntax.specs.Names.{Identifier};
+ghost use Rattle.hm_syntax.specs.Trees.{Declaration};
+ghost use Rattle.hm_scope.specs.Cores.{IsSomeCore, declared_schemes, imported_schemes, known, scheme_in};
+ghost use Rattle.hm_scope.specs.Faults.Lists.{Repeats};
+ghost use Rattle.hm_infer.specs.Constructors.{HasDistinctParameters, known_of};
+ghost use Rattle.hm_infer.specs.Kept.{schemes_of};
+
+use crate::constructors::{Constructors, Entry};
+use hm_scope::{Core, declared_scheme, own_entity};
+use hm_syntax::{Constr, Decl, DeclKind, Name};
+use hm_types::{ConstructorEntry, Interface};
+use std::alloc::{AllocError, Global};
+use std::sync::Arc;
+
+/// Adds a constructor of a type that is declared.
+fn add_constructor(
+    alloc: Global,
+    entries: &mut Vec<Entry>,
+    home: &str,
+    owner: &Name,
+    params: &[Name],
+    constr: &Constr,
+) -> Result<(), AllocError>
+    requires { (n : Identifier) → ¬ (Repeats params.now n) }
+    ensures { OnOk result (schemes_of entries.new.items ≡ schemes_of entries.old.items ++ scheme_in home.now owner.now params.now constr.now ∷ []) }
+{
+    let entity = own_entity(alloc, home, &constr.name)?;
+    let scheme = declared_scheme(alloc, home, owner, params, constr)?;
+    entries.push(Entry { entity, scheme })?;
+    Ok(())
+}
+
+/// Adds the constructors of a type that is declared.
+fn add_constructors(
+    alloc: Global,
+    entries: &mut Vec<Entry>,
+    home: &str,
+    owner: &Name,
+    params: &[Name],
+    constrs: &[Constr],
+) -> Result<(), AllocError>
+    requires { (n : Identifier) → ¬ (Repeats params.now n) }
+    ensures { OnOk result (schemes_of entries.new.items ≡ schemes_of entries.old.items ++ map (scheme_in home.now owner.now params.now) constrs.now) }
+{
+    'constrs: for constr in constrs {
+        add_constructor(alloc, entries, home, owner, params, constr)?;
+    }
+    Ok(())
+}
+
+/// Adds the constructors of a declaration.
+fn add_declaration(
+    alloc: Global,
+    entries: &mut Vec<Entry>,
+    home: &str,
+    decl: &Decl,
+) -> Result<(), AllocError>
+    requires { HasDistinctParameters decl.now }
+    ensures { OnOk result (schemes_of entries.new.items ≡ schemes_of entries.old.items ++ declared_schemes home.now (decl.now ∷ [])) }
+{
+    match &decl.kind {
+        DeclKind::DataType {
+            name,
+            params,
+            constrs,
+        } => Ok(add_constructors(alloc, entries, home, name, params, constrs)?),
+        DeclKind::Newtype {
+            name,
+            params,
+            constr,
+        } => Ok(add_constructor(alloc, entries, home, name, params, constr)?),
+        DeclKind::Synonym { .. } => Ok(()),
+        DeclKind::Signature { .. } => Ok(()),
+        DeclKind::Clause { .. } => Ok(()),
+        DeclKind::Pattern { .. } => Ok(()),
+    }
+}
+
+/// Adds the constructors of declarations.
+fn add_declared(
+    alloc: Global,
+    entries: &mut Vec<Entry>,
+    home: &str,
+    decls: &[Decl],
+) -> Result<(), AllocError>
+    requires { (d : Declaration) → Contains decls.now d → HasDistinctParameters d }
+    ensures { OnOk result (schemes_of entries.new.items ≡ schemes_of entries.old.items ++ declared_schemes home.now decls.now) }
+{
+    'decls: for decl in decls {
+        add_declaration(alloc, entries, home, decl)?;
+    }
+    Ok(())
+}
+
+/// Adds the constructors of an interface.
+fn add_exported(
+    alloc: Global,
+    entries: &mut Vec<Entry>,
+    exported: &[ConstructorEntry],
+) -> Result<(), AllocError>
+    ensures { OnOk result (schemes_of entries.new.items ≡ schemes_of entries.old.items ++ map (λ r. record { entity = r.entity; scheme = r.scheme }) exported.now) }
+{
+    'exported: for entry in exported {
+        let entity = entry.entity.copy()?;
+        let scheme = entry.scheme.copy(alloc)?;
+        entries.push(Entry { entity, scheme })?;
+    }
+    Ok(())
+}
+
+/// Adds the constructors of interfaces.
+fn add_imported(
+    alloc: Global,
+    entries: &mut Vec<Entry>,
+    interfaces: &[Arc<Interface>],
+) -> Result<(), AllocError>
+    ensures { OnOk result (schemes_of entries.new.items ≡ schemes_of entries.old.items ++ imported_schemes (map arc_value interfaces.now)) }
+{
+    'interfaces: for interface in interfaces {
+        add_exported(alloc, entries, interface.constructors())?;
+    }
+    Ok(())
+}
+
+/// The constructors of a core, those that it declares before those of its interfaces.
+pub(crate) fn known_constructors(alloc: Global, core: &Core) -> Result<Constructors, AllocError>
+    requires { IsSomeCore core.now }
+    ensures { IfOk result (λ constructors. known_of constructors ≡ known core.now) }
+{
+    let mut entries = Vec::new(alloc);
+    add_declared(
+        alloc,
+        &mut entries,
+        core.name.as_str(),
+        core.decls.as_slice(),
+    )?;
+    add_imported(alloc, &mut entries, core.interfaces.as_slice())?;
+    Ok(Constructors::new(core.name.copy()?, entries))
+}

@@ -1,0 +1,50 @@
+//! The schemes of a module's own variables.
+
+ghost use Rattle.std.specs.Prelude.{List, ◌+◌, ◌∷◌, IfOk, OnOk};
+ghost use Rattle.hm_types.specs.Shape.{type_of};
+ghost use Rattle.hm_unify.specs.WellFormed.{IsWellFormed};
+ghost use Rattle.hm_scope.specs.SchemeTables.{scheme_of};
+ghost use Rattle.hm_infer.specs.Environments.{AreAssumed, Assumed};
+ghost use Rattle.hm_infer.specs.Kept.{assumed_of};
+ghost use Rattle.hm_infer.specs.OwnSchemes.{HaveCanonical};
+
+use crate::environment::{Binding, Environment};
+use crate::instances::instantiate;
+use crate::names::own_text;
+use hm_scope::Schemes;
+use hm_types::canonical;
+use std::alloc::{AllocError, Global};
+
+/// Gives a variable of the module `home` the canonical scheme that is assumed of it.
+fn put_scheme(
+    alloc: Global,
+    schemes: &mut Schemes,
+    home: &str,
+    binding: &Binding<'_>,
+) -> Result<(), AllocError>
+    requires { IsWellFormed (binding.now.quantified + 0) (type_of binding.now.body) }
+    ensures { OnOk result ((es : List Assumed) → HaveCanonical home.now es (scheme_of schemes.old) → HaveCanonical home.now (assumed_of binding.now ∷ es) (scheme_of schemes.new)) }
+{
+    let Some(text) = own_text(binding.name, home) else {
+        return Ok(());
+    };
+    let body = instantiate(alloc, false, binding.quantified, 0, &binding.body)?;
+    schemes.put(text, canonical(alloc, &body)?)?;
+    Ok(())
+}
+
+/// The canonical schemes of the variables of the module `home`, as they are assumed.
+pub(crate) fn own_schemes(
+    alloc: Global,
+    home: &str,
+    environment: &Environment<'_>,
+) -> Result<Schemes, AllocError>
+    requires { AreAssumed 0 environment.now }
+    ensures { IfOk result (λ schemes. HaveCanonical home.now environment.now (scheme_of schemes)) }
+{
+    let mut schemes = Schemes::new(alloc);
+    'bindings: for binding in environment.as_slice() {
+        put_scheme(alloc, &mut schemes, home, binding)?;
+    }
+    Ok(schemes)
+}

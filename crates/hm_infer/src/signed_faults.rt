@@ -1,0 +1,214 @@
+//! The bindings of a list with signatures that are type faults (Haskell 98 Report, sections 4.4.1
+//! and 4.5.1): those of which a clause hasn't the declared type, though all that the clauses refer
+//! to has types.
+
+ghost use Rattle.std.specs.Prelude.{◌≡◌, ◌<◌, IfOk, OnOk, drop, length};
+ghost use Rattle.std.specs.Bool.{Decides};
+ghost use Rattle.hm_syntax.specs.Trees.{Declarations};
+ghost use Rattle.hm_groups.specs.Nodes.{AllShown};
+ghost use Rattle.hm_infer.specs.Constructors.{known_of};
+ghost use Rattle.hm_infer.specs.Environments.{AreAssumed, assumptions};
+ghost use Rattle.hm_infer.specs.SignedFaults.{AreRefused, AreSignedFaults, AreWaiting, BeginsRun, HasFlag, IsFaultAt, Refuses, Waits, goes_on};
+ghost use Rattle.hm_infer.specs.SignedLists.{AreSignatures};
+
+use crate::constructors::Constructors;
+use crate::dependences::refers_to_typed;
+use crate::environment::Environment;
+use crate::expressions::check_signed;
+use hm_groups::{Numbers, is_continued};
+use hm_syntax::{Decl, DeclKind, TypeExpr};
+use hm_unify::{Solver, UnifyFault};
+use indexmap::IndexMap;
+use std::alloc::{AllocError, Global};
+
+/// Whether a declaration refers to a node without a type.
+fn waits(
+    alloc: Global,
+    numbers: &Numbers,
+    shown: &mut [bool],
+    typed: &[bool],
+    decl: &Decl,
+) -> Result<bool, AllocError>
+    requires shown { AllShown shown.old (length numbers.now) }
+    requires typed { length typed.now ≡ length numbers.now }
+    ensures shown { OnOk result (shown.new ≡ shown.old) }
+    ensures told { IfOk result (λ b. Waits b numbers.now typed.now decl.now) }
+{
+    if refers_to_typed(alloc, numbers, shown, typed, decl)? {
+        return Ok(false);
+    }
+    Ok(true)
+}
+
+/// For each declaration of a list whether it refers to a node without a type.
+fn waiting_clauses(
+    alloc: Global,
+    decls: &[Decl],
+    numbers: &Numbers,
+    typed: &[bool],
+) -> Result<Vec<bool>, AllocError>
+    requires typed { length typed.now ≡ length numbers.now }
+    ensures told { IfOk result (λ waiting. AreWaiting numbers.now typed.now decls.now waiting.items) }
+{
+    let count = numbers.len();
+    let mut shown = vec![in alloc; true; count]?;
+    let mut waiting = Vec::new(alloc);
+    'decls: for i in 0..decls.len() {
+        let is_waiting = waits(alloc, numbers, &mut shown, typed, &decls[i])?;
+        waiting.push(is_waiting)?;
+    }
+    Ok(waiting)
+}
+
+/// Whether a clause hasn't the declared type of its variable, under closed assumptions.
+fn is_refused<'a>(
+    alloc: Global,
+    environment: &Environment<'a>,
+    constructors: &Constructors,
+    signatures: &IndexMap<&str, &TypeExpr>,
+    decl: &'a Decl,
+    is_waiting: bool,
+) -> Result<bool, UnifyFault>
+    requires closed { AreAssumed 0 environment.now }
+    ensures told { IfOk result (λ b. (all : Declarations) → AreSignatures all signatures.now → Refuses is_waiting b (known_of constructors.now) all (assumptions environment.now) decl.now) }
+{
+    if is_waiting {
+        return Ok(false);
+    }
+    let mut solver = Solver::new(alloc);
+    let mut working = environment.copy(alloc)?;
+    match check_signed(
+        alloc,
+        &mut solver,
+        &mut working,
+        constructors,
+        signatures,
+        decl,
+    ) {
+        Ok(()) => {
+            solver.has_solution();
+            Ok(false)
+        }
+        Err(UnifyFault::Clash) => Ok(true),
+        Err(UnifyFault::Memory) => Err(UnifyFault::Memory),
+    }
+}
+
+/// For each declaration of a list whether it is a clause that hasn't the declared type; those that
+/// wait aren't checked.
+fn refused_clauses<'a>(
+    alloc: Global,
+    environment: &Environment<'a>,
+    constructors: &Constructors,
+    signatures: &IndexMap<&str, &TypeExpr>,
+    decls: &'a [Decl],
+    waiting: &[bool],
+) -> Result<Vec<bool>, UnifyFault>
+    requires closed { AreAssumed 0 environment.now }
+    requires sized { length waiting.now ≡ length decls.now }
+    ensures told { IfOk result (λ refused. (all : Declarations) → AreSignatures all signatures.now → AreRefused (known_of constructors.now) all (assumptions environment.now) decls.now waiting.now refused.items) }
+    ensures sized { IfOk result (λ refused. length refused.items ≡ length decls.now) }
+{
+    let mut refused = Vec::new(alloc);
+    'decls: for i in 0..decls.len() {
+        let is_refused = is_refused(
+            alloc,
+            environment,
+            constructors,
+            signatures,
+            &decls[i],
+            waiting[i],
+        )?;
+        refused.push(is_refused)?;
+    }
+    Ok(refused)
+}
+
+/// Whether the declaration behind one goes on its binding.
+fn continues(decls: &[Decl], place: usize) -> bool
+    requires { place < length decls.now }
+    ensures { result ≡ goes_on (drop place decls.now) }
+{
+    let decl: &Decl = &decls[place];
+    let DeclKind::Clause { name, pats, rhs: _ } = &decl.kind else {
+        return false;
+    };
+    is_continued(name, pats, &decls[place + 1..])
+}
+
+/// Whether a declaration goes on no binding.
+fn begins(decls: &[Decl], place: usize) -> bool
+    requires { place < length decls.now }
+    ensures { Decides result (BeginsRun decls.now place) }
+{
+    if place == 0 {
+        return true;
+    }
+    !continues(decls, place - 1)
+}
+
+/// Whether a clause of the binding that begins at a place has a flag.
+fn has_flag(decls: &[Decl], flags: &[bool], place: usize) -> bool
+    requires place { place < length decls.now }
+    requires sized { length flags.now ≡ length decls.now }
+    ensures { Decides result (HasFlag decls.now flags.now place) }
+{
+    'clauses: for i in place..decls.len() {
+        if flags[i] {
+            return true;
+        }
+        if !continues(decls, i) {
+            return false;
+        }
+    }
+    false
+}
+
+/// Whether a binding that is a fault begins at a place.
+fn is_fault_at(decls: &[Decl], waiting: &[bool], refused: &[bool], place: usize) -> bool
+    requires place { place < length decls.now }
+    requires waiting { length waiting.now ≡ length decls.now }
+    requires refused { length refused.now ≡ length decls.now }
+    ensures { Decides result (IsFaultAt decls.now waiting.now refused.now place) }
+{
+    if !begins(decls, place) {
+        return false;
+    }
+    if has_flag(decls, waiting, place) {
+        return false;
+    }
+    has_flag(decls, refused, place)
+}
+
+/// The places of the first clauses of those bindings with signatures that are type faults, under
+/// closed assumptions of all that has types.
+pub(crate) fn signed_faults<'a>(
+    alloc: Global,
+    environment: &Environment<'a>,
+    constructors: &Constructors,
+    signatures: &IndexMap<&str, &TypeExpr>,
+    decls: &'a [Decl],
+    numbers: &Numbers,
+    typed: &[bool],
+) -> Result<Vec<usize>, UnifyFault>
+    requires closed { AreAssumed 0 environment.now }
+    requires typed { length typed.now ≡ length numbers.now }
+    ensures told { IfOk result (λ places. (all : Declarations) → AreSignatures all signatures.now → AreSignedFaults (known_of constructors.now) all (assumptions environment.now) numbers.now typed.now decls.now places.items) }
+{
+    let waiting = waiting_clauses(alloc, decls, numbers, typed)?;
+    let refused = refused_clauses(
+        alloc,
+        environment,
+        constructors,
+        signatures,
+        decls,
+        &waiting,
+    )?;
+    let mut places = Vec::new(alloc);
+    'decls: for place in 0..decls.len() {
+        if is_fault_at(decls, &waiting, &refused, place) {
+            places.push(place)?;
+        }
+    }
+    Ok(places)
+}

@@ -1,0 +1,9 @@
+pub mod Sets
+pub mod Skeletons
+pub mod Readings
+pub mod ModuleVerdicts
+pub mod Verdicts
+pub mod Progress
+pub mod Reports
+pub mod Worked
+pub mod Laws
