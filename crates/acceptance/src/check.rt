@@ -5,7 +5,7 @@ use std::process::Abort;
 use std::thread::Threads;
 
 /// Runs one source, and compares how the run ends and what it prints.
-pub fn check(
+pub(crate) fn check(
     rt: &(impl Abort + AllocGlobal + Threads),
     source: &[u8],
     status: Status,
@@ -22,7 +22,7 @@ pub fn check(
 }
 
 /// Runs one source, which must be refused by one line.
-pub fn check_refused(
+pub(crate) fn check_refused(
     rt: &(impl Abort + AllocGlobal + Threads),
     source: &[u8],
 ) -> Result<(), AllocError> {
@@ -38,7 +38,7 @@ pub fn check_refused(
 }
 
 /// Checks the modules of one source, and compares how the run ends and what it prints.
-pub fn check_run(
+pub(crate) fn check_run(
     rt: &(impl Abort + AllocGlobal + Threads),
     source: &[u8],
     status: Status,
@@ -50,6 +50,28 @@ pub fn check_run(
     let mut writer = Watched::new(&mut printed);
     let options = Options {
         workers: 4,
+        journal: false,
+    };
+    let ended = run(rt, alloc, readers.as_mut_slice(), &mut writer, options);
+    assert_eq!(rt; ended, Ok(status));
+    assert!(rt; printed.as_slice() == text);
+    Ok(())
+}
+
+/// Checks the modules of two sources, and compares how the run ends and what it prints.
+pub(crate) fn check_run_of(
+    rt: &(impl Abort + AllocGlobal + Threads),
+    first: &[u8],
+    second: &[u8],
+    status: Status,
+    text: &[u8],
+) -> Result<(), AllocError> {
+    let alloc: Global = rt.alloc();
+    let mut readers = [Watched::new(first), Watched::new(second)];
+    let mut printed = Vec::new(alloc);
+    let mut writer = Watched::new(&mut printed);
+    let options = Options {
+        workers: 1,
         journal: false,
     };
     let ended = run(rt, alloc, readers.as_mut_slice(), &mut writer, options);

@@ -1,5 +1,5 @@
 //! How `run` ends at its bounds, and where its devices fail.
-use crate::check::check_run;
+use crate::check::{check_run, check_run_of};
 use crate::devices::{Short, Slow, Then};
 use hm_build::{Options, RunFault, Status, Watched, run};
 use std::test::Fail;
@@ -100,5 +100,17 @@ fn answers_failed_devices(rt: HostRuntime) -> Result<(), Fail> {
     );
     assert_eq!(rt; ended, Err(RunFault::Write));
     assert!(rt; device.taken.as_slice() == b"0 mod".as_slice());
+    Ok(())
+}
+
+/// A source may import what another one has, in either order.
+#[test]
+fn modules_of_two_sources(rt: HostRuntime) -> Result<(), Fail> {
+    let user: &[u8] = b"module B where { import A ; g = f ; h = f True }";
+    let used: &[u8] = b"module A where { f x = x }";
+    let text: &[u8] =
+        b"module A\n  val f = A.f :: a -> a\nmodule B\n  val g = B.g :: a -> a\n  val h = B.h :: Bool\n2 modules: 2 good, 0 faulty, 0 skipped\n";
+    check_run_of(&rt, user, used, Status::Good, text)?;
+    check_run_of(&rt, used, user, Status::Good, text)?;
     Ok(())
 }

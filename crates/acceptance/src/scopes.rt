@@ -1,7 +1,9 @@
 //! Rows of names, exports and numbers of arguments: modules that import nothing but Prelude.
+use hm_imports::are_imports_of;
 use hm_lex::lex;
+use hm_names::{Core, Exported, Fault, Kind, ScopeFault};
 use hm_parse::parse;
-use hm_scope::{Core, Exported, Fault, Kind, ScopeFault, are_imports_of, scope};
+use hm_scope::scope;
 use std::alloc::{AllocError, Global};
 use std::test::Fail;
 

@@ -465,7 +465,7 @@ fn module_text(alloc: Global, module: &Module) -> Result<String, AllocError> {
 }
 
 /// Whether the source has one module, with this text.
-pub fn is_spelled(alloc: Global, source: &[u8], wanted: &str) -> Result<bool, AllocError> {
+pub(crate) fn is_spelled(alloc: Global, source: &[u8], wanted: &str) -> Result<bool, AllocError> {
     let Ok(tokens) = hm_lex::lex(alloc, source) else {
         return Ok(false);
     };

@@ -8,7 +8,7 @@ use Rattle.std.specs.declared.sync.Arc.{Arc}
 use Rattle.std.proofs.Math.ListN.{set}
 use Rattle.std.proofs.lemmas.List.{get_or-map, get_or-set_other, get_or-set_same, get_or_default, length-map, take_all}
 use Rattle.std.proofs.lemmas.List.Elements.{All-contains, All-from_get_or, All-more, All-weaker, Contains-get_or}
-use Rattle.hm_scope.specs.Imports.{AreImportsOf}
+use Rattle.hm_names.specs.Imports.{AreImportsOf}
 use Rattle.hm_syntax.specs.declared.ast.Module.{Module}
 use Rattle.hm_types.specs.Interfaces.{Exports as Interface}
 use Rattle.hm_verdicts.specs.Progress.{ArePublishedIn, IsSettledSoFar}

@@ -2,7 +2,7 @@
 use Rattle.std.proofs.Common.{◌≡◌, ◌≢◌, ℕ, zero, suc, ◌<◌, Bool, true, false, cond, List, [], ◌∷◌, length, map, get_or, inl, inr, ⊎_elim, ◌↔◌, refl, sym, ap, ap₂, ◌∙◌, subst, arith, bytes_eq}
 use Rattle.std.proofs.lemmas.Bool.{cases_Bool}
 use Rattle.std.proofs.lemmas.Slice.Eq.{bytes_eq-Decides}
-use Rattle.hm_scope.specs.Texts.{is_text_among}
+use Rattle.hm_names.specs.Texts.{is_text_among}
 use Rattle.hm_typing.specs.Names.{IsOneOf}
 use Rattle.hm_build.proofs.Blame.{IsOnce}
 

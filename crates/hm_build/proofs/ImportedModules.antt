@@ -5,8 +5,8 @@ use Rattle.std.proofs.lemmas.List.{get_or_default, length-map}
 use Rattle.std.proofs.lemmas.Slice.Eq.{bytes_eq-Decides}
 use Rattle.hm_graph.specs.Imports.{IsFirstImport, IsImportList, imports_at, name_at, prelude}
 use Rattle.hm_graph.specs.Outline.{Outline}
-use Rattle.hm_scope.specs.Imports.{AreImportsOf, imported, imported_after}
-use Rattle.hm_scope.specs.Texts.{is_text_among}
+use Rattle.hm_names.specs.Imports.{AreImportsOf, imported, imported_after}
+use Rattle.hm_names.specs.Texts.{is_text_among}
 use Rattle.hm_syntax.specs.declared.ast.Import.{Import}
 use Rattle.hm_syntax.specs.declared.ast.Module.{Module}
 use Rattle.hm_types.specs.Interfaces.{Exports as Interface}

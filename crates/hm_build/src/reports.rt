@@ -11,7 +11,7 @@ ghost use Rattle.hm_build.specs.ReportBlocks.{AreBlocksOf, all_blamed, blamed, r
 use crate::Status;
 use crate::statuses::Settled;
 use hm_graph::Plan;
-use hm_scope::{Fault, Kind};
+use hm_names::{Fault, Kind};
 use hm_syntax::Module;
 use hm_types::interface_text;
 use std::alloc::{AllocError, Global};

@@ -2,7 +2,7 @@
 ghost use Rattle.std.specs.Prelude.{◌≡◌, ◌<◌, IfOk, OnOk, slice_set, slice_index_or, option_to_list, ◌++◌, [], ℕ, None, Some, map, length, All};
 ghost use Rattle.std.specs.Arc.{arc_value};
 ghost use Rattle.std.specs.List.{flat_map};
-ghost use Rattle.hm_scope.specs.Imports.{AreImportsOf};
+ghost use Rattle.hm_names.specs.Imports.{AreImportsOf};
 ghost use Rattle.hm_verdicts.specs.Sets.{IsLawfulSet};
 ghost use Rattle.hm_verdicts.specs.Progress.{IsSettledSoFar, IsSettledIn};
 ghost use Rattle.hm_verdicts.specs.Verdicts.{IsSettled};
@@ -10,8 +10,8 @@ ghost use Rattle.hm_build.specs.Settling.{module_set, progress_of, status_of, st
 
 use crate::order::import_order;
 use crate::statuses::Settled;
+use hm_check::{CheckFault, Verdict, check_module};
 use hm_graph::Plan;
-use hm_infer::{CheckFault, Verdict, check_module};
 use hm_syntax::Module;
 use hm_types::Interface;
 use std::alloc::{AllocError, Global};

@@ -1,5 +1,5 @@
 //! What is known of a module when its set has been judged.
-use hm_scope::Fault;
+use hm_names::Fault;
 use hm_syntax::Row;
 use hm_types::Interface;
 use std::sync::Arc;

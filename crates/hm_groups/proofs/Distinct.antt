@@ -11,7 +11,7 @@ use Rattle.hm_typing.specs.Syntax as typed
 use Rattle.hm_typing.proofs.Matching.{distinct_rest, distinct_apart}
 use Rattle.hm_syntax.specs.Lists.{declarations, patterns}
 use Rattle.hm_syntax.specs.Trees.{Pattern, Declaration, data_declaration, newtype_declaration, synonym_declaration, signature, clause, pattern_binding, Declarations, no_declarations, more_declarations}
-use Rattle.hm_scope.specs.Syntax.{Known, patterns_of, right_sides_of, where_of, bindings_of, is_continued, signature_of, add_clause, bound_by, declaration_count}
+use Rattle.hm_names.specs.Syntax.{Known, patterns_of, right_sides_of, where_of, bindings_of, is_continued, signature_of, add_clause, bound_by, declaration_count}
 use Rattle.hm_groups.specs.Variables.{Variable, variable_of, identifier}
 use Rattle.hm_groups.specs.References.{pattern_variables, patterns_variables}
 use Rattle.hm_groups.specs.Nodes.{is_signed, new_nodes, list_nodes, IsRepeated}

@@ -8,7 +8,7 @@ use Rattle.hm_graph.specs.Digraph.{Graph, Edge, AddsEdge}
 use Rattle.hm_graph.proofs.Members.{Contains-take_cases, Contains-take_old, Contains-take_new}
 use Rattle.hm_syntax.specs.Trees.{Declaration, data_declaration, newtype_declaration, synonym_declaration, signature, clause, pattern_binding, Declarations, no_declarations, more_declarations}
 use Rattle.hm_syntax.specs.Lists.{declarations}
-use Rattle.hm_scope.specs.Syntax.{is_continued}
+use Rattle.hm_names.specs.Syntax.{is_continued}
 use Rattle.hm_groups.specs.References.{pattern_variables}
 use Rattle.hm_groups.specs.Variables.{Variable, variable_of}
 use Rattle.hm_groups.specs.Walks.{IsNodeWith, Walks, Hides}

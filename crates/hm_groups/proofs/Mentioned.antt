@@ -6,7 +6,7 @@ use Rattle.hm_typing.specs.Schemes.{Monotype}
 use Rattle.hm_typing.specs.Syntax as typed
 use Rattle.hm_typing.specs.Mentions.{Mentions, ExpressionsMention, ClausesMention, RightSidesMention, BindingsMention}
 use Rattle.hm_syntax.specs.Trees.{Pattern, variable_pattern, bound_pattern, constructor_pattern, literal_pattern, wildcard_pattern, tuple_pattern, list_pattern, lazy_pattern, Patterns, no_patterns, more_patterns, Expression, variable_expression, constructor_expression, literal_expression, application, lambda, let_expression, if_expression, case_expression, tuple_expression, list_expression, typed_expression, Expressions, no_expressions, more_expressions, data_declaration, newtype_declaration, synonym_declaration, signature, clause, pattern_binding, Declarations, no_declarations, more_declarations, RightSide, right_side, Bodies, no_bodies, plain_body, guarded_body, alternative, Alternatives, no_alternatives, more_alternatives}
-use Rattle.hm_scope.specs.Syntax.{Known, name_in, pattern_of, patterns_of, expression_of, expressions_of, alternatives_of, right_sides_of, where_of, bodies_of, bindings_of, is_continued, signature_of, add_clause, bound_by, declaration_count}
+use Rattle.hm_names.specs.Syntax.{Known, name_in, pattern_of, patterns_of, expression_of, expressions_of, alternatives_of, right_sides_of, where_of, bodies_of, bindings_of, is_continued, signature_of, add_clause, bound_by, declaration_count}
 use Rattle.hm_groups.specs.Variables.{Variable, variable_of, identifier}
 use Rattle.hm_groups.specs.References.{pattern_variables, patterns_variables, list_variables, Refers, ExpressionsRefer, DeclarationsRefer, RightSideRefers, BodiesRefer, AlternativesRefer}
 use Rattle.hm_groups.proofs.Walking.{among-left, among-right, among-cases}

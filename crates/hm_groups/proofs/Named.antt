@@ -6,7 +6,7 @@ use Rattle.hm_typing.specs.Schemes.{Monotype}
 use Rattle.hm_typing.specs.Syntax as typed
 use Rattle.hm_typing.specs.Units.{IsUnsigned}
 use Rattle.hm_syntax.specs.Trees.{Declaration, data_declaration, newtype_declaration, synonym_declaration, signature, clause, pattern_binding, Declarations, no_declarations, more_declarations}
-use Rattle.hm_scope.specs.Syntax.{Known, pattern_of, patterns_of, right_sides_of, where_of, bindings_of, is_continued, signature_of, add_clause, bound_by, declaration_count}
+use Rattle.hm_names.specs.Syntax.{Known, pattern_of, patterns_of, right_sides_of, where_of, bindings_of, is_continued, signature_of, add_clause, bound_by, declaration_count}
 use Rattle.hm_groups.specs.Variables.{Variable, variable_of, identifier}
 use Rattle.hm_groups.specs.References.{pattern_variables}
 use Rattle.hm_groups.specs.Nodes.{is_signed, new_nodes, list_nodes}

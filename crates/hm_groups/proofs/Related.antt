@@ -13,7 +13,7 @@ use Rattle.hm_typing.specs.Orders.{AreNumberedGroups}
 use Rattle.hm_typing.proofs.Bridge.{one_kind}
 use Rattle.hm_typing.proofs.Judge.{Reaches-trans}
 use Rattle.hm_syntax.specs.Trees.{Pattern, Declaration, data_declaration, newtype_declaration, synonym_declaration, signature, clause, pattern_binding, Declarations, no_declarations, more_declarations, RightSide}
-use Rattle.hm_scope.specs.Syntax.{Known, pattern_of, patterns_of, right_sides_of, where_of, bindings_of, is_continued, signature_of, add_clause, bound_by, declaration_count}
+use Rattle.hm_names.specs.Syntax.{Known, pattern_of, patterns_of, right_sides_of, where_of, bindings_of, is_continued, signature_of, add_clause, bound_by, declaration_count}
 use Rattle.hm_groups.specs.Variables.{Variable, variable_of, identifier}
 use Rattle.hm_groups.specs.References.{pattern_variables, patterns_variables, RightSideRefers}
 use Rattle.hm_groups.specs.Walks.{IsNodeWith}

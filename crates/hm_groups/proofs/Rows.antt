@@ -12,9 +12,9 @@ use Rattle.hm_syntax.specs.Lists.{patterns, declarations, expressions, alternati
 use Rattle.hm_syntax.specs.Sizes.{pattern_size, patterns_size, expression_size, expressions_size, declaration_size, declarations_size, alternative_size, alternatives_size, bodies_size}
 use Rattle.hm_groups.specs.Variables.{Variable}
 use Rattle.hm_groups.specs.References.{BodiesRefer}
-use Rattle.hm_scope.specs.Faults.Lists.{has_patterns}
-use Rattle.hm_scope.specs.Syntax.{is_continued}
-use Rattle.hm_scope.specs.Texts.{same_text}
+use Rattle.hm_names.specs.Faults.Lists.{has_patterns}
+use Rattle.hm_names.specs.Syntax.{is_continued}
+use Rattle.hm_names.specs.Texts.{same_text}
 
 pub unrolled : {X : Type 0} (xs : List X) (i : ℕ) (d : X) → i < length xs → d ≡ get_or xs i d → drop i xs ≡ d ∷ drop (i + 1) xs
 unrolled xs i d h e =

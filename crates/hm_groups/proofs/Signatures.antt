@@ -8,8 +8,8 @@ use Rattle.indexmap.specs.IndexMap.{get_by}
 use Rattle.hm_syntax.specs.Names.{Identifier}
 use Rattle.hm_syntax.specs.Trees.{Declaration, data_declaration, newtype_declaration, synonym_declaration, signature, clause, pattern_binding, Declarations, no_declarations, more_declarations}
 use Rattle.hm_syntax.specs.Lists.{declarations}
-use Rattle.hm_scope.specs.Syntax.{is_signed_among}
-use Rattle.hm_scope.specs.Texts.{same_text}
+use Rattle.hm_names.specs.Syntax.{is_signed_among}
+use Rattle.hm_names.specs.Texts.{same_text}
 use Rattle.hm_groups.specs.Nodes.{Texts, has_text, is_signed}
 
 or_false : (b : Bool) → (b || false) ≡ b

@@ -7,7 +7,7 @@ use Rattle.hm_typing.specs.Patterns.{Matches}
 use Rattle.hm_typing.specs.Syntax as typed
 use Rattle.hm_typing.specs.SecondForm.{DeriveClauses}
 use Rattle.hm_syntax.specs.Trees.{Declaration, data_declaration, newtype_declaration, synonym_declaration, signature, clause, pattern_binding, Declarations, no_declarations, more_declarations}
-use Rattle.hm_scope.specs.Syntax.{Known, pattern_of, patterns_of, right_sides_of, where_of, bindings_of, declaration_count}
+use Rattle.hm_names.specs.Syntax.{Known, pattern_of, patterns_of, right_sides_of, where_of, bindings_of, declaration_count}
 
 -- x is the first name of a list, and has no signature
 abbrev pub BeginsUnsigned : Identifier → typed.Bindings → Type 0

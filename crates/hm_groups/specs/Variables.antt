@@ -2,7 +2,7 @@
 use Rattle.std.specs.Prelude.{ℕ, List, Option}
 use Rattle.hm_syntax.specs.Names as written
 use Rattle.hm_typing.specs.Names.{Identifier}
-use Rattle.hm_scope.specs.Syntax.{name_in}
+use Rattle.hm_names.specs.Syntax.{name_in}
 
 pub record Variable : Type 0 where
   pub qualifier : Option (List ℕ)

@@ -8,7 +8,7 @@ ghost use Rattle.hm_groups.specs.Members.{AreRows};
 ghost use Rattle.hm_typing.specs.Names.{IsDistinct};
 ghost use Rattle.hm_typing.specs.Syntax.{names};
 ghost use Rattle.hm_typing.specs.Orders.{AreNumberedGroups};
-ghost use Rattle.hm_scope.specs.Syntax.{Known, bindings_of};
+ghost use Rattle.hm_names.specs.Syntax.{Known, bindings_of};
 ghost use Rattle.hm_groups.specs.Groups.{node_name};
 
 use crate::edges::graph_of;

@@ -9,7 +9,7 @@ ghost use Rattle.hm_typing.specs.Units.{IsUnsigned};
 ghost use Rattle.hm_groups.specs.Groups.{node_names};
 ghost use Rattle.hm_typing.specs.Mentions.{Mentions, BindingsMention};
 ghost use Rattle.hm_syntax.specs.Trees.{Expression, Declarations};
-ghost use Rattle.hm_scope.specs.Syntax.{Known, expression_of, bindings_of};
+ghost use Rattle.hm_names.specs.Syntax.{Known, expression_of, bindings_of};
 ghost use Rattle.hm_groups.specs.Variables.{Variable, identifier};
 ghost use Rattle.hm_groups.specs.References.{Refers, DeclarationsRefer};
 

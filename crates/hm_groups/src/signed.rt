@@ -2,7 +2,7 @@
 
 ghost use Rattle.std.specs.Prelude.{◌≡◌, ℕ, List, ◌||◌, IfOk, OnOk};
 ghost use Rattle.hm_syntax.specs.Lists.{declarations};
-ghost use Rattle.hm_scope.specs.Syntax.{is_signed_among};
+ghost use Rattle.hm_names.specs.Syntax.{is_signed_among};
 ghost use Rattle.hm_groups.specs.Nodes.{has_text, is_signed, AreSigned};
 ghost use Rattle.hm_syntax.specs.Trees.{more_declarations, no_declarations};
 

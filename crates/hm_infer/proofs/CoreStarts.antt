@@ -5,13 +5,13 @@ use Rattle.hm_typing.specs.Orders.{AreNumberedGroups}
 use Rattle.hm_typing.specs.Units.{IsUnsigned}
 use Rattle.hm_syntax.specs.Trees.{Declaration}
 use Rattle.hm_syntax.specs.Lists.{declarations}
-use Rattle.hm_scope.specs.Cores.{known, syntax_of}
-use Rattle.hm_scope.specs.Syntax.{Known}
+use Rattle.hm_names.specs.Cores.{known, syntax_of}
+use Rattle.hm_names.specs.Syntax.{Known}
 use Rattle.hm_groups.specs.Groups.{node_name}
 use Rattle.hm_groups.specs.Variables.{Variable}
-use Rattle.hm_infer.specs.Environments.{Assumed, AreAssumed, assumptions}
+use Rattle.hm_expressions.specs.Environments.{Assumed, AreAssumed, assumptions}
 use Rattle.hm_infer.specs.JudgedUnits.{UnitsJudged}
-use Rattle.hm_infer.specs.Stages.{IsListFound, list_of}
+use Rattle.hm_expressions.specs.Stages.{IsListFound, list_of}
 use Rattle.hm_infer.specs.UnitFaults.{AreGroupsTold}
 use Rattle.hm_infer.specs.UnitStarts.{AreGroupStarts, AreStartsOfKind, HasMember, IsCoreList}
 use Rattle.hm_infer.proofs.GroupDeclarations.{has_member}

@@ -6,13 +6,13 @@ use Rattle.hm_syntax.specs.Names.{Identifier}
 use Rattle.hm_syntax.specs.Sizes.{pattern_size, patterns_size}
 use Rattle.hm_syntax.specs.Trees.{Pattern, Declaration}
 use Rattle.hm_typing.specs.Names.{Identifier as Name, IsOneOf}
-use Rattle.hm_scope.specs.ModuleCores.{ModuleCore}
-use Rattle.hm_scope.specs.Faults.Phases.{AreOrdered, fault}
-use Rattle.hm_scope.specs.Untyped.{IsTold, AreToldAs}
-use Rattle.hm_scope.specs.declared.faults.Fault.{Fault}
-use Rattle.hm_scope.specs.declared.faults.Kind.TheVariants.{Untyped}
-use Rattle.hm_scope.proofs.OrderedLists.{one_of_contained, contained}
-use Rattle.hm_scope.proofs.Rows as rows
+use Rattle.hm_names.specs.ModuleCores.{ModuleCore}
+use Rattle.hm_names.specs.Faults.Phases.{AreOrdered, fault}
+use Rattle.hm_names.specs.Untyped.{IsTold, AreToldAs}
+use Rattle.hm_names.specs.declared.faults.Fault.{Fault}
+use Rattle.hm_names.specs.declared.faults.Kind.TheVariants.{Untyped}
+use Rattle.hm_names.proofs.OrderedLists.{one_of_contained, contained}
+use Rattle.hm_names.proofs.Rows as rows
 use Rattle.hm_verdicts.proofs.Lists.{one_of_left, one_of_right, one_of_either}
 use Rattle.hm_infer.specs.Told.{leading, told_name, faults_told, no_declaration, declaration_at, faults_at, IsStart, AreStartsOf}
 use Rattle.hm_infer.proofs.ToldOnce.{told_once}

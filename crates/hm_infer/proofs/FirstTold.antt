@@ -10,16 +10,16 @@ use Rattle.hm_typing.proofs.Judge.{opposite}
 use Rattle.hm_syntax.specs.Names.{Identifier}
 use Rattle.hm_syntax.specs.Trees.{Pattern, variable_pattern, bound_pattern, constructor_pattern, literal_pattern, wildcard_pattern, tuple_pattern, list_pattern, lazy_pattern, Patterns, no_patterns, more_patterns, RightSide, Declaration, data_declaration, newtype_declaration, synonym_declaration, signature, clause, pattern_binding, Declarations}
 use Rattle.hm_syntax.specs.Lists.{declarations}
-use Rattle.hm_scope.specs.ModuleCores.{ModuleCore}
-use Rattle.hm_scope.specs.Variables.{pattern_variables, patterns_variables}
-use Rattle.hm_scope.specs.Texts.{same_text}
-use Rattle.hm_scope.specs.Syntax.{Known, name_of, pattern_of, patterns_of, bindings_of, is_continued, add_clause, bound_by, declaration_count}
+use Rattle.hm_names.specs.ModuleCores.{ModuleCore}
+use Rattle.hm_names.specs.Variables.{pattern_variables, patterns_variables}
+use Rattle.hm_names.specs.Texts.{same_text}
+use Rattle.hm_names.specs.Syntax.{Known, name_of, pattern_of, patterns_of, bindings_of, is_continued, add_clause, bound_by, declaration_count}
 use Rattle.hm_syntax.specs.declared.ast.Module.{Module}
-use Rattle.hm_scope.specs.Cores.{IsSomeCore}
-use Rattle.hm_scope.specs.Entities.{own as own_entity}
-use Rattle.hm_scope.specs.Resolved.{Resolver, top, declaration_with}
-use Rattle.hm_scope.specs.Untyped.{Begins, by_clause, by_pattern, by_number, IsTold, here, behind, bare, first_text}
-use Rattle.hm_scope.proofs.Meant.{text_decides}
+use Rattle.hm_names.specs.Cores.{IsSomeCore}
+use Rattle.hm_names.specs.Entities.{own as own_entity}
+use Rattle.hm_names.specs.Resolved.{Resolver, top, declaration_with}
+use Rattle.hm_names.specs.Untyped.{Begins, by_clause, by_pattern, by_number, IsTold, here, behind, bare, first_text}
+use Rattle.hm_names.proofs.Meant.{text_decides}
 
 some_one : {X : Type 0} {a b : X} → Some a ≡ Some b → a ≡ b
 some_one h = cc

@@ -13,17 +13,17 @@ use Rattle.hm_typing.proofs.Matching.{together}
 use Rattle.hm_syntax.specs.Names.{Identifier}
 use Rattle.hm_syntax.specs.Trees.{Declaration, data_declaration, newtype_declaration, synonym_declaration, signature, clause, pattern_binding, Declarations}
 use Rattle.hm_syntax.specs.Lists.{declarations}
-use Rattle.hm_scope.specs.Cores.{IsSomeCore, known}
-use Rattle.hm_scope.specs.ModuleCores.{ModuleCore}
-use Rattle.hm_scope.specs.Syntax.{Known, name_of, bindings_of, is_continued, add_clause, bound_by}
-use Rattle.hm_scope.specs.Variables.{pattern_variables}
+use Rattle.hm_names.specs.Cores.{IsSomeCore, known}
+use Rattle.hm_names.specs.ModuleCores.{ModuleCore}
+use Rattle.hm_names.specs.Syntax.{Known, name_of, bindings_of, is_continued, add_clause, bound_by}
+use Rattle.hm_names.specs.Variables.{pattern_variables}
 use Rattle.hm_groups.specs.Groups.{node_name}
 use Rattle.hm_groups.specs.Nodes.{owner}
 use Rattle.hm_groups.specs.Variables.{Variable}
 use Rattle.hm_groups.proofs.Reached.{names_long}
-use Rattle.hm_infer.specs.Environments.{Assumed, AreAssumed}
+use Rattle.hm_expressions.specs.Environments.{Assumed, AreAssumed}
 use Rattle.hm_infer.specs.JudgedUnits.{UnitsJudged}
-use Rattle.hm_infer.specs.Stages.{IsListFound, list_of}
+use Rattle.hm_expressions.specs.Stages.{IsListFound, list_of}
 use Rattle.hm_infer.specs.UnitStarts.{HasMember}
 use Rattle.hm_infer.proofs.FirstTold.{AreByText, IsAside, core_by_text, names-add_clause, names-bound_by, names_of_pattern, own_number}
 use Rattle.hm_infer.proofs.GroupFirst.{is_aside}

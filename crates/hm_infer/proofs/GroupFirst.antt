@@ -12,11 +12,11 @@ use Rattle.hm_typing.proofs.Matching.{AreTogether, own_name}
 use Rattle.hm_syntax.specs.Names.{Identifier}
 use Rattle.hm_syntax.specs.Trees.{Patterns, RightSide, Declaration, data_declaration, newtype_declaration, synonym_declaration, signature, clause, pattern_binding, Declarations}
 use Rattle.hm_syntax.specs.Lists.{declarations}
-use Rattle.hm_scope.specs.ModuleCores.{ModuleCore}
-use Rattle.hm_scope.specs.Syntax.{Known, name_of, pattern_of, bindings_of, is_continued, add_clause, bound_by, declaration_count}
-use Rattle.hm_scope.specs.Texts.{same_text}
-use Rattle.hm_scope.specs.Variables.{pattern_variables}
-use Rattle.hm_scope.proofs.Meant.{text_decides}
+use Rattle.hm_names.specs.ModuleCores.{ModuleCore}
+use Rattle.hm_names.specs.Syntax.{Known, name_of, pattern_of, bindings_of, is_continued, add_clause, bound_by, declaration_count}
+use Rattle.hm_names.specs.Texts.{same_text}
+use Rattle.hm_names.specs.Variables.{pattern_variables}
+use Rattle.hm_names.proofs.Meant.{text_decides}
 use Rattle.hm_groups.specs.Checked.{BeginsUnsigned}
 use Rattle.hm_groups.specs.Groups.{node_name, node_names}
 use Rattle.hm_groups.specs.GroupMembers.{AreMembersOf}
@@ -25,10 +25,10 @@ use Rattle.hm_groups.specs.Nodes.{owner}
 use Rattle.hm_groups.specs.declared.members.Member.{Member}
 use Rattle.hm_groups.proofs.Reached.{FirstIs, head_owner}
 use Rattle.hm_groups.proofs.Owned.{drop_at, names_up, own_name_at, owner_begins}
-use Rattle.hm_infer.specs.BoundNames.{names_at}
+use Rattle.hm_expressions.specs.BoundNames.{names_at}
 use Rattle.hm_infer.proofs.FirstTold.{AreByText, FirstTold, IsAside, IsWithin, first_told, told_by}
 use Rattle.hm_infer.proofs.FirstTold as first
-use Rattle.hm_infer.proofs.GroupAnswers.{in_names}
+use Rattle.hm_expressions.proofs.GroupAnswers.{in_names}
 use Rattle.hm_infer.proofs.UnitSteps.{named_in}
 
 -- What stands first of a run of clauses

@@ -11,17 +11,17 @@ use Rattle.hm_typing.proofs.Judge.{Reaches-unsigned}
 use Rattle.hm_typing.proofs.Matching.{together}
 use Rattle.hm_syntax.specs.Trees.{Declaration}
 use Rattle.hm_syntax.specs.Lists.{declarations}
-use Rattle.hm_scope.specs.Cores.{IsSomeCore, known}
-use Rattle.hm_scope.specs.ModuleCores.{ModuleCore}
-use Rattle.hm_scope.specs.Untyped.{IsTold}
+use Rattle.hm_names.specs.Cores.{IsSomeCore, known}
+use Rattle.hm_names.specs.ModuleCores.{ModuleCore}
+use Rattle.hm_names.specs.Untyped.{IsTold}
 use Rattle.hm_groups.proofs.Reached.{names_long}
 use Rattle.hm_groups.specs.GroupMembers.{AreMembersOf}
 use Rattle.hm_groups.specs.Groups.{node_name}
 use Rattle.hm_groups.specs.Variables.{Variable}
 use Rattle.hm_groups.specs.declared.members.Member.{Member}
-use Rattle.hm_infer.specs.Environments.{Assumed, AreAssumed, assumptions}
+use Rattle.hm_expressions.specs.Environments.{Assumed, AreAssumed, assumptions}
 use Rattle.hm_infer.specs.JudgedUnits.{UnitsJudged}
-use Rattle.hm_infer.specs.Stages.{IsListFound, list_of}
+use Rattle.hm_expressions.specs.Stages.{IsListFound, list_of}
 use Rattle.hm_infer.specs.UnitFaults.{GroupTold}
 use Rattle.hm_infer.proofs.FirstTold.{FirstTold, core_by_text, first_member, is_first_in, told_by}
 use Rattle.hm_infer.proofs.GroupFirst.{unit_told}

@@ -8,16 +8,16 @@ use Rattle.hm_typing.specs.Units.{IsUnsigned, SameUnit}
 use Rattle.hm_typing.specs.Verdicts.{IsFirstIn, IsTypeFault}
 use Rattle.hm_syntax.specs.Trees.{Declaration, data_declaration, newtype_declaration, synonym_declaration, signature, clause, pattern_binding, Declarations}
 use Rattle.hm_syntax.specs.Lists.{declarations}
-use Rattle.hm_scope.specs.Cores.{IsSomeCore, known, syntax_of}
-use Rattle.hm_scope.specs.ModuleCores.{ModuleCore}
+use Rattle.hm_names.specs.Cores.{IsSomeCore, known, syntax_of}
+use Rattle.hm_names.specs.ModuleCores.{ModuleCore}
 use Rattle.hm_groups.proofs.Owned.{drop_at}
 use Rattle.hm_groups.specs.Groups.{node_name}
 use Rattle.hm_groups.specs.Nodes.{owner}
 use Rattle.hm_groups.specs.Variables.{Variable}
 use Rattle.hm_groups.specs.declared.members.Member.{Member}
-use Rattle.hm_infer.specs.Environments.{Assumed, AreAssumed, assumptions}
+use Rattle.hm_expressions.specs.Environments.{Assumed, AreAssumed, assumptions}
 use Rattle.hm_infer.specs.JudgedUnits.{UnitsJudged}
-use Rattle.hm_infer.specs.Stages.{IsListFound, list_of}
+use Rattle.hm_expressions.specs.Stages.{IsListFound, list_of}
 use Rattle.hm_infer.specs.Told.{IsStart, declaration_at, told_name}
 use Rattle.hm_infer.specs.UnitFaults.{AreGroupsTold, GroupTold}
 use Rattle.hm_infer.specs.UnitStarts.{AreGroupStarts, AreStartsOfKind, IsFaultStart}

@@ -12,17 +12,17 @@ use Rattle.hm_typing.specs.Assumptions.{assumptions_put}
 use Rattle.hm_typing.specs.Problems.{Unifies, Solved, MostGeneralUnifier}
 use Rattle.hm_typing.proofs.Principal.{assumptions_put_closed}
 use Rattle.hm_syntax.specs.Trees.{Declaration, Declarations}
-use Rattle.hm_scope.specs.Syntax.{Known}
+use Rattle.hm_names.specs.Syntax.{Known}
 use Rattle.hm_unify.specs.Solving.{Solving}
 use Rattle.hm_unify.specs.declared.faults.UnifyFault.{UnifyFault}
 use Rattle.hm_unify.specs.declared.faults.UnifyFault.TheVariants.{Clash, Memory}
-use Rattle.hm_infer.specs.Environments.{Assumed, AreAssumed, assumptions}
-use Rattle.hm_infer.specs.Problems.{problem, bound, HasNone, Refuses as RefusesAnswer}
+use Rattle.hm_expressions.specs.Environments.{Assumed, AreAssumed, assumptions}
+use Rattle.hm_expressions.specs.Problems.{problem, bound, HasNone, Refuses as RefusesAnswer}
 use Rattle.hm_infer.specs.SignedFaults.{BeginsRun, HasFlag, InRun, IsFaultAt, Refuses, goes_on}
-use Rattle.hm_infer.specs.SignedLists.{SignedClauseHas}
-use Rattle.hm_infer.proofs.Outcomes.{SolvedBy}
-use Rattle.hm_infer.proofs.PrincipalLists.{closed_assumptions}
-use Rattle.hm_infer.proofs.Referring.{get_at}
+use Rattle.hm_expressions.specs.SignedLists.{SignedClauseHas}
+use Rattle.hm_expressions.proofs.Outcomes.{SolvedBy}
+use Rattle.hm_expressions.proofs.PrincipalLists.{closed_assumptions}
+use Rattle.hm_expressions.proofs.Referring.{get_at}
 
 -- One clause
 

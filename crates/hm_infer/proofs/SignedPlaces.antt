@@ -16,7 +16,7 @@ use Rattle.hm_typing.proofs.Bridge.{one_kind}
 use Rattle.hm_typing.proofs.Faults.{SignedOf}
 use Rattle.hm_syntax.specs.Trees.{Declaration, data_declaration, newtype_declaration, synonym_declaration, signature, clause, pattern_binding, Declarations}
 use Rattle.hm_syntax.specs.Lists.{declarations}
-use Rattle.hm_scope.specs.Syntax.{Known, bindings_of, name_of, patterns_of, right_sides_of, signature_of, where_of}
+use Rattle.hm_names.specs.Syntax.{Known, bindings_of, name_of, patterns_of, right_sides_of, signature_of, where_of}
 use Rattle.hm_groups.proofs.Mentioned.{patterns_among, right_side_same}
 use Rattle.hm_groups.proofs.Named.{AllFit, names_fit, fit_back, fit_variable, names_unsigned, place_of, at_place}
 use Rattle.hm_groups.proofs.Reached.{names_long, never_right}
@@ -25,16 +25,16 @@ use Rattle.hm_groups.specs.Nodes.{list_nodes}
 use Rattle.hm_groups.specs.References.{DeclarationRefers, patterns_variables}
 use Rattle.hm_groups.specs.Variables.{Variable, identifier}
 use Rattle.hm_groups.specs.Walks.{IsNodeWith}
-use Rattle.hm_infer.specs.Dependences.{IsReferred, TellsNodes}
-use Rattle.hm_infer.specs.Environments.{Assumed, AreAssumed, assumptions}
+use Rattle.hm_expressions.specs.Dependences.{IsReferred, TellsNodes}
+use Rattle.hm_expressions.specs.Environments.{Assumed, AreAssumed, assumptions}
 use Rattle.hm_infer.specs.JudgedUnits.{UnitsJudged}
 use Rattle.hm_infer.specs.SignedFaults.{AreSignedFaults, BeginsRun, HasFlag, InRun, IsFaultAt, Refuses, Waits, goes_on}
-use Rattle.hm_infer.specs.SignedLists.{SignedClauseHas}
-use Rattle.hm_infer.specs.Stages.{IsListFound, list_of}
+use Rattle.hm_expressions.specs.SignedLists.{SignedClauseHas}
+use Rattle.hm_expressions.specs.Stages.{IsListFound, list_of}
 use Rattle.hm_infer.proofs.FirstTold.{AreByText, rest_by_text}
-use Rattle.hm_infer.proofs.ListSteps.{past_end}
-use Rattle.hm_infer.proofs.OpenedForms.{written_list}
-use Rattle.hm_infer.proofs.PrincipalLists.{closed_assumptions}
+use Rattle.hm_expressions.proofs.ListSteps.{past_end}
+use Rattle.hm_expressions.proofs.OpenedForms.{written_list}
+use Rattle.hm_expressions.proofs.PrincipalLists.{closed_assumptions}
 use Rattle.hm_infer.proofs.SignedClauses.{DeclarationMentions, IsClauseOf, before_named, clauses_have, clauses_together, first_clause, mention_at, mention_from, named_along, search, signed_from}
 use Rattle.hm_infer.proofs.SignedVerdicts.{fault_free, fault_refused, schemes_closed, signed_alike, signed_fault}
 

@@ -4,12 +4,12 @@ use Rattle.std.proofs.lemmas.Option.{get_or_from_slice_get, slice_get_within}
 use Rattle.hm_typing.specs.Names.{Identifier as Name}
 use Rattle.hm_syntax.specs.Trees.{Declaration, data_declaration, newtype_declaration, synonym_declaration, signature, clause, pattern_binding}
 use Rattle.hm_syntax.specs.Lists.{declarations}
-use Rattle.hm_scope.specs.Cores.{known}
-use Rattle.hm_scope.specs.ModuleCores.{ModuleCore}
-use Rattle.hm_scope.specs.Syntax.{Known}
-use Rattle.hm_scope.proofs.OrderedLists.{one_of_contained, contained}
+use Rattle.hm_names.specs.Cores.{known}
+use Rattle.hm_names.specs.ModuleCores.{ModuleCore}
+use Rattle.hm_names.specs.Syntax.{Known}
+use Rattle.hm_names.proofs.OrderedLists.{one_of_contained, contained}
 use Rattle.hm_groups.specs.Variables.{Variable}
-use Rattle.hm_infer.specs.Environments.{Assumed, AreAssumed, assumptions}
+use Rattle.hm_expressions.specs.Environments.{Assumed, AreAssumed, assumptions}
 use Rattle.hm_infer.specs.SignedFaults.{AreSignedFaults}
 use Rattle.hm_infer.specs.Told.{IsStart, no_declaration, told_name}
 use Rattle.hm_infer.specs.UnitStarts.{TellsSigned}

@@ -13,17 +13,17 @@ use Rattle.hm_typing.proofs.Names.{name_discrete}
 use Rattle.hm_syntax.specs.Names.{Identifier}
 use Rattle.hm_syntax.specs.Trees.{Declaration, data_declaration, newtype_declaration, synonym_declaration, signature, clause, pattern_binding, Declarations}
 use Rattle.hm_syntax.specs.Lists.{declarations}
-use Rattle.hm_scope.specs.Cores.{IsSomeCore, known}
-use Rattle.hm_scope.specs.ModuleCores.{ModuleCore}
-use Rattle.hm_scope.specs.Syntax.{Known, bindings_of, name_of, pattern_of}
-use Rattle.hm_scope.specs.Untyped.{Begins, by_clause, by_pattern, by_number, IsTold, here, behind}
-use Rattle.hm_scope.specs.Variables.{pattern_variables}
+use Rattle.hm_names.specs.Cores.{IsSomeCore, known}
+use Rattle.hm_names.specs.ModuleCores.{ModuleCore}
+use Rattle.hm_names.specs.Syntax.{Known, bindings_of, name_of, pattern_of}
+use Rattle.hm_names.specs.Untyped.{Begins, by_clause, by_pattern, by_number, IsTold, here, behind}
+use Rattle.hm_names.specs.Variables.{pattern_variables}
 use Rattle.hm_groups.specs.Groups.{node_name}
 use Rattle.hm_groups.specs.Variables.{Variable}
-use Rattle.hm_infer.specs.Environments.{Assumed, AreAssumed, assumptions}
+use Rattle.hm_expressions.specs.Environments.{Assumed, AreAssumed, assumptions}
 use Rattle.hm_infer.specs.JudgedUnits.{UnitsJudged}
 use Rattle.hm_infer.specs.SignedFaults.{AreSignedFaults}
-use Rattle.hm_infer.specs.Stages.{IsListFound, list_of}
+use Rattle.hm_expressions.specs.Stages.{IsListFound, list_of}
 use Rattle.hm_infer.proofs.FirstTold.{AreByText, core_by_text, names_of_pattern, own_number, told_by}
 use Rattle.hm_infer.proofs.SignedClauses.{IsClauseOf, unsigned_more}
 use Rattle.hm_infer.proofs.SignedPlaces.{SignedAt, fault_placed, place_told}

@@ -7,8 +7,8 @@ use Rattle.hm_typing.specs.Verdicts.{IsFirstIn}
 use Rattle.hm_typing.proofs.FaultLists.{SameUnit-sym}
 use Rattle.hm_syntax.specs.Names.{Identifier}
 use Rattle.hm_syntax.specs.Trees.{Declaration, data_declaration, newtype_declaration, synonym_declaration, signature, clause, pattern_binding}
-use Rattle.hm_scope.specs.ModuleCores.{ModuleCore}
-use Rattle.hm_scope.specs.Untyped.{Begins, by_clause, by_pattern, by_number, IsTold, here, behind}
+use Rattle.hm_names.specs.ModuleCores.{ModuleCore}
+use Rattle.hm_names.specs.Untyped.{Begins, by_clause, by_pattern, by_number, IsTold, here, behind}
 use Rattle.hm_infer.proofs.FirstTold.{told_by}
 
 begun_by : (c : ModuleCore) (x : Name) (d : Declaration) (j : ℕ) (n : Identifier) → Begins c x d j n → n ≡ told_by d

@@ -16,22 +16,22 @@ use Rattle.hm_typing.proofs.Judge.{Closure, Judged, Reaches-unsigned, opposite, 
 use Rattle.hm_typing.proofs.Numbering.{numbered}
 use Rattle.hm_syntax.specs.Trees.{Declaration}
 use Rattle.hm_syntax.specs.Lists.{declarations}
-use Rattle.hm_scope.specs.Syntax.{Known}
+use Rattle.hm_names.specs.Syntax.{Known}
 use Rattle.hm_groups.proofs.MemberLists.{one_pushed}
 use Rattle.hm_groups.specs.declared.members.Member.{Member}
 use Rattle.hm_groups.specs.Groups.{node_name}
 use Rattle.hm_groups.specs.Variables.{Variable}
-use Rattle.hm_infer.specs.BoundNames.{names_at}
-use Rattle.hm_infer.specs.Dependences.{IsMarked}
-use Rattle.hm_infer.specs.Environments.{Assumed, AreAssumed, assumptions}
+use Rattle.hm_expressions.specs.BoundNames.{names_at}
+use Rattle.hm_expressions.specs.Dependences.{IsMarked}
+use Rattle.hm_expressions.specs.Environments.{Assumed, AreAssumed, assumptions}
 use Rattle.hm_infer.specs.JudgedUnits.{IsBlocked, IsFreeToJudge, Units, UnitsJudged}
-use Rattle.hm_infer.specs.Stages.{IsListFound, list_of}
+use Rattle.hm_expressions.specs.Stages.{IsListFound, list_of}
 use Rattle.hm_infer.specs.UnitFaults.{AreAlike, AreGroupsTold, ArePlainGroups, GroupTold, IsSameTable, has_none, has_types}
-use Rattle.hm_infer.proofs.GroupAnswers.{in_names}
+use Rattle.hm_expressions.proofs.GroupAnswers.{in_names}
 use Rattle.hm_infer.proofs.JudgedLists.{state_of}
-use Rattle.hm_infer.proofs.MemberForms.{same_member}
-use Rattle.hm_infer.proofs.ListSteps.{past_end}
-use Rattle.hm_infer.proofs.PrincipalLists.{closed_assumptions}
+use Rattle.hm_expressions.proofs.MemberForms.{same_member}
+use Rattle.hm_expressions.proofs.ListSteps.{past_end}
+use Rattle.hm_expressions.proofs.PrincipalLists.{closed_assumptions}
 use Rattle.hm_infer.proofs.UnitSteps.{blocked, free, is_in}
 
 -- Units, by what is typed in the end

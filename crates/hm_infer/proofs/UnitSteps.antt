@@ -12,7 +12,7 @@ use Rattle.hm_typing.proofs.FaultLists.{same_own}
 use Rattle.hm_typing.proofs.Judge.{opposite}
 use Rattle.hm_syntax.specs.Trees.{Declaration, data_declaration, newtype_declaration, synonym_declaration, signature, clause, pattern_binding, Declarations}
 use Rattle.hm_syntax.specs.Lists.{declarations}
-use Rattle.hm_scope.specs.Syntax.{Known}
+use Rattle.hm_names.specs.Syntax.{Known}
 use Rattle.hm_groups.specs.Groups.{node_name, node_names}
 use Rattle.hm_groups.specs.GroupMembers.{AreMembersOf}
 use Rattle.hm_groups.specs.Nodes.{DeclarationEdge, ListEdge, Star, list_nodes, owner}
@@ -23,12 +23,12 @@ use Rattle.hm_groups.specs.declared.members.Member.{Member}
 use Rattle.hm_groups.proofs.Named.{names_unsigned, place_of}
 use Rattle.hm_groups.proofs.Reached.{names_long}
 use Rattle.hm_groups.proofs.Related.{edge_back, edge_sound}
-use Rattle.hm_infer.specs.BoundNames.{names_at}
-use Rattle.hm_infer.specs.Dependences.{IsMarked, IsTyped, TellsMembers}
+use Rattle.hm_expressions.specs.BoundNames.{names_at}
+use Rattle.hm_expressions.specs.Dependences.{IsMarked, IsTyped, TellsMembers}
 use Rattle.hm_infer.specs.JudgedUnits.{IsBlocked, IsFreeToJudge}
-use Rattle.hm_infer.specs.Stages.{IsListFound, list_of}
-use Rattle.hm_infer.proofs.GroupAnswers.{in_names}
-use Rattle.hm_infer.proofs.Naming.{node_variable}
+use Rattle.hm_expressions.specs.Stages.{IsListFound, list_of}
+use Rattle.hm_expressions.proofs.GroupAnswers.{in_names}
+use Rattle.hm_expressions.proofs.Naming.{node_variable}
 
 -- Edges, by the places of declarations
 

@@ -13,13 +13,13 @@ use Rattle.hm_typing.proofs.ListVerdicts.{faults_found, typed_where_none}
 use Rattle.hm_typing.proofs.Ordering.{layout}
 use Rattle.hm_typing.proofs.Unifying.{unification}
 use Rattle.hm_types.specs.StandardPrelude.{prelude_interface}
-use Rattle.hm_scope.specs.Cores.{IsSomeCore, assumptions, syntax_of}
-use Rattle.hm_scope.specs.Untyped.{AreToldAs, AreUntyped}
-use Rattle.hm_scope.specs.declared.faults.Fault.{Fault}
-use Rattle.hm_scope.proofs.Elaboration.{assumes_closed}
-use Rattle.hm_scope.proofs.TopVariables.{distinct_names_of_core}
-use Rattle.hm_scope.specs.ModuleCores.{ModuleCore}
-use Rattle.hm_scope.proofs.OrderedLists.{one_of_contained, contained}
+use Rattle.hm_names.specs.Cores.{IsSomeCore, assumptions, syntax_of}
+use Rattle.hm_names.specs.Untyped.{AreToldAs, AreUntyped}
+use Rattle.hm_names.specs.declared.faults.Fault.{Fault}
+use Rattle.hm_names.proofs.Elaboration.{assumes_closed}
+use Rattle.hm_names.proofs.TopVariables.{distinct_names_of_core}
+use Rattle.hm_names.specs.ModuleCores.{ModuleCore}
+use Rattle.hm_names.proofs.OrderedLists.{one_of_contained, contained}
 use Rattle.hm_verdicts.proofs.Lists.{one_of_left, one_of_right, one_of_either}
 use Rattle.hm_infer.specs.Told.{AreStartsOf, IsStart}
 use Rattle.hm_infer.specs.UnitStarts.{AreFaultStarts, AreStartsOfKind}

@@ -10,11 +10,11 @@ use Rattle.hm_typing.proofs.Groups.{GroupHas}
 use Rattle.hm_typing.proofs.Units.{Unit_typed}
 use Rattle.hm_syntax.specs.Trees.{Declaration}
 use Rattle.hm_syntax.specs.Lists.{declarations}
-use Rattle.hm_scope.specs.Syntax.{Known}
+use Rattle.hm_names.specs.Syntax.{Known}
 use Rattle.hm_groups.specs.Groups.{node_name}
-use Rattle.hm_infer.specs.BoundNames.{Sees}
-use Rattle.hm_infer.specs.Environments.{Assumed, assumptions}
-use Rattle.hm_infer.specs.Stages.{list_of}
+use Rattle.hm_expressions.specs.BoundNames.{Sees}
+use Rattle.hm_expressions.specs.Environments.{Assumed, assumptions}
+use Rattle.hm_expressions.specs.Stages.{list_of}
 
 -- all that the unit g mentions outside is typed
 abbrev pub IsFreeToJudge : Bindings → (Identifier → Bool) → (Identifier → Bool) → Type 0

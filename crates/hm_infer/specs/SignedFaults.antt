@@ -4,10 +4,10 @@ use Rattle.std.specs.List.{slice_get}
 use Rattle.hm_typing.specs.Assumptions.{Assumptions}
 use Rattle.hm_syntax.specs.Trees.{Declaration, data_declaration, newtype_declaration, synonym_declaration, signature, clause, pattern_binding, Declarations}
 use Rattle.hm_syntax.specs.Lists.{declarations}
-use Rattle.hm_scope.specs.Syntax.{Known, is_continued}
+use Rattle.hm_names.specs.Syntax.{Known, is_continued}
 use Rattle.hm_groups.specs.Variables.{Variable}
-use Rattle.hm_infer.specs.Dependences.{IsReferred, TellsNodes}
-use Rattle.hm_infer.specs.SignedLists.{SignedClauseHas}
+use Rattle.hm_expressions.specs.Dependences.{IsReferred, TellsNodes}
+use Rattle.hm_expressions.specs.SignedLists.{SignedClauseHas}
 
 -- the declaration behind the first goes on its binding
 abbrev pub goes_on : List Declaration → Bool

@@ -4,12 +4,12 @@ use Rattle.std.specs.List.{flat_map}
 use Rattle.hm_typing.specs.Names.{Identifier as Name, IsOneOf}
 use Rattle.hm_syntax.specs.Names.{Identifier}
 use Rattle.hm_syntax.specs.Trees.{Declaration, data_declaration, newtype_declaration, synonym_declaration, signature, clause, pattern_binding, unit_type}
-use Rattle.hm_scope.specs.declared.faults.Fault.{Fault}
-use Rattle.hm_scope.specs.declared.faults.Kind.TheVariants.{Untyped}
-use Rattle.hm_scope.specs.Faults.Phases.{fault}
-use Rattle.hm_scope.specs.ModuleCores.{ModuleCore}
-use Rattle.hm_scope.specs.Untyped.{IsTold, bare, first_text}
-use Rattle.hm_scope.specs.Variables.{pattern_variables}
+use Rattle.hm_names.specs.declared.faults.Fault.{Fault}
+use Rattle.hm_names.specs.declared.faults.Kind.TheVariants.{Untyped}
+use Rattle.hm_names.specs.Faults.Phases.{fault}
+use Rattle.hm_names.specs.ModuleCores.{ModuleCore}
+use Rattle.hm_names.specs.Untyped.{IsTold, bare, first_text}
+use Rattle.hm_names.specs.Variables.{pattern_variables}
 
 abbrev pub leading : List Identifier → Option Identifier
 leading [] = None

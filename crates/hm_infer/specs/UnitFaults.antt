@@ -5,7 +5,7 @@ use Rattle.hm_syntax.specs.Trees.{Declaration}
 use Rattle.hm_groups.specs.GroupMembers.{AreMembersOf}
 use Rattle.hm_groups.specs.Variables.{Variable}
 use Rattle.hm_groups.specs.declared.members.Member.{Member}
-use Rattle.hm_infer.specs.Dependences.{IsMarked, IsTyped, IsUntyped, TellsMembers}
+use Rattle.hm_expressions.specs.Dependences.{IsMarked, IsTyped, IsUntyped, TellsMembers}
 
 -- the same nodes are typed
 abbrev pub IsSameTable : List Bool → List Bool → Type 0

@@ -13,12 +13,12 @@ use Rattle.hm_typing.specs.Orders.{AreNumberedGroups}
 use Rattle.hm_typing.specs.Units.{IsSigned, IsUnsigned}
 use Rattle.hm_groups.specs.Groups.{node_name}
 use Rattle.hm_groups.specs.Variables.{Variable}
-use Rattle.hm_scope.specs.Cores.{IsSomeCore, known, syntax_of}
-use Rattle.hm_scope.specs.Syntax.{Known}
-use Rattle.hm_infer.specs.Environments.{Assumed, AreAssumed, assumptions}
+use Rattle.hm_names.specs.Cores.{IsSomeCore, known, syntax_of}
+use Rattle.hm_names.specs.Syntax.{Known}
+use Rattle.hm_expressions.specs.Environments.{Assumed, AreAssumed, assumptions}
 use Rattle.hm_infer.specs.JudgedUnits.{UnitsJudged}
-use Rattle.hm_infer.specs.Stages.{IsListFound, list_of}
-use Rattle.hm_scope.specs.ModuleCores.{ModuleCore}
+use Rattle.hm_expressions.specs.Stages.{IsListFound, list_of}
+use Rattle.hm_names.specs.ModuleCores.{ModuleCore}
 use Rattle.hm_infer.specs.Told.{IsStart}
 use Rattle.hm_infer.specs.UnitFaults.{IsFirstPlace}
 

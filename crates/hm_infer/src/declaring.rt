@@ -4,13 +4,13 @@ ghost use Rattle.std.specs.Prelude.{◌≡◌, ◌++◌, ◌∷◌, [], IfOk, On
 ghost use Rattle.std.specs.Arc.{arc_value};
 ghost use Rattle.hm_syntax.specs.Names.{Identifier};
 ghost use Rattle.hm_syntax.specs.Trees.{Declaration};
-ghost use Rattle.hm_scope.specs.Cores.{IsSomeCore, declared_schemes, imported_schemes, known, scheme_in};
-ghost use Rattle.hm_scope.specs.Faults.Lists.{Repeats};
-ghost use Rattle.hm_infer.specs.Constructors.{HasDistinctParameters, known_of};
-ghost use Rattle.hm_infer.specs.Kept.{schemes_of};
+ghost use Rattle.hm_names.specs.Cores.{IsSomeCore, declared_schemes, imported_schemes, known, scheme_in};
+ghost use Rattle.hm_names.specs.Faults.Lists.{Repeats};
+ghost use Rattle.hm_expressions.specs.Constructors.{HasDistinctParameters, known_of};
+ghost use Rattle.hm_expressions.specs.Kept.{schemes_of};
 
-use crate::constructors::{Constructors, Entry};
-use hm_scope::{Core, declared_scheme, own_entity};
+use hm_expressions::{Constructors, Entry};
+use hm_names::{Core, declared_scheme, own_entity};
 use hm_syntax::{Constr, Decl, DeclKind, Name};
 use hm_types::{ConstructorEntry, Interface};
 use std::alloc::{AllocError, Global};

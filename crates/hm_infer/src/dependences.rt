@@ -2,7 +2,7 @@
 
 ghost use Rattle.std.specs.Prelude.{◌≡◌, ◌<◌, All, Contains, IfOk, OnOk, length};
 ghost use Rattle.hm_groups.specs.Nodes.{AllShown};
-ghost use Rattle.hm_infer.specs.Dependences.{IsMarked, IsReferred, TellsMembers, TellsNodes};
+ghost use Rattle.hm_expressions.specs.Dependences.{IsMarked, IsReferred, TellsMembers, TellsNodes};
 ghost use Rattle.hm_groups.specs.declared.members.Member.{Member};
 ghost use Rattle.hm_typing.specs.Names.{IsOneOf};
 

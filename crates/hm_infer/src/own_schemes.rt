@@ -3,15 +3,13 @@
 ghost use Rattle.std.specs.Prelude.{List, ◌+◌, ◌∷◌, IfOk, OnOk};
 ghost use Rattle.hm_types.specs.Shape.{type_of};
 ghost use Rattle.hm_unify.specs.WellFormed.{IsWellFormed};
-ghost use Rattle.hm_scope.specs.SchemeTables.{scheme_of};
-ghost use Rattle.hm_infer.specs.Environments.{AreAssumed, Assumed};
-ghost use Rattle.hm_infer.specs.Kept.{assumed_of};
-ghost use Rattle.hm_infer.specs.OwnSchemes.{HaveCanonical};
+ghost use Rattle.hm_names.specs.SchemeTables.{scheme_of};
+ghost use Rattle.hm_expressions.specs.Environments.{AreAssumed, Assumed};
+ghost use Rattle.hm_expressions.specs.Kept.{assumed_of};
+ghost use Rattle.hm_expressions.specs.OwnSchemes.{HaveCanonical};
 
-use crate::environment::{Binding, Environment};
-use crate::instances::instantiate;
-use crate::names::own_text;
-use hm_scope::Schemes;
+use hm_expressions::{Binding, Environment, instantiate, own_text};
+use hm_names::Schemes;
 use hm_types::canonical;
 use std::alloc::{AllocError, Global};
 

@@ -3,15 +3,15 @@
 ghost use Rattle.std.specs.Prelude.{◌≡◌, ◌<◌, ◌++◌, All, IfOk, OnOk, List, length, option_map, string_bytes};
 ghost use Rattle.hm_syntax.specs.Lists.{patterns};
 ghost use Rattle.hm_typing.specs.Names.{Identifier as UnitName};
-ghost use Rattle.hm_scope.specs.ModuleCores.{ModuleCore};
-ghost use Rattle.hm_scope.specs.Untyped.{AreToldAs, bare, first_text};
-ghost use Rattle.hm_scope.specs.Variables.{pattern_variables, patterns_variables};
-ghost use Rattle.hm_scope.specs.Faults.Phases.{fault};
-ghost use Rattle.hm_scope.specs.declared.faults.Kind.TheVariants.{Untyped};
+ghost use Rattle.hm_names.specs.ModuleCores.{ModuleCore};
+ghost use Rattle.hm_names.specs.Untyped.{AreToldAs, bare, first_text};
+ghost use Rattle.hm_names.specs.Variables.{pattern_variables, patterns_variables};
+ghost use Rattle.hm_names.specs.Faults.Phases.{fault};
+ghost use Rattle.hm_names.specs.declared.faults.Kind.TheVariants.{Untyped};
 ghost use Rattle.hm_infer.specs.Told.{AreStartsOf, faults_told, leading, told_name};
 
 use hm_lex::Place;
-use hm_scope::{Fault, Kind, sort_faults};
+use hm_names::{Fault, Kind, sort_faults};
 use hm_syntax::{Decl, DeclKind, Name, Pat, PatKind, Row};
 use hm_types::Text;
 use std::alloc::{AllocError, Global};

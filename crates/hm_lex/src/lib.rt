@@ -17,8 +17,6 @@ mod next;
 mod quotes;
 mod runs;
 mod symbols;
-#[cfg(test)]
-mod tests;
 mod token;
 mod words;
 

@@ -1,32 +1,32 @@
 -- The answers of the phases, one after another.
-use Rattle.std.proofs.Common.{◌≡◌, ℕ, ◌<◌, ◌++◌, ◌∷◌, [], Bool, true, false, cond, List, map, filter, inl, inr, ⊎_elim, ◌↔◌, refl, sym, ap, ◌∙◌, subst, Contains, arith}
+use Rattle.std.proofs.Common.{◌≡◌, ℕ, ◌<◌, ◌++◌, ◌∷◌, [], Bool, true, false, cond, List, map, filter, Option, None, Some, inl, inr, ⊎_elim, ◌↔◌, refl, sym, ap, ◌∙◌, subst, Contains, arith}
 use Rattle.std.proofs.lemmas.List.Elements.{Contains-append_left, Contains-append_right, Contains-append_cases}
 use Rattle.hm_types.specs.declared.Entity.{Entity}
 use Rattle.hm_types.specs.Interfaces.{Exports as Interface, AreOrdered}
 use Rattle.hm_syntax.specs.Trees.{Declaration}
 use Rattle.hm_syntax.specs.declared.ast.Module.{Module}
-use Rattle.hm_scope.specs.declared.faults.Fault.{Fault}
-use Rattle.hm_scope.specs.declared.cores.Exported.{Exported}
-use Rattle.hm_scope.specs.declared.namespace.Namespace.{Namespace}
-use Rattle.hm_scope.specs.declared.namespace.Namespace.TheVariants.{Types, Constructors, Values}
-use Rattle.hm_scope.specs.declared.exports.ModuleExports.{ModuleExports}
+use Rattle.hm_names.specs.declared.faults.Fault.{Fault}
+use Rattle.hm_names.specs.declared.cores.Exported.{Exported}
+use Rattle.hm_names.specs.declared.namespace.Namespace.{Namespace}
+use Rattle.hm_names.specs.declared.namespace.Namespace.TheVariants.{Types, Constructors, Values}
+use Rattle.hm_exports.specs.declared.exports.ModuleExports.{ModuleExports}
 use Rattle.hm_scope.specs.declared.scoping.Trees.{Trees}
-use Rattle.hm_scope.specs.ModuleCores.{ModuleCore}
-use Rattle.hm_scope.specs.Cores.{IsCore, exports_in}
-use Rattle.hm_scope.specs.Bindings.{Pair, IsScopeOf}
-use Rattle.hm_scope.specs.ExportedRows.{IsBound}
-use Rattle.hm_scope.specs.ModuleExports.{AreExportsOf}
-use Rattle.hm_scope.specs.Walk.{Somewhere}
-use Rattle.hm_scope.specs.Resolved.{top, declaration_with}
-use Rattle.hm_scope.specs.Found.{Lookups, lookups_in, resolver_of}
-use Rattle.hm_scope.specs.KnownTables.{KnownTables, AreTablesOf, lookups_of}
-use Rattle.hm_scope.specs.NodeFaults.{NodeFault, AreLookupsOf}
+use Rattle.hm_names.specs.ModuleCores.{ModuleCore}
+use Rattle.hm_names.specs.Cores.{IsCore, exports_in}
+use Rattle.hm_names.specs.Bindings.{Pair, IsScopeOf}
+use Rattle.hm_exports.specs.ExportedRows.{IsBound}
+use Rattle.hm_exports.specs.ModuleExports.{AreExportsOf}
+use Rattle.hm_names.specs.Walk.{Somewhere}
+use Rattle.hm_names.specs.Resolved.{top, declaration_with}
+use Rattle.hm_names.specs.Found.{Lookups, lookups_in, resolver_of}
+use Rattle.hm_imports.specs.KnownTables.{KnownTables, AreTablesOf, lookups_of}
+use Rattle.hm_names.specs.NodeFaults.{NodeFault, AreLookupsOf}
 use Rattle.hm_scope.specs.Synonyms.{HasSynonymFault, AreResolved}
-use Rattle.hm_scope.specs.Faults.Phases.{Phase, Importing, Declaring, Exporting, Naming, Counting, phase_number, HasFault, IsWellFormed}
-use Rattle.hm_scope.specs.Answers.{is_of_lists, is_of_names, is_of_numbers, AreTrees, IsResolvedModule, AreExportedRows}
-use Rattle.hm_scope.proofs.Members.{none_in, cases, first, rest}
+use Rattle.hm_names.specs.Faults.Phases.{Phase, Importing, Declaring, Exporting, Naming, Counting, phase_number, HasFault, IsWellFormed}
+use Rattle.hm_scope.specs.Answers.{is_of_lists, is_of_names, is_of_numbers, AreTrees, AreWalked, AreFirstFaults, IsPhaseAnswer, IsResolvedModule, AreExportedRows}
+use Rattle.hm_names.proofs.Members.{none_in, cases, first, rest}
 use Rattle.hm_scope.proofs.OneEntity.{one_entity, bound_is_exported}
-use Rattle.hm_scope.proofs.Resolves.{resolves}
+use Rattle.hm_names.proofs.Resolves.{resolves}
 use Rattle.hm_scope.proofs.TreePhases.{declaring, naming, counting}
 
 -- The rows of a core
@@ -74,19 +74,12 @@ filtered p (g ∷ gs) f = go (p g) refl (filtered p gs f)
       λ k. ⊎_elim (λ q. absurd (let z : true ≡ false = sym k.1 ∙ (ap p q ∙ e) in cc)) (λ o. h.1 (o, k.1)) (cases g gs f k.0),
     )
 
-pub are_trees : (m : Module) (fs : List Interface) (pairs : List Pair) (start tables : KnownTables) (trees : Trees) (walked recursive : List Fault) → IsScopeOf m fs pairs → AreTablesOf m fs start → tables.types ≡ start.types → tables.constructors ≡ start.constructors
+pub are_walked : (m : Module) (fs : List Interface) (pairs : List Pair) (start tables : KnownTables) (ds : List Declaration) (walked : List Fault) → IsScopeOf m fs pairs → AreTablesOf m fs start → tables.types ≡ start.types → tables.constructors ≡ start.constructors
     → (IsWellFormed m fs → AreResolved m fs (lookups_of pairs tables))
     → ((gs : List Interface) → AreLookupsOf m gs (lookups_of pairs tables) → (f : Fault) → Contains walked f ↔ Somewhere m (NodeFault m gs f))
-    → trees.decls.items ≡ map (declaration_with (resolver_of (lookups_of pairs tables)) (top m) []) m.decls
-    → trees.lists.items ≡ filter is_of_lists walked → trees.names.items ≡ filter is_of_names walked → trees.numbers.items ≡ filter is_of_numbers walked ++ recursive
-    → ((f : Fault) → Contains recursive f ↔ HasSynonymFault m fs f) → AreTrees m fs trees
-are_trees m fs pairs start tables trees walked recursive scope known types constructors finished noted decls lists names numbers cycles = record {
-  lists = λ f. part is_of_lists trees.lists.items lists f (declaring m fs f);
-  names = λ f. part is_of_names trees.names.items names f (naming m fs f);
-  numbers = λ f. (
-    λ c. (counting m fs f).0 (⊎_elim (λ l. let k = (filtered is_of_numbers walked f).0 l in inl ((found f).0 k.0, k.1)) (λ r. inr ((cycles f).0 r)) (Contains-append_cases (filter is_of_numbers walked) recursive f (subst (λ l. Contains l f) numbers c))),
-    λ h. subst (λ l. Contains l f) (sym numbers) (⊎_elim (λ l. Contains-append_left (filter is_of_numbers walked) recursive f ((filtered is_of_numbers walked f).1 ((found f).1 l.0, l.1))) (λ r. Contains-append_right (filter is_of_numbers walked) recursive f ((cycles f).1 r)) ((counting m fs f).1 h)),
-  );
+    → ds ≡ map (declaration_with (resolver_of (lookups_of pairs tables)) (top m) []) m.decls → AreWalked m fs ds walked
+are_walked m fs pairs start tables ds walked scope known types constructors finished noted decls = record {
+  faults = noted fs looked;
   are_resolved = λ w. record { resolver = resolver_of k; resolves = resolves m fs k looked (finished w); trees = decls };
 }
   where
@@ -96,17 +89,27 @@ are_trees m fs pairs start tables trees walked recursive scope known types const
     looked : AreLookupsOf m fs (lookups_of pairs tables)
     looked = record {
       scope = scope;
-      types = λ e. ap (λ l. Rattle.hm_scope.specs.Found.arity_among l e) types ∙ known.types.arities e;
-      constructors = λ e. ap (λ l. Rattle.hm_scope.specs.Found.arity_among l e) constructors ∙ known.constructors.arities e;
+      types = λ e. ap (λ l. Rattle.hm_names.specs.Found.arity_among l e) types ∙ known.types.arities e;
+      constructors = λ e. ap (λ l. Rattle.hm_names.specs.Found.arity_among l e) constructors ∙ known.constructors.arities e;
     }
 
-    found : (f : Fault) → Contains walked f ↔ Somewhere m (NodeFault m fs f)
-    found f = noted fs looked f
-
+pub are_trees : (m : Module) (fs : List Interface) (trees : Trees) (walked recursive : List Fault) → AreWalked m fs trees.decls.items walked
+    → trees.lists.items ≡ filter is_of_lists walked → trees.names.items ≡ filter is_of_names walked → trees.numbers.items ≡ filter is_of_numbers walked ++ recursive
+    → ((f : Fault) → Contains recursive f ↔ HasSynonymFault m fs f) → AreTrees m fs trees
+are_trees m fs trees walked recursive are lists names numbers cycles = record {
+  lists = λ f. part is_of_lists trees.lists.items lists f (declaring m fs f);
+  names = λ f. part is_of_names trees.names.items names f (naming m fs f);
+  numbers = λ f. (
+    λ c. (counting m fs f).0 (⊎_elim (λ l. let k = (filtered is_of_numbers walked f).0 l in inl ((are.faults f).0 k.0, k.1)) (λ r. inr ((cycles f).0 r)) (Contains-append_cases (filter is_of_numbers walked) recursive f (subst (λ l. Contains l f) numbers c))),
+    λ h. subst (λ l. Contains l f) (sym numbers) (⊎_elim (λ l. Contains-append_left (filter is_of_numbers walked) recursive f ((filtered is_of_numbers walked f).1 ((are.faults f).1 l.0, l.1))) (λ r. Contains-append_right (filter is_of_numbers walked) recursive f ((cycles f).1 r)) ((counting m fs f).1 h)),
+  );
+  are_resolved = are.are_resolved;
+}
+  where
     part : (p : Fault → Bool) (l : List Fault) → l ≡ filter p walked → (f : Fault) → {H : Type 0} → (Somewhere m (NodeFault m fs f) × (p f ≡ true)) ↔ H → Contains l f ↔ H
     part p l is f says = (
-      λ c. let k = (filtered p walked f).0 (subst (λ z. Contains z f) is c) in says.0 ((found f).0 k.0, k.1),
-      λ h. let k = says.1 h in subst (λ z. Contains z f) (sym is) ((filtered p walked f).1 ((found f).1 k.0, k.1)),
+      λ c. let k = (filtered p walked f).0 (subst (λ z. Contains z f) is c) in says.0 ((are.faults f).0 k.0, k.1),
+      λ h. let k = says.1 h in subst (λ z. Contains z f) (sym is) ((filtered p walked f).1 ((are.faults f).1 k.0, k.1)),
     )
 
 -- The phases
@@ -153,11 +156,14 @@ before_counting m fs i d e n Exporting h = e
 before_counting m fs i d e n Naming h = n
 before_counting m fs i d e n Counting h = absurd (omega (arith, h))
 
-pub resolved_module : (m : Module) (fs : List Interface) (trees : Trees) (exports : ModuleExports) → AreTrees m fs trees → AreExportsOf m fs exports → ((f : Fault) → ¬ HasFault m fs Importing f) → ((f : Fault) → ¬ HasFault m fs Declaring f) → ((f : Fault) → ¬ HasFault m fs Exporting f) → ((f : Fault) → ¬ HasFault m fs Naming f) → ((f : Fault) → ¬ HasFault m fs Counting f)
-    → IsResolvedModule m fs trees.decls.items exports.given.items
-resolved_module m fs trees exports are given i d e n c = let w = well_formed m fs i d e n c in record {
+pub last_answer : (m : Module) (fs : List Interface) (o : Option (List Fault)) → ((f : Fault) → ¬ HasFault m fs Importing f) → ((f : Fault) → ¬ HasFault m fs Declaring f) → ((f : Fault) → ¬ HasFault m fs Exporting f) → ((f : Fault) → ¬ HasFault m fs Naming f) → IsPhaseAnswer m fs Counting o → AreFirstFaults m fs o
+last_answer m fs None i d e n answer = well_formed m fs i d e n answer
+last_answer m fs (Some found) i d e n answer = answer (before_counting m fs i d e n)
+
+pub resolved_module : (m : Module) (fs : List Interface) (trees : Trees) (exports : ModuleExports) → AreTrees m fs trees → AreExportsOf m fs exports → IsWellFormed m fs → IsResolvedModule m fs trees.decls.items exports.given.items
+resolved_module m fs trees exports are given w = record {
   well_formed = w;
   are_resolved = are.are_resolved w;
-  one_entity = one_entity m fs exports given e;
+  one_entity = one_entity m fs exports given (w Exporting);
   exact = bound_is_exported m fs exports given;
 }

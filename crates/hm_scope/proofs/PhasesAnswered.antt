@@ -3,9 +3,9 @@ use Rattle.std.proofs.Common.{ℕ, Bool, true, false, ◌==◌, ◌∙◌, ◌�
 use Rattle.std.proofs.lemmas.Bool.{eqb-false}
 use Rattle.hm_types.specs.Interfaces.{Exports as Interface}
 use Rattle.hm_syntax.specs.declared.ast.Module.{Module}
-use Rattle.hm_scope.specs.declared.faults.Fault.{Fault}
+use Rattle.hm_names.specs.declared.faults.Fault.{Fault}
 use Rattle.hm_scope.specs.Answers.{AreExact, IsPhaseAnswer}
-use Rattle.hm_scope.specs.Faults.Phases.{Phase, AreOrdered}
+use Rattle.hm_names.specs.Faults.Phases.{Phase, AreOrdered}
 
 pub no_answer : (m : Module) (fs : List Interface) (p : Phase) (all found : List Fault) → ((f : Fault) → Contains found f ↔ Contains all f) → length found ≡ 0 → AreExact m fs p all → IsPhaseAnswer m fs p None
 no_answer m fs p all [] same e exact = λ f h. let c = (same f).1 ((exact f).1 h) in absurd (omega (arith, c.1))

@@ -7,7 +7,7 @@ use Rattle.hm_types.specs.Interfaces.{Exports as Interface}
 use Rattle.hm_syntax.specs.declared.ast.Module.{Module}
 use Rattle.hm_graph.specs.Closure.{Closure, one, more}
 use Rattle.hm_graph.specs.Digraph.{Graph, Edge}
-use Rattle.hm_scope.specs.Faults.Arities.{RefersTo, refers, Reaches, directly, through}
+use Rattle.hm_names.specs.Faults.Arities.{RefersTo, refers, Reaches, directly, through}
 use Rattle.hm_scope.specs.Synonyms.{DeclaresSynonym, AreSynonyms, IsReferenceGraph}
 
 append : (m : Module) (fs : List Interface) {x y z : List ℕ} → Reaches m fs x y → RefersTo m fs y z → Reaches m fs x z

@@ -13,49 +13,36 @@ use Rattle.hm_syntax.specs.Names.{Identifier}
 use Rattle.hm_syntax.specs.Trees.{TypeTree, Declaration, data_declaration, newtype_declaration, synonym_declaration, signature, clause, pattern_binding}
 use Rattle.hm_syntax.specs.Lists.{declarations}
 use Rattle.hm_syntax.specs.declared.ast.Module.{Module}
-use Rattle.hm_scope.specs.declared.namespace.Namespace.TheVariants.{Types}
+use Rattle.hm_names.specs.declared.namespace.Namespace.TheVariants.{Types}
 use Rattle.hm_scope.specs.declared.own_synonyms.OwnSynonym.{OwnSynonym}
 use Rattle.hm_scope.specs.declared.own_synonyms.OwnSynonyms.{OwnSynonyms}
-use Rattle.hm_scope.specs.declared.faults.Kind.TheVariants.{Duplicate, Unbound}
-use Rattle.hm_scope.specs.Texts.{same_entity}
-use Rattle.hm_scope.specs.Variables.{texts, constructors_in}
-use Rattle.hm_scope.specs.Entities.{named, own}
-use Rattle.hm_scope.specs.Scope.{Means}
-use Rattle.hm_scope.specs.Described.{first_of, TypeMeaning, algebraic, declared_synonym, imported_synonym, TypeDescription, declared_types, imported_types, type_meant}
-use Rattle.hm_scope.specs.Walk.{Rule, InDeclaration, InDeclarations}
-use Rattle.hm_scope.specs.Expansion.{as_entity}
-use Rattle.hm_scope.specs.Types.{entity_of, synonym_of}
-use Rattle.hm_scope.specs.Resolved.{Resolver, IsResolver, synonym_meant, type_with}
-use Rattle.hm_scope.specs.Bindings.{Pair, IsScopeOf, entity, meaning_of, meaning_in}
-use Rattle.hm_scope.specs.Found.{KnownSynonym, KnownArity, lookups_in, resolver_of, resolved_name, as_meant, synonym_among}
-use Rattle.hm_scope.specs.KnownTables.{KnownTables, AreTablesOf, imported_of, imported_in, lookups_of}
-use Rattle.hm_scope.specs.Faults.Lists.{Repeats, type_names, second_type, second_parameter}
-use Rattle.hm_scope.specs.Faults.Names.{no_parameter}
-use Rattle.hm_scope.specs.Faults.Arities.{RefersTo, refers, Reaches}
-use Rattle.hm_scope.specs.Faults.Phases.{IsWellFormed, Declaring, Naming, fault}
+use Rattle.hm_names.specs.declared.faults.Kind.TheVariants.{Duplicate}
+use Rattle.hm_names.specs.Texts.{same_entity}
+use Rattle.hm_names.specs.Variables.{constructors_in}
+use Rattle.hm_names.specs.Entities.{named, own}
+use Rattle.hm_names.specs.Scope.{Means}
+use Rattle.hm_names.specs.Described.{first_of, TypeMeaning, algebraic, declared_synonym, imported_synonym, TypeDescription, declared_types, imported_types, type_meant}
+use Rattle.hm_names.specs.Expansion.{as_entity}
+use Rattle.hm_names.specs.Types.{entity_of, synonym_of}
+use Rattle.hm_names.specs.Resolved.{Resolver, IsResolver, synonym_meant, type_with}
+use Rattle.hm_names.specs.Bindings.{Pair, IsScopeOf, entity, meaning_of, meaning_in}
+use Rattle.hm_names.specs.Found.{KnownSynonym, KnownArity, lookups_in, resolver_of, resolved_name, as_meant, synonym_among}
+use Rattle.hm_imports.specs.KnownTables.{KnownTables, AreTablesOf, imported_of, imported_in, lookups_of}
+use Rattle.hm_names.specs.Faults.Lists.{Repeats, type_names, second_type}
+use Rattle.hm_names.specs.Faults.Arities.{RefersTo, refers, Reaches}
+use Rattle.hm_names.specs.Faults.Phases.{IsWellFormed, Declaring, fault}
 use Rattle.hm_scope.specs.SynonymGraphs.{IsOrder}
-use Rattle.hm_scope.specs.Synonyms.{AreOwnSynonyms, IsReferenceGraph, IsSound, IsSettled, IsExpandable, Finishes, AreResolved}
-use Rattle.hm_scope.proofs.Members.{none_in, cases, first, rest, contains_dec, name_discrete, optional_synonym_discrete, same_entity-Decides}
-use Rattle.hm_scope.proofs.Listings.{both_dec}
-use Rattle.hm_scope.proofs.Meant.{meant, one_meaning}
-use Rattle.hm_scope.proofs.Synonyms.{is_declared, is_described, not_recursive}
-use Rattle.hm_scope.proofs.Agreement.{nothing_wrong, clean_right_sides, clear_type, Alike, same_type, stably}
+use Rattle.hm_names.specs.DeclaredSynonyms.{IsSound}
+use Rattle.hm_scope.specs.Synonyms.{AreOwnSynonyms, IsReferenceGraph, IsSettled, IsExpandable, Finishes, AreResolved}
+use Rattle.hm_names.proofs.Members.{none_in, cases, first, rest, name_discrete, optional_synonym_discrete, same_entity-Decides}
+use Rattle.hm_names.proofs.Listings.{both_dec}
+use Rattle.hm_names.proofs.Meant.{meant, one_meaning}
+use Rattle.hm_names.proofs.Synonyms.{is_declared, is_described, not_recursive}
+use Rattle.hm_names.proofs.Agreement.{nothing_wrong, clean_right_sides, clear_type, Alike, same_type, stably}
 use Rattle.hm_scope.proofs.References.{reached}
+use Rattle.hm_names.proofs.SoundDeclarations.{sound}
 
 -- What a well-formed module says of its synonyms
-
-pub stands_in : (Q : Rule) (ds : List Declaration) (d : Declaration) → Contains ds d → InDeclaration Q [] d → InDeclarations Q [] (declarations ds)
-stands_in Q [] d c h = absurd (none_in d c)
-stands_in Q (e ∷ ds) d c h = elim (cases e ds d c) [ inl s ↦ inl (subst (λ z. InDeclaration Q [] z) s h) | inr o ↦ inr (stands_in Q ds d o h) ]
-
-pub sound : (m : Module) (fs : List Interface) → IsWellFormed m fs → (n : Identifier) (ps : List Identifier) (t : TypeTree) → Contains m.decls (synonym_declaration n ps t) → IsSound ps t
-sound m fs w n ps t c = record {
-  distinct = λ k r. w Declaring (fault Duplicate k) (record { kind = Duplicate; name = k; stands = inr (stands_in _ m.decls (synonym_declaration n ps t) c (inl (second_parameter r))); is = refl });
-  closed = λ k h. elim (contains_dec (texts ps) k.text) [
-    | yes i ↦ i
-    | no o ↦ absurd (w Naming (fault Unbound k) (record { kind = Unbound; name = k; stands = inr (stands_in _ m.decls (synonym_declaration n ps t) c (inl (no_parameter h o))); is = refl }))
-  ];
-}
 
 in_names : (ds : List Declaration) (n : Identifier) (ps : List Identifier) (t : TypeTree) → Contains ds (synonym_declaration n ps t) → Contains (type_names (declarations ds)) n
 in_names [] n ps t c = absurd (none_in (synonym_declaration n ps t) c)

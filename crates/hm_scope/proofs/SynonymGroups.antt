@@ -8,7 +8,7 @@ use Rattle.hm_graph.specs.Closure.{one, more}
 use Rattle.hm_graph.specs.Digraph.{Graph, Edge, Reaches, AddsEdge, IsTogether, IsGroupOf, AreGroups, lists}
 use Rattle.hm_graph.proofs.Closures.{Closure-trans}
 use Rattle.hm_scope.specs.SynonymGraphs.{MarksLoops, InLargeGroup, IsOrder}
-use Rattle.hm_scope.proofs.Members.{none_in, cases}
+use Rattle.hm_names.proofs.Members.{none_in, cases}
 use Rattle.std.specs.declared.alloc.Global.{Global}
 use native.Mathlib.Decide.{ℕ_discrete}
 

@@ -12,24 +12,24 @@ use Rattle.hm_syntax.specs.Names.{Identifier}
 use Rattle.hm_syntax.specs.Trees.{TypeTree, Declaration, synonym_declaration}
 use Rattle.hm_syntax.specs.declared.ast.Module.{Module}
 use Rattle.hm_graph.specs.Digraph.{Graph, Edge, AddsEdge}
-use Rattle.hm_scope.specs.declared.namespace.Namespace.TheVariants.{Types}
+use Rattle.hm_names.specs.declared.namespace.Namespace.TheVariants.{Types}
 use Rattle.hm_scope.specs.declared.own_synonyms.OwnSynonym.{OwnSynonym}
 use Rattle.hm_scope.specs.declared.own_synonyms.OwnSynonyms.{OwnSynonyms}
-use Rattle.hm_scope.specs.Texts.{same_text, is_text_among}
-use Rattle.hm_scope.specs.Variables.{constructors_in}
-use Rattle.hm_scope.specs.Entities.{own}
-use Rattle.hm_scope.specs.Scope.{Means, IsUnbound, IsAmbiguous}
+use Rattle.hm_names.specs.Texts.{same_text, is_text_among}
+use Rattle.hm_names.specs.Variables.{constructors_in}
+use Rattle.hm_names.specs.Entities.{own}
+use Rattle.hm_names.specs.Scope.{Means, IsUnbound, IsAmbiguous}
 use Rattle.hm_graph.specs.Digraph.{Reaches as GraphReaches}
-use Rattle.hm_scope.specs.declared.faults.Kind.{Kind}
-use Rattle.hm_scope.specs.declared.faults.Kind.TheVariants.{Recursive}
-use Rattle.hm_scope.specs.declared.faults.Fault.{Fault}
-use Rattle.hm_scope.specs.Bindings.{Adds}
-use Rattle.hm_scope.specs.Faults.Phases.{fault}
-use Rattle.hm_scope.specs.Faults.Arities.{RefersTo, refers, Reaches, SynonymFault, recursive}
+use Rattle.hm_names.specs.declared.faults.Kind.{Kind}
+use Rattle.hm_names.specs.declared.faults.Kind.TheVariants.{Recursive}
+use Rattle.hm_names.specs.declared.faults.Fault.{Fault}
+use Rattle.hm_names.specs.Bindings.{Adds}
+use Rattle.hm_names.specs.Faults.Phases.{fault}
+use Rattle.hm_names.specs.Faults.Arities.{RefersTo, refers, Reaches, SynonymFault, recursive}
 use Rattle.hm_scope.proofs.References.{reached, reaches}
 use Rattle.hm_scope.specs.Synonyms.{DeclaresSynonym, IsOnce, AreSynonyms, IsReferenceGraph, NamesOwn, declaration_of, AreOwnSynonyms, RefersIn, AddsReferences, IsMarked, IsMarkedFault, HasSynonymFault}
-use Rattle.hm_scope.proofs.Members.{none_in, cases, first}
-use Rattle.hm_scope.proofs.Standing.{among_decides}
+use Rattle.hm_names.proofs.Members.{none_in, cases, first}
+use Rattle.hm_names.proofs.Standing.{among_decides}
 
 -- Lists of names
 

@@ -3,17 +3,17 @@ use Rattle.std.proofs.Common.{◌≡◌, Bool, true, false, List, ◌⊎◌, inl
 use Rattle.hm_types.specs.Interfaces.{Exports as Interface}
 use Rattle.hm_syntax.specs.Names.{Identifier}
 use Rattle.hm_syntax.specs.declared.ast.Module.{Module}
-use Rattle.hm_scope.specs.declared.faults.Kind.{Kind}
-use Rattle.hm_scope.specs.declared.faults.Fault.{Fault}
-use Rattle.hm_scope.specs.Walk.{Locals, Node, Somewhere}
-use Rattle.hm_scope.specs.Faults.Lists.{ListFault, second_type, second_constructor, second_binding, second_signature, second_parameter, no_binding}
-use Rattle.hm_scope.specs.Faults.Names.{NameFault, unbound, ambiguous, no_parameter, non_linear}
-use Rattle.hm_scope.specs.Faults.Arities.{ArityFault, a_type, a_pattern, a_special, another_length}
-use Rattle.hm_scope.specs.Faults.Phases.{fault, HasFault, Declaring, Naming, Counting}
-use Rattle.hm_scope.specs.NodeFaults.{NodeFault}
+use Rattle.hm_names.specs.declared.faults.Kind.{Kind}
+use Rattle.hm_names.specs.declared.faults.Fault.{Fault}
+use Rattle.hm_names.specs.Walk.{Locals, Node, Somewhere}
+use Rattle.hm_names.specs.Faults.Lists.{ListFault, second_type, second_constructor, second_binding, second_signature, second_parameter, no_binding}
+use Rattle.hm_names.specs.Faults.Names.{NameFault, unbound, ambiguous, no_parameter, non_linear}
+use Rattle.hm_names.specs.Faults.Arities.{ArityFault, a_type, a_pattern, a_special, another_length}
+use Rattle.hm_names.specs.Faults.Phases.{fault, HasFault, Declaring, Naming, Counting}
+use Rattle.hm_names.specs.NodeFaults.{NodeFault}
 use Rattle.hm_scope.specs.Synonyms.{HasSynonymFault}
 use Rattle.hm_scope.specs.Answers.{lists_kind, names_kind, numbers_kind}
-use Rattle.hm_scope.proofs.Somewhere.{some_top}
+use Rattle.hm_names.proofs.Somewhere.{some_top}
 use Rattle.hm_scope.proofs.Everywhere.{each_top}
 
 -- The kinds of each relation

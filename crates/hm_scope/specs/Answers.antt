@@ -2,23 +2,25 @@
 use Rattle.std.specs.Prelude.{◌≡◌, Bool, true, false, ◌<◌, ◌⊎◌, ◌↔◌, List, Option, None, Some, map, Contains}
 use Rattle.hm_types.specs.Interfaces.{Exports as Interface}
 use Rattle.hm_syntax.specs.declared.ast.Module.{Module}
-use Rattle.hm_scope.specs.declared.faults.Kind.{Kind}
-use Rattle.hm_scope.specs.declared.faults.Kind.TheVariants.{NotExported, Duplicate, NoBinding, Unbound, Ambiguous, ExportClash, NotImported, NonLinear, Arity, ClauseLength, Untyped, Recursive}
-use Rattle.hm_scope.specs.declared.faults.Fault.{Fault}
+use Rattle.hm_names.specs.declared.faults.Kind.{Kind}
+use Rattle.hm_names.specs.declared.faults.Kind.TheVariants.{NotExported, Duplicate, NoBinding, Unbound, Ambiguous, ExportClash, NotImported, NonLinear, Arity, ClauseLength, Untyped, Recursive}
+use Rattle.hm_names.specs.declared.faults.Fault.{Fault}
 use Rattle.hm_types.specs.declared.Entity.{Entity}
 use Rattle.hm_types.specs.Interfaces.{AreOrdered}
 use Rattle.hm_syntax.specs.Trees.{Declaration}
-use Rattle.hm_scope.specs.declared.namespace.Namespace.{Namespace}
+use Rattle.hm_names.specs.declared.namespace.Namespace.{Namespace}
 use Rattle.hm_scope.specs.declared.scoping.Answer.{Answer}
 use Rattle.hm_scope.specs.declared.scoping.Answer.TheVariants.{Resolved, Faulty}
 use Rattle.hm_scope.specs.declared.scoping.Trees.{Trees}
-use Rattle.hm_scope.specs.ModuleCores.{ModuleCore}
-use Rattle.hm_scope.specs.Cores.{exports_in}
-use Rattle.hm_scope.specs.Exports.{IsExported}
-use Rattle.hm_scope.specs.Bindings.{Pair}
-use Rattle.hm_scope.specs.ExportedRows.{HaveOneEntity, IsBound}
-use Rattle.hm_scope.specs.Resolved.{Resolver, IsResolver, resolved}
-use Rattle.hm_scope.specs.Faults.Phases.{Phase, Importing, Declaring, Naming, Counting, phase_number, HasFault, IsWellFormed, AreFaults}
+use Rattle.hm_names.specs.ModuleCores.{ModuleCore}
+use Rattle.hm_names.specs.Cores.{exports_in}
+use Rattle.hm_names.specs.Exports.{IsExported}
+use Rattle.hm_names.specs.Bindings.{Pair}
+use Rattle.hm_exports.specs.ExportedRows.{HaveOneEntity, IsBound}
+use Rattle.hm_names.specs.Resolved.{Resolver, IsResolver, resolved}
+use Rattle.hm_names.specs.NodeFaults.{NodeFault}
+use Rattle.hm_names.specs.Walk.{Somewhere}
+use Rattle.hm_names.specs.Faults.Phases.{Phase, Importing, Declaring, Naming, Counting, phase_number, HasFault, IsWellFormed, AreFaults}
 
 -- the list has just the faults of the phase
 abbrev pub AreExact : Module → List Interface → Phase → List Fault → Type 0
@@ -87,6 +89,11 @@ pub record AreResolvedTrees (m : Module) (fs : List Interface) (ds : List Declar
   pub resolves : IsResolver m fs resolver
   pub trees : ds ≡ resolved m resolver
 
+-- what a walk over the module finds: the faults in its trees, and the trees where there are none
+pub record AreWalked (m : Module) (fs : List Interface) (ds : List Declaration) (found : List Fault) : Type 0 where
+  pub faults : (f : Fault) → Contains found f ↔ Somewhere m (NodeFault m fs f)
+  pub are_resolved : IsWellFormed m fs → AreResolvedTrees m fs ds
+
 -- the faults that are found in trees, by phases, and the trees where there are none
 pub record AreTrees (m : Module) (fs : List Interface) (trees : Trees) : Type 0 where
   pub lists : AreExact m fs Declaring trees.lists.items
@@ -100,6 +107,11 @@ pub record IsResolvedModule (m : Module) (fs : List Interface) (ds : List Declar
   pub are_resolved : AreResolvedTrees m fs ds
   pub one_entity : HaveOneEntity given
   pub exact : (s : Namespace) (x : List Rattle.std.specs.Prelude.ℕ) (e : Entity) → IsBound given s x e ↔ IsExported m fs s x e
+
+-- no answer where the module is well-formed, and else its faults
+abbrev pub AreFirstFaults : Module → List Interface → Option (List Fault) → Type 0
+AreFirstFaults m fs None = IsWellFormed m fs
+AreFirstFaults m fs (Some found) = AreFaults m fs found
 
 -- the answer of the phases behind that of the imports
 abbrev pub IsAnswer : Module → List Interface → Answer → Type 0

@@ -2,12 +2,12 @@
 use Rattle.std.specs.Prelude.{List, Result, Ok, Err}
 use Rattle.hm_types.specs.Interfaces.{Exports as Interface}
 use Rattle.hm_syntax.specs.declared.ast.Module.{Module}
-use Rattle.hm_scope.specs.declared.faults.ScopeFault.{ScopeFault}
-use Rattle.hm_scope.specs.declared.faults.ScopeFault.TheVariants.{Faults, Memory}
-use Rattle.hm_scope.specs.declared.faults.Fault.{Fault}
-use Rattle.hm_scope.specs.ModuleCores.{ModuleCore}
-use Rattle.hm_scope.specs.Cores.{IsCore}
-use Rattle.hm_scope.specs.Faults.Phases.{AreFaults}
+use Rattle.hm_names.specs.declared.faults.ScopeFault.{ScopeFault}
+use Rattle.hm_names.specs.declared.faults.ScopeFault.TheVariants.{Faults, Memory}
+use Rattle.hm_names.specs.declared.faults.Fault.{Fault}
+use Rattle.hm_names.specs.ModuleCores.{ModuleCore}
+use Rattle.hm_names.specs.Cores.{IsCore}
+use Rattle.hm_names.specs.Faults.Phases.{AreFaults}
 
 -- the faults of the module, unless memory ran out
 abbrev pub IsFaulty : Module → List Interface → ScopeFault → Type 0

@@ -8,19 +8,18 @@ use Rattle.hm_graph.specs.Digraph.{Graph, Edge}
 use Rattle.hm_types.specs.declared.Entity.{Entity}
 use Rattle.hm_scope.specs.declared.own_synonyms.OwnSynonym.{OwnSynonym}
 use Rattle.hm_scope.specs.declared.own_synonyms.OwnSynonyms.{OwnSynonyms}
-use Rattle.hm_scope.specs.declared.faults.Kind.{Kind}
-use Rattle.hm_scope.specs.declared.faults.Kind.TheVariants.{Recursive}
-use Rattle.hm_scope.specs.Variables.{texts, type_variables, constructors_in}
-use Rattle.hm_scope.specs.Described.{TypeDescription, type_meant}
-use Rattle.hm_scope.specs.Resolved.{Resolver, IsResolver, synonym_meant}
-use Rattle.hm_scope.specs.Found.{KnownSynonym, Lookups, resolver_of, synonym_among}
-use Rattle.hm_scope.specs.Faults.Lists.{Repeats}
-use Rattle.hm_scope.specs.declared.faults.Fault.{Fault}
-use Rattle.hm_scope.specs.declared.namespace.Namespace.TheVariants.{Types}
-use Rattle.hm_scope.specs.Entities.{own, named}
-use Rattle.hm_scope.specs.Scope.{Means}
-use Rattle.hm_scope.specs.Faults.Arities.{RefersTo, SynonymFault}
-use Rattle.hm_scope.specs.Faults.Phases.{IsWellFormed, fault}
+use Rattle.hm_names.specs.declared.faults.Kind.{Kind}
+use Rattle.hm_names.specs.declared.faults.Kind.TheVariants.{Recursive}
+use Rattle.hm_names.specs.Variables.{constructors_in}
+use Rattle.hm_names.specs.Described.{TypeDescription, type_meant}
+use Rattle.hm_names.specs.Resolved.{Resolver, IsResolver, synonym_meant}
+use Rattle.hm_names.specs.Found.{KnownSynonym, Lookups, resolver_of, synonym_among}
+use Rattle.hm_names.specs.declared.faults.Fault.{Fault}
+use Rattle.hm_names.specs.declared.namespace.Namespace.TheVariants.{Types}
+use Rattle.hm_names.specs.Entities.{own, named}
+use Rattle.hm_names.specs.Scope.{Means}
+use Rattle.hm_names.specs.Faults.Arities.{RefersTo, SynonymFault}
+use Rattle.hm_names.specs.Faults.Phases.{IsWellFormed, fault}
 
 -- the declarations declare a synonym of this name
 abbrev pub DeclaresSynonym : List Declaration → List ℕ → Type 0
@@ -90,15 +89,6 @@ pub record IsMarkedFault (names : List (List ℕ)) (marks : List Bool) (ds : Lis
   pub stands : Contains ds (synonym_declaration name parameters type)
   pub marked : IsMarked names marks name.text
   pub is : f ≡ fault Recursive name
-
--- each variable is one of these
-abbrev pub AreAmong : List (List ℕ) → List Identifier → Type 0
-AreAmong vs ns = (n : Identifier) → Contains ns n → Contains vs n.text
-
--- no parameter stands twice, and each variable of the right side is one
-pub record IsSound (ps : List Identifier) (t : TypeTree) : Type 0 where
-  pub distinct : (n : Identifier) → ¬ (Repeats ps n)
-  pub closed : AreAmong (texts ps) (type_variables t)
 
 -- what is looked up of each type constructor's synonym is what its description says
 abbrev pub AreResolved : Module → List Interface → Lookups → Type 0

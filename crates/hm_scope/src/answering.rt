@@ -3,11 +3,10 @@
 ghost use Rattle.std.specs.Prelude.{IfOk, List};
 ghost use Rattle.hm_syntax.specs.declared.ast.Module.{Module};
 ghost use Rattle.hm_scope.specs.Answers.{AreExact, IsPhaseAnswer};
-ghost use Rattle.hm_scope.specs.Faults.Phases.{Phase};
+ghost use Rattle.hm_names.specs.Faults.Phases.{Phase};
 ghost use Rattle.hm_types.specs.Interfaces.{Exports as Interface};
 
-use crate::fault_order::sort_faults;
-use crate::faults::Fault;
+use hm_names::{Fault, sort_faults};
 use hm_syntax::Row;
 use std::alloc::AllocError;
 

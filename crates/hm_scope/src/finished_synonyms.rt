@@ -4,45 +4,28 @@ ghost use Rattle.std.specs.Prelude.{◌≡◌, ◌↔◌, ◌<◌, ◌≤◌, sl
 ghost use Rattle.hm_types.specs.Interfaces.{Exports as Interface};
 ghost use Rattle.hm_types.specs.declared.Entity.{Entity};
 ghost use Rattle.hm_syntax.specs.declared.ast.Module.{Module};
-ghost use Rattle.hm_scope.specs.Bindings.{IsScopeOf};
+ghost use Rattle.hm_names.specs.Bindings.{IsScopeOf};
 ghost use Rattle.hm_scope.specs.declared.own_synonyms.OwnSynonym.{OwnSynonym};
 ghost use Rattle.hm_syntax.specs.Names.{Identifier};
-ghost use Rattle.hm_scope.specs.Entities.{named};
-ghost use Rattle.hm_scope.specs.Faults.Lists.{Repeats};
-ghost use Rattle.hm_scope.specs.Faults.Phases.{IsWellFormed};
-ghost use Rattle.hm_scope.specs.Found.{resolver_of, synonym_among};
-ghost use Rattle.hm_scope.specs.KnownTables.{AreTablesOf, lookups_of};
-ghost use Rattle.hm_scope.specs.Resolved.{Resolver, type_with};
-ghost use Rattle.hm_scope.specs.Synonyms.{AreAmong, AreOwnSynonyms, IsReferenceGraph, IsSound, IsExpandable, Finishes, AreResolved};
-ghost use Rattle.hm_scope.specs.Texts.{same_entity};
-ghost use Rattle.hm_scope.specs.Types.{synonym_of};
-ghost use Rattle.hm_scope.specs.Variables.{texts, type_variables};
+ghost use Rattle.hm_names.specs.Entities.{named};
+ghost use Rattle.hm_names.specs.Faults.Phases.{IsWellFormed};
+ghost use Rattle.hm_names.specs.Found.{resolver_of, synonym_among};
+ghost use Rattle.hm_imports.specs.KnownTables.{AreTablesOf, lookups_of};
+ghost use Rattle.hm_names.specs.Resolved.{Resolver, type_with};
+ghost use Rattle.hm_names.specs.DeclaredSynonyms.{AreAmong, IsSound};
+ghost use Rattle.hm_scope.specs.Synonyms.{AreOwnSynonyms, IsReferenceGraph, IsExpandable, Finishes, AreResolved};
+ghost use Rattle.hm_names.specs.Texts.{same_entity};
+ghost use Rattle.hm_names.specs.Types.{synonym_of};
+ghost use Rattle.hm_names.specs.Variables.{type_variables};
 
-use crate::monotypes::monotype;
 use crate::own_synonyms::{OwnSynonym, OwnSynonyms};
-use crate::resolving::Resolving;
 use crate::synonym_graph::SynonymGraph;
-use crate::table::Scope;
-use crate::tables::Tables;
-use crate::type_variables::TypeVariables;
-use crate::variables::{LentNames, add_type};
+use hm_imports::{Scope, Tables};
+use hm_names::{LentNames, TypeVariables, add_type, monotype, parameters_of};
+use hm_resolve::Resolving;
 use hm_syntax::{Module, Name, TypeExpr};
 use hm_types::Synonym;
 use std::alloc::{AllocError, Global};
-
-/// The parameters of a declaration, as type variables.
-pub(crate) fn parameters_of<'a>(
-    alloc: Global,
-    params: &'a [Name],
-) -> Result<TypeVariables<'a>, AllocError>
-    ensures { IfOk result (λ set. ((n : Identifier) → ¬ Repeats params.now n) → set ≡ texts params.now) }
-{
-    let mut names = LentNames::new(alloc);
-    'params: for param in params {
-        names.push(param)?;
-    }
-    Ok(TypeVariables::of(alloc, &names)?)
-}
 
 /// Whether each variable of a type is one of these.
 fn is_closed(

@@ -4,18 +4,16 @@ ghost use Rattle.std.specs.Prelude.{◌≡◌, ◌<◌, ◌⊎◌, ℕ, List, []
 ghost use Rattle.hm_syntax.specs.declared.ast.Module.{Module};
 ghost use Rattle.hm_types.specs.Interfaces.{Exports as Interface};
 ghost use Rattle.hm_syntax.specs.Trees.{Declaration};
-ghost use Rattle.hm_scope.specs.Entities.{own};
-ghost use Rattle.hm_scope.specs.Scope.{Means};
-ghost use Rattle.hm_scope.specs.declared.namespace.Namespace.TheVariants.{Types};
-ghost use Rattle.hm_scope.specs.Bindings.{IsScopeOf};
+ghost use Rattle.hm_names.specs.Entities.{own};
+ghost use Rattle.hm_names.specs.Scope.{Means};
+ghost use Rattle.hm_names.specs.declared.namespace.Namespace.TheVariants.{Types};
+ghost use Rattle.hm_names.specs.Bindings.{IsScopeOf};
 ghost use Rattle.hm_scope.specs.Synonyms.{declaration_of, AreSynonyms, AreOwnSynonyms, IsOnce, IsReferenceGraph, NamesOwn, RefersIn, AddsReferences};
 
-use crate::namespace::Namespace;
 use crate::synonym_graph::SynonymGraph;
-use crate::table::{Meaning, Scope};
-use crate::text_set::TextSet;
 use crate::type_names::add_type;
-use crate::variables::LentNames;
+use hm_imports::{Meaning, Scope, TextSet};
+use hm_names::{LentNames, Namespace};
 use hm_syntax::{Decl, DeclKind, Module, Name, TypeExpr};
 use std::alloc::{AllocError, Global};
 

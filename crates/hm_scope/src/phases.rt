@@ -3,7 +3,7 @@
 ghost use Rattle.std.specs.Prelude.{◌≡◌, ◌++◌, ◌∷◌, [], IfOk, OnOk, filter};
 ghost use Rattle.hm_scope.specs.Answers.{is_of_lists, is_of_names, is_of_numbers};
 
-use crate::faults::{Fault, Kind};
+use hm_names::{Fault, Kind};
 use std::alloc::{AllocError, Global};
 
 /// The faults of a module's trees: of declaration lists, of names, and of numbers of arguments.

@@ -2,14 +2,13 @@
 
 ghost use Rattle.std.specs.Prelude.{◌≡◌, ◌<◌, ◌↔◌, ℕ, List, [], ◌∷◌, IsTrue, IfOk, OnOk, Contains, length};
 ghost use Rattle.hm_types.specs.Interfaces.{Exports as Interface};
-ghost use Rattle.hm_scope.specs.Bindings.{IsScopeOf, Adds};
+ghost use Rattle.hm_names.specs.Bindings.{IsScopeOf, Adds};
 ghost use Rattle.hm_scope.specs.Synonyms.{AreSynonyms, IsOnce, IsReferenceGraph, IsMarked, IsMarkedFault, HasSynonymFault};
-ghost use Rattle.hm_scope.specs.declared.faults.Fault.{Fault};
+ghost use Rattle.hm_names.specs.declared.faults.Fault.{Fault};
 
-use crate::fault_names::fault_at;
-use crate::faults::{Fault, Kind};
 use crate::synonym_graph::SynonymGraph;
-use crate::text_set::TextSet;
+use hm_imports::TextSet;
+use hm_names::{Fault, Kind, fault_at};
 use hm_syntax::{Decl, DeclKind, Module, Name};
 use std::alloc::{AllocError, Global};
 

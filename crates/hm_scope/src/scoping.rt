@@ -1,34 +1,31 @@
 //! The core of a module, or its faults.
 
-ghost use Rattle.std.specs.Prelude.{◌≡◌, ◌↔◌, ◌++◌, ◌∷◌, [], List, map, IfOk, IfErr, Contains};
+ghost use Rattle.std.specs.Prelude.{◌≡◌, ◌↔◌, ◌++◌, ◌∷◌, [], List, length, map, IfOk, IfErr, Contains};
 ghost use Rattle.std.specs.Arc.{arc_value};
+ghost use Rattle.hm_syntax.specs.declared.ast.Module.{Module as ModuleTree};
 ghost use Rattle.hm_types.specs.Interfaces.{Exports as Interface, AreOrdered};
 ghost use Rattle.hm_types.specs.StandardPrelude.{prelude_interface};
-ghost use Rattle.hm_scope.specs.declared.faults.Fault.{Fault};
-ghost use Rattle.hm_scope.specs.declared.namespace.Namespace.{Namespace};
-ghost use Rattle.hm_scope.specs.Answers.{AreTrees, IsAnswerBehind, AreExportedRows};
-ghost use Rattle.hm_scope.specs.Bindings.{IsScopeOf};
-ghost use Rattle.hm_scope.specs.Cores.{IsCore};
-ghost use Rattle.hm_scope.specs.ExportedRows.{HaveOneEntity, IsBound};
-ghost use Rattle.hm_scope.specs.Imports.{AreImportsOf};
+ghost use Rattle.hm_names.specs.declared.faults.Fault.{Fault};
+ghost use Rattle.hm_names.specs.declared.namespace.Namespace.{Namespace};
+ghost use Rattle.hm_scope.specs.Answers.{AreExact, AreFirstFaults, AreTrees, AreWalked, IsAnswerBehind, AreExportedRows};
+ghost use Rattle.hm_scope.specs.Synonyms.{AreOwnSynonyms, HasSynonymFault, IsReferenceGraph};
+ghost use Rattle.hm_names.specs.Bindings.{IsScopeOf};
+ghost use Rattle.hm_names.specs.Cores.{IsCore};
+ghost use Rattle.hm_exports.specs.ExportedRows.{HaveOneEntity, IsBound};
+ghost use Rattle.hm_names.specs.Faults.Phases.{HasFault, Importing, Declaring, Exporting, Naming, Counting};
+ghost use Rattle.hm_names.specs.Imports.{AreImportsOf};
 ghost use Rattle.hm_scope.specs.Outcome.{IsFaulty, IsOutcome};
 
 use crate::answering::phase_answer;
-use crate::bindings::Binding;
-use crate::exported::exported_in;
-use crate::exports::module_exports;
-use crate::faults::Fault;
-use crate::faulty_imports::import_faults;
 use crate::finished_synonyms::add_synonyms;
-use crate::imports::{interfaces_of, scope_of};
-use crate::namespace::Namespace;
-use crate::own_synonyms::{own_synonyms, reference_graph};
+use crate::own_synonyms::{OwnSynonyms, own_synonyms, reference_graph};
 use crate::phases::by_phases;
 use crate::recursive_synonyms::synonym_faults;
-use crate::table::Scope;
-use crate::tables::Tables;
-use crate::walking::walk;
-use crate::{Core, Exported, ScopeFault};
+use crate::synonym_graph::SynonymGraph;
+use hm_exports::{ModuleExports, exported_in, module_exports};
+use hm_imports::{Binding, Scope, Tables, import_faults, interfaces_of, scope_of};
+use hm_names::{Core, Exported, Fault, Namespace, ScopeFault};
+use hm_resolve::{Walked, walk};
 use hm_syntax::{Decl, Module, Row};
 use hm_types::{Interface, Text, prelude};
 use std::alloc::{AllocError, Global};
@@ -62,6 +59,41 @@ fn joined(faults: Vec<Fault>, others: Vec<Fault>) -> Result<Vec<Fault>, AllocErr
     Ok(all)
 }
 
+/// What the walk finds in a module whose synonyms are these.
+fn walked_trees<'a>(
+    alloc: Global,
+    module: &'a Module,
+    interfaces: &[&'a Interface],
+    scope: &Scope<'a>,
+    synonyms: &OwnSynonyms<'a>,
+    graph: &SynonymGraph,
+) -> Result<Walked, AllocError>
+    requires scope { IsScopeOf «module».now (map (λ f. f.now) interfaces.now) scope.now }
+    requires synonyms { AreOwnSynonyms «module».now.decls synonyms.now }
+    requires nodes { length graph.now ≡ length synonyms.now.names }
+    requires edges { IsReferenceGraph «module».now (map (λ f. f.now) interfaces.now) synonyms.now.names graph.now }
+    ensures { IfOk result (λ walked. AreWalked «module».now (map (λ f. f.now) interfaces.now) walked.decls.items walked.faults.items) }
+{
+    let mut tables = Tables::of(alloc, module, interfaces)?;
+    add_synonyms(alloc, &mut tables, scope, module, synonyms, graph)?;
+    Ok(walk(alloc, scope, &tables, module)?)
+}
+
+/// The trees of a walk, its faults by phases, with those of synonyms that are recursive.
+fn trees_of(alloc: Global, walked: Walked, recursive: Vec<Fault>) -> Result<Trees, AllocError>
+    ensures { IfOk result (λ trees. (m : ModuleTree) (fs : List Interface) → AreWalked m fs walked.decls.items walked.faults.items → ((f : Fault) → Contains recursive.items f ↔ HasSynonymFault m fs f) → AreTrees m fs trees) }
+{
+    let Walked { decls, faults } = walked;
+    let parts = by_phases(alloc, faults)?;
+    let numbers = joined(parts.numbers, recursive)?;
+    Ok(Trees {
+        decls,
+        lists: parts.lists,
+        names: parts.names,
+        numbers,
+    })
+}
+
 /// The trees of a module, whose names are resolved where there are no faults.
 fn resolved_trees<'a>(
     alloc: Global,
@@ -72,19 +104,35 @@ fn resolved_trees<'a>(
     requires { IsScopeOf «module».now (map (λ f. f.now) interfaces.now) scope.now }
     ensures { IfOk result (AreTrees «module».now (map (λ f. f.now) interfaces.now)) }
 {
-    let mut tables = Tables::of(alloc, module, interfaces)?;
     let synonyms = own_synonyms(alloc, module.decls.as_slice())?;
     let graph = reference_graph(alloc, scope, module, &synonyms.names)?;
-    add_synonyms(alloc, &mut tables, scope, module, &synonyms, &graph)?;
-    let walked = walk(alloc, scope, &tables, module)?;
-    let parts = by_phases(alloc, walked.faults)?;
     let recursive = synonym_faults(alloc, module, &synonyms.names, &graph)?;
-    Ok(Trees {
-        decls: walked.decls,
-        lists: parts.lists,
-        names: parts.names,
-        numbers: joined(parts.numbers, recursive)?,
-    })
+    let walked = walked_trees(alloc, module, interfaces, scope, &synonyms, &graph)?;
+    Ok(trees_of(alloc, walked, recursive)?)
+}
+
+/// The faults of the first of the phases behind that of the imports that has any, in order.
+fn first_faults(
+    lists: Vec<Fault>,
+    exports: Vec<Fault>,
+    names: Vec<Fault>,
+    numbers: Vec<Fault>,
+) -> Result<Option<Row<Fault>>, AllocError>
+    ensures { IfOk result (λ found. (m : ModuleTree) (fs : List Interface) → AreExact m fs Declaring lists.items → AreExact m fs Exporting exports.items → AreExact m fs Naming names.items → AreExact m fs Counting numbers.items → ((f : Fault) → ¬ (HasFault m fs Importing f)) → AreFirstFaults m fs found) }
+{
+    match phase_answer(lists)? {
+        Some(found) => return Ok(Some(found)),
+        None => {}
+    }
+    match phase_answer(exports)? {
+        Some(found) => return Ok(Some(found)),
+        None => {}
+    }
+    match phase_answer(names)? {
+        Some(found) => return Ok(Some(found)),
+        None => {}
+    }
+    Ok(phase_answer(numbers)?)
 }
 
 /// The answer of the phases behind that of the imports.
@@ -97,25 +145,17 @@ fn behind_imports<'a>(
     requires { IsScopeOf «module».now (map (λ f. f.now) interfaces.now) scope.now }
     ensures { IfOk result (λ answer. IsAnswerBehind «module».now (map (λ f. f.now) interfaces.now) answer) }
 {
-    let trees = resolved_trees(alloc, module, interfaces, scope)?;
-    match phase_answer(trees.lists)? {
-        Some(found) => return Ok(Answer::Faulty(found)),
-        None => {}
+    let Trees {
+        decls,
+        lists,
+        names,
+        numbers,
+    } = resolved_trees(alloc, module, interfaces, scope)?;
+    let ModuleExports { given, faults } = module_exports(alloc, module, interfaces, scope)?;
+    match first_faults(lists, faults, names, numbers)? {
+        Some(found) => Ok(Answer::Faulty(found)),
+        None => Ok(Answer::Resolved(decls, given)),
     }
-    let exports = module_exports(alloc, module, interfaces, scope)?;
-    match phase_answer(exports.faults)? {
-        Some(found) => return Ok(Answer::Faulty(found)),
-        None => {}
-    }
-    match phase_answer(trees.names)? {
-        Some(found) => return Ok(Answer::Faulty(found)),
-        None => {}
-    }
-    match phase_answer(trees.numbers)? {
-        Some(found) => return Ok(Answer::Faulty(found)),
-        None => {}
-    }
-    Ok(Answer::Resolved(trees.decls, exports.given))
 }
 
 /// The interfaces for which a core was made, shared.

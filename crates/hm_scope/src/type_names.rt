@@ -2,15 +2,15 @@
 
 ghost use Rattle.std.specs.Prelude.{◌≡◌, ◌++◌, OnOk};
 ghost use Rattle.hm_syntax.specs.Lists.{types};
-ghost use Rattle.hm_scope.specs.Variables.{constructors_in, constructors_in_all};
+ghost use Rattle.hm_names.specs.Variables.{constructors_in, constructors_in_all};
 
-use crate::variables::LentNames;
+use hm_names::LentNames;
 use hm_syntax::{TypeExpr, TypeKind};
 use std::alloc::AllocError;
 
 /// Adds the type constructors in a type.
 #[cycle(types)]
-#[tactic(auto, using(crate::proofs::Rows::type_falls))]
+#[tactic(auto, using(hm_names::proofs::Rows::type_falls))]
 pub(crate) fn add_type<'a>(out: &mut LentNames<'a>, ty: &'a TypeExpr) -> Result<(), AllocError>
     ensures { OnOk result (out.new ≡ out.old ++ constructors_in ty.now) }
 {
@@ -34,7 +34,7 @@ pub(crate) fn add_type<'a>(out: &mut LentNames<'a>, ty: &'a TypeExpr) -> Result<
 
 /// Adds the type constructors in types in a row.
 #[cycle(types)]
-#[tactic(auto, using(crate::proofs::Rows::type_falls))]
+#[tactic(auto, using(hm_names::proofs::Rows::type_falls))]
 pub(crate) fn add_types<'a>(out: &mut LentNames<'a>, row: &'a [TypeExpr]) -> Result<(), AllocError>
     ensures { OnOk result (out.new ≡ out.old ++ constructors_in_all (types row.now)) }
 {

@@ -8,27 +8,27 @@ use Rattle.hm_syntax.specs.declared.ast.Import.{Import}
 use Rattle.hm_syntax.specs.declared.ast.Export.{Export}
 use Rattle.hm_syntax.specs.declared.ast.Item.{Item}
 use Rattle.hm_syntax.specs.Names.{Identifier}
-use Rattle.hm_scope.specs.declared.namespace.Namespace.{Namespace}
-use Rattle.hm_scope.specs.declared.namespace.Namespace.TheVariants.{Types, Constructors, Values}
-use Rattle.hm_scope.specs.declared.faults.Kind.{Kind}
-use Rattle.hm_scope.specs.Entities.{Exports, a_type, a_synonym, a_constructor, a_value, Belongs}
-use Rattle.hm_scope.specs.Scope.{Lists, Hides, Brings, InScope, IsUnbound, IsAmbiguous, Means}
-use Rattle.hm_scope.specs.Scope as scope
-use Rattle.hm_scope.specs.Described.{algebraic, imported_synonym, imported_types, imported_constructors, TypeDescription, type_meant, ConstructorDescription, constructor_meant}
-use Rattle.hm_scope.specs.Exports.{IsConstructorOf, HasConstructor, Gives, IsExported}
-use Rattle.hm_scope.specs.Exports as giving
-use Rattle.hm_scope.specs.Faults.Imports.{ListsItem, lists, ImportFault}
-use Rattle.hm_scope.specs.Faults.Imports as importing
-use Rattle.hm_scope.specs.Faults.Exports.{Clashes, ExportFault, IsAtMost, item_name, bare_at}
-use Rattle.hm_scope.specs.Faults.Exports as exporting
-use Rattle.hm_scope.specs.Faults.Names.{NameFault}
-use Rattle.hm_scope.specs.Faults.Names as naming
-use Rattle.hm_scope.specs.Faults.Arities.{ArityFault, RefersTo, refers, Reaches, directly, through, SynonymFault, recursive}
-use Rattle.hm_scope.specs.Faults.Arities as counting
-use Rattle.hm_scope.specs.Faults.Phases.{Phase, Importing, Declaring, Exporting, Naming, Counting, FaultAt, HasFault, IsWellFormed, AreFaults}
-use Rattle.hm_scope.specs.Walk.{Locals, Node}
-use Rattle.hm_scope.specs.Resolved.{Resolver, IsResolver}
-use Rattle.hm_scope.specs.declared.faults.Fault.{Fault}
+use Rattle.hm_names.specs.declared.namespace.Namespace.{Namespace}
+use Rattle.hm_names.specs.declared.namespace.Namespace.TheVariants.{Types, Constructors, Values}
+use Rattle.hm_names.specs.declared.faults.Kind.{Kind}
+use Rattle.hm_names.specs.Entities.{Exports, a_type, a_synonym, a_constructor, a_value, Belongs}
+use Rattle.hm_names.specs.Scope.{Lists, Hides, Brings, InScope, IsUnbound, IsAmbiguous, Means}
+use Rattle.hm_names.specs.Scope as scope
+use Rattle.hm_names.specs.Described.{algebraic, imported_synonym, imported_types, imported_constructors, TypeDescription, type_meant, ConstructorDescription, constructor_meant}
+use Rattle.hm_names.specs.Exports.{IsConstructorOf, HasConstructor, Gives, IsExported}
+use Rattle.hm_names.specs.Exports as giving
+use Rattle.hm_names.specs.Faults.Imports.{ListsItem, lists, ImportFault}
+use Rattle.hm_names.specs.Faults.Imports as importing
+use Rattle.hm_names.specs.Faults.Exports.{Clashes, ExportFault, IsAtMost, item_name, bare_at}
+use Rattle.hm_names.specs.Faults.Exports as exporting
+use Rattle.hm_names.specs.Faults.Names.{NameFault}
+use Rattle.hm_names.specs.Faults.Names as naming
+use Rattle.hm_names.specs.Faults.Arities.{ArityFault, RefersTo, refers, Reaches, directly, through, SynonymFault, recursive}
+use Rattle.hm_names.specs.Faults.Arities as counting
+use Rattle.hm_names.specs.Faults.Phases.{Phase, Importing, Declaring, Exporting, Naming, Counting, FaultAt, HasFault, IsWellFormed, AreFaults}
+use Rattle.hm_names.specs.Walk.{Locals, Node}
+use Rattle.hm_names.specs.Resolved.{Resolver, IsResolver}
+use Rattle.hm_names.specs.declared.faults.Fault.{Fault}
 use Rattle.hm_verdicts.specs.Skeletons.{skeleton, without_scheme}
 use Rattle.hm_verdicts.proofs.Lists.{one_of_contained, contained, one_of_map, one_of_mapped}
 use Rattle.hm_verdicts.proofs.Walking.{somewhere}
@@ -143,10 +143,10 @@ module _ (m : Module) where
   }
 
   pub moved_type_meant : (fs gs : List Interface) → Alike fs gs → (e : Entity) → type_meant m.header.name.text m.decls fs e ≡ type_meant m.header.name.text m.decls gs e
-  moved_type_meant fs gs a e = ap (λ r. Rattle.hm_scope.specs.Described.first_of (λ d. d.entity) e (Rattle.hm_scope.specs.Described.declared_types m.header.name.text m.decls ++ r)) a.types
+  moved_type_meant fs gs a e = ap (λ r. Rattle.hm_names.specs.Described.first_of (λ d. d.entity) e (Rattle.hm_names.specs.Described.declared_types m.header.name.text m.decls ++ r)) a.types
 
   pub moved_constructor_meant : (fs gs : List Interface) → Alike fs gs → (e : Entity) → constructor_meant m.header.name.text m.decls fs e ≡ constructor_meant m.header.name.text m.decls gs e
-  moved_constructor_meant fs gs a e = ap (λ r. Rattle.hm_scope.specs.Described.first_of (λ d. d.entity) e (Rattle.hm_scope.specs.Described.declared_constructors m.header.name.text m.decls ++ r)) a.constructors
+  moved_constructor_meant fs gs a e = ap (λ r. Rattle.hm_names.specs.Described.first_of (λ d. d.entity) e (Rattle.hm_names.specs.Described.declared_constructors m.header.name.text m.decls ++ r)) a.constructors
 
   moved_has_constructor : (fs gs : List Interface) → Alike fs gs → (t : Entity) (c : List ℕ) (k : Entity) → HasConstructor m fs t c k → HasConstructor m gs t c k
   moved_has_constructor fs gs a t c k h = ((h.0.0, (sym (moved_constructor_meant fs gs a k) ∙ h.0.1.0, h.0.1.1)), (h.1.0, moved_in_scope fs gs a Constructors h.1.0 c k h.1.1))

@@ -8,10 +8,10 @@ use Rattle.hm_typing.specs.Names.{IsOneOf}
 use Rattle.hm_syntax.specs.declared.ast.Import.{Import}
 use Rattle.hm_syntax.specs.declared.ast.Module.{Module}
 use Rattle.hm_graph.specs.Imports.{Modules, IsImportList, name_at, imports_at, prelude}
-use Rattle.hm_scope.specs.Imports.{AreImportsOf, imported, imported_after}
-use Rattle.hm_scope.specs.Texts.{is_text_among, same_text}
-use Rattle.hm_scope.proofs.Meant.{text_decides}
-use Rattle.hm_scope.proofs.Members.{text_discrete}
+use Rattle.hm_names.specs.Imports.{AreImportsOf, imported, imported_after}
+use Rattle.hm_names.specs.Texts.{is_text_among, same_text}
+use Rattle.hm_names.proofs.Meant.{text_decides}
+use Rattle.hm_names.proofs.Members.{text_discrete}
 use Rattle.hm_verdicts.specs.Progress.{Progress, ArePublishedIn, IsSettledSoFar}
 use Rattle.hm_verdicts.specs.Sets.{ModuleSet, module_at, imports_of, no_module, outlines_of, IsLawfulSet}
 use Rattle.hm_verdicts.specs.Verdicts.{Published}

@@ -8,7 +8,7 @@ use Rattle.hm_typing.specs.Programs.{monotype_of, scheme_of, variable_of}
 use Rattle.hm_typing.specs.Schemes.{Monotype, closed, IsAtMostAsGeneral}
 use Rattle.hm_typing.proofs.Programs.{decided}
 use Rattle.hm_typing.proofs.Types.{put-put, put-Var}
-use Rattle.hm_scope.specs.Types.{declared_scheme}
+use Rattle.hm_names.specs.Types.{declared_scheme}
 use Rattle.hm_verdicts.specs.ModuleVerdicts.{IsCanonical, AreEquallyGeneral}
 use Rattle.hm_verdicts.proofs.Chosen.{closed_inj}
 

@@ -17,10 +17,10 @@ use Rattle.hm_typing.specs.Syntax.{Bindings, names}
 use Rattle.hm_typing.proofs.Bind.{is_one_of, instance_closed}
 use Rattle.hm_typing.proofs.ModuleSets.{body_of, body_in, outer_closed, HasSchemes-agree}
 use Rattle.hm_typing.proofs.Types.{put-Var}
-use Rattle.hm_scope.proofs.Elaboration.{assumes_closed}
-use Rattle.hm_scope.proofs.Members.{first_of-is}
-use Rattle.hm_scope.specs.ModuleCores.{ModuleCore}
-use Rattle.hm_scope.specs.Cores.{IsTop, HasScheme, own, other, assumed, assumptions, imported_values, syntax_of}
+use Rattle.hm_names.proofs.Elaboration.{assumes_closed}
+use Rattle.hm_names.proofs.Members.{first_of-is}
+use Rattle.hm_names.specs.ModuleCores.{ModuleCore}
+use Rattle.hm_names.specs.Cores.{IsTop, HasScheme, own, other, assumed, assumptions, imported_values, syntax_of}
 use Rattle.hm_verdicts.specs.ModuleVerdicts.{Good, IsCanonical, AreEquallyGeneral}
 use Rattle.hm_verdicts.specs.Readings.{Reading, variables, prelude_variables, prelude_table}
 use Rattle.hm_verdicts.specs.Sets.{ModuleSet, imports_of, IsLawfulSet}

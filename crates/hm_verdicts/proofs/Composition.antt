@@ -12,13 +12,13 @@ use Rattle.hm_typing.proofs.SetVerdicts.{not_both}
 use Rattle.hm_typing.proofs.Unifying.{unification}
 use Rattle.hm_syntax.specs.Names.{Identifier as Name}
 use Rattle.hm_syntax.specs.Trees.{Declaration}
-use Rattle.hm_scope.specs.ModuleCores.{ModuleCore}
-use Rattle.hm_scope.specs.Cores.{IsCore, assumptions, syntax_of, imported_values}
-use Rattle.hm_scope.specs.Faults.Phases.{AreFaults, IsWellFormed}
-use Rattle.hm_scope.specs.Untyped.{Begins, by_clause, by_pattern, by_number, IsTold, here, behind, AreToldAs, AreUntyped}
-use Rattle.hm_scope.specs.declared.faults.Fault.{Fault}
-use Rattle.hm_scope.proofs.Elaboration.{assumes_closed}
-use Rattle.hm_scope.proofs.TopVariables.{distinct_names_of_core}
+use Rattle.hm_names.specs.ModuleCores.{ModuleCore}
+use Rattle.hm_names.specs.Cores.{IsCore, assumptions, syntax_of, imported_values}
+use Rattle.hm_names.specs.Faults.Phases.{AreFaults, IsWellFormed}
+use Rattle.hm_names.specs.Untyped.{Begins, by_clause, by_pattern, by_number, IsTold, here, behind, AreToldAs, AreUntyped}
+use Rattle.hm_names.specs.declared.faults.Fault.{Fault}
+use Rattle.hm_names.proofs.Elaboration.{assumes_closed}
+use Rattle.hm_names.proofs.TopVariables.{distinct_names_of_core}
 use Rattle.hm_verdicts.specs.Readings.{Reading, variables, prelude_variables, prelude_table}
 use Rattle.hm_verdicts.specs.Sets.{ModuleSet, module_at, imports_of, IsLawfulSet}
 use Rattle.hm_verdicts.specs.Skeletons.{skeleton, with_prelude}

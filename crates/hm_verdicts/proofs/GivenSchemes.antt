@@ -18,12 +18,12 @@ use Rattle.hm_typing.proofs.Principal.{principal}
 use Rattle.hm_typing.proofs.Programs.{decided}
 use Rattle.hm_typing.proofs.Unifying.{unification}
 use Rattle.hm_syntax.specs.declared.ast.Module.{Module}
-use Rattle.hm_scope.specs.Cores.{IsCore, IsTop, assumptions, syntax_of}
-use Rattle.hm_scope.specs.Entities.{named}
-use Rattle.hm_scope.specs.ModuleCores.{ModuleCore}
-use Rattle.hm_scope.specs.Types.{declared_scheme}
-use Rattle.hm_scope.proofs.Elaboration.{assumes_closed}
-use Rattle.hm_scope.proofs.TopEntities.{top_is_bound}
+use Rattle.hm_names.specs.Cores.{IsCore, IsTop, assumptions, syntax_of}
+use Rattle.hm_names.specs.Entities.{named}
+use Rattle.hm_names.specs.ModuleCores.{ModuleCore}
+use Rattle.hm_names.specs.Types.{declared_scheme}
+use Rattle.hm_names.proofs.Elaboration.{assumes_closed}
+use Rattle.hm_names.proofs.TopEntities.{top_is_bound}
 use Rattle.hm_verdicts.specs.ModuleVerdicts.{ArePrincipal, IsCanonical, AreEquallyGeneral}
 use Rattle.hm_verdicts.proofs.CanonicalSchemes.{program, program_back, no_rigid, with_body}
 

@@ -4,10 +4,10 @@ use Rattle.hm_types.specs.Interfaces.{Exports as Interface}
 use Rattle.hm_typing.specs.Names.{Identifier, local, global, binding, IsOneOf}
 use Rattle.hm_typing.specs.Syntax.{names}
 use Rattle.hm_syntax.specs.declared.ast.Module.{Module}
-use Rattle.hm_scope.specs.ModuleCores.{ModuleCore}
-use Rattle.hm_scope.specs.Cores.{IsCore, syntax_of}
-use Rattle.hm_scope.specs.Laws.{IsOwn}
-use Rattle.hm_scope.proofs.TopVariables.{own_names_of_core}
+use Rattle.hm_names.specs.ModuleCores.{ModuleCore}
+use Rattle.hm_names.specs.Cores.{IsCore, syntax_of}
+use Rattle.hm_names.specs.Laws.{IsOwn}
+use Rattle.hm_names.proofs.TopVariables.{own_names_of_core}
 
 -- a name of the module that is called so
 abbrev pub IsOf : List ℕ → Identifier → Type 0

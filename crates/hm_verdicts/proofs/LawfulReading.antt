@@ -11,21 +11,21 @@ use Rattle.hm_typing.specs.Verdicts.{InClosure, itself, imported, IsImportedBy, 
 use Rattle.hm_syntax.specs.declared.ast.Export.{Export}
 use Rattle.hm_syntax.specs.declared.ast.Module.{Module}
 use Rattle.hm_graph.specs.Imports.{name_at}
-use Rattle.hm_scope.specs.ModuleCores.{ModuleCore}
-use Rattle.hm_scope.specs.Cores.{IsCore, imported_values, syntax_of}
-use Rattle.hm_scope.specs.declared.namespace.Namespace.TheVariants.{Values}
-use Rattle.hm_scope.specs.Entities.{Exports, a_value, Declares, own}
-use Rattle.hm_scope.specs.Exports.{IsExported, Gives}
-use Rattle.hm_scope.specs.Exports as giving
-use Rattle.hm_scope.specs.Scope.{InScope, Brings}
-use Rattle.hm_scope.specs.Scope as scope
+use Rattle.hm_names.specs.ModuleCores.{ModuleCore}
+use Rattle.hm_names.specs.Cores.{IsCore, imported_values, syntax_of}
+use Rattle.hm_names.specs.declared.namespace.Namespace.TheVariants.{Values}
+use Rattle.hm_names.specs.Entities.{Exports, a_value, Declares, own}
+use Rattle.hm_names.specs.Exports.{IsExported, Gives}
+use Rattle.hm_names.specs.Exports as giving
+use Rattle.hm_names.specs.Scope.{InScope, Brings}
+use Rattle.hm_names.specs.Scope as scope
 use Rattle.hm_verdicts.proofs.Homes.{IsOf, home}
-use Rattle.hm_scope.proofs.TopVariables.{distinct_names_of_core, declared_names_of_core}
+use Rattle.hm_names.proofs.TopVariables.{distinct_names_of_core, declared_names_of_core}
 use Rattle.hm_verdicts.specs.Readings.{Reading, IsModuleIn, typing_module, prelude_variables}
 use Rattle.hm_verdicts.specs.Sets.{ModuleSet, module_at, imports_of, outlines_of, no_module, IsLawfulSet}
 use Rattle.hm_verdicts.specs.Skeletons.{skeleton, without_scheme, with_prelude, IsSkeletonOf, HasSkeleton, of_module, HaveSkeletons, none, one_more}
 use Rattle.hm_verdicts.proofs.Lists.{one_of_contained, contained, one_of_either, one_of_map, one_of_mapped}
-use Rattle.hm_scope.proofs.OneCore.{one_core}
+use Rattle.hm_names.proofs.OneCore.{one_core}
 use Rattle.hm_verdicts.proofs.OneSkeleton.{one_skeletons, height, heights, one_heights, skeleton_at}
 use Rattle.hm_verdicts.proofs.PreludeFacts.{prelude_home}
 use Rattle.std.proofs.lemmas.List.{length-map}

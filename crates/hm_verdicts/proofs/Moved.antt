@@ -3,13 +3,13 @@ use Rattle.std.proofs.Common.{◌≡◌, List, [], ◌∷◌, ◌++◌, map, ref
 use Rattle.hm_types.specs.Interfaces.{Exports as Interface}
 use Rattle.hm_typing.specs.Syntax.{Bindings}
 use Rattle.hm_syntax.specs.declared.ast.Module.{Module}
-use Rattle.hm_scope.specs.Described.{first_of}
-use Rattle.hm_scope.specs.Special.{special_of}
-use Rattle.hm_scope.specs.Syntax.{bindings_of}
-use Rattle.hm_scope.specs.Types.{entity_of}
+use Rattle.hm_names.specs.Described.{first_of}
+use Rattle.hm_names.specs.Special.{special_of}
+use Rattle.hm_names.specs.Syntax.{bindings_of}
+use Rattle.hm_names.specs.Types.{entity_of}
 use Rattle.hm_syntax.specs.Lists.{declarations}
-use Rattle.hm_scope.specs.ModuleCores.{ModuleCore}
-use Rattle.hm_scope.specs.Cores.{IsCore, syntax_of, ConstructorScheme, declared_schemes, imported_schemes, scheme_or}
+use Rattle.hm_names.specs.ModuleCores.{ModuleCore}
+use Rattle.hm_names.specs.Cores.{IsCore, syntax_of, ConstructorScheme, declared_schemes, imported_schemes, scheme_or}
 use Rattle.hm_verdicts.specs.Skeletons.{skeleton}
 use Rattle.hm_verdicts.proofs.Alike.{Alike, alike, moved_well_formed, moved_resolver, moved_exported}
 

@@ -9,13 +9,13 @@ use Rattle.hm_typing.proofs.ListVerdicts.{one_verdict}
 use Rattle.hm_typing.proofs.Ordering.{layout}
 use Rattle.hm_typing.proofs.Unifying.{unification}
 use Rattle.hm_syntax.specs.declared.ast.Module.{Module}
-use Rattle.hm_scope.specs.ModuleCores.{ModuleCore}
-use Rattle.hm_scope.specs.Cores.{IsCore, IsTop, IsInterfaceOf, HasScheme, own, other, assumptions, syntax_of}
-use Rattle.hm_scope.specs.Untyped.{AreUntyped}
-use Rattle.hm_scope.specs.declared.faults.Fault.{Fault}
-use Rattle.hm_scope.proofs.Elaboration.{assumes_closed}
-use Rattle.hm_scope.proofs.OneCore.{one_core, one_interface}
-use Rattle.hm_scope.proofs.TopVariables.{distinct_names_of_core}
+use Rattle.hm_names.specs.ModuleCores.{ModuleCore}
+use Rattle.hm_names.specs.Cores.{IsCore, IsTop, IsInterfaceOf, HasScheme, own, other, assumptions, syntax_of}
+use Rattle.hm_names.specs.Untyped.{AreUntyped}
+use Rattle.hm_names.specs.declared.faults.Fault.{Fault}
+use Rattle.hm_names.proofs.Elaboration.{assumes_closed}
+use Rattle.hm_names.proofs.OneCore.{one_core, one_interface}
+use Rattle.hm_names.proofs.TopVariables.{distinct_names_of_core}
 use Rattle.hm_verdicts.specs.ModuleVerdicts.{ArePrincipal, IsGoodFor, IsFaultyFor, Verdict, Good, Faulty, IsVerdict}
 use Rattle.hm_verdicts.proofs.CanonicalSchemes.{one_scheme}
 use Rattle.hm_verdicts.proofs.Chosen.{same_given}

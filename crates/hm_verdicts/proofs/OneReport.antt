@@ -3,7 +3,7 @@ use Rattle.std.proofs.Common.{◌≡◌, ℕ, zero, suc, ◌+◌, ◌<◌, Bool,
 use Rattle.std.specs.List.{flat_map}
 use Rattle.hm_types.specs.Interfaces.{Exports as Interface, AreOrdered}
 use Rattle.hm_typing.specs.Names.{IsOneOf}
-use Rattle.hm_scope.proofs.OrderedLists.{same_ordered}
+use Rattle.hm_names.proofs.OrderedLists.{same_ordered}
 use Rattle.hm_verdicts.specs.Reports.{name_of_module, AreBlamed, blame_line, IsBlockText, Block, IsBlockOf, is_published, is_failed, is_skipped, tally, count_line, IsReport, IsAllGood, IsReported}
 use Rattle.hm_verdicts.specs.Sets.{ModuleSet, imports_of, IsLawfulSet}
 use Rattle.hm_verdicts.specs.Verdicts.{Status, Published, Failed, Skipped}

@@ -3,8 +3,8 @@ use Rattle.std.proofs.Common.{◌≡◌, ℕ, suc, ◌+◌, ◌<◌, List, ◌�
 use Rattle.hm_types.specs.Interfaces.{Exports as Interface}
 use Rattle.hm_typing.specs.Names.{IsOneOf}
 use Rattle.hm_syntax.specs.declared.ast.Module.{Module}
-use Rattle.hm_scope.specs.Cores.{IsCore, IsInterfaceOf}
-use Rattle.hm_scope.proofs.OneCore.{one_core, one_interface}
+use Rattle.hm_names.specs.Cores.{IsCore, IsInterfaceOf}
+use Rattle.hm_names.proofs.OneCore.{one_core, one_interface}
 use Rattle.hm_verdicts.specs.Sets.{ModuleSet, module_at}
 use Rattle.hm_verdicts.specs.Skeletons.{blank, with_prelude, IsSkeletonOf, HasSkeleton, of_module, HaveSkeletons, none, one_more}
 

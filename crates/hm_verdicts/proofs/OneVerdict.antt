@@ -11,14 +11,14 @@ use Rattle.hm_typing.specs.Verdicts.{itself, IsImportedBy, IsFaulty, Faulty as f
 use Rattle.hm_typing.proofs.Ordering.{layout}
 use Rattle.hm_typing.proofs.SetVerdicts.{not_both, faulty_where}
 use Rattle.hm_typing.proofs.Unifying.{unification}
-use Rattle.hm_scope.specs.ModuleCores.{ModuleCore}
-use Rattle.hm_scope.specs.Cores.{IsCore}
-use Rattle.hm_scope.specs.Faults.Phases.{AreFaults, HasFault, IsWellFormed, Phase, Importing, Declaring, Exporting, Naming, Counting, phase_number, fault}
-use Rattle.hm_scope.specs.Types.{declared_scheme}
-use Rattle.hm_scope.specs.Untyped.{IsTold, AreToldAs}
-use Rattle.hm_scope.specs.declared.faults.Fault.{Fault}
-use Rattle.hm_scope.specs.declared.faults.Kind.TheVariants.{Untyped}
-use Rattle.hm_scope.proofs.OneCore.{one_core}
+use Rattle.hm_names.specs.ModuleCores.{ModuleCore}
+use Rattle.hm_names.specs.Cores.{IsCore}
+use Rattle.hm_names.specs.Faults.Phases.{AreFaults, HasFault, IsWellFormed, Phase, Importing, Declaring, Exporting, Naming, Counting, phase_number, fault}
+use Rattle.hm_names.specs.Types.{declared_scheme}
+use Rattle.hm_names.specs.Untyped.{IsTold, AreToldAs}
+use Rattle.hm_names.specs.declared.faults.Fault.{Fault}
+use Rattle.hm_names.specs.declared.faults.Kind.TheVariants.{Untyped}
+use Rattle.hm_names.proofs.OneCore.{one_core}
 use Rattle.hm_syntax.specs.Names.{Identifier as Name}
 use Rattle.hm_verdicts.specs.Readings.{Reading, prelude_variables, prelude_table}
 use Rattle.hm_verdicts.specs.Sets.{ModuleSet, module_at, IsLawfulSet}

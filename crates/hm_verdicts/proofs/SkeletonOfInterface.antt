@@ -8,10 +8,10 @@ use Rattle.hm_types.specs.StandardPrelude.{prelude_interface}
 use Rattle.hm_typing.specs.Names.{IsOneOf, global}
 use Rattle.hm_typing.specs.Syntax.{names}
 use Rattle.hm_syntax.specs.declared.ast.Module.{Module}
-use Rattle.hm_scope.specs.ModuleCores.{ModuleCore}
-use Rattle.hm_scope.specs.Cores.{IsTop, HasArity, HasSynonym, IsDescribed, HasScheme, own, other, imported_values, declared_schemes, constructor_scheme}
-use Rattle.hm_scope.specs.Described.{first_of, type_meant, constructor_meant, declared_types, declared_constructors}
-use Rattle.hm_scope.specs.Texts.{same_entity}
+use Rattle.hm_names.specs.ModuleCores.{ModuleCore}
+use Rattle.hm_names.specs.Cores.{IsTop, HasArity, HasSynonym, IsDescribed, HasScheme, own, other, imported_values, declared_schemes, constructor_scheme}
+use Rattle.hm_names.specs.Described.{first_of, type_meant, constructor_meant, declared_types, declared_constructors}
+use Rattle.hm_names.specs.Texts.{same_entity}
 use Rattle.hm_verdicts.specs.ModuleVerdicts.{IsGoodFor}
 use Rattle.hm_verdicts.specs.Skeletons.{blank, skeleton, without_scheme, with_prelude, IsSkeletonOf}
 use Rattle.hm_verdicts.proofs.Alike.{Alike, alike}

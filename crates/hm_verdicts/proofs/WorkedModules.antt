@@ -23,26 +23,26 @@ use Rattle.hm_syntax.specs.declared.ast.Export.{Export}
 use Rattle.hm_syntax.specs.declared.ast.Export.TheVariants as export
 use Rattle.hm_syntax.specs.declared.ast.Item.{Item}
 use Rattle.hm_syntax.specs.declared.ast.List.TheVariants as list
-use Rattle.hm_scope.specs.declared.faults.Fault.{Fault}
-use Rattle.hm_scope.specs.declared.faults.Kind.{Kind}
-use Rattle.hm_scope.specs.declared.faults.Kind.TheVariants.{NotImported}
-use Rattle.hm_scope.specs.declared.namespace.Namespace.{Namespace}
-use Rattle.hm_scope.specs.declared.namespace.Namespace.TheVariants.{Types, Constructors, Values}
-use Rattle.hm_scope.specs.Cores.{IsCore, IsTop, IsInterfaceOf, HasScheme, own, other, assumptions, syntax_of, exports_in}
-use Rattle.hm_scope.specs.Entities.{DeclaredBy, a_variable, Declares, named}
-use Rattle.hm_scope.specs.Exports as exports
-use Rattle.hm_scope.specs.Expansion.{as_entity}
-use Rattle.hm_scope.specs.Faults.Arities as counting
-use Rattle.hm_scope.specs.Faults.Exports as exporting
-use Rattle.hm_scope.specs.Faults.Imports as importing
-use Rattle.hm_scope.specs.Faults.Lists as lists
-use Rattle.hm_scope.specs.Faults.Names as naming
-use Rattle.hm_scope.specs.Faults.Phases.{Phase, Importing, Declaring, Exporting, Naming, Counting, phase_number, HasFault, IsWellFormed, fault}
-use Rattle.hm_scope.specs.ModuleCores.{ModuleCore}
-use Rattle.hm_scope.specs.Scope.{written, added, known_as}
-use Rattle.hm_scope.specs.Walk.{Rule, Locals, Somewhere, at_list, at_head}
-use Rattle.hm_scope.proofs.Existence.{has_resolver}
-use Rattle.hm_scope.proofs.Members.{none_in, cases, first}
+use Rattle.hm_names.specs.declared.faults.Fault.{Fault}
+use Rattle.hm_names.specs.declared.faults.Kind.{Kind}
+use Rattle.hm_names.specs.declared.faults.Kind.TheVariants.{NotImported}
+use Rattle.hm_names.specs.declared.namespace.Namespace.{Namespace}
+use Rattle.hm_names.specs.declared.namespace.Namespace.TheVariants.{Types, Constructors, Values}
+use Rattle.hm_names.specs.Cores.{IsCore, IsTop, IsInterfaceOf, HasScheme, own, other, assumptions, syntax_of, exports_in}
+use Rattle.hm_names.specs.Entities.{DeclaredBy, a_variable, Declares, named}
+use Rattle.hm_names.specs.Exports as exports
+use Rattle.hm_names.specs.Expansion.{as_entity}
+use Rattle.hm_names.specs.Faults.Arities as counting
+use Rattle.hm_names.specs.Faults.Exports as exporting
+use Rattle.hm_names.specs.Faults.Imports as importing
+use Rattle.hm_names.specs.Faults.Lists as lists
+use Rattle.hm_names.specs.Faults.Names as naming
+use Rattle.hm_names.specs.Faults.Phases.{Phase, Importing, Declaring, Exporting, Naming, Counting, phase_number, HasFault, IsWellFormed, fault}
+use Rattle.hm_names.specs.ModuleCores.{ModuleCore}
+use Rattle.hm_names.specs.Scope.{written, added, known_as}
+use Rattle.hm_names.specs.Walk.{Rule, Locals, Somewhere, at_list, at_head}
+use Rattle.hm_names.proofs.Existence.{has_resolver}
+use Rattle.hm_names.proofs.Members.{none_in, cases, first}
 use Rattle.hm_verdicts.specs.ModuleVerdicts.{ArePrincipal, IsCanonical, IsGoodFor, IsFaultyFor}
 use Rattle.hm_verdicts.specs.Worked.{at, module_of, letter, module_A, Z, module_B}
 use Rattle.hm_verdicts.proofs.WorkedPlan.{head_of}

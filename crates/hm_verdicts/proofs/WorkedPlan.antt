@@ -3,7 +3,7 @@ use Rattle.std.proofs.Common.{◌≡◌, ℕ, zero, suc, ◌+◌, ◌<◌, List,
 use Rattle.std.specs.Prelude.{slice_index_or}
 use Rattle.hm_graph.specs.Closure.{Closure, one, more}
 use Rattle.hm_graph.specs.Imports.{Modules, Imports, IsTaken, IsMissing, IsImportList, name_at, prelude}
-use Rattle.hm_scope.proofs.Members.{none_in, cases, first}
+use Rattle.hm_names.proofs.Members.{none_in, cases, first}
 use Rattle.hm_verdicts.specs.Sets.{outlines_of, IsLawfulSet}
 use Rattle.hm_verdicts.specs.Worked.{three_modules}
 

@@ -5,7 +5,7 @@ use Rattle.std.specs.List.{flat_map}
 use Rattle.std.specs.List.Sorted.{IsStrictlySortedBy}
 use Rattle.std.proofs.lemmas.Fmt.{decimal_digit}
 use Rattle.hm_types.specs.Interfaces.{Exports as Interface, AreOrdered}
-use Rattle.hm_scope.proofs.Members.{none_in, cases, first, rest}
+use Rattle.hm_names.proofs.Members.{none_in, cases, first, rest}
 use Rattle.hm_verdicts.specs.Reports.{AreBlamed, Block, IsBlockOf, IsReported, fault_line, name_of_module}
 use Rattle.hm_verdicts.specs.Verdicts.{Status, Published, Failed, Skipped, IsSettled, IsSettledAt}
 use Rattle.hm_verdicts.specs.Worked.{three_modules, three_texts}

@@ -7,13 +7,13 @@ use Rattle.hm_typing.specs.BindingLists.{HasSchemes}
 use Rattle.hm_typing.specs.Names.{Identifier}
 use Rattle.hm_typing.specs.Schemes.{Scheme}
 use Rattle.hm_syntax.specs.declared.ast.Module.{Module}
-use Rattle.hm_scope.specs.ModuleCores.{ModuleCore}
-use Rattle.hm_scope.specs.Cores.{IsCore, assumptions, syntax_of}
-use Rattle.hm_scope.specs.Exports.{IsExported}
-use Rattle.hm_scope.specs.Imports.{AreImportsOf}
-use Rattle.hm_scope.specs.Faults.Phases.{IsWellFormed, AreFaults}
-use Rattle.hm_scope.specs.declared.faults.Fault.{Fault}
-use Rattle.hm_scope.specs.declared.namespace.Namespace.{Namespace}
+use Rattle.hm_names.specs.ModuleCores.{ModuleCore}
+use Rattle.hm_names.specs.Cores.{IsCore, assumptions, syntax_of}
+use Rattle.hm_names.specs.Exports.{IsExported}
+use Rattle.hm_names.specs.Imports.{AreImportsOf}
+use Rattle.hm_names.specs.Faults.Phases.{IsWellFormed, AreFaults}
+use Rattle.hm_names.specs.declared.faults.Fault.{Fault}
+use Rattle.hm_names.specs.declared.namespace.Namespace.{Namespace}
 use Rattle.hm_verdicts.specs.Progress.{Progress, ArePublishedIn, IsSettledIn, IsSettledSoFar, Continues}
 use Rattle.hm_verdicts.specs.Reports.{IsReport, IsReported, IsAllGood}
 use Rattle.hm_verdicts.specs.ModuleVerdicts.{Verdict, IsVerdict, ArePrincipal}

@@ -8,11 +8,11 @@ use Rattle.hm_typing.specs.Names.{Identifier, global}
 use Rattle.hm_typing.specs.Programs.{scheme_of}
 use Rattle.hm_typing.specs.Schemes.{Scheme, IsAtMostAsGeneral}
 use Rattle.hm_syntax.specs.declared.ast.Module.{Module}
-use Rattle.hm_scope.specs.declared.faults.Fault.{Fault}
-use Rattle.hm_scope.specs.Faults.Phases.{AreFaults}
-use Rattle.hm_scope.specs.ModuleCores.{ModuleCore}
-use Rattle.hm_scope.specs.Cores.{IsCore, IsTop, IsInterfaceOf, assumptions, syntax_of}
-use Rattle.hm_scope.specs.Untyped.{AreUntyped}
+use Rattle.hm_names.specs.declared.faults.Fault.{Fault}
+use Rattle.hm_names.specs.Faults.Phases.{AreFaults}
+use Rattle.hm_names.specs.ModuleCores.{ModuleCore}
+use Rattle.hm_names.specs.Cores.{IsCore, IsTop, IsInterfaceOf, assumptions, syntax_of}
+use Rattle.hm_names.specs.Untyped.{AreUntyped}
 
 -- the variables are numbered in order of first occurrence, and none is rigid
 pub record IsCanonical (s : TypeScheme) : Type 0 where

@@ -7,8 +7,8 @@ use Rattle.hm_types.specs.Schemes.{TypeScheme}
 use Rattle.hm_types.specs.StandardPrelude.{prelude_interface}
 use Rattle.hm_types.specs.Types.{Var}
 use Rattle.hm_syntax.specs.declared.ast.Module.{Module}
-use Rattle.hm_scope.specs.ModuleCores.{ModuleCore}
-use Rattle.hm_scope.specs.Cores.{IsCore, IsInterfaceOf}
+use Rattle.hm_names.specs.ModuleCores.{ModuleCore}
+use Rattle.hm_names.specs.Cores.{IsCore, IsInterfaceOf}
 use Rattle.hm_verdicts.specs.Sets.{ModuleSet, module_at, imports_of}
 
 -- the scheme a, which says nothing

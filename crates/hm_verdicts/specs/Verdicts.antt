@@ -6,16 +6,16 @@ use Rattle.hm_types.specs.StandardPrelude.{prelude_interface}
 use Rattle.hm_typing.specs.Assignments.{Assignment, IsPrincipal}
 use Rattle.hm_typing.specs.Names.{Identifier, global, IsOneOf}
 use Rattle.hm_typing.specs.Verdicts.{InClosure, IsGood, IsFaulty}
-use Rattle.hm_scope.specs.declared.faults.Fault.{Fault}
-use Rattle.hm_scope.specs.Faults.Phases.{AreFaults}
-use Rattle.hm_scope.specs.Types.{declared_scheme}
+use Rattle.hm_names.specs.declared.faults.Fault.{Fault}
+use Rattle.hm_names.specs.Faults.Phases.{AreFaults}
+use Rattle.hm_names.specs.Types.{declared_scheme}
 use Rattle.hm_verdicts.specs.ModuleVerdicts.{Verdict, Good, Faulty, IsVerdict}
-use Rattle.hm_scope.specs.ModuleCores.{ModuleCore}
-use Rattle.hm_scope.specs.Cores.{IsCore}
+use Rattle.hm_names.specs.ModuleCores.{ModuleCore}
+use Rattle.hm_names.specs.Cores.{IsCore}
 use Rattle.hm_verdicts.specs.Readings.{Reading, prelude_variables, prelude_table}
 use Rattle.hm_verdicts.specs.Sets.{ModuleSet, module_at, imports_of}
 use Rattle.hm_verdicts.specs.Skeletons.{skeleton, HasSkeleton, HaveSkeletons, with_prelude}
-use Rattle.hm_scope.specs.Untyped.{AreToldAs}
+use Rattle.hm_names.specs.Untyped.{AreToldAs}
 
 -- the import closure of module number i, itself included, is well-formed and has a valid assignment: under a reading of it
 abbrev pub IsGoodUnder : (p : ModuleSet) → Reading p → ℕ → Type 0

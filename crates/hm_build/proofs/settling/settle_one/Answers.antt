@@ -13,7 +13,7 @@ find_interfaces-requires-clause-settled c = subst (λ r. All (HasStatus c.args.t
 
 pub judge-requires : goal.judge-requires
 judge-requires c =
-    subst (λ l. Rattle.hm_scope.specs.Imports.AreImportsOf (arc_value c.index-modules-number.result) (map arc_value l)) (sym c.as_slice.ensures.value)
+    subst (λ l. Rattle.hm_names.specs.Imports.AreImportsOf (arc_value c.index-modules-number.result) (map arc_value l)) (sym c.as_slice.ensures.value)
     (asked_of c.args.modules.now c.args.plan.now c.args.table.now c.args.number c.index-modules-number.result c.imports.result.now (map arc_value c.in-All.interfaces.items) c.requires.lawful c.requires.so_far c.requires.number c.index-modules-number.is c.imports.ensures
     (subst (λ f. IsFound (progress_of c.args.table.now) c.imports.result.now f) c.in-All.is c.in_ok-interfaces.ensures))
 

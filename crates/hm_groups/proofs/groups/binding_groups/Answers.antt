@@ -4,7 +4,7 @@ use Rattle.std.specs.List.{slice_get}
 use Rattle.hm_graph.specs.Digraph.{lists}
 use Rattle.hm_typing.specs.Orders.{AreNumberedGroups}
 use Rattle.hm_syntax.specs.Lists.{declarations}
-use Rattle.hm_scope.specs.Syntax.{bindings_of}
+use Rattle.hm_names.specs.Syntax.{bindings_of}
 use Rattle.hm_groups.specs.Variables.{Variable}
 use Rattle.hm_groups.specs.Nodes.{list_nodes}
 use Rattle.hm_groups.specs.Groups.{node_name}

@@ -1,8 +1,8 @@
 use Rattle.std.proofs.Common.{◌≡◌, ◌∙◌, sym, ap, true, not, subst, arith, ◌==◌}
 use Rattle.hm_syntax.specs.Lists.{patterns}
 use Rattle.hm_syntax.specs.Views.OfExpressions.{declaration_of}
-use Rattle.hm_scope.specs.Faults.Lists.{has_patterns}
-use Rattle.hm_scope.specs.Texts.{same_text}
+use Rattle.hm_names.specs.Faults.Lists.{has_patterns}
+use Rattle.hm_names.specs.Texts.{same_text}
 use Rattle.hm_groups.proofs.Rows.{has_patterns-is, continued_at, both_given}
 use Rattle.hm_groups.proofs.hiding.is_continued.Goals as goal
 

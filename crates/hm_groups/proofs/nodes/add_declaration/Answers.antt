@@ -1,7 +1,7 @@
 use Rattle.std.proofs.Common.{◌++◌, Err, sym, ap, ◌∙◌, subst}
 use Rattle.hm_syntax.specs.Lists.{declarations, patterns}
 use Rattle.hm_syntax.specs.Views.OfExpressions.{declaration_of}
-use Rattle.hm_scope.specs.Syntax.{is_continued}
+use Rattle.hm_names.specs.Syntax.{is_continued}
 use Rattle.hm_groups.specs.Nodes.{IsRepeated, new_nodes}
 use Rattle.hm_groups.proofs.Distinct.{passed_on, repeated_clause, repeated_pattern}
 use Rattle.hm_groups.proofs.nodes.add_declaration.Goals as goal

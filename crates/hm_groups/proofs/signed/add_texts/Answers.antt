@@ -1,6 +1,6 @@
 use Rattle.std.proofs.Common.{◌||◌, ◌+◌, drop, sym, ap, ◌∙◌, Some, true}
 use Rattle.std.proofs.lemmas.Map.Text.{hash_map_updates_str}
-use Rattle.hm_scope.specs.Syntax.{is_signed_among}
+use Rattle.hm_names.specs.Syntax.{is_signed_among}
 use Rattle.hm_groups.specs.Nodes.{has_text}
 use Rattle.hm_groups.proofs.Rows.{unrolled, past}
 use Rattle.hm_groups.proofs.Signatures.{text_step}

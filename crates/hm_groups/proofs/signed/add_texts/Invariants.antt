@@ -1,5 +1,5 @@
 use Rattle.std.proofs.Common.{◌≡◌, ℕ, List, ◌||◌, drop}
-use Rattle.hm_scope.specs.Syntax.{is_signed_among}
+use Rattle.hm_names.specs.Syntax.{is_signed_among}
 use Rattle.hm_groups.specs.Nodes.{has_text}
 use Rattle.hm_groups.proofs.signed.add_texts.Given as goal
 

@@ -1,6 +1,6 @@
 use Rattle.std.proofs.Common.{◌∙◌, ◌∷◌, ap}
 use Rattle.hm_types.specs.StandardPrelude.{prelude_interface}
-use Rattle.hm_scope.specs.ModuleCores.{ModuleCore}
+use Rattle.hm_names.specs.ModuleCores.{ModuleCore}
 use Rattle.hm_infer.proofs.CoreTables.{distinct}
 use Rattle.hm_infer.proofs.declaring.known_constructors.Goals as goal
 

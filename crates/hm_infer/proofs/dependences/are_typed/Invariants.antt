@@ -1,5 +1,5 @@
 use Rattle.std.proofs.Common.{take, true, Contains}
-use Rattle.hm_infer.specs.Dependences.{TellsNodes}
+use Rattle.hm_expressions.specs.Dependences.{TellsNodes}
 use Rattle.hm_infer.proofs.dependences.are_typed.Given as goal
 
 abbrev pub invariant-nodes : goal.invariant-nodes

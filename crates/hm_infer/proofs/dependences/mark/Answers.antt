@@ -1,5 +1,5 @@
 use Rattle.std.proofs.Common.{refl, arith}
-use Rattle.hm_infer.proofs.Referring.{mark_step}
+use Rattle.hm_expressions.proofs.Referring.{mark_step}
 use Rattle.hm_infer.proofs.dependences.mark.Goals as goal
 
 pub nodes-preserved : goal.nodes-preserved

@@ -1,5 +1,5 @@
 use Rattle.std.proofs.Common.{take}
-use Rattle.hm_infer.specs.Dependences.{IsMarked}
+use Rattle.hm_expressions.specs.Dependences.{IsMarked}
 use Rattle.hm_infer.proofs.dependences.mark.Given as goal
 
 abbrev pub invariant-nodes : goal.invariant-nodes

@@ -1,6 +1,6 @@
 use Rattle.std.proofs.Common.{◌∙◌, rules, get_or}
-use Rattle.hm_infer.proofs.MemberForms.{is_member, same_member}
-use Rattle.hm_infer.proofs.Referring.{members_step, members_refuse, members_all}
+use Rattle.hm_expressions.proofs.MemberForms.{is_member, same_member}
+use Rattle.hm_expressions.proofs.Referring.{members_step, members_refuse, members_all}
 use Rattle.hm_infer.proofs.dependences.members_refer_to_typed.Goals as goal
 
 pub bounds-decls-member : goal.bounds-decls-member

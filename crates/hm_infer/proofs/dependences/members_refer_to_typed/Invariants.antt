@@ -1,5 +1,5 @@
 use Rattle.std.proofs.Common.{◌≡◌, take, true}
-use Rattle.hm_infer.specs.Dependences.{TellsMembers}
+use Rattle.hm_expressions.specs.Dependences.{TellsMembers}
 use Rattle.hm_infer.proofs.dependences.members_refer_to_typed.Given as goal
 
 abbrev pub invariant-members : goal.invariant-members

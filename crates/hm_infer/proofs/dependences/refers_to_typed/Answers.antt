@@ -1,7 +1,7 @@
 use Rattle.std.proofs.Common.{◌≡◌, ◌↔◌, ℕ, length, Contains, subst}
 use Rattle.hm_groups.specs.References.{DeclarationRefers}
-use Rattle.hm_infer.specs.Dependences.{IsReferred}
-use Rattle.hm_infer.proofs.Referring.{nodes_told, nodes_within, node_within}
+use Rattle.hm_expressions.specs.Dependences.{IsReferred}
+use Rattle.hm_expressions.proofs.Referring.{nodes_told, nodes_within, node_within}
 use Rattle.hm_infer.proofs.dependences.refers_to_typed.Goals as goal
 
 pub are_typed-requires : goal.are_typed-requires

@@ -3,7 +3,7 @@ use Rattle.std.proofs.lemmas.List.{length-map}
 use Rattle.hm_graph.specs.Digraph.{lists}
 use Rattle.hm_groups.specs.Nodes.{AllShown}
 use Rattle.hm_typing.specs.Names.{IsOneOf}
-use Rattle.hm_infer.proofs.ListSteps.{group_at, rows_long, written_to}
+use Rattle.hm_expressions.proofs.ListSteps.{group_at, rows_long, written_to}
 use Rattle.hm_infer.proofs.UnitFaults.{alike_after, all_told, below_all, next_told, one_at, told_before}
 use Rattle.hm_infer.proofs.finding_faults.faulty_groups.Goals as goal
 

@@ -1,6 +1,6 @@
 use Rattle.std.proofs.Common.{◌∙◌, get_or, refl}
 use Rattle.hm_infer.specs.UnitFaults.{has_types, has_none}
-use Rattle.hm_infer.proofs.Referring.{members_at}
+use Rattle.hm_expressions.proofs.Referring.{members_at}
 use Rattle.hm_infer.proofs.UnitFaults.{first_in, restored}
 use Rattle.hm_infer.proofs.finding_faults.is_faulty.Goals as goal
 

@@ -1,13 +1,13 @@
 use Rattle.std.proofs.Common.{◌∙◌, ◌∷◌, ap, map, subst, subst₂}
 use Rattle.std.specs.Arc.{arc_value}
 use Rattle.hm_types.specs.StandardPrelude.{prelude_interface}
-use Rattle.hm_scope.specs.Cores.{assumed, imported_values}
-use Rattle.hm_scope.specs.ModuleCores.{ModuleCore}
-use Rattle.hm_scope.specs.SchemeTables.{scheme_of}
-use Rattle.hm_infer.specs.OwnSchemes.{HaveCanonical}
-use Rattle.hm_infer.specs.PrincipalLists.{IsInferred}
-use Rattle.hm_infer.specs.Stages.{list_of}
-use Rattle.hm_infer.specs.Constructors.{known_of}
+use Rattle.hm_names.specs.Cores.{assumed, imported_values}
+use Rattle.hm_names.specs.ModuleCores.{ModuleCore}
+use Rattle.hm_names.specs.SchemeTables.{scheme_of}
+use Rattle.hm_expressions.specs.OwnSchemes.{HaveCanonical}
+use Rattle.hm_expressions.specs.PrincipalLists.{IsInferred}
+use Rattle.hm_expressions.specs.Stages.{list_of}
+use Rattle.hm_expressions.specs.Constructors.{known_of}
 use Rattle.hm_infer.proofs.NoTyping.{no_typing}
 use Rattle.hm_infer.proofs.OwnSchemes.{are_principal}
 use Rattle.hm_infer.proofs.inferring.infer.Goals as goal

@@ -1,7 +1,7 @@
-use Rattle.hm_infer.specs.Constructors.{known_of}
-use Rattle.hm_infer.specs.Stages.{list_of}
-use Rattle.hm_infer.proofs.MostGeneral.{most_general}
-use Rattle.hm_infer.proofs.PrincipalLists.{inferred_list, list_refused}
+use Rattle.hm_expressions.specs.Constructors.{known_of}
+use Rattle.hm_expressions.specs.Stages.{list_of}
+use Rattle.hm_expressions.proofs.MostGeneral.{most_general}
+use Rattle.hm_expressions.proofs.PrincipalLists.{inferred_list, list_refused}
 use Rattle.hm_infer.proofs.inferring.infer_list.Goals as goal
 
 pub returns-in_err-check_bindings-clause-inferred : goal.returns-in_err-check_bindings-clause-inferred

@@ -1,11 +1,11 @@
 use Rattle.std.proofs.Common.{◌∙◌, Ok, Err, sym, ap, refl, subst, subst₂}
-use Rattle.hm_infer.specs.Constructors.{known_of}
-use Rattle.hm_infer.specs.Dependences.{TellsMembers, skipped, untyped, typed}
-use Rattle.hm_infer.specs.JudgedGroups.{JudgesGroup}
+use Rattle.hm_expressions.specs.Constructors.{known_of}
+use Rattle.hm_expressions.specs.Dependences.{TellsMembers, skipped, untyped, typed}
+use Rattle.hm_expressions.specs.JudgedGroups.{JudgesGroup}
 use Rattle.hm_unify.specs.declared.faults.UnifyFault.TheVariants.{Clash}
 use Rattle.hm_graph.specs.Digraph.{lists}
-use Rattle.hm_infer.proofs.JudgedGroups.{judges_clash}
-use Rattle.hm_infer.proofs.Referring.{members_at, member_places}
+use Rattle.hm_expressions.proofs.JudgedGroups.{judges_clash}
+use Rattle.hm_expressions.proofs.Referring.{members_at, member_places}
 use Rattle.hm_infer.proofs.judging_units.judge_group.Goals as goal
 
 pub members_refer_to_typed-requires-clause-members : goal.members_refer_to_typed-requires-clause-members

@@ -1,6 +1,6 @@
 use Rattle.hm_types.specs.Shape.{type_of}
-use Rattle.hm_scope.specs.SchemeTables.{scheme_of}
-use Rattle.hm_infer.proofs.CanonicalSchemes.{opened_arities, opened_no_rigid}
+use Rattle.hm_names.specs.SchemeTables.{scheme_of}
+use Rattle.hm_expressions.proofs.CanonicalSchemes.{opened_arities, opened_no_rigid}
 use Rattle.hm_infer.proofs.OwnSchemes.{one_put}
 use Rattle.hm_infer.proofs.own_schemes.put_scheme.Goals as goal
 

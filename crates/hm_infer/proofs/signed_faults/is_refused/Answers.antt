@@ -1,5 +1,5 @@
-use Rattle.hm_infer.specs.Constructors.{known_of}
-use Rattle.hm_infer.proofs.MostGeneral.{most_general}
+use Rattle.hm_expressions.specs.Constructors.{known_of}
+use Rattle.hm_expressions.proofs.MostGeneral.{most_general}
 use Rattle.hm_infer.proofs.SignedFaults.{clause_refused, clause_typed}
 use Rattle.hm_infer.proofs.signed_faults.is_refused.Goals as goal
 

@@ -1,7 +1,7 @@
 use Rattle.std.proofs.Common.{◌≡◌, drop}
 use Rattle.hm_syntax.specs.Lists.{patterns}
 use Rattle.hm_syntax.specs.Sizes.{pattern_size, patterns_size}
-use Rattle.hm_scope.specs.Variables.{patterns_variables}
+use Rattle.hm_names.specs.Variables.{patterns_variables}
 use Rattle.hm_infer.specs.Told.{leading}
 use Rattle.hm_infer.proofs.telling.+first_variables.Given as goal
 

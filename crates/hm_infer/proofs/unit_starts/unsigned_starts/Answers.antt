@@ -3,7 +3,7 @@ use Rattle.std.proofs.lemmas.List.{length-map}
 use Rattle.hm_graph.specs.Digraph.{lists}
 use Rattle.hm_typing.specs.Names.{IsOneOf}
 use Rattle.hm_infer.specs.UnitStarts.{AddsStart, HasMember}
-use Rattle.hm_infer.proofs.ListSteps.{group_at, rows_long}
+use Rattle.hm_expressions.proofs.ListSteps.{group_at, rows_long}
 use Rattle.hm_infer.proofs.UnitFaults.{one_at}
 use Rattle.hm_infer.proofs.UnitStarts.{all_starts, at_first, next_start}
 use Rattle.hm_infer.proofs.unit_starts.unsigned_starts.Goals as goal

@@ -1,9 +1,9 @@
 use Rattle.std.proofs.Common.{◌≡◌, ◌∙◌, ◌++◌, ◌<◌, All, length, sym, subst, ap}
 use Rattle.std.proofs.lemmas.List.{length-map}
 use Rattle.hm_graph.specs.Digraph.{lists}
-use Rattle.hm_infer.specs.Constructors.{known_of}
+use Rattle.hm_expressions.specs.Constructors.{known_of}
 use Rattle.hm_infer.specs.JudgedUnits.{UnitsJudged}
-use Rattle.hm_infer.specs.Stages.{IsListFound}
+use Rattle.hm_expressions.specs.Stages.{IsListFound}
 use Rattle.hm_infer.specs.UnitFaults.{AreGroupsTold, ArePlainGroups}
 use Rattle.hm_infer.specs.UnitStarts.{AreGroupStarts}
 use Rattle.hm_infer.proofs.CoreStarts.{ListJudged, groups_below, groups_declared, told_long, unsigned_list}

@@ -1,9 +1,9 @@
 use Rattle.std.proofs.Common.{◌∙◌, ◌<◌, All, length, sym, ap, map, subst}
 use Rattle.std.specs.Arc.{arc_value}
-use Rattle.hm_scope.specs.Cores.{assumed, imported_values}
-use Rattle.hm_scope.specs.ModuleCores.{ModuleCore}
-use Rattle.hm_infer.specs.Constructors.{known_of}
-use Rattle.hm_infer.specs.Environments.{assumptions}
+use Rattle.hm_names.specs.Cores.{assumed, imported_values}
+use Rattle.hm_names.specs.ModuleCores.{ModuleCore}
+use Rattle.hm_expressions.specs.Constructors.{known_of}
+use Rattle.hm_expressions.specs.Environments.{assumptions}
 use Rattle.hm_infer.specs.UnitStarts.{AreFaultStarts, IsCoreList}
 use Rattle.hm_infer.proofs.Untyped.{core_untyped, starts_inside}
 use Rattle.hm_infer.proofs.untyped_units.untyped_units.Goals as goal

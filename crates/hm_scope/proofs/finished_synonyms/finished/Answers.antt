@@ -1,8 +1,8 @@
 use Rattle.std.proofs.Common.{◌∙◌, ap, Some}
-use Rattle.hm_scope.specs.Found.{Walking, resolver_of}
-use Rattle.hm_scope.specs.Resolved.{type_with}
-use Rattle.hm_scope.specs.KnownTables.{lookups_of}
-use Rattle.hm_scope.proofs.ClosedTypes.{makes_synonym, synonym_made, not_sound}
+use Rattle.hm_names.specs.Found.{Walking, resolver_of}
+use Rattle.hm_names.specs.Resolved.{type_with}
+use Rattle.hm_imports.specs.KnownTables.{lookups_of}
+use Rattle.hm_names.proofs.ClosedTypes.{makes_synonym, synonym_made, not_sound}
 use Rattle.hm_scope.proofs.finished_synonyms.finished.Goals as goal
 
 pub returns-then-not-branch : goal.returns-then-not-branch

@@ -1,8 +1,8 @@
 use Rattle.std.proofs.Common.{◌∙◌, ap, ◌++◌, List}
 use Rattle.std.proofs.lemmas.List.{take_all}
 use Rattle.hm_syntax.specs.Names.{Identifier}
-use Rattle.hm_scope.specs.Variables.{type_variables}
-use Rattle.hm_scope.proofs.ClosedTypes.{among_more, not_among, all_among}
+use Rattle.hm_names.specs.Variables.{type_variables}
+use Rattle.hm_names.proofs.ClosedTypes.{among_more, not_among, all_among}
 use Rattle.hm_scope.proofs.finished_synonyms.is_closed.Goals as goal
 
 pub returns-then-not-contains : goal.returns-then-not-contains

@@ -1,5 +1,5 @@
 use Rattle.std.proofs.Common.{take, map}
-use Rattle.hm_scope.specs.Synonyms.{AreAmong}
+use Rattle.hm_names.specs.DeclaredSynonyms.{AreAmong}
 use Rattle.hm_scope.proofs.finished_synonyms.is_closed.Given as goal
 
 abbrev pub invariant-used : goal.invariant-used

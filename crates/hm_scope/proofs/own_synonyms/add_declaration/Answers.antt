@@ -1,7 +1,7 @@
 use Rattle.std.proofs.Common.{◌≡◌, ◌++◌, ◌∷◌, [], List, ap, sym, ◌∙◌, subst}
 use Rattle.std.specs.Prelude.{slice_index_or}
 use Rattle.hm_syntax.specs.Names.{Identifier}
-use Rattle.hm_scope.specs.Variables.{constructors_in}
+use Rattle.hm_names.specs.Variables.{constructors_in}
 use Rattle.hm_syntax.specs.Trees.{Declaration}
 use Rattle.hm_syntax.specs.Views.OfExpressions.{declaration_of}
 use Rattle.hm_scope.specs.Synonyms.{RefersIn, AddsReferences, NamesOwn}

@@ -1,7 +1,7 @@
 use Rattle.std.proofs.Common.{◌≡◌, List, length, map, take}
 use Rattle.hm_types.specs.Interfaces.{Exports as Interface}
 use Rattle.hm_syntax.specs.declared.ast.Module.{Module}
-use Rattle.hm_scope.specs.Bindings.{IsScopeOf}
+use Rattle.hm_names.specs.Bindings.{IsScopeOf}
 use Rattle.hm_scope.specs.Synonyms.{IsOnce, NamesOwn, AddsReferences}
 use Rattle.hm_scope.proofs.own_synonyms.add_references.Given as goal
 

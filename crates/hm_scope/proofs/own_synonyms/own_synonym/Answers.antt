@@ -1,7 +1,7 @@
 use Rattle.std.proofs.Common.{sym, ◌∙◌, get_or, []}
 use Rattle.std.proofs.lemmas.Slice.Eq.{bytes_eq-Decides}
 use Rattle.hm_scope.proofs.SynonymReferences.{not_unbound, not_ambiguous, some_place, none_place, is_own, names_differ, modules_differ}
-use Rattle.hm_scope.specs.Entities.{own}
+use Rattle.hm_names.specs.Entities.{own}
 use Rattle.hm_scope.proofs.own_synonyms.own_synonym.Goals as goal
 
 pub returns-in-Unbound-clause-none : goal.returns-in-Unbound-clause-none

@@ -1,7 +1,7 @@
 use Rattle.std.proofs.Common.{◌≡◌, List, [], length, take}
 use Rattle.std.specs.Prelude.{slice_index_or}
 use Rattle.hm_types.specs.Interfaces.{Exports as Interface}
-use Rattle.hm_scope.specs.Bindings.{IsScopeOf}
+use Rattle.hm_names.specs.Bindings.{IsScopeOf}
 use Rattle.hm_scope.specs.Synonyms.{IsOnce, RefersIn, AddsReferences}
 use Rattle.hm_scope.proofs.own_synonyms.reference_graph.Given as goal
 

@@ -1,7 +1,7 @@
 use Rattle.std.proofs.Common.{◌∷◌, [], ap, sym, ◌∙◌, subst}
 use Rattle.hm_syntax.specs.Trees.{Declaration}
 use Rattle.hm_syntax.specs.Views.OfExpressions.{declaration_of}
-use Rattle.hm_scope.specs.Bindings.{Adds}
+use Rattle.hm_names.specs.Bindings.{Adds}
 use Rattle.hm_scope.specs.Synonyms.{IsMarkedFault}
 use Rattle.hm_scope.proofs.SynonymReferences.{fault_added, no_fault_added}
 use Rattle.hm_scope.proofs.recursive_synonyms.add_recursive.Goals as goal

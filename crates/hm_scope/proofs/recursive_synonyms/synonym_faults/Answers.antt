@@ -1,7 +1,7 @@
 use Rattle.std.proofs.Common.{List, subst}
 use Rattle.hm_syntax.specs.Trees.{Declaration}
-use Rattle.hm_scope.specs.Bindings.{Adds}
-use Rattle.hm_scope.specs.declared.faults.Fault.{Fault}
+use Rattle.hm_names.specs.Bindings.{Adds}
+use Rattle.hm_names.specs.declared.faults.Fault.{Fault}
 use Rattle.hm_scope.specs.Synonyms.{IsMarkedFault}
 use Rattle.hm_scope.proofs.SynonymReferences.{faults_more, all_of, all_recursive}
 use Rattle.hm_scope.proofs.recursive_synonyms.synonym_faults.Goals as goal

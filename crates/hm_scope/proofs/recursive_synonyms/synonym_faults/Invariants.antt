@@ -1,5 +1,5 @@
 use Rattle.std.proofs.Common.{take}
-use Rattle.hm_scope.specs.Bindings.{Adds}
+use Rattle.hm_names.specs.Bindings.{Adds}
 use Rattle.hm_scope.specs.Synonyms.{IsOnce, IsMarkedFault}
 use Rattle.hm_scope.proofs.recursive_synonyms.synonym_faults.Given as goal
 

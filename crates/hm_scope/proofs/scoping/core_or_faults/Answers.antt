@@ -2,11 +2,11 @@ use Rattle.std.proofs.Common.{◌∷◌, ◌∙◌, List, Option, map, Bor, ap, 
 use Rattle.std.specs.Arc.{arc_value}
 use Rattle.hm_types.specs.Interfaces.{Exports as Interface}
 use Rattle.hm_types.specs.StandardPrelude.{prelude_interface}
-use Rattle.hm_scope.specs.declared.faults.Fault.{Fault}
+use Rattle.hm_names.specs.declared.faults.Fault.{Fault}
 use Rattle.hm_scope.specs.declared.scoping.Answer.{Answer}
-use Rattle.hm_scope.specs.Bindings.{Pair, IsScopeOf}
-use Rattle.hm_scope.specs.ExportedRows.{HaveOneEntity}
-use Rattle.hm_scope.specs.Faults.Phases.{Importing}
+use Rattle.hm_names.specs.Bindings.{Pair, IsScopeOf}
+use Rattle.hm_exports.specs.ExportedRows.{HaveOneEntity}
+use Rattle.hm_names.specs.Faults.Phases.{Importing}
 use Rattle.hm_scope.specs.Answers.{AreExact, IsPhaseAnswer, IsAnswer, IsAnswerBehind, AreExportedRows}
 use Rattle.hm_scope.proofs.ModuleAnswers.{before_importing, core_is}
 use Rattle.hm_scope.proofs.scoping.core_or_faults.Goals as goal

@@ -1,7 +1,7 @@
 use Rattle.std.proofs.Common.{◌≡◌, ◌++◌, drop}
 use Rattle.hm_syntax.specs.Lists.{types}
 use Rattle.hm_syntax.specs.Sizes.{type_size, types_size}
-use Rattle.hm_scope.specs.Variables.{constructors_in_all}
+use Rattle.hm_names.specs.Variables.{constructors_in_all}
 use Rattle.hm_scope.proofs.type_names.+types.Given as goal
 
 abbrev pub decreases-add_type : goal.decreases-add_type

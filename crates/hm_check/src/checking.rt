@@ -1,0 +1,117 @@
+//! Modules are checked, each for the interfaces of its imports.
+
+ghost use Rattle.std.specs.Prelude.{◌≡◌, ◌∷◌, IfOk, IfErr, List, map};
+ghost use Rattle.std.specs.Arc.{arc_value};
+ghost use Rattle.hm_types.specs.Interfaces.{Exports};
+ghost use Rattle.hm_types.specs.StandardPrelude.{prelude_interface};
+ghost use Rattle.hm_syntax.specs.declared.ast.Module.{Module as ModuleTree};
+ghost use Rattle.hm_names.specs.Cores.{IsCore, IsSomeCore};
+ghost use Rattle.hm_names.specs.Imports.{AreImportsOf};
+ghost use Rattle.hm_names.specs.SchemeTables.{scheme_of};
+ghost use Rattle.hm_verdicts.specs.ModuleVerdicts.{ArePrincipal, IsVerdict};
+ghost use Rattle.hm_check.specs.Outcomes.{verdict_of};
+ghost use Rattle.hm_check.specs.Refusals.{IsRefused};
+
+use crate::outcome::{Outcome, Verdict};
+use hm_exports::export;
+use hm_imports::are_imports_of;
+use hm_infer::{InferFault, infer};
+use hm_names::{Core, Schemes, ScopeFault};
+use hm_scope::scope;
+use hm_syntax::{Module, Row};
+use hm_types::Interface;
+use std::alloc::{AllocError, AllocFailed, Global};
+use std::sync::Arc;
+use thiserror::Error;
+
+/// Why a module was not checked.
+#[derive(Clone, Copy, Debug, Error, PartialEq, Eq)]
+pub enum CheckFault {
+    /// The interfaces aren't those of the modules that it imports, each once, in order of first import.
+    #[error("the interfaces aren't those of the imports")]
+    Imports,
+    /// Memory ran out.
+    #[error("no memory")]
+    Memory,
+}
+
+impl From<AllocError> for CheckFault {
+    ghost use Rattle.std.specs.Prelude.{◌≡◌};
+    ghost use Rattle.hm_check.specs.declared.checking.CheckFault.TheVariants.{Memory};
+
+    ghost from_gives = { λ _ fault. fault ≡ Memory };
+
+    fn from(_error: AllocError) -> CheckFault {
+        CheckFault::Memory
+    }
+}
+
+/// The verdict of a core whose variables have these schemes: good, with its interface.
+fn good(alloc: Global, core: &Core, schemes: &Schemes) -> Result<Verdict, AllocError>
+    requires core { IsSomeCore core.now }
+    requires principal { ArePrincipal core.now (scheme_of schemes.now) }
+    ensures { IfOk result (λ v. (m : ModuleTree) (fs : List Exports) → IsCore m fs core.now → IsVerdict m fs (verdict_of v)) }
+{
+    let interface = export(alloc, core, schemes)?;
+    Ok(Verdict::Good(Arc::new(alloc, interface)?))
+}
+
+/// The verdict of a well-formed module, by its core.
+fn core_verdict(alloc: Global, core: &Core) -> Result<Verdict, AllocError>
+    requires { IsSomeCore core.now }
+    ensures { IfOk result (λ v. (m : ModuleTree) (fs : List Exports) → IsCore m fs core.now → IsVerdict m fs (verdict_of v)) }
+{
+    match infer(alloc, core) {
+        Ok(schemes) => Ok(good(alloc, core, &schemes)?),
+        Err(InferFault::Untypable(found)) => Ok(Verdict::Faulty(found)),
+        Err(InferFault::Memory) => Err(AllocError),
+    }
+}
+
+/// The verdict of a module for the interfaces that it asks for.
+fn module_verdict(
+    alloc: Global,
+    module: &Module,
+    imports: &[Arc<Interface>],
+) -> Result<Verdict, AllocError>
+    requires { AreImportsOf «module».now (map arc_value imports.now) }
+    ensures { IfOk result (λ v. IsVerdict «module».now (prelude_interface ∷ map arc_value imports.now) (verdict_of v)) }
+{
+    match scope(alloc, module, imports) {
+        Ok(core) => Ok(core_verdict(alloc, &core)?),
+        Err(ScopeFault::Faults(found)) => Ok(Verdict::Faulty(found)),
+        Err(ScopeFault::Memory) => Err(AllocError),
+    }
+}
+
+/// The same interfaces, shared.
+fn shared(alloc: Global, interfaces: &[Arc<Interface>]) -> Result<Row<Arc<Interface>>, AllocError>
+    ensures { IfOk result (λ row. map arc_value row ≡ map arc_value interfaces.now) }
+{
+    let mut items: Vec<Arc<Interface>> = Vec::new(alloc);
+    for interface in interfaces {
+        items.push(interface.clone()?)?;
+    }
+    Ok(Row { items })
+}
+
+/// Checks a module: its verdict for Prelude's interface and those of its imports. The latter are given but Prelude's, each once, in order of
+/// first import; where they aren't, the answer is `Imports`.
+pub fn check_module(
+    alloc: Global,
+    module: &Arc<Module>,
+    imports: &[Arc<Interface>],
+) -> Result<Outcome, CheckFault>
+    ensures asked { IfOk result (λ _. AreImportsOf (arc_value «module».now) (map arc_value imports.now)) }
+    ensures refused { IfErr result (IsRefused (arc_value «module».now) (map arc_value imports.now)) }
+    ensures module { IfOk result (λ o. o.«module» ≡ arc_value «module».now) }
+    ensures imports { IfOk result (λ o. o.imports ≡ map arc_value imports.now) }
+    ensures right { IfOk result (λ o. IsVerdict (arc_value «module».now) (prelude_interface ∷ map arc_value imports.now) o.verdict) }
+{
+    if !are_imports_of(alloc, module, imports)? {
+        return Err(CheckFault::Imports);
+    }
+    let verdict = module_verdict(alloc, module, imports)?;
+    let imports = shared(alloc, imports)?;
+    Ok(Outcome::new(module.clone()?, imports, verdict))
+}

@@ -1,0 +1,8 @@
+//! Modules are checked, each for the interfaces of its imports: what a module came to is kept with its verdict.
+#![tactic(auto)]
+
+mod checking;
+mod outcome;
+
+pub use crate::checking::{CheckFault, check_module};
+pub use crate::outcome::{Outcome, Verdict};

@@ -1,0 +1,84 @@
+//! The exports of a core, by their names.
+
+ghost use Rattle.std.specs.Prelude.{◌≡◌, ◌↔◌, ◌++◌, ◌∷◌, [], ℕ, List, map, IfOk, OnOk, Contains};
+ghost use Rattle.hm_types.specs.declared.Entity.{Entity};
+ghost use Rattle.hm_types.specs.Interfaces.{AreOrdered};
+ghost use Rattle.hm_names.specs.Bindings.{Pair};
+ghost use Rattle.hm_exports.specs.ExportedRows.{AreOnePerName, HaveOneEntity, IsBound, exported_of};
+
+use crate::export_groups::copy_of;
+use hm_imports::{Binding, TextSet};
+use hm_names::{Exported, Namespace};
+use hm_syntax::Row;
+use hm_types::{Entity, Text};
+use std::alloc::{AllocError, Global};
+
+/// Adds a binding, if it is of the namespace and its name is new.
+fn add_once<'a>(
+    names: &mut TextSet<'a>,
+    out: &mut Vec<Binding<'a>>,
+    space: Namespace,
+    binding: &Binding<'a>,
+) -> Result<(), AllocError>
+    ensures { OnOk result ((seen : List Pair) → AreOnePerName space seen names.old out.old.items → AreOnePerName space (seen ++ binding.now ∷ []) names.new out.new.items) }
+{
+    if binding.space() != space {
+        return Ok(());
+    }
+    if !names.insert(binding.text())? {
+        return Ok(());
+    }
+    out.push(copy_of(binding))?;
+    Ok(())
+}
+
+/// The bindings of a namespace, one for each name.
+fn of_namespace<'a>(
+    alloc: Global,
+    given: &[Binding<'a>],
+    space: Namespace,
+) -> Result<Vec<Binding<'a>>, AllocError>
+    ensures { IfOk result (λ out. AreOnePerName space given.now (map (λ p. p.text) out.items) out.items) }
+{
+    let mut names = TextSet::new(alloc);
+    let mut out = Vec::new(alloc);
+    for binding in given {
+        add_once(&mut names, &mut out, space, binding)?;
+    }
+    Ok(out)
+}
+
+/// The entity of a binding, under its name.
+fn exported(alloc: Global, binding: &Binding<'_>) -> Result<Exported, AllocError>
+    ensures { IfOk result (λ e. e ≡ exported_of binding.now) }
+{
+    let name = String::from_str(alloc, binding.text())?;
+    let module_name = String::from_str(alloc, binding.entity().module())?;
+    let entity_name = String::from_str(alloc, binding.entity().name())?;
+    Ok(Exported {
+        name: Text::new(name),
+        entity: Entity {
+            module: Text::new(module_name),
+            name: Text::new(entity_name),
+        },
+    })
+}
+
+/// What is exported in a namespace, ordered by name, each name once.
+pub fn exported_in(
+    alloc: Global,
+    given: &[Binding<'_>],
+    space: Namespace,
+) -> Result<Row<Exported>, AllocError>
+    requires { HaveOneEntity given.now }
+    ensures exact { IfOk result (λ row. (x : List ℕ) (e : Entity) → Contains row (record { name = x; entity = e }) ↔ IsBound given.now space x e) }
+    ensures ordered { IfOk result (λ row. AreOrdered (map (λ r. r.name) row)) }
+{
+    let mut bindings = of_namespace(alloc, given, space)?;
+    bindings.sort_by(|a, b| a.text().cmp(b.text()))?;
+    let mut items = Vec::new(alloc);
+    for binding in &bindings {
+        items.push(exported(alloc, binding)?)?;
+    }
+    Ok(Row { items })
+}

@@ -1,0 +1,18 @@
+use Rattle.std.proofs.Common.{◌≡◌, List, ◌∷◌, ◌++◌, [], ap, rules, sym, subst, refl, length, take, ◌-◌}
+use Rattle.hm_groups.specs.Keys.{variable_of_key}
+use Rattle.hm_expressions.specs.declared.environment.Binding.{Binding}
+use Rattle.hm_expressions.specs.Places.{HaveRuns}
+use Rattle.hm_expressions.proofs.ClosedRuns.{runs_taken}
+use Rattle.hm_expressions.proofs.Placed.{last_forgotten, last_placed}
+use Rattle.hm_expressions.proofs.environment.forget_last.Goals as goal
+
+pub returns-clause-runs : goal.returns-clause-runs
+returns-clause-runs c = λ runs.
+    let rest : c.pop.new.self.items ≡ take (length c.args.items.now.items - 1) c.args.items.now.items = search rules in
+    subst HaveRuns (sym rest) (runs_taken c.args.items.now.items (length c.args.items.now.items - 1) runs)
+
+pub returns-clause-placed : goal.returns-clause-placed
+returns-clause-placed c = λ placed.
+    let parted : c.args.items.now.items ≡ c.pop.new.self.items ++ c.in-Some.last ∷ [] = search rules in
+    last_forgotten c.pop.new.self.items c.args.items.now.items c.in-Some.last c.args.innermost.now c.restore.new.places placed parted
+    (c.restore.ensures (last_placed c.pop.new.self.items c.args.items.now.items c.in-Some.last c.args.innermost.now placed parted))

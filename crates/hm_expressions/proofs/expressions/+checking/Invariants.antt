@@ -1,0 +1,96 @@
+use Rattle.std.proofs.Common.{◌≡◌, ◌+◌, ◌*◌, ◌≤◌, length, take}
+use Rattle.hm_graph.specs.Digraph.{lists}
+use Rattle.hm_typing.specs.Names.{Identifier}
+use Rattle.hm_typing.specs.Schemes.{Monotype}
+use Rattle.hm_expressions.specs.Environments.{assumptions}
+use Rattle.hm_expressions.specs.GroupQuestions.{HaveTypesOfAll, MembersHave}
+use Rattle.hm_expressions.proofs.ListSteps.{GroupsInferred}
+use Rattle.hm_syntax.specs.Sizes.{expression_size, expressions_size, bodies_size, right_side_size, alternatives_size, declaration_size, declarations_size}
+use Rattle.hm_syntax.specs.Lists.{expressions, body, bodies, alternatives, declarations}
+use Rattle.hm_syntax.specs.Trees.{no_bodies}
+use Rattle.hm_types.specs.Shape.{type_of}
+use Rattle.hm_expressions.specs.Constructors.{known_of}
+use Rattle.hm_expressions.proofs.Outcomes.{SolvedBy}
+use Rattle.hm_expressions.proofs.Derived.{ChecksAll}
+use Rattle.hm_expressions.proofs.SignedSteps.{SignedAll}
+use Rattle.hm_expressions.proofs.Sides.{ChecksBodies, ChecksChoices}
+use Rattle.hm_expressions.proofs.expressions.+checking.Given as goal
+
+abbrev pub decreases-check_expression : goal.decreases-check_expression
+decreases-check_expression l = 8 * expression_size l.e.now
+
+abbrev pub decreases-check_function : goal.decreases-check_function
+decreases-check_function l = 8 * expression_size l.function.now + 1
+
+abbrev pub decreases-check_expressions : goal.decreases-check_expressions
+decreases-check_expressions l = 8 * expressions_size (expressions l.parts.now)
+
+abbrev pub invariant-check_expressions-parts : goal.invariant-check_expressions-parts
+invariant-check_expressions-parts l = record {
+  same : l.environment ≡ l.initial.environment;
+  checked : SolvedBy (ChecksAll (known_of l.constructors) (take l.j l.parts) l.same l.first l.initial.environment) l.initial.solver l.solver;
+}
+
+abbrev pub decreases-check_body : goal.decreases-check_body
+decreases-check_body l = 8 * bodies_size (body l.guard.now l.e.now no_bodies)
+
+abbrev pub decreases-check_bodies : goal.decreases-check_bodies
+decreases-check_bodies l = 8 * bodies_size (bodies l.parts.now) + 1
+
+abbrev pub decreases-check_right_side : goal.decreases-check_right_side
+decreases-check_right_side l = 8 * right_side_size l.rhs.now + 1
+
+abbrev pub decreases-check_alternative : goal.decreases-check_alternative
+decreases-check_alternative l = 8 * right_side_size l.rhs.now + 2
+
+abbrev pub decreases-check_alternatives : goal.decreases-check_alternatives
+decreases-check_alternatives l = 8 * alternatives_size (alternatives l.choices.now) + 1
+
+abbrev pub invariant-check_bodies-parts : goal.invariant-check_bodies-parts
+invariant-check_bodies-parts l = record {
+  same : l.environment ≡ l.initial.environment;
+  checked : SolvedBy (ChecksBodies (known_of l.constructors) (take l.j l.parts) (type_of l.t) l.initial.environment) l.initial.solver l.solver;
+}
+
+abbrev pub invariant-check_alternatives-choices : goal.invariant-check_alternatives-choices
+invariant-check_alternatives-choices l = record {
+  same : l.environment ≡ l.initial.environment;
+  checked : SolvedBy (ChecksChoices (known_of l.constructors) (take l.j l.choices) l.first (type_of l.t) l.initial.environment) l.initial.solver l.solver;
+}
+
+abbrev pub decreases-check_clause : goal.decreases-check_clause
+decreases-check_clause l = 8 * right_side_size l.rhs.now + 2
+
+abbrev pub decreases-check_member : goal.decreases-check_member
+decreases-check_member l = 8 * declaration_size l.decl.now
+
+abbrev pub decreases-check_members : goal.decreases-check_members
+decreases-check_members l = 8 * declarations_size (declarations l.decls.now) + 1
+
+abbrev pub decreases-infer_group : goal.decreases-infer_group
+decreases-infer_group l = 8 * declarations_size (declarations l.decls.now) + 2
+
+abbrev pub decreases-check_bindings : goal.decreases-check_bindings
+decreases-check_bindings l = 8 * declarations_size (declarations l.list.now) + 3
+
+abbrev pub invariant-check_members-members : goal.invariant-check_members-members
+invariant-check_members-members l = record {
+  same : l.environment ≡ l.initial.environment;
+  grows : l.initial.solver.given ≤ l.solver.given;
+  checked : (τ : Identifier → Monotype) → HaveTypesOfAll (known_of l.constructors) l.decls τ l.types l.members → SolvedBy (MembersHave (known_of l.constructors) l.decls l.types τ (take l.j l.members) (assumptions l.initial.environment)) l.initial.solver l.solver;
+}
+
+abbrev pub invariant-check_bindings-groups : goal.invariant-check_bindings-groups
+invariant-check_bindings-groups l = GroupsInferred (known_of l.constructors) l.list (lists l.found.groups.items) (length l.found.numbers) l.types.items l.i l.fn.solver l.fn.environment l.solver l.environment
+
+abbrev pub decreases-check_signed : goal.decreases-check_signed
+decreases-check_signed l = 8 * declaration_size l.decl.now
+
+abbrev pub decreases-check_all_signed : goal.decreases-check_all_signed
+decreases-check_all_signed l = 8 * declarations_size (declarations l.decls.now) + 1
+
+abbrev pub invariant-check_all_signed-decls : goal.invariant-check_all_signed-decls
+invariant-check_all_signed-decls l = record {
+  same : l.environment ≡ l.initial.environment;
+  checked : SolvedBy (SignedAll (known_of l.constructors) (declarations l.decls) (take l.j l.decls) l.initial.environment) l.initial.solver l.solver;
+}

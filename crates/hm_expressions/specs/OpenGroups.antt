@@ -1,0 +1,33 @@
+-- What is done before and after the members of a group are checked. No public clause names these.
+use Rattle.std.specs.Prelude.{◌≡◌, ℕ, ◌<◌, ◌≤◌, ◌++◌, List, Option, length, slice_index_or}
+use Rattle.hm_typing.specs.Problems.{MostGeneralUnifier}
+use Rattle.hm_syntax.specs.Trees.{Declarations}
+use Rattle.hm_names.specs.Syntax.{Known}
+use Rattle.hm_groups.specs.declared.members.Member.{Member}
+use Rattle.hm_groups.specs.GroupMembers.{AreMembersOf}
+use Rattle.hm_groups.specs.Nodes.{list_nodes}
+use Rattle.hm_groups.specs.Variables.{Variable}
+use Rattle.hm_unify.specs.Solving.{Solving}
+use Rattle.hm_expressions.specs.Problems.{problem, given_more}
+use Rattle.hm_expressions.specs.Environments.{Assumed, assumptions, AreAssumed}
+use Rattle.hm_expressions.specs.GroupQuestions.{AreGivenTypes}
+use Rattle.hm_expressions.specs.BoundNames.{ArePlaced, Extends, BindsTypes, BindsSchemes}
+
+-- the variables of all nodes are at most those that were given
+abbrev pub AreUpTo : ℕ → List ℕ → Type 0
+AreUpTo given types = (j : ℕ) → j < length types → slice_index_or types j 0 ≤ given
+
+-- the nodes of a group have new variables, to which its names are bound
+pub record IsOpenGroup (nodes : List (Option Variable)) (rows : List (List ℕ)) (group : List ℕ) (s0 : Solving) (es0 : List Assumed) (s1 : Solving) (es1 : List Assumed) (types : List ℕ) (ms : List Member) : Type 0 where
+  pub given : s1 ≡ given_more s0 (length group)
+  pub placed : ArePlaced s0.given group types
+  pub names : (k : Known) (all : Declarations) → nodes ≡ list_nodes all all → BindsTypes k all types group es0 es1
+  pub members : AreMembersOf rows group ms
+  pub added : Extends es0 es1
+  pub numbers : AreGivenTypes s1.given types
+  pub assumed : AreAssumed s1.given es1
+
+-- the names of a group are bound to their schemes, over the outermost `depth` assumptions
+abbrev pub IsClosedGroup : List (Option Variable) → List ℕ → List ℕ → ℕ → Solving → List Assumed → List Assumed → Type 0
+IsClosedGroup nodes group types depth s es0 es1 =
+    (added base : List Assumed) → es0 ≡ added ++ base → length base ≡ depth → (m : MostGeneralUnifier (problem s)) × ((k : Known) (all : Declarations) → nodes ≡ list_nodes all all → BindsSchemes k all types m.map (assumptions base) group es0 es1)

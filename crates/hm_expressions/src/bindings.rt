@@ -1,0 +1,78 @@
+//! Pattern bindings (Haskell 98 Report, section 4.4.3.2).
+
+ghost use Rattle.std.specs.Prelude.{◌≡◌, ◌<◌, ◌≤◌, OnOk, length};
+ghost use Rattle.hm_types.specs.Types.{put};
+ghost use Rattle.hm_typing.specs.Names.{Identifier};
+ghost use Rattle.hm_typing.specs.Patterns.{Matches};
+ghost use Rattle.hm_typing.specs.Schemes.{Monotype};
+ghost use Rattle.hm_typing.specs.Syntax.{pattern_names};
+ghost use Rattle.hm_names.specs.Syntax.{pattern_of};
+ghost use Rattle.hm_expressions.specs.Constructors.{known_of};
+ghost use Rattle.hm_expressions.specs.GroupQuestions.{AreGivenTypes, HaveTypesBefore, HaveNodeTypes, type_at};
+ghost use Rattle.hm_expressions.specs.Kept.{variables_of};
+ghost use Rattle.hm_expressions.specs.Patterns.{AreGiven, put_each};
+ghost use Rattle.hm_expressions.specs.Problems.{Answers};
+
+use crate::constructors::Constructors;
+use crate::patterns::match_pattern;
+use crate::unifying::equate;
+use crate::variables::{Variable, Variables};
+use hm_syntax::Pat;
+use hm_types::Ty;
+use hm_unify::{Solver, UnifyFault};
+use std::alloc::Global;
+
+/// Gives variables the types of their nodes, which stand before the node `own`, that of the first
+/// variable next to it.
+fn equate_types(
+    solver: &mut Solver,
+    items: &[Variable<'_>],
+    types: &[usize],
+    own: usize,
+) -> Result<(), UnifyFault>
+    requires own { own < length types.now }
+    requires before { length items.now ≤ own }
+    requires given { AreGivenTypes solver.old.given types.now }
+    requires items { AreGiven solver.old.given (variables_of items.now) }
+    ensures answers { Answers (HaveNodeTypes types.now own items.now) solver.old solver.new result }
+    ensures given { OnOk result (solver.new.given ≡ solver.old.given) }
+{
+    solver.well_formed();
+    'items: for i in 0..items.len() {
+        let number = types[own - 1 - i];
+        let item = &items[i];
+        equate(solver, &item.ty, &Ty::Var(number))?;
+    }
+    Ok(())
+}
+
+/// Matches the pattern of a binding against the type of its node; each of its variables has the
+/// type of its own node, and these stand before that of the binding in the order of the variables.
+pub(crate) fn match_binding(
+    alloc: Global,
+    solver: &mut Solver,
+    constructors: &Constructors,
+    pat: &Pat,
+    types: &[usize],
+    own: usize,
+) -> Result<(), UnifyFault>
+    requires own { own < length types.now }
+    requires before { length (pattern_names (pattern_of (known_of constructors.now) pat.now)) ≤ own }
+    requires given { AreGivenTypes solver.old.given types.now }
+    ensures answers { let p = pattern_of (known_of constructors.now) pat.now in
+        (τ : Identifier → Monotype) → HaveTypesBefore τ (pattern_names p) types.now own → Answers (λ r. Matches (put_each r τ) p (put r (type_at types.now own))) solver.old solver.new result }
+    ensures grows { OnOk result (solver.old.given ≤ solver.new.given) }
+{
+    let mut variables = Variables::new(alloc);
+    let number = types[own];
+    match_pattern(
+        alloc,
+        solver,
+        constructors,
+        &mut variables,
+        pat,
+        &Ty::Var(number),
+    )?;
+    equate_types(solver, variables.as_slice(), types, own)?;
+    Ok(())
+}

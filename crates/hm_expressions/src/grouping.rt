@@ -1,0 +1,173 @@
+//! The names of a binding group: their types while it is inferred, and their schemes afterwards
+//! (Haskell 98 Report, section 4.5.2).
+
+ghost use Rattle.std.specs.Prelude.{◌≡◌, ℕ, ◌+◌, ◌<◌, ◌≤◌, ◌^◌, ◌++◌, List, All, IfOk, IfErr, OnOk, false, length};
+ghost use Rattle.hm_groups.specs.Nodes.{list_nodes};
+ghost use Rattle.hm_groups.specs.Groups.{node_name};
+ghost use Rattle.hm_types.specs.Monotypes.{Leaf};
+ghost use Rattle.hm_types.specs.Shape.{type_of};
+ghost use Rattle.hm_unify.specs.WellFormed.{IsWellFormed};
+ghost use Rattle.hm_expressions.specs.Collected.{has_leaf};
+ghost use Rattle.hm_expressions.specs.BoundNames.{ArePlaced, BindsNode, Extends, BindsTypes, BindsSchemes};
+ghost use Rattle.hm_expressions.specs.Environments.{AreAssumed, Assumed, assumptions};
+ghost use Rattle.hm_expressions.specs.Generalisations.{IsSolution, Keeps};
+ghost use Rattle.hm_expressions.specs.GroupQuestions.{AreGivenTypes};
+ghost use Rattle.hm_expressions.specs.OpenGroups.{AreUpTo, IsOpenGroup, IsClosedGroup};
+ghost use Rattle.hm_graph.specs.Digraph.{lists};
+ghost use Rattle.hm_unify.specs.declared.faults.UnifyFault.TheVariants.{Memory};
+ghost use Rattle.hm_names.specs.Syntax.{Known};
+ghost use Rattle.hm_syntax.specs.Trees.{Declarations};
+ghost use Rattle.hm_typing.specs.Assumptions.{Assumptions, assumptions_put};
+ghost use Rattle.hm_typing.specs.Schemes.{Monotype};
+
+use crate::collecting::Collected;
+use crate::environment::Environment;
+use crate::generalising::{Generalised, generalise};
+use crate::unifying::new_variables;
+use hm_groups::{BindingGroups, Member, Numbers, group_members};
+use hm_types::Ty;
+use hm_unify::{Solver, UnifyFault};
+use std::alloc::{AllocError, Global};
+
+/// Gives the nodes of a group the variables from `first` on.
+pub(crate) fn place_types(types: &mut [usize], group: &[usize], first: usize)
+    requires nodes { All (λ j. j < length types.old) group.now }
+    requires fits { first + length group.now < 2 ^ 64 }
+    ensures placed { ArePlaced first group.now types.new }
+    ensures given { (g : ℕ) → first + length group.now ≤ g → AreGivenTypes g types.old → AreGivenTypes g types.new }
+{
+    'nodes: for place in 0..group.len() {
+        types[group[place]] = first + place;
+    }
+}
+
+/// Binds a node to a scheme, if it is a variable: a pattern binding's own name is never mentioned.
+fn bind_node<'a>(
+    environment: &mut Environment<'a>,
+    numbers: &Numbers<'a>,
+    node: usize,
+    quantified: usize,
+    body: Ty,
+) -> Result<(), AllocError>
+    requires { node < length numbers.now }
+    ensures bound { OnOk result ((k : Known) (all : Declarations) → numbers.now ≡ list_nodes all all → BindsNode (node_name k all node) (record { quantified = quantified; body = type_of body }) environment.old environment.new) }
+    ensures given { OnOk result ((g : ℕ) → IsWellFormed (quantified + g) (type_of body) → AreAssumed g environment.old → AreAssumed g environment.new) }
+    ensures added { OnOk result (Extends environment.old environment.new) }
+{
+    let Some(name) = numbers.variable(node) else {
+        return Ok(());
+    };
+    environment.bind(name, quantified, body)?;
+    Ok(())
+}
+
+/// Binds the variables among the nodes of a group to their types.
+pub(crate) fn bind_types<'a>(
+    alloc: Global,
+    environment: &mut Environment<'a>,
+    numbers: &Numbers<'a>,
+    group: &[usize],
+    types: &[usize],
+) -> Result<(), AllocError>
+    requires nodes { All (λ j. j < length numbers.now) group.now }
+    requires types { length types.now ≡ length numbers.now }
+    ensures bound { OnOk result ((k : Known) (all : Declarations) → numbers.now ≡ list_nodes all all → BindsTypes k all types.now group.now environment.old environment.new) }
+    ensures given { OnOk result ((g : ℕ) → AreGivenTypes g types.now → AreAssumed g environment.old → AreAssumed g environment.new) }
+    ensures added { OnOk result (Extends environment.old environment.new) }
+{
+    'nodes: for place in 0..group.len() {
+        let node = group[place];
+        let number = types[node];
+        bind_node(environment, numbers, node, 0, Ty::Var(number))?;
+    }
+    Ok(())
+}
+
+/// Binds the variables among the nodes of a group to the closures of their types, with what the
+/// solver knows put for their variables. The variables that are kept stay free.
+pub(crate) fn bind_schemes<'a>(
+    alloc: Global,
+    solver: &Solver,
+    environment: &mut Environment<'a>,
+    numbers: &Numbers<'a>,
+    group: &[usize],
+    types: &[usize],
+    kept: &Collected,
+) -> Result<(), AllocError>
+    requires nodes { All (λ j. j < length numbers.now) group.now }
+    requires types { length types.now ≡ length numbers.now }
+    requires numbers { AreGivenTypes solver.now.given types.now }
+    ensures bound { OnOk result ((k : Known) (all : Declarations) → numbers.now ≡ list_nodes all all → (A : Assumptions) (m : ℕ → Monotype) → IsSolution solver.now.equations m → Keeps kept.now (assumptions_put m A) → BindsSchemes k all types.now m A group.now environment.old environment.new) }
+    ensures given { OnOk result (AreAssumed solver.now.given environment.old → AreAssumed solver.now.given environment.new) }
+    ensures closed { OnOk result (((l : Leaf) → has_leaf kept.now l ≡ false) → AreAssumed 0 environment.old → AreAssumed 0 environment.new) }
+    ensures added { OnOk result (Extends environment.old environment.new) }
+{
+    'nodes: for place in 0..group.len() {
+        let node = group[place];
+        let number = types[node];
+        let scheme = generalise(alloc, solver, kept, &Ty::Var(number))?;
+        let Generalised { quantified, body } = scheme;
+        bind_node(environment, numbers, node, quantified, body)?;
+    }
+    Ok(())
+}
+
+/// Gives the nodes of a group new variables for their types, and binds its names to these. Answers
+/// the declarations of the group.
+pub(crate) fn open_group<'a>(
+    alloc: Global,
+    solver: &mut Solver,
+    environment: &mut Environment<'a>,
+    found: &BindingGroups<'a>,
+    group: &[usize],
+    types: &mut [usize],
+) -> Result<Vec<Member>, UnifyFault>
+    requires nodes { All (λ j. j < length found.now.numbers) group.now }
+    requires rows { length found.now.rows.items ≡ length found.now.numbers }
+    requires types { length types.old ≡ length found.now.numbers }
+    requires some { 0 < length group.now }
+    requires numbers { AreUpTo solver.old.given types.old }
+    requires assumed { AreAssumed solver.old.given environment.old }
+    ensures opened { IfOk result (λ members. IsOpenGroup found.now.numbers (lists found.now.rows.items) group.now solver.old environment.old solver.new environment.new types.new members.items) }
+    ensures refused { IfErr result (λ e. e ≡ Memory) }
+{
+    let first = new_variables(solver, group.len())?;
+    place_types(types, group, first);
+    bind_types(alloc, environment, &found.numbers, group, types)?;
+    Ok(group_members(alloc, &found.rows, group)?)
+}
+
+/// Binds the names of a group to the closures of their types over the outermost `depth`
+/// assumptions.
+pub(crate) fn close_group<'a>(
+    alloc: Global,
+    solver: &Solver,
+    environment: &mut Environment<'a>,
+    found: &BindingGroups<'a>,
+    group: &[usize],
+    types: &[usize],
+    depth: usize,
+) -> Result<(), UnifyFault>
+    requires nodes { All (λ j. j < length found.now.numbers) group.now }
+    requires types { length types.now ≡ length found.now.numbers }
+    requires numbers { AreGivenTypes solver.now.given types.now }
+    requires assumed { AreAssumed solver.now.given environment.old }
+    requires depth { depth ≤ length environment.old }
+    ensures closed { OnOk result (IsClosedGroup found.now.numbers group.now types.now depth solver.now environment.old environment.new) }
+    ensures assumed { OnOk result (AreAssumed solver.now.given environment.new) }
+    ensures closed_alone { OnOk result (AreAssumed 0 environment.old → AreAssumed 0 environment.new) }
+    ensures added { OnOk result (Extends environment.old environment.new) }
+    ensures refused { IfErr result (λ e. e ≡ Memory) }
+{
+    solver.has_solution();
+    let kept = environment.free_variables(alloc, solver, depth)?;
+    Ok(bind_schemes(
+        alloc,
+        solver,
+        environment,
+        &found.numbers,
+        group,
+        types,
+        &kept,
+    )?)
+}

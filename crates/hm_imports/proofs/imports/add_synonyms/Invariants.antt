@@ -1,0 +1,10 @@
+use Rattle.std.proofs.Common.{take}
+use Rattle.hm_types.specs.declared.entries.SynonymEntry.{SynonymEntry}
+use Rattle.hm_names.specs.Bindings.{Adds, IsPairOf}
+use Rattle.hm_imports.specs.Selections.{Selects}
+use Rattle.hm_names.specs.declared.namespace.Namespace.TheVariants.{Types}
+use Rattle.hm_names.proofs.AddedPairs.{ForEach}
+use Rattle.hm_imports.proofs.imports.add_synonyms.Given as goal
+
+abbrev pub invariant-loop-entry : goal.invariant-loop-entry
+invariant-loop-entry l = Adds l.initial.pairs.items l.pairs.items (ForEach (λ (r : SynonymEntry) p. Selects l.selection Types r.name × IsPairOf l.fn.prefix.qualified l.fn.prefix.name.now Types r.name r.entity p) (take l.entry-index l.entries))

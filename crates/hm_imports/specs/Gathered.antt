@@ -1,0 +1,40 @@
+-- What is gathered of the items of an import list. No public clause names these.
+use Rattle.std.specs.Prelude.{◌≡◌, ℕ, List, Bool, true, Contains, None, Some}
+use Rattle.hm_types.specs.declared.Entity.{Entity}
+use Rattle.hm_types.specs.declared.entries.TypeEntry.{TypeEntry}
+use Rattle.hm_types.specs.declared.entries.ConstructorEntry.{ConstructorEntry}
+use Rattle.hm_types.specs.Interfaces.{Exports as Interface}
+use Rattle.hm_syntax.specs.Names.{Identifier}
+use Rattle.hm_syntax.specs.declared.ast.Item.{Item}
+use Rattle.hm_syntax.specs.declared.ast.Item.TheVariants as item
+use Rattle.hm_syntax.specs.declared.ast.Subs.{Subs}
+use Rattle.hm_syntax.specs.declared.ast.Subs.TheVariants as subs
+use Rattle.hm_names.specs.declared.namespace.Namespace.{Namespace}
+use Rattle.hm_names.specs.declared.namespace.Namespace.TheVariants.{Types, Constructors, Values}
+use Rattle.hm_imports.specs.NameSets.{FullName}
+
+abbrev pub bare : Namespace → List ℕ → FullName
+bare s x = record { space = s; qualifier = None; text = x }
+
+-- a type under its module for a qualifier
+abbrev pub type_name : Entity → FullName
+type_name e = record { space = Types; qualifier = Some e.«module»; text = e.name }
+
+-- f exports under the name x a constructor of the type
+abbrev pub IsOwned : Interface → Entity → List ℕ → Type 0
+IsOwned f owner x = (k : ConstructorEntry) × (Contains f.constructors k × ((k.name ≡ x) × (k.owner ≡ owner)))
+
+-- what stands behind the type v lists by name
+pub data IsBehind (hiding : Bool) (f : Interface) (v : Identifier) (n : FullName) : Subs → Type 0 where
+  alone : hiding ≡ true → n ≡ bare Constructors v.text → IsBehind hiding f v n subs.None
+  a_part : {c : Identifier} {cs : List Identifier} {r : TypeEntry} → Contains f.types r → r.name ≡ v.text → Contains cs c → IsOwned f r.entity c.text → n ≡ bare Constructors c.text → IsBehind hiding f v n (subs.Some cs)
+
+-- the item lists n by name
+pub data IsNamedBy (hiding : Bool) (f : Interface) (n : FullName) : Item → Type 0 where
+  a_value : {v : Identifier} → n ≡ bare Values v.text → IsNamedBy hiding f n (item.Var v)
+  a_type : {v : Identifier} {s : Subs} → n ≡ bare Types v.text → IsNamedBy hiding f n (item.Con v s)
+  behind : {v : Identifier} {s : Subs} → IsBehind hiding f v n s → IsNamedBy hiding f n (item.Con v s)
+
+-- the item lists the type n with all its constructors
+pub data IsOpenedBy (f : Interface) (n : FullName) : Item → Type 0 where
+  opened : {v : Identifier} {r : TypeEntry} → Contains f.types r → r.name ≡ v.text → n ≡ type_name r.entity → IsOpenedBy f n (item.Con v subs.All)

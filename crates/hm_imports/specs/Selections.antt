@@ -1,0 +1,60 @@
+-- Which of the exported names an import selects. No public clause names these.
+use Rattle.std.specs.Prelude.{◌≡◌, ℕ, List, Bool, true, false, Contains, ◌↔◌}
+use Rattle.hm_types.specs.Interfaces.{Exports as Interface}
+use Rattle.hm_syntax.specs.declared.ast.Import.{Import}
+use Rattle.hm_syntax.specs.declared.ast.Item.{Item}
+use Rattle.hm_syntax.specs.declared.ast.List.{List as ImportList}
+use Rattle.hm_syntax.specs.declared.ast.List.TheVariants as list
+use Rattle.hm_syntax.specs.declared.ast.Module.{Module}
+use Rattle.hm_names.specs.declared.namespace.Namespace.{Namespace}
+use Rattle.hm_imports.specs.declared.selections.Selection.{Selection}
+use Rattle.hm_imports.specs.declared.selections.Selection.TheVariants.{Every, Only, Hiding}
+use Rattle.hm_names.specs.Bindings.{Pair, IsPairOf, IsBroughtPair}
+use Rattle.hm_names.specs.Entities.{Exports}
+use Rattle.hm_imports.specs.Gathered.{bare}
+use Rattle.hm_imports.specs.NameSets.{FullName}
+use Rattle.hm_names.specs.Scope.{Lists, Hides, Imports}
+
+-- the item names x, or hides it
+abbrev pub ListsOrHides : Bool → Interface → List ℕ → Item → Namespace → Type 0
+ListsOrHides true f x j s = Hides f x j s
+ListsOrHides false f x j s = Lists f x j s
+
+-- the set has the names that items of the list name, or hide
+abbrev pub IsListed : Bool → Interface → List Item → List FullName → Type 0
+IsListed hiding f is names = (s : Namespace) (x : List ℕ) → Contains names (bare s x) ↔ ((j : Item) × (Contains is j × ListsOrHides hiding f x j s))
+
+-- the import list selects the name, if it is exported
+pub data IsSelected (f : Interface) (s : Namespace) (x : List ℕ) : ImportList → Type 0 where
+  every : IsSelected f s x list.Every
+  only : {is : List Item} {j : Item} → Contains is j → Lists f x j s → IsSelected f s x (list.Only is)
+  hiding : {is : List Item} → ((j : Item) → Contains is j → ¬ Hides f x j s) → IsSelected f s x (list.Hiding is)
+
+-- the selection has the name
+abbrev pub Selects : Selection → Namespace → List ℕ → Type 0
+Selects Every s x = Unit {0}
+Selects (Only names) s x = Contains names (bare s x)
+Selects (Hiding names) s x = ¬ Contains names (bare s x)
+
+-- the selection has the names that the import list selects of f's exports
+abbrev pub IsSelectionOf : Interface → ImportList → Selection → Type 0
+IsSelectionOf f l σ = (s : Namespace) (x : List ℕ) → Selects σ s x ↔ IsSelected f s x l
+
+-- the pair is of an entity that f exports under a name that the selection has
+pub record IsSelectedPair (f : Interface) (σ : Selection) (qualified : Bool) (under : List ℕ) (p : Pair) : Type 0 where
+  pub exported : Exports f p.text p.entity p.space
+  pub selected : Selects σ p.space p.text
+  pub pair : IsPairOf qualified under p.space p.text p.entity p
+
+-- the pair is one that the import brings in from one of the interfaces, that of its module
+pub record IsBroughtFrom (fs : List Interface) (i : Import) (p : Pair) : Type 0 where
+  pub interface : Interface
+  pub stands : Contains fs interface
+  pub same_name : interface.name ≡ i.name.text
+  pub brought : IsBroughtPair interface i p
+
+-- the pair is one that an import of the module brings in
+pub record IsImportedPair (m : Module) (fs : List Interface) (p : Pair) : Type 0 where
+  pub import_of : Import
+  pub imports : Imports m import_of
+  pub brought : IsBroughtFrom fs import_of p

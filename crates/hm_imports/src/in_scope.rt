@@ -1,0 +1,139 @@
+//! The pairs of a scope: what the module declares, and what its imports bring in (Report, sections 5.3 and 5.5).
+
+ghost use Rattle.std.specs.Prelude.{◌≡◌, false, OnOk, Contains};
+ghost use Rattle.std.specs.Borrow.{Bor};
+ghost use Rattle.hm_syntax.specs.Names.{Identifier};
+ghost use Rattle.hm_syntax.specs.Trees.{DataConstructor};
+ghost use Rattle.hm_names.specs.Bindings.{Pair, Adds, IsPairOf, IsDeclaredPair, IsOwnPair};
+ghost use Rattle.hm_names.specs.Entities.{named, constructor_name};
+ghost use Rattle.hm_names.specs.Variables.{pattern_variables};
+ghost use Rattle.hm_names.specs.declared.namespace.Namespace.TheVariants.{Types, Constructors, Values};
+
+use crate::bindings::{Binding, EntityRef};
+use hm_names::{LentNames, Namespace, add_pattern};
+use hm_syntax::{Constr, Decl, DeclKind, Module, Name, Pat};
+use std::alloc::{AllocError, Global};
+
+/// Adds an entity under its name, qualified, and bare unless a qualifier is asked for.
+pub(crate) fn add<'a>(
+    pairs: &mut Vec<Binding<'a>>,
+    qualified: bool,
+    qualifier: &'a str,
+    space: Namespace,
+    text: &'a str,
+    entity: EntityRef<'a>,
+) -> Result<(), AllocError>
+    ensures { OnOk result (Adds pairs.old.items pairs.new.items (IsPairOf qualified qualifier.now space text.now entity.entry)) }
+{
+    if !qualified {
+        pairs.push(Binding::new(space, None, text, entity.copy()))?;
+    }
+    pairs.push(Binding::new(space, Some(qualifier), text, entity))?;
+    Ok(())
+}
+
+/// Adds an entity of the module of this name.
+fn add_own<'a>(
+    pairs: &mut Vec<Binding<'a>>,
+    module_name: &'a str,
+    space: Namespace,
+    name: &'a Name,
+) -> Result<(), AllocError>
+    ensures { OnOk result (Adds pairs.old.items pairs.new.items (IsPairOf false module_name.now space name.now.text (named module_name.now name.now.text))) }
+{
+    let text = name.as_str();
+    add(
+        pairs,
+        false,
+        module_name,
+        space,
+        text,
+        EntityRef::new(module_name, text),
+    )?;
+    Ok(())
+}
+
+/// Adds variables.
+fn add_names<'a>(
+    pairs: &mut Vec<Binding<'a>>,
+    module_name: &'a str,
+    names: &[&'a Name],
+) -> Result<(), AllocError>
+    ensures { OnOk result (Adds pairs.old.items pairs.new.items (λ p. (n : Bor Identifier) × (Contains names.now n × IsPairOf false module_name.now Values n.now.text (named module_name.now n.now.text) p))) }
+{
+    for name in names {
+        add_own(pairs, module_name, Namespace::Values, name)?;
+    }
+    Ok(())
+}
+
+/// Adds the variables of a pattern.
+fn add_variables<'a>(
+    alloc: Global,
+    pairs: &mut Vec<Binding<'a>>,
+    module_name: &'a str,
+    pat: &'a Pat,
+) -> Result<(), AllocError>
+    ensures { OnOk result (Adds pairs.old.items pairs.new.items (λ p. (n : Identifier) × (Contains (pattern_variables pat.now) n × IsPairOf false module_name.now Values n.text (named module_name.now n.text) p))) }
+{
+    let mut names = LentNames::new(alloc);
+    add_pattern(&mut names, pat)?;
+    add_names(pairs, module_name, names.as_slice())?;
+    Ok(())
+}
+
+/// Adds constructors.
+fn add_constructors<'a>(
+    pairs: &mut Vec<Binding<'a>>,
+    module_name: &'a str,
+    constrs: &'a [Constr],
+) -> Result<(), AllocError>
+    ensures { OnOk result (Adds pairs.old.items pairs.new.items (λ p. (c : DataConstructor) × (Contains constrs.now c × IsPairOf false module_name.now Constructors (constructor_name c).text (named module_name.now (constructor_name c).text) p))) }
+{
+    for constr in constrs {
+        add_own(pairs, module_name, Namespace::Constructors, &constr.name)?;
+    }
+    Ok(())
+}
+
+/// Adds what a declaration declares.
+fn add_declaration<'a>(
+    alloc: Global,
+    pairs: &mut Vec<Binding<'a>>,
+    module_name: &'a str,
+    decl: &'a Decl,
+) -> Result<(), AllocError>
+    ensures { OnOk result (Adds pairs.old.items pairs.new.items (IsDeclaredPair module_name.now decl.now)) }
+{
+    match &decl.kind {
+        DeclKind::DataType { name, constrs, .. } => {
+            add_own(pairs, module_name, Namespace::Types, name)?;
+            add_constructors(pairs, module_name, constrs)?;
+            Ok(())
+        }
+        DeclKind::Newtype { name, constr, .. } => {
+            add_own(pairs, module_name, Namespace::Types, name)?;
+            add_own(pairs, module_name, Namespace::Constructors, &constr.name)?;
+            Ok(())
+        }
+        DeclKind::Synonym { name, .. } => Ok(add_own(pairs, module_name, Namespace::Types, name)?),
+        DeclKind::Signature { .. } => Ok(()),
+        DeclKind::Clause { name, .. } => Ok(add_own(pairs, module_name, Namespace::Values, name)?),
+        DeclKind::Pattern { pat, .. } => Ok(add_variables(alloc, pairs, module_name, pat)?),
+    }
+}
+
+/// Adds what a module declares.
+pub fn add_declared<'a>(
+    alloc: Global,
+    pairs: &mut Vec<Binding<'a>>,
+    program: &'a Module,
+) -> Result<(), AllocError>
+    ensures { OnOk result (Adds pairs.old.items pairs.new.items (IsOwnPair program.now)) }
+{
+    let module_name = program.header.name.as_str();
+    for decl in program.decls.as_slice() {
+        add_declaration(alloc, pairs, module_name, decl)?;
+    }
+    Ok(())
+}

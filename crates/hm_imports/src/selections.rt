@@ -1,0 +1,254 @@
+//! Which names of an interface an import brings in (Report, section 5.3.1).
+
+ghost use Rattle.std.specs.Prelude.{◌≡◌, ◌↔◌, IfOk, OnOk, IsTrue, Contains};
+ghost use Rattle.hm_types.specs.declared.entries.ConstructorEntry.{ConstructorEntry};
+ghost use Rattle.hm_syntax.specs.Names.{Identifier};
+ghost use Rattle.hm_syntax.specs.declared.ast.Item.{Item};
+ghost use Rattle.hm_names.specs.Bindings.{Adds};
+ghost use Rattle.hm_imports.specs.Selections.{IsListed, Selects, IsSelectionOf};
+ghost use Rattle.hm_imports.specs.Gathered.{bare, type_name, IsOwned, IsBehind, IsNamedBy, IsOpenedBy};
+ghost use Rattle.hm_names.specs.declared.namespace.Namespace.TheVariants.{Types, Constructors, Values};
+
+use crate::lookups::{constructor_named, type_named};
+use crate::name_set::NameSet;
+use hm_names::Namespace;
+use hm_syntax::{Item, List, Name, Subs};
+use hm_types::{ConstructorEntry, Entity, Interface};
+use std::alloc::{AllocError, Global};
+
+/// Adds a constructor that is listed behind a type, if it is one of that type.
+fn gather_part<'a>(
+    names: &mut NameSet<'a>,
+    interface: &Interface,
+    owner: &Entity,
+    part: &'a Name,
+) -> Result<(), AllocError>
+    ensures { OnOk result (Adds names.old names.new (λ n. IsOwned interface.now owner.now part.now.text × (n ≡ bare Constructors part.now.text))) }
+{
+    let Some(constructor) = constructor_named(interface.constructors(), part.as_str()) else {
+        return Ok(());
+    };
+    if !constructor.owner.is_same(owner) {
+        return Ok(());
+    }
+    names.insert(Namespace::Constructors, None, part.as_str())?;
+    Ok(())
+}
+
+/// Adds those constructors that are listed behind a type and are its own.
+fn gather_parts<'a>(
+    names: &mut NameSet<'a>,
+    interface: &Interface,
+    owner: &Entity,
+    parts: &'a [Name],
+) -> Result<(), AllocError>
+    ensures { OnOk result (Adds names.old names.new (λ n. (c : Identifier) × (Contains parts.now c × (IsOwned interface.now owner.now c.text × (n ≡ bare Constructors c.text))))) }
+{
+    for part in parts {
+        gather_part(names, interface, owner, part)?;
+    }
+    Ok(())
+}
+
+/// Adds what an item lists by name beside a type: constructors, and behind `hiding` one of the type's own name.
+fn gather_behind<'a>(
+    names: &mut NameSet<'a>,
+    interface: &Interface,
+    name: &'a Name,
+    subs: &'a Subs,
+    hiding: bool,
+) -> Result<(), AllocError>
+    ensures { OnOk result (Adds names.old names.new (λ n. IsBehind hiding interface.now name.now n subs.now)) }
+{
+    match subs {
+        Subs::None => {
+            if !hiding {
+                return Ok(());
+            }
+            names.insert(Namespace::Constructors, None, name.as_str())?;
+            Ok(())
+        }
+        Subs::All => Ok(()),
+        Subs::Some(parts) => {
+            let Some(entry) = type_named(interface.types(), name.as_str()) else {
+                return Ok(());
+            };
+            gather_parts(names, interface, &entry.entity, parts.as_slice())?;
+            Ok(())
+        }
+    }
+}
+
+/// Adds what an item lists by name.
+fn gather_names<'a>(
+    names: &mut NameSet<'a>,
+    interface: &Interface,
+    item: &'a Item,
+    hiding: bool,
+) -> Result<(), AllocError>
+    ensures { OnOk result (Adds names.old names.new (λ n. IsNamedBy hiding interface.now n item.now)) }
+{
+    match item {
+        Item::Var(name) => {
+            names.insert(Namespace::Values, None, name.as_str())?;
+            Ok(())
+        }
+        Item::Con(name, subs) => {
+            names.insert(Namespace::Types, None, name.as_str())?;
+            gather_behind(names, interface, name, subs, hiding)?;
+            Ok(())
+        }
+    }
+}
+
+/// Adds what the items of a list list by name.
+fn gather_all_names<'a>(
+    names: &mut NameSet<'a>,
+    interface: &Interface,
+    items: &'a [Item],
+    hiding: bool,
+) -> Result<(), AllocError>
+    ensures { OnOk result (Adds names.old names.new (λ n. (j : Item) × (Contains items.now j × IsNamedBy hiding interface.now n j))) }
+{
+    for item in items {
+        gather_names(names, interface, item, hiding)?;
+    }
+    Ok(())
+}
+
+/// Adds the type that an item lists with all its constructors.
+fn gather_opened<'a>(
+    opened: &mut NameSet<'a>,
+    interface: &'a Interface,
+    item: &Item,
+) -> Result<(), AllocError>
+    ensures { OnOk result (Adds opened.old opened.new (λ n. IsOpenedBy interface.now n item.now)) }
+{
+    match item {
+        Item::Var(_) => Ok(()),
+        Item::Con(name, subs) => match subs {
+            Subs::None => Ok(()),
+            Subs::Some(_) => Ok(()),
+            Subs::All => {
+                let Some(entry) = type_named(interface.types(), name.as_str()) else {
+                    return Ok(());
+                };
+                let module = entry.entity.module.as_str();
+                opened.insert(Namespace::Types, Some(module), entry.entity.name.as_str())?;
+                Ok(())
+            }
+        },
+    }
+}
+
+/// Adds the types that the items of a list list with all their constructors.
+fn gather_all_opened<'a>(
+    opened: &mut NameSet<'a>,
+    interface: &'a Interface,
+    items: &[Item],
+) -> Result<(), AllocError>
+    ensures { OnOk result (Adds opened.old opened.new (λ n. (j : Item) × (Contains items.now j × IsOpenedBy interface.now n j))) }
+{
+    for item in items {
+        gather_opened(opened, interface, item)?;
+    }
+    Ok(())
+}
+
+/// Adds a constructor, if its type is listed with all its constructors.
+fn gather_constructor<'a>(
+    names: &mut NameSet<'a>,
+    opened: &NameSet<'_>,
+    constructor: &'a ConstructorEntry,
+) -> Result<(), AllocError>
+    ensures { OnOk result (Adds names.old names.new (λ n. Contains opened.now (type_name constructor.now.owner) × (n ≡ bare Constructors constructor.now.name))) }
+{
+    let module = constructor.owner.module.as_str();
+    if !opened.contains(
+        Namespace::Types,
+        Some(module),
+        constructor.owner.name.as_str(),
+    ) {
+        return Ok(());
+    }
+    names.insert(Namespace::Constructors, None, constructor.name.as_str())?;
+    Ok(())
+}
+
+/// Adds the constructors of the types that are listed with all their constructors.
+fn gather_constructors<'a>(
+    names: &mut NameSet<'a>,
+    opened: &NameSet<'_>,
+    constructors: &'a [ConstructorEntry],
+) -> Result<(), AllocError>
+    ensures { OnOk result (Adds names.old names.new (λ n. (k : ConstructorEntry) × (Contains constructors.now k × (Contains opened.now (type_name k.owner) × (n ≡ bare Constructors k.name))))) }
+{
+    for constructor in constructors {
+        gather_constructor(names, opened, constructor)?;
+    }
+    Ok(())
+}
+
+/// The names that the items of a list name, or hide.
+fn listed<'a>(
+    alloc: Global,
+    interface: &'a Interface,
+    items: &'a [Item],
+    hiding: bool,
+) -> Result<NameSet<'a>, AllocError>
+    ensures { IfOk result (λ names. IsListed hiding interface.now items.now names) }
+{
+    let mut names = NameSet::new(alloc);
+    gather_all_names(&mut names, interface, items, hiding)?;
+    let mut opened = NameSet::new(alloc);
+    gather_all_opened(&mut opened, interface, items)?;
+    gather_constructors(&mut names, &opened, interface.constructors())?;
+    Ok(names)
+}
+
+/// Which names of an interface an import list selects.
+#[derive(Drop)]
+pub(crate) enum Selection<'a> {
+    Every,
+    Only(NameSet<'a>),
+    /// All but these.
+    Hiding(NameSet<'a>),
+}
+
+impl<'a> Selection<'a> {
+    /// What the list of an import selects of its module's interface.
+    pub(crate) fn new(
+        alloc: Global,
+        interface: &'a Interface,
+        list: &'a List,
+    ) -> Result<Selection<'a>, AllocError>
+        ensures { IfOk result (IsSelectionOf interface.now list.now) }
+    {
+        match list {
+            List::Every => Ok(Selection::Every),
+            List::Only(items) => Ok(Selection::Only(listed(
+                alloc,
+                interface,
+                items.as_slice(),
+                false,
+            )?)),
+            List::Hiding(items) => Ok(Selection::Hiding(listed(
+                alloc,
+                interface,
+                items.as_slice(),
+                true,
+            )?)),
+        }
+    }
+
+    /// Whether it selects the name.
+    pub(crate) fn selects(&self, space: Namespace, text: &str) -> bool
+        ensures { IsTrue result ↔ Selects self.now space text.now }
+    {
+        match self {
+            Selection::Every => true,
+            Selection::Only(names) => names.contains(space, None, text),
+            Selection::Hiding(names) => !names.contains(space, None, text),
+        }
+    }
+}

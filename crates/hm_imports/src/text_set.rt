@@ -1,0 +1,62 @@
+//! Sets of texts.
+
+ghost use Rattle.std.specs.Prelude.{◌≡◌, ◌++◌, ◌∷◌, [], IfOk, OnOk, cond, not, length, position};
+ghost use Rattle.hm_names.specs.Texts.{is_text_among, same_text};
+
+use indexmap::IndexSet;
+use std::alloc::{AllocError, Global};
+use std::marker::Model;
+
+/// A set of texts, which contracts see in the order in which they came.
+#[derive(Drop)]
+pub struct TextSet<'a> {
+    keys: IndexSet<&'a str>,
+}
+
+impl<'a> Model for TextSet<'a> {
+    ghost use Rattle.std.specs.Prelude.{List, ℕ, map};
+
+    ghost Value = { List (List ℕ) };
+
+    ghost view = { λ s. map (λ k. k.now) s.keys.keys };
+}
+
+impl<'a> TextSet<'a> {
+    /// No texts.
+    pub fn new(alloc: Global) -> TextSet<'a>
+        ensures { result ≡ [] }
+    {
+        TextSet {
+            keys: IndexSet::new(alloc),
+        }
+    }
+
+    /// Whether the set has the text.
+    pub fn contains(&self, text: &str) -> bool
+        ensures { result ≡ is_text_among text.now self.now }
+    {
+        self.keys.contains(text)
+    }
+
+    /// How many texts there are.
+    pub fn len(&self) -> usize
+        ensures { result ≡ length self.now }
+    {
+        self.keys.len()
+    }
+
+    /// The place of the text in the order in which they came.
+    pub fn place_of(&self, text: &str) -> Option<usize>
+        ensures { result ≡ position (same_text text.now) self.now }
+    {
+        self.keys.get_index_of(text)
+    }
+
+    /// Adds the text, and says whether it is new.
+    pub fn insert(&mut self, text: &'a str) -> Result<bool, AllocError>
+        ensures added { IfOk result (λ r. r ≡ not (is_text_among text.now self.old)) }
+        ensures texts { OnOk result (self.new ≡ cond (is_text_among text.now self.old) self.old (self.old ++ text.now ∷ [])) }
+    {
+        Ok(self.keys.insert(text)?)
+    }
+}

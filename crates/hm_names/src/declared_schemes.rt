@@ -1,0 +1,98 @@
+//! The schemes of constructors and the synonyms that a core declares (Report, sections 4.2.1 to 4.2.3).
+
+ghost use Rattle.std.specs.Prelude.{◌≡◌, IfOk};
+ghost use Rattle.hm_types.specs.Monotypes.{arguments_of};
+ghost use Rattle.hm_types.specs.Shape.{type_of, types_of};
+ghost use Rattle.hm_syntax.specs.Names.{Identifier};
+ghost use Rattle.hm_names.specs.DeclaredSchemes.{functions_to, numbered};
+ghost use Rattle.hm_names.specs.Entities.{named};
+ghost use Rattle.hm_names.specs.Faults.Lists.{Repeats};
+ghost use Rattle.hm_names.specs.DeclaredSchemes.{fact_in};
+ghost use Rattle.hm_names.specs.DeclaredSynonyms.{IsSound};
+ghost use Rattle.hm_names.specs.Types.{synonym_of};
+ghost use Rattle.hm_names.specs.Variables.{texts};
+
+use crate::monotypes::{monotype, monotypes};
+use crate::type_variables::TypeVariables;
+use crate::variables::LentNames;
+use hm_syntax::{Constr, Name, TypeExpr};
+use hm_types::{Entity, Head, Scheme, Synonym, Text, Ty, Types, canonical};
+use std::alloc::{AllocError, Global};
+
+/// The parameters of a declaration, as type variables.
+pub fn parameters_of<'a>(alloc: Global, params: &'a [Name]) -> Result<TypeVariables<'a>, AllocError>
+    ensures { IfOk result (λ set. ((n : Identifier) → ¬ Repeats params.now n) → set ≡ texts params.now) }
+{
+    let mut names = LentNames::new(alloc);
+    'params: for param in params {
+        names.push(param)?;
+    }
+    Ok(TypeVariables::of(alloc, &names)?)
+}
+
+/// The synonym of a declaration whose right side has resolved names.
+pub fn declared_synonym(
+    alloc: Global,
+    params: &[Name],
+    ty: &TypeExpr,
+) -> Result<Synonym, AllocError>
+    requires { IsSound params.now ty.now }
+    ensures { IfOk result (λ s. s ≡ synonym_of params.now ty.now) }
+{
+    let variables = parameters_of(alloc, params)?;
+    let body = monotype(alloc, &variables, ty)?;
+    Ok(Synonym::new(variables.len(), body))
+}
+
+/// The variables below a number, in order.
+fn variables_below(alloc: Global, count: usize) -> Result<Types, AllocError>
+    ensures { IfOk result (λ ts. ts ≡ numbered 0 count) }
+{
+    let mut variables = Vec::new(alloc);
+    for n in 0..count {
+        variables.push(Ty::Var(n))?;
+    }
+    Ok(Types::new(variables))
+}
+
+/// The entity of a module's own name.
+pub fn own_entity(alloc: Global, home: &str, name: &Name) -> Result<Entity, AllocError>
+    ensures { IfOk result (λ e. e ≡ named home.now name.now.text) }
+{
+    let home = String::from_str(alloc, home)?;
+    let text = String::from_str(alloc, name.as_str())?;
+    Ok(Entity {
+        module: Text::new(home),
+        name: Text::new(text),
+    })
+}
+
+/// The type of functions from these arguments, one after the other.
+fn function_from(alloc: Global, arguments: Vec<Ty>, outcome: Ty) -> Result<Ty, AllocError>
+    ensures { IfOk result (λ t. type_of t ≡ functions_to (types_of arguments.items) (type_of outcome)) }
+{
+    let mut left = arguments;
+    let mut ty = outcome;
+    while let Some(argument) = left.pop() {
+        ty = Ty::function(alloc, argument, ty)?;
+    }
+    Ok(ty)
+}
+
+/// The scheme of a constructor of a type of the core.
+pub fn declared_scheme(
+    alloc: Global,
+    home: &str,
+    owner: &Name,
+    params: &[Name],
+    constr: &Constr,
+) -> Result<Scheme, AllocError>
+    ensures { IfOk result (λ s. ((n : Identifier) → ¬ (Repeats params.now n)) → s ≡ (fact_in home.now owner.now params.now constr.now).scheme) }
+{
+    let variables = parameters_of(alloc, params)?;
+    let owner = own_entity(alloc, home, owner)?;
+    let outcome = Ty::App(Head::Named(owner), variables_below(alloc, params.len())?);
+    let arguments = monotypes(alloc, &variables, &constr.args)?;
+    let ty = function_from(alloc, arguments, outcome)?;
+    Ok(canonical(alloc, &ty)?)
+}

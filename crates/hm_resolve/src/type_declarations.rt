@@ -1,0 +1,147 @@
+//! Declarations of types (Haskell 98 Report, section 4.2).
+ghost use Rattle.std.specs.Prelude.{◌≡◌, IfOk, OnOk, map};
+ghost use Rattle.hm_syntax.specs.Lists.{constructors};
+ghost use Rattle.hm_syntax.specs.Trees.{data_declaration, newtype_declaration, synonym_declaration, more_constructors, no_constructors};
+ghost use Rattle.hm_names.specs.Resolved.{constructor_with, declaration_with};
+ghost use Rattle.hm_names.specs.Found.{noting, locals_of, resolver_of, binder_of, constructor_faults, constructors_faults, declaration_faults, parameter_faults, duplicates, outside};
+
+use crate::copies::{bound_name, copy_names};
+use crate::list_names::add_names;
+use crate::resolving::Resolving;
+use hm_names::{Kind, LentNames, add_constructor, add_constructors, add_type};
+use hm_syntax::{Constr, Decl, DeclKind, Name, TypeExpr};
+use hm_types::Text;
+use std::alloc::{AllocError, Global};
+
+impl Resolving<'_> {
+    /// Notes each second parameter, and each type variable that is no parameter.
+    #[tactic(auto, using(hm_names::proofs::Rows::noting_more))]
+    fn parameters(
+        &mut self,
+        alloc: Global,
+        params: &[Name],
+        variables: &LentNames<'_>,
+    ) -> Result<(), AllocError>
+        ensures { OnOk result (self.new ≡ noting (parameter_faults params.now variables.now) self.old) }
+    {
+        let mut lent = LentNames::new(alloc);
+        add_names(&mut lent, params)?;
+        self.repeated(alloc, Kind::Duplicate, &lent)?;
+        Ok(self.outside(alloc, Kind::Unbound, &lent, variables)?)
+    }
+
+    /// A constructor with the names in its types resolved.
+    #[tactic(auto, using(hm_names::proofs::Rows::types_map))]
+    fn constr(
+        &mut self,
+        alloc: Global,
+        home: &Option<Text>,
+        constr: &Constr,
+    ) -> Result<Constr, AllocError>
+        ensures tree { IfOk result (λ c. c ≡ constructor_with (resolver_of self.old.known) (binder_of home.now) constr.now) }
+        ensures state { OnOk result (self.new ≡ noting (constructor_faults self.old.known constr.now) self.old) }
+    {
+        let args = self.type_row(alloc, &constr.args)?;
+        Ok(Constr {
+            name: bound_name(alloc, home, &constr.name)?,
+            args,
+        })
+    }
+
+    fn constr_row(
+        &mut self,
+        alloc: Global,
+        home: &Option<Text>,
+        row: &[Constr],
+    ) -> Result<Vec<Constr>, AllocError>
+        ensures trees { IfOk result (λ cs. cs.items ≡ map (constructor_with (resolver_of self.old.known) (binder_of home.now)) row.now) }
+        ensures state { OnOk result (self.new ≡ noting (constructors_faults self.old.known (constructors row.now)) self.old) }
+    {
+        let mut resolved = Vec::new(alloc);
+        'row: for constr in row {
+            resolved.push(self.constr(alloc, home, constr)?)?;
+        }
+        Ok(resolved)
+    }
+
+    /// A `data` declaration.
+    #[inline(never)]
+    #[tactic(auto, using(hm_names::proofs::Rows::constructors_map, hm_names::proofs::Rows::noting_more))]
+    pub(crate) fn data_type(
+        &mut self,
+        alloc: Global,
+        home: &Option<Text>,
+        name: &Name,
+        params: &[Name],
+        constrs: &[Constr],
+    ) -> Result<Decl, AllocError>
+        ensures tree { IfOk result (λ d. d ≡ declaration_with (resolver_of self.old.known) (binder_of home.now) (locals_of self.old) (data_declaration name.now params.now (constructors constrs.now))) }
+        ensures state { OnOk result (self.new ≡ noting (declaration_faults self.old.known (locals_of self.old) (data_declaration name.now params.now (constructors constrs.now))) self.old) }
+    {
+        let mut variables = LentNames::new(alloc);
+        add_constructors(&mut variables, constrs)?;
+        self.parameters(alloc, params, &variables)?;
+        let constrs = self.constr_row(alloc, home, constrs)?;
+        Ok(Decl {
+            kind: DeclKind::DataType {
+                name: bound_name(alloc, home, name)?,
+                params: copy_names(alloc, params)?,
+                constrs,
+            },
+        })
+    }
+
+    /// A `newtype` declaration.
+    #[inline(never)]
+    #[tactic(auto, using(hm_names::proofs::Rows::noting_more))]
+    pub(crate) fn newtype(
+        &mut self,
+        alloc: Global,
+        home: &Option<Text>,
+        name: &Name,
+        params: &[Name],
+        constr: &Constr,
+    ) -> Result<Decl, AllocError>
+        ensures tree { IfOk result (λ d. d ≡ declaration_with (resolver_of self.old.known) (binder_of home.now) (locals_of self.old) (newtype_declaration name.now params.now constr.now)) }
+        ensures state { OnOk result (self.new ≡ noting (declaration_faults self.old.known (locals_of self.old) (newtype_declaration name.now params.now constr.now)) self.old) }
+    {
+        let mut variables = LentNames::new(alloc);
+        add_constructor(&mut variables, constr)?;
+        self.parameters(alloc, params, &variables)?;
+        let constr = self.constr(alloc, home, constr)?;
+        Ok(Decl {
+            kind: DeclKind::Newtype {
+                name: bound_name(alloc, home, name)?,
+                params: copy_names(alloc, params)?,
+                constr,
+            },
+        })
+    }
+
+    /// A `type` declaration.
+    #[inline(never)]
+    #[tactic(auto, using(hm_names::proofs::Rows::noting_more))]
+    pub(crate) fn synonym(
+        &mut self,
+        alloc: Global,
+        home: &Option<Text>,
+        name: &Name,
+        params: &[Name],
+        ty: &TypeExpr,
+    ) -> Result<Decl, AllocError>
+        ensures tree { IfOk result (λ d. d ≡ declaration_with (resolver_of self.old.known) (binder_of home.now) (locals_of self.old) (synonym_declaration name.now params.now ty.now)) }
+        ensures state { OnOk result (self.new ≡ noting (declaration_faults self.old.known (locals_of self.old) (synonym_declaration name.now params.now ty.now)) self.old) }
+    {
+        let mut variables = LentNames::new(alloc);
+        add_type(&mut variables, ty)?;
+        self.parameters(alloc, params, &variables)?;
+        let ty = self.type_expr(alloc, ty)?;
+        Ok(Decl {
+            kind: DeclKind::Synonym {
+                name: bound_name(alloc, home, name)?,
+                params: copy_names(alloc, params)?,
+                ty,
+            },
+        })
+    }
+}

@@ -1,5 +1,0 @@
-use Rattle.hm_scope.proofs.WholeNames.{text_added}
-use Rattle.hm_scope.proofs.module_names.add_name.Goals as goal
-
-pub returns : goal.returns
-returns c = text_added c.args.name.now c.args.names.now c.insert.new.self c.in_ok-insert.ensures.texts

@@ -1,7 +1,0 @@
--- The binding that the next clause may go on, as the code has it. No public clause names these.
-use Rattle.std.specs.Prelude.{ℕ, List, Option, option_map}
-use Rattle.std.specs.Borrow.{Bor}
-use Rattle.hm_scope.specs.Faults.Lists.{OpenBinding}
-
-abbrev pub open_binding : Option (Bor (List ℕ) × ℕ) → OpenBinding
-open_binding b = option_map (λ p. (p.0.now, p.1)) b

@@ -1,0 +1,157 @@
+//! Interfaces and their texts.
+
+ghost use Rattle.std.specs.Prelude.{◌≡◌, IfOk};
+
+use hm_types::{
+    Entity, Head, Interface, Synonym, SynonymEntry, Text, Ty, Types, interface_text, prelude,
+};
+use std::alloc::{AllocError, Global};
+use std::test::Fail;
+
+/// The interface of Prelude, line by line.
+const PRELUDE: [&str; 72] = [
+    "module Prelude",
+    "  type Bool/0 = Prelude.Bool",
+    "  type Char/0 = Prelude.Char",
+    "  type Either/2 = Prelude.Either",
+    "  type Int/0 = Prelude.Int",
+    "  type Maybe/1 = Prelude.Maybe",
+    "  type Ordering/0 = Prelude.Ordering",
+    "  syn String/0 = Prelude.String :: [Char]",
+    "  con EQ = Prelude.EQ :: Ordering",
+    "  con False = Prelude.False :: Bool",
+    "  con GT = Prelude.GT :: Ordering",
+    "  con Just = Prelude.Just :: a -> Maybe a",
+    "  con LT = Prelude.LT :: Ordering",
+    "  con Left = Prelude.Left :: a -> Either a b",
+    "  con Nothing = Prelude.Nothing :: Maybe a",
+    "  con Right = Prelude.Right :: a -> Either b a",
+    "  con True = Prelude.True :: Bool",
+    "  val all = Prelude.all :: (a -> Bool) -> [a] -> Bool",
+    "  val and = Prelude.and :: [Bool] -> Bool",
+    "  val any = Prelude.any :: (a -> Bool) -> [a] -> Bool",
+    "  val asTypeOf = Prelude.asTypeOf :: a -> a -> a",
+    "  val break = Prelude.break :: (a -> Bool) -> [a] -> ([a], [a])",
+    "  val concat = Prelude.concat :: [[a]] -> [a]",
+    "  val concatMap = Prelude.concatMap :: (a -> [b]) -> [a] -> [b]",
+    "  val const = Prelude.const :: a -> b -> a",
+    "  val curry = Prelude.curry :: ((a, b) -> c) -> a -> b -> c",
+    "  val cycle = Prelude.cycle :: [a] -> [a]",
+    "  val drop = Prelude.drop :: Int -> [a] -> [a]",
+    "  val dropWhile = Prelude.dropWhile :: (a -> Bool) -> [a] -> [a]",
+    "  val either = Prelude.either :: (a -> b) -> (c -> b) -> Either a c -> b",
+    "  val error = Prelude.error :: [Char] -> a",
+    "  val filter = Prelude.filter :: (a -> Bool) -> [a] -> [a]",
+    "  val flip = Prelude.flip :: (a -> b -> c) -> b -> a -> c",
+    "  val foldl = Prelude.foldl :: (a -> b -> a) -> a -> [b] -> a",
+    "  val foldl1 = Prelude.foldl1 :: (a -> a -> a) -> [a] -> a",
+    "  val foldr = Prelude.foldr :: (a -> b -> b) -> b -> [a] -> b",
+    "  val foldr1 = Prelude.foldr1 :: (a -> a -> a) -> [a] -> a",
+    "  val fst = Prelude.fst :: (a, b) -> a",
+    "  val head = Prelude.head :: [a] -> a",
+    "  val id = Prelude.id :: a -> a",
+    "  val init = Prelude.init :: [a] -> [a]",
+    "  val iterate = Prelude.iterate :: (a -> a) -> a -> [a]",
+    "  val last = Prelude.last :: [a] -> a",
+    "  val length = Prelude.length :: [a] -> Int",
+    "  val lines = Prelude.lines :: [Char] -> [[Char]]",
+    "  val map = Prelude.map :: (a -> b) -> [a] -> [b]",
+    "  val maybe = Prelude.maybe :: a -> (b -> a) -> Maybe b -> a",
+    "  val not = Prelude.not :: Bool -> Bool",
+    "  val null = Prelude.null :: [a] -> Bool",
+    "  val or = Prelude.or :: [Bool] -> Bool",
+    "  val otherwise = Prelude.otherwise :: Bool",
+    "  val repeat = Prelude.repeat :: a -> [a]",
+    "  val replicate = Prelude.replicate :: Int -> a -> [a]",
+    "  val reverse = Prelude.reverse :: [a] -> [a]",
+    "  val scanl = Prelude.scanl :: (a -> b -> a) -> a -> [b] -> [a]",
+    "  val scanr = Prelude.scanr :: (a -> b -> b) -> b -> [a] -> [b]",
+    "  val seq = Prelude.seq :: a -> b -> b",
+    "  val snd = Prelude.snd :: (a, b) -> b",
+    "  val span = Prelude.span :: (a -> Bool) -> [a] -> ([a], [a])",
+    "  val splitAt = Prelude.splitAt :: Int -> [a] -> ([a], [a])",
+    "  val tail = Prelude.tail :: [a] -> [a]",
+    "  val take = Prelude.take :: Int -> [a] -> [a]",
+    "  val takeWhile = Prelude.takeWhile :: (a -> Bool) -> [a] -> [a]",
+    "  val uncurry = Prelude.uncurry :: (a -> b -> c) -> (a, b) -> c",
+    "  val undefined = Prelude.undefined :: a",
+    "  val unlines = Prelude.unlines :: [[Char]] -> [Char]",
+    "  val until = Prelude.until :: (a -> Bool) -> (a -> a) -> a -> a",
+    "  val unwords = Prelude.unwords :: [[Char]] -> [Char]",
+    "  val unzip = Prelude.unzip :: [(a, b)] -> ([a], [b])",
+    "  val words = Prelude.words :: [Char] -> [[Char]]",
+    "  val zip = Prelude.zip :: [a] -> [b] -> [(a, b)]",
+    "  val zipWith = Prelude.zipWith :: (a -> b -> c) -> [a] -> [b] -> [c]",
+];
+
+#[test]
+fn the_text_of_prelude(rt: HostRuntime) -> Result<(), Fail> {
+    let alloc = rt.alloc();
+    let mut wanted = String::new(alloc);
+    for line in PRELUDE {
+        wanted.push_str(line)?;
+        wanted.push_str("\n")?;
+    }
+    let interface = prelude(alloc)?;
+    let text = interface_text(alloc, &interface)?;
+    assert_eq!(rt; text.as_str(), wanted.as_str());
+    Ok(())
+}
+
+#[test]
+fn copies_are_the_same(rt: HostRuntime) -> Result<(), Fail> {
+    let alloc = rt.alloc();
+    let interface = prelude(alloc)?;
+    let copied = interface.copy(alloc)?;
+    assert!(rt; interface.is_same(&copied));
+    assert_eq!(rt; copied.name(), "Prelude");
+    assert_eq!(rt; copied.types().len(), 6);
+    assert_eq!(rt; copied.synonyms().len(), 1);
+    assert_eq!(rt; copied.constructors().len(), 9);
+    assert_eq!(rt; copied.values().len(), 55);
+    Ok(())
+}
+
+fn text(alloc: Global, name: &str) -> Result<Text, AllocError>
+    ensures { IfOk result (λ text. text ≡ name.now) }
+{
+    Ok(Text::new(String::from_str(alloc, name)?))
+}
+
+/// The interface of a module with one synonym, whose second parameter doesn't occur.
+fn with_phantom(alloc: Global) -> Result<Interface, AllocError> {
+    let mut items = Vec::new(alloc);
+    items.push(Ty::Var(0))?;
+    let list = Ty::App(Head::List, Types::new(items));
+    let entity = Entity {
+        module: text(alloc, "A")?,
+        name: text(alloc, "Phantom")?,
+    };
+    let mut synonyms = Vec::new(alloc);
+    synonyms.push(SynonymEntry {
+        name: text(alloc, "Phantom")?,
+        entity,
+        synonym: Synonym::new(2, list),
+    })?;
+    Ok(Interface::new(
+        text(alloc, "B")?,
+        Vec::new(alloc),
+        synonyms,
+        Vec::new(alloc),
+        Vec::new(alloc),
+    ))
+}
+
+#[test]
+fn unused_parameters_are_counted(rt: HostRuntime) -> Result<(), Fail> {
+    let alloc = rt.alloc();
+    let interface = with_phantom(alloc)?;
+    let text = interface_text(alloc, &interface)?;
+    assert_eq!(rt;
+        text.as_str(),
+        "module B\n  syn Phantom/2 = A.Phantom :: [a]\n"
+    );
+    let copied = interface.copy(alloc)?;
+    assert!(rt; interface.is_same(&copied) && !interface.is_same(&prelude(alloc)?));
+    Ok(())
+}

@@ -1,0 +1,106 @@
+//! Worked rows: pairs of types over two variables and a rigid one, and what a solver answers.
+
+ghost use Rattle.std.specs.Prelude.{◌≡◌, ℕ, IfOk};
+ghost use Rattle.hm_types.specs.Types.{App as app, done as none, more};
+ghost use Rattle.hm_types.specs.Shape.{type_of};
+ghost use Rattle.hm_types.specs.declared.Head.TheVariants as head;
+ghost use Rattle.hm_unify.specs.WellFormed.{IsWellFormed};
+
+use hm_types::{Entity, Head, Text, Ty, Types};
+use hm_unify::{Solver, UnifyFault};
+use std::alloc::{AllocError, Global};
+use std::test::Fail;
+
+fn constant(alloc: Global, name: &str) -> Result<Ty, AllocError>
+    ensures { IfOk result (λ t. (given : ℕ) → IsWellFormed given (type_of t)) }
+{
+    let module = Text::new(String::from_str(alloc, "Prelude")?);
+    let name = Text::new(String::from_str(alloc, name)?);
+    Ok(Ty::App(
+        Head::Named(Entity { module, name }),
+        Types::new(Vec::new(alloc)),
+    ))
+}
+
+fn pair(alloc: Global, left: Ty, right: Ty) -> Result<Ty, AllocError>
+    ensures { IfOk result (λ t. type_of t ≡ app (head.Tuple 2) (more (type_of left) (more (type_of right) none))) }
+{
+    let mut items = Vec::new(alloc);
+    items.push(left)?;
+    items.push(right)?;
+    Ok(Ty::App(Head::Tuple(2), Types::new(items)))
+}
+
+/// The types of the worked rows, by number. The variables are 0 and 1, the rigid one is 2.
+fn example(alloc: Global, number: usize) -> Result<Ty, AllocError>
+    ensures { IfOk result (λ t. IsWellFormed 3 (type_of t)) }
+{
+    match number {
+        0 => Ok(Ty::Var(0)),
+        1 => Ok(Ty::Var(1)),
+        2 => Ok(Ty::Rigid(2)),
+        3 => Ok(constant(alloc, "Int")?),
+        4 => Ok(Ty::function(alloc, Ty::Var(0), constant(alloc, "Int")?)?),
+        5 => Ok(pair(alloc, Ty::Var(0), constant(alloc, "Int")?)?),
+        6 => Ok(pair(alloc, constant(alloc, "Char")?, constant(alloc, "Char")?)?),
+        7 => Ok(pair(alloc, Ty::Var(0), Ty::Var(1))?),
+        8 => Ok(pair(alloc, Ty::Var(1), constant(alloc, "Int")?)?),
+        _ => Ok(pair(alloc, Ty::Var(1), Ty::Rigid(2))?),
+    }
+}
+
+/// A solver that has given the variables 0 and 1, and the rigid one 2.
+fn solver_of_three(alloc: Global) -> Result<Solver, AllocError>
+    ensures { IfOk result (λ solver. solver.given ≡ 3) }
+{
+    let mut solver = Solver::new(alloc);
+    let _first = solver.fresh()?;
+    let _second = solver.fresh()?;
+    let _third = solver.rigid()?;
+    Ok(solver)
+}
+
+/// Both sides of an equation, whether it unifies, and the value of variable 0 afterwards.
+const ROWS: [(usize, usize, bool, usize); 9] = [
+    (0, 4, false, 0),
+    (5, 6, false, 0),
+    (2, 3, false, 0),
+    (3, 2, false, 0),
+    (2, 2, true, 0),
+    (0, 3, true, 3),
+    (0, 2, true, 2),
+    (7, 8, true, 3),
+    (7, 9, true, 2),
+];
+
+#[test]
+fn equations_of_the_rows(rt: HostRuntime) -> Result<(), Fail> {
+    let alloc = rt.alloc();
+    for (left, right, unifies, value) in ROWS {
+        let mut solver = solver_of_three(alloc)?;
+        let answer = solver.unify(&example(alloc, left)?, &example(alloc, right)?);
+        assert!(rt; answer.is_ok() == unifies, "{left} and {right}");
+        let found = solver.value(&example(alloc, 0)?)?;
+        assert!(rt;
+            found.is_same(&example(alloc, value)?),
+            "{left} and {right}"
+        );
+    }
+    Ok(())
+}
+
+#[test]
+fn a_solver_goes_on_after_a_clash(rt: HostRuntime) -> Result<(), Fail> {
+    let alloc = rt.alloc();
+    let mut solver = solver_of_three(alloc)?;
+    let answer = solver.unify(&example(alloc, 0)?, &example(alloc, 4)?);
+    if let Err(UnifyFault::Clash) = answer {
+        let again = solver.unify(&example(alloc, 0)?, &example(alloc, 3)?);
+        assert!(rt; again.is_ok());
+        let found = solver.value(&example(alloc, 0)?)?;
+        assert!(rt; found.is_same(&example(alloc, 3)?));
+        return Ok(());
+    }
+    assert!(rt; false, "no clash");
+    Ok(())
+}
