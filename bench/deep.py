@@ -1,8 +1,8 @@
 #!/usr/bin/env python3
-"""Runs `hmc --plan` on sources of the greatest length that nest as deep as they can, one for each kind of nesting.
+"""Runs `hmc --plan` and `hmc` on sources of the greatest length that nest as deep as they can, one for each kind of nesting.
 
-Prints the answer, the seconds and the memory of each, and ends with 1 where a run crashed, gave no answer of
-the language, or took more than 1 GB.
+`deep.py [PROGRAM]`. Prints the answer, the seconds and the memory of each, and ends with 1 where a run crashed or gave no
+answer of the language, or where a plan took more than 1 GB.
 """
 import os
 import subprocess
@@ -36,6 +36,11 @@ KINDS = {
     "names of a bound pattern": ("", "~a@ ", "a", "", " = 1"),
     "bindings within bindings": ("", "(x)=let{", "x=1", "}in x", ""),
     "a synonym of functions": ("type A = ", "a->", "a", "", ""),
+    "applications of what is bound": ("f a = a", " a", "", "", ""),
+    "arguments of one function": ("f a = a", " 1", "", "", ""),
+    "elements of a list": ("f a = [a", ",a", "]", "", ""),
+    "colons of what is bound": ("f a = ", "a:", "[]", "", ""),
+    "a declared type": ("f :: a ->", "Int->", "a", "", "; f = f"),
 }
 
 
@@ -49,26 +54,36 @@ def source(kind):
     return head + level * count + inner + close * count + tail, count
 
 
+def run(words, text):
+    """The exit status, or 0 less the signal, with the seconds, the megabytes and what was printed last."""
+    with tempfile.TemporaryFile() as given, tempfile.TemporaryFile() as printed:
+        given.write(text.encode())
+        given.seek(0)
+        start = time.time()
+        child = subprocess.Popen([PROGRAM, *words], stdin=given, stdout=printed, stderr=subprocess.STDOUT)
+        _, status, used = os.wait4(child.pid, 0)
+        seconds = time.time() - start
+        printed.seek(max(0, printed.seek(0, 2) - 200))
+        last = (printed.read().decode(errors="replace").splitlines() or [""])[-1]
+    return os.waitstatus_to_exitcode(status), seconds, used.ru_maxrss // 1024, last
+
+
+def is_answer(words, status, last):
+    if status == 2:
+        return last.startswith("refused: ")
+    if words:
+        return status == 0 and last == "1 modules"
+    return (status, last) in [(0, "1 modules: 1 good, 0 faulty, 0 skipped"), (1, "1 modules: 0 good, 1 faulty, 0 skipped")]
+
+
 def main():
     failed = False
     for kind in KINDS:
         text, count = source(kind)
-        with tempfile.TemporaryFile() as given, tempfile.TemporaryFile() as printed:
-            given.write(text.encode())
-            given.seek(0)
-            start = time.time()
-            child = subprocess.Popen([PROGRAM, "--plan"], stdin=given, stdout=printed, stderr=subprocess.STDOUT)
-            _, status, used = os.wait4(child.pid, 0)
-            seconds = time.time() - start
-            printed.seek(0)
-            answer = printed.read().decode(errors="replace")
-        megabytes = used.ru_maxrss // 1024
-        right = (status == 0 and answer == "module A\n1 modules\n") or (
-            os.waitstatus_to_exitcode(status) == 2 and answer.startswith("refused: ") and answer.count("\n") == 1
-        )
-        if not right or megabytes >= 1000:
-            failed = True
-        print(f"{kind}: {count} levels, {seconds:.2f} s, {megabytes} MB: {answer.splitlines()[-1:] or [status]}")
+        for words in (["--plan"], []):
+            status, seconds, megabytes, last = run(words, text)
+            failed |= not is_answer(words, status, last) or (words != [] and megabytes >= 1000)
+            print(f"{kind}, {'plan' if words else 'check'}: {count} levels, {seconds:.2f} s, {megabytes} MB: {last or status}", flush=True)
     sys.exit(failed)
 
 
