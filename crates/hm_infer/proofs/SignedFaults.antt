@@ -1,5 +1,5 @@
 -- Clauses with signatures are checked one by one, and the places of those bindings that are faults are found.
-use Rattle.std.proofs.Common.{◌≡◌, ℕ, zero, suc, ◌+◌, ◌<◌, ◌≤◌, List, [], ◌∷◌, ◌++◌, drop, length, get_or, Bool, true, false, Option, Some, None, Contains, inl, inr, ◌⊎◌, ⊎_elim, ◌↔◌, refl, sym, ap, ◌∙◌, subst, arith, length-append, true≢false}
+use Rattle.std.proofs.Common.{◌≡◌, ℕ, zero, suc, ◌+◌, ◌<◌, ◌≤◌, List, [], ◌∷◌, ◌++◌, drop, length, get_or, Bool, true, false, Some, Contains, inl, inr, ◌⊎◌, ⊎_elim, ◌↔◌, refl, sym, ap, ◌∙◌, subst, arith, length-append, true≢false}
 use Rattle.std.specs.Bool.{Decides}
 use Rattle.std.specs.List.{slice_get}
 use Rattle.std.proofs.lemmas.List.{get_or_append_left, get_or_push}
@@ -7,18 +7,17 @@ use Rattle.std.proofs.lemmas.List.Elements.{Contains-append_left, Contains-appen
 use Rattle.std.proofs.lemmas.Option.{slice_get_within}
 use native.Mathlib.Decide.{ℕ_discrete}
 use Rattle.hm_types.specs.Types.{Var}
-use Rattle.hm_typing.specs.Schemes.{Monotype}
 use Rattle.hm_typing.specs.Assumptions.{assumptions_put}
-use Rattle.hm_typing.specs.Problems.{Unifies, Solved, MostGeneralUnifier}
+use Rattle.hm_typing.specs.Problems.{Unifies, MostGeneralUnifier}
 use Rattle.hm_typing.proofs.Principal.{assumptions_put_closed}
 use Rattle.hm_syntax.specs.Trees.{Declaration, Declarations}
 use Rattle.hm_names.specs.Syntax.{Known}
 use Rattle.hm_unify.specs.Solving.{Solving}
 use Rattle.hm_unify.specs.declared.faults.UnifyFault.{UnifyFault}
-use Rattle.hm_unify.specs.declared.faults.UnifyFault.TheVariants.{Clash, Memory}
+use Rattle.hm_unify.specs.declared.faults.UnifyFault.TheVariants.{Clash}
 use Rattle.hm_expressions.specs.Environments.{Assumed, AreAssumed, assumptions}
-use Rattle.hm_expressions.specs.Problems.{problem, bound, HasNone, Refuses as RefusesAnswer}
-use Rattle.hm_infer.specs.SignedFaults.{BeginsRun, HasFlag, InRun, IsFaultAt, Refuses, goes_on}
+use Rattle.hm_expressions.specs.Problems.{problem, HasNone, Refuses as RefusesAnswer}
+use Rattle.hm_infer.specs.SignedFaults.{HasFlag, IsFaultAt, Refuses, goes_on}
 use Rattle.hm_expressions.specs.SignedLists.{SignedClauseHas}
 use Rattle.hm_expressions.proofs.Outcomes.{SolvedBy}
 use Rattle.hm_expressions.proofs.PrincipalLists.{closed_assumptions}

@@ -2,7 +2,7 @@
 //! closed assumptions where all that it refers to outside has types, and leaves no trace where it
 //! has none.
 
-ghost use Rattle.std.specs.Prelude.{◌≡◌, ◌<◌, ◌≤◌, ◌++◌, List, All, IfOk, OnOk, length};
+ghost use Rattle.std.specs.Prelude.{◌≡◌, ◌<◌, ◌≤◌, ◌++◌, List, All, IfOk, OnOk, IsTrue, length};
 ghost use Rattle.hm_graph.specs.Digraph.{lists};
 ghost use Rattle.hm_typing.specs.Names.{IsDistinct};
 ghost use Rattle.hm_typing.specs.Orders.{AreNumberedGroups};
@@ -19,6 +19,7 @@ ghost use Rattle.hm_expressions.specs.SignedLists.{BindsSigned};
 ghost use Rattle.hm_expressions.specs.Stages.{IsListFound, list_of};
 
 use crate::dependences::{mark, members_refer_to_typed};
+use crate::restoring::restored;
 use hm_expressions::{Constructors, Environment, infer_group};
 use hm_groups::{BindingGroups, group_members};
 use hm_syntax::Decl;
@@ -26,10 +27,12 @@ use hm_unify::{Solver, UnifyFault};
 use std::alloc::Global;
 
 /// Judges a group. Its nodes are typed afterwards, and its names bound, if all that it refers to
-/// outside is typed and it has types itself.
+/// outside is typed and it has types itself. What is assumed is worked on in a second environment;
+/// the answer is whether that is the same as the first afterwards.
 fn judge_group<'a>(
     alloc: Global,
     environment: &mut Environment<'a>,
+    working: &mut Environment<'a>,
     constructors: &Constructors,
     decls: &'a [Decl],
     found: &BindingGroups<'a>,
@@ -37,7 +40,8 @@ fn judge_group<'a>(
     shown: &mut [bool],
     typed: &mut [bool],
     depth: usize,
-) -> Result<(), UnifyFault>
+) -> Result<bool, UnifyFault>
+    requires same { working.old ≡ environment.old }
     requires list { IsListFound (known_of constructors.now) decls.now found.now.numbers (lists found.now.rows.items) }
     requires nodes { All (λ j. j < length found.now.numbers) group.now }
     requires some { 0 < length group.now }
@@ -49,21 +53,21 @@ fn judge_group<'a>(
     ensures closed { OnOk result (AreAssumed 0 environment.new) }
     ensures added { OnOk result (Extends environment.old environment.new) }
     ensures shown { OnOk result (shown.new ≡ shown.old) }
+    ensures same { IfOk result (λ b. IsTrue b → working.new ≡ environment.new) }
 {
     mark(typed, group, true);
     let members = group_members(alloc, &found.rows, group)?;
     if !members_refer_to_typed(alloc, &found.numbers, shown, typed, decls, &members)? {
         mark(typed, group, false);
-        return Ok(());
+        return Ok(true);
     }
     let mut solver = Solver::new(alloc);
-    let mut inner = environment.copy(alloc)?;
     let count = found.numbers.len();
     let mut types = vec![in alloc; 0; count]?;
     match infer_group(
         alloc,
         &mut solver,
-        &mut inner,
+        working,
         constructors,
         decls,
         found,
@@ -72,12 +76,12 @@ fn judge_group<'a>(
         depth,
     ) {
         Ok(()) => {
-            environment.catch_up(alloc, &inner)?;
-            Ok(())
+            environment.catch_up(alloc, working)?;
+            Ok(true)
         }
         Err(UnifyFault::Clash) => {
             mark(typed, group, false);
-            Ok(())
+            Ok(false)
         }
         Err(UnifyFault::Memory) => Err(UnifyFault::Memory),
     }
@@ -103,10 +107,12 @@ fn judge_each<'a>(
     ensures judged { OnOk result ((added base : List Assumed) → environment.old ≡ added ++ base → length base ≡ depth → UnitsJudged (known_of constructors.now) decls.now (lists found.now.groups.items) (length found.now.numbers) 0 base environment.old typed.old → UnitsJudged (known_of constructors.now) decls.now (lists found.now.groups.items) (length found.now.numbers) (length (lists found.now.groups.items)) base environment.new typed.new) }
     ensures closed { OnOk result (AreAssumed 0 environment.new) }
 {
+    let mut working = environment.copy(alloc)?;
     'groups: for i in 0..found.groups.len() {
-        judge_group(
+        let is_same = judge_group(
             alloc,
             environment,
+            &mut working,
             constructors,
             decls,
             found,
@@ -115,6 +121,7 @@ fn judge_each<'a>(
             typed,
             depth,
         )?;
+        working = restored(alloc, environment, working, is_same)?;
     }
     Ok(())
 }

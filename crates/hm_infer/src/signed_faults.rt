@@ -2,7 +2,7 @@
 //! and 4.5.1): those of which a clause hasn't the declared type, though all that the clauses refer
 //! to has types.
 
-ghost use Rattle.std.specs.Prelude.{◌≡◌, ◌<◌, IfOk, OnOk, drop, length};
+ghost use Rattle.std.specs.Prelude.{◌≡◌, ◌<◌, false, IfOk, OnOk, drop, length};
 ghost use Rattle.std.specs.Bool.{Decides};
 ghost use Rattle.hm_syntax.specs.Trees.{Declarations};
 ghost use Rattle.hm_groups.specs.Nodes.{AllShown};
@@ -12,6 +12,7 @@ ghost use Rattle.hm_infer.specs.SignedFaults.{AreRefused, AreSignedFaults, AreWa
 ghost use Rattle.hm_expressions.specs.SignedLists.{AreSignatures};
 
 use crate::dependences::refers_to_typed;
+use crate::restoring::restored;
 use hm_expressions::{Constructors, Environment, check_signed};
 use hm_groups::{Numbers, is_continued};
 use hm_syntax::{Decl, DeclKind, TypeExpr};
@@ -58,31 +59,27 @@ fn waiting_clauses(
     Ok(waiting)
 }
 
-/// Whether a clause hasn't the declared type of its variable, under closed assumptions.
+/// Whether a clause hasn't the declared type of its variable, under closed assumptions. These are
+/// worked on in a second environment, which is the same as the first afterwards where it has.
 fn is_refused<'a>(
     alloc: Global,
     environment: &Environment<'a>,
+    working: &mut Environment<'a>,
     constructors: &Constructors,
     signatures: &IndexMap<&str, &TypeExpr>,
     decl: &'a Decl,
     is_waiting: bool,
 ) -> Result<bool, UnifyFault>
+    requires same { working.old ≡ environment.now }
     requires closed { AreAssumed 0 environment.now }
     ensures told { IfOk result (λ b. (all : Declarations) → AreSignatures all signatures.now → Refuses is_waiting b (known_of constructors.now) all (assumptions environment.now) decl.now) }
+    ensures same { IfOk result (λ b. b ≡ false → working.new ≡ environment.now) }
 {
     if is_waiting {
         return Ok(false);
     }
     let mut solver = Solver::new(alloc);
-    let mut working = environment.copy(alloc)?;
-    match check_signed(
-        alloc,
-        &mut solver,
-        &mut working,
-        constructors,
-        signatures,
-        decl,
-    ) {
+    match check_signed(alloc, &mut solver, working, constructors, signatures, decl) {
         Ok(()) => {
             solver.has_solution();
             Ok(false)
@@ -108,15 +105,18 @@ fn refused_clauses<'a>(
     ensures sized { IfOk result (λ refused. length refused.items ≡ length decls.now) }
 {
     let mut refused = Vec::new(alloc);
+    let mut working = environment.copy(alloc)?;
     'decls: for i in 0..decls.len() {
         let is_refused = is_refused(
             alloc,
             environment,
+            &mut working,
             constructors,
             signatures,
             &decls[i],
             waiting[i],
         )?;
+        working = restored(alloc, environment, working, !is_refused)?;
         refused.push(is_refused)?;
     }
     Ok(refused)

@@ -14,4 +14,5 @@ invariant-groups l = record {
   added : Extends l.initial.environment l.environment;
   sized : length l.typed ≡ length l.found.numbers;
   shown : AllShown l.shown (length l.found.numbers);
+  same : l.working ≡ l.environment;
 }

@@ -29,7 +29,7 @@ returns-in-Ok-clause-judged c = λ added base e l. record {
   members = c.deref-2.result.now;
   are_members = members_at c.deref.result.now c.args.found.now.rows.items c.args.group.now c.in_ok-members.members.items c.deref-2.result.now c.deref.ensures.value c.deref-2.ensures.value c.in_ok-members.ensures;
   outcome = typed c.new-solver.result (subst (λ b. TellsMembers b c.args.found.now.numbers c.mark.new.typed c.args.decls.now c.deref-2.result.now) c.if-not-branch.false c.in_ok-members_refer_to_typed.ensures.told) (ap (λ s. s.equations) c.new-solver.ensures)
-      (subst₂ (λ es fs. JudgesGroup {X = Unit {0}} (known_of c.args.constructors.now) c.args.decls.now c.args.group.now base c.new-solver.result es fs (Ok tt)) c.in_ok-inner.ensures (sym c.in_ok-catch_up-in-Ok.ensures) (c.in-Ok.ensures.judged added base (c.in_ok-inner.ensures ∙ e) l)) refl;
+      (subst₂ (λ es fs. JudgesGroup {X = Unit {0}} (known_of c.args.constructors.now) c.args.decls.now c.args.group.now base c.new-solver.result es fs (Ok tt)) c.requires.same (sym c.in_ok-catch_up-in-Ok.ensures) (c.in-Ok.ensures.judged added base (c.requires.same ∙ e) l)) refl;
 }
 
 pub returns-in-Err-Clash-clause-judged : goal.returns-in-Err-Clash-clause-judged
@@ -39,5 +39,5 @@ returns-in-Err-Clash-clause-judged c = λ added base e l. record {
   members = c.deref-2.result.now;
   are_members = members_at c.deref.result.now c.args.found.now.rows.items c.args.group.now c.in_ok-members.members.items c.deref-2.result.now c.deref.ensures.value c.deref-2.ensures.value c.in_ok-members.ensures;
   outcome = untyped c.new-solver.result c.infer_group.new.environment (subst (λ b. TellsMembers b c.args.found.now.numbers c.mark.new.typed c.args.decls.now c.deref-2.result.now) c.if-not-branch.false c.in_ok-members_refer_to_typed.ensures.told) (ap (λ s. s.equations) c.new-solver.ensures)
-      (subst (λ es. JudgesGroup {X = Unit {0}} (known_of c.args.constructors.now) c.args.decls.now c.args.group.now base c.new-solver.result es c.infer_group.new.environment (Err Clash)) c.in_ok-inner.ensures (judges_clash (Unit {0}) (known_of c.args.constructors.now) c.args.decls.now c.args.group.now base c.new-solver.result c.in_ok-inner.inner c.infer_group.new.environment c.in-Err-Clash.field-0 c.in-Err-Clash.field-0-is (c.in-Err-Clash.ensures.judged added base (c.in_ok-inner.ensures ∙ e) l))) c.mark-in-Err-Clash.ensures refl;
+      (subst (λ es. JudgesGroup {X = Unit {0}} (known_of c.args.constructors.now) c.args.decls.now c.args.group.now base c.new-solver.result es c.infer_group.new.environment (Err Clash)) c.requires.same (judges_clash (Unit {0}) (known_of c.args.constructors.now) c.args.decls.now c.args.group.now base c.new-solver.result c.args.working.now c.infer_group.new.environment c.in-Err-Clash.field-0 c.in-Err-Clash.field-0-is (c.in-Err-Clash.ensures.judged added base (c.requires.same ∙ e) l))) c.mark-in-Err-Clash.ensures refl;
 }
