@@ -5,10 +5,10 @@ use Rattle.hm_infer.proofs.signed_faults.is_refused.Goals as goal
 
 pub returns-in-Ok-clause-told : goal.returns-in-Ok-clause-told
 returns-in-Ok-clause-told c = λ all a.
-      let s = c.check_signed.new.solver in
-      let e = c.has_solution.ensures in
-      clause_typed (known_of c.args.constructors.now) all c.args.decl.now c.args.is_waiting c.args.working.now c.args.environment.now c.new-solver.result s c.if-is_waiting.false c.requires.same c.requires.closed (most_general s e.equations e.general.unifies e.absorbed e.only) (c.in-Ok.ensures.answers all a)
+    let s = c.check_signed.new.solver in
+    let e = c.has_solution.ensures in
+    clause_typed (known_of c.args.constructors.now) all c.args.decl.now c.args.is_waiting c.args.working.now c.args.environment.now c.new-solver.result s c.if-is_waiting.false c.requires.same c.requires.closed (most_general s e.equations e.general.unifies e.absorbed e.only) (c.in-Ok.ensures.answers all a)
 
 pub returns-in-Err-Clash-clause-told : goal.returns-in-Err-Clash-clause-told
 returns-in-Err-Clash-clause-told c = λ all a.
-      clause_refused (known_of c.args.constructors.now) all c.args.decl.now c.args.is_waiting c.args.working.now c.args.environment.now c.new-solver.result c.in-Err-Clash.field-0 c.if-is_waiting.false c.requires.same c.requires.closed c.new-solver.ensures c.in-Err-Clash.field-0-is (c.in-Err-Clash.ensures.answers all a)
+    clause_refused (known_of c.args.constructors.now) all c.args.decl.now c.args.is_waiting c.args.working.now c.args.environment.now c.new-solver.result c.in-Err-Clash.field-0 c.if-is_waiting.false c.requires.same c.requires.closed c.new-solver.ensures c.in-Err-Clash.field-0-is (c.in-Err-Clash.ensures.answers all a)

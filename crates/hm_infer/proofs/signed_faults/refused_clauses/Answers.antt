@@ -21,5 +21,5 @@ pub returns-clause-told : goal.returns-clause-told
 returns-clause-told c = λ all a.
     let last : length c.args.decls.now ≤ c.decls.i = (let h = c.decls-test.false in omega (arith, h)) in
     let flags = flagged_all (λ p d b. (all : Declarations) → AreSignatures all c.args.signatures.now → Refuses (get_or c.args.waiting.now p false) b (known_of c.args.constructors.now) all (assumptions c.args.environment.now) d)
-          c.args.decls.now c.decls.i c.decls.refused.items last c.decls.invariant.inside c.decls.invariant.told in
+    c.args.decls.now c.decls.i c.decls.refused.items last c.decls.invariant.inside c.decls.invariant.told in
     record { sized = flags.0; each = λ p d g. flags.1 p d g all a }
