@@ -19,6 +19,10 @@ B = "module B where { y = 1 }"
 PLAN = "module A\n  import B\nmodule B\n2 modules\n"
 REPORT = "module A\n  val x = A.x :: Int\nmodule B\n  val y = B.y :: Int\n2 modules: 2 good, 0 faulty, 0 skipped\n"
 
+# a module behind the one that it imports, and what one worker does
+BEHIND = "module A where { import B ; x = y }\nmodule B where { y = 'c' }"
+JOURNAL = "module A\n  val x = A.x :: Char\nmodule B\n  val y = B.y :: Char\n2 modules: 2 good, 0 faulty, 0 skipped\nclaim 0 B\npublish 0 B\nclaim 0 A\npublish 0 A\n"
+
 # what the help shows
 PAIR = "module A where { pair x = (x, x) }"
 TWICE = "module B where { twice f = f f }"
@@ -248,6 +252,15 @@ ROWS = {
     "the example of the help": (["pair.hs", "twice.hs", "user.hs"], "", 1, EXAMPLE, ""),
     "no such file": (["--plan", "a.hs", "none.hs"], "", 4, "", "hmc: cannot open none.hs\n"),
     "a folder": (["--plan", "folder"], "", 4, "", "hmc: read fault\n"),
+    "one worker and its journal": (["--jobs", "1", "--journal"], BEHIND, 0, JOURNAL, ""),
+    "a journal of nothing": (["--journal"], "", 0, "0 modules: 0 good, 0 faulty, 0 skipped\n", ""),
+    "a refused set with a journal": (["--journal"], "module A where { import A }", 2, "refused: module A in a cycle\n", ""),
+    "one worker": (["--jobs", "1", "a.hs", "b.hs"], "", 0, REPORT, ""),
+    "sixteen workers": (["--jobs=16", "a.hs", "b.hs"], "", 0, REPORT, ""),
+    "a plan by one worker": (["--plan", "--jobs", "1", "--journal"], A + B, 0, PLAN, ""),
+    "no worker": (["--jobs", "0", "a.hs"], "", 2, "", None),
+    "seventeen workers": (["--jobs", "17", "a.hs"], "", 2, "", None),
+    "workers that are no number": (["--jobs", "many", "a.hs"], "", 2, "", None),
     "an unknown word": (["--plan", "--nothing"], "", 2, "", None),
     "help": (["--help"], "", 0, None, ""),
 }
@@ -275,7 +288,7 @@ def run(folder, words, given, stdout=subprocess.PIPE, before=None):
 
 def told(output, wanted):
     text = (output or b"").decode(errors="replace")
-    return text == wanted if wanted is not None else "--plan" in text and "Usage" in text or "--nothing" in text
+    return text == wanted if wanted is not None else "--plan" in text and "Usage" in text or "--nothing" in text or "--jobs <N>" in text
 
 
 def main():
@@ -299,7 +312,8 @@ def main():
         limit = lambda size: lambda: resource.setrlimit(resource.RLIMIT_AS, (size, size))
         runs.append(("a small set in little memory", run(folder, ["--plan"], A + B, before=limit(SMALL)), (0, PLAN, "")))
         runs.append(("a small check in little memory", run(folder, [], "", before=limit(SMALL)), (0, "0 modules: 0 good, 0 faulty, 0 skipped\n", "")))
-        runs.append(("no room for the stack", run(folder, ["--plan"], A + B, before=limit(TINY)), (6, "", "hmc: no worker\n")))
+        runs.append(("no room for the stack", run(folder, ["--plan"], A + B, before=limit(TINY)), (3, "", "hmc: no memory\n")))
+        runs.append(("no room for a worker", run(folder, [], A + B, before=limit(TINY)), (6, "", "hmc: no worker\n")))
         for name, ran, (status, out, err) in runs:
             if ran.returncode == status and told(ran.stdout, out) and told(ran.stderr, err):
                 print(f"{name}: as wanted")

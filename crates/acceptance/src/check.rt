@@ -2,6 +2,7 @@
 use hm_build::{Options, Status, Watched, run, run_plan};
 use std::alloc::{AllocError, Global};
 use std::process::Abort;
+use std::sync::Wait;
 use std::thread::Threads;
 
 /// Runs one source, and compares how the run ends and what it prints.
@@ -37,10 +38,25 @@ pub(crate) fn check_refused(
     Ok(())
 }
 
-/// Checks the modules of one source, and compares how the run ends and what it prints.
+/// Checks the modules of one source by four workers, and compares how the run ends and what it prints.
 pub(crate) fn check_run(
-    rt: &(impl Abort + AllocGlobal + Threads),
+    rt: &(impl Abort + AllocGlobal + Threads + Wait + Sync),
     source: &[u8],
+    status: Status,
+    text: &[u8],
+) -> Result<(), AllocError> {
+    let options = Options {
+        workers: 4,
+        journal: false,
+    };
+    check_run_by(rt, source, options, status, text)
+}
+
+/// Checks the modules of one source, and compares how the run ends and what it prints.
+pub(crate) fn check_run_by(
+    rt: &(impl Abort + AllocGlobal + Threads + Wait + Sync),
+    source: &[u8],
+    options: Options,
     status: Status,
     text: &[u8],
 ) -> Result<(), AllocError> {
@@ -48,19 +64,15 @@ pub(crate) fn check_run(
     let mut readers = [Watched::new(source)];
     let mut printed = Vec::new(alloc);
     let mut writer = Watched::new(&mut printed);
-    let options = Options {
-        workers: 4,
-        journal: false,
-    };
     let ended = run(rt, alloc, readers.as_mut_slice(), &mut writer, options);
     assert_eq!(rt; ended, Ok(status));
     assert!(rt; printed.as_slice() == text);
     Ok(())
 }
 
-/// Checks the modules of two sources, and compares how the run ends and what it prints.
+/// Checks the modules of two sources by one worker, and compares how the run ends and what it prints.
 pub(crate) fn check_run_of(
-    rt: &(impl Abort + AllocGlobal + Threads),
+    rt: &(impl Abort + AllocGlobal + Threads + Wait + Sync),
     first: &[u8],
     second: &[u8],
     status: Status,

@@ -2,11 +2,15 @@
 #![tactic(auto)]
 
 #[cfg(test)]
+mod builds;
+#[cfg(test)]
 mod check;
 #[cfg(test)]
 mod checks;
 #[cfg(test)]
 mod devices;
+#[cfg(test)]
+mod equal;
 #[cfg(test)]
 mod grammar;
 #[cfg(test)]
@@ -15,6 +19,10 @@ mod plans;
 mod reports;
 #[cfg(test)]
 mod scopes;
+#[cfg(test)]
+mod sources;
+#[cfg(test)]
+mod stores;
 #[cfg(test)]
 mod texts;
 #[cfg(test)]

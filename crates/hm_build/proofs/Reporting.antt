@@ -13,6 +13,8 @@ use Rattle.hm_verdicts.specs.Reports.{name_of_module, Block, IsBlockOf, IsReport
 use Rattle.hm_verdicts.specs.Sets.{ModuleSet, no_module, IsLawfulSet}
 use Rattle.hm_verdicts.specs.Verdicts.{Status}
 use Rattle.hm_verdicts.proofs.OneReport.{one_block_text}
+use Rattle.hm_store.specs.Builds.{Build, set_of}
+use Rattle.hm_store.specs.Settlements.{settlement}
 use Rattle.hm_build.specs.Names.{name_below}
 use Rattle.hm_build.specs.ReportBlocks.{AreBlocksOf}
 use Rattle.hm_build.proofs.Blame.{names_apart}
@@ -71,3 +73,19 @@ module _ (p : ModuleSet) (law : IsLawfulSet p) (status : ℕ → Status) (blocks
     ordered = strict (map (λ b. b.name) blocks) (map (λ b. b.name) ordered) distinct (IsPermutation-map (λ b. b.name) blocks ordered same) (sorted_map (λ b. b.name) name_below ordered sorted);
     whole = whole;
   }
+
+same_set : (modules : List (Arc Module Global)) (plan : List (List ℕ)) (b : Build) → map arc_value modules ≡ b.modules → plan ≡ b.given.imports → module_set modules plan ≡ set_of b
+same_set modules plan b same planned = ap₂ (λ ms rows. made ms rows) same planned
+  where
+    made : List Module → List (List ℕ) → ModuleSet
+    made ms rows = record { modules = ms; plan = rows }
+
+-- a report of the modules of a build is the report of the build
+pub report_of : (b : Build) (modules : List (Arc Module Global)) (plan : List (List ℕ)) (status : ℕ → Status) (text : List ℕ) → map arc_value modules ≡ b.modules → plan ≡ b.given.imports → status ≡ settlement b → IsReport (module_set modules plan) status text → IsReport (set_of b) (settlement b) text
+report_of b modules plan status text same planned says r =
+    let set : module_set modules plan ≡ set_of b = same_set modules plan b same planned in
+    subst (λ s. IsReport (set_of b) s text) says (subst (λ p. IsReport p status text) set r)
+
+-- and the set is lawful
+pub lawful_of : (b : Build) (modules : List (Arc Module Global)) (plan : List (List ℕ)) → map arc_value modules ≡ b.modules → plan ≡ b.given.imports → IsLawfulSet (set_of b) → IsLawfulSet (module_set modules plan)
+lawful_of b modules plan same planned law = subst IsLawfulSet (sym (same_set modules plan b same planned)) law

@@ -1,22 +1,23 @@
 //! What a run writes, and its status.
-ghost use Rattle.std.specs.Prelude.{◌≡◌, ℕ, List, IfOk, IfErr, map, string_bytes};
-ghost use Rattle.hm_graph.specs.Imports.{IsImportPlan, IsLawful};
-ghost use Rattle.hm_build.specs.Checks.{IsCheckRun};
-ghost use Rattle.hm_build.specs.Names.{module_outlines};
+ghost use Rattle.std.specs.Prelude.{◌≡◌, ◌⊎◌, ◌<◌, ◌≤◌, ℕ, List, IfOk, IfErr, map, string_bytes};
+ghost use Rattle.hm_build.specs.FinishedBuilds.{IsFinished};
+ghost use Rattle.hm_build.specs.JournalledRuns.{IsRun};
+ghost use Rattle.hm_build.specs.BuildTexts.{HasReport};
 ghost use Rattle.hm_build.specs.Refusals.{IsLasting, refusal_of, refusal_text as refusal_bytes};
 ghost use Rattle.hm_build.specs.Runs.{IsPlanRun};
-ghost use Rattle.hm_build.specs.SourceModules.{AreModulesOf};
 ghost use Rattle.hm_build.specs.declared.status.Status.{Status};
 
+use crate::building::build_here;
+use crate::journals::journal_text;
 use crate::plans::plan_text;
 use crate::refusals::refusal_text;
 use crate::reports::{report, status_of};
-use crate::sets::{SetError, headers_of, set_modules, shared_modules};
-use crate::settling::settle;
-use crate::{RunFault, SetFault, Status};
-use hm_graph::Plan;
-use hm_syntax::Module;
+use crate::sets::{SetError, headers_of, set_modules};
+use crate::statuses::settled_in;
+use crate::{BuildFault, Finished, Open, Options, RunFault, SetFault, Status};
 use std::alloc::{AllocError, Global};
+use std::sync::Wait;
+use std::thread::Threads;
 
 /// What is written, and how the run ends.
 #[derive(Drop)]
@@ -55,27 +56,45 @@ pub(crate) fn plan_answer(alloc: Global, sources: &[Vec<u8>]) -> Result<Answer, 
     }
 }
 
-/// Checks the modules of a lawful set, and reports their verdicts.
-fn checked(alloc: Global, modules: Vec<Module>, plan: &Plan) -> Result<Answer, AllocError>
-    requires lawful { IsLawful (module_outlines modules.items) }
-    requires planned { IsImportPlan (module_outlines modules.items) plan.now }
-    ensures { IfOk result (λ a. (sources : List (List ℕ)) → AreModulesOf sources modules.items → IsCheckRun sources a.status (string_bytes a.text)) }
+/// The report of a build, and behind it the journal where it is asked for.
+fn build_text(alloc: Global, finished: &Finished, journal: bool) -> Result<String, AllocError>
+    ensures { IfOk result (λ t. HasReport finished.now.store journal (string_bytes t)) }
 {
-    let modules = shared_modules(alloc, modules)?;
-    let settled = settle(alloc, modules.as_slice(), plan)?;
-    let text = report(alloc, modules.as_slice(), plan, settled.as_slice())?;
+    let mut text = report(alloc, finished)?;
+    if journal {
+        text.push_str(journal_text(alloc, finished)?.as_str())?;
+    }
+    Ok(text)
+}
+
+/// What is written of a build.
+fn finished_answer(alloc: Global, finished: &Finished, journal: bool) -> Result<Answer, AllocError>
+    ensures { IfOk result (λ a. (sources : List (List ℕ)) (workers : ℕ) → IsFinished sources workers finished.now.store finished.now.records.items
+        → IsRun workers journal sources a.status (string_bytes a.text)) }
+{
+    let text = build_text(alloc, finished, journal)?;
+    let settled = settled_in(alloc, &finished.store)?;
     let status = status_of(settled.as_slice());
     Ok(Answer { status, text })
 }
 
-/// The report of a set of sources, or why they are refused.
-pub(crate) fn check_answer(alloc: Global, sources: &[Vec<u8>]) -> Result<Answer, RunFault>
-    ensures ok { IfOk result (λ a. IsCheckRun (map (λ s. s.items) sources.now) a.status (string_bytes a.text)) }
-    ensures err { IfErr result (λ e. e ≡ RunFault.Memory) }
+/// The report of a build of sources, or why they are refused.
+pub(crate) fn build_answer<T: Threads + Wait + Sync>(
+    rt: &T,
+    alloc: Global,
+    sources: &[Vec<u8>],
+    options: Options,
+) -> Result<Answer, RunFault>
+    requires { (0 < options.workers) × (options.workers ≤ 16) }
+    ensures ok { IfOk result (λ a. IsRun options.workers options.journal (map (λ s. s.items) sources.now) a.status (string_bytes a.text)) }
+    ensures err { IfErr result (λ e. (e ≡ RunFault.Memory) ⊎ ((e ≡ RunFault.NoWorker) ⊎ (e ≡ RunFault.Mixed))) }
 {
-    match set_modules(alloc, sources) {
-        Ok((modules, plan)) => Ok(checked(alloc, modules, &plan)?),
-        Err(SetError::Refused(fault)) => Ok(refusal(alloc, &fault)?),
-        Err(SetError::Memory) => Err(RunFault::Memory),
+    match build_here(rt, alloc, sources, options.workers, &Open) {
+        Ok(finished) => Ok(finished_answer(alloc, &finished, options.journal)?),
+        Err(BuildFault::Refused(fault)) => Ok(refusal(alloc, &fault)?),
+        Err(BuildFault::Workers) => unreachable!(),
+        Err(BuildFault::NoWorker) => Err(RunFault::NoWorker),
+        Err(BuildFault::Memory) => Err(RunFault::Memory),
+        Err(BuildFault::Mixed) => Err(RunFault::Mixed),
     }
 }

@@ -4,12 +4,14 @@ ghost use Rattle.std.specs.Arc.{arc_value};
 ghost use Rattle.std.specs.List.{flat_map};
 ghost use Rattle.hm_verdicts.specs.Sets.{IsLawfulSet};
 ghost use Rattle.hm_verdicts.specs.Reports.{AreBlamed, IsBlockText, IsReport, blame_line, count_line, fault_line, is_failed, is_published, is_skipped, kind_word, tally};
+ghost use Rattle.hm_store.specs.Builds.{set_of};
+ghost use Rattle.hm_store.specs.Settlements.{settlement as settlement_in};
 ghost use Rattle.hm_build.specs.Settling.{module_set, status_of as settlement, statuses_of};
 ghost use Rattle.hm_build.specs.declared.status.Status.{Status};
 ghost use Rattle.hm_build.specs.ReportBlocks.{AreBlocksOf, all_blamed, blamed, report_block_of};
 
-use crate::Status;
-use crate::statuses::Settled;
+use crate::statuses::{Settled, settled_in};
+use crate::{Finished, Status};
 use hm_graph::Plan;
 use hm_names::{Fault, Kind};
 use hm_syntax::Module;
@@ -70,7 +72,7 @@ fn faulty_text(alloc: Global, name: &str, faults: &[Fault]) -> Result<String, Al
 fn add_blamed<'a>(
     names: &mut Vec<&'a str>,
     name: &'a str,
-    settled: &Settled,
+    settled: &Settled<'_>,
 ) -> Result<(), AllocError>
     ensures { OnOk result (map (λ s. s.now) names.new.items ≡ map (λ s. s.now) names.old.items ++ blamed (settlement settled.now) name.entry.now) }
 {
@@ -85,7 +87,7 @@ fn add_blamed<'a>(
 fn unpublished<'a>(
     alloc: Global,
     modules: &'a [Arc<Module>],
-    settled: &[Settled],
+    settled: &[Settled<'_>],
     row: &[usize],
 ) -> Result<Vec<&'a str>, AllocError>
     requires modules { All (λ j. j < length modules.now) row.now }
@@ -105,7 +107,7 @@ fn ordered_blame<'a>(
     alloc: Global,
     modules: &'a [Arc<Module>],
     plan: &Plan,
-    settled: &[Settled],
+    settled: &[Settled<'_>],
     number: usize,
 ) -> Result<Vec<&'a str>, AllocError>
     requires lawful { IsLawfulSet (module_set modules.now plan.now) }
@@ -134,7 +136,7 @@ fn block_text(
     alloc: Global,
     modules: &[Arc<Module>],
     plan: &Plan,
-    settled: &[Settled],
+    settled: &[Settled<'_>],
     number: usize,
 ) -> Result<String, AllocError>
     requires lawful { IsLawfulSet (module_set modules.now plan.now) }
@@ -158,7 +160,7 @@ fn blocks<'a>(
     alloc: Global,
     modules: &'a [Arc<Module>],
     plan: &Plan,
-    settled: &[Settled],
+    settled: &[Settled<'_>],
 ) -> Result<Vec<ReportBlock<'a>>, AllocError>
     requires lawful { IsLawfulSet (module_set modules.now plan.now) }
     requires len { length settled.now ≡ length modules.now }
@@ -182,7 +184,7 @@ struct Counts {
 }
 
 /// Counts the modules of a settled set.
-fn counts_of(settled: &[Settled]) -> Counts
+fn counts_of(settled: &[Settled<'_>]) -> Counts
     ensures good { result.good ≡ tally is_published (statuses_of settled.now) (length settled.now) }
     ensures faulty { result.faulty ≡ tally is_failed (statuses_of settled.now) (length settled.now) }
     ensures skipped { result.skipped ≡ tally is_skipped (statuses_of settled.now) (length settled.now) }
@@ -205,7 +207,7 @@ fn counts_of(settled: &[Settled]) -> Counts
 }
 
 /// Whether all modules of a settled set are good.
-pub(crate) fn status_of(settled: &[Settled]) -> Status
+pub(crate) fn status_of(settled: &[Settled<'_>]) -> Status
     ensures good { result ≡ Status.Good → tally is_published (statuses_of settled.now) (length settled.now) ≡ length settled.now }
     ensures faulty { result ≡ Status.Faulty → tally is_published (statuses_of settled.now) (length settled.now) ≢ length settled.now }
     ensures either { (result ≡ Status.Good) ⊎ (result ≡ Status.Faulty) }
@@ -218,7 +220,7 @@ pub(crate) fn status_of(settled: &[Settled]) -> Status
 }
 
 /// Appends the last line.
-fn add_counts(text: &mut String, settled: &[Settled]) -> Result<(), AllocError>
+fn add_counts(text: &mut String, settled: &[Settled<'_>]) -> Result<(), AllocError>
     ensures { OnOk result (string_bytes text.new ≡ string_bytes text.old ++ count_line (statuses_of settled.now) (length settled.now)) }
 {
     let count = settled.len();
@@ -234,11 +236,11 @@ fn add_counts(text: &mut String, settled: &[Settled]) -> Result<(), AllocError>
 }
 
 /// The report of a settled set: a block for each module, ordered by name, and the counts.
-pub(crate) fn report(
+pub(crate) fn settled_report(
     alloc: Global,
     modules: &[Arc<Module>],
     plan: &Plan,
-    settled: &[Settled],
+    settled: &[Settled<'_>],
 ) -> Result<String, AllocError>
     requires lawful { IsLawfulSet (module_set modules.now plan.now) }
     requires len { length settled.now ≡ length modules.now }
@@ -252,4 +254,17 @@ pub(crate) fn report(
     }
     add_counts(&mut text, settled)?;
     Ok(text)
+}
+
+/// The report of a build: a block for each module, ordered by name, and the counts.
+pub fn report(alloc: Global, finished: &Finished) -> Result<String, AllocError>
+    ensures { IfOk result (λ text. IsReport (set_of finished.now.store) (settlement_in finished.now.store) (string_bytes text)) }
+{
+    let store = &finished.store;
+    // The journal is legal, so the modules are a lawful set.
+    let _journal = store.journal();
+    let modules = store.modules();
+    let plan = store.plan();
+    let settled = settled_in(alloc, store)?;
+    Ok(settled_report(alloc, modules, plan, settled.as_slice())?)
 }

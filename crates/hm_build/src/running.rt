@@ -1,18 +1,20 @@
 //! From readers to a writer.
-ghost use Rattle.std.specs.Prelude.{◌≡◌, ◌≤◌, ◌<◌, ◌⊎◌, ◌↔◌, false, ℕ, List, All, Any, IfOk, IfErr, IsErrOf, OnErr, OnOk};
+ghost use Rattle.std.specs.Prelude.{◌≡◌, ◌≤◌, ◌<◌, ◌⊎◌, ◌↔◌, ℕ, List, All, Any, IfOk, IfErr, IsErrOf, OnErr, OnOk};
 ghost use Rattle.std.specs.Io.KnownBytes.{Appends};
-ghost use Rattle.hm_build.specs.Checks.{IsCheckRun};
+ghost use Rattle.hm_build.specs.JournalledRuns.{IsRun};
 ghost use Rattle.hm_build.specs.Runs.{IsPlanRun};
 ghost use Rattle.hm_build.specs.Sources.{AreReadUp, StopsAtFault, Tell, WritesPrefix};
 ghost use Rattle.hm_build.specs.declared.status.Status.{Status};
 ghost use Rattle.hm_build.specs.Watching.{device_of, HasReadFault, HasWriteFault, IsFresh, failures_of, flushes_of, reads_of};
 
 use crate::answers::Answer;
+use crate::building::MOST_WORKERS;
 use crate::source::read_all;
-use crate::stacks::{check_on_thread, plan_on_thread};
+use crate::stacks::{build_answer_on_thread, plan_on_thread};
 use crate::{Options, RunFault, Status, Watched, output};
 use std::alloc::Global;
 use std::io::{Read, Write};
+use std::sync::Wait;
 use std::thread::Threads;
 
 /// Reads the sources, and writes the text of their plan, or the line that refuses them.
@@ -49,7 +51,7 @@ pub fn run_plan<T: Threads, R: Read, W: Write>(
     // Each fault comes only for its cause.
     ensures read { IsErrOf result RunFault.Read → Any HasReadFault readers.new }
     ensures write { IsErrOf result RunFault.Write → HasWriteFault writer.new }
-    ensures others { IfErr result (λ e. (e ≡ RunFault.Read) ⊎ ((e ≡ RunFault.Write) ⊎ ((e ≡ RunFault.Memory) ⊎ (e ≡ RunFault.NoWorker)))) }
+    ensures others { IfErr result (λ e. (e ≡ RunFault.Read) ⊎ ((e ≡ RunFault.Write) ⊎ (e ≡ RunFault.Memory))) }
 {
     let sources = read_all(alloc, readers)?;
     let Answer { status, text } = plan_on_thread(rt, alloc, sources)?;
@@ -57,12 +59,9 @@ pub fn run_plan<T: Threads, R: Read, W: Write>(
     Ok(status)
 }
 
-/// The most workers of a run.
-const MOST_WORKERS: usize = 16;
-
-/// Reads the sources, checks their modules, each behind those that it imports, and writes the report of their
-/// verdicts, or the line that refuses them.
-pub fn run<T: Threads, R: Read, W: Write>(
+/// Reads the sources, checks their modules, as many at a time as there are workers, and writes the report of their
+/// verdicts, behind it the journal where it is asked for, or the line that refuses them.
+pub fn run<T: Threads + Wait + Sync, R: Read, W: Write>(
     rt: &T,
     alloc: Global,
     readers: &mut [Watched<R>],
@@ -71,17 +70,15 @@ pub fn run<T: Threads, R: Read, W: Write>(
 ) -> Result<Status, RunFault>
     requires readers { All IsFresh readers.old }
     requires writer { IsFresh writer.old }
-    // There is no journal yet.
-    requires journal { options.journal ≡ false }
 
     // Where the readers and the writer tell their bytes, the report of the verdicts or the refusal is written, and nothing else.
     ensures ok { IfOk result (λ status. (sources : List (List ℕ)) → Tell (λ r. R.remaining (device_of r)) readers.old sources
-        → (text : List ℕ) × IsCheckRun sources status text × Appends (W.contents (device_of writer.old)) (W.contents (device_of writer.new)) text) }
+        → (text : List ℕ) × IsRun options.workers options.journal sources status text × Appends (W.contents (device_of writer.old)) (W.contents (device_of writer.new)) text) }
     // The writer was flushed behind it.
     ensures flushed { OnOk result (flushes_of writer.new ≡ 1) }
     // After a fault of the writer a prefix of that text was written.
     ensures prefix { IsErrOf result RunFault.Write → (sources : List (List ℕ)) → Tell (λ r. R.remaining (device_of r)) readers.old sources
-        → (status : Status) × (text : List ℕ) × IsCheckRun sources status text × WritesPrefix (W.contents (device_of writer.old)) (W.contents (device_of writer.new)) text }
+        → (status : Status) × (text : List ℕ) × IsRun options.workers options.journal sources status text × WritesPrefix (W.contents (device_of writer.old)) (W.contents (device_of writer.new)) text }
     // After every other fault nothing was written.
     ensures nothing { OnErr result ((writer.new ≡ writer.old) ⊎ IsErrOf result RunFault.Write) }
 
@@ -101,13 +98,13 @@ pub fn run<T: Threads, R: Read, W: Write>(
     ensures workers { IsErrOf result RunFault.Workers ↔ ((options.workers ≡ 0) ⊎ (16 < options.workers)) }
     ensures read { IsErrOf result RunFault.Read → Any HasReadFault readers.new }
     ensures write { IsErrOf result RunFault.Write → HasWriteFault writer.new }
-    ensures others { IfErr result (λ e. (e ≡ RunFault.Workers) ⊎ ((e ≡ RunFault.Read) ⊎ ((e ≡ RunFault.Write) ⊎ ((e ≡ RunFault.Memory) ⊎ (e ≡ RunFault.NoWorker))))) }
+    ensures others { IfErr result (λ e. (e ≡ RunFault.Workers) ⊎ ((e ≡ RunFault.Read) ⊎ ((e ≡ RunFault.Write) ⊎ ((e ≡ RunFault.Memory) ⊎ ((e ≡ RunFault.NoWorker) ⊎ (e ≡ RunFault.Mixed)))))) }
 {
     if !(1..=MOST_WORKERS).contains(&options.workers) {
         return Err(RunFault::Workers);
     }
     let sources = read_all(alloc, readers)?;
-    let Answer { status, text } = check_on_thread(rt, alloc, sources)?;
+    let Answer { status, text } = build_answer_on_thread(rt, alloc, sources, options)?;
     output::write_text(writer, text.as_bytes())?;
     Ok(status)
 }

@@ -1,16 +1,16 @@
 use Rattle.std.proofs.Common.{rules, map, string_bytes, subst}
-use Rattle.hm_build.specs.Checks.{IsCheckRun}
-use Rattle.hm_build.proofs.HeldRuns.{check_held}
+use Rattle.hm_build.specs.JournalledRuns.{IsRun}
+use Rattle.hm_build.proofs.HeldRuns.{build_held}
 use Rattle.hm_build.proofs.running.run.Goals as goal
 
 pub returns-in_err-write_text-clause-prefix : goal.returns-in_err-write_text-clause-prefix
 returns-in_err-write_text-clause-prefix g c e sources told =
     let a = c.in_ok-status.field-0 in
-    let held : IsCheckRun (map (λ s. s.items) c.in_ok-sources.sources.items) a.status (string_bytes a.text) = search rules in
-    (a.status, string_bytes a.text, check_held sources a.status (string_bytes a.text) (subst (λ l. IsCheckRun l a.status (string_bytes a.text)) (c.in_ok-sources.ensures.bytes sources told) held), search rules)
+    let held : IsRun c.args.options.workers c.args.options.journal (map (λ s. s.items) c.in_ok-sources.sources.items) a.status (string_bytes a.text) = search rules in
+    (a.status, string_bytes a.text, build_held c.args.options.workers c.args.options.journal sources a.status (string_bytes a.text) (subst (λ l. IsRun c.args.options.workers c.args.options.journal l a.status (string_bytes a.text)) (c.in_ok-sources.ensures.bytes sources told) held), search rules)
 
 pub returns-clause-ok : goal.returns-clause-ok
 returns-clause-ok g c sources told =
     let a = c.in_ok-status.field-0 in
-    let held : IsCheckRun (map (λ s. s.items) c.in_ok-sources.sources.items) a.status (string_bytes a.text) = search rules in
-    (string_bytes a.text, check_held sources a.status (string_bytes a.text) (subst (λ l. IsCheckRun l a.status (string_bytes a.text)) (c.in_ok-sources.ensures.bytes sources told) held), search rules)
+    let held : IsRun c.args.options.workers c.args.options.journal (map (λ s. s.items) c.in_ok-sources.sources.items) a.status (string_bytes a.text) = search rules in
+    (string_bytes a.text, build_held c.args.options.workers c.args.options.journal sources a.status (string_bytes a.text) (subst (λ l. IsRun c.args.options.workers c.args.options.journal l a.status (string_bytes a.text)) (c.in_ok-sources.ensures.bytes sources told) held), search rules)

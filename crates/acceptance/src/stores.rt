@@ -1,0 +1,179 @@
+//! The steps of a build store, one after the other.
+use crate::sources::module_of;
+use hm_check::{Outcome, check_module};
+use hm_graph::import_plan;
+use hm_store::{Claimed, Refusal, Status, Store};
+use std::alloc::Global;
+use std::process::Abort;
+use std::test::Fail;
+
+/// The outcome of the only module of a source, which imports none.
+fn outcome_of(alloc: Global, source: &[u8]) -> Result<Outcome, Fail> {
+    Ok(check_module(alloc, &module_of(alloc, source)?, &[]).map_err(|_| "refused")?)
+}
+
+/// A store for two modules, with the numbers 0 and 1.
+fn store_of(alloc: Global, first: &[u8], second: &[u8]) -> Result<Store, Fail> {
+    let first = module_of(alloc, first)?;
+    let second = module_of(alloc, second)?;
+    let plan = import_plan(alloc, &[&first.header, &second.header]).map_err(|_| "no plan")?;
+    let mut modules = Vec::new(alloc);
+    modules.push(first)?;
+    modules.push(second)?;
+    Ok(Store::new(alloc, modules, plan)?)
+}
+
+/// Publishes a good module, and tells why that is refused, if it is.
+fn publish(
+    store: &mut Store,
+    worker: usize,
+    number: usize,
+    outcome: Outcome,
+) -> Result<Option<Refusal>, Fail> {
+    if !outcome.is_good() {
+        return Err(Fail::from("faulty"));
+    }
+    match store.publish(worker, number, outcome) {
+        Ok(()) => Ok(None),
+        Err((refusal, _)) => Ok(Some(refusal)),
+    }
+}
+
+/// Tells that a module is faulty, and why that is refused, if it is.
+fn fail(
+    store: &mut Store,
+    worker: usize,
+    number: usize,
+    outcome: Outcome,
+) -> Result<Option<Refusal>, Fail> {
+    if outcome.is_good() {
+        return Err(Fail::from("good"));
+    }
+    match store.fail(worker, number, outcome) {
+        Ok(()) => Ok(None),
+        Err((refusal, _)) => Ok(Some(refusal)),
+    }
+}
+
+/// A call on a store, and what it must answer.
+enum Step {
+    /// A claim of a worker.
+    Claim(usize, Claimed),
+    /// A publication by a worker of a module: the outcome of a source, and why it is refused, if it is.
+    Publish(usize, usize, &'static [u8], Option<Refusal>),
+    /// A failure, told likewise.
+    Fail(usize, usize, &'static [u8], Option<Refusal>),
+    /// A stop by a worker, and whether it is the first.
+    Stop(usize, bool),
+    /// A look-up of a module, and whether its interface is found.
+    Look(usize, bool),
+    /// The status of a module.
+    Status(usize, Status),
+    /// How many entries the journal has.
+    Entries(usize),
+}
+
+/// Whether a store answers a call as it must.
+fn answers(alloc: Global, store: &mut Store, step: &Step) -> Result<bool, Fail> {
+    match step {
+        Step::Claim(worker, reply) => Ok(store.claim(*worker) == *reply),
+        Step::Publish(worker, number, source, refusal) => {
+            let outcome = outcome_of(alloc, source)?;
+            Ok(publish(store, *worker, *number, outcome)? == *refusal)
+        }
+        Step::Fail(worker, number, source, refusal) => {
+            let outcome = outcome_of(alloc, source)?;
+            Ok(fail(store, *worker, *number, outcome)? == *refusal)
+        }
+        Step::Stop(worker, first) => Ok(store.stop(*worker) == *first),
+        Step::Look(number, found) => Ok(store.look(*number).is_some() == *found),
+        Step::Status(number, status) => {
+            Ok(*number < store.modules().len() && store.status(*number) == *status)
+        }
+        Step::Entries(count) => Ok(store.journal().len() == *count),
+    }
+}
+
+/// A module that imports `B`.
+const IMPORTER: &[u8] = b"module A where { import B ; x = y }";
+
+/// What it imports.
+const IMPORTED: &[u8] = b"module B where { y = 'c' }";
+
+/// Another module of that name.
+const OTHER: &[u8] = b"module B where { y = 1 }";
+
+/// A faulty module of that name.
+const FAULTY: &[u8] = b"module B where { y = z }";
+
+/// A module is published, once its outcome is its own and that of the worker that claimed it; a stop comes once.
+const PUBLISHED: [Step; 18] = [
+    Step::Status(0, Status::Waiting),
+    Step::Claim(0, Claimed::Job(1)),
+    Step::Status(1, Status::Claimed(0)),
+    Step::Claim(1, Claimed::Later),
+    Step::Look(1, false),
+    Step::Publish(1, 1, IMPORTED, Some(Refusal::NotYours)),
+    Step::Entries(1),
+    Step::Publish(0, 1, OTHER, Some(Refusal::Stranger)),
+    Step::Entries(1),
+    Step::Publish(0, 1, IMPORTED, None),
+    Step::Look(1, true),
+    Step::Look(0, false),
+    Step::Look(2, false),
+    Step::Stop(1, true),
+    Step::Stop(0, false),
+    Step::Claim(0, Claimed::Done),
+    Step::Entries(3),
+    Step::Status(1, Status::Published),
+];
+
+/// What was claimed before a stop can be published behind it.
+const STOPPED: [Step; 5] = [
+    Step::Claim(0, Claimed::Job(1)),
+    Step::Stop(1, true),
+    Step::Publish(0, 1, IMPORTED, None),
+    Step::Claim(0, Claimed::Done),
+    Step::Entries(3),
+];
+
+/// What imports a faulty module is skipped.
+const FAILED: [Step; 8] = [
+    Step::Claim(3, Claimed::Job(1)),
+    Step::Fail(3, 0, FAULTY, Some(Refusal::NotYours)),
+    Step::Fail(3, 1, FAULTY, None),
+    Step::Status(1, Status::Failed),
+    Step::Status(0, Status::Skipped),
+    Step::Claim(3, Claimed::Done),
+    Step::Look(1, false),
+    Step::Entries(2),
+];
+
+/// Makes calls on a store for a module and the one that it imports.
+fn check_steps(
+    rt: &(impl Abort + AllocGlobal),
+    imported: &[u8],
+    steps: &[Step],
+) -> Result<(), Fail> {
+    let alloc: Global = rt.alloc();
+    let mut store = store_of(alloc, IMPORTER, imported)?;
+    for step in steps {
+        assert!(rt; answers(alloc, &mut store, step)?);
+    }
+    Ok(())
+}
+
+#[test]
+fn a_module_is_published(rt: HostRuntime) -> Result<(), Fail> {
+    check_steps(&rt, IMPORTED, &PUBLISHED)
+}
+
+#[test]
+fn a_build_is_stopped(rt: HostRuntime) -> Result<(), Fail> {
+    check_steps(&rt, IMPORTED, &STOPPED)
+}
+
+#[test]
+fn dependents_are_skipped(rt: HostRuntime) -> Result<(), Fail> {
+    check_steps(&rt, FAULTY, &FAILED)
+}

@@ -1,0 +1,130 @@
+-- What the threads of a build share or are given may cross threads.
+use Rattle.std.proofs.Common.{[], ◌∷◌}
+use denote.RattleType.{RattleType}
+use denote.Ref.{NamedLft}
+use mir.Syntax.{Sym}
+use denote.Struct.Declared.{shape}
+use denote.Struct.Struct.{Struct}
+use denote.Struct.Tuple.{TupleAt, type_at}
+use denote.Param.Send.{AllSend, IsSend, IsSync, recorded_send, sendable, struct_send}
+use denote.Param.SendFields.{as_row_sync, declared_sync}
+use Rattle.std.proofs.Crossing.{crosses}
+use Rattle.hm_types.specs.contracts.interfaces.Interface as Interface
+use Rattle.hm_types.proofs.monotypes.Types.TheLaws.TheKnot.{crosses as types}
+use Rattle.hm_syntax.specs.contracts.ast.Module as Module
+use Rattle.hm_syntax.proofs.ast.Alt.TheLaws.TheKnot.{crosses as expressions}
+use Rattle.hm_syntax.proofs.ast.Pat.TheLaws.TheKnot.{crosses as patterns}
+use Rattle.hm_syntax.proofs.ast.TypeExpr.TheLaws.TheKnot.{crosses as written_types}
+use Rattle.hm_check.specs.contracts.outcome.Verdict as Verdict
+use Rattle.hm_check.specs.contracts.outcome.Outcome as Outcome
+use Rattle.hm_store.specs.contracts.record.Call as Call
+use Rattle.hm_store.specs.contracts.record.Act as Act
+use Rattle.hm_store.specs.contracts.record.Pass as Pass
+use Rattle.hm_store.specs.contracts.record.Record as Record
+use Rattle.hm_store.specs.contracts.store.Store as Store
+use Rattle.hm_store.specs.contracts.shared.Shared as Shared
+use Rattle.hm_store.specs.contracts.shared.Locked as Locked
+use Rattle.hm_store.proofs.object.Entry.TheSendSync as Entry
+use Rattle.hm_store.proofs.object.Status.TheSendSync as Status
+use Rattle.hm_build.specs.contracts.building.Finished as Finished
+use Rattle.hm_build.specs.contracts.workers.Work as Work
+use Rattle.core.specs.declared.ledger.Ledger.{Ghosts}
+use Rattle.core.proofs.ledger.Share.TheSendSync as Share
+use Rattle.core.proofs.ledger.Book.TheSendSync as Book
+use Rattle.hm_types.proofs.Text.TheSendSync as Text
+use Rattle.hm_types.proofs.Entity.TheSendSync as Entity
+use Rattle.hm_types.proofs.Head.TheSendSync as Head
+use Rattle.hm_types.proofs.entries.TypeEntry.TheSendSync as TypeEntry
+use Rattle.hm_syntax.proofs.ast.Name.TheSendSync as Name
+use Rattle.hm_syntax.proofs.ast.Literal.TheSendSync as Literal
+use Rattle.hm_syntax.proofs.ast.LiteralKind.TheSendSync as LiteralKind
+use Rattle.hm_syntax.proofs.ast.Export.TheSendSync as Export
+use Rattle.hm_syntax.proofs.ast.Header.TheSendSync as Header
+use Rattle.hm_syntax.proofs.ast.Import.TheSendSync as Import
+use Rattle.hm_syntax.proofs.ast.Item.TheSendSync as Item
+use Rattle.hm_syntax.proofs.ast.List.TheSendSync as List
+use Rattle.hm_syntax.proofs.ast.Subs.TheSendSync as Subs
+use Rattle.hm_names.proofs.faults.Fault.TheSendSync as Fault
+
+-- a closure with three captures
+pub captures_send : (ν : Sym) (A B C : RattleType) → IsSend A → IsSend B → IsSend C → IsSend (TupleAt ν (A ∷ B ∷ C ∷ []))
+captures_send ν A B C a b c =
+    let T = type_at ν (A ∷ B ∷ C ∷ []) in
+    let all : AllSend (A ∷ B ∷ C ∷ []) = (a, (b, (c, tt))) in
+    recorded_send (Struct (shape T)) T.D T.to T.to_one (struct_send (shape T) all)
+
+ruleset parts_of_types = (Text.the_send, Text.the_sync, Entity.the_send, Entity.the_sync, Head.the_send, Head.the_sync, TypeEntry.the_send, TypeEntry.the_sync)
+
+ruleset parts_of_trees = (Name.the_send, Name.the_sync, Literal.the_send, Literal.the_sync, LiteralKind.the_send, LiteralKind.the_sync, Export.the_send, Export.the_sync, Header.the_send, Header.the_sync, Import.the_send, Import.the_sync, Item.the_send, Item.the_sync, List.the_send, List.the_sync, Subs.the_send, Subs.the_sync)
+
+pub interface_send : IsSend Interface.the_row
+interface_send = search (types, parts_of_types, crosses, sendable) depth 30 fits 5000
+
+pub interface_sync : IsSync Interface.the_row
+interface_sync = search (types, parts_of_types, crosses, sendable) depth 30 fits 5000
+
+pub module_send : IsSend Module.the_row
+module_send = search (parts_of_trees, expressions, patterns, written_types, crosses, sendable) depth 30 fits 5000
+
+pub module_sync : IsSync Module.the_row
+module_sync = search (parts_of_trees, expressions, patterns, written_types, crosses, sendable) depth 30 fits 5000
+
+pub verdict_send : IsSend Verdict.the_row
+verdict_send = search (interface_send, interface_sync, Fault.the_send, crosses, sendable) depth 30 fits 5000
+
+pub verdict_field_send : IsSend Verdict.the_field.row
+verdict_field_send = search (interface_send, interface_sync, Fault.the_send, crosses, sendable) depth 30 fits 5000
+
+pub outcome_send : IsSend Outcome.the_row
+outcome_send = search (interface_send, interface_sync, module_send, module_sync, verdict_field_send, crosses, sendable) depth 30 fits 5000
+
+pub act_send : IsSend Act.the_row
+act_send = search (interface_send, interface_sync, crosses, sendable) depth 30 fits 5000
+
+pub act_field_send : IsSend Act.the_field.row
+act_field_send = search (interface_send, interface_sync, crosses, sendable) depth 30 fits 5000
+
+pub call_send : IsSend Call.the_row
+call_send = search (act_field_send, crosses, sendable) depth 30 fits 5000
+
+pub call_field_send : IsSend Call.the_field.row
+call_field_send = search (act_field_send, crosses, sendable) depth 30 fits 5000
+
+pub store_send : IsSend Store.the_row
+store_send = search (outcome_send, module_send, module_sync, Entry.the_field_send, Status.the_field_send, crosses, sendable) depth 30 fits 5000
+
+pub record_field_send : IsSend Record.the_field.row
+record_field_send = search (call_field_send, crosses, sendable) depth 30 fits 5000
+
+pub finished_send : IsSend Finished.the_row
+finished_send = search (store_send, module_send, module_sync, record_field_send, crosses, sendable) depth 30 fits 5000
+
+pub finished_field_send : IsSend Finished.the_field.row
+finished_field_send = search (store_send, module_send, module_sync, record_field_send, crosses, sendable) depth 30 fits 5000
+
+module _ (L : RattleType) (l : Ghosts L.Denot) where
+  pub pass_send : IsSend (Pass.the_row L l)
+  pass_send = search (call_field_send, Share.the_send, crosses, sendable) depth 30 fits 5000
+
+  pub locked_send : IsSend (Locked.the_row L l)
+  locked_send = search (store_send, Book.the_send, crosses, sendable) depth 30 fits 5000
+
+  pub shared_sync : IsSync (Shared.the_row L l)
+  shared_sync = search (locked_send, crosses, sendable) depth 30 fits 5000
+
+  module _ (κ : NamedLft) (G : RattleType) where
+    pub work_sync : IsSync G → IsSync (Work.the_row κ L G l)
+    work_sync gate =
+        declared_sync (Work.the_type κ L G l) (
+          search (crosses, sendable) depth 30,
+          (
+            search (shared_sync, sendable) depth 30,
+            (
+              search (module_send, module_sync, crosses, sendable) depth 30 fits 5000,
+              (
+                search (crosses, sendable) depth 30,
+                (search (gate, sendable) depth 30, tt),
+              ),
+            ),
+          ),
+        )

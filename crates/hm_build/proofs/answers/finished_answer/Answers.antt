@@ -1,0 +1,12 @@
+use Rattle.std.proofs.Common.{length, ap, ◌∙◌, string_bytes}
+use Rattle.hm_build.specs.Settling.{statuses_of}
+use Rattle.hm_build.proofs.FinishedRuns.{finished_run}
+use Rattle.hm_build.proofs.answers.finished_answer.Goals as goal
+
+pub returns : goal.returns
+returns c sources workers finished =
+    let f = c.args.finished.now in
+    let same = c.as_slice.ensures.value in
+    let status = c.status_of-status.ensures in
+    finished_run f.store f.records.items c.as_slice.result.now sources workers c.args.journal c.status_of-status.result (string_bytes c.in_ok-text.text) c.in_ok-text.ensures
+    (ap length same ∙ c.in_ok-settled.ensures.len) (ap statuses_of same ∙ c.in_ok-settled.ensures.settled) status.good status.faulty status.either finished

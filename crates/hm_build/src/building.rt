@@ -1,0 +1,245 @@
+//! A build: workers check the modules of sources, each for the published interfaces of its imports.
+ghost use Rattle.std.specs.Prelude.{◌≡◌, ◌⊎◌, ◌↔◌, ◌<◌, ◌≤◌, ◌^◌, ℕ, List, [], IfErr, IfOk, IsErrOf, map};
+ghost use Rattle.std.specs.Arc.{arc_value};
+ghost use Rattle.hm_graph.specs.Imports.{IsImportPlan, IsLawful};
+ghost use Rattle.hm_build.specs.Errors.{IsBuildError, IsBuildFault};
+ghost use Rattle.hm_build.specs.FinishedBuilds.{IsFinished};
+ghost use Rattle.hm_build.specs.Headline.{HasVerdicts};
+ghost use Rattle.hm_build.specs.Names.{module_outlines};
+ghost use Rattle.hm_build.specs.SourceModules.{AreModulesOf};
+
+use crate::finishing::{finished, records_of};
+use crate::sets::{SetError, set_modules, shared_modules};
+use crate::stacks::stack_size;
+use crate::workers::{Work, run_workers};
+use crate::{BuildFault, Gate};
+use core::thread::Stack;
+use hm_graph::Plan;
+use hm_store::laws::settled_builds_are_settled_sets;
+use hm_store::{Record, Shared, Store};
+use hm_syntax::Module;
+use hm_verdicts::settled_modules_have_their_verdicts;
+use std::alloc::{AllocError, Global};
+use std::marker::Brand;
+use std::snapshot::Snapshot;
+use std::sync::ledger::{Blank, Ledger};
+use std::sync::{Arc, Wait};
+use std::thread;
+use std::thread::{Promise, Threads};
+
+/// The most workers of a build.
+pub(crate) const MOST_WORKERS: usize = 16;
+
+/// A build that came to its end.
+#[derive(Drop)]
+pub struct Finished {
+    /// The modules of the sources, in order of appearance.
+    pub modules: Vec<Arc<Module>>,
+    pub store: Store,
+    /// What each worker wrote down of its calls.
+    pub records: Vec<Record>,
+}
+
+/// A set of modules that no worker has touched.
+#[derive(Drop)]
+struct Fresh {
+    modules: Vec<Arc<Module>>,
+    imports: Vec<Vec<usize>>,
+    store: Store,
+}
+
+/// The same modules once more. No tree is copied.
+fn lend_all(alloc: Global, modules: &[Arc<Module>]) -> Result<Vec<Arc<Module>>, AllocError>
+    ensures { IfOk result (λ lent. map arc_value lent.items ≡ map arc_value modules.now) }
+{
+    let mut lent = Vec::new(alloc);
+    for module in modules {
+        lent.push(Arc::try_clone(module)?)?;
+    }
+    Ok(lent)
+}
+
+/// The numbers of the modules that each module imports.
+fn import_rows(alloc: Global, plan: &Plan) -> Result<Vec<Vec<usize>>, AllocError> {
+    let mut rows = Vec::new(alloc);
+    for number in 0..plan.len() {
+        rows.push(Vec::from_slice(alloc, plan.imports(number))?)?;
+    }
+    Ok(rows)
+}
+
+/// A store for the modules of a lawful set.
+fn set_up(alloc: Global, modules: Vec<Module>, plan: Plan) -> Result<Fresh, AllocError>
+    requires lawful { IsLawful (module_outlines modules.items) }
+    requires planned { IsImportPlan (module_outlines modules.items) plan }
+    ensures modules { IfOk result (λ f. map arc_value f.modules.items ≡ modules.items) }
+    ensures empty { IfOk result (λ f. f.store.journal ≡ []) }
+{
+    let modules = shared_modules(alloc, modules)?;
+    let imports = import_rows(alloc, &plan)?;
+    let store = Store::new(alloc, lend_all(alloc, modules.as_slice())?, plan)?;
+    Ok(Fresh {
+        modules,
+        imports,
+        store,
+    })
+}
+
+/// A store for the modules of sources.
+fn read(alloc: Global, sources: &[Vec<u8>]) -> Result<Fresh, BuildFault>
+    ensures read { IfOk result (λ f. AreModulesOf (map (λ s. s.items) sources.now) (map arc_value f.modules.items)) }
+    ensures empty { IfOk result (λ f. f.store.journal ≡ []) }
+    ensures err { IfErr result (IsBuildError (map (λ s. s.items) sources.now)) }
+{
+    match set_modules(alloc, sources) {
+        Ok((modules, plan)) => Ok(set_up(alloc, modules, plan)?),
+        Err(SetError::Refused(fault)) => Err(BuildFault::Refused(fault)),
+        Err(SetError::Memory) => Err(BuildFault::Memory),
+    }
+}
+
+/// The calls that a worker may make: two for each module, a look at each import, the last claim and a stop.
+fn room_for(imports: &[Vec<usize>]) -> usize
+    ensures { result < 2 ^ 62 }
+{
+    let mut room = 2usize;
+    for row in imports {
+        room = room.saturating_add(row.len()).saturating_add(2);
+    }
+    room.min(1 << 40)
+}
+
+/// Runs the workers on a store, and looks at what came of it.
+fn worked<L: Ledger + Send + Sync, G: Gate + Sync, R: Threads + Wait + Sync>(
+    rt: &R,
+    alloc: Global,
+    fresh: Fresh,
+    workers: usize,
+    gate: &G,
+    stack: usize,
+    blank: Blank,
+) -> Result<Finished, BuildFault>
+    requires brand { (blank.name ≡ L.name) × (blank.parts ≡ L.parts) × (blank.parts ≡ workers) }
+    requires workers { (0 < workers) × (workers ≤ 16) }
+    requires empty { fresh.store.journal ≡ [] }
+    ensures finished { IfOk result (λ f. (sources : List (List ℕ)) → AreModulesOf sources (map arc_value fresh.modules.items) → IsFinished sources workers f.store f.records.items) }
+    ensures modules { IfOk result (λ f. map arc_value f.modules.items ≡ f.store.modules) }
+    ensures err { IfErr result (λ e. (e ≡ BuildFault.NoWorker) ⊎ ((e ≡ BuildFault.Memory) ⊎ (e ≡ BuildFault.Mixed))) }
+{
+    let Fresh {
+        modules,
+        imports,
+        store,
+    } = fresh;
+    let room = room_for(imports.as_slice());
+    let (shared, mut passes) = Shared::<L>::new(alloc, store, workers, room, blank)?;
+    let work = Work {
+        alloc,
+        shared: &shared,
+        modules: modules.as_slice(),
+        imports: imports.as_slice(),
+        gate,
+    };
+    run_workers(rt, &work, passes.as_mut_slice(), stack)?;
+    let (store, book) = shared.into_store();
+    let records = records_of(alloc, book, passes)?;
+    finished(alloc, modules, store, records, workers)
+}
+
+/// Builds the modules of sources on a thread whose stack is large enough for them.
+pub(crate) fn build_here<T: Threads + Wait + Sync, G: Gate + Sync>(
+    rt: &T,
+    alloc: Global,
+    sources: &[Vec<u8>],
+    workers: usize,
+    gate: &G,
+) -> Result<Finished, BuildFault>
+    requires { (0 < workers) × (workers ≤ 16) }
+    ensures finished { IfOk result (λ f. IsFinished (map (λ s. s.items) sources.now) workers f.store f.records.items) }
+    ensures modules { IfOk result (λ f. map arc_value f.modules.items ≡ f.store.modules) }
+    ensures err { IfErr result (IsBuildError (map (λ s. s.items) sources.now)) }
+{
+    let fresh = read(alloc, sources)?;
+    let blank = Blank::new(workers as u64);
+    worked::<Brand, G, T>(rt, alloc, fresh, workers, gate, stack_size(sources), blank)
+}
+
+/// The promise of a thread: its answer is a build of these sources by so many workers.
+#[derive(Drop)]
+struct BuildOf {
+    sources: Snapshot<Vec<Vec<u8>>>,
+    workers: usize,
+}
+
+impl Promise<Result<Finished, BuildFault>> for BuildOf {
+    ghost use Rattle.std.specs.Prelude.{◌≡◌, IfErr, IfOk, map};
+    ghost use Rattle.std.specs.Arc.{arc_value};
+    ghost use Rattle.hm_build.specs.Errors.{IsBuildError};
+    ghost use Rattle.hm_build.specs.FinishedBuilds.{IsFinished};
+
+    ghost kept_by = { λ p r. IfOk r (λ f. IsFinished (map (λ s. s.items) p.sources.value.items) p.workers f.store f.records.items) × (IfOk r (λ f. map arc_value f.modules.items ≡ f.store.modules) × IfErr r (IsBuildError (map (λ s. s.items) p.sources.value.items))) };
+}
+
+/// Builds the modules of sources on a thread of its own.
+fn build_on_thread<T: Threads + Wait + Sync, G: Gate + Sync>(
+    rt: &T,
+    alloc: Global,
+    sources: Vec<Vec<u8>>,
+    workers: usize,
+    gate: &G,
+) -> Result<Finished, BuildFault>
+    requires { (0 < workers) × (workers ≤ 16) }
+    ensures finished { IfOk result (λ f. IsFinished (map (λ s. s.items) sources.items) workers f.store f.records.items) }
+    ensures modules { IfOk result (λ f. map arc_value f.modules.items ≡ f.store.modules) }
+    ensures err { IfErr result (IsBuildError (map (λ s. s.items) sources.items)) }
+{
+    thread::scope(
+        thread::scope_env(),
+        rt,
+        move |scope| -> Result<Finished, BuildFault>
+            requires { (0 < workers) × (workers ≤ 16) }
+            ensures finished { IfOk result (λ f. IsFinished (map (λ s. s.items) sources.items) workers f.store f.records.items) }
+            ensures modules { IfOk result (λ f. map arc_value f.modules.items ≡ f.store.modules) }
+            ensures err { IfErr result (IsBuildError (map (λ s. s.items) sources.items)) }
+        {
+            let promise = BuildOf {
+                sources: Snapshot::of(&sources),
+                workers,
+            };
+            let thread = Stack::new().stack_size(stack_size(&sources));
+            let work = move ||
+                requires { (0 < workers) × (workers ≤ 16) }
+            { build_here(rt, alloc, &sources, workers, gate) };
+            match thread.spawn_scoped_with(scope, promise, work) {
+                Ok(builder) => builder.join(rt),
+                Err(_) => Err(BuildFault::NoWorker),
+            }
+        },
+    )
+}
+
+/// Builds the modules of sources: so many workers check them, each for the published interfaces of its imports.
+pub fn build<T: Threads + Wait + Sync, G: Gate + Sync>(
+    rt: &T,
+    alloc: Global,
+    sources: Vec<Vec<u8>>,
+    workers: usize,
+    gate: &G,
+) -> Result<Finished, BuildFault>
+    // The journal is legal, each module is settled, and each worker's record agrees with the journal.
+    ensures finished { IfOk result (λ f. IsFinished (map (λ s. s.items) sources.items) workers f.store f.records.items) }
+    ensures modules { IfOk result (λ f. map arc_value f.modules.items ≡ f.store.modules) }
+    // Each module has the verdict of the declarative rules in its set.
+    ensures verdicts { IfOk result (λ f. HasVerdicts f.store) }
+    // The workers are counted before a source is read.
+    ensures workers { IsErrOf result BuildFault.Workers ↔ ((workers ≡ 0) ⊎ (16 < workers)) }
+    // Refused sources have this fault, and it is their first.
+    ensures refused { IfErr result (IsBuildFault (map (λ s. s.items) sources.items)) }
+{
+    if !(1..=MOST_WORKERS).contains(&workers) {
+        return Err(BuildFault::Workers);
+    }
+    settled_builds_are_settled_sets();
+    settled_modules_have_their_verdicts();
+    build_on_thread(rt, alloc, sources, workers, gate)
+}

@@ -1,0 +1,103 @@
+//! What came of a build, once its workers are done.
+ghost use Rattle.std.specs.Prelude.{◌≡◌, ◌⊎◌, ℕ, List, IfErr, IfOk, map, true};
+ghost use Rattle.std.specs.Arc.{arc_value};
+ghost use Rattle.hm_store.specs.Builds.{IsAllSettled, IsLegal};
+ghost use Rattle.hm_build.specs.FinishedBuilds.{AreNumbered, IsFinished};
+ghost use Rattle.hm_build.specs.SourceModules.{AreModulesOf};
+
+use crate::{BuildFault, Finished};
+use hm_equal::is_same_module;
+use hm_store::{Pass, Record, Store};
+use hm_syntax::Module;
+use std::alloc::{AllocError, Global};
+use std::sync::Arc;
+use std::sync::ledger::{Book, Ledger};
+
+/// The records of the workers, in the order of their passes.
+pub(crate) fn records_of<L: Ledger>(
+    alloc: Global,
+    mut book: Book<L>,
+    passes: Vec<Pass<L>>,
+) -> Result<Vec<Record>, AllocError> {
+    let mut records = Vec::new(alloc);
+    for pass in passes {
+        let (record, mut share) = pass.into_record();
+        book.audit(&mut share);
+        records.push(record)?;
+    }
+    Ok(records)
+}
+
+/// Whether these are the same modules in the same order.
+fn are_same_modules(modules: &[Arc<Module>], others: &[Arc<Module>]) -> bool
+    ensures { result ≡ true → map arc_value modules.now ≡ map arc_value others.now }
+{
+    if modules.len() != others.len() {
+        return false;
+    }
+    for number in 0..modules.len() {
+        if !is_same_module(&modules[number], &others[number]) {
+            return false;
+        }
+    }
+    true
+}
+
+/// Whether each module is settled.
+fn is_all_settled(store: &Store) -> bool
+    ensures { result ≡ true → IsAllSettled store.now }
+{
+    for number in 0..store.modules().len() {
+        if !store.status(number).is_settled() {
+            return false;
+        }
+    }
+    true
+}
+
+/// Whether there is a record for each worker, in the order of their numbers.
+fn are_numbered(records: &[Record], workers: usize) -> bool
+    ensures { result ≡ true → AreNumbered workers records.now }
+{
+    for (number, record) in records.iter().enumerate() {
+        if record.worker != number {
+            return false;
+        }
+    }
+    records.len() == workers
+}
+
+/// The build, where its store is that of the modules and was not stopped, each module is settled, and the records agree with the journal.
+pub(crate) fn finished(
+    alloc: Global,
+    modules: Vec<Arc<Module>>,
+    store: Store,
+    records: Vec<Record>,
+    workers: usize,
+) -> Result<Finished, BuildFault>
+    ensures finished { IfOk result (λ f. (sources : List (List ℕ)) → AreModulesOf sources (map arc_value modules.items) → IsFinished sources workers f.store f.records.items) }
+    ensures modules { IfOk result (λ f. map arc_value f.modules.items ≡ f.store.modules) }
+    ensures err { IfErr result (λ e. (e ≡ BuildFault.Memory) ⊎ (e ≡ BuildFault.Mixed)) }
+{
+    let _journal = store.journal();
+    if !are_same_modules(modules.as_slice(), store.modules()) {
+        return Err(BuildFault::Mixed);
+    }
+    if store.is_stopped() {
+        return Err(BuildFault::Mixed);
+    }
+    if !is_all_settled(&store) {
+        return Err(BuildFault::Mixed);
+    }
+    if !are_numbered(records.as_slice(), workers) {
+        return Err(BuildFault::Mixed);
+    }
+    if !store.audit(alloc, records.as_slice())? {
+        return Err(BuildFault::Mixed);
+    }
+    Ok(Finished {
+        modules,
+        store,
+        records,
+    })
+}

@@ -1,0 +1,59 @@
+//! The text of a journal.
+ghost use Rattle.std.specs.Prelude.{◌≡◌, ◌++◌, IfOk, OnOk, codes, map, slice_index_or, string_bytes};
+ghost use Rattle.std.specs.Arc.{arc_value};
+ghost use Rattle.std.specs.Fmt.{decimal};
+ghost use Rattle.hm_verdicts.specs.Sets.{no_module};
+ghost use Rattle.hm_store.specs.Builds.{set_of};
+ghost use Rattle.hm_build.specs.Journals.{entry_line, journal_text as journal_bytes};
+
+use crate::Finished;
+use hm_store::{Entry, Store};
+use hm_syntax::Module;
+use std::alloc::{AllocError, Global};
+use std::sync::Arc;
+
+/// The name of a module; no name for a number that no module has.
+fn name_of(modules: &[Arc<Module>], number: usize) -> &str
+    ensures { result.now ≡ (slice_index_or (map arc_value modules.now) number no_module).header.name.text }
+{
+    match modules.get(number) {
+        Some(module) => module.header.name.as_str(),
+        None => "",
+    }
+}
+
+/// Appends the line of a step on a module.
+fn add_step(text: &mut String, word: &str, worker: usize, name: &str) -> Result<(), AllocError>
+    ensures { OnOk result (string_bytes text.new ≡ string_bytes text.old ++ (word.now ++ (codes " " ++ (decimal worker ++ (codes " " ++ (name.now ++ codes "\n")))))) }
+{
+    write!(text, "{word} {worker} {name}\n")
+}
+
+/// Appends the line of an entry.
+fn add_entry(text: &mut String, store: &Store, entry: Entry) -> Result<(), AllocError>
+    ensures { OnOk result (string_bytes text.new ≡ string_bytes text.old ++ entry_line (set_of store.now) entry) }
+{
+    match entry {
+        Entry::Claim { worker, module } => {
+            add_step(text, "claim", worker, name_of(store.modules(), module))
+        }
+        Entry::Publish { worker, module } => {
+            add_step(text, "publish", worker, name_of(store.modules(), module))
+        }
+        Entry::Fail { worker, module } => {
+            add_step(text, "fail", worker, name_of(store.modules(), module))
+        }
+        Entry::Stop { worker } => write!(text, "stop {worker}\n"),
+    }
+}
+
+/// The text of the journal of a build: a line for each entry, in order.
+pub fn journal_text(alloc: Global, finished: &Finished) -> Result<String, AllocError>
+    ensures { IfOk result (λ text. string_bytes text ≡ journal_bytes finished.now.store) }
+{
+    let mut text = String::new(alloc);
+    for entry in finished.store.journal() {
+        add_entry(&mut text, &finished.store, *entry)?;
+    }
+    Ok(text)
+}

@@ -1,0 +1,187 @@
+//! What the workers of a build do.
+
+use crate::{BuildFault, Gate};
+use hm_check::{CheckFault, Outcome, check_module};
+use hm_store::{LookFault, Pass, Shared, Turn};
+use hm_syntax::Module;
+use hm_types::Interface;
+use std::alloc::Global;
+use std::sync::ledger::Ledger;
+use std::sync::{Arc, Wait};
+use std::thread;
+use std::thread::{Builder, JoinHandle, Threads};
+
+/// Why workers ended before their build.
+#[derive(Clone, Copy, Debug, PartialEq, Eq)]
+pub(crate) enum WorkFault {
+    /// No thread could be started for them.
+    NoWorker,
+    /// There was no memory for a look or for a check.
+    Memory,
+    /// The store or the checker refused what a worker does.
+    Mixed,
+}
+
+impl From<WorkFault> for BuildFault {
+    ghost use Rattle.std.specs.Prelude.{◌≡◌, ◌⊎◌};
+    ghost use Rattle.hm_build.specs.declared.faults.BuildFault.TheVariants.{Memory, Mixed, NoWorker};
+
+    ghost from_gives = { λ _ fault. (fault ≡ NoWorker) ⊎ ((fault ≡ Memory) ⊎ (fault ≡ Mixed)) };
+
+    fn from(fault: WorkFault) -> BuildFault {
+        match fault {
+            WorkFault::NoWorker => BuildFault::NoWorker,
+            WorkFault::Memory => BuildFault::Memory,
+            WorkFault::Mixed => BuildFault::Mixed,
+        }
+    }
+}
+
+/// What the workers share.
+#[derive(Clone, Copy)]
+pub(crate) struct Work<'a, L: Ledger, G: Gate> {
+    pub alloc: Global,
+    pub shared: &'a Shared<L>,
+    /// The modules of the store.
+    pub modules: &'a [Arc<Module>],
+    /// The numbers of the modules that each imports, in order of first import.
+    pub imports: &'a [Vec<usize>],
+    pub gate: &'a G,
+}
+
+/// The published interfaces of these modules.
+fn look_up<L: Ledger, G: Gate, R: Wait>(
+    rt: &R,
+    work: &Work<'_, L, G>,
+    pass: &mut Pass<L>,
+    numbers: &[usize],
+) -> Result<Vec<Arc<Interface>>, WorkFault> {
+    let mut interfaces = Vec::new(work.alloc);
+    for number in numbers {
+        if pass.room() == 0 {
+            return Err(WorkFault::Mixed);
+        }
+        match work.shared.look(rt, pass, *number) {
+            Ok(Some(interface)) => interfaces.push(interface).map_err(|_| WorkFault::Memory)?,
+            Ok(None) => return Err(WorkFault::Mixed),
+            Err(LookFault::Memory) => return Err(WorkFault::Memory),
+        }
+    }
+    Ok(interfaces)
+}
+
+/// Tells the store what a module came to.
+fn settle<L: Ledger, G: Gate, R: Wait>(
+    rt: &R,
+    work: &Work<'_, L, G>,
+    pass: &mut Pass<L>,
+    number: usize,
+    outcome: Outcome,
+) -> Result<(), WorkFault> {
+    if pass.room() == 0 {
+        return Err(WorkFault::Mixed);
+    }
+    let reply = if outcome.is_good() {
+        work.shared.publish(rt, pass, number, outcome)
+    } else {
+        work.shared.fail(rt, pass, number, outcome)
+    };
+    match reply {
+        Ok(()) => Ok(()),
+        Err(_) => Err(WorkFault::Mixed),
+    }
+}
+
+/// Checks a module that was claimed.
+fn check_one<L: Ledger, G: Gate, R: Wait>(
+    rt: &R,
+    work: &Work<'_, L, G>,
+    pass: &mut Pass<L>,
+    number: usize,
+) -> Result<(), WorkFault> {
+    if number >= work.modules.len() || number >= work.imports.len() {
+        return Err(WorkFault::Mixed);
+    }
+    let interfaces = look_up(rt, work, pass, work.imports[number].as_slice())?;
+    work.gate.enter(pass.worker(), number);
+    match check_module(work.alloc, &work.modules[number], interfaces.as_slice()) {
+        Ok(outcome) => settle(rt, work, pass, number, outcome),
+        Err(CheckFault::Memory) => Err(WorkFault::Memory),
+        Err(CheckFault::Imports) => Err(WorkFault::Mixed),
+    }
+}
+
+/// Claims and checks modules until there is none left.
+fn check_all<L: Ledger, G: Gate, R: Wait>(
+    rt: &R,
+    work: &Work<'_, L, G>,
+    pass: &mut Pass<L>,
+) -> Result<(), WorkFault> {
+    for _ in rt.forever() {
+        if pass.room() == 0 {
+            return Err(WorkFault::Mixed);
+        }
+        match work.shared.claim(rt, pass) {
+            Turn::Job(number) => check_one(rt, work, pass, number)?,
+            Turn::Done => return Ok(()),
+        }
+    }
+    unreachable!()
+}
+
+/// Does what a worker does, and stops the build where it ends before it.
+fn run_worker<L: Ledger, G: Gate, R: Wait>(
+    rt: &R,
+    work: &Work<'_, L, G>,
+    pass: &mut Pass<L>,
+) -> Result<(), WorkFault> {
+    let ended = check_all(rt, work, pass);
+    if ended.is_err() && pass.room() > 0 {
+        work.shared.stop(rt, pass);
+    }
+    ended
+}
+
+/// Waits for all workers. A refusal of the store or the checker comes before want of memory.
+fn join_all<R: Threads>(
+    rt: &R,
+    workers: Vec<JoinHandle<Result<(), WorkFault>>>,
+) -> Result<(), WorkFault> {
+    let mut all = Ok(());
+    for worker in workers {
+        match worker.join(rt) {
+            Ok(()) => {}
+            Err(fault) => {
+                if all != Err(WorkFault::Mixed) {
+                    all = Err(fault);
+                }
+            }
+        }
+    }
+    all
+}
+
+/// Runs a worker with each pass, on threads with stacks of this size: as many as can be started.
+pub(crate) fn run_workers<L: Ledger + Send + Sync, G: Gate + Sync, R: Threads + Wait + Sync>(
+    rt: &R,
+    work: &Work<'_, L, G>,
+    passes: &mut [Pass<L>],
+    stack: usize,
+) -> Result<(), WorkFault> {
+    let count = passes.len();
+    thread::scope(thread::scope_env(), rt, move |scope| {
+        let Ok(mut workers) = Vec::with_capacity(work.alloc, count) else {
+            return Err(WorkFault::Memory);
+        };
+        for pass in passes.iter_mut() {
+            let thread = Builder::new().stack_size(stack);
+            if let Ok(worker) = thread.spawn_scoped(scope, move || run_worker(rt, work, pass)) {
+                let _ = workers.push(worker);
+            }
+        }
+        if workers.is_empty() {
+            return Err(WorkFault::NoWorker);
+        }
+        join_all(rt, workers)
+    })
+}

@@ -1,0 +1,13 @@
+//! Whether two modules are the same tree.
+#![tactic(auto)]
+
+mod declarations;
+mod expressions;
+mod headers;
+mod modules;
+mod names;
+mod patterns;
+mod rows;
+mod types;
+
+pub use crate::modules::is_same_module;

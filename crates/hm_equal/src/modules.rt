@@ -1,0 +1,15 @@
+//! Whole modules.
+
+ghost use Rattle.std.specs.Prelude.{◌≡◌, ◌↔◌, IsTrue};
+
+use crate::headers::is_same_header;
+use crate::rows::are_same;
+use hm_syntax::Module;
+
+/// Whether both trees are the same, places included.
+pub fn is_same_module(module: &Module, other: &Module) -> bool
+    ensures { IsTrue result ↔ («module».now ≡ other.now) }
+{
+    is_same_header(&module.header, &other.header)
+        && are_same(module.decls.as_slice(), other.decls.as_slice())
+}

@@ -1,0 +1,13 @@
+pub mod Calls
+pub mod Finishing
+pub mod Following
+pub mod Journals
+pub mod Kept
+pub mod Lists
+pub mod Marking
+pub mod Playing
+pub mod ReadyModules
+pub mod Replies
+pub mod Settling
+pub mod Skipping
+pub mod Steps

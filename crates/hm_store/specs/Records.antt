@@ -1,0 +1,42 @@
+-- What a worker writes down of its calls, and in which order.
+use Rattle.std.specs.Prelude.{◌≡◌, ◌&&◌, ℕ, ◌+◌, ◌≤◌, Bool, true, cond, nat_le, List, [], ◌∷◌, ◌++◌, sum_by}
+use Rattle.hm_store.specs.declared.object.Turn.{Turn}
+use Rattle.hm_store.specs.declared.object.Turn.TheVariants as turn
+use Rattle.hm_store.specs.declared.record.Act.{Act}
+use Rattle.hm_store.specs.declared.record.Act.TheVariants.{Job, Done, Publish, Fail, Stop, Look}
+use Rattle.hm_store.specs.declared.record.Call.{Call}
+
+-- how many entries of the journal a call wrote
+abbrev pub wrote : Act → ℕ
+wrote (Job m) = 1
+wrote Done = 0
+wrote (Publish m) = 1
+wrote (Fail m) = 1
+wrote (Stop first) = cond first 1 0
+wrote (Look m found) = 0
+
+abbrev pub wrote_in : List Call → ℕ
+wrote_in cs = sum_by (λ c. wrote c.act) cs
+
+-- how many entries there are at least, after a call
+abbrev pub known_after : Call → ℕ
+known_after c = c.at + wrote c.act
+
+-- how many entries a worker knows of after its calls, when it knew of n before
+abbrev pub knows : ℕ → List Call → ℕ
+knows n [] = n
+knows n (c ∷ cs) = knows (known_after c) cs
+
+-- no call has its place before what its worker knew
+abbrev pub rises : ℕ → List Call → Bool
+rises n [] = true
+rises n (c ∷ cs) = nat_le n c.at && rises (known_after c) cs
+
+-- one call more, with this reply, at a place that isn't before what the worker knew
+abbrev pub Adds : List Call → Act → List Call → Type 0
+Adds cs a ds = (at : ℕ) × (knows 0 cs ≤ at) × (ds ≡ cs ++ record { at = at; act = a } ∷ [])
+
+-- what is written down of the answer to a claim
+abbrev pub act_of : Turn → Act
+act_of (turn.Job m) = Job m
+act_of turn.Done = Done

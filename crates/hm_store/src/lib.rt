@@ -1,0 +1,14 @@
+//! The store of a build. What its workers do is the journal of a sequential object, the build object: each call is one of its steps, and the
+//! type of the store keeps that the journal is legal.
+#![tactic(auto)]
+
+pub mod laws;
+mod object;
+mod record;
+mod shared;
+mod store;
+
+pub use crate::object::{Claimed, Entry, Refusal, Status, Turn};
+pub use crate::record::{Act, Call, Pass, Record};
+pub use crate::shared::{LookFault, Shared};
+pub use crate::store::Store;

@@ -1,0 +1,150 @@
+//! What a worker writes down of its calls.
+ghost use Rattle.std.specs.Prelude.{◌≡◌, ◌≤◌, ◌<◌, ◌+◌, true, [], ◌∷◌, ◌++◌, ◌^◌, max, IfOk, vec_len, vec_capacity};
+ghost use Rattle.hm_store.specs.Records.{knows, rises, wrote, wrote_in};
+
+use hm_types::Interface;
+use std::alloc::{AllocError, Global};
+use std::sync::Arc;
+use std::sync::ledger::{Book, Ledger, Share};
+
+/// A call that was answered, with its reply.
+#[derive(Drop)]
+pub enum Act {
+    /// A claim that got this module.
+    Job(usize),
+    /// A claim that was told that there is nothing left.
+    Done,
+    /// The publication of this module.
+    Publish(usize),
+    /// The failure of this module.
+    Fail(usize),
+    /// A stop, and whether it was the first.
+    Stop(bool),
+    /// A look-up of this module, and the interface that was found.
+    Look(usize, Option<Arc<Interface>>),
+}
+
+/// A call, and the number of journal entries after which it had its reply.
+#[derive(Drop)]
+pub struct Call {
+    pub at: usize,
+    pub act: Act,
+}
+
+/// The answered calls of a worker, in order.
+#[derive(Drop)]
+pub struct Record {
+    pub worker: usize,
+    pub calls: Vec<Call>,
+}
+
+/// What a worker makes its calls with: its number, its record so far, and the room for calls that it has left.
+#[derive(Drop)]
+pub struct Pass<L: Ledger> {
+    pub worker: usize,
+    pub calls: Vec<Call>,
+    pub room: usize,
+    known: usize,
+    pub share: Share<L>,
+    pub ghost reserved: { vec_len calls + room ≤ vec_capacity calls },
+    pub ghost ordered: { rises 0 calls.items ≡ true },
+    pub ghost knowing: { known ≡ knows 0 calls.items },
+    pub ghost counted: { share.amount ≡ wrote_in calls.items },
+    pub ghost backed: { 0 < share.parts },
+    pub ghost bounded: { known + room < 2 ^ 63 },
+    pub ghost small: { room < 2 ^ 62 },
+}
+
+impl<L: Ledger> Pass<L> {
+    /// A pass with an empty record.
+    pub(crate) fn new(
+        alloc: Global,
+        worker: usize,
+        room: usize,
+        share: Share<L>,
+    ) -> Result<Pass<L>, AllocError>
+        requires share { (share.amount ≡ 0) × (0 < share.parts) }
+        requires room { room < 2 ^ 62 }
+        ensures worker { IfOk result (λ p. p.worker ≡ worker) }
+        ensures room { IfOk result (λ p. p.room ≡ room) }
+        ensures empty { IfOk result (λ p. p.calls.items ≡ []) }
+        ensures parts { IfOk result (λ p. p.share.parts ≡ share.parts) }
+    {
+        let calls = Vec::with_capacity(alloc, room)?;
+        Ok(Pass {
+            worker,
+            calls,
+            room,
+            known: 0,
+            share,
+        })
+    }
+
+    /// Writes down a call that wrote an entry.
+    #[tactic(auto, using(crate::proofs::Calls::rises_more, crate::proofs::Calls::knows_more, crate::proofs::Calls::wrote_more))]
+    pub(crate) fn wrote(&mut self, book: &mut Book<L>, entries: usize, act: Act)
+        requires room { 0 < self.old.room }
+        requires writes { wrote act ≡ 1 }
+        requires place { entries + self.old.room < 2 ^ 63 }
+        ensures total { book.new.total ≡ book.old.total + 1 }
+        ensures calls { self.new.calls.items ≡ self.old.calls.items ++ record { at = max entries (knows 0 self.old.calls.items); act = act } ∷ [] }
+        ensures worker { self.new.worker ≡ self.old.worker }
+        ensures room { self.new.room + 1 ≡ self.old.room }
+        ensures parts { self.new.share.parts ≡ self.old.share.parts }
+    {
+        let at = entries.max(self.known);
+        book.add(&mut self.share, 1);
+        self.calls.push_reserved(Call { at, act });
+        self.known = at + 1;
+        self.room -= 1;
+    }
+
+    /// Writes down a call that wrote none.
+    #[tactic(auto, using(crate::proofs::Calls::rises_more, crate::proofs::Calls::knows_more, crate::proofs::Calls::wrote_more))]
+    pub(crate) fn read(&mut self, entries: usize, act: Act)
+        requires room { 0 < self.old.room }
+        requires writes { wrote act ≡ 0 }
+        requires place { entries + self.old.room < 2 ^ 63 }
+        ensures calls { self.new.calls.items ≡ self.old.calls.items ++ record { at = max entries (knows 0 self.old.calls.items); act = act } ∷ [] }
+        ensures worker { self.new.worker ≡ self.old.worker }
+        ensures room { self.new.room + 1 ≡ self.old.room }
+        ensures parts { self.new.share.parts ≡ self.old.share.parts }
+    {
+        let at = entries.max(self.known);
+        self.calls.push_reserved(Call { at, act });
+        self.known = at;
+        self.room -= 1;
+    }
+
+    /// The worker's number.
+    pub fn worker(&self) -> usize
+        ensures { result ≡ self.now.worker }
+    {
+        self.worker
+    }
+
+    /// How many calls can still be made with it.
+    pub fn room(&self) -> usize
+        ensures { result ≡ self.now.room }
+    {
+        self.room
+    }
+
+    /// The record, and the share of the ledger that counts the journal entries that its calls wrote.
+    pub fn into_record(self) -> (Record, Share<L>)
+        ensures worker { result.0.worker ≡ self.worker }
+        ensures calls { result.0.calls ≡ self.calls }
+        ensures ordered { rises 0 result.0.calls.items ≡ true }
+        ensures counted { result.1.amount ≡ wrote_in result.0.calls.items }
+        ensures parts { result.1.parts ≡ self.share.parts }
+    {
+        let Pass {
+            worker,
+            calls,
+            room: _,
+            known: _,
+            share,
+        } = self;
+        (Record { worker, calls }, share)
+    }
+}

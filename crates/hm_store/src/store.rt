@@ -1,0 +1,261 @@
+//! The build store: each call is one step of the build object.
+ghost use Rattle.std.specs.Prelude.{◌≡◌, ◌<◌, ◌^◌, IfOk, None, length, map, not, false, option_map, replicate};
+ghost use Rattle.std.specs.Arc.{arc_value};
+ghost use Rattle.std.specs.Option.{option_copied};
+ghost use Rattle.hm_graph.specs.Digraph.{lists};
+ghost use Rattle.hm_verdicts.specs.Sets.{IsLawfulSet};
+ghost use Rattle.hm_check.specs.Outcomes.{IsGood, verdict_of};
+ghost use Rattle.hm_store.specs.Builds.{IsAllSettled, IsLegal, IsNew, Settles, after_claim, after_stop, interface_at, kept_at, state_of, status_by};
+ghost use Rattle.hm_store.specs.Objects.{reply_of, status_at};
+ghost use Rattle.hm_store.specs.Plans.{AreDependents};
+ghost use Rattle.hm_store.specs.declared.object.Claimed.TheVariants.{Done};
+ghost use Rattle.hm_store.specs.declared.object.Entry.TheVariants.{Fail, Publish};
+
+use crate::object::{Claimed, Entry, Refusal, Status};
+use hm_check::{Outcome, Verdict};
+use hm_graph::Plan;
+use hm_syntax::Module;
+use hm_types::Interface;
+use readiness::{reply_at, skip_all, status_at};
+use std::alloc::{AllocError, Global};
+use std::marker::Model;
+use std::sync::Arc;
+
+mod audit;
+mod readiness;
+mod refusing;
+
+/// A build: its modules, which module imports which, the journal, and what came of each module. Its type keeps that the journal is legal, that
+/// the statuses are those after the journal, and that each outcome is right for the published interfaces of its module's imports.
+#[derive(Drop)]
+pub struct Store {
+    modules: Vec<Arc<Module>>,
+    plan: Plan,
+    dependents: Vec<Vec<usize>>,
+    statuses: Vec<Status>,
+    outcomes: Vec<Option<Outcome>>,
+    journal: Vec<Entry>,
+    stopped: bool,
+}
+
+impl Model for Store {
+    ghost use Rattle.std.specs.Coded.{codes};
+    ghost use Rattle.hm_syntax.specs.Codes.{coded_declaration};
+    ghost use Rattle.hm_types.specs.Interfaces.{coded_exports};
+    ghost use Rattle.hm_store.specs.Builds.{Build};
+    ghost use Rattle.hm_store.specs.StoresInside.{IsKept, build};
+
+    ghost Value = { Build };
+
+    ghost coded = { Prim.hlevel (codes, coded_declaration, coded_exports) };
+
+    ghost view = { build };
+
+    ghost invariant = { IsKept };
+}
+
+impl Store {
+    /// A store for these modules, with an empty journal. All memory that its steps need is taken now.
+    pub fn new(alloc: Global, modules: Vec<Arc<Module>>, plan: Plan) -> Result<Store, AllocError>
+        requires { IsLawfulSet (record { modules = map arc_value modules.items; plan = plan }) }
+        ensures new { IfOk result (IsNew (map arc_value modules.items) plan) }
+    {
+        let count = modules.len();
+        let dependents = dependent_rows(alloc, &plan)?;
+        let statuses = Vec::from_elem(alloc, Status::Waiting, count)?;
+        let outcomes = no_outcomes(alloc, count)?;
+        let journal = Vec::with_capacity(alloc, 2 * count + 1)?;
+        Ok(Store {
+            modules,
+            plan,
+            dependents,
+            statuses,
+            outcomes,
+            journal,
+            stopped: false,
+        })
+    }
+
+    /// The modules, numbered from 0.
+    pub fn modules(&self) -> &[Arc<Module>]
+        ensures { map arc_value result.now ≡ self.now.modules }
+    {
+        self.modules.as_slice()
+    }
+
+    /// Which module imports which.
+    pub fn plan(&self) -> &Plan
+        ensures { result.now ≡ self.now.given.imports }
+    {
+        &self.plan
+    }
+
+    /// The journal so far.
+    pub fn journal(&self) -> &[Entry]
+        ensures journal { result.now ≡ self.now.journal }
+        ensures legal { IsLegal self.now }
+    {
+        self.journal.as_slice()
+    }
+
+    /// How many entries the journal has.
+    pub(crate) fn entries(&self) -> usize
+        ensures is { result ≡ length self.now.journal }
+        ensures few { result < 2 ^ 62 }
+    {
+        self.journal.len()
+    }
+
+    /// The status of a module.
+    pub fn status(&self, number: usize) -> Status
+        requires { number < length self.now.modules }
+        ensures { result ≡ status_at (state_of self.now).statuses number }
+    {
+        self.status_or_skipped(number)
+    }
+
+    /// The status of a module; `Skipped` for a number that no module has.
+    fn status_or_skipped(&self, number: usize) -> Status
+        ensures { result ≡ status_at (state_of self.now).statuses number }
+    {
+        status_at(&self.statuses, number)
+    }
+
+    /// Whether the build was stopped.
+    pub fn is_stopped(&self) -> bool
+        ensures { result ≡ (state_of self.now).stopped }
+    {
+        self.stopped
+    }
+
+    /// What was found out of a module; None where it isn't published and hasn't failed.
+    pub fn verdict(&self, number: usize) -> Option<&Verdict>
+        requires { number < length self.now.modules }
+        ensures { option_map verdict_of (option_copied result) ≡ option_map (λ c. c.verdict) (kept_at self.now.kept number) }
+    {
+        Some(self.outcomes[number].as_ref()?.verdict())
+    }
+
+    /// Claims the least module that waits and whose imports are all published.
+    pub fn claim(&mut self, worker: usize) -> Claimed
+        ensures reply { result ≡ reply_of self.old.given (state_of self.old) }
+        ensures step { self.new ≡ after_claim self.old worker result }
+        // Where nothing is left to do and the build wasn't stopped, each module is settled.
+        ensures done { result ≡ Done → (state_of self.old).stopped ≡ false → IsAllSettled self.new }
+    {
+        let reply = reply_at(&self.plan, &self.statuses, self.stopped);
+        if let Claimed::Job(number) = reply {
+            self.statuses[number] = Status::Claimed(worker);
+            self.journal.push_reserved(Entry::Claim {
+                worker,
+                module: number,
+            });
+        }
+        reply
+    }
+
+    /// Publishes the interface of a module that this worker has claimed.
+    pub fn publish(
+        &mut self,
+        worker: usize,
+        number: usize,
+        outcome: Outcome,
+    ) -> Result<(), (Refusal, Outcome)>
+        requires { IsGood outcome.verdict }
+        ensures { Settles self.old worker number outcome (Publish worker number) self.new result }
+    {
+        match self.refusal(worker, number, &outcome) {
+            Some(refusal) => Err((refusal, outcome)),
+            None => {
+                self.statuses[number] = status_by(outcome.verdict());
+                self.outcomes[number] = Some(outcome);
+                self.journal.push_reserved(Entry::Publish {
+                    worker,
+                    module: number,
+                });
+                Ok(())
+            }
+        }
+    }
+
+    /// Tells that a module that this worker has claimed is faulty. The modules that depend on it are skipped.
+    pub fn fail(
+        &mut self,
+        worker: usize,
+        number: usize,
+        outcome: Outcome,
+    ) -> Result<(), (Refusal, Outcome)>
+        requires { ¬ IsGood outcome.verdict }
+        ensures { Settles self.old worker number outcome (Fail worker number) self.new result }
+    {
+        match self.refusal(worker, number, &outcome) {
+            Some(refusal) => Err((refusal, outcome)),
+            None => {
+                self.statuses[number] = status_by(outcome.verdict());
+                self.outcomes[number] = Some(outcome);
+                skip_all(&mut self.statuses, &self.dependents[number]);
+                self.journal.push_reserved(Entry::Fail {
+                    worker,
+                    module: number,
+                });
+                Ok(())
+            }
+        }
+    }
+
+    /// Stops the build: every later claim is told that there is nothing left to do. True the first time; after that nothing changes.
+    pub fn stop(&mut self, worker: usize) -> bool
+        ensures reply { result ≡ not (state_of self.old).stopped }
+        ensures step { self.new ≡ after_stop self.old worker result }
+    {
+        let first = !self.stopped;
+        if first {
+            self.stopped = true;
+            self.journal.push_reserved(Entry::Stop { worker });
+        }
+        first
+    }
+
+    /// The published interface of a module; None where it isn't published, and for a number that no module has.
+    pub fn look(&self, number: usize) -> Option<&Arc<Interface>>
+        ensures { option_map arc_value (option_copied result) ≡ interface_at self.now.kept number }
+    {
+        match self.outcomes.get(number)?.as_ref()?.verdict() {
+            Verdict::Good(interface) => Some(interface),
+            Verdict::Faulty(_) => None,
+        }
+    }
+}
+
+/// The status of a module with this verdict.
+fn status_by(verdict: &Verdict) -> Status
+    ensures { result ≡ status_by (verdict_of verdict.now) }
+{
+    match verdict {
+        Verdict::Good(_) => Status::Published,
+        Verdict::Faulty(_) => Status::Failed,
+    }
+}
+
+/// For each module the modules that depend on it.
+fn dependent_rows(alloc: Global, plan: &Plan) -> Result<Vec<Vec<usize>>, AllocError>
+    ensures { IfOk result (λ rows. AreDependents (record { imports = plan.now; dependents = lists rows.items })) }
+{
+    let mut rows = Vec::new(alloc);
+    for number in 0..plan.len() {
+        let row = plan.dependents(alloc, number)?;
+        rows.push(row)?;
+    }
+    Ok(rows)
+}
+
+/// No outcome yet, for so many modules.
+fn no_outcomes(alloc: Global, count: usize) -> Result<Vec<Option<Outcome>>, AllocError>
+    ensures { IfOk result (λ outcomes. outcomes.items ≡ replicate count None) }
+{
+    let mut outcomes = Vec::new(alloc);
+    for _ in 0..count {
+        outcomes.push(None)?;
+    }
+    Ok(outcomes)
+}

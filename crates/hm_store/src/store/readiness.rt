@@ -1,0 +1,78 @@
+//! What the statuses of the modules say: which module is ready, and what is replied to a worker that asks for one.
+ghost use Rattle.std.specs.Prelude.{◌≡◌, ◌<◌, [], length};
+ghost use Rattle.std.specs.List.{list_all, list_any};
+ghost use Rattle.hm_store.specs.Objects.{is_claimed, is_published, is_ready, least_below, reply_of, skip_all as all_skipped, status_at};
+
+use crate::object::{Claimed, Status};
+use hm_graph::Plan;
+
+/// The status of a module; `Skipped` for a number that no module has.
+pub(super) fn status_at(statuses: &[Status], number: usize) -> Status
+    ensures { result ≡ status_at statuses.now number }
+{
+    statuses.get(number).copied().unwrap_or(Status::Skipped)
+}
+
+/// Whether the modules with these numbers are all published.
+fn are_all_published(statuses: &[Status], numbers: &[usize]) -> bool
+    ensures { result ≡ list_all (λ k. is_published (status_at statuses.now k)) numbers.now }
+{
+    numbers
+        .iter()
+        .all(|number| status_at(statuses, *number).is_published())
+}
+
+/// Whether a module waits and its imports are all published.
+fn is_ready_at(plan: &Plan, statuses: &[Status], number: usize) -> bool
+    requires { number < length plan.now }
+    ensures { result ≡ is_ready (record { imports = plan.now; dependents = [] }) statuses.now number }
+{
+    status_at(statuses, number).is_waiting() && are_all_published(statuses, plan.imports(number))
+}
+
+/// Whether some module is claimed.
+fn is_any_claimed(statuses: &[Status]) -> bool
+    ensures { result ≡ list_any is_claimed statuses.now }
+{
+    statuses.iter().any(|status| status.is_claimed())
+}
+
+/// The least module that is ready.
+#[tactic(auto, using(crate::proofs::Replies::least_is, crate::proofs::Replies::none_more))]
+fn first_ready(plan: &Plan, statuses: &[Status]) -> Option<usize>
+    requires { length statuses.now ≡ length plan.now }
+    ensures { result ≡ least_below (is_ready (record { imports = plan.now; dependents = [] }) statuses.now) (length statuses.now) }
+{
+    for number in 0..statuses.len() {
+        if is_ready_at(plan, statuses, number) {
+            return Some(number);
+        }
+    }
+    None
+}
+
+/// The reply to a claim. It doesn't depend on which modules depend on a module.
+pub(super) fn reply_at(plan: &Plan, statuses: &[Status], stopped: bool) -> Claimed
+    requires { length statuses.now ≡ length plan.now }
+    ensures { result ≡ reply_of (record { imports = plan.now; dependents = [] }) (record { statuses = statuses.now; stopped = stopped }) }
+{
+    if stopped {
+        return Claimed::Done;
+    }
+    match first_ready(plan, statuses) {
+        Some(number) => Claimed::Job(number),
+        None if is_any_claimed(statuses) => Claimed::Later,
+        None => Claimed::Done,
+    }
+}
+
+/// Skips those of the modules with these numbers that wait.
+pub(super) fn skip_all(statuses: &mut [Status], numbers: &[usize])
+    ensures { statuses.new ≡ all_skipped statuses.old numbers.now }
+{
+    for number in numbers {
+        if status_at(statuses, *number).is_waiting() {
+            statuses[*number] = Status::Skipped;
+        }
+    }
+}
