@@ -1,6 +1,7 @@
 //! Expressions and declarations (Haskell 98 Report, sections 3 and 4.4).
 ghost use Rattle.std.specs.Prelude.{◌≡◌, ◌≤◌, length, [], ◌∷◌, false, IfOk};
 ghost use Rattle.hm_syntax.specs.Lists.{bodies};
+ghost use Rattle.hm_syntax.specs.Trees.{application};
 ghost use Rattle.hm_parse.specs.Reading.Basics.{peek, tail, is_at, loop, behind, next_of, closing, tuple_behind, list_in};
 ghost use Rattle.hm_parse.specs.Reading.Expressions.{tuple_of_expressions, list_of_expressions, next_item_of, var_at, exp_with, aexp_step, args_from, guarded_in, next_guarded, bodies_with, where_with, rhs_with, alt_with, alts_with, case_with, opd_with, link, typed_behind, consed, cons_expression, open_by, lambda_with, let_with, if_with, signature_with, begins_binding, binding_of, binding_with, decl_with, all_expressions};
 ghost use Rattle.hm_parse.specs.Reading.Answers.{Gives};
@@ -37,9 +38,10 @@ impl Parser<'_> {
     fn typed(&mut self, alloc: Global, e: Expr) -> Result<Expr, ParseFault>
         ensures { Gives (λ whole. (whole, self.new)) result (typed_behind e self.old) }
     {
+        let e = Box::new(alloc, e)?;
         let ty = self.type_expr(alloc)?;
         Ok(Expr {
-            kind: ExprKind::Typed(Box::new(alloc, e)?, ty),
+            kind: ExprKind::Typed(e, ty),
         })
     }
 
@@ -147,16 +149,15 @@ impl Parser<'_> {
         ensures { Gives (λ e. (e, self.new)) result (if_with all_expressions self.old) }
     {
         let test = self.exp(alloc, Context::Elsewhere)?;
+        let test = Box::new(alloc, test)?;
         self.expect(Symbol::Then)?;
         let consequence = self.exp(alloc, Context::Elsewhere)?;
+        let consequence = Box::new(alloc, consequence)?;
         self.expect(Symbol::Else)?;
         let alternative = self.exp(alloc, context)?;
+        let alternative = Box::new(alloc, alternative)?;
         Ok(Expr {
-            kind: ExprKind::If(
-                Box::new(alloc, test)?,
-                Box::new(alloc, consequence)?,
-                Box::new(alloc, alternative)?,
-            ),
+            kind: ExprKind::If(test, consequence, alternative),
         })
     }
 
@@ -174,9 +175,7 @@ impl Parser<'_> {
         let mut head = self.aexp(alloc)?;
         'apply: while self.symbol().begins_aexp() {
             let arg = self.aexp(alloc)?;
-            head = Expr {
-                kind: ExprKind::Apply(Box::new(alloc, head)?, Box::new(alloc, arg)?),
-            };
+            head = apply(alloc, head, arg)?;
         }
         Ok(head)
     }
@@ -188,11 +187,12 @@ impl Parser<'_> {
         ensures { Gives (λ e. (e, self.new)) result (case_with all_expressions self.old) }
     {
         let subject = self.exp(alloc, Context::Elsewhere)?;
+        let subject = Box::new(alloc, subject)?;
         self.expect(Symbol::Of)?;
         self.expect(Symbol::LeftBrace)?;
         let alts = self.alts(alloc)?;
         Ok(Expr {
-            kind: ExprKind::Case(Box::new(alloc, subject)?, alts),
+            kind: ExprKind::Case(subject, alts),
         })
     }
 
@@ -556,10 +556,17 @@ fn cons(alloc: Global, operand: Expr, colon: Name, rest: Expr) -> Result<Expr, A
     let colon = Expr {
         kind: ExprKind::Con(colon),
     };
-    let half = Expr {
-        kind: ExprKind::Apply(Box::new(alloc, colon)?, Box::new(alloc, operand)?),
-    };
+    let half = apply(alloc, colon, operand)?;
+    apply(alloc, half, rest)
+}
+
+/// A function applied to an argument.
+fn apply(alloc: Global, function: Expr, argument: Expr) -> Result<Expr, AllocError>
+    ensures { IfOk result (λ e. e ≡ application function argument) }
+{
+    let function = Box::new(alloc, function)?;
+    let argument = Box::new(alloc, argument)?;
     Ok(Expr {
-        kind: ExprKind::Apply(Box::new(alloc, half)?, Box::new(alloc, rest)?),
+        kind: ExprKind::Apply(function, argument),
     })
 }
