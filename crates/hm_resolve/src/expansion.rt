@@ -28,10 +28,10 @@ fn copy_type(alloc: Global, ty: &TypeExpr) -> Result<TypeExpr, AllocError>
             })
         }
         TypeKind::Arrow(from, to) => {
-            let from = copy_type(alloc, from)?;
-            let to = copy_type(alloc, to)?;
+            let from = Box::new(alloc, copy_type(alloc, from)?)?;
+            let to = Box::new(alloc, copy_type(alloc, to)?)?;
             Ok(TypeExpr {
-                kind: TypeKind::Arrow(Box::new(alloc, from)?, Box::new(alloc, to)?),
+                kind: TypeKind::Arrow(from, to),
             })
         }
         TypeKind::Tuple(parts) => {
@@ -41,9 +41,9 @@ fn copy_type(alloc: Global, ty: &TypeExpr) -> Result<TypeExpr, AllocError>
             })
         }
         TypeKind::List(element) => {
-            let element = copy_type(alloc, element)?;
+            let element = Box::new(alloc, copy_type(alloc, element)?)?;
             Ok(TypeExpr {
-                kind: TypeKind::List(Box::new(alloc, element)?),
+                kind: TypeKind::List(element),
             })
         }
         TypeKind::Unit => Ok(TypeExpr {
@@ -108,10 +108,10 @@ fn applied(
                     kind: TypeKind::Unit,
                 });
             }
-            let from = copy_type(alloc, &parts[0])?;
-            let to = copy_type(alloc, &parts[1])?;
+            let from = Box::new(alloc, copy_type(alloc, &parts[0])?)?;
+            let to = Box::new(alloc, copy_type(alloc, &parts[1])?)?;
             Ok(TypeExpr {
-                kind: TypeKind::Arrow(Box::new(alloc, from)?, Box::new(alloc, to)?),
+                kind: TypeKind::Arrow(from, to),
             })
         }
         Head::List => {
@@ -120,9 +120,9 @@ fn applied(
                     kind: TypeKind::Unit,
                 });
             }
-            let element = copy_type(alloc, &parts[0])?;
+            let element = Box::new(alloc, copy_type(alloc, &parts[0])?)?;
             Ok(TypeExpr {
-                kind: TypeKind::List(Box::new(alloc, element)?),
+                kind: TypeKind::List(element),
             })
         }
         Head::Unit => Ok(TypeExpr {

@@ -72,10 +72,10 @@ impl Resolving<'_> {
         ensures tree { IfOk result (λ e. e ≡ expression_with (resolver_of self.old.known) (locals_of self.old) (application function.now argument.now)) }
         ensures state { OnOk result (self.new ≡ noting (expression_faults self.old.known (locals_of self.old) (application function.now argument.now)) self.old) }
     {
-        let function = self.expr(alloc, function)?;
-        let argument = self.expr(alloc, argument)?;
+        let function = Box::new(alloc, self.expr(alloc, function)?)?;
+        let argument = Box::new(alloc, self.expr(alloc, argument)?)?;
         Ok(Expr {
-            kind: ExprKind::Apply(Box::new(alloc, function)?, Box::new(alloc, argument)?),
+            kind: ExprKind::Apply(function, argument),
         })
     }
 
@@ -88,10 +88,10 @@ impl Resolving<'_> {
     {
         let (pats, names) = self.head(alloc, pats)?;
         self.enter(names)?;
-        let body = self.expr(alloc, body)?;
+        let body = Box::new(alloc, self.expr(alloc, body)?)?;
         self.leave();
         Ok(Expr {
-            kind: ExprKind::Lambda(pats, Box::new(alloc, body)?),
+            kind: ExprKind::Lambda(pats, body),
         })
     }
 
@@ -104,10 +104,10 @@ impl Resolving<'_> {
     {
         self.enter_list(alloc, local)?;
         let local = self.decl_list(alloc, local)?;
-        let body = self.expr(alloc, body)?;
+        let body = Box::new(alloc, self.expr(alloc, body)?)?;
         self.leave();
         Ok(Expr {
-            kind: ExprKind::Let(local, Box::new(alloc, body)?),
+            kind: ExprKind::Let(local, body),
         })
     }
 
@@ -124,15 +124,11 @@ impl Resolving<'_> {
         ensures tree { IfOk result (λ e. e ≡ expression_with (resolver_of self.old.known) (locals_of self.old) (if_expression test.now consequence.now alternative.now)) }
         ensures state { OnOk result (self.new ≡ noting (expression_faults self.old.known (locals_of self.old) (if_expression test.now consequence.now alternative.now)) self.old) }
     {
-        let test = self.expr(alloc, test)?;
-        let consequence = self.expr(alloc, consequence)?;
-        let alternative = self.expr(alloc, alternative)?;
+        let test = Box::new(alloc, self.expr(alloc, test)?)?;
+        let consequence = Box::new(alloc, self.expr(alloc, consequence)?)?;
+        let alternative = Box::new(alloc, self.expr(alloc, alternative)?)?;
         Ok(Expr {
-            kind: ExprKind::If(
-                Box::new(alloc, test)?,
-                Box::new(alloc, consequence)?,
-                Box::new(alloc, alternative)?,
-            ),
+            kind: ExprKind::If(test, consequence, alternative),
         })
     }
 
@@ -143,10 +139,10 @@ impl Resolving<'_> {
         ensures tree { IfOk result (λ e. e ≡ expression_with (resolver_of self.old.known) (locals_of self.old) (case_expression subject.now (alternatives alts.now))) }
         ensures state { OnOk result (self.new ≡ noting (expression_faults self.old.known (locals_of self.old) (case_expression subject.now (alternatives alts.now))) self.old) }
     {
-        let subject = self.expr(alloc, subject)?;
+        let subject = Box::new(alloc, self.expr(alloc, subject)?)?;
         let alts = self.alt_row(alloc, alts)?;
         Ok(Expr {
-            kind: ExprKind::Case(Box::new(alloc, subject)?, alts),
+            kind: ExprKind::Case(subject, alts),
         })
     }
 
@@ -157,10 +153,10 @@ impl Resolving<'_> {
         ensures tree { IfOk result (λ e. e ≡ expression_with (resolver_of self.old.known) (locals_of self.old) (typed_expression inner.now ty.now)) }
         ensures state { OnOk result (self.new ≡ noting (expression_faults self.old.known (locals_of self.old) (typed_expression inner.now ty.now)) self.old) }
     {
-        let inner = self.expr(alloc, inner)?;
+        let inner = Box::new(alloc, self.expr(alloc, inner)?)?;
         let ty = self.type_expr(alloc, ty)?;
         Ok(Expr {
-            kind: ExprKind::Typed(Box::new(alloc, inner)?, ty),
+            kind: ExprKind::Typed(inner, ty),
         })
     }
 

@@ -27,10 +27,10 @@ impl Resolving<'_> {
                 Ok(self.constructed(alloc, name, args)?)
             }
             TypeKind::Arrow(from, to) => {
-                let from = self.type_expr(alloc, from)?;
-                let to = self.type_expr(alloc, to)?;
+                let from = Box::new(alloc, self.type_expr(alloc, from)?)?;
+                let to = Box::new(alloc, self.type_expr(alloc, to)?)?;
                 Ok(TypeExpr {
-                    kind: TypeKind::Arrow(Box::new(alloc, from)?, Box::new(alloc, to)?),
+                    kind: TypeKind::Arrow(from, to),
                 })
             }
             TypeKind::Tuple(parts) => {
@@ -40,9 +40,9 @@ impl Resolving<'_> {
                 })
             }
             TypeKind::List(element) => {
-                let element = self.type_expr(alloc, element)?;
+                let element = Box::new(alloc, self.type_expr(alloc, element)?)?;
                 Ok(TypeExpr {
-                    kind: TypeKind::List(Box::new(alloc, element)?),
+                    kind: TypeKind::List(element),
                 })
             }
             TypeKind::Unit => Ok(TypeExpr {
