@@ -277,6 +277,21 @@ fn add_imported_constructors<'a>(
     Ok(())
 }
 
+/// The constructors of a module's declarations and of these interfaces.
+fn known_constructors<'a>(
+    alloc: Global,
+    home: &'a str,
+    decls: &'a [Decl],
+    interfaces: &[&'a Interface],
+) -> Result<IndexMap<EntityKey<'a>, usize>, AllocError>
+    ensures { IfOk result (λ known. KnowsConstructors (declared_constructors home.now decls.now ++ imported_constructors (map (λ f. f.now) interfaces.now)) (map known_arity known.entries)) }
+{
+    let mut constructors = IndexMap::new(alloc);
+    add_declared_constructors(&mut constructors, home, decls)?;
+    add_imported_constructors(&mut constructors, interfaces)?;
+    Ok(constructors)
+}
+
 impl<'a> Tables<'a> {
     /// What is known in a module for these interfaces, but the module's own synonyms.
     pub fn of(
@@ -290,11 +305,9 @@ impl<'a> Tables<'a> {
         let decls = program.decls.as_slice();
         let mut types = IndexMap::new(alloc);
         let mut imported = IndexMap::new(alloc);
-        let mut constructors = IndexMap::new(alloc);
         add_declared_types(&mut types, home, decls)?;
         add_imported_types(&mut types, &mut imported, interfaces)?;
-        add_declared_constructors(&mut constructors, home, decls)?;
-        add_imported_constructors(&mut constructors, interfaces)?;
+        let constructors = known_constructors(alloc, home, decls, interfaces)?;
         Ok(Tables {
             types,
             constructors,

@@ -1,7 +1,7 @@
 use Rattle.std.proofs.Common.{[], map, Bor}
 use Rattle.hm_types.specs.Interfaces.{Exports as Interface}
-use Rattle.hm_imports.specs.KnownTables.{known_arity, known_imported, KnowsTypes, KnowsConstructors}
-use Rattle.hm_imports.proofs.FirstDescriptions.{knows_nothing, knows_no_constructor, types_of_module, constructors_of_module}
+use Rattle.hm_imports.specs.KnownTables.{known_arity, known_imported, KnowsTypes}
+use Rattle.hm_imports.proofs.FirstDescriptions.{knows_nothing, types_of_module, constructors_of_module}
 use Rattle.hm_imports.proofs.tables.Tables.of.Goals as goal
 
 pub returns : goal.returns
@@ -11,10 +11,8 @@ returns c =
     knows_nothing _ _ c.new-types.ensures.empty c.new-imported.ensures.empty in
     let declared = c.in_ok-add_declared_types.ensures [] (map known_imported c.new-imported.result.entries) no_types in
     let types = c.in_ok-add_imported_types.ensures _ declared in
-    let no_constructors : KnowsConstructors [] (map known_arity c.new-constructors.result.entries) = knows_no_constructor _ c.new-constructors.ensures.empty in
-    let constructors = c.in_ok-add_imported_constructors.ensures _ (c.in_ok-add_declared_constructors.ensures [] no_constructors) in
     record {
       types = types_of_module c.args.program.now fs _ _ (map known_arity c.add_imported_types.new.types.entries) (map known_imported c.add_imported_types.new.synonyms.entries) c.new.result.entries
           c.as_str-home.ensures c.as_slice-decls.ensures c.new.ensures.empty types;
-      constructors = constructors_of_module c.args.program.now fs _ _ (map known_arity c.add_imported_constructors.new.constructors.entries) c.as_str-home.ensures c.as_slice-decls.ensures constructors;
+      constructors = constructors_of_module c.args.program.now fs _ _ (map known_arity c.in_ok-constructors.constructors.entries) c.as_str-home.ensures c.as_slice-decls.ensures c.in_ok-constructors.ensures;
     }
