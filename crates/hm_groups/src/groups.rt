@@ -1,9 +1,9 @@
 //! The units of a declaration list (Haskell 98 Report, section 4.5.1), in an order in which each comes after those that it depends on.
 
 ghost use Rattle.std.specs.Prelude.{◌≡◌, ℕ, IfOk, Err, length};
-ghost use Rattle.hm_graph.specs.Digraph.{lists};
+ghost use Rattle.hm_graph.specs.Digraph.{AreGroups, Graph, lists};
 ghost use Rattle.hm_syntax.specs.Lists.{declarations};
-ghost use Rattle.hm_groups.specs.Nodes.{list_nodes};
+ghost use Rattle.hm_groups.specs.Nodes.{IsGraphOf, list_nodes, owners};
 ghost use Rattle.hm_groups.specs.Members.{AreRows};
 ghost use Rattle.hm_typing.specs.Names.{IsDistinct};
 ghost use Rattle.hm_typing.specs.Syntax.{names};
@@ -19,7 +19,7 @@ use crate::signed::signed_texts;
 use hm_syntax::Decl;
 use hm_unify::UnifyFault;
 use indexmap::IndexMap;
-use std::alloc::Global;
+use std::alloc::{AllocError, Global};
 
 /// The units of a list without signatures.
 #[derive(Drop)]
@@ -43,6 +43,19 @@ fn check_distinct(alloc: Global, decls: &[Decl]) -> Result<(), UnifyFault>
     Ok(())
 }
 
+/// The groups of a list's graph, in their order.
+fn groups_of(
+    alloc: Global,
+    list: &NodeList<'_>,
+    decls: &[Decl],
+) -> Result<Vec<Vec<usize>>, AllocError>
+    requires nodes { list.now.numbers ≡ list_nodes (declarations decls.now) (declarations decls.now) }
+    requires owners { list.now.owners.items ≡ owners (declarations decls.now) (declarations decls.now) }
+    ensures { IfOk result (λ groups. (graph : Graph) × IsGraphOf (declarations decls.now) graph × AreGroups graph (lists groups.items)) }
+{
+    graph_of(alloc, list, decls)?.groups()
+}
+
 /// The units of a list. Where a name is bound twice the list has no typing, and the answer is `Clash`.
 pub fn binding_groups<'a>(alloc: Global, decls: &'a [Decl]) -> Result<BindingGroups<'a>, UnifyFault>
     ensures nodes { IfOk result (λ found. found.numbers ≡ list_nodes (declarations decls.now) (declarations decls.now)) }
@@ -55,8 +68,7 @@ pub fn binding_groups<'a>(alloc: Global, decls: &'a [Decl]) -> Result<BindingGro
     let signed = signed_texts(alloc, decls)?;
     let list = node_list(alloc, &signed, decls)?;
     list.numbers.has_each_once();
-    let graph = graph_of(alloc, &list, decls)?;
-    let groups = graph.groups()?;
+    let groups = groups_of(alloc, &list, decls)?;
     let NodeList { numbers, owners } = list;
     let rows = rows_of(alloc, &owners, numbers.len(), decls)?;
     Ok(BindingGroups {

@@ -17,7 +17,7 @@ returns-clause-groups c = λ k.
     subst (λ ns. AreNumberedGroups (bindings_of k (declarations c.args.decls.now) (declarations c.args.decls.now)) (node_name k (declarations c.args.decls.now)) (length ns) (lists c.in_ok-groups.groups.items)) (sym nodes)
     (are_numbered k (declarations c.args.decls.now)
     (subst (λ ns. (x : Variable) (i j : ℕ) → slice_get ns i ≡ Some (Some x) → slice_get ns j ≡ Some (Some x) → i ≡ j) nodes c.has_each_once.ensures)
-    (c.in_ok-check_distinct.ensures.distinct k) c.in_ok-graph.graph c.in_ok-graph.ensures (lists c.in_ok-groups.groups.items) c.in_ok-groups.ensures.groups)
+    (c.in_ok-check_distinct.ensures.distinct k) c.in_ok-groups.ensures.0 c.in_ok-groups.ensures.1 (lists c.in_ok-groups.groups.items) c.in_ok-groups.ensures.2)
 
 pub returns-in_err-check_distinct-clause-repeated : goal.returns-in_err-check_distinct-clause-repeated
 returns-in_err-check_distinct-clause-repeated c = passed_on c.from_residual.result c.in_err-check_distinct.field-0.0 c.from_residual.ensures.1 (λ e. c.in_err-check_distinct.ensures.repeated (ap Err e))
