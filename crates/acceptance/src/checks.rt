@@ -6,10 +6,10 @@ use std::alloc::{AllocError, Global};
 use std::test::Fail;
 
 /// A source, how the run ends, and what it prints.
-type Row = (&'static [u8], Status, &'static [u8]);
+pub(crate) type Row = (&'static [u8], Status, &'static [u8]);
 
 /// Sets without and with types that are inferred.
-const TYPED: [Row; 18] = [
+pub(crate) const TYPED: [Row; 18] = [
     (
         b"",
         Status::Good,
@@ -106,7 +106,7 @@ const TYPED: [Row; 18] = [
 ];
 
 /// Newtypes, synonyms and pattern bindings.
-const DECLARED: [Row; 6] = [
+pub(crate) const DECLARED: [Row; 6] = [
     (
         b"module A where { type P b a = (a, b) ; newtype W a = W [a] ; f :: P Int a -> W a ; f (x, n) = W [x] }",
         Status::Good,
@@ -140,7 +140,7 @@ const DECLARED: [Row; 6] = [
 ];
 
 /// Modules in which units have no type: each such unit, told once, but for those that depend on another.
-const UNTYPED: [Row; 19] = [
+pub(crate) const UNTYPED: [Row; 19] = [
     (
         b"module A where { f x = x x }",
         Status::Faulty,
@@ -295,7 +295,7 @@ const SETS: [Row; 9] = [
 ];
 
 /// Modules with faults of names, numbers of arguments and synonyms.
-const ILL_FORMED: [Row; 13] = [
+pub(crate) const ILL_FORMED: [Row; 13] = [
     (
         b"module A where { f x x = 1 }",
         Status::Faulty,

@@ -14,11 +14,11 @@ mod equal;
 #[cfg(test)]
 mod grammar;
 #[cfg(test)]
+mod modules;
+#[cfg(test)]
 mod plans;
 #[cfg(test)]
 mod reports;
-#[cfg(test)]
-mod scopes;
 #[cfg(test)]
 mod sources;
 #[cfg(test)]
@@ -27,7 +27,3 @@ mod stores;
 mod texts;
 #[cfg(test)]
 mod transfers;
-#[cfg(test)]
-mod tree_text;
-#[cfg(test)]
-mod trees;

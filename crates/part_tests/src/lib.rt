@@ -1,4 +1,4 @@
-//! Tests of the crates below the names of modules: tokens, types, unification, graphs and plans of imports.
+//! Tests of the crates below checked modules: tokens, trees, types, unification, graphs, plans of imports, and what names mean.
 #![tactic(auto)]
 
 #[cfg(test)]
@@ -8,7 +8,13 @@ mod interfaces;
 #[cfg(test)]
 mod plans;
 #[cfg(test)]
+mod scopes;
+#[cfg(test)]
 mod tokens;
+#[cfg(test)]
+mod tree_text;
+#[cfg(test)]
+mod trees;
 #[cfg(test)]
 mod types;
 #[cfg(test)]
