@@ -16,7 +16,9 @@ fn outcome_of(alloc: Global, source: &[u8]) -> Result<Outcome, Fail> {
 fn store_of(alloc: Global, first: &[u8], second: &[u8]) -> Result<Store, Fail> {
     let first = module_of(alloc, first)?;
     let second = module_of(alloc, second)?;
-    let plan = import_plan(alloc, &[&first.header, &second.header]).map_err(|_| "no plan")?;
+    let Ok(plan) = import_plan(alloc, &[&first.header, &second.header]) else {
+        return Err(Fail::from("no plan"));
+    };
     let mut modules = Vec::new(alloc);
     modules.push(first)?;
     modules.push(second)?;
