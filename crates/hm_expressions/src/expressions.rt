@@ -7,7 +7,7 @@ ghost use Rattle.hm_types.specs.Types.{Var, put};
 ghost use Rattle.hm_types.specs.Monotypes.{var};
 ghost use Rattle.hm_syntax.specs.Lists.{expressions, body, bodies, alternatives, patterns};
 ghost use Rattle.hm_graph.specs.Digraph.{lists};
-ghost use Rattle.hm_syntax.specs.Trees.{no_bodies};
+ghost use Rattle.hm_syntax.specs.Trees.{no_bodies, typed_expression};
 ghost use Rattle.hm_typing.specs.Assumptions.{assumptions_put};
 ghost use Rattle.hm_typing.specs.Schemes.{arrow};
 ghost use Rattle.hm_typing.specs.Syntax.{pattern, no_pattern};
@@ -142,13 +142,34 @@ pub(crate) fn check_expression<'a>(
             check_alternatives(alloc, solver, environment, constructors, choices, first, t)
         }
         ExprKind::Typed(inner, ty) => {
-            let declared = declare(alloc, ty)?;
-            let own = with_rigid_variables(alloc, solver, &declared)?;
-            check_expression(alloc, solver, environment, constructors, inner, &own.body)?;
-            forbid_escape(alloc, solver, environment, own.first, declared.count)?;
-            check_instance(alloc, solver, &declared, t)
+            check_typed(alloc, solver, environment, constructors, inner, ty, t)
         }
     }
+}
+
+/// Checks an expression that has a declared type: the expression has it with new rigid variables
+/// for those of the type, which don't escape, and the type is an instance of it (Haskell 98
+/// Report, section 3.16).
+#[cycle(checking)]
+fn check_typed<'a>(
+    alloc: Global,
+    solver: &mut Solver,
+    environment: &mut Environment<'a>,
+    constructors: &Constructors,
+    inner: &'a Expr,
+    ty: &TypeExpr,
+    t: &Ty,
+) -> Result<(), UnifyFault>
+    requires given { IsWellFormed solver.old.given (type_of t.now) }
+    requires assumed { AreAssumed solver.old.given environment.old }
+    ensures answers { Answers (λ r. Derives (assumptions_put r (assumptions environment.old)) (expression_of (known_of constructors.now) (typed_expression inner.now ty.now)) (put r (monotype (type_of t.now)))) solver.old solver.new result }
+    ensures same { OnOk result (environment.new ≡ environment.old) }
+{
+    let declared = declare(alloc, ty)?;
+    let own = with_rigid_variables(alloc, solver, &declared)?;
+    check_expression(alloc, solver, environment, constructors, inner, &own.body)?;
+    forbid_escape(alloc, solver, environment, own.first, declared.count)?;
+    check_instance(alloc, solver, &declared, t)
 }
 
 /// Checks an expression against the type of functions from the variable `argument` to a type. It

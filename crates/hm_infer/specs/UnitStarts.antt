@@ -20,7 +20,7 @@ use Rattle.hm_infer.specs.JudgedUnits.{UnitsJudged}
 use Rattle.hm_expressions.specs.Stages.{IsListFound, list_of}
 use Rattle.hm_names.specs.ModuleCores.{ModuleCore}
 use Rattle.hm_infer.specs.Told.{IsStart}
-use Rattle.hm_infer.specs.UnitFaults.{IsFirstPlace}
+use Rattle.hm_infer.specs.UnitFaults.{AreGroupsTold, IsFirstPlace}
 
 -- the first place of a group's declarations
 pub record IsStartOf (rows : List (List ℕ)) (group : List ℕ) (p : ℕ) : Type 0 where
@@ -38,6 +38,12 @@ pub record IsFaultStart (rows gs : List (List ℕ)) (faulty : List Bool) (i p : 
 pub record AreGroupStarts (rows gs : List (List ℕ)) (faulty : List Bool) (n : ℕ) (starts : List ℕ) : Type 0 where
   pub each : (i : ℕ) → i < n → i < length gs → slice_index_or faulty i false ≡ true → (p : ℕ) × (IsOneOf p starts × IsFaultStart rows gs faulty i p)
   pub back : (p : ℕ) → IsOneOf p starts → (i : ℕ) × IsFaultStart rows gs faulty i p
+
+-- the first places of those groups that are faults, by a table of the nodes that have types
+pub record AreUnsignedStarts (ds : List Declaration) (nodes : List (Option Variable)) (rows gs : List (List ℕ)) (table : List Bool) (starts : List ℕ) : Type 0 where
+  pub faulty : List Bool
+  pub told : AreGroupsTold ds nodes rows gs table faulty
+  pub starts_are : AreGroupStarts rows gs faulty (length gs) starts
 
 -- where a group is a fault, its first place was added
 abbrev pub AddsStart : Bool → List (List ℕ) → List ℕ → List ℕ → List ℕ → Type 0

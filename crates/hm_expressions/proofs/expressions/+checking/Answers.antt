@@ -19,7 +19,7 @@ use Rattle.hm_expressions.proofs.OpenedForms.{lambda_answers, lambda_refused, le
 use Rattle.hm_expressions.proofs.States.{problem_below}
 use Rattle.hm_expressions.proofs.Opened.{more_given}
 use Rattle.hm_expressions.proofs.MatchedForms.{numbers_given, number_given}
-use Rattle.hm_expressions.proofs.Derived.{Checks, ChecksFunction, function_answers, function_refused, ChecksAll, expression_is, literal_checked, apply_answers, apply_refused, if_answers, if_refused_second, tuple_checked, tuple_unchecked, list_checked, list_unchecked, row_nothing, row_more, row_unchecked, row_all, solved_grows, size_of_item, moved_solved, moved_refused, moved_answers, assumed_at, type_at, given_next, first_given, parts_assumed, refused_by, row_number}
+use Rattle.hm_expressions.proofs.Derived.{AnswersExpression, Checks, ChecksFunction, function_answers, function_refused, ChecksAll, expression_is, literal_checked, apply_answers, apply_refused, if_answers, if_refused_second, tuple_checked, tuple_unchecked, list_checked, list_unchecked, row_nothing, row_more, row_unchecked, row_all, solved_grows, size_of_item, moved_solved, moved_refused, moved_answers, assumed_at, type_at, given_next, first_given, parts_assumed, refused_by, row_number}
 use Rattle.hm_expressions.proofs.Choices.{choices_none, choices_more, choices_refused, choices_all, choices_moved, case_answers, case_refused, expression_positive, size_of_part, size_of_choice}
 use Rattle.std.proofs.Common.{◌≡◌, ◌≤◌, length, get_or}
 use Rattle.hm_groups.proofs.Rows.{declaration_falls}
@@ -419,88 +419,97 @@ check_expression-returns-in_ok-check_expression-in-Case-clause-answers t c =
     (moved_solved (known_of c.args.constructors.now) c.deref-in-Case.result.now c.in-Case.inner.value (Var (var c.in_ok-first-in-Case.first)) c.args.environment.now c.args.environment.now c.new_variables-in-Case.new.solver c.check_expression-in-Case.new.solver refl c.deref-in-Case.ensures c.in_ok-check_expression-in-Case.ensures.answers)
     (choices_moved (known_of c.args.constructors.now) c.deref-in-Case-2.result.now c.in-Case.choices.items c.in_ok-first-in-Case.first (type_of c.args.t.now) c.args.environment.now c.check_expression-in-Case.new.environment c.check_expression-in-Case.new.solver c.check_alternatives.new.solver c.check_alternatives.result c.in_ok-check_expression-in-Case.ensures.same c.deref-in-Case-2.ensures.value c.check_alternatives.ensures.answers))
 
-pub check_expression-check_expression-requires-in-Typed : goal.check_expression-check_expression-requires-in-Typed
-check_expression-check_expression-requires-in-Typed t c =
+pub check_expression-check_typed-requires : goal.check_expression-check_typed-requires
+check_expression-check_typed-requires t c =
     let z = ap expression_size (sym (ap tree_of c.in-Typed.is) ∙ c.e.view_is) in
     let y = ap expression_size c.deref-in-Typed.ensures in
-    let smaller : expression_size c.deref-in-Typed.result.now < expression_size c.args.e.now = omega (arith, z, y) in
-    let k = given_next c.args.solver.now c.with_rigid_variables.new.solver c.in_ok-declared-in-Typed.declared.count c.in_ok-own-in-Typed.ensures.next in
-    (search rules, (c.in_ok-own-in-Typed.ensures.given, assumed_at c.args.solver.now c.with_rigid_variables.new.solver c.args.environment.now c.args.environment.now refl k c.requires.assumed))
+    let smaller : 8 * expression_size c.deref-in-Typed.result.now + 1 < 8 * expression_size c.args.e.now = omega (arith, z, y) in
+    (search rules, (c.requires.given, c.requires.assumed))
 
-pub check_expression-returns-in_err-check_expression-in-Typed-clause-answers : goal.check_expression-returns-in_err-check_expression-in-Typed-clause-answers
-check_expression-returns-in_err-check_expression-in-Typed-clause-answers t c =
+pub check_expression-returns-in-Typed-clause-answers : goal.check_expression-returns-in-Typed-clause-answers
+check_expression-returns-in-Typed-clause-answers t c =
+    let known = known_of c.args.constructors.now in
+    let es = c.args.environment.now in
+    let s = c.args.solver.now in
+    let s1 = c.check_typed.new.solver in
+    let outcome = c.check_typed.result in
+    expression_is known (typed_expression c.in-Typed.inner.value c.in-Typed.ty) c.args.e.now (type_of c.args.t.now) es s s1 outcome (sym (ap tree_of c.in-Typed.is) ∙ c.e.view_is)
+    (subst (λ x. AnswersExpression known (typed_expression x c.in-Typed.ty) (type_of c.args.t.now) es s s1 outcome) c.deref-in-Typed.ensures c.check_typed.ensures.answers)
+
+pub check_typed-check_expression-requires : goal.check_typed-check_expression-requires
+check_typed-check_expression-requires t c =
+    let smaller : 8 * expression_size c.args.inner.now < 8 * expression_size c.args.inner.now + 1 = omega arith in
+    let k = given_next c.args.solver.now c.with_rigid_variables.new.solver c.in_ok-declared.declared.count c.in_ok-own.ensures.next in
+    (search rules, (c.in_ok-own.ensures.given, assumed_at c.args.solver.now c.with_rigid_variables.new.solver c.args.environment.now c.args.environment.now refl k c.requires.assumed))
+
+pub check_typed-returns-in_err-check_expression-clause-answers : goal.check_typed-returns-in_err-check_expression-clause-answers
+check_typed-returns-in_err-check_expression-clause-answers t c =
     let known = known_of c.args.constructors.now in
     let es = c.args.environment.now in
     let s = c.args.solver.now in
     let s1 = c.with_rigid_variables.new.solver in
-    let s2 = c.check_expression-in-Typed.new.solver in
-    let x = c.in-Typed.inner.value in
-    let body = type_of c.in_ok-declared-in-Typed.declared.body in
-    let own = type_of c.in_ok-own-in-Typed.own.body in
-    let count = c.in_ok-declared-in-Typed.declared.count in
-    let first = c.in_ok-own-in-Typed.own.first in
-    let taken : IsTaken s s1 count first body own = record { next = c.in_ok-own-in-Typed.ensures.next; from = c.in_ok-own-in-Typed.ensures.first; shape = c.in_ok-own-in-Typed.ensures.body; below = c.in_ok-own-in-Typed.ensures.below; given = c.in_ok-declared-in-Typed.ensures.given } in
-    let fault = c.in_err-check_expression-in-Typed.field-0.0 in
-    let outcome = c.from_residual-in_err-check_expression-in-Typed.result in
-    expression_is known (typed_expression x c.in-Typed.ty) c.args.e.now (type_of c.args.t.now) es s s2 outcome (sym (ap tree_of c.in-Typed.is) ∙ c.e.view_is)
-    (refused_by (Checks known (typed_expression x c.in-Typed.ty) (type_of c.args.t.now) es) s s2 outcome fault c.from_residual-in_err-check_expression-in-Typed.ensures.1
-    (typed_refused known x body own count first es s s1 c.requires.assumed taken c.in-Typed.ty (type_of c.args.t.now) c.in_ok-declared-in-Typed.ensures.body c.requires.given fault
-    (inner_refused known x body own count first es s s1 c.requires.assumed taken fault
-    (moved_refused known c.deref-in-Typed.result.now x own es es s1 fault refl c.deref-in-Typed.ensures c.in_err-check_expression-in-Typed.ensures.answers))))
+    let s2 = c.check_expression.new.solver in
+    let x = c.args.inner.now in
+    let body = type_of c.in_ok-declared.declared.body in
+    let own = type_of c.in_ok-own.own.body in
+    let count = c.in_ok-declared.declared.count in
+    let first = c.in_ok-own.own.first in
+    let taken : IsTaken s s1 count first body own = record { next = c.in_ok-own.ensures.next; from = c.in_ok-own.ensures.first; shape = c.in_ok-own.ensures.body; below = c.in_ok-own.ensures.below; given = c.in_ok-declared.ensures.given } in
+    let fault = c.in_err-check_expression.field-0.0 in
+    let outcome = c.from_residual-in_err-check_expression.result in
+    refused_by (Checks known (typed_expression x c.args.ty.now) (type_of c.args.t.now) es) s s2 outcome fault c.from_residual-in_err-check_expression.ensures.1
+    (typed_refused known x body own count first es s s1 c.requires.assumed taken c.args.ty.now (type_of c.args.t.now) c.in_ok-declared.ensures.body c.requires.given fault
+    (inner_refused known x body own count first es s s1 c.requires.assumed taken fault c.in_err-check_expression.ensures.answers))
 
-pub check_expression-forbid_escape-requires-clause-assumed : goal.check_expression-forbid_escape-requires-clause-assumed
-check_expression-forbid_escape-requires-clause-assumed t c =
-    let k = given_next c.args.solver.now c.with_rigid_variables.new.solver c.in_ok-declared-in-Typed.declared.count c.in_ok-own-in-Typed.ensures.next in
-    let l = solved_grows _ c.with_rigid_variables.new.solver c.check_expression-in-Typed.new.solver c.in_ok-check_expression-in-Typed.ensures.answers in
-    assumed_at c.args.solver.now c.check_expression-in-Typed.new.solver c.args.environment.now c.check_expression-in-Typed.new.environment c.in_ok-check_expression-in-Typed.ensures.same (omega (arith, k, l)) c.requires.assumed
+pub check_typed-forbid_escape-requires-clause-assumed : goal.check_typed-forbid_escape-requires-clause-assumed
+check_typed-forbid_escape-requires-clause-assumed t c =
+    let k = given_next c.args.solver.now c.with_rigid_variables.new.solver c.in_ok-declared.declared.count c.in_ok-own.ensures.next in
+    let l = solved_grows _ c.with_rigid_variables.new.solver c.check_expression.new.solver c.in_ok-check_expression.ensures.answers in
+    assumed_at c.args.solver.now c.check_expression.new.solver c.args.environment.now c.check_expression.new.environment c.in_ok-check_expression.ensures.same (omega (arith, k, l)) c.requires.assumed
 
-pub check_expression-returns-in_err-forbid_escape-in-Typed-clause-answers : goal.check_expression-returns-in_err-forbid_escape-in-Typed-clause-answers
-check_expression-returns-in_err-forbid_escape-in-Typed-clause-answers t c =
+pub check_typed-returns-in_err-forbid_escape-clause-answers : goal.check_typed-returns-in_err-forbid_escape-clause-answers
+check_typed-returns-in_err-forbid_escape-clause-answers t c =
     let known = known_of c.args.constructors.now in
     let es = c.args.environment.now in
     let s = c.args.solver.now in
     let s1 = c.with_rigid_variables.new.solver in
-    let s2 = c.check_expression-in-Typed.new.solver in
-    let x = c.in-Typed.inner.value in
-    let body = type_of c.in_ok-declared-in-Typed.declared.body in
-    let own = type_of c.in_ok-own-in-Typed.own.body in
-    let count = c.in_ok-declared-in-Typed.declared.count in
-    let first = c.in_ok-own-in-Typed.own.first in
-    let taken : IsTaken s s1 count first body own = record { next = c.in_ok-own-in-Typed.ensures.next; from = c.in_ok-own-in-Typed.ensures.first; shape = c.in_ok-own-in-Typed.ensures.body; below = c.in_ok-own-in-Typed.ensures.below; given = c.in_ok-declared-in-Typed.ensures.given } in
-    let solved = moved_solved known c.deref-in-Typed.result.now x own es es s1 s2 refl c.deref-in-Typed.ensures c.in_ok-check_expression-in-Typed.ensures.answers in
-    let fault = c.in_err-forbid_escape-in-Typed.field-0.0 in
-    let outcome = c.from_residual-in_err-forbid_escape-in-Typed.result in
-    expression_is known (typed_expression x c.in-Typed.ty) c.args.e.now (type_of c.args.t.now) es s s2 outcome (sym (ap tree_of c.in-Typed.is) ∙ c.e.view_is)
-    (refused_by (Checks known (typed_expression x c.in-Typed.ty) (type_of c.args.t.now) es) s s2 outcome fault c.from_residual-in_err-forbid_escape-in-Typed.ensures.1
-    (typed_refused known x body own count first es s s1 c.requires.assumed taken c.in-Typed.ty (type_of c.args.t.now) c.in_ok-declared-in-Typed.ensures.body c.requires.given fault
-    (escape_refused known x body own count first es s s1 c.requires.assumed taken s2 fault solved
-    (tells_moved {X = Unit {0}} first count es c.check_expression-in-Typed.new.environment s2 (Err fault) c.in_ok-check_expression-in-Typed.ensures.same c.in_err-forbid_escape-in-Typed.ensures))))
+    let s2 = c.check_expression.new.solver in
+    let x = c.args.inner.now in
+    let body = type_of c.in_ok-declared.declared.body in
+    let own = type_of c.in_ok-own.own.body in
+    let count = c.in_ok-declared.declared.count in
+    let first = c.in_ok-own.own.first in
+    let taken : IsTaken s s1 count first body own = record { next = c.in_ok-own.ensures.next; from = c.in_ok-own.ensures.first; shape = c.in_ok-own.ensures.body; below = c.in_ok-own.ensures.below; given = c.in_ok-declared.ensures.given } in
+    let fault = c.in_err-forbid_escape.field-0.0 in
+    let outcome = c.from_residual-in_err-forbid_escape.result in
+    refused_by (Checks known (typed_expression x c.args.ty.now) (type_of c.args.t.now) es) s s2 outcome fault c.from_residual-in_err-forbid_escape.ensures.1
+    (typed_refused known x body own count first es s s1 c.requires.assumed taken c.args.ty.now (type_of c.args.t.now) c.in_ok-declared.ensures.body c.requires.given fault
+    (escape_refused known x body own count first es s s1 c.requires.assumed taken s2 fault c.in_ok-check_expression.ensures.answers
+    (tells_moved {X = Unit {0}} first count es c.check_expression.new.environment s2 (Err fault) c.in_ok-check_expression.ensures.same c.in_err-forbid_escape.ensures)))
 
-pub check_expression-check_instance-requires-clause-given : goal.check_expression-check_instance-requires-clause-given
-check_expression-check_instance-requires-clause-given t c =
-    let k = given_next c.args.solver.now c.with_rigid_variables.new.solver c.in_ok-declared-in-Typed.declared.count c.in_ok-own-in-Typed.ensures.next in
-    let l = solved_grows _ c.with_rigid_variables.new.solver c.check_expression-in-Typed.new.solver c.in_ok-check_expression-in-Typed.ensures.answers in
-    type_at c.args.solver.now c.check_expression-in-Typed.new.solver (type_of c.args.t.now) (omega (arith, k, l)) c.requires.given
+pub check_typed-check_instance-requires-clause-given : goal.check_typed-check_instance-requires-clause-given
+check_typed-check_instance-requires-clause-given t c =
+    let k = given_next c.args.solver.now c.with_rigid_variables.new.solver c.in_ok-declared.declared.count c.in_ok-own.ensures.next in
+    let l = solved_grows _ c.with_rigid_variables.new.solver c.check_expression.new.solver c.in_ok-check_expression.ensures.answers in
+    type_at c.args.solver.now c.check_expression.new.solver (type_of c.args.t.now) (omega (arith, k, l)) c.requires.given
 
-pub check_expression-returns-in_ok-forbid_escape-in-Typed-clause-answers : goal.check_expression-returns-in_ok-forbid_escape-in-Typed-clause-answers
-check_expression-returns-in_ok-forbid_escape-in-Typed-clause-answers t c =
+pub check_typed-returns-clause-answers : goal.check_typed-returns-clause-answers
+check_typed-returns-clause-answers t c =
     let known = known_of c.args.constructors.now in
     let es = c.args.environment.now in
     let s = c.args.solver.now in
     let s1 = c.with_rigid_variables.new.solver in
-    let s2 = c.check_expression-in-Typed.new.solver in
-    let x = c.in-Typed.inner.value in
-    let body = type_of c.in_ok-declared-in-Typed.declared.body in
-    let own = type_of c.in_ok-own-in-Typed.own.body in
-    let count = c.in_ok-declared-in-Typed.declared.count in
-    let first = c.in_ok-own-in-Typed.own.first in
-    let taken : IsTaken s s1 count first body own = record { next = c.in_ok-own-in-Typed.ensures.next; from = c.in_ok-own-in-Typed.ensures.first; shape = c.in_ok-own-in-Typed.ensures.body; below = c.in_ok-own-in-Typed.ensures.below; given = c.in_ok-declared-in-Typed.ensures.given } in
-    let solved = moved_solved known c.deref-in-Typed.result.now x own es es s1 s2 refl c.deref-in-Typed.ensures c.in_ok-check_expression-in-Typed.ensures.answers in
+    let s2 = c.check_expression.new.solver in
+    let x = c.args.inner.now in
+    let body = type_of c.in_ok-declared.declared.body in
+    let own = type_of c.in_ok-own.own.body in
+    let count = c.in_ok-declared.declared.count in
+    let first = c.in_ok-own.own.first in
+    let taken : IsTaken s s1 count first body own = record { next = c.in_ok-own.ensures.next; from = c.in_ok-own.ensures.first; shape = c.in_ok-own.ensures.body; below = c.in_ok-own.ensures.below; given = c.in_ok-declared.ensures.given } in
     let s3 = c.check_instance.new.solver in
-    let tells = tells_moved first count es c.check_expression-in-Typed.new.environment s2 (Ok c.in_ok-forbid_escape-in-Typed.field-0) c.in_ok-check_expression-in-Typed.ensures.same c.in_ok-forbid_escape-in-Typed.ensures in
-    expression_is known (typed_expression x c.in-Typed.ty) c.args.e.now (type_of c.args.t.now) es s s3 c.check_instance.result (sym (ap tree_of c.in-Typed.is) ∙ c.e.view_is)
-    (typed_answers known x body own count first es s s1 c.requires.assumed taken c.in-Typed.ty (type_of c.args.t.now) c.in_ok-declared-in-Typed.ensures.body c.requires.given s2 s3 c.check_instance.result
-    (at_each known x body own count first es s s1 c.requires.assumed taken s2 c.in_ok-forbid_escape-in-Typed.field-0 solved tells) c.check_instance.ensures)
+    let tells = tells_moved first count es c.check_expression.new.environment s2 (Ok c.in_ok-forbid_escape.field-0) c.in_ok-check_expression.ensures.same c.in_ok-forbid_escape.ensures in
+    typed_answers known x body own count first es s s1 c.requires.assumed taken c.args.ty.now (type_of c.args.t.now) c.in_ok-declared.ensures.body c.requires.given s2 s3 c.check_instance.result
+    (at_each known x body own count first es s s1 c.requires.assumed taken s2 c.in_ok-forbid_escape.field-0 c.in_ok-check_expression.ensures.answers tells) c.check_instance.ensures
 
 pub check_clause-returns-in_err-check_right_side-clause-answers : goal.check_clause-returns-in_err-check_right_side-clause-answers
 check_clause-returns-in_err-check_right_side-clause-answers t c =

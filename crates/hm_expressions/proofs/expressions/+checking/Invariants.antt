@@ -22,6 +22,9 @@ decreases-check_expression l = 8 * expression_size l.e.now
 abbrev pub decreases-check_function : goal.decreases-check_function
 decreases-check_function l = 8 * expression_size l.function.now + 1
 
+abbrev pub decreases-check_typed : goal.decreases-check_typed
+decreases-check_typed l = 8 * expression_size l.inner.now + 1
+
 abbrev pub decreases-check_expressions : goal.decreases-check_expressions
 decreases-check_expressions l = 8 * expressions_size (expressions l.parts.now)
 
