@@ -1,3 +1,4 @@
+mod ConstructorPlaces
 pub mod Leaves
 pub mod States
 pub mod Outcomes

@@ -28,7 +28,7 @@ abbrev pub entries_of : List Binding → List Assumed
 entries_of xs = stack assumed_of xs []
 
 abbrev pub scheme_of : Entry → ConstructorScheme
-scheme_of e = record { entity = e.entity; scheme = e.scheme }
+scheme_of e = record { entity = record { «module» = e.«module».now; name = e.name.now }; scheme = e.scheme }
 
 abbrev pub schemes_of : List Entry → List ConstructorScheme
 schemes_of es = map scheme_of es

@@ -1,34 +1,41 @@
 //! The types that constructors are declared with.
 
 ghost use Rattle.std.specs.Prelude.{◌≡◌, IfOk, option_map, option_copied};
+ghost use Rattle.hm_groups.specs.Keys.{variable_of_key};
 ghost use Rattle.hm_names.specs.Described.{first_of};
-ghost use Rattle.hm_names.specs.Texts.{same_entity};
 ghost use Rattle.hm_names.specs.Types.{entity_of};
 ghost use Rattle.hm_expressions.specs.Constructors.{known_of};
+ghost use Rattle.hm_expressions.specs.Entered.{AreEntered, key_of_entity};
 ghost use Rattle.hm_expressions.specs.Kept.{schemes_of};
 
+use crate::environment::place_of;
 use crate::special::{special_scheme, unit_scheme};
+use hm_groups::LentName;
 use hm_syntax::Name;
-use hm_types::{Entity, Scheme, Text};
+use hm_types::{Scheme, Text};
+use indexmap::IndexMap;
 use std::alloc::{AllocError, Global};
 use std::marker::Model;
 
-/// A constructor with its scheme.
+/// A constructor, by the module that declares it and its name there, with its scheme.
 #[derive(Drop)]
-pub struct Entry {
-    pub entity: Entity,
+pub struct Entry<'a> {
+    pub module: &'a str,
+    pub name: &'a str,
     pub scheme: Scheme,
 }
 
 /// The constructors that a module uses, with their schemes. Of the entries of one constructor the
-/// first counts. The special ones, as those of tuples, have theirs without an entry.
+/// first counts, whose place a table has. The special ones, as those of tuples, have theirs without
+/// an entry.
 #[derive(Drop)]
-pub struct Constructors {
+pub struct Constructors<'a> {
     home: Text,
-    entries: Vec<Entry>,
+    entries: Vec<Entry<'a>>,
+    places: IndexMap<LentName<'a>, usize>,
 }
 
-impl Model for Constructors {
+impl<'a> Model for Constructors<'a> {
     ghost use Rattle.hm_expressions.specs.Constructors.{Table, coded_table};
 
     ghost Value = { Table };
@@ -38,16 +45,29 @@ impl Model for Constructors {
     ghost use Rattle.hm_expressions.specs.Kept.{schemes_of};
 
     ghost view = { λ s. record { home = s.home; schemes = schemes_of s.entries.items } };
+
+    ghost use Rattle.hm_expressions.specs.Entered.{AreEntered};
+
+    ghost invariant = { λ s. AreEntered s.entries.items s.entries.items s.places };
 }
 
-impl Constructors {
+impl<'a> Constructors<'a> {
     ghost use Rattle.hm_expressions.specs.Kept.{schemes_of};
 
     /// The constructors of a module of this name.
-    pub fn new(home: Text, entries: Vec<Entry>) -> Constructors
-        ensures { result ≡ record { home = home; schemes = schemes_of entries.items } }
+    pub fn new(
+        alloc: Global,
+        home: Text,
+        entries: Vec<Entry<'a>>,
+    ) -> Result<Constructors<'a>, AllocError>
+        ensures { IfOk result (λ constructors. constructors ≡ record { home = home; schemes = schemes_of entries.entry.items }) }
     {
-        Constructors { home, entries }
+        let places = places_of(alloc, &entries)?;
+        Ok(Constructors {
+            home,
+            entries,
+            places,
+        })
     }
 
     /// The scheme of a constructor.
@@ -56,7 +76,7 @@ impl Constructors {
     {
         match special_scheme(alloc, name)? {
             Some(scheme) => Ok(scheme),
-            None => match entered(&self.entries, name) {
+            None => match entered(&self.entries, &self.places, name) {
                 Some(scheme) => Ok(scheme.copy(alloc)?),
                 None => Ok(unit_scheme(alloc)?),
             },
@@ -64,26 +84,51 @@ impl Constructors {
     }
 }
 
-/// Whether a resolved name is that of an entity.
-fn is_entity(entity: &Entity, name: &Name) -> bool
-    ensures { result ≡ same_entity (entity_of name.now) entity.now }
+/// The place of the first entry of each constructor.
+fn places_of<'a>(
+    alloc: Global,
+    entries: &[Entry<'a>],
+) -> Result<IndexMap<LentName<'a>, usize>, AllocError>
+    ensures { IfOk result (AreEntered entries.now entries.now) }
 {
-    match &name.qualifier {
-        None => "" == entity.module.as_str() && name.as_str() == entity.name.as_str(),
-        Some(module) => {
-            module.as_str() == entity.module.as_str() && name.as_str() == entity.name.as_str()
-        }
+    let mut places = IndexMap::new(alloc);
+    'entries: for behind in 0..entries.len() {
+        let place = entries.len() - 1 - behind;
+        let entry = &entries[place];
+        let key = LentName {
+            qualifier: Some(entry.module),
+            text: entry.name,
+        };
+        places.insert(key, place)?;
+    }
+    Ok(places)
+}
+
+/// A resolved name as the key of a constructor.
+fn entity_key(name: &Name) -> LentName<'_>
+    ensures { variable_of_key result ≡ key_of_entity (entity_of name.now) }
+{
+    let module = match &name.qualifier {
+        Some(text) => text.as_str(),
+        None => "",
+    };
+    LentName {
+        qualifier: Some(module),
+        text: name.text.as_str(),
     }
 }
 
 /// The scheme of the first entry of a constructor.
-fn entered<'a>(entries: &'a [Entry], name: &Name) -> Option<&'a Scheme>
+fn entered<'b>(
+    entries: &'b [Entry<'_>],
+    places: &IndexMap<LentName<'_>, usize>,
+    name: &Name,
+) -> Option<&'b Scheme>
+    requires { AreEntered entries.now entries.now places.now }
     ensures { option_copied result ≡ option_map (λ d. d.scheme) (first_of (λ d. d.entity) (entity_of name.now) (schemes_of entries.now)) }
 {
-    for entry in entries {
-        if is_entity(&entry.entity, name) {
-            return Some(&entry.scheme);
-        }
+    match place_of(places, &entity_key(name)) {
+        Some(place) => Some(&entries[place].scheme),
+        None => None,
     }
-    None
 }

@@ -205,7 +205,7 @@ impl<'a> Environment<'a> {
 }
 
 /// The place that a table has for a name.
-fn place_of(places: &IndexMap<LentName<'_>, usize>, name: &LentName<'_>) -> Option<usize>
+pub(crate) fn place_of(places: &IndexMap<LentName<'_>, usize>, name: &LentName<'_>) -> Option<usize>
     ensures { result ≡ number_of places.now (variable_of_key name.now) }
 {
     match places.get(name) {

@@ -14,7 +14,7 @@ use Rattle.hm_names.specs.Entities.{constructor_list}
 use Rattle.hm_names.specs.ModuleCores.{ModuleCore}
 use Rattle.hm_names.proofs.SoundDeclarations.{distinct_there}
 use Rattle.hm_expressions.specs.Constructors.{HasDistinctParameters}
-use Rattle.hm_expressions.specs.Kept.{schemes_of}
+use Rattle.hm_expressions.specs.Kept.{scheme_of as entry_scheme, schemes_of}
 use Rattle.hm_expressions.specs.declared.constructors.Entry.{Entry}
 use Rattle.std.proofs.lemmas.List.{map-append}
 use Rattle.hm_infer.specs.Imported.{assumed_inside}
@@ -56,8 +56,8 @@ pushed_step f xs i x s old new whole l e g h k =
     ap (λ z. z ++ map f (drop (i + 1) xs)) k
     ∙ (append_assoc old (s ∷ []) (map f (drop (i + 1) xs)) ∙ (ap (λ z. old ++ z) (ap (λ z. z ∷ map f (drop (i + 1) xs)) g ∙ ap (map f) (sym (drop_here xs i x l e))) ∙ h))
 
-pub schemes_pushed : (xs ys : List Entry) (x : Entry) → ys ≡ xs ++ x ∷ [] → schemes_of ys ≡ schemes_of xs ++ record { entity = x.entity; scheme = x.scheme } ∷ []
-schemes_pushed xs ys x e = ap schemes_of e ∙ map-append (λ (z : Entry). record { entity = z.entity; scheme = z.scheme }) xs (x ∷ [])
+pub schemes_pushed : (xs ys : List Entry) (x : Entry) → ys ≡ xs ++ x ∷ [] → schemes_of ys ≡ schemes_of xs ++ entry_scheme x ∷ []
+schemes_pushed xs ys x e = ap schemes_of e ∙ map-append entry_scheme xs (x ∷ [])
 
 -- the parameters of what a core declares are distinct
 pub distinct : (m : Module) (fs : List Interface) (c : ModuleCore) → IsCore m fs c → (ds : List Declaration) → ds ≡ c.decls → (d : Declaration) → Contains ds d → HasDistinctParameters d

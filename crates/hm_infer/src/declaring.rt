@@ -10,38 +10,41 @@ ghost use Rattle.hm_expressions.specs.Constructors.{HasDistinctParameters, known
 ghost use Rattle.hm_expressions.specs.Kept.{schemes_of};
 
 use hm_expressions::{Constructors, Entry};
-use hm_names::{Core, declared_scheme, own_entity};
+use hm_names::{Core, declared_scheme};
 use hm_syntax::{Constr, Decl, DeclKind, Name};
 use hm_types::{ConstructorEntry, Interface};
 use std::alloc::{AllocError, Global};
 use std::sync::Arc;
 
 /// Adds a constructor of a type that is declared.
-fn add_constructor(
+fn add_constructor<'a>(
     alloc: Global,
-    entries: &mut Vec<Entry>,
-    home: &str,
+    entries: &mut Vec<Entry<'a>>,
+    home: &'a str,
     owner: &Name,
     params: &[Name],
-    constr: &Constr,
+    constr: &'a Constr,
 ) -> Result<(), AllocError>
     requires { (n : Identifier) → ¬ (Repeats params.now n) }
     ensures { OnOk result (schemes_of entries.new.items ≡ schemes_of entries.old.items ++ scheme_in home.now owner.now params.now constr.now ∷ []) }
 {
-    let entity = own_entity(alloc, home, &constr.name)?;
     let scheme = declared_scheme(alloc, home, owner, params, constr)?;
-    entries.push(Entry { entity, scheme })?;
+    entries.push(Entry {
+        module: home,
+        name: constr.name.as_str(),
+        scheme,
+    })?;
     Ok(())
 }
 
 /// Adds the constructors of a type that is declared.
-fn add_constructors(
+fn add_constructors<'a>(
     alloc: Global,
-    entries: &mut Vec<Entry>,
-    home: &str,
+    entries: &mut Vec<Entry<'a>>,
+    home: &'a str,
     owner: &Name,
     params: &[Name],
-    constrs: &[Constr],
+    constrs: &'a [Constr],
 ) -> Result<(), AllocError>
     requires { (n : Identifier) → ¬ (Repeats params.now n) }
     ensures { OnOk result (schemes_of entries.new.items ≡ schemes_of entries.old.items ++ map (scheme_in home.now owner.now params.now) constrs.now) }
@@ -53,11 +56,11 @@ fn add_constructors(
 }
 
 /// Adds the constructors of a declaration.
-fn add_declaration(
+fn add_declaration<'a>(
     alloc: Global,
-    entries: &mut Vec<Entry>,
-    home: &str,
-    decl: &Decl,
+    entries: &mut Vec<Entry<'a>>,
+    home: &'a str,
+    decl: &'a Decl,
 ) -> Result<(), AllocError>
     requires { HasDistinctParameters decl.now }
     ensures { OnOk result (schemes_of entries.new.items ≡ schemes_of entries.old.items ++ declared_schemes home.now (decl.now ∷ [])) }
@@ -81,11 +84,11 @@ fn add_declaration(
 }
 
 /// Adds the constructors of declarations.
-fn add_declared(
+fn add_declared<'a>(
     alloc: Global,
-    entries: &mut Vec<Entry>,
-    home: &str,
-    decls: &[Decl],
+    entries: &mut Vec<Entry<'a>>,
+    home: &'a str,
+    decls: &'a [Decl],
 ) -> Result<(), AllocError>
     requires { (d : Declaration) → Contains decls.now d → HasDistinctParameters d }
     ensures { OnOk result (schemes_of entries.new.items ≡ schemes_of entries.old.items ++ declared_schemes home.now decls.now) }
@@ -97,26 +100,29 @@ fn add_declared(
 }
 
 /// Adds the constructors of an interface.
-fn add_exported(
+fn add_exported<'a>(
     alloc: Global,
-    entries: &mut Vec<Entry>,
-    exported: &[ConstructorEntry],
+    entries: &mut Vec<Entry<'a>>,
+    exported: &'a [ConstructorEntry],
 ) -> Result<(), AllocError>
     ensures { OnOk result (schemes_of entries.new.items ≡ schemes_of entries.old.items ++ map (λ r. record { entity = r.entity; scheme = r.scheme }) exported.now) }
 {
     'exported: for entry in exported {
-        let entity = entry.entity.copy()?;
         let scheme = entry.scheme.copy(alloc)?;
-        entries.push(Entry { entity, scheme })?;
+        entries.push(Entry {
+            module: entry.entity.module.as_str(),
+            name: entry.entity.name.as_str(),
+            scheme,
+        })?;
     }
     Ok(())
 }
 
 /// Adds the constructors of interfaces.
-fn add_imported(
+fn add_imported<'a>(
     alloc: Global,
-    entries: &mut Vec<Entry>,
-    interfaces: &[Arc<Interface>],
+    entries: &mut Vec<Entry<'a>>,
+    interfaces: &'a [Arc<Interface>],
 ) -> Result<(), AllocError>
     ensures { OnOk result (schemes_of entries.new.items ≡ schemes_of entries.old.items ++ imported_schemes (map arc_value interfaces.now)) }
 {
@@ -127,7 +133,10 @@ fn add_imported(
 }
 
 /// The constructors of a core, those that it declares before those of its interfaces.
-pub(crate) fn known_constructors(alloc: Global, core: &Core) -> Result<Constructors, AllocError>
+pub(crate) fn known_constructors<'a>(
+    alloc: Global,
+    core: &'a Core,
+) -> Result<Constructors<'a>, AllocError>
     requires { IsSomeCore core.now }
     ensures { IfOk result (λ constructors. known_of constructors ≡ known core.now) }
 {
@@ -139,5 +148,5 @@ pub(crate) fn known_constructors(alloc: Global, core: &Core) -> Result<Construct
         core.decls.as_slice(),
     )?;
     add_imported(alloc, &mut entries, core.interfaces.as_slice())?;
-    Ok(Constructors::new(core.name.copy()?, entries))
+    Ok(Constructors::new(alloc, core.name.copy()?, entries)?)
 }
