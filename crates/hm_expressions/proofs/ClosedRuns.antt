@@ -1,12 +1,11 @@
 -- Runs of assumptions that have no free variables.
-use Rattle.std.proofs.Common.{◌≡◌, ℕ, zero, suc, ◌+◌, ◌-◌, ◌<◌, ◌≤◌, ◌⊎◌, ⊎_elim, inl, inr, ◌↔◌, List, [], ◌∷◌, ◌++◌, length, take, drop, get_or, Option, None, Some, refl, sym, ap, ◌∙◌, subst, arith, true}
+use Rattle.std.proofs.Common.{◌≡◌, ℕ, zero, suc, ◌+◌, ◌-◌, ◌<◌, ◌≤◌, ◌⊎◌, ⊎_elim, inl, inr, List, [], ◌∷◌, ◌++◌, length, take, get_or, Some, refl, sym, ap, ◌∙◌, subst, arith}
 use Rattle.std.specs.List.{slice_get}
 use Rattle.std.proofs.lemmas.Option.{slice_get_read, slice_get_within}
 use Rattle.hm_types.specs.Monotypes.{Leaf, Mono, var, rigid, arguments_of}
 use Rattle.hm_types.specs.Shape.{type_of, types_of}
-use Rattle.hm_types.specs.Types.{In, InArgs, App as app, Var as leaf}
+use Rattle.hm_types.specs.Types.{InArgs}
 use Rattle.hm_types.specs.declared.monotypes.Ty.{Ty}
-use Rattle.hm_types.specs.declared.Head.{Head}
 use Rattle.hm_unify.specs.Unifier.{Equation}
 use Rattle.hm_groups.proofs.Numberings.{some_injective, get-push_cases}
 use Rattle.hm_expressions.specs.declared.collecting.Collected.{Collected}

@@ -1,17 +1,17 @@
 -- Tables of the places of names.
-use Rattle.std.proofs.Common.{◌≡◌, ℕ, zero, suc, ◌+◌, ◌-◌, ◌<◌, ◌≤◌, ⊎_elim, inl, inr, Bool, true, false, true≢false, cond, List, [], ◌∷◌, ◌++◌, length, take, reverse, Option, None, Some, refl, sym, ap, ◌∙◌, subst, arith}
+use Rattle.std.proofs.Common.{◌≡◌, ℕ, zero, suc, ◌<◌, ⊎_elim, inl, inr, true, false, true≢false, cond, List, [], ◌∷◌, ◌++◌, length, reverse, Option, None, Some, refl, sym, ap, ◌∙◌, subst, arith}
 use Rattle.std.specs.List.{slice_get}
 use Rattle.std.proofs.lemmas.Bool.{cases_Bool}
 use Rattle.std.proofs.lemmas.List.{reverse-append, reverse-reverse, length-append}
 use Rattle.hm_types.specs.Shape.{type_of}
-use Rattle.hm_typing.specs.Names.{Identifier, IsOneOf}
+use Rattle.hm_typing.specs.Names.{IsOneOf}
 use Rattle.hm_groups.specs.Keys.{Table, number_of, same_variable, variable_of_key}
 use Rattle.hm_groups.specs.Variables.{Variable, identifier}
 use Rattle.hm_groups.proofs.Mentioned.{identifier_injective}
 use Rattle.hm_groups.proofs.Numberings.{some_injective, same_variable-is, same_variable-refl, differ, get-push_new, get-push_old, get-push_cases}
 use Rattle.hm_expressions.specs.declared.environment.Binding.{Binding}
 use Rattle.hm_expressions.specs.declared.variables.Variable.{Variable as KeptVariable}
-use Rattle.hm_expressions.specs.Environments.{Assumed, OpenScheme, IsSchemeOf, assumed_names}
+use Rattle.hm_expressions.specs.Environments.{Assumed, IsSchemeOf, assumed_names}
 use Rattle.hm_expressions.specs.Kept.{stack, assumed_of, entries_of, variable_of, variables_of}
 use Rattle.hm_expressions.specs.Patterns.{IsTypeOf, names_of}
 use Rattle.hm_expressions.specs.Places.{IsTable, IsPlaced, AreNoted}

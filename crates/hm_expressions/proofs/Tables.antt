@@ -1,11 +1,11 @@
 -- Tables of names, as lists of which the last comes first.
-use Rattle.std.proofs.Common.{◌≡◌, ℕ, zero, suc, ◌+◌, ◌-◌, ◌≤◌, ◌<◌, ⊎_elim, inl, inr, List, [], ◌∷◌, ◌++◌, length, get_or, take, drop, refl, sym, ap, ◌∙◌, subst, arith}
+use Rattle.std.proofs.Common.{◌≡◌, ℕ, ◌+◌, ◌≤◌, ◌<◌, List, [], ◌∷◌, ◌++◌, length, get_or, take, drop, refl, sym, ap, ◌∙◌, arith}
 use Rattle.std.proofs.lemmas.List.{take_more, take_all, take-append-drop, length-take-le, length-append}
 use Rattle.hm_types.specs.Monotypes.{Mono}
 use Rattle.hm_types.specs.Shape.{type_of}
-use Rattle.hm_typing.specs.Names.{Identifier, IsOneOf}
-use Rattle.hm_expressions.specs.Patterns.{Variable, IsTypeOf, names_of}
-use Rattle.hm_expressions.specs.Environments.{Assumed, OpenScheme, IsSchemeOf, assumed_names, monomorphic_entries}
+use Rattle.hm_typing.specs.Names.{Identifier}
+use Rattle.hm_expressions.specs.Patterns.{Variable}
+use Rattle.hm_expressions.specs.Environments.{Assumed, monomorphic_entries}
 use Rattle.hm_expressions.specs.Kept.{stack, variable_of, variables_of, assumed_of, entries_of, monomorphic_of}
 use Rattle.hm_expressions.specs.declared.variables.Variable.{Variable as KeptVariable}
 use Rattle.hm_expressions.specs.declared.environment.Binding.{Binding}

@@ -1,5 +1,5 @@
 -- Where a table finds the first entry of a constructor. No public clause names it.
-use Rattle.std.specs.Prelude.{◌≡◌, ℕ, List, Option, None, Some}
+use Rattle.std.specs.Prelude.{◌≡◌, ℕ, List, None, Some}
 use Rattle.std.specs.List.{slice_get}
 use Rattle.hm_types.specs.declared.Entity.{Entity}
 use Rattle.hm_groups.specs.Keys.{Table, number_of}

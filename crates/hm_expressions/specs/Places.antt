@@ -6,7 +6,7 @@ use Rattle.hm_types.specs.Shape.{type_of}
 use Rattle.hm_types.specs.Types.{In}
 use Rattle.hm_groups.specs.Keys.{Table, number_of, same_variable, variable_of_key}
 use Rattle.hm_groups.specs.Variables.{Variable, identifier}
-use Rattle.hm_typing.specs.Names.{Identifier, IsOneOf}
+use Rattle.hm_typing.specs.Names.{IsOneOf}
 use Rattle.hm_expressions.specs.declared.environment.Binding.{Binding}
 use Rattle.hm_expressions.specs.declared.variables.Variable.{Variable as KeptVariable}
 use Rattle.hm_expressions.specs.Kept.{variables_of}

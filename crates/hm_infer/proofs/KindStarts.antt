@@ -1,5 +1,5 @@
 -- The units without signatures that are faults begin where their groups do.
-use Rattle.std.proofs.Common.{◌≡◌, ℕ, zero, suc, ◌<◌, ◌≤◌, Bool, true, false, List, [], ◌∷◌, ◌++◌, length, drop, get_or, Option, Some, None, inl, inr, ⊎_elim, refl, sym, ap, ◌∙◌, subst, arith}
+use Rattle.std.proofs.Common.{◌≡◌, ℕ, zero, suc, ◌<◌, ◌≤◌, Bool, true, false, List, [], ◌∷◌, length, drop, get_or, Option, Some, inl, inr, refl, sym, subst, arith}
 use Rattle.std.specs.List.{slice_get}
 use Rattle.hm_typing.specs.Names.{Identifier as Name, IsOneOf}
 use Rattle.hm_typing.specs.Syntax.{names}
@@ -24,7 +24,7 @@ use Rattle.hm_infer.specs.UnitStarts.{AreGroupStarts, AreStartsOfKind, IsFaultSt
 use Rattle.hm_infer.proofs.FirstTold.{told_by}
 use Rattle.hm_infer.proofs.GroupTelling.{UnitTold, group_tells}
 use Rattle.hm_infer.proofs.ToldOnce.{one_first_name}
-use Rattle.hm_infer.proofs.UnitFaults.{fault_told, one_at, plain_groups}
+use Rattle.hm_infer.proofs.UnitFaults.{fault_told, plain_groups}
 
 at_place : (ds : List Declaration) (p : ℕ) → p < length ds → slice_get ds p ≡ Some (declaration_at ds p)
 at_place [] p l = absurd (omega (arith, l))

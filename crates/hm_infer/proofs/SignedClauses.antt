@@ -1,7 +1,6 @@
 -- The clauses of a name with a signature: what they have, what they mention, and that they stand together.
-use Rattle.std.proofs.Common.{◌≡◌, ℕ, zero, suc, ◌<◌, ◌≤◌, Bool, true, false, cond, ◌&&◌, List, [], ◌∷◌, ◌++◌, drop, length, get_or, Option, Some, None, inl, inr, ◌⊎◌, ⊎_elim, ◌↔◌, refl, sym, ap, ◌∙◌, subst, arith, true≢false}
+use Rattle.std.proofs.Common.{◌≡◌, ℕ, zero, suc, ◌<◌, ◌≤◌, Bool, true, false, cond, List, [], ◌∷◌, ◌++◌, drop, get_or, Option, Some, None, inl, inr, ◌⊎◌, ⊎_elim, ◌↔◌, refl, sym, ap, ◌∙◌, subst, arith, true≢false}
 use Rattle.std.specs.List.{slice_get}
-use Rattle.hm_types.specs.Types.{put}
 use Rattle.hm_typing.specs.Names.{Identifier as Name, IsOneOf, IsDistinct}
 use Rattle.hm_typing.specs.Schemes.{Monotype}
 use Rattle.hm_typing.specs.Assumptions.{Assumptions}
@@ -14,13 +13,12 @@ use Rattle.hm_typing.proofs.Names.{name_discrete}
 use Rattle.hm_syntax.specs.Names.{Identifier}
 use Rattle.hm_syntax.specs.Trees.{Patterns, RightSide, Declaration, clause, data_declaration, newtype_declaration, synonym_declaration, signature, pattern_binding, Declarations}
 use Rattle.hm_syntax.specs.Lists.{declarations}
-use Rattle.hm_names.specs.Syntax.{Known, add_clause, bindings_of, bound_by, is_continued, name_of, pattern_of, patterns_of, right_sides_of, signature_of, where_of}
+use Rattle.hm_names.specs.Syntax.{Known, add_clause, bindings_of, bound_by, is_continued, name_of, patterns_of, right_sides_of, signature_of, where_of}
 use Rattle.hm_names.specs.Texts.{same_text}
-use Rattle.hm_names.specs.Faults.Lists.{has_patterns}
 use Rattle.hm_names.proofs.Meant.{text_decides}
 use Rattle.hm_groups.proofs.Mentioned.{ClauseMentions, begins}
 use Rattle.hm_groups.proofs.Reached.{FirstIs, clause_binding}
-use Rattle.hm_infer.specs.SignedFaults.{BeginsRun, InRun, goes_on}
+use Rattle.hm_infer.specs.SignedFaults.{BeginsRun, goes_on}
 use Rattle.hm_expressions.specs.SignedLists.{AtDeclared, SignedClauseHas}
 use Rattle.hm_infer.proofs.FirstTold.{AreByText, both, rest_by_text}
 

@@ -1,10 +1,9 @@
 -- The places that are found are those of the signed names that are type faults.
-use Rattle.std.proofs.Common.{◌≡◌, ℕ, zero, suc, ◌+◌, ◌<◌, ◌≤◌, Bool, true, false, List, [], ◌∷◌, drop, length, map, get_or, Option, Some, None, Contains, inl, inr, ◌⊎◌, ⊎_elim, refl, sym, ap, ◌∙◌, subst, arith, true≢false}
+use Rattle.std.proofs.Common.{◌≡◌, ℕ, zero, suc, ◌<◌, ◌≤◌, Bool, true, false, List, [], ◌∷◌, drop, length, map, get_or, Option, Some, Contains, inl, inr, ◌⊎◌, ⊎_elim, refl, sym, ap, ◌∙◌, subst, arith, true≢false}
 use Rattle.std.specs.List.{slice_get}
 use Rattle.std.proofs.lemmas.Option.{get_or_from_slice_get, slice_get_within}
 use native.Mathlib.Decide.{ℕ_discrete}
 use Rattle.hm_typing.specs.Names.{Identifier as Name, local, IsOneOf, IsDistinct}
-use Rattle.hm_typing.specs.Schemes.{Monotype}
 use Rattle.hm_typing.specs.Assumptions.{Assumptions, bind_all}
 use Rattle.hm_typing.specs.Mentions.{RightSidesMention, BindingsMention}
 use Rattle.hm_typing.specs.Orders.{AreNumberedGroups, AreTestsOf, IsOrder}
@@ -16,22 +15,22 @@ use Rattle.hm_typing.proofs.Bridge.{one_kind}
 use Rattle.hm_typing.proofs.Faults.{SignedOf}
 use Rattle.hm_syntax.specs.Trees.{Declaration, data_declaration, newtype_declaration, synonym_declaration, signature, clause, pattern_binding, Declarations}
 use Rattle.hm_syntax.specs.Lists.{declarations}
-use Rattle.hm_names.specs.Syntax.{Known, bindings_of, name_of, patterns_of, right_sides_of, signature_of, where_of}
+use Rattle.hm_names.specs.Syntax.{Known, name_of, patterns_of, right_sides_of, where_of}
 use Rattle.hm_groups.proofs.Mentioned.{patterns_among, right_side_same}
-use Rattle.hm_groups.proofs.Named.{AllFit, names_fit, fit_back, fit_variable, names_unsigned, place_of, at_place}
+use Rattle.hm_groups.proofs.Named.{names_fit, fit_back, fit_variable, names_unsigned, place_of, at_place}
 use Rattle.hm_groups.proofs.Reached.{names_long, never_right}
 use Rattle.hm_groups.specs.Groups.{node_name, node_names}
 use Rattle.hm_groups.specs.Nodes.{list_nodes}
-use Rattle.hm_groups.specs.References.{DeclarationRefers, patterns_variables}
+use Rattle.hm_groups.specs.References.{DeclarationRefers}
 use Rattle.hm_groups.specs.Variables.{Variable, identifier}
 use Rattle.hm_groups.specs.Walks.{IsNodeWith}
 use Rattle.hm_expressions.specs.Dependences.{IsReferred, TellsNodes}
 use Rattle.hm_expressions.specs.Environments.{Assumed, AreAssumed, assumptions}
 use Rattle.hm_infer.specs.JudgedUnits.{UnitsJudged}
-use Rattle.hm_infer.specs.SignedFaults.{AreSignedFaults, BeginsRun, HasFlag, InRun, IsFaultAt, Refuses, Waits, goes_on}
+use Rattle.hm_infer.specs.SignedFaults.{AreSignedFaults, BeginsRun, InRun, IsFaultAt, Refuses, Waits, goes_on}
 use Rattle.hm_expressions.specs.SignedLists.{SignedClauseHas}
 use Rattle.hm_expressions.specs.Stages.{IsListFound, list_of}
-use Rattle.hm_infer.proofs.FirstTold.{AreByText, rest_by_text}
+use Rattle.hm_infer.proofs.FirstTold.{AreByText}
 use Rattle.hm_expressions.proofs.ListSteps.{past_end}
 use Rattle.hm_expressions.proofs.OpenedForms.{written_list}
 use Rattle.hm_expressions.proofs.PrincipalLists.{closed_assumptions}

@@ -1,5 +1,5 @@
 -- The bindings with signatures that are faults begin at the places that are found.
-use Rattle.std.proofs.Common.{◌≡◌, ℕ, Bool, List, Option, Some, Contains, refl, sym, ap, ◌∙◌, subst₂}
+use Rattle.std.proofs.Common.{◌≡◌, ℕ, Bool, List, Option, Some, refl, sym, ap, ◌∙◌, subst₂}
 use Rattle.std.proofs.lemmas.Option.{get_or_from_slice_get, slice_get_within}
 use Rattle.hm_typing.specs.Names.{Identifier as Name}
 use Rattle.hm_syntax.specs.Trees.{Declaration, data_declaration, newtype_declaration, synonym_declaration, signature, clause, pattern_binding}

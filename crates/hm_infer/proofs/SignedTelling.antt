@@ -1,7 +1,7 @@
 -- A binding with a signature that is a fault is told by its first clause.
-use Rattle.std.proofs.Common.{◌≡◌, ℕ, false, zero, suc, ◌<◌, Bool, List, [], ◌∷◌, ◌++◌, map, drop, length, Option, Some, None, Contains, inl, inr, ◌⊎◌, ⊎_elim, refl, sym, ap, ◌∙◌, subst, arith}
+use Rattle.std.proofs.Common.{◌≡◌, ℕ, false, zero, suc, ◌<◌, Bool, List, [], ◌∷◌, ◌++◌, map, length, Option, Some, None, Contains, inl, inr, ◌⊎◌, refl, sym, ap, ◌∙◌, subst, arith}
 use Rattle.std.specs.List.{slice_get}
-use Rattle.hm_typing.specs.Names.{Identifier as Name, binding, IsOneOf}
+use Rattle.hm_typing.specs.Names.{Identifier as Name, IsOneOf}
 use Rattle.hm_typing.specs.Orders.{AreNumberedGroups}
 use Rattle.hm_typing.specs.Syntax as typed
 use Rattle.hm_typing.specs.Syntax.{names}

@@ -1,5 +1,5 @@
 -- A name with a signature is a type fault where all that its clauses mention has types, and one of them hasn't the declared type.
-use Rattle.std.proofs.Common.{◌≡◌, ℕ, Bool, List, true, inl, inr, ⊎_elim, ◌↔◌, refl, sym, ap, ◌∙◌, subst}
+use Rattle.std.proofs.Common.{◌≡◌, Bool, List, true, inl, inr, ⊎_elim, ◌↔◌, sym, subst}
 use Rattle.hm_types.specs.Types.{Var, put}
 use Rattle.hm_typing.specs.Names.{Identifier, IsOneOf}
 use Rattle.hm_typing.specs.Schemes.{Monotype, Scheme}

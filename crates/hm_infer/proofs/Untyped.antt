@@ -1,5 +1,5 @@
 -- Where the units of a core that are faults begin, where it has no typing.
-use Rattle.std.proofs.Common.{◌≡◌, ℕ, zero, suc, ◌<◌, All, Bool, List, [], ◌∷◌, ◌++◌, length, Contains, inl, inr, ⊎_elim, refl, sym, subst, arith}
+use Rattle.std.proofs.Common.{◌≡◌, ℕ, zero, suc, ◌<◌, All, List, [], ◌∷◌, ◌++◌, length, inl, inr, ⊎_elim, refl, sym, subst, arith}
 use Rattle.hm_typing.specs.Assumptions.{Assumptions, IsClosed}
 use Rattle.hm_typing.specs.BindingLists.{HasSchemes}
 use Rattle.hm_typing.specs.Names.{Identifier as Name, IsDistinct, IsOneOf}

@@ -1,4 +1,4 @@
-use Rattle.std.proofs.Common.{◌≡◌, length, refl}
+use Rattle.std.proofs.Common.{length, refl}
 use Rattle.hm_expressions.proofs.ClosedRuns.{run_on}
 use Rattle.hm_expressions.proofs.environment.closed_run.Goals as goal
 

@@ -1,6 +1,4 @@
-use Rattle.std.proofs.Common.{◌≡◌, List, ◌∷◌, ◌++◌, [], ap, rules, sym, subst, refl, length, take, ◌-◌}
-use Rattle.hm_groups.specs.Keys.{variable_of_key}
-use Rattle.hm_expressions.specs.declared.environment.Binding.{Binding}
+use Rattle.std.proofs.Common.{◌≡◌, ◌∷◌, ◌++◌, [], rules, sym, subst, length, take, ◌-◌}
 use Rattle.hm_expressions.specs.Places.{HaveRuns}
 use Rattle.hm_expressions.proofs.ClosedRuns.{runs_taken}
 use Rattle.hm_expressions.proofs.Placed.{last_forgotten, last_placed}

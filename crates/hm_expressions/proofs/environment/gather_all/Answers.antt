@@ -1,4 +1,4 @@
-use Rattle.std.proofs.Common.{◌≡◌, arith, ◌-◌, length, refl}
+use Rattle.std.proofs.Common.{arith, ◌-◌, length, refl}
 use Rattle.std.proofs.lemmas.Option.{slice_get_read}
 use Rattle.hm_expressions.proofs.Closing.{assumed_at}
 use Rattle.hm_expressions.proofs.ClosedRuns.{all_gathered, from_end, one_back}

@@ -1,6 +1,6 @@
-use Rattle.std.proofs.Common.{refl, ◌≡◌, Some, None, sym, ap, ◌∙◌, cond}
+use Rattle.std.proofs.Common.{refl, Some, None, sym, ap, ◌∙◌, cond}
 use Rattle.hm_groups.specs.Keys.{number_of, same_variable, variable_of_key}
-use Rattle.hm_groups.proofs.Numberings.{look_up, updated}
+use Rattle.hm_groups.proofs.Numberings.{updated}
 use Rattle.hm_expressions.proofs.environment.restore.Goals as goal
 
 pub returns-in_default : goal.returns-in_default

@@ -1,7 +1,4 @@
-use Rattle.std.proofs.Common.{rules, sym, ap, ◌∙◌, subst}
-use Rattle.hm_types.specs.Types.{App as app}
-use Rattle.hm_types.specs.Monotypes.{arguments_of}
-use Rattle.hm_types.specs.Shape.{type_of}
+use Rattle.std.proofs.Common.{rules}
 use Rattle.hm_types.proofs.Rows.{argument_smaller}
 use Rattle.hm_expressions.proofs.ClosedRuns.{closed_more}
 use Rattle.hm_expressions.proofs.generalising.+is_closed.Goals as goal

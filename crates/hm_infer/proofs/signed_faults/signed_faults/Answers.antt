@@ -1,6 +1,4 @@
-use Rattle.hm_infer.proofs.SignedVerdicts.{signed_fault}
-use Rattle.hm_infer.proofs.SignedTelling.{fault_tells}
-use Rattle.std.proofs.Common.{◌+◌, ◌≤◌, ℕ, Global, Vec, length, true, false, sym, ap, ◌∙◌, subst, subst₂, arith}
+use Rattle.std.proofs.Common.{◌+◌, ℕ, Global, Vec, length, sym, ap, ◌∙◌, subst, subst₂}
 use Rattle.std.specs.Bool.{Decides}
 use Rattle.hm_expressions.specs.Constructors.{known_of}
 use Rattle.hm_expressions.specs.Environments.{assumptions}

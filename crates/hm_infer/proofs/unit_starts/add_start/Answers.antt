@@ -1,4 +1,4 @@
-use Rattle.std.proofs.Common.{◌<◌, length, sym, subst, refl}
+use Rattle.std.proofs.Common.{sym, subst}
 use Rattle.hm_graph.specs.Digraph.{lists}
 use Rattle.hm_groups.specs.GroupMembers.{AreMembersOf}
 use Rattle.hm_infer.proofs.UnitStarts.{some_member, start_added}

@@ -1,11 +1,9 @@
-use Rattle.std.proofs.Common.{◌≡◌, ◌∙◌, ◌<◌, ◌≤◌, All, length, get_or, false, refl, sym, subst, ap, arith}
-use Rattle.std.proofs.lemmas.List.{length-map}
+use Rattle.std.proofs.Common.{◌≡◌, ◌<◌, All, length, get_or, false, refl, sym, subst, arith}
 use Rattle.hm_graph.specs.Digraph.{lists}
-use Rattle.hm_typing.specs.Names.{IsOneOf}
 use Rattle.hm_infer.specs.UnitStarts.{AddsStart, HasMember}
 use Rattle.hm_expressions.proofs.ListSteps.{group_at, rows_long}
 use Rattle.hm_infer.proofs.UnitFaults.{one_at}
-use Rattle.hm_infer.proofs.UnitStarts.{all_starts, at_first, next_start}
+use Rattle.hm_infer.proofs.UnitStarts.{at_first, next_start}
 use Rattle.hm_infer.proofs.unit_starts.unsigned_starts.Goals as goal
 
 pub add_start-requires-clause-nodes : goal.add_start-requires-clause-nodes

@@ -1,4 +1,4 @@
-use Rattle.std.proofs.Common.{◌≡◌, ◌∙◌, ◌++◌, length, sym, subst, ap}
+use Rattle.std.proofs.Common.{◌∙◌, ◌++◌, length, sym, subst, ap}
 use Rattle.hm_graph.specs.Digraph.{lists}
 use Rattle.hm_expressions.specs.Constructors.{known_of}
 use Rattle.hm_infer.specs.JudgedUnits.{UnitsJudged}

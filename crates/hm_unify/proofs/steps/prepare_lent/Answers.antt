@@ -1,4 +1,4 @@
-use Rattle.hm_unify.proofs.Follow.{not_a_variable, prepared_left, prepared_right, prepared_both}
+use Rattle.hm_unify.proofs.Follow.{prepared_left, prepared_right}
 use Rattle.hm_unify.proofs.steps.prepare_lent.Goals as goal
 
 pub returns-in-Var : goal.returns-in-Var

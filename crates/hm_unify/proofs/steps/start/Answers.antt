@@ -1,4 +1,4 @@
-use Rattle.std.proofs.Common.{◌++◌, ◌∷◌, List, [], refl}
+use Rattle.std.proofs.Common.{◌++◌, ◌∷◌, [], refl}
 use Rattle.hm_unify.specs.Steps.{equations_in}
 use Rattle.hm_unify.specs.declared.steps.Pending.{Pending}
 use Rattle.hm_unify.proofs.Loop.{keeps_added, keeps_first, keeps_reduced, never_first}

@@ -1,4 +1,4 @@
-use Rattle.std.proofs.Common.{refl, ◌≡◌, Some, None, sym, ap, ◌∙◌, arith, rules, length}
+use Rattle.std.proofs.Common.{refl, ◌≡◌, Some, None, sym, ap, ◌∙◌, arith, length}
 use Rattle.std.proofs.lemmas.Option.{slice_get_read}
 use Rattle.hm_groups.specs.Keys.{number_of}
 use Rattle.hm_groups.specs.Variables.{variable_of}

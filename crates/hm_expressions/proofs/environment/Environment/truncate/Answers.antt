@@ -1,4 +1,4 @@
-use Rattle.std.proofs.Common.{[], ◌≡◌, ◌≤◌, ap, ◌∙◌, sym, length, arith, ◌++◌, List}
+use Rattle.std.proofs.Common.{[], ◌≡◌, ◌≤◌, ap, ◌∙◌, length, arith, ◌++◌}
 use Rattle.std.proofs.lemmas.List.{length-append}
 use Rattle.hm_expressions.specs.Environments.{Assumed}
 use Rattle.hm_expressions.specs.Kept.{assumed_of, entries_of}
