@@ -41,7 +41,7 @@ fn equate_types(
     'items: for i in 0..items.len() {
         let number = types[own - 1 - i];
         let item = &items[i];
-        equate(solver, &item.ty, &Ty::Var(number))?;
+        equate(solver, &item.ty, Ty::Var(number))?;
     }
     Ok(())
 }

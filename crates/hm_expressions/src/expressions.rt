@@ -72,7 +72,7 @@ pub(crate) fn check_expression<'a>(
         ExprKind::Con(name) => check_constructor(alloc, solver, constructors, name, t),
         ExprKind::Literal(literal) => {
             let own = literal_type(alloc, literal)?;
-            equate(solver, t, &own)
+            equate(solver, t, own)
         }
         ExprKind::Apply(function, argument) => {
             let first = new_variables(solver, 1)?;
@@ -201,7 +201,7 @@ fn check_function<'a>(
         function,
         &Ty::Var(own),
     )?;
-    equate(solver, &Ty::Var(own), &whole)
+    equate(solver, &Ty::Var(own), whole)
 }
 
 /// Checks expressions against the variables from `first` on, or each against that one.

@@ -80,7 +80,7 @@ pub(crate) fn check_scheme(
 {
     let base = new_variables(solver, quantified)?;
     let instance = instantiate(alloc, false, quantified, base, body)?;
-    equate(solver, t, &instance)
+    equate(solver, t, instance)
 }
 
 /// Makes a type equal to an instance of a declared scheme.

@@ -57,7 +57,7 @@ pub(crate) fn function_parts(
     }
     let first = new_variables(solver, count + 1)?;
     let whole = function_type(alloc, first, count, &Ty::Var(first + count))?;
-    equate(solver, t, &whole)?;
+    equate(solver, t, whole)?;
     Ok(first)
 }
 
@@ -76,7 +76,7 @@ pub(crate) fn tuple_parts(
 {
     let first = new_variables(solver, count)?;
     let whole = tuple_type(alloc, first, count)?;
-    equate(solver, t, &whole)?;
+    equate(solver, t, whole)?;
     Ok(first)
 }
 
@@ -90,6 +90,6 @@ pub(crate) fn list_part(alloc: Global, solver: &mut Solver, t: &Ty) -> Result<us
 {
     let first = new_variables(solver, 1)?;
     let whole = list_type(alloc, first)?;
-    equate(solver, t, &whole)?;
+    equate(solver, t, whole)?;
     Ok(first)
 }

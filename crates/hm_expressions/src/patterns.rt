@@ -47,7 +47,8 @@ fn add_variable<'a>(
         }
         Some(u) => {
             let known = u.copy(alloc)?;
-            equate(solver, t, &known)?;
+            let own = u.copy(alloc)?;
+            equate(solver, t, own)?;
             variables.add(key_of(name), known)?;
             Ok(())
         }
@@ -84,7 +85,7 @@ pub(crate) fn match_pattern<'a>(
         }
         PatKind::Literal(literal) => {
             let own = literal_type(alloc, literal)?;
-            equate(solver, t, &own)
+            equate(solver, t, own)
         }
         PatKind::Wild => Ok(()),
         PatKind::Tuple(parts) => {

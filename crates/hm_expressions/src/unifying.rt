@@ -11,11 +11,11 @@ ghost use Rattle.hm_expressions.specs.Problems.{Answers, monotype, problem, boun
 use hm_types::Ty;
 use hm_unify::{Solver, UnifyFault};
 
-/// Makes two types equal.
-pub(crate) fn equate(solver: &mut Solver, left: &Ty, right: &Ty) -> Result<(), UnifyFault>
+/// Makes two types equal, of which the second is given away.
+pub(crate) fn equate(solver: &mut Solver, left: &Ty, right: Ty) -> Result<(), UnifyFault>
     requires left { IsWellFormed solver.old.given (type_of left.now) }
-    requires right { IsWellFormed solver.old.given (type_of right.now) }
-    ensures answers { Answers (λ r. put r (monotype (type_of left.now)) ≡ put r (monotype (type_of right.now))) solver.old solver.new result }
+    requires right { IsWellFormed solver.old.given (type_of right) }
+    ensures answers { Answers (λ r. put r (monotype (type_of left.now)) ≡ put r (monotype (type_of right))) solver.old solver.new result }
     ensures given { OnOk result (solver.new.given ≡ solver.old.given) }
 {
     solver.well_formed();

@@ -78,7 +78,7 @@ fn equations_of_the_rows(rt: HostRuntime) -> Result<(), Fail> {
     let alloc = rt.alloc();
     for (left, right, unifies, value) in ROWS {
         let mut solver = solver_of_three(alloc)?;
-        let answer = solver.unify(&example(alloc, left)?, &example(alloc, right)?);
+        let answer = solver.unify(&example(alloc, left)?, example(alloc, right)?);
         assert!(rt; answer.is_ok() == unifies, "{left} and {right}");
         let found = solver.value(&example(alloc, 0)?)?;
         assert!(rt;
@@ -93,9 +93,9 @@ fn equations_of_the_rows(rt: HostRuntime) -> Result<(), Fail> {
 fn a_solver_goes_on_after_a_clash(rt: HostRuntime) -> Result<(), Fail> {
     let alloc = rt.alloc();
     let mut solver = solver_of_three(alloc)?;
-    let answer = solver.unify(&example(alloc, 0)?, &example(alloc, 4)?);
+    let answer = solver.unify(&example(alloc, 0)?, example(alloc, 4)?);
     if let Err(UnifyFault::Clash) = answer {
-        let again = solver.unify(&example(alloc, 0)?, &example(alloc, 3)?);
+        let again = solver.unify(&example(alloc, 0)?, example(alloc, 3)?);
         assert!(rt; again.is_ok());
         let found = solver.value(&example(alloc, 0)?)?;
         assert!(rt; found.is_same(&example(alloc, 3)?));
