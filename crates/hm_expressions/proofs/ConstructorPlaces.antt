@@ -1,17 +1,18 @@
 -- Where a table finds the first entry of a constructor.
-use Rattle.std.proofs.Common.{◌≡◌, ℕ, ◌+◌, ◌-◌, ◌<◌, ◌≤◌, Bool, true, false, true≢false, cond, ◌&&◌, List, ◌∷◌, drop, length, get_or, Option, Some, None, refl, sym, ap, ◌∙◌, subst, arith, bytes_eq}
+use Rattle.std.proofs.Common.{◌≡◌, ℕ, ◌+◌, ◌-◌, ◌<◌, Bool, true, false, true≢false, cond, ◌&&◌, List, ◌∷◌, drop, length, get_or, Option, Some, None, refl, sym, ap, ◌∙◌, subst, arith, bytes_eq}
 use Rattle.std.specs.List.{slice_get}
 use Rattle.std.proofs.lemmas.Slice.Eq.{bytes_eq-Decides}
 use Rattle.hm_types.specs.declared.Entity.{Entity}
 use Rattle.hm_groups.specs.Keys.{Table, number_of, same_variable}
 use Rattle.hm_groups.specs.Variables.{Variable}
 use Rattle.hm_groups.proofs.Numberings.{some_injective}
+use Rattle.hm_names.specs.Cores.{ConstructorScheme}
 use Rattle.hm_names.specs.Described.{first_of}
 use Rattle.hm_names.specs.Texts.{same_entity}
 use Rattle.hm_expressions.specs.declared.constructors.Entry.{Entry}
-use Rattle.hm_expressions.specs.Entered.{AreEntered, key_of_entity}
+use Rattle.hm_expressions.specs.ConstructorPlaces.{AreFirstPlaces, key_of_entity}
 use Rattle.hm_expressions.specs.Kept.{scheme_of, schemes_of}
-use Rattle.hm_expressions.proofs.ListSteps.{drop_more, past_end}
+use Rattle.hm_expressions.proofs.ListSteps.{drop_more}
 
 same_turned : (x y : List ℕ) → bytes_eq x y ≡ bytes_eq y x
 same_turned x y = at (bytes_eq x y) (bytes_eq y x) refl refl
@@ -25,12 +26,12 @@ same_turned x y = at (bytes_eq x y) (bytes_eq y x) refl refl
 same_key : (e d : Entity) → same_variable (key_of_entity d) (key_of_entity e) ≡ same_entity e d
 same_key e d = ap (λ b. b && bytes_eq d.name e.name) (same_turned d.«module» e.«module») ∙ ap (λ b. bytes_eq e.«module» d.«module» && b) (same_turned d.name e.name)
 
-abbrev first : Entity → List Entry → Option Rattle.hm_names.specs.Cores.ConstructorScheme
+abbrev first : Entity → List Entry → Option ConstructorScheme
 first e ds = first_of (λ d. d.entity) e (schemes_of ds)
 
 -- an entry before others
-pub one_entered : (all some : List Entry) (d : Entry) (p : ℕ) (old new : Table) → slice_get all p ≡ Some d → AreEntered all some old → ((x : Variable) → number_of new x ≡ cond (same_variable (key_of_entity (scheme_of d).entity) x) (Some p) (number_of old x)) → AreEntered all (d ∷ some) new
-one_entered all some d p old new g t u = record {
+pub first_before : (all some : List Entry) (d : Entry) (p : ℕ) (old new : Table) → slice_get all p ≡ Some d → AreFirstPlaces all some old → ((x : Variable) → number_of new x ≡ cond (same_variable (key_of_entity (scheme_of d).entity) x) (Some p) (number_of old x)) → AreFirstPlaces all (d ∷ some) new
+first_before all some d p old new g t u = record {
   found = λ e q h. found_at e q h (same_entity e (scheme_of d).entity) refl;
   none = λ e h. none_at e h (same_entity e (scheme_of d).entity) refl;
 }
@@ -50,19 +51,10 @@ one_entered all some d p old new g t u = record {
     none_at e h false s = at_first e false s ∙ t.none e (sym (at_key e false s) ∙ h)
 
 -- entries from the end
-pub none_entered : (all : List Entry) (table : Table) → ((x : Variable) → number_of table x ≡ None) → AreEntered all (drop (length all - 0) all) table
-none_entered all table n = subst (λ (z : List Entry). AreEntered all z table) (sym (past_end all (length all - 0) (omega arith))) (record {
-  found = λ e p h. let k : None ≡ Some p = sym (n (key_of_entity e)) ∙ h in absurd (cc);
-  none = λ e h. refl;
-})
-
-pub next_entered : (all : List Entry) (behind : ℕ) (d : Entry) (old new : Table) → behind < length all → d ≡ get_or all (length all - 1 - behind) d → slice_get all (length all - 1 - behind) ≡ Some d → AreEntered all (drop (length all - behind) all) old →
-    ((x : Variable) → number_of new x ≡ cond (same_variable (key_of_entity (scheme_of d).entity) x) (Some (length all - 1 - behind)) (number_of old x)) → AreEntered all (drop (length all - (behind + 1)) all) new
-next_entered all behind d old new l i g t u =
+pub first_next : (all : List Entry) (behind : ℕ) (d : Entry) (old new : Table) → behind < length all → d ≡ get_or all (length all - 1 - behind) d → slice_get all (length all - 1 - behind) ≡ Some d → AreFirstPlaces all (drop (length all - behind) all) old →
+    ((x : Variable) → number_of new x ≡ cond (same_variable (key_of_entity (scheme_of d).entity) x) (Some (length all - 1 - behind)) (number_of old x)) → AreFirstPlaces all (drop (length all - (behind + 1)) all) new
+first_next all behind d old new l i g t u =
     let a : length all - (behind + 1) ≡ length all - 1 - behind = omega arith in
     let b : length all - 1 - behind + 1 ≡ length all - behind = omega arith in
     let here : drop (length all - (behind + 1)) all ≡ d ∷ drop (length all - behind) all = ap (λ n. drop n all) a ∙ (drop_more all (length all - 1 - behind) d (omega arith) i ∙ ap (λ n. d ∷ drop n all) b) in
-    subst (λ (z : List Entry). AreEntered all z new) (sym here) (one_entered all (drop (length all - behind) all) d (length all - 1 - behind) old new g t u)
-
-pub all_entered : (all : List Entry) (behind : ℕ) (table : Table) → length all ≤ behind → AreEntered all (drop (length all - behind) all) table → AreEntered all all table
-all_entered all behind table l t = let z : length all - behind ≡ 0 = omega arith in subst (λ (y : List Entry). AreEntered all y table) (ap (λ n. drop n all) z) t
+    subst (λ (z : List Entry). AreFirstPlaces all z new) (sym here) (first_before all (drop (length all - behind) all) d (length all - 1 - behind) old new g t u)

@@ -5,7 +5,7 @@ ghost use Rattle.hm_groups.specs.Keys.{variable_of_key};
 ghost use Rattle.hm_names.specs.Described.{first_of};
 ghost use Rattle.hm_names.specs.Types.{entity_of};
 ghost use Rattle.hm_expressions.specs.Constructors.{known_of};
-ghost use Rattle.hm_expressions.specs.Entered.{AreEntered, key_of_entity};
+ghost use Rattle.hm_expressions.specs.ConstructorPlaces.{AreFirstPlaces, key_of_entity};
 ghost use Rattle.hm_expressions.specs.Kept.{schemes_of};
 
 use crate::environment::place_of;
@@ -46,9 +46,9 @@ impl<'a> Model for Constructors<'a> {
 
     ghost view = { λ s. record { home = s.home; schemes = schemes_of s.entries.items } };
 
-    ghost use Rattle.hm_expressions.specs.Entered.{AreEntered};
+    ghost use Rattle.hm_expressions.specs.ConstructorPlaces.{AreFirstPlaces};
 
-    ghost invariant = { λ s. AreEntered s.entries.items s.entries.items s.places };
+    ghost invariant = { λ s. AreFirstPlaces s.entries.items s.entries.items s.places };
 }
 
 impl<'a> Constructors<'a> {
@@ -89,7 +89,7 @@ fn places_of<'a>(
     alloc: Global,
     entries: &[Entry<'a>],
 ) -> Result<IndexMap<LentName<'a>, usize>, AllocError>
-    ensures { IfOk result (AreEntered entries.now entries.now) }
+    ensures { IfOk result (AreFirstPlaces entries.now entries.now) }
 {
     let mut places = IndexMap::new(alloc);
     'entries: for behind in 0..entries.len() {
@@ -124,7 +124,7 @@ fn entered<'b>(
     places: &IndexMap<LentName<'_>, usize>,
     name: &Name,
 ) -> Option<&'b Scheme>
-    requires { AreEntered entries.now entries.now places.now }
+    requires { AreFirstPlaces entries.now entries.now places.now }
     ensures { option_copied result ≡ option_map (λ d. d.scheme) (first_of (λ d. d.entity) (entity_of name.now) (schemes_of entries.now)) }
 {
     match place_of(places, &entity_key(name)) {

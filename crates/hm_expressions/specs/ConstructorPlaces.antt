@@ -12,6 +12,6 @@ abbrev pub key_of_entity : Entity → Variable
 key_of_entity e = record { qualifier = Some e.«module»; text = e.name }
 
 -- the table has the place among all entries of the first of each constructor among some of them
-pub record AreEntered (all some : List Entry) (table : Table) : Type 0 where
+pub record AreFirstPlaces (all some : List Entry) (table : Table) : Type 0 where
   pub found : (e : Entity) (p : ℕ) → number_of table (key_of_entity e) ≡ Some p → (d : Entry) × ((slice_get all p ≡ Some d) × (first_of (λ d. d.entity) e (schemes_of some) ≡ Some (scheme_of d)))
   pub none : (e : Entity) → number_of table (key_of_entity e) ≡ None → first_of (λ d. d.entity) e (schemes_of some) ≡ None
