@@ -1,9 +1,7 @@
 //! Builds by several workers: journals, records, and that checks run at the same time.
 use crate::check::check_run_by;
-use hm_build::{
-    BuildFault, Finished, Gate, Open, Options, RunFault, Status, Watched, build, journal_text,
-    report, run,
-};
+use hm_build::{BuildFault, Finished, Gate, Open, Options, build, journal_text, report, run};
+use hm_sources::{RunFault, Status, Watched};
 use hm_store::{Act, Record};
 use std::alloc::{AllocError, Global};
 use std::process::Abort;

@@ -1,7 +1,7 @@
 //! What `run` prints of sources: the interface of each good module, the faults of each faulty one, and for each
 //! skipped one the imports that aren't good.
 use crate::check::check_run;
-use hm_build::Status;
+use hm_sources::Status;
 use std::alloc::{AllocError, Global};
 use std::test::Fail;
 

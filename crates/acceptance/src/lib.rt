@@ -12,18 +12,12 @@ mod devices;
 #[cfg(test)]
 mod equal;
 #[cfg(test)]
-mod grammar;
-#[cfg(test)]
 mod modules;
-#[cfg(test)]
-mod plans;
 #[cfg(test)]
 mod reports;
 #[cfg(test)]
 mod sources;
 #[cfg(test)]
 mod stores;
-#[cfg(test)]
-mod texts;
 #[cfg(test)]
 mod transfers;

@@ -1,7 +1,8 @@
 //! How `run` ends at its bounds, and where its devices fail.
 use crate::check::{check_run, check_run_of};
 use crate::devices::{Short, Slow, Then};
-use hm_build::{Options, RunFault, Status, Watched, run};
+use hm_build::{Options, run};
+use hm_sources::{RunFault, Status, Watched};
 use std::test::Fail;
 
 const OPTIONS: Options = Options {

@@ -1,6 +1,6 @@
 //! Readers and writers that fail or are slow.
 use crate::devices::{Never, Short, Slow, Then};
-use hm_build::{RunFault, Status, Watched, run_plan};
+use hm_sources::{RunFault, Status, Watched, run_plan};
 use std::test::Fail;
 
 const SOURCE: &[u8] = b"module A where { import B ; x = y }\nmodule B where { y = 1 }\n";

@@ -15,7 +15,7 @@ use Rattle.hm_verdicts.specs.Verdicts.{Status, Published, Failed, Skipped}
 use Rattle.hm_verdicts.proofs.ImportOrder.{import_in}
 use Rattle.hm_verdicts.proofs.LawfulReading.{outline_at}
 use Rattle.hm_verdicts.proofs.Lists.{one_of_contained, contained, one_of_left, one_of_right, one_of_either}
-use Rattle.hm_build.specs.Names.{name_below}
+use Rattle.hm_sources.specs.Names.{name_below}
 use Rattle.hm_build.specs.ReportBlocks.{blamed, all_blamed}
 use Rattle.hm_build.proofs.Strict.{strict, unlike}
 

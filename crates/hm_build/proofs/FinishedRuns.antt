@@ -21,8 +21,8 @@ use Rattle.hm_build.specs.JournalledRuns.{Follows, IsRun}
 use Rattle.hm_build.specs.Journals.{MayEnd, worker_of}
 use Rattle.hm_build.specs.Settling.{statuses_of}
 use Rattle.hm_build.specs.declared.statuses.Settled.{Settled}
-use Rattle.hm_build.specs.declared.status.Status.{Status}
-use Rattle.hm_build.specs.declared.status.Status.TheVariants.{Good, Faulty}
+use Rattle.hm_sources.specs.declared.status.Status.{Status}
+use Rattle.hm_sources.specs.declared.status.Status.TheVariants.{Good, Faulty}
 use Rattle.hm_build.proofs.OneRun.{settled_good, settled_faulty}
 
 -- ---- the workers' numbers in a journal

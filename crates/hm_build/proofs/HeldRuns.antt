@@ -5,11 +5,11 @@ use Rattle.hm_syntax.specs.declared.ast.Module.{Module}
 use Rattle.hm_build.specs.Checks.{IsChecked, IsCheckRun}
 use Rattle.hm_build.specs.JournalledRuns.{Follows, IsRun, IsWritten}
 use Rattle.hm_build.specs.Journals.{MayEnd}
-use Rattle.hm_build.specs.Sources.{held_of}
-use Rattle.hm_build.specs.SourceModules.{AreModulesOf, HasModules}
-use Rattle.hm_build.specs.declared.status.Status.{Status}
-use Rattle.hm_build.specs.declared.status.Status.TheVariants.{Good, Faulty, Refused}
-use Rattle.hm_build.proofs.Telling.{refusal_held, tokens_held}
+use Rattle.hm_sources.specs.Sources.{held_of}
+use Rattle.hm_sources.specs.SourceModules.{AreModulesOf, HasModules}
+use Rattle.hm_sources.specs.declared.status.Status.{Status}
+use Rattle.hm_sources.specs.declared.status.Status.TheVariants.{Good, Faulty, Refused}
+use Rattle.hm_sources.proofs.Telling.{refusal_held, tokens_held}
 
 modules_held : (s : List ℕ) (modules : List Module) → HasModules (held_of s) modules → HasModules s modules
 modules_held s modules h = subst (λ l. HasModules l modules) (tokens_held s h.tokens h.lexed) h

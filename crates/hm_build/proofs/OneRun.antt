@@ -11,14 +11,14 @@ use Rattle.hm_verdicts.specs.Verdicts.{Status as Settlement, IsSettled}
 use Rattle.hm_verdicts.proofs.Composition.{settled_verdict}
 use Rattle.hm_verdicts.proofs.OneReport.{one_text, one_status}
 use Rattle.hm_build.specs.Checks.{IsChecked, IsGoodCheck, IsCheckRun}
-use Rattle.hm_build.specs.Names.{module_outlines}
-use Rattle.hm_build.specs.Runs.{IsRefused}
-use Rattle.hm_build.specs.SourceModules.{AreModulesOf, HasModules}
-use Rattle.hm_build.specs.declared.status.Status.{Status}
-use Rattle.hm_build.specs.declared.status.Status.TheVariants.{Good, Faulty, Refused}
-use Rattle.hm_build.proofs.OneRefusal.{not_set, not_source}
-use Rattle.hm_build.proofs.OneText.{outlines_once, tokens_once}
-use Rattle.hm_build.proofs.Reading.{outlines_there}
+use Rattle.hm_sources.specs.Names.{module_outlines}
+use Rattle.hm_sources.specs.Runs.{IsRefused}
+use Rattle.hm_sources.specs.SourceModules.{AreModulesOf, HasModules}
+use Rattle.hm_sources.specs.declared.status.Status.{Status}
+use Rattle.hm_sources.specs.declared.status.Status.TheVariants.{Good, Faulty, Refused}
+use Rattle.hm_sources.proofs.OneRefusal.{not_set, not_source}
+use Rattle.hm_sources.proofs.OneText.{outlines_once, tokens_once}
+use Rattle.hm_sources.proofs.Reading.{outlines_there}
 
 source_once : (source : List ℕ) (ms ns : List Module) → HasModules source ms → HasModules source ns → ms ≡ ns
 source_once source ms ns a b =

@@ -15,10 +15,10 @@ use Rattle.hm_verdicts.specs.Verdicts.{Status}
 use Rattle.hm_verdicts.proofs.OneReport.{one_block_text}
 use Rattle.hm_store.specs.Builds.{Build, set_of}
 use Rattle.hm_store.specs.Settlements.{settlement}
-use Rattle.hm_build.specs.Names.{name_below}
+use Rattle.hm_sources.specs.Names.{name_below}
 use Rattle.hm_build.specs.ReportBlocks.{AreBlocksOf}
 use Rattle.hm_build.proofs.Blame.{names_apart}
-use Rattle.hm_build.proofs.Ordering.{sorted_map}
+use Rattle.hm_sources.proofs.Ordering.{sorted_map}
 use Rattle.hm_build.proofs.Strict.{strict, unlike}
 use Rattle.hm_build.specs.Settling.{module_set, status_of, statuses_of}
 use Rattle.hm_build.specs.declared.statuses.Settled.{Settled}

@@ -11,7 +11,7 @@ use Rattle.std.proofs.lemmas.Map.Keys.{IsDistinct-IsPermutation, apart_from_dist
 use Rattle.std.proofs.lemmas.Map.Text.{is_eq-slice_cmp}
 use Rattle.std.proofs.lemmas.Slice.Eq.{bytes_eq-Decides}
 use Rattle.hm_types.specs.Interfaces.{AreOrdered}
-use Rattle.hm_build.specs.Names.{name_below}
+use Rattle.hm_sources.specs.Names.{name_below}
 
 flips : (x y : List ℕ) → bytes_eq x y ≡ bytes_eq y x
 flips x y = sym (is_eq-slice_cmp x y) ∙ (ap is_eq (nat_list_cmp_total.antisymm x y) ∙ (turned (slice_cmp nat_cmp y x) ∙ is_eq-slice_cmp y x))

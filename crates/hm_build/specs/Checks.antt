@@ -2,10 +2,10 @@
 use Rattle.std.specs.Prelude.{ℕ, List}
 use Rattle.hm_verdicts.specs.Reports.{IsAllGood, IsReported}
 use Rattle.hm_verdicts.specs.Sets.{ModuleSet, IsLawfulSet}
-use Rattle.hm_build.specs.Runs.{IsRefused}
-use Rattle.hm_build.specs.SourceModules.{AreModulesOf}
-use Rattle.hm_build.specs.declared.status.Status.{Status}
-use Rattle.hm_build.specs.declared.status.Status.TheVariants.{Good, Faulty, Refused}
+use Rattle.hm_sources.specs.Runs.{IsRefused}
+use Rattle.hm_sources.specs.SourceModules.{AreModulesOf}
+use Rattle.hm_sources.specs.declared.status.Status.{Status}
+use Rattle.hm_sources.specs.declared.status.Status.TheVariants.{Good, Faulty, Refused}
 
 -- the sources spell a lawful set, and the text is the report of its verdicts
 pub record IsChecked (sources : List (List ℕ)) (text : List ℕ) : Type 0 where

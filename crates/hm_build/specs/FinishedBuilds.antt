@@ -3,7 +3,7 @@ use Rattle.std.specs.Prelude.{◌≡◌, ◌<◌, ℕ, List, false, length, slic
 use Rattle.hm_store.specs.Agreement.{Agree}
 use Rattle.hm_store.specs.Builds.{Build, IsAllSettled, IsLegal, state_of}
 use Rattle.hm_store.specs.declared.record.Record.{Record}
-use Rattle.hm_build.specs.SourceModules.{AreModulesOf}
+use Rattle.hm_sources.specs.SourceModules.{AreModulesOf}
 
 -- a record for each worker, in the order of their numbers, which count from 0
 pub record AreNumbered (workers : ℕ) (records : List Record) : Type 0 where

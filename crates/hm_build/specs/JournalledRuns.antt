@@ -3,8 +3,8 @@ use Rattle.std.specs.Prelude.{◌≡◌, ℕ, Bool, false, true, List, ◌++◌}
 use Rattle.hm_store.specs.Builds.{Build}
 use Rattle.hm_build.specs.Checks.{IsCheckRun}
 use Rattle.hm_build.specs.Journals.{MayEnd, journal_text}
-use Rattle.hm_build.specs.declared.status.Status.{Status}
-use Rattle.hm_build.specs.declared.status.Status.TheVariants.{Good, Faulty, Refused}
+use Rattle.hm_sources.specs.declared.status.Status.{Status}
+use Rattle.hm_sources.specs.declared.status.Status.TheVariants.{Good, Faulty, Refused}
 
 -- with the journal its text follows the report
 abbrev pub Follows : Bool → ℕ → List (List ℕ) → List ℕ → List ℕ → Type 0

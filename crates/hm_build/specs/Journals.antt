@@ -6,7 +6,7 @@ use Rattle.hm_verdicts.specs.Sets.{ModuleSet, module_at}
 use Rattle.hm_store.specs.Builds.{Build, IsAllSettled, IsLegal, set_of, state_of}
 use Rattle.hm_store.specs.declared.object.Entry.{Entry}
 use Rattle.hm_store.specs.declared.object.Entry.TheVariants.{Claim, Publish, Fail, Stop}
-use Rattle.hm_build.specs.SourceModules.{AreModulesOf}
+use Rattle.hm_sources.specs.SourceModules.{AreModulesOf}
 
 -- a line for a step on a module: a word, the worker's number, and the module's name
 abbrev pub step_line : ModuleSet → List ℕ → ℕ → ℕ → List ℕ

@@ -1,32 +1,13 @@
--- The laws of runs, as statements.
-use Rattle.std.specs.Prelude.{◌≡◌, ℕ, List, ◌⊎◌}
-use Rattle.hm_lex.specs.declared.token.Place.{Place}
-use Rattle.hm_parse.specs.declared.fault.ParseFault.TheVariants.{Syntax}
+-- The laws of runs of the checker, as statements.
+use Rattle.std.specs.Prelude.{◌≡◌, ℕ, List}
 use Rattle.hm_verdicts.specs.Reports.{IsAllGood, IsReport}
 use Rattle.hm_verdicts.specs.Sets.{ModuleSet, IsLawfulSet}
 use Rattle.hm_verdicts.specs.Verdicts.{Status as Settlement, IsSettled}
 use Rattle.hm_build.specs.Checks.{IsChecked, IsCheckRun}
-use Rattle.hm_build.specs.declared.status.Status.{Status}
-use Rattle.hm_build.specs.declared.status.Status.TheVariants.{Good, Faulty}
-use Rattle.hm_build.specs.Refusals.{Refusal, parse}
-use Rattle.hm_build.specs.Runs.{IsPlanned, IsPlanRun, IsRefusalOf, IsRefused}
-use Rattle.hm_build.specs.SourceModules.{AreModulesOf}
-
--- sources that have a plan have one text of it
-abbrev pub HasOnePlanText : Type 0
-HasOnePlanText = (sources : List (List ℕ)) (text other : List ℕ) → IsPlanned sources text → IsPlanned sources other → text ≡ other
-
--- sources have one status: no plan where they are refused
-abbrev pub HasOnePlanStatus : Type 0
-HasOnePlanStatus = (sources : List (List ℕ)) (s t : Status) (text other : List ℕ) → IsPlanRun sources s text → IsPlanRun sources t other → s ≡ t
-
--- the same refusal, or two syntax faults of one source, whatever their places
-abbrev pub AreSameButPlace : Refusal → Refusal → Type 0
-AreSameButPlace r s = (r ≡ s) ⊎ ((n : ℕ) × ((p : Place) × ((q : Place) × ((r ≡ parse n (Syntax p)) × (s ≡ parse n (Syntax q))))))
-
--- sources that are refused are refused for one thing
-abbrev pub HasOneRefusal : Type 0
-HasOneRefusal = (sources : List (List ℕ)) (r s : Refusal) → IsRefusalOf sources r → IsRefusalOf sources s → AreSameButPlace r s
+use Rattle.hm_sources.specs.declared.status.Status.{Status}
+use Rattle.hm_sources.specs.declared.status.Status.TheVariants.{Good, Faulty}
+use Rattle.hm_sources.specs.Runs.{IsRefused}
+use Rattle.hm_sources.specs.SourceModules.{AreModulesOf}
 
 -- sources that are checked have one text
 abbrev pub HasOneReport : Type 0

@@ -1,60 +1,18 @@
-//! What a run writes, and its status.
+//! What a run of the checker writes, and its status.
 ghost use Rattle.std.specs.Prelude.{◌≡◌, ◌⊎◌, ◌<◌, ◌≤◌, ℕ, List, IfOk, IfErr, map, string_bytes};
 ghost use Rattle.hm_build.specs.FinishedBuilds.{IsFinished};
 ghost use Rattle.hm_build.specs.JournalledRuns.{IsRun};
 ghost use Rattle.hm_build.specs.BuildTexts.{HasReport};
-ghost use Rattle.hm_build.specs.Refusals.{IsLasting, refusal_of, refusal_text as refusal_bytes};
-ghost use Rattle.hm_build.specs.Runs.{IsPlanRun};
-ghost use Rattle.hm_build.specs.declared.status.Status.{Status};
 
 use crate::building::build_here;
 use crate::journals::journal_text;
-use crate::plans::plan_text;
-use crate::refusals::refusal_text;
 use crate::reports::{report, status_of};
-use crate::sets::{SetError, headers_of, set_modules};
 use crate::statuses::settled_in;
-use crate::{BuildFault, Finished, Open, Options, RunFault, SetFault, Status};
+use crate::{BuildFault, Finished, Open, Options};
+use hm_sources::{Answer, RunFault, refusal_answer};
 use std::alloc::{AllocError, Global};
 use std::sync::Wait;
 use std::thread::Threads;
-
-/// What is written, and how the run ends.
-#[derive(Drop)]
-pub(crate) struct Answer {
-    pub status: Status,
-    pub text: String,
-}
-
-/// The answer to a set that is refused.
-fn refusal(alloc: Global, fault: &SetFault) -> Result<Answer, AllocError>
-    requires { IsLasting (refusal_of fault.now) }
-    ensures status { IfOk result (λ a. a.status ≡ Status.Refused) }
-    ensures text { IfOk result (λ a. string_bytes a.text ≡ refusal_bytes (refusal_of fault.now)) }
-{
-    Ok(Answer {
-        status: Status::Refused,
-        text: refusal_text(alloc, fault)?,
-    })
-}
-
-/// The plan of a set of sources, or why they are refused.
-#[tactic(auto, using(crate::proofs::Reading::planned_sources))]
-pub(crate) fn plan_answer(alloc: Global, sources: &[Vec<u8>]) -> Result<Answer, RunFault>
-    ensures ok { IfOk result (λ a. IsPlanRun (map (λ s. s.items) sources.now) a.status (string_bytes a.text)) }
-    ensures err { IfErr result (λ e. e ≡ RunFault.Memory) }
-{
-    match set_modules(alloc, sources) {
-        Ok((modules, plan)) => {
-            let headers = headers_of(alloc, modules)?;
-            let text = plan_text(alloc, headers.as_slice(), &plan)?;
-            let status = Status::Good;
-            Ok(Answer { status, text })
-        }
-        Err(SetError::Refused(fault)) => Ok(refusal(alloc, &fault)?),
-        Err(SetError::Memory) => Err(RunFault::Memory),
-    }
-}
 
 /// The report of a build, and behind it the journal where it is asked for.
 fn build_text(alloc: Global, finished: &Finished, journal: bool) -> Result<String, AllocError>
@@ -91,7 +49,7 @@ pub(crate) fn build_answer<T: Threads + Wait + Sync>(
 {
     match build_here(rt, alloc, sources, options.workers, &Open) {
         Ok(finished) => Ok(finished_answer(alloc, &finished, options.journal)?),
-        Err(BuildFault::Refused(fault)) => Ok(refusal(alloc, &fault)?),
+        Err(BuildFault::Refused(fault)) => Ok(refusal_answer(alloc, &fault)?),
         Err(BuildFault::Workers) => unreachable!(),
         Err(BuildFault::NoWorker) => Err(RunFault::NoWorker),
         Err(BuildFault::Memory) => Err(RunFault::Memory),

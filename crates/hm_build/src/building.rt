@@ -5,16 +5,15 @@ ghost use Rattle.hm_graph.specs.Imports.{IsImportPlan, IsLawful};
 ghost use Rattle.hm_build.specs.Errors.{IsBuildError, IsBuildFault};
 ghost use Rattle.hm_build.specs.FinishedBuilds.{IsFinished};
 ghost use Rattle.hm_build.specs.Headline.{HasVerdicts};
-ghost use Rattle.hm_build.specs.Names.{module_outlines};
-ghost use Rattle.hm_build.specs.SourceModules.{AreModulesOf};
+ghost use Rattle.hm_sources.specs.Names.{module_outlines};
+ghost use Rattle.hm_sources.specs.SourceModules.{AreModulesOf};
 
 use crate::finishing::{finished, records_of};
-use crate::sets::{SetError, set_modules, shared_modules};
-use crate::stacks::stack_size;
 use crate::workers::{Work, run_workers};
 use crate::{BuildFault, Gate};
 use core::thread::Stack;
 use hm_graph::Plan;
+use hm_sources::{SetError, set_modules, stack_size};
 use hm_store::laws::settled_builds_are_settled_sets;
 use hm_store::{Record, Shared, Store};
 use hm_syntax::Module;
@@ -46,6 +45,17 @@ struct Fresh {
     modules: Vec<Arc<Module>>,
     imports: Vec<Vec<usize>>,
     store: Store,
+}
+
+/// Modules that threads can share.
+fn shared_modules(alloc: Global, modules: Vec<Module>) -> Result<Vec<Arc<Module>>, AllocError>
+    ensures { IfOk result (λ shared. map arc_value shared.items ≡ modules.items) }
+{
+    let mut shared = Vec::new(alloc);
+    for module in modules {
+        shared.push(Arc::new(alloc, module)?)?;
+    }
+    Ok(shared)
 }
 
 /// The same modules once more. No tree is copied.

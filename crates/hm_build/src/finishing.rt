@@ -3,7 +3,7 @@ ghost use Rattle.std.specs.Prelude.{◌≡◌, ◌⊎◌, ℕ, List, IfErr, IfOk
 ghost use Rattle.std.specs.Arc.{arc_value};
 ghost use Rattle.hm_store.specs.Builds.{IsAllSettled, IsLegal};
 ghost use Rattle.hm_build.specs.FinishedBuilds.{AreNumbered, IsFinished};
-ghost use Rattle.hm_build.specs.SourceModules.{AreModulesOf};
+ghost use Rattle.hm_sources.specs.SourceModules.{AreModulesOf};
 
 use crate::{BuildFault, Finished};
 use hm_equal::is_same_module;

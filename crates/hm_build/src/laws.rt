@@ -1,13 +1,5 @@
 //! Laws of what a run prints. A law is a function with an empty body, whose contract is the law.
-ghost use Rattle.hm_build.specs.Laws.{HasOnePlanText, HasOnePlanStatus, HasOneRefusal, HasOneReport, HasOneStatus, IsNotCheckedAndRefused, SettledSetIsRun};
-
-/// What a run of the plan prints is a function of the sources, but for the place of a syntax fault:
-/// they have one status, one text of their plan, and one refusal.
-pub fn one_plan_run()
-    ensures text { HasOnePlanText }
-    ensures status { HasOnePlanStatus }
-    ensures refusal { HasOneRefusal }
-{}
+ghost use Rattle.hm_build.specs.Laws.{HasOneReport, HasOneStatus, IsNotCheckedAndRefused, SettledSetIsRun};
 
 /// What a run of the checker prints is a function of the sources, but for the place of a syntax fault:
 /// they have one status, and where they aren't refused one report.

@@ -7,7 +7,7 @@ ghost use Rattle.hm_verdicts.specs.Reports.{AreBlamed, IsBlockText, IsReport, bl
 ghost use Rattle.hm_store.specs.Builds.{set_of};
 ghost use Rattle.hm_store.specs.Settlements.{settlement as settlement_in};
 ghost use Rattle.hm_build.specs.Settling.{module_set, status_of as settlement, statuses_of};
-ghost use Rattle.hm_build.specs.declared.status.Status.{Status};
+ghost use Rattle.hm_sources.specs.declared.status.Status.{Status};
 ghost use Rattle.hm_build.specs.ReportBlocks.{AreBlocksOf, all_blamed, blamed, report_block_of};
 
 use crate::statuses::{Settled, settled_in};

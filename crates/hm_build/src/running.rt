@@ -1,63 +1,19 @@
-//! From readers to a writer.
+//! From readers to a writer: the report of the verdicts.
 ghost use Rattle.std.specs.Prelude.{◌≡◌, ◌≤◌, ◌<◌, ◌⊎◌, ◌↔◌, ℕ, List, All, Any, IfOk, IfErr, IsErrOf, OnErr, OnOk};
 ghost use Rattle.std.specs.Io.KnownBytes.{Appends};
 ghost use Rattle.hm_build.specs.JournalledRuns.{IsRun};
-ghost use Rattle.hm_build.specs.Runs.{IsPlanRun};
-ghost use Rattle.hm_build.specs.Sources.{AreReadUp, StopsAtFault, Tell, WritesPrefix};
-ghost use Rattle.hm_build.specs.declared.status.Status.{Status};
-ghost use Rattle.hm_build.specs.Watching.{device_of, HasReadFault, HasWriteFault, IsFresh, failures_of, flushes_of, reads_of};
+ghost use Rattle.hm_sources.specs.Sources.{AreReadUp, StopsAtFault, Tell, WritesPrefix};
+ghost use Rattle.hm_sources.specs.declared.status.Status.{Status};
+ghost use Rattle.hm_sources.specs.Watching.{device_of, HasReadFault, HasWriteFault, IsFresh, failures_of, flushes_of, reads_of};
 
-use crate::answers::Answer;
+use crate::Options;
 use crate::building::MOST_WORKERS;
-use crate::source::read_all;
-use crate::stacks::{build_answer_on_thread, plan_on_thread};
-use crate::{Options, RunFault, Status, Watched, output};
+use crate::stacks::build_answer_on_thread;
+use hm_sources::{Answer, RunFault, Status, Watched, read_all, write_text};
 use std::alloc::Global;
 use std::io::{Read, Write};
 use std::sync::Wait;
 use std::thread::Threads;
-
-/// Reads the sources, and writes the text of their plan, or the line that refuses them.
-pub fn run_plan<T: Threads, R: Read, W: Write>(
-    rt: &T,
-    alloc: Global,
-    readers: &mut [Watched<R>],
-    writer: &mut Watched<W>,
-) -> Result<Status, RunFault>
-    requires readers { All IsFresh readers.old }
-    requires writer { IsFresh writer.old }
-
-    // Where the readers and the writer tell their bytes, the plan's text or the refusal is written, and nothing else.
-    ensures ok { IfOk result (λ status. (sources : List (List ℕ)) → Tell (λ r. R.remaining (device_of r)) readers.old sources
-        → (text : List ℕ) × IsPlanRun sources status text × Appends (W.contents (device_of writer.old)) (W.contents (device_of writer.new)) text) }
-    // The writer was flushed behind it.
-    ensures flushed { OnOk result (flushes_of writer.new ≡ 1) }
-    // After a fault of the writer a prefix of that text was written.
-    ensures prefix { IsErrOf result RunFault.Write → (sources : List (List ℕ)) → Tell (λ r. R.remaining (device_of r)) readers.old sources
-        → (status : Status) × (text : List ℕ) × IsPlanRun sources status text × WritesPrefix (W.contents (device_of writer.old)) (W.contents (device_of writer.new)) text }
-    // After every other fault nothing was written.
-    ensures nothing { OnErr result ((writer.new ≡ writer.old) ⊎ IsErrOf result RunFault.Write) }
-
-    // Where the text was made, each reader was read to its end, or so far that its source is too long, and no further.
-    ensures read_up { OnOk result (AreReadUp (λ r. R.remaining (device_of r)) readers.old readers.new) }
-    ensures read_up_before_a_write { IsErrOf result RunFault.Write → AreReadUp (λ r. R.remaining (device_of r)) readers.old readers.new }
-    // After a fault of a reader those before it were read so, and those behind it not at all.
-    ensures stops { IsErrOf result RunFault.Read → StopsAtFault (λ r. R.remaining (device_of r)) readers.old readers.new }
-
-    // Each reader is read at most so often, and a failed read is answered.
-    ensures reads { All (λ r. reads_of r ≤ 2097152) readers.new }
-    ensures failed { IsErrOf result RunFault.Read ⊎ All (λ r. failures_of r ≡ 0) readers.new }
-
-    // Each fault comes only for its cause.
-    ensures read { IsErrOf result RunFault.Read → Any HasReadFault readers.new }
-    ensures write { IsErrOf result RunFault.Write → HasWriteFault writer.new }
-    ensures others { IfErr result (λ e. (e ≡ RunFault.Read) ⊎ ((e ≡ RunFault.Write) ⊎ (e ≡ RunFault.Memory))) }
-{
-    let sources = read_all(alloc, readers)?;
-    let Answer { status, text } = plan_on_thread(rt, alloc, sources)?;
-    output::write_text(writer, text.as_bytes())?;
-    Ok(status)
-}
 
 /// Reads the sources, checks their modules, as many at a time as there are workers, and writes the report of their
 /// verdicts, behind it the journal where it is asked for, or the line that refuses them.
@@ -105,6 +61,6 @@ pub fn run<T: Threads + Wait + Sync, R: Read, W: Write>(
     }
     let sources = read_all(alloc, readers)?;
     let Answer { status, text } = build_answer_on_thread(rt, alloc, sources, options)?;
-    output::write_text(writer, text.as_bytes())?;
+    write_text(writer, text.as_bytes())?;
     Ok(status)
 }

@@ -1,5 +1,5 @@
 use Rattle.std.proofs.Common.{rules, ◌∙◌, sym}
-use Rattle.hm_build.proofs.Ordering.{each_more}
+use Rattle.hm_sources.proofs.Ordering.{each_more}
 use Rattle.hm_verdicts.specs.Reports.{IsBlockOf}
 use Rattle.hm_build.specs.Settling.{module_set, statuses_of}
 use Rattle.hm_build.specs.ReportBlocks.{report_block_of}

@@ -2,11 +2,11 @@ use Rattle.std.proofs.Common.{◌∙◌, ◌<◌, map, sym, ap, subst, get_or}
 use Rattle.std.specs.Arc.{arc_value}
 use Rattle.std.specs.List.Sorted.{IsPermutation}
 use Rattle.std.proofs.lemmas.List.Sorted.{IsPermutation-map}
-use Rattle.hm_build.specs.Names.{name_below}
+use Rattle.hm_sources.specs.Names.{name_below}
 use Rattle.hm_build.specs.ReportBlocks.{all_blamed}
 use Rattle.hm_build.specs.Settling.{module_set, statuses_of}
 use Rattle.hm_build.proofs.Blame.{are_blamed}
-use Rattle.hm_build.proofs.Ordering.{sorted_map}
+use Rattle.hm_sources.proofs.Ordering.{sorted_map}
 use Rattle.hm_build.proofs.Reporting.{inside_set}
 use Rattle.hm_build.proofs.Tables.{row_inside}
 use Rattle.hm_build.proofs.reports.ordered_blame.Goals as goal

@@ -4,10 +4,10 @@ use Rattle.std.proofs.lemmas.List.{take_all, length-map}
 use Rattle.std.proofs.lemmas.List.Sorted.{IsPermutation-map, answers_always}
 use Rattle.std.specs.Arc.{arc_value}
 use Rattle.hm_verdicts.specs.Reports.{count_line}
-use Rattle.hm_build.specs.Names.{name_below}
+use Rattle.hm_sources.specs.Names.{name_below}
 use Rattle.hm_build.specs.ReportBlocks.{report_block_of}
 use Rattle.hm_build.specs.Settling.{module_set, statuses_of}
-use Rattle.hm_build.proofs.Ordering.{sorted_map}
+use Rattle.hm_sources.proofs.Ordering.{sorted_map}
 use Rattle.hm_build.proofs.Reporting.{is_report}
 use Rattle.hm_build.proofs.reports.settled_report.Goals as goal
 

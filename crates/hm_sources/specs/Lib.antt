@@ -1,0 +1,11 @@
+pub mod Counting
+pub mod Errors
+pub mod Laws
+pub mod Names
+pub mod Plans
+pub mod Refusals
+pub mod Runs
+pub mod SourceModules
+pub mod Sources
+pub mod Views
+pub mod Watching

@@ -1,0 +1,45 @@
+-- What is read of the readers and written to the writer.
+use Rattle.std.specs.Prelude.{◌≡◌, ℕ, ◌<◌, List, [], ◌∷◌, ◌++◌, Option, Some, IfSome, drop, get_or, length, take}
+use Rattle.std.specs.Io.KnownBytes.{Appends}
+use Rattle.hm_sources.specs.declared.watched.Watched.{Watched}
+use Rattle.hm_sources.specs.Watching.{HasReadFault}
+
+-- what is held of a reader's bytes: all, or as many as show that a source is too long
+abbrev pub held_of : List ℕ → List ℕ
+held_of bytes = take 1048577 bytes
+
+-- what such a reader has left then: nothing, or what stands behind the bytes that show it
+abbrev pub left_of : List ℕ → List ℕ
+left_of bytes = drop 1048577 bytes
+
+-- a reader that told its bytes was read to their end, or so far that they are too many, and no further
+abbrev pub IsReadUp : Option (List ℕ) → Option (List ℕ) → Type 0
+IsReadUp old new = IfSome old (λ bytes. new ≡ Some (left_of bytes))
+
+-- each reader was read so
+pub record AreReadUp {R : Type 0} (remaining : R → Option (List ℕ)) (olds news : List R) : Type 0 where
+  pub as_many : length news ≡ length olds
+  pub each : (k : ℕ) (d : R) → k < length olds → IsReadUp (remaining (get_or olds k d)) (remaining (get_or news k d))
+
+-- reading stopped at a reader with a fault: those before it were read up, and those behind it were not touched
+pub record StopsAtFault {R : Type 0} (remaining : Watched R → Option (List ℕ)) (olds news : List (Watched R)) : Type 0 where
+  pub as_many : length news ≡ length olds
+  pub place : ℕ
+  pub inside : place < length olds
+  pub before : (k : ℕ) (d : Watched R) → k < place → IsReadUp (remaining (get_or olds k d)) (remaining (get_or news k d))
+  pub fault : (d : Watched R) → HasReadFault (get_or news place d)
+  pub behind : (k : ℕ) (d : Watched R) → place < k → k < length olds → get_or news k d ≡ get_or olds k d
+
+-- each reader tells its bytes, and these are they
+abbrev pub Tell : {R : Type 0} → (R → Option (List ℕ)) → List R → List (List ℕ) → Type 0
+Tell remaining [] [] = Unit {0}
+Tell remaining [] (s ∷ ss) = ⊥
+Tell remaining (r ∷ rs) [] = ⊥
+Tell remaining (r ∷ rs) (s ∷ ss) = (remaining r ≡ Some s) × Tell remaining rs ss
+
+-- a prefix of the text was written, and no more
+pub record WritesPrefix (old new : Option (List ℕ)) (text : List ℕ) : Type 0 where
+  pub sent : List ℕ
+  pub rest : List ℕ
+  pub whole : text ≡ sent ++ rest
+  pub appended : Appends old new sent

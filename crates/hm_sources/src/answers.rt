@@ -1,0 +1,47 @@
+//! What a run writes, and its status.
+ghost use Rattle.std.specs.Prelude.{◌≡◌, IfOk, IfErr, map, string_bytes};
+ghost use Rattle.hm_sources.specs.Refusals.{IsLasting, refusal_of, refusal_text as refusal_bytes};
+ghost use Rattle.hm_sources.specs.Runs.{IsPlanRun};
+
+use crate::plans::plan_text;
+use crate::refusals::refusal_text;
+use crate::sets::{SetError, headers_of, set_modules};
+use crate::{RunFault, SetFault, Status};
+use std::alloc::{AllocError, Global};
+
+/// What is written, and how the run ends.
+#[derive(Drop)]
+pub struct Answer {
+    pub status: Status,
+    pub text: String,
+}
+
+/// The answer to a set that is refused.
+pub fn refusal_answer(alloc: Global, fault: &SetFault) -> Result<Answer, AllocError>
+    requires { IsLasting (refusal_of fault.now) }
+    ensures status { IfOk result (λ a. a.status ≡ Status.Refused) }
+    ensures text { IfOk result (λ a. string_bytes a.text ≡ refusal_bytes (refusal_of fault.now)) }
+{
+    Ok(Answer {
+        status: Status::Refused,
+        text: refusal_text(alloc, fault)?,
+    })
+}
+
+/// The plan of a set of sources, or why they are refused.
+#[tactic(auto, using(crate::proofs::Reading::planned_sources))]
+pub(crate) fn plan_answer(alloc: Global, sources: &[Vec<u8>]) -> Result<Answer, RunFault>
+    ensures ok { IfOk result (λ a. IsPlanRun (map (λ s. s.items) sources.now) a.status (string_bytes a.text)) }
+    ensures err { IfErr result (λ e. e ≡ RunFault.Memory) }
+{
+    match set_modules(alloc, sources) {
+        Ok((modules, plan)) => {
+            let headers = headers_of(alloc, modules)?;
+            let text = plan_text(alloc, headers.as_slice(), &plan)?;
+            let status = Status::Good;
+            Ok(Answer { status, text })
+        }
+        Err(SetError::Refused(fault)) => Ok(refusal_answer(alloc, &fault)?),
+        Err(SetError::Memory) => Err(RunFault::Memory),
+    }
+}

@@ -1,0 +1,63 @@
+//! Why a run gives no status, and why a set of sources is refused.
+use hm_graph::PlanFault;
+use hm_lex::LexFault;
+use hm_parse::ParseFault;
+use std::alloc::{AllocError, AllocFailed};
+use thiserror::Error;
+
+/// Why a run gives no status. A run of the plan answers the first three alone.
+#[derive(Clone, Copy, Debug, PartialEq, Eq, Drop, Error)]
+pub enum RunFault {
+    #[error("read fault")]
+    Read,
+    #[error("write fault")]
+    Write,
+    #[error("no memory")]
+    Memory,
+    #[error("no worker")]
+    NoWorker,
+    #[error("mixed")]
+    Mixed,
+    #[error("workers not 1 to 16")]
+    Workers,
+}
+
+impl From<AllocError> for RunFault {
+    ghost use Rattle.std.specs.Prelude.{◌≡◌};
+    ghost use Rattle.hm_sources.specs.declared.faults.RunFault.TheVariants.{Memory};
+
+    ghost from_gives = { λ _ fault. fault ≡ Memory };
+
+    fn from(_error: AllocError) -> RunFault {
+        RunFault::Memory
+    }
+}
+
+impl<T: Drop> From<AllocFailed<T>> for RunFault {
+    ghost use Rattle.std.specs.Prelude.{◌≡◌};
+    ghost use Rattle.hm_sources.specs.declared.faults.RunFault.TheVariants.{Memory};
+
+    ghost from_gives = { λ _ fault. fault ≡ Memory };
+
+    fn from(_error: AllocFailed<T>) -> RunFault {
+        RunFault::Memory
+    }
+}
+
+/// Why a set of sources is refused. Sources are numbered from 1; a name that the fault hasn't is empty.
+#[derive(Debug, Drop)]
+pub enum SetFault {
+    Lex {
+        source: usize,
+        fault: LexFault,
+    },
+    Parse {
+        source: usize,
+        fault: ParseFault,
+    },
+    Plan {
+        fault: PlanFault,
+        module: String,
+        import: String,
+    },
+}

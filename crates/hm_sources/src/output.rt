@@ -1,0 +1,42 @@
+//! Writing the text.
+ghost use Rattle.std.specs.Prelude.{◌≡◌, ◌<◌, IfErr, OnErr, OnOk};
+ghost use Rattle.std.specs.Io.KnownBytes.{Appends};
+ghost use Rattle.hm_sources.specs.Sources.{WritesPrefix};
+ghost use Rattle.hm_sources.specs.Watching.{device_of, interrupts_of, failures_of, flushes_of, HasWriteFault, IsFresh};
+
+use crate::{RunFault, Watched};
+use std::io::{ErrorKind, Write};
+
+/// How many interrupted writes are tried again, and one more.
+const MOST_INTERRUPTS: u64 = 2_097_152;
+
+/// Writes the whole text and flushes.
+pub fn write_text<W: Write>(writer: &mut Watched<W>, text: &[u8]) -> Result<(), RunFault>
+    requires { IsFresh writer.old }
+    ensures bytes { OnOk result (Appends (W.contents (device_of writer.old)) (W.contents (device_of writer.new)) text.now) }
+    ensures ok { OnOk result ((failures_of writer.new ≡ 0) × (interrupts_of writer.new < 2097152)) }
+    ensures flushed { OnOk result (flushes_of writer.new ≡ 1) }
+    ensures prefix { OnErr result (WritesPrefix (W.contents (device_of writer.old)) (W.contents (device_of writer.new)) text.now) }
+    ensures cause { OnErr result (HasWriteFault writer.new) }
+    ensures others { IfErr result (λ e. e ≡ RunFault.Write) }
+{
+    let mut rest = text;
+    while !rest.is_empty() {
+        match writer.write(rest) {
+            Ok(0) => return Err(RunFault::Write),
+            Ok(count) => rest = &rest[count..],
+            Err(error) => {
+                if error.kind() != ErrorKind::Interrupted {
+                    return Err(RunFault::Write);
+                }
+                if writer.interrupts() >= MOST_INTERRUPTS {
+                    return Err(RunFault::Write);
+                }
+            }
+        }
+    }
+    match writer.flush() {
+        Ok(()) => Ok(()),
+        Err(_) => Err(RunFault::Write),
+    }
+}

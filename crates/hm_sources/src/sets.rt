@@ -1,0 +1,159 @@
+//! The modules of a set of sources, and their plan.
+ghost use Rattle.std.specs.Prelude.{◌≡◌, [], ◌++◌, ◌+◌, ◌<◌, List, IfOk, IfErr, OnOk, length, map, string_bytes};
+ghost use Rattle.hm_graph.specs.Outline.{outlines};
+ghost use Rattle.hm_graph.specs.Imports.{IsImportPlan, IsLawful, imports_at, name_at};
+ghost use Rattle.hm_graph.specs.Refusal.{IsRefusal as IsPlanRefusal};
+ghost use Rattle.hm_syntax.specs.declared.ast.Module.{Module as ModuleTree};
+ghost use Rattle.hm_sources.specs.Errors.{IsSourceError, IsSetError, IsPlanError};
+ghost use Rattle.hm_sources.specs.Names.{import_at, module_outlines};
+ghost use Rattle.hm_sources.specs.Refusals.{IsLasting, plan, refusal_of};
+ghost use Rattle.hm_sources.specs.Runs.{IsSetPlanFault};
+ghost use Rattle.hm_sources.specs.SourceModules.{AreModulesOf, HasModules};
+
+use crate::SetFault;
+use hm_graph::{Plan, PlanFault};
+use hm_lex::LexFault;
+use hm_parse::ParseFault;
+use hm_syntax::{Header, Module};
+use std::alloc::{AllocError, Global};
+
+/// Why there is no plan.
+#[derive(Debug, Drop)]
+pub enum SetError {
+    Refused(SetFault),
+    Memory,
+}
+
+/// Appends one source's modules.
+fn add_modules(
+    alloc: Global,
+    source: usize,
+    text: &[u8],
+    modules: &mut Vec<Module>,
+) -> Result<(), SetError>
+    ensures ok { OnOk result ((first : List ModuleTree) × HasModules text.now first
+        × (modules.new.items ≡ modules.old.items ++ first)) }
+    ensures err { IfErr result (λ e. IsSourceError source text.now e) }
+{
+    let tokens = match hm_lex::lex(alloc, text) {
+        Ok(tokens) => tokens,
+        Err(LexFault::Memory) => return Err(SetError::Memory),
+        Err(fault) => return Err(SetError::Refused(SetFault::Lex { source, fault })),
+    };
+    let parsed = match hm_parse::parse(alloc, text, tokens.as_slice()) {
+        Ok(parsed) => parsed,
+        Err(ParseFault::Memory) => return Err(SetError::Memory),
+        Err(fault) => return Err(SetError::Refused(SetFault::Parse { source, fault })),
+    };
+    for module in parsed {
+        modules.push(module).map_err(|_| SetError::Memory)?;
+    }
+    Ok(())
+}
+
+/// All modules of the sources, in order of appearance.
+fn source_modules(alloc: Global, sources: &[Vec<u8>]) -> Result<Vec<Module>, SetError>
+    ensures ok { IfOk result (λ modules. AreModulesOf (map (λ s. s.items) sources.now) modules.items) }
+    ensures err { IfErr result (λ e. IsSetError (map (λ s. s.items) sources.now) e) }
+{
+    let mut modules = Vec::new(alloc);
+    for (index, source) in sources.iter().enumerate() {
+        add_modules(alloc, index + 1, source.as_slice(), &mut modules)?;
+    }
+    Ok(modules)
+}
+
+/// The name of a module.
+#[tactic(auto, using(crate::proofs::Outlines::name_at_map))]
+fn module_name(alloc: Global, modules: &[Module], number: usize) -> Result<String, AllocError>
+    requires { number < length modules.now }
+    ensures { IfOk result (λ name. string_bytes name ≡ name_at (module_outlines modules.now) number) }
+{
+    String::from_str(alloc, modules[number].header.name.as_str())
+}
+
+/// The name that an import of a module has.
+#[tactic(auto, using(crate::proofs::Outlines::import_at_map, crate::proofs::Outlines::import_within))]
+fn import_name(
+    alloc: Global,
+    modules: &[Module],
+    number: usize,
+    import: usize,
+) -> Result<String, AllocError>
+    requires number { number < length modules.now }
+    requires import { import < length (imports_at (module_outlines modules.now) number) }
+    ensures { IfOk result (λ name. string_bytes name ≡ import_at (module_outlines modules.now) number import) }
+{
+    let imports = modules[number].header.imports.as_slice();
+    String::from_str(alloc, imports[import].name.as_str())
+}
+
+/// The fault of a plan, with the names of its module and its import.
+#[tactic(auto, using(crate::proofs::Outlines::outlines_below, crate::proofs::Outlines::cycle_below))]
+fn plan_fault(alloc: Global, modules: &[Module], fault: PlanFault) -> Result<SetFault, AllocError>
+    requires fault { IsPlanRefusal (module_outlines modules.now) fault }
+    requires lasting { IsLasting (plan fault [] []) }
+    ensures fault { IfOk result (λ f. IsSetPlanFault (module_outlines modules.now) (refusal_of f)) }
+    ensures lasting { IfOk result (λ f. IsLasting (refusal_of f)) }
+{
+    let none = String::new(alloc);
+    let (name, import) = match fault {
+        PlanFault::Duplicate { module } => (module_name(alloc, modules, module)?, none),
+        PlanFault::Missing { module, import } => (
+            module_name(alloc, modules, module)?,
+            import_name(alloc, modules, module, import)?,
+        ),
+        PlanFault::Cycle { module } => (module_name(alloc, modules, module)?, none),
+        PlanFault::TooMany | PlanFault::Memory => (String::new(alloc), none),
+    };
+    Ok(SetFault::Plan {
+        fault,
+        module: name,
+        import,
+    })
+}
+
+/// The plan of these modules.
+#[tactic(auto, using(crate::proofs::Outlines::lent_more, crate::proofs::Outlines::lent_all))]
+fn plan_of(alloc: Global, modules: &[Module]) -> Result<Plan, PlanFault>
+    ensures lawful { OnOk result (IsLawful (module_outlines modules.now)) }
+    ensures refused { IfErr result (IsPlanRefusal (module_outlines modules.now)) }
+    ensures plan { IfOk result (IsImportPlan (module_outlines modules.now)) }
+{
+    let mut headers = Vec::new(alloc);
+    for module in modules {
+        headers.push(&module.header)?;
+    }
+    hm_graph::import_plan(alloc, &headers)
+}
+
+/// The modules and the plan of a set of sources.
+#[tactic(auto, using(crate::proofs::Reading::refused_by_plan))]
+pub fn set_modules(alloc: Global, sources: &[Vec<u8>]) -> Result<(Vec<Module>, Plan), SetError>
+    ensures read { IfOk result (λ set. AreModulesOf (map (λ s. s.items) sources.now) set.0.items) }
+    ensures lawful { IfOk result (λ set. IsLawful (module_outlines set.0.items)) }
+    ensures planned { IfOk result (λ set. IsImportPlan (module_outlines set.0.items) set.1) }
+    ensures err { IfErr result (λ e. IsPlanError (map (λ s. s.items) sources.now) e) }
+{
+    let modules = source_modules(alloc, sources)?;
+    match plan_of(alloc, modules.as_slice()) {
+        Ok(plan) => Ok((modules, plan)),
+        Err(PlanFault::Memory) => Err(SetError::Memory),
+        Err(fault) => match plan_fault(alloc, modules.as_slice(), fault) {
+            Ok(fault) => Err(SetError::Refused(fault)),
+            Err(AllocError) => Err(SetError::Memory),
+        },
+    }
+}
+
+/// The headers of modules, without what they declare.
+pub(crate) fn headers_of(alloc: Global, modules: Vec<Module>) -> Result<Vec<Header>, AllocError>
+    ensures { IfOk result (λ headers. outlines headers.items ≡ module_outlines modules.items) }
+{
+    let mut headers = Vec::new(alloc);
+    for module in modules {
+        let Module { header, .. } = module;
+        headers.push(header)?;
+    }
+    Ok(headers)
+}

@@ -1,0 +1,56 @@
+//! Work on sources is done on a thread of its own, whose stack is large enough for the longest of them.
+ghost use Rattle.std.specs.Prelude.{◌≡◌, IfErr, IfOk, map, string_bytes};
+ghost use Rattle.hm_sources.specs.Runs.{IsPlanRun};
+
+use crate::RunFault;
+use crate::answers::{Answer, plan_answer};
+use std::alloc::Global;
+use std::snapshot::Snapshot;
+use std::thread::{Builder, Promise, Threads};
+
+/// How many bytes of stack work has on sources of any length.
+const LEAST_STACK: usize = 1 << 28;
+
+/// How many bytes of stack work has for each byte of the longest source. Recursion follows the source, which may
+/// nest as deep as its length allows; docs/DECISIONS.md says how this was found.
+const STACK_PER_BYTE: usize = 1 << 12;
+
+/// How many bytes of stack work on these sources has.
+pub fn stack_size(sources: &[Vec<u8>]) -> usize {
+    let mut longest = 0;
+    for source in sources {
+        longest = source.len().max(longest);
+    }
+    longest
+        .saturating_mul(STACK_PER_BYTE)
+        .saturating_add(LEAST_STACK)
+}
+
+/// The promise of a thread: its answer is the plan of these sources.
+#[derive(Drop)]
+struct PlanOf(Snapshot<Vec<Vec<u8>>>);
+
+impl Promise<Result<Answer, RunFault>> for PlanOf {
+    ghost use Rattle.std.specs.Prelude.{◌≡◌, IfErr, IfOk, map, string_bytes};
+    ghost use Rattle.hm_sources.specs.Runs.{IsPlanRun};
+    ghost use Rattle.hm_sources.specs.declared.faults.RunFault.TheVariants.{Memory};
+
+    ghost kept_by = { λ p r. IfOk r (λ a. IsPlanRun (map (λ s. s.items) p.0.value.items) a.status (string_bytes a.text)) × IfErr r (λ e. e ≡ Memory) };
+}
+
+/// The plan of a set of sources, or why they are refused. Where there is no room for the stack there is no memory.
+pub(crate) fn plan_on_thread<T: Threads>(
+    rt: &T,
+    alloc: Global,
+    sources: Vec<Vec<u8>>,
+) -> Result<Answer, RunFault>
+    ensures ok { IfOk result (λ a. IsPlanRun (map (λ s. s.items) sources.items) a.status (string_bytes a.text)) }
+    ensures err { IfErr result (λ e. e ≡ RunFault.Memory) }
+{
+    let promise = PlanOf(Snapshot::of(&sources));
+    let thread = Builder::new().stack_size(stack_size(&sources));
+    match thread.spawn_with(rt, promise, move || plan_answer(alloc, &sources)) {
+        Ok(worker) => worker.join(rt),
+        Err(_) => Err(RunFault::Memory),
+    }
+}

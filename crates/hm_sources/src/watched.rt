@@ -1,0 +1,146 @@
+//! A reader or a writer that counts how its device answers.
+ghost use Rattle.std.specs.Prelude.{◌≡◌, ◌<◌, IfErr, IfOk, OnOk, OnErr};
+ghost use Rattle.std.specs.Io.{ReadsAtMost, WritesAtMost};
+ghost use Rattle.std.specs.Io.KnownBytes.{Keeps, ReadConsumes, WriteAppends};
+ghost use Rattle.hm_sources.specs.Counting.{one_more, CountsError};
+ghost use Rattle.hm_sources.specs.Watching.{device_of, reads_of, interrupts_of, failures_of, flushes_of, IsFresh};
+
+use std::io;
+use std::io::{ErrorKind, Read, Write};
+
+/// A reader or a writer that passes on each answer of its device, and counts.
+#[derive(Drop)]
+pub struct Watched<D> {
+    device: D,
+    reads: u64,
+    interrupts: u64,
+    failures: u64,
+    flushes: u64,
+}
+
+impl<D> Watched<D> {
+    pub fn new(device: D) -> Watched<D>
+        ensures device { device_of result ≡ device }
+        ensures fresh { IsFresh result }
+    {
+        Watched {
+            device,
+            reads: 0,
+            interrupts: 0,
+            failures: 0,
+            flushes: 0,
+        }
+    }
+
+    /// How many reads it was asked for.
+    pub fn reads(&self) -> u64
+        ensures { result ≡ reads_of self.now }
+    {
+        self.reads
+    }
+
+    /// How many reads and writes were answered `Interrupted`.
+    pub fn interrupts(&self) -> u64
+        ensures { result ≡ interrupts_of self.now }
+    {
+        self.interrupts
+    }
+
+    /// How many reads and writes failed otherwise, flushes failed and writes took no byte.
+    pub fn failures(&self) -> u64
+        ensures { result ≡ failures_of self.now }
+    {
+        self.failures
+    }
+
+    /// How many flushes it was asked for.
+    pub fn flushes(&self) -> u64
+        ensures { result ≡ flushes_of self.now }
+    {
+        self.flushes
+    }
+
+    /// Counts a failure.
+    fn count_failure(&mut self)
+        ensures device { device_of self.new ≡ device_of self.old }
+        ensures reads { reads_of self.new ≡ reads_of self.old }
+        ensures interrupts { interrupts_of self.new ≡ interrupts_of self.old }
+        ensures failures { failures_of self.new ≡ one_more (failures_of self.old) }
+        ensures flushes { flushes_of self.new ≡ flushes_of self.old }
+    {
+        self.failures = self.failures.saturating_add(1);
+    }
+
+    /// Counts an error of a read or a write.
+    fn count_error(&mut self, error: &io::Error)
+        ensures device { device_of self.new ≡ device_of self.old }
+        ensures reads { reads_of self.new ≡ reads_of self.old }
+        ensures flushes { flushes_of self.new ≡ flushes_of self.old }
+        ensures counts { CountsError error.now (interrupts_of self.old) (interrupts_of self.new) (failures_of self.old) (failures_of self.new) }
+    {
+        if error.kind() == ErrorKind::Interrupted {
+            self.interrupts = self.interrupts.saturating_add(1);
+        } else {
+            self.count_failure();
+        }
+    }
+}
+
+impl<R: Read> Read for Watched<R> {
+    ghost remaining = { λ w. R.remaining (device_of w) };
+
+    fn read(&mut self, buf: &mut [u8]) -> io::Result<usize>
+        ensures bound { ReadsAtMost result buf.new }
+        ensures bytes { ReadConsumes (R.remaining (device_of self.old)) (R.remaining (device_of self.new)) result buf.new }
+        ensures reads { reads_of self.new ≡ one_more (reads_of self.old) }
+        ensures flushes { flushes_of self.new ≡ flushes_of self.old }
+        ensures ok { OnOk result ((interrupts_of self.new ≡ interrupts_of self.old) × (failures_of self.new ≡ failures_of self.old)) }
+        ensures err { IfErr result (λ e. CountsError e (interrupts_of self.old) (interrupts_of self.new) (failures_of self.old) (failures_of self.new)) }
+    {
+        self.reads = self.reads.saturating_add(1);
+        let answer = self.device.read(buf);
+        if let Err(error) = &answer {
+            self.count_error(error);
+        }
+        answer
+    }
+}
+
+impl<W: Write> Write for Watched<W> {
+    ghost contents = { λ w. W.contents (device_of w) };
+
+    fn write(&mut self, buf: &[u8]) -> io::Result<usize>
+        ensures bound { WritesAtMost result buf.now }
+        ensures bytes { WriteAppends (W.contents (device_of self.old)) (W.contents (device_of self.new)) result buf.now }
+        ensures reads { reads_of self.new ≡ reads_of self.old }
+        ensures flushes { flushes_of self.new ≡ flushes_of self.old }
+        ensures none { IfOk result (λ n. n ≡ 0 → failures_of self.new ≡ one_more (failures_of self.old)) }
+        ensures some { IfOk result (λ n. 0 < n → failures_of self.new ≡ failures_of self.old) }
+        ensures ok { OnOk result (interrupts_of self.new ≡ interrupts_of self.old) }
+        ensures err { IfErr result (λ e. CountsError e (interrupts_of self.old) (interrupts_of self.new) (failures_of self.old) (failures_of self.new)) }
+    {
+        let answer = self.device.write(buf);
+        match &answer {
+            Ok(0) => self.count_failure(),
+            Ok(_) => {}
+            Err(error) => self.count_error(error),
+        }
+        answer
+    }
+
+    fn flush(&mut self) -> io::Result<()>
+        ensures bytes { Keeps (W.contents (device_of self.old)) (W.contents (device_of self.new)) }
+        ensures reads { reads_of self.new ≡ reads_of self.old }
+        ensures interrupts { interrupts_of self.new ≡ interrupts_of self.old }
+        ensures flushes { flushes_of self.new ≡ one_more (flushes_of self.old) }
+        ensures ok { OnOk result (failures_of self.new ≡ failures_of self.old) }
+        ensures err { OnErr result (failures_of self.new ≡ one_more (failures_of self.old)) }
+    {
+        self.flushes = self.flushes.saturating_add(1);
+        let answer = self.device.flush();
+        if answer.is_err() {
+            self.count_failure();
+        }
+        answer
+    }
+}
