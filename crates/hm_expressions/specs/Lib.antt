@@ -6,6 +6,7 @@ pub mod Escapes
 pub mod Functions
 pub mod Lists
 pub mod Constructors
+pub mod FoundSchemes
 pub mod ConstructorPlaces
 pub mod Kept
 pub mod Collected

@@ -6,6 +6,7 @@ ghost use Rattle.hm_names.specs.Described.{first_of};
 ghost use Rattle.hm_names.specs.Types.{entity_of};
 ghost use Rattle.hm_expressions.specs.Constructors.{known_of};
 ghost use Rattle.hm_expressions.specs.ConstructorPlaces.{AreFirstPlaces, key_of_entity};
+ghost use Rattle.hm_expressions.specs.FoundSchemes.{scheme_in};
 ghost use Rattle.hm_expressions.specs.Kept.{schemes_of};
 
 use crate::environment::place_of;
@@ -71,15 +72,34 @@ impl<'a> Constructors<'a> {
     }
 
     /// The scheme of a constructor.
-    pub(crate) fn find(&self, alloc: Global, name: &Name) -> Result<Scheme, AllocError>
-        ensures { IfOk result (λ scheme. scheme ≡ (known_of self.now).scheme name.now) }
+    pub(crate) fn find(&self, alloc: Global, name: &Name) -> Result<FoundScheme<'_>, AllocError>
+        ensures { IfOk result (λ found. scheme_in found ≡ (known_of self.now).scheme name.now) }
     {
         match special_scheme(alloc, name)? {
-            Some(scheme) => Ok(scheme),
+            Some(scheme) => Ok(FoundScheme::Made(scheme)),
             None => match entered(&self.entries, &self.places, name) {
-                Some(scheme) => Ok(scheme.copy(alloc)?),
-                None => Ok(unit_scheme(alloc)?),
+                Some(scheme) => Ok(FoundScheme::Lent(scheme)),
+                None => Ok(FoundScheme::Made(unit_scheme(alloc)?)),
             },
+        }
+    }
+}
+
+/// The scheme of a constructor: that of a special one is made, any other one is lent.
+#[derive(Drop)]
+pub(crate) enum FoundScheme<'a> {
+    Made(Scheme),
+    Lent(&'a Scheme),
+}
+
+impl<'a> FoundScheme<'a> {
+    /// The scheme, lent.
+    pub(crate) fn as_scheme(&self) -> &Scheme
+        ensures { result.now ≡ scheme_in self.now }
+    {
+        match self {
+            FoundScheme::Made(scheme) => scheme,
+            FoundScheme::Lent(scheme) => scheme,
         }
     }
 }

@@ -108,5 +108,5 @@ pub(crate) fn check_constructor(
     ensures { Answers (λ r. Instantiates (constructor_type_of (known_of constructors.now) name.now) (put r (monotype (type_of t.now)))) solver.old solver.new result }
 {
     let scheme = constructors.find(alloc, name)?;
-    check_declared(alloc, solver, &scheme, t)
+    check_declared(alloc, solver, scheme.as_scheme(), t)
 }

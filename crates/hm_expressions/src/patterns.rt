@@ -80,7 +80,7 @@ pub(crate) fn match_pattern<'a>(
         }
         PatKind::Con(name, parts) => {
             let scheme = constructors.find(alloc, name)?;
-            let first = constructor_parts(alloc, solver, &scheme, parts.len(), t)?;
+            let first = constructor_parts(alloc, solver, scheme.as_scheme(), parts.len(), t)?;
             match_patterns(alloc, solver, constructors, variables, parts, first, false)
         }
         PatKind::Literal(literal) => {
