@@ -1,0 +1,34 @@
+use Rattle.std.proofs.Common.{◌≡◌, ℕ, ◌<◌, inl, inr, length, arith, rules}
+use Rattle.std.proofs.lemmas.List.{length-map}
+use Rattle.hm_graph.specs.Digraph.{lists}
+use Rattle.hm_graph.specs.Checks.{AreMembers, AllAscending, NoEdgeAhead, IsReachedWithin, AreEarliestPlaces, IsLeastFirst}
+use Rattle.hm_graph.proofs.ChecksSoFar.{Closure-flip}
+use Rattle.hm_graph.proofs.Checked.{checked_groups}
+use Rattle.hm_graph.proofs.checking.are_numbered_groups.Goals as goal
+
+pub returns : goal.returns
+returns c = λ first_is.
+    let n_is : length (lists c.args.rows.now) ≡ length c.args.rows.now = length-map c.args.rows.now (λ r. r.items) in
+    let members : AreMembers (lists c.args.groups.now) c.args.numbers.now = search rules in
+    let up : AllAscending (lists c.args.groups.now) = search rules in
+    let down : NoEdgeAhead (lists c.args.rows.now) c.args.numbers.now = search rules in
+    let near : (x : ℕ) → x < length c.args.rows.now → IsReachedWithin (lists c.args.rows.now) c.args.numbers.now c.args.leasts.now x = search rules in
+    let near_back : (x : ℕ) → x < length c.args.back.now → IsReachedWithin (lists c.args.back.now) c.args.numbers.now c.args.leasts.now x = search rules in
+    let earliest : AreEarliestPlaces (lists c.args.rows.now) c.args.numbers.now c.in_ok-earliest.earliest.items (length c.args.leasts.now) = search rules in
+    let first : IsLeastFirst c.args.leasts.now c.in_ok-earliest.earliest.items = search rules in
+    checked_groups (lists c.args.rows.now) (lists c.args.groups.now) c.args.numbers.now c.args.leasts.now c.in_ok-earliest.earliest.items
+    (record {
+      closed = c.requires.closed;
+      covered = rw n_is c.requires.covered;
+      members = members;
+      up = up;
+      are_leasts = c.requires.leasts;
+      down = down;
+      from_least = λ x below. near x (omega arith);
+      to_least = λ x below. elim (near_back x (omega (arith, c.requires.len))) [
+        | inl is ↦ inl is
+        | inr reach ↦ inr (Closure-flip (λ a b edge. c.requires.back a b edge) reach)
+      ];
+      are_heights = earliest;
+      least_first = first;
+    })
