@@ -14,3 +14,4 @@ pub mod Matching
 pub mod Numbers
 pub mod Texts
 pub mod Laws
+pub mod Letters
