@@ -131,8 +131,8 @@ fn ill_formed_modules_alone(rt: HostRuntime) -> Result<(), Fail> {
 
 /// The interface of a source's only module, which imports none.
 fn interface_of(alloc: Global, source: &[u8]) -> Result<Arc<Interface>, Fail> {
-    match outcome_of(alloc, source, &[])?.into_verdict() {
-        Verdict::Good(interface) => Ok(interface),
+    match outcome_of(alloc, source, &[])?.verdict() {
+        Verdict::Good(interface) => Ok(Arc::try_clone(interface)?),
         Verdict::Faulty(_) => Err(Fail::from("faulty")),
     }
 }

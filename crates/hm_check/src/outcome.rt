@@ -87,14 +87,6 @@ impl Outcome {
         &self.verdict
     }
 
-    /// The verdict, for the caller to keep.
-    pub fn into_verdict(self) -> Verdict
-        ensures value { verdict_of result ≡ self.verdict }
-        ensures right { IsVerdict self.«module» (prelude_interface ∷ self.imports) (verdict_of result) }
-    {
-        self.verdict
-    }
-
     /// Whether the module is good.
     pub fn is_good(&self) -> bool
         ensures { IsTrue result ↔ IsGood self.now.verdict }

@@ -3,7 +3,7 @@
 ghost use Rattle.std.specs.Prelude.{◌≡◌, ◌↔◌, IfOk, IsTrue};
 ghost use Rattle.hm_types.specs.Types.{App as app, done as none, more};
 ghost use Rattle.hm_types.specs.Shape.{type_of, types_of};
-ghost use Rattle.hm_types.specs.Substitution.{listed, substitute, single, occurs};
+ghost use Rattle.hm_types.specs.Substitution.{listed, substitute, occurs};
 ghost use Rattle.hm_types.specs.declared.Head.TheVariants.{Arrow as arrow};
 
 use crate::Head;
@@ -96,29 +96,6 @@ impl Ty {
                     copies.push(argument.copy(alloc)?)?;
                 }
                 Ok(Ty::App(head.copy()?, Types::new(copies)))
-            }
-        }
-    }
-
-    /// The type with `put` for the variable `variable`.
-    pub fn replace(&self, alloc: Global, variable: usize, put: &Ty) -> Result<Ty, AllocError>
-        ensures { IfOk result (λ t. type_of t ≡ substitute (single variable (type_of put.now)) (type_of self.now)) }
-    {
-        match self {
-            Ty::Var(n) => {
-                if *n == variable {
-                    put.copy(alloc)
-                } else {
-                    Ok(Ty::Var(*n))
-                }
-            }
-            Ty::Rigid(n) => Ok(Ty::Rigid(*n)),
-            Ty::App(head, arguments) => {
-                let mut replaced = Vec::new(alloc);
-                for argument in arguments.as_slice() {
-                    replaced.push(argument.replace(alloc, variable, put)?)?;
-                }
-                Ok(Ty::App(head.copy()?, Types::new(replaced)))
             }
         }
     }

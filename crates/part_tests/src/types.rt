@@ -156,18 +156,16 @@ fn instances_by_types(rt: HostRuntime) -> Result<(), Fail> {
     let wanted = Ty::function(alloc, Ty::Rigid(0), Ty::Rigid(1))?;
     let instance = scheme.body().replace_all(alloc, &types)?;
     assert!(rt; instance.is_same(&wanted));
-    if types.len() == scheme.vars() {
-        assert!(rt; instantiate(alloc, &scheme, &types)?.is_same(&wanted));
+    if types.len() != scheme.vars() {
+        return Err(Fail::from("another number of types than of variables"));
     }
+    assert!(rt; instantiate(alloc, &scheme, &types)?.is_same(&wanted));
     Ok(())
 }
 
 #[test]
-fn replacement(rt: HostRuntime) -> Result<(), Fail> {
-    let alloc = rt.alloc();
-    let t = Ty::function(alloc, Ty::Var(0), Ty::Rigid(1))?;
-    let replaced = t.replace(alloc, 0, &Ty::Var(2))?;
-    assert!(rt; t.contains(0) && !t.contains(1) && !replaced.contains(0));
-    assert!(rt; replaced.is_same(&Ty::function(alloc, Ty::Var(2), Ty::Rigid(1))?));
+fn occurrences(rt: HostRuntime) -> Result<(), Fail> {
+    let t = Ty::function(rt.alloc(), Ty::Var(0), Ty::Rigid(1))?;
+    assert!(rt; t.contains(0) && !t.contains(1));
     Ok(())
 }
