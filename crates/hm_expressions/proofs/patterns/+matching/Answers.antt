@@ -60,12 +60,12 @@ match_pattern-returns-in-Lazy t c =
 pub match_pattern-returns-in_err-first-in-Con : goal.match_pattern-returns-in_err-first-in-Con
 match_pattern-returns-in_err-first-in-Con t c =
     pattern_is (known_of c.args.constructors.now) (constructor_pattern c.in-Con.name (patterns c.in-Con.parts.items)) c.args.pattern.now (type_of c.args.t.now) c.args.solver.now c.args.variables.now c.constructor_parts.new.solver c.args.variables.now c.from_residual-in_err-first-in-Con.result (sym (ap tree_of c.in-Con.is) ∙ c.pattern.view_is)
-    (match_passed (Asks (known_of c.args.constructors.now) (constructor_pattern c.in-Con.name (patterns c.in-Con.parts.items)) (type_of c.args.t.now)) _ c.args.solver.now c.args.variables.now c.constructor_parts.new.solver c.args.variables.now c.from_residual-in_err-first-in-Con.result c.in_err-first-in-Con.field-0.0 c.from_residual-in_err-first-in-Con.ensures.1 (constructor_refused_at (known_of c.args.constructors.now) c.in-Con.name c.in-Con.parts.items c.as_scheme-in-Con.result.now c.len.result (type_of c.args.t.now) c.args.solver.now c.args.variables.now c.in_err-first-in-Con.field-0.0 (c.as_scheme-in-Con.ensures ∙ c.in_ok-scheme-in-Con.ensures) (omega (arith, c.len.ensures, c.in-Con.parts.ok.0)) c.in_err-first-in-Con.ensures.below c.requires.variables c.requires.given c.in_err-first-in-Con.ensures.answers))
+    (match_passed (Asks (known_of c.args.constructors.now) (constructor_pattern c.in-Con.name (patterns c.in-Con.parts.items)) (type_of c.args.t.now)) _ c.args.solver.now c.args.variables.now c.constructor_parts.new.solver c.args.variables.now c.from_residual-in_err-first-in-Con.result c.in_err-first-in-Con.field-0.0 c.from_residual-in_err-first-in-Con.ensures.1 (constructor_refused_at (known_of c.args.constructors.now) c.in-Con.name c.in-Con.parts.items c.as_scheme.result.now c.len.result (type_of c.args.t.now) c.args.solver.now c.args.variables.now c.in_err-first-in-Con.field-0.0 (c.as_scheme.ensures ∙ c.in_ok-scheme-in-Con.ensures) (omega (arith, c.len.ensures, c.in-Con.parts.ok.0)) c.in_err-first-in-Con.ensures.below c.requires.variables c.requires.given c.in_err-first-in-Con.ensures.answers))
 
 pub match_pattern-returns-in_ok-first-in-Con : goal.match_pattern-returns-in_ok-first-in-Con
 match_pattern-returns-in_ok-first-in-Con t c =
     pattern_is (known_of c.args.constructors.now) (constructor_pattern c.in-Con.name (patterns c.in-Con.parts.items)) c.args.pattern.now (type_of c.args.t.now) c.args.solver.now c.args.variables.now c.match_patterns.new.solver c.match_patterns.new.variables c.match_patterns.result (sym (ap tree_of c.in-Con.is) ∙ c.pattern.view_is)
-    (constructor_answers_at (known_of c.args.constructors.now) c.in-Con.name c.in-Con.parts.items c.deref-in-Con.result.now c.as_scheme-in-Con.result.now c.len.result c.in_ok-first-in-Con.first (type_of c.args.t.now) c.args.solver.now c.args.variables.now c.constructor_parts.new.solver c.match_patterns.new.solver c.match_patterns.new.variables c.match_patterns.result (c.as_scheme-in-Con.ensures ∙ c.in_ok-scheme-in-Con.ensures) (omega (arith, c.len.ensures, c.in-Con.parts.ok.0)) c.deref-in-Con.ensures.value c.in_ok-first-in-Con.ensures.below c.requires.variables c.requires.given c.in_ok-first-in-Con.ensures.first c.in_ok-first-in-Con.ensures.answers c.match_patterns.ensures)
+    (constructor_answers_at (known_of c.args.constructors.now) c.in-Con.name c.in-Con.parts.items c.deref-in-Con.result.now c.as_scheme.result.now c.len.result c.in_ok-first-in-Con.first (type_of c.args.t.now) c.args.solver.now c.args.variables.now c.constructor_parts.new.solver c.match_patterns.new.solver c.match_patterns.new.variables c.match_patterns.result (c.as_scheme.ensures ∙ c.in_ok-scheme-in-Con.ensures) (omega (arith, c.len.ensures, c.in-Con.parts.ok.0)) c.deref-in-Con.ensures.value c.in_ok-first-in-Con.ensures.below c.requires.variables c.requires.given c.in_ok-first-in-Con.ensures.first c.in_ok-first-in-Con.ensures.answers c.match_patterns.ensures)
 
 pub match_pattern-match_patterns-requires : goal.match_pattern-match_patterns-requires
 match_pattern-match_patterns-requires t c =
