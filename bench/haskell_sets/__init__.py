@@ -1,0 +1,1 @@
+"""Random sets of Haskell modules, and what GHC says of them."""
