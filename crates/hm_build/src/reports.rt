@@ -10,10 +10,11 @@ ghost use Rattle.hm_build.specs.Settling.{module_set, status_of as settlement, s
 ghost use Rattle.hm_sources.specs.declared.status.Status.{Status};
 ghost use Rattle.hm_build.specs.ReportBlocks.{AreBlocksOf, all_blamed, blamed, report_block_of};
 
+use crate::Finished;
 use crate::statuses::{Settled, settled_in};
-use crate::{Finished, Status};
 use hm_graph::Plan;
 use hm_names::{Fault, Kind};
+use hm_sources::Status;
 use hm_syntax::Module;
 use hm_types::interface_text;
 use std::alloc::{AllocError, Global};
