@@ -14,4 +14,3 @@ pub mod Matching
 pub mod Numbers
 pub mod Texts
 pub mod Laws
-pub mod Letters
