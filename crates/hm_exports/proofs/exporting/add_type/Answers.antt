@@ -19,7 +19,7 @@ declared_synonym-requires c = c.requires c.key_of.result c.in-Declared.params c.
 
 pub returns-in_ok-push-in-Algebraic-clause-types : goal.returns-in_ok-push-in-Algebraic-clause-types
 returns-in_ok-push-in-Algebraic-clause-types c = λ k xs known up are.
-    type_added c.args.known.now c.key_of.result c.args.exported.now c.key_of.ensures k xs known up c.in-Some.known.now c.in-Some.ensures.value c.in-Algebraic.arity c.in-Algebraic.is c.args.types.now.items c.push-in-Algebraic.new.self.items
+    type_added c.args.known.now c.key_of.result c.args.exported.now c.key_of.ensures k xs known up c.in-Some.known.now c.in-Some.ensures.value c.in-Algebraic.arity c.in-Algebraic.is c.args.types.now.items c.push.new.self.items
     (c.in_ok-push-in-Algebraic.ensures.items ∙ ap (λ (r : TypeEntry). c.args.types.now.items ++ r ∷ []) (λ i. record { name = c.in_ok-copy-in-Algebraic.ensures i; entity = c.in_ok-copy-in-Algebraic-2.ensures i; arity = c.in-Algebraic.arity })) are
 
 pub returns-in_ok-push-in-Algebraic-clause-synonyms : goal.returns-in_ok-push-in-Algebraic-clause-synonyms
