@@ -19,6 +19,7 @@ pub struct Watched<D> {
 }
 
 impl<D> Watched<D> {
+    /// Watches a device from here on.
     pub fn new(device: D) -> Watched<D>
         ensures device { device_of result ≡ device }
         ensures fresh { IsFresh result }
