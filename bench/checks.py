@@ -79,7 +79,7 @@ KINDS = [
     ("bindings that stand alone", flat, 20_000, ONE),
     ("bindings with signatures", signed, 12_000, ONE),
     ("bindings of one group", mutual, 4_000, ONE),
-    ("bindings beside one without a type", untyped, 4_000, "1 modules: 0 good, 1 faulty, 0 skipped"),
+    ("bindings beside one without a type", untyped, 20_000, "1 modules: 0 good, 1 faulty, 0 skipped"),
     ("lets within lets", nested_lets, 2_000, ONE),
     ("arguments of one application", arguments, 400_000, ONE),
     ("elements of a list", elements, 400_000, ONE),

@@ -20,10 +20,18 @@ placed_step first group types new n l b e f p h = at (ℕ_discrete (get_or group
         le : p < n + 1 → p ≤ n
         le q = omega arith
 
-place_in : (j : ℕ) (group : List ℕ) → IsOneOf j group → (p : ℕ) × (p < length group) × (get_or group p 0 ≡ j)
+pub place_in : (j : ℕ) (group : List ℕ) → IsOneOf j group → (p : ℕ) × (p < length group) × (get_or group p 0 ≡ j)
 place_in j [] o = absurd o
 place_in j (k ∷ group) (inl e) = (zero, omega arith, sym e)
 place_in j (k ∷ group) (inr o) = let h = place_in j group o in (suc h.0, (let l = h.1 in omega arith), h.2)
+
+is_in : (group : List ℕ) (p : ℕ) → p < length group → IsOneOf (get_or group p 0) group
+is_in [] p l = absurd (omega (arith, l))
+is_in (k ∷ group) zero l = inl refl
+is_in (k ∷ group) (suc p) l = inr (is_in group p (omega (arith, l)))
+
+pub elsewhere : (group types : List ℕ) (n j v : ℕ) → n < length group → ¬ (IsOneOf j group) → get_or (set types (get_or group n 0) v) j 0 ≡ get_or types j 0
+elsewhere group types n j v l m = get_or-set_other types (get_or group n 0) j v 0 (λ e. m (subst (λ z. IsOneOf z group) (sym e) (is_in group n l)))
 
 pub placed_all : (first : ℕ) (group types : List ℕ) (n : ℕ) → length group ≤ n → n ≤ length group → PlacedBelow first group types n → ArePlaced first group types
 placed_all first group types n l m f j o =

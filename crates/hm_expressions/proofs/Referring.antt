@@ -1,11 +1,9 @@
--- Marks of nodes, members that refer to typed nodes, and environments that catch up.
+-- Marks of nodes, and members that refer to typed nodes.
 use Rattle.std.proofs.Common.{◌≡◌, ℕ, zero, suc, ◌+◌, ◌<◌, ◌≤◌, List, [], ◌∷◌, ◌++◌, take, set, length, get_or, All, Bool, true, false, Option, Some, Vec, Global, inl, inr, ⊎_elim, ◌↔◌, Contains, refl, sym, ap, ◌∙◌, subst, arith, get_or-set_same, get_or-set_other}
 use Rattle.std.specs.List.{slice_get}
 use Rattle.std.proofs.lemmas.List.{take_more, take_all}
 use native.Mathlib.Decide.{ℕ_discrete}
-use Rattle.hm_types.specs.Monotypes.{Mono}
-use Rattle.hm_types.specs.Shape.{type_of}
-use Rattle.hm_typing.specs.Names.{Identifier, IsOneOf}
+use Rattle.hm_typing.specs.Names.{IsOneOf}
 use Rattle.hm_syntax.specs.Trees.{Declaration}
 use Rattle.hm_groups.specs.Variables.{Variable}
 use Rattle.hm_groups.specs.Walks.{IsNodeWith}
@@ -16,10 +14,6 @@ use Rattle.hm_graph.specs.Digraph.{lists}
 use Rattle.hm_groups.specs.GroupMembers.{AreMembersOf}
 use Rattle.hm_names.specs.Syntax.{Known}
 use Rattle.hm_expressions.specs.Stages.{IsListFound}
-use Rattle.hm_expressions.specs.Environments.{Assumed}
-use Rattle.hm_expressions.specs.Kept.{assumed_of, entries_of}
-use Rattle.hm_expressions.specs.declared.environment.Binding.{Binding}
-use Rattle.hm_expressions.proofs.Tables.{stack_one_more, truncated}
 
 -- Marks
 
@@ -92,25 +86,6 @@ members_refuse nodes typed decls ms i m d b l e p q t bf = (m, (one_at ms i m l 
 
 pub members_all : (nodes : List (Option Variable)) (typed : List Bool) (decls : List Declaration) (ms : List Member) (i : ℕ) → length ms ≤ i → TellsMembers true nodes typed decls (take i ms) → TellsMembers true nodes typed decls ms
 members_all nodes typed decls ms i l h = subst (TellsMembers true nodes typed decls) (take_all i ms l) h
-
--- Environments
-
-pub caught_start : (xs : List Binding) (n : ℕ) (es added base : List Assumed) → entries_of xs ≡ es → es ≡ added ++ base → n ≡ length base → base ≡ entries_of (take n xs)
-caught_start xs n es added base v e l = sym (truncated xs n es added base v e (sym l))
-
-pub caught_step : (xs : List Binding) (i : ℕ) (d : Binding) (key : Identifier) (t : Mono) (es1 es2 : List Assumed) → i < length xs → d ≡ get_or xs i d → key ≡ (assumed_of d).name → t ≡ type_of d.body → es1 ≡ entries_of (take i xs) → es2 ≡ record { name = key; scheme = record { quantified = d.quantified; body = t } } ∷ es1 → es2 ≡ entries_of (take (i + 1) xs)
-caught_step xs i d key t es1 es2 l e k b h g =
-    g ∙ (ap (λ y. record { name = y; scheme = record { quantified = d.quantified; body = t } } ∷ es1) k ∙ (ap (λ y. record { name = (assumed_of d).name; scheme = record { quantified = d.quantified; body = y } } ∷ es1) b ∙ (ap (λ y. assumed_of d ∷ y) h ∙ sym (stack_one_more assumed_of xs i d l e))))
-
-pub caught_all : (xs : List Binding) (i : ℕ) (es es1 : List Assumed) → length xs ≤ i → entries_of xs ≡ es → es1 ≡ entries_of (take i xs) → es1 ≡ es
-caught_all xs i es es1 l v h = h ∙ (ap entries_of (take_all i xs l) ∙ v)
-
-pub all_of : (es none : List Assumed) → none ≡ [] → (added : List Assumed) × (es ≡ added ++ none)
-all_of es none e = (es, sym (ap (λ z. es ++ z) e ∙ whole es))
-  where
-    whole : (zs : List Assumed) → zs ++ [] ≡ zs
-    whole [] = refl
-    whole (z ∷ zs) = ap (λ y. z ∷ y) (whole zs)
 
 -- The members of a group are declarations of the list
 

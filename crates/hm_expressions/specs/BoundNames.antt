@@ -1,4 +1,4 @@
--- What binding the names of a group does to the environment, and what is seen of a list while its groups are inferred. No public clause names these.
+-- What binding the names of a group does to the environment, and what is seen of a list while its groups are inferred. Public clauses name `Extends` alone of these.
 use Rattle.std.specs.Prelude.{◌≡◌, ℕ, ◌+◌, ◌<◌, ◌⊎◌, ◌↔◌, Bool, true, List, [], ◌∷◌, ◌++◌, map, length, slice_index_or}
 use Rattle.hm_types.specs.Types.{put}
 use Rattle.hm_typing.specs.Names.{Identifier, IsOneOf}

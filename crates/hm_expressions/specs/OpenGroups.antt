@@ -1,5 +1,6 @@
--- What is done before and after the members of a group are checked. No public clause names these.
+-- What is done before and after the members of a group are checked. Public clauses name `AreUpTo` and `ChangesOnly` alone of these.
 use Rattle.std.specs.Prelude.{◌≡◌, ℕ, ◌<◌, ◌≤◌, ◌++◌, List, Option, length, slice_index_or}
+use Rattle.hm_typing.specs.Names.{IsOneOf}
 use Rattle.hm_typing.specs.Problems.{MostGeneralUnifier}
 use Rattle.hm_syntax.specs.Trees.{Declarations}
 use Rattle.hm_names.specs.Syntax.{Known}
@@ -16,6 +17,10 @@ use Rattle.hm_expressions.specs.BoundNames.{ArePlaced, Extends, BindsTypes, Bind
 -- the variables of all nodes are at most those that were given
 abbrev pub AreUpTo : ℕ → List ℕ → Type 0
 AreUpTo given types = (j : ℕ) → j < length types → slice_index_or types j 0 ≤ given
+
+-- a table of variables is changed at the nodes of a group alone
+abbrev pub ChangesOnly : List ℕ → List ℕ → List ℕ → Type 0
+ChangesOnly group types types' = (j : ℕ) → ¬ (IsOneOf j group) → slice_index_or types' j 0 ≡ slice_index_or types j 0
 
 -- the nodes of a group have new variables, to which its names are bound
 pub record IsOpenGroup (nodes : List (Option Variable)) (rows : List (List ℕ)) (group : List ℕ) (s0 : Solving) (es0 : List Assumed) (s1 : Solving) (es1 : List Assumed) (types : List ℕ) (ms : List Member) : Type 0 where

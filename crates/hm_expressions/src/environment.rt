@@ -1,6 +1,6 @@
 //! What is assumed of names.
 
-ghost use Rattle.std.specs.Prelude.{◌≡◌, ℕ, ◌≤◌, ◌-◌, ◌∷◌, ◌++◌, [], List, None, cond, length, take, IfOk, MatchOption, OnOk};
+ghost use Rattle.std.specs.Prelude.{◌≡◌, ℕ, ◌≤◌, ◌-◌, ◌∷◌, ◌++◌, [], List, None, cond, length, take, IfOk, MatchOption, OnErr, OnOk};
 ghost use Rattle.hm_expressions.specs.Generalisations.{IsSolution, Keeps};
 ghost use Rattle.hm_typing.specs.Schemes.{Monotype};
 ghost use Rattle.hm_typing.specs.Assumptions.{assumptions_put};
@@ -104,7 +104,8 @@ impl<'a> Environment<'a> {
         quantified: usize,
         body: Ty,
     ) -> Result<(), AllocError>
-        ensures { OnOk result (self.new ≡ (record { name = identifier (variable_of_key name.entry); scheme = record { quantified = quantified; body = type_of body } } ∷ self.old)) }
+        ensures bound { OnOk result (self.new ≡ (record { name = identifier (variable_of_key name.entry); scheme = record { quantified = quantified; body = type_of body } } ∷ self.old)) }
+        ensures same { OnErr result (self.new ≡ self.old) }
     {
         let place = self.items.len();
         let key = name;
@@ -126,32 +127,8 @@ impl<'a> Environment<'a> {
         }
     }
 
-    /// Assumes what another has inside its assumptions.
-    pub fn catch_up(&mut self, alloc: Global, other: &Environment<'a>) -> Result<(), AllocError>
-        requires { Extends self.old other.now }
-        ensures { OnOk result (self.new ≡ other.now) }
-    {
-        let items = other.as_slice();
-        let known = self.len();
-        'items: for i in known..items.len() {
-            let item = &items[i];
-            let body = item.body.copy(alloc)?;
-            self.bind(item.name, item.quantified, body)?;
-        }
-        Ok(())
-    }
-
-    /// A copy, where memory allows.
-    pub fn copy(&self, alloc: Global) -> Result<Environment<'a>, AllocError>
-        ensures { IfOk result (λ environment. environment ≡ self.now) }
-    {
-        let mut copy = Environment::new(alloc);
-        copy.catch_up(alloc, self)?;
-        Ok(copy)
-    }
-
     /// Forgets all but the outermost `depth` assumptions.
-    pub(crate) fn truncate(&mut self, depth: usize)
+    pub fn truncate(&mut self, depth: usize)
         ensures { (added base : List Assumed) → self.old ≡ added ++ base → length base ≡ depth → self.new ≡ base }
     {
         forget_from(&mut self.items, &mut self.innermost, depth);
@@ -177,7 +154,8 @@ impl<'a> Environment<'a> {
         alloc: Global,
         variables: &Variables<'a>,
     ) -> Result<(), AllocError>
-        ensures { OnOk result (self.new ≡ monomorphic_entries variables.now ++ self.old) }
+        ensures bound { OnOk result (self.new ≡ monomorphic_entries variables.now ++ self.old) }
+        ensures kept { Extends self.old self.new }
     {
         for item in variables.as_slice() {
             let body = item.ty.copy(alloc)?;

@@ -19,7 +19,7 @@ ghost use Rattle.hm_expressions.specs.Environments.{AreAssumed, Assumed, assumpt
 ghost use Rattle.hm_expressions.specs.GroupQuestions.{AreGivenTypes, AreMembers, HaveTypesOf, HaveTypesOfAll, MemberHas, MembersHave, StandBefore, type_at};
 ghost use Rattle.hm_expressions.specs.JudgedGroups.{JudgesGroup};
 ghost use Rattle.hm_expressions.specs.Lists.{Listed};
-ghost use Rattle.hm_expressions.specs.OpenGroups.{AreUpTo};
+ghost use Rattle.hm_expressions.specs.OpenGroups.{AreUpTo, ChangesOnly};
 ghost use Rattle.hm_expressions.specs.BoundNames.{Extends};
 ghost use Rattle.hm_expressions.specs.SignedLists.{AreSignatures, SignedClauseHas, SignedClausesHave};
 ghost use Rattle.hm_syntax.specs.Lists.{declarations};
@@ -66,6 +66,7 @@ pub(crate) fn check_expression<'a>(
     requires assumed { AreAssumed solver.old.given environment.old }
     ensures answers { Answers (λ r. Derives (assumptions_put r (assumptions environment.old)) (expression_of (known_of constructors.now) e.now) (put r (monotype (type_of t.now)))) solver.old solver.new result }
     ensures same { OnOk result (environment.new ≡ environment.old) }
+    ensures kept { Extends environment.old environment.new }
 {
     match &e.kind {
         ExprKind::Var(name) => check_name(alloc, solver, environment, name, t),
@@ -164,6 +165,7 @@ fn check_typed<'a>(
     requires assumed { AreAssumed solver.old.given environment.old }
     ensures answers { Answers (λ r. Derives (assumptions_put r (assumptions environment.old)) (expression_of (known_of constructors.now) (typed_expression inner.now ty.now)) (put r (monotype (type_of t.now)))) solver.old solver.new result }
     ensures same { OnOk result (environment.new ≡ environment.old) }
+    ensures kept { Extends environment.old environment.new }
 {
     let declared = declare(alloc, ty)?;
     let own = with_rigid_variables(alloc, solver, &declared)?;
@@ -190,6 +192,7 @@ fn check_function<'a>(
     requires assumed { AreAssumed solver.old.given environment.old }
     ensures answers { Answers (λ r. Derives (assumptions_put r (assumptions environment.old)) (expression_of (known_of constructors.now) function.now) (put r (arrow (monotype (Var (var argument))) (monotype (type_of t.now))))) solver.old solver.new result }
     ensures same { OnOk result (environment.new ≡ environment.old) }
+    ensures kept { Extends environment.old environment.new }
 {
     let own = new_variables(solver, 1)?;
     let whole = function_from(alloc, argument, t)?;
@@ -220,6 +223,7 @@ pub(crate) fn check_expressions<'a>(
     requires assumed { AreAssumed solver.old.given environment.old }
     ensures answers { Answers (λ r. DeriveAll (assumptions_put r (assumptions environment.old)) (expressions_of (known_of constructors.now) (expressions parts.now)) (λ j. put r (from_number same first j)) 0) solver.old solver.new result }
     ensures same { OnOk result (environment.new ≡ environment.old) }
+    ensures kept { Extends environment.old environment.new }
 {
     solver.well_formed();
     'parts: for j in 0..parts.len() {
@@ -251,6 +255,7 @@ pub(crate) fn check_body<'a>(
     requires assumed { AreAssumed solver.old.given environment.old }
     ensures answers { Answers (λ r. DeriveRightSides (assumptions_put r (assumptions environment.old)) (bodies_of (known_of constructors.now) (body guard.now e.now no_bodies)) (put r (monotype (type_of t.now)))) solver.old solver.new result }
     ensures same { OnOk result (environment.new ≡ environment.old) }
+    ensures kept { Extends environment.old environment.new }
 {
     match guard {
         None => check_expression(alloc, solver, environment, constructors, e, t),
@@ -276,6 +281,7 @@ pub(crate) fn check_bodies<'a>(
     requires assumed { AreAssumed solver.old.given environment.old }
     ensures answers { Answers (λ r. DeriveRightSides (assumptions_put r (assumptions environment.old)) (bodies_of (known_of constructors.now) (bodies parts.now)) (put r (monotype (type_of t.now)))) solver.old solver.new result }
     ensures same { OnOk result (environment.new ≡ environment.old) }
+    ensures kept { Extends environment.old environment.new }
 {
     solver.well_formed();
     'parts: for j in 0..parts.len() {
@@ -308,6 +314,7 @@ pub(crate) fn check_right_side<'a>(
     ensures answers { let k = known_of constructors.now in
         Answers (λ r. HasLocal (assumptions_put r (assumptions environment.old)) (where_of k rhs.now) (λ B. DerivedSchemes (assumptions_put r (assumptions environment.old)) (where_of k rhs.now) B) (λ C. DeriveRightSides C (right_sides_of k rhs.now) (put r (monotype (type_of t.now))))) solver.old solver.new result }
     ensures same { OnOk result (environment.new ≡ environment.old) }
+    ensures kept { Extends environment.old environment.new }
 {
     let depth = environment.len();
     check_bindings(alloc, solver, environment, constructors, &rhs.local)?;
@@ -335,6 +342,7 @@ pub(crate) fn check_alternative<'a>(
     ensures answers { let k = known_of constructors.now in
         Answers (λ r. HasFunction (assumptions_put r (assumptions environment.old)) (pattern (pattern_of k pat.now) no_pattern) (put r (arrow (monotype (Var (var first))) (monotype (type_of t.now)))) (λ A u. HasLocal A (where_of k rhs.now) (λ B. DerivedSchemes A (where_of k rhs.now) B) (λ C. DeriveRightSides C (right_sides_of k rhs.now) u))) solver.old solver.new result }
     ensures same { OnOk result (environment.new ≡ environment.old) }
+    ensures kept { Extends environment.old environment.new }
 {
     let depth = environment.len();
     open_alternative(alloc, solver, environment, constructors, pat, first, t)?;
@@ -360,6 +368,7 @@ pub(crate) fn check_alternatives<'a>(
     requires assumed { AreAssumed solver.old.given environment.old }
     ensures answers { Answers (λ r. DeriveClauses (assumptions_put r (assumptions environment.old)) (alternatives_of (known_of constructors.now) (alternatives choices.now)) (put r (arrow (monotype (Var (var first))) (monotype (type_of t.now))))) solver.old solver.new result }
     ensures same { OnOk result (environment.new ≡ environment.old) }
+    ensures kept { Extends environment.old environment.new }
 {
     solver.well_formed();
     'choices: for j in 0..choices.len() {
@@ -394,6 +403,7 @@ pub(crate) fn check_clause<'a>(
     ensures answers { let k = known_of constructors.now in
         Answers (λ r. HasFunction (assumptions_put r (assumptions environment.old)) (patterns_of k (patterns pats.now)) (put r (monotype (type_of t.now))) (λ A u. HasLocal A (where_of k rhs.now) (λ B. DerivedSchemes A (where_of k rhs.now) B) (λ C. DeriveRightSides C (right_sides_of k rhs.now) u))) solver.old solver.new result }
     ensures same { OnOk result (environment.new ≡ environment.old) }
+    ensures kept { Extends environment.old environment.new }
 {
     let depth = environment.len();
     let outcome = open_function(alloc, solver, environment, constructors, pats, t)?;
@@ -428,6 +438,7 @@ fn check_member<'a>(
     ensures answers { let k = known_of constructors.now in
         (τ : Identifier → Monotype) → HaveTypesOf k τ types.now own decl.now → Answers (λ r. MemberHas k (assumptions_put r (assumptions environment.old)) (put_each r τ) (put r (type_at types.now own)) decl.now) solver.old solver.new result }
     ensures same { OnOk result (environment.new ≡ environment.old) }
+    ensures kept { Extends environment.old environment.new }
     ensures grows { OnOk result (solver.old.given ≤ solver.new.given) }
 {
     solver.well_formed();
@@ -490,6 +501,7 @@ fn check_members<'a>(
     ensures answers { let k = known_of constructors.now in
         (τ : Identifier → Monotype) → HaveTypesOfAll k decls.now τ types.now members.now → Answers (MembersHave k decls.now types.now τ members.now (assumptions environment.old)) solver.old solver.new result }
     ensures same { OnOk result (environment.new ≡ environment.old) }
+    ensures kept { Extends environment.old environment.new }
     ensures grows { OnOk result (solver.old.given ≤ solver.new.given) }
 {
     solver.well_formed();
@@ -534,7 +546,8 @@ pub fn infer_group<'a>(
     ensures judged { (added base : List Assumed) → environment.old ≡ added ++ base → length base ≡ depth → JudgesGroup (known_of constructors.now) decls.now group.now base solver.old environment.old environment.new result }
     ensures closed { OnOk result (AreAssumed 0 environment.old → AreAssumed 0 environment.new) }
     ensures numbers { OnOk result (AreUpTo solver.new.given types.new) }
-    ensures added { OnOk result (Extends environment.old environment.new) }
+    ensures kept { Extends environment.old environment.new }
+    ensures changed { ChangesOnly group.now types.old types.new }
 {
     let inner = environment.len();
     let members = open_group(alloc, solver, environment, found, group, types)?;
@@ -566,6 +579,7 @@ pub fn check_signed<'a>(
     requires assumed { AreAssumed solver.old.given environment.old }
     ensures answers { (all : Declarations) → AreSignatures all signatures.now → Answers (λ r. SignedClauseHas (known_of constructors.now) all (assumptions_put r (assumptions environment.old)) decl.now) solver.old solver.new result }
     ensures same { OnOk result (environment.new ≡ environment.old) }
+    ensures kept { Extends environment.old environment.new }
     ensures grows { OnOk result (solver.old.given ≤ solver.new.given) }
 {
     solver.well_formed();
@@ -604,6 +618,7 @@ fn check_all_signed<'a>(
     requires assumed { AreAssumed solver.old.given environment.old }
     ensures answers { Answers (λ r. SignedClausesHave (known_of constructors.now) (declarations decls.now) (assumptions_put r (assumptions environment.old)) decls.now) solver.old solver.new result }
     ensures same { OnOk result (environment.new ≡ environment.old) }
+    ensures kept { Extends environment.old environment.new }
 {
     solver.well_formed();
     'decls: for j in 0..decls.len() {
@@ -632,6 +647,7 @@ pub fn check_bindings<'a>(
     requires { AreAssumed solver.old.given environment.old }
     ensures listed { Listed (list_of (known_of constructors.now) list.now) solver.old environment.old solver.new environment.new result }
     ensures closed { OnOk result (AreAssumed 0 environment.old → AreAssumed 0 environment.new) }
+    ensures kept { Extends environment.old environment.new }
 {
     solver.well_formed();
     if list.is_empty() {

@@ -10,6 +10,7 @@ ghost use Rattle.hm_typing.specs.Syntax.{pattern, no_pattern};
 ghost use Rattle.hm_unify.specs.WellFormed.{IsWellFormed};
 ghost use Rattle.hm_expressions.specs.Problems.{monotype};
 ghost use Rattle.hm_expressions.specs.Environments.{AreAssumed};
+ghost use Rattle.hm_expressions.specs.BoundNames.{Extends};
 ghost use Rattle.hm_expressions.specs.Functions.{Opened, Entered};
 ghost use Rattle.hm_names.specs.Syntax.{pattern_of, patterns_of};
 ghost use Rattle.hm_expressions.specs.Constructors.{known_of};
@@ -36,7 +37,8 @@ pub(crate) fn open_function<'a>(
 ) -> Result<usize, UnifyFault>
     requires given { IsWellFormed solver.old.given (type_of t.now) }
     requires assumed { AreAssumed solver.old.given environment.old }
-    ensures { Opened (patterns_of (known_of constructors.now) (patterns pats.now)) (monotype (type_of t.now)) solver.old environment.old solver.new environment.new result }
+    ensures opened { Opened (patterns_of (known_of constructors.now) (patterns pats.now)) (monotype (type_of t.now)) solver.old environment.old solver.new environment.new result }
+    ensures kept { Extends environment.old environment.new }
 {
     let count = pats.len();
     let first = function_parts(alloc, solver, count, t)?;
@@ -68,7 +70,8 @@ pub(crate) fn open_alternative<'a>(
     requires first { first < solver.old.given }
     requires given { IsWellFormed solver.old.given (type_of t.now) }
     requires assumed { AreAssumed solver.old.given environment.old }
-    ensures { Entered (pattern (pattern_of (known_of constructors.now) pat.now) no_pattern) (arrow (monotype (Var (var first))) (monotype (type_of t.now))) (type_of t.now) solver.old environment.old solver.new environment.new result }
+    ensures opened { Entered (pattern (pattern_of (known_of constructors.now) pat.now) no_pattern) (arrow (monotype (Var (var first))) (monotype (type_of t.now))) (type_of t.now) solver.old environment.old solver.new environment.new result }
+    ensures kept { Extends environment.old environment.new }
 {
     let mut variables = Variables::new(alloc);
     match_pattern(

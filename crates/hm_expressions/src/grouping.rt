@@ -12,7 +12,7 @@ ghost use Rattle.hm_expressions.specs.BoundNames.{ArePlaced, BindsNode, Extends,
 ghost use Rattle.hm_expressions.specs.Environments.{AreAssumed, Assumed, assumptions};
 ghost use Rattle.hm_expressions.specs.Generalisations.{IsSolution, Keeps};
 ghost use Rattle.hm_expressions.specs.GroupQuestions.{AreGivenTypes};
-ghost use Rattle.hm_expressions.specs.OpenGroups.{AreUpTo, IsOpenGroup, IsClosedGroup};
+ghost use Rattle.hm_expressions.specs.OpenGroups.{AreUpTo, ChangesOnly, IsOpenGroup, IsClosedGroup};
 ghost use Rattle.hm_graph.specs.Digraph.{lists};
 ghost use Rattle.hm_unify.specs.declared.faults.UnifyFault.TheVariants.{Memory};
 ghost use Rattle.hm_names.specs.Syntax.{Known};
@@ -35,6 +35,7 @@ pub(crate) fn place_types(types: &mut [usize], group: &[usize], first: usize)
     requires fits { first + length group.now < 2 ^ 64 }
     ensures placed { ArePlaced first group.now types.new }
     ensures given { (g : ℕ) → first + length group.now ≤ g → AreGivenTypes g types.old → AreGivenTypes g types.new }
+    ensures changed { ChangesOnly group.now types.old types.new }
 {
     'nodes: for place in 0..group.len() {
         types[group[place]] = first + place;
@@ -52,7 +53,7 @@ fn bind_node<'a>(
     requires { node < length numbers.now }
     ensures bound { OnOk result ((k : Known) (all : Declarations) → numbers.now ≡ list_nodes all all → BindsNode (node_name k all node) (record { quantified = quantified; body = type_of body }) environment.old environment.new) }
     ensures given { OnOk result ((g : ℕ) → IsWellFormed (quantified + g) (type_of body) → AreAssumed g environment.old → AreAssumed g environment.new) }
-    ensures added { OnOk result (Extends environment.old environment.new) }
+    ensures kept { Extends environment.old environment.new }
 {
     let Some(name) = numbers.variable(node) else {
         return Ok(());
@@ -73,7 +74,7 @@ pub(crate) fn bind_types<'a>(
     requires types { length types.now ≡ length numbers.now }
     ensures bound { OnOk result ((k : Known) (all : Declarations) → numbers.now ≡ list_nodes all all → BindsTypes k all types.now group.now environment.old environment.new) }
     ensures given { OnOk result ((g : ℕ) → AreGivenTypes g types.now → AreAssumed g environment.old → AreAssumed g environment.new) }
-    ensures added { OnOk result (Extends environment.old environment.new) }
+    ensures kept { Extends environment.old environment.new }
 {
     'nodes: for place in 0..group.len() {
         let node = group[place];
@@ -100,7 +101,7 @@ pub(crate) fn bind_schemes<'a>(
     ensures bound { OnOk result ((k : Known) (all : Declarations) → numbers.now ≡ list_nodes all all → (A : Assumptions) (m : ℕ → Monotype) → IsSolution solver.now.equations m → Keeps kept.now (assumptions_put m A) → BindsSchemes k all types.now m A group.now environment.old environment.new) }
     ensures given { OnOk result (AreAssumed solver.now.given environment.old → AreAssumed solver.now.given environment.new) }
     ensures closed { OnOk result (((l : Leaf) → has_leaf kept.now l ≡ false) → AreAssumed 0 environment.old → AreAssumed 0 environment.new) }
-    ensures added { OnOk result (Extends environment.old environment.new) }
+    ensures kept { Extends environment.old environment.new }
 {
     'nodes: for place in 0..group.len() {
         let node = group[place];
@@ -130,6 +131,8 @@ pub(crate) fn open_group<'a>(
     requires assumed { AreAssumed solver.old.given environment.old }
     ensures opened { IfOk result (λ members. IsOpenGroup found.now.numbers (lists found.now.rows.items) group.now solver.old environment.old solver.new environment.new types.new members.items) }
     ensures refused { IfErr result (λ e. e ≡ Memory) }
+    ensures kept { Extends environment.old environment.new }
+    ensures changed { ChangesOnly group.now types.old types.new }
 {
     let first = new_variables(solver, group.len())?;
     place_types(types, group, first);
@@ -156,7 +159,7 @@ pub(crate) fn close_group<'a>(
     ensures closed { OnOk result (IsClosedGroup found.now.numbers group.now types.now depth solver.now environment.old environment.new) }
     ensures assumed { OnOk result (AreAssumed solver.now.given environment.new) }
     ensures closed_alone { OnOk result (AreAssumed 0 environment.old → AreAssumed 0 environment.new) }
-    ensures added { OnOk result (Extends environment.old environment.new) }
+    ensures kept { Extends environment.old environment.new }
     ensures refused { IfErr result (λ e. e ≡ Memory) }
 {
     solver.has_solution();

@@ -84,7 +84,7 @@ fn bind_declared<'a>(
 ) -> Result<(), AllocError>
     ensures bound { OnOk result ((k : Known) (all : Declarations) → AreSignatures all signatures.now → BindsDeclaration k all decl.now (declarations rest.now) environment.old environment.new) }
     ensures given { OnOk result ((g : ℕ) → AreAssumed g environment.old → AreAssumed g environment.new) }
-    ensures added { OnOk result (Extends environment.old environment.new) }
+    ensures kept { Extends environment.old environment.new }
 {
     let DeclKind::Clause { name, pats, rhs: _ } = &decl.kind else {
         return Ok(());
@@ -110,7 +110,7 @@ pub fn bind_signed<'a>(
     requires { AreSignatures (declarations decls.now) signatures.now }
     ensures bound { OnOk result ((k : Known) → BindsSigned (list_of k decls.now) environment.old environment.new) }
     ensures given { OnOk result ((g : ℕ) → AreAssumed g environment.old → AreAssumed g environment.new) }
-    ensures added { OnOk result (Extends environment.old environment.new) }
+    ensures kept { Extends environment.old environment.new }
 {
     'decls: for behind in 0..decls.len() {
         let place = decls.len() - 1 - behind;

@@ -21,3 +21,4 @@ pub mod SignedStarts
 pub mod CoreStarts
 pub mod Untyped
 pub mod NoTyping
+pub mod Cleared

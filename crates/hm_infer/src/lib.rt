@@ -8,7 +8,6 @@ mod finding_faults;
 mod inferring;
 mod judging_units;
 mod own_schemes;
-mod restoring;
 mod signed_faults;
 mod signed_starts;
 mod telling;

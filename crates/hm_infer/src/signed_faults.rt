@@ -2,7 +2,7 @@
 //! and 4.5.1): those of which a clause hasn't the declared type, though all that the clauses refer
 //! to has types.
 
-ghost use Rattle.std.specs.Prelude.{◌≡◌, ◌<◌, false, IfOk, OnOk, drop, length};
+ghost use Rattle.std.specs.Prelude.{◌≡◌, ◌<◌, IfOk, OnOk, drop, length};
 ghost use Rattle.std.specs.Bool.{Decides};
 ghost use Rattle.hm_syntax.specs.Trees.{Declarations};
 ghost use Rattle.hm_groups.specs.Nodes.{AllShown};
@@ -12,7 +12,6 @@ ghost use Rattle.hm_infer.specs.SignedFaults.{AreRefused, AreSignedFaults, AreWa
 ghost use Rattle.hm_expressions.specs.SignedLists.{AreSignatures};
 
 use crate::dependences::refers_to_typed;
-use crate::restoring::restored;
 use hm_expressions::{Constructors, Environment, check_signed};
 use hm_groups::{Numbers, is_continued};
 use hm_syntax::{Decl, DeclKind, TypeExpr};
@@ -59,64 +58,70 @@ fn waiting_clauses(
     Ok(waiting)
 }
 
-/// Whether a clause hasn't the declared type of its variable, under closed assumptions. These are
-/// worked on in a second environment, which is the same as the first afterwards where it has.
+/// Whether a clause hasn't the declared type of its variable, under closed assumptions, which are
+/// the same afterwards.
 fn is_refused<'a>(
     alloc: Global,
-    environment: &Environment<'a>,
-    working: &mut Environment<'a>,
+    environment: &mut Environment<'a>,
     constructors: &Constructors,
     signatures: &IndexMap<&str, &TypeExpr>,
     decl: &'a Decl,
     is_waiting: bool,
 ) -> Result<bool, UnifyFault>
-    requires same { working.old ≡ environment.now }
-    requires closed { AreAssumed 0 environment.now }
-    ensures told { IfOk result (λ b. (all : Declarations) → AreSignatures all signatures.now → Refuses is_waiting b (known_of constructors.now) all (assumptions environment.now) decl.now) }
-    ensures same { IfOk result (λ b. b ≡ false → working.new ≡ environment.now) }
+    requires closed { AreAssumed 0 environment.old }
+    ensures told { IfOk result (λ b. (all : Declarations) → AreSignatures all signatures.now → Refuses is_waiting b (known_of constructors.now) all (assumptions environment.old) decl.now) }
+    ensures same { OnOk result (environment.new ≡ environment.old) }
 {
     if is_waiting {
         return Ok(false);
     }
+    let outside = environment.len();
     let mut solver = Solver::new(alloc);
-    match check_signed(alloc, &mut solver, working, constructors, signatures, decl) {
+    match check_signed(
+        alloc,
+        &mut solver,
+        environment,
+        constructors,
+        signatures,
+        decl,
+    ) {
         Ok(()) => {
             solver.has_solution();
             Ok(false)
         }
-        Err(UnifyFault::Clash) => Ok(true),
+        Err(UnifyFault::Clash) => {
+            environment.truncate(outside);
+            Ok(true)
+        }
         Err(UnifyFault::Memory) => Err(UnifyFault::Memory),
     }
 }
 
 /// For each declaration of a list whether it is a clause that hasn't the declared type; those that
-/// wait aren't checked.
+/// wait aren't checked. The assumptions are the same afterwards.
 fn refused_clauses<'a>(
     alloc: Global,
-    environment: &Environment<'a>,
+    environment: &mut Environment<'a>,
     constructors: &Constructors,
     signatures: &IndexMap<&str, &TypeExpr>,
     decls: &'a [Decl],
     waiting: &[bool],
 ) -> Result<Vec<bool>, UnifyFault>
-    requires closed { AreAssumed 0 environment.now }
+    requires closed { AreAssumed 0 environment.old }
     requires sized { length waiting.now ≡ length decls.now }
-    ensures told { IfOk result (λ refused. (all : Declarations) → AreSignatures all signatures.now → AreRefused (known_of constructors.now) all (assumptions environment.now) decls.now waiting.now refused.items) }
+    ensures told { IfOk result (λ refused. (all : Declarations) → AreSignatures all signatures.now → AreRefused (known_of constructors.now) all (assumptions environment.old) decls.now waiting.now refused.items) }
     ensures sized { IfOk result (λ refused. length refused.items ≡ length decls.now) }
 {
     let mut refused = Vec::new(alloc);
-    let mut working = environment.copy(alloc)?;
     'decls: for i in 0..decls.len() {
         let is_refused = is_refused(
             alloc,
             environment,
-            &mut working,
             constructors,
             signatures,
             &decls[i],
             waiting[i],
         )?;
-        working = restored(alloc, environment, working, !is_refused)?;
         refused.push(is_refused)?;
     }
     Ok(refused)
@@ -182,16 +187,16 @@ fn is_fault_at(decls: &[Decl], waiting: &[bool], refused: &[bool], place: usize)
 /// closed assumptions of all that has types.
 pub(crate) fn signed_faults<'a>(
     alloc: Global,
-    environment: &Environment<'a>,
+    environment: &mut Environment<'a>,
     constructors: &Constructors,
     signatures: &IndexMap<&str, &TypeExpr>,
     decls: &'a [Decl],
     numbers: &Numbers,
     typed: &[bool],
 ) -> Result<Vec<usize>, UnifyFault>
-    requires closed { AreAssumed 0 environment.now }
+    requires closed { AreAssumed 0 environment.old }
     requires typed { length typed.now ≡ length numbers.now }
-    ensures told { IfOk result (λ places. (all : Declarations) → AreSignatures all signatures.now → AreSignedFaults (known_of constructors.now) all (assumptions environment.now) numbers.now typed.now decls.now places.items) }
+    ensures told { IfOk result (λ places. (all : Declarations) → AreSignatures all signatures.now → AreSignedFaults (known_of constructors.now) all (assumptions environment.old) numbers.now typed.now decls.now places.items) }
 {
     let waiting = waiting_clauses(alloc, decls, numbers, typed)?;
     let refused = refused_clauses(

@@ -21,7 +21,7 @@ use std::alloc::Global;
 /// all units without signatures were judged.
 pub(crate) fn signed_starts<'a>(
     alloc: Global,
-    environment: &Environment<'a>,
+    environment: &mut Environment<'a>,
     constructors: &Constructors,
     signatures: &IndexMap<&str, &TypeExpr>,
     decls: &'a [Decl],
@@ -29,9 +29,9 @@ pub(crate) fn signed_starts<'a>(
     typed: &[bool],
 ) -> Result<Vec<usize>, UnifyFault>
     requires signatures { AreSignatures (declarations decls.now) signatures.now }
-    requires closed { AreAssumed 0 environment.now }
+    requires closed { AreAssumed 0 environment.old }
     requires sized { length typed.now ≡ length found.now.numbers }
-    ensures { IfOk result (λ places. TellsSigned (known_of constructors.now) decls.now found.now.numbers (lists found.now.rows.items) (lists found.now.groups.items) environment.now typed.now places.items) }
+    ensures { IfOk result (λ places. TellsSigned (known_of constructors.now) decls.now found.now.numbers (lists found.now.rows.items) (lists found.now.groups.items) environment.old typed.now places.items) }
 {
     Ok(signed_faults(
         alloc,

@@ -48,6 +48,7 @@ use Rattle.hm_expressions.proofs.SignedNames.{is_other}
 use Rattle.hm_expressions.proofs.SignedForms.{SignedAsks, clause_escapes, clause_refused, clause_signed, other_asked, unsigned_asked}
 use Rattle.hm_expressions.proofs.SignedSteps.{SignedAll, signed_done, signed_nothing, signed_refused, signed_step}
 use Rattle.hm_expressions.proofs.SignedLists.{signed_end, signed_end_refused, signed_start}
+use Rattle.hm_expressions.proofs.Naming.{extended}
 use Rattle.hm_expressions.proofs.expressions.+checking.Goals as goal
 
 pub check_expression-check_function-requires : goal.check_expression-check_function-requires
@@ -214,30 +215,30 @@ pub check_expression-returns-in_err-outcome-in-Lambda-clause-answers : goal.chec
 check_expression-returns-in_err-outcome-in-Lambda-clause-answers t c =
     expression_is (known_of c.args.constructors.now) (lambda (patterns c.in-Lambda.pats.items) c.in-Lambda.body.value) c.args.e.now (type_of c.args.t.now) c.args.environment.now c.args.solver.now c.open_function.new.solver c.from_residual-in_err-outcome-in-Lambda.result (sym (ap tree_of c.in-Lambda.is) ∙ c.e.view_is)
     (refused_by (Checks (known_of c.args.constructors.now) (lambda (patterns c.in-Lambda.pats.items) c.in-Lambda.body.value) (type_of c.args.t.now) c.args.environment.now) c.args.solver.now c.open_function.new.solver c.from_residual-in_err-outcome-in-Lambda.result c.in_err-outcome-in-Lambda.field-0.0 c.from_residual-in_err-outcome-in-Lambda.ensures.1
-    (lambda_refused (known_of c.args.constructors.now) c.in-Lambda.pats.items c.in-Lambda.body.value (type_of c.args.t.now) c.args.solver.now c.args.environment.now c.in_err-outcome-in-Lambda.field-0.0 (subst (λ qs. RefusesOpening (patterns_of (known_of c.args.constructors.now) (patterns qs)) (monotype (type_of c.args.t.now)) c.args.solver.now c.in_err-outcome-in-Lambda.field-0.0) c.deref-in-Lambda.ensures.value c.in_err-outcome-in-Lambda.ensures)))
+    (lambda_refused (known_of c.args.constructors.now) c.in-Lambda.pats.items c.in-Lambda.body.value (type_of c.args.t.now) c.args.solver.now c.args.environment.now c.in_err-outcome-in-Lambda.field-0.0 (subst (λ qs. RefusesOpening (patterns_of (known_of c.args.constructors.now) (patterns qs)) (monotype (type_of c.args.t.now)) c.args.solver.now c.in_err-outcome-in-Lambda.field-0.0) c.deref-in-Lambda.ensures.value c.in_err-outcome-in-Lambda.ensures.opened)))
 
 pub check_expression-check_expression-requires-in-Lambda : goal.check_expression-check_expression-requires-in-Lambda
 check_expression-check_expression-requires-in-Lambda t c =
     let z = ap expression_size (sym (ap tree_of c.in-Lambda.is) ∙ c.e.view_is) in
     let y = ap expression_size c.deref-in-Lambda-2.ensures in
     let smaller : expression_size c.deref-in-Lambda-2.result.now < expression_size c.args.e.now = omega (arith, z, y) in
-    let o = (subst (λ qs. IsOpened (patterns_of (known_of c.args.constructors.now) (patterns qs)) (monotype (type_of c.args.t.now)) (Var (var c.in_ok-outcome-in-Lambda.outcome)) c.args.solver.now c.args.environment.now c.open_function.new.solver c.open_function.new.environment) c.deref-in-Lambda.ensures.value c.in_ok-outcome-in-Lambda.ensures) in
+    let o = (subst (λ qs. IsOpened (patterns_of (known_of c.args.constructors.now) (patterns qs)) (monotype (type_of c.args.t.now)) (Var (var c.in_ok-outcome-in-Lambda.outcome)) c.args.solver.now c.args.environment.now c.open_function.new.solver c.open_function.new.environment) c.deref-in-Lambda.ensures.value c.in_ok-outcome-in-Lambda.ensures.opened) in
     (search rules, (o.result_given, o.given))
 
 pub check_expression-returns-in_err-check_expression-in-Lambda-clause-answers : goal.check_expression-returns-in_err-check_expression-in-Lambda-clause-answers
 check_expression-returns-in_err-check_expression-in-Lambda-clause-answers t c =
     expression_is (known_of c.args.constructors.now) (lambda (patterns c.in-Lambda.pats.items) c.in-Lambda.body.value) c.args.e.now (type_of c.args.t.now) c.args.environment.now c.args.solver.now c.check_expression-in-Lambda.new.solver c.from_residual-in_err-check_expression-in-Lambda.result (sym (ap tree_of c.in-Lambda.is) ∙ c.e.view_is)
     (refused_by (Checks (known_of c.args.constructors.now) (lambda (patterns c.in-Lambda.pats.items) c.in-Lambda.body.value) (type_of c.args.t.now) c.args.environment.now) c.args.solver.now c.check_expression-in-Lambda.new.solver c.from_residual-in_err-check_expression-in-Lambda.result c.in_err-check_expression-in-Lambda.field-0.0 c.from_residual-in_err-check_expression-in-Lambda.ensures.1
-    (lambda_answers {X = Unit {0}} (known_of c.args.constructors.now) c.in-Lambda.pats.items c.in-Lambda.body.value (type_of c.args.t.now) (Var (var c.in_ok-outcome-in-Lambda.outcome)) c.args.solver.now c.open_function.new.solver c.check_expression-in-Lambda.new.solver c.args.environment.now c.open_function.new.environment (Err c.in_err-check_expression-in-Lambda.field-0.0) c.requires.assumed (subst (λ qs. IsOpened (patterns_of (known_of c.args.constructors.now) (patterns qs)) (monotype (type_of c.args.t.now)) (Var (var c.in_ok-outcome-in-Lambda.outcome)) c.args.solver.now c.args.environment.now c.open_function.new.solver c.open_function.new.environment) c.deref-in-Lambda.ensures.value c.in_ok-outcome-in-Lambda.ensures) (moved_refused (known_of c.args.constructors.now) c.deref-in-Lambda-2.result.now c.in-Lambda.body.value (Var (var c.in_ok-outcome-in-Lambda.outcome)) c.open_function.new.environment c.open_function.new.environment c.open_function.new.solver c.in_err-check_expression-in-Lambda.field-0.0 refl c.deref-in-Lambda-2.ensures c.in_err-check_expression-in-Lambda.ensures.answers)))
+    (lambda_answers {X = Unit {0}} (known_of c.args.constructors.now) c.in-Lambda.pats.items c.in-Lambda.body.value (type_of c.args.t.now) (Var (var c.in_ok-outcome-in-Lambda.outcome)) c.args.solver.now c.open_function.new.solver c.check_expression-in-Lambda.new.solver c.args.environment.now c.open_function.new.environment (Err c.in_err-check_expression-in-Lambda.field-0.0) c.requires.assumed (subst (λ qs. IsOpened (patterns_of (known_of c.args.constructors.now) (patterns qs)) (monotype (type_of c.args.t.now)) (Var (var c.in_ok-outcome-in-Lambda.outcome)) c.args.solver.now c.args.environment.now c.open_function.new.solver c.open_function.new.environment) c.deref-in-Lambda.ensures.value c.in_ok-outcome-in-Lambda.ensures.opened) (moved_refused (known_of c.args.constructors.now) c.deref-in-Lambda-2.result.now c.in-Lambda.body.value (Var (var c.in_ok-outcome-in-Lambda.outcome)) c.open_function.new.environment c.open_function.new.environment c.open_function.new.solver c.in_err-check_expression-in-Lambda.field-0.0 refl c.deref-in-Lambda-2.ensures c.in_err-check_expression-in-Lambda.ensures.answers)))
 
 pub check_expression-returns-in_ok-check_expression-in-Lambda-clause-answers : goal.check_expression-returns-in_ok-check_expression-in-Lambda-clause-answers
 check_expression-returns-in_ok-check_expression-in-Lambda-clause-answers t c =
     expression_is {X = Unit {0}} (known_of c.args.constructors.now) (lambda (patterns c.in-Lambda.pats.items) c.in-Lambda.body.value) c.args.e.now (type_of c.args.t.now) c.args.environment.now c.args.solver.now c.check_expression-in-Lambda.new.solver (Ok tt) (sym (ap tree_of c.in-Lambda.is) ∙ c.e.view_is)
-    (lambda_answers {X = Unit {0}} (known_of c.args.constructors.now) c.in-Lambda.pats.items c.in-Lambda.body.value (type_of c.args.t.now) (Var (var c.in_ok-outcome-in-Lambda.outcome)) c.args.solver.now c.open_function.new.solver c.check_expression-in-Lambda.new.solver c.args.environment.now c.open_function.new.environment (Ok tt) c.requires.assumed (subst (λ qs. IsOpened (patterns_of (known_of c.args.constructors.now) (patterns qs)) (monotype (type_of c.args.t.now)) (Var (var c.in_ok-outcome-in-Lambda.outcome)) c.args.solver.now c.args.environment.now c.open_function.new.solver c.open_function.new.environment) c.deref-in-Lambda.ensures.value c.in_ok-outcome-in-Lambda.ensures) (moved_solved (known_of c.args.constructors.now) c.deref-in-Lambda-2.result.now c.in-Lambda.body.value (Var (var c.in_ok-outcome-in-Lambda.outcome)) c.open_function.new.environment c.open_function.new.environment c.open_function.new.solver c.check_expression-in-Lambda.new.solver refl c.deref-in-Lambda-2.ensures c.in_ok-check_expression-in-Lambda.ensures.answers))
+    (lambda_answers {X = Unit {0}} (known_of c.args.constructors.now) c.in-Lambda.pats.items c.in-Lambda.body.value (type_of c.args.t.now) (Var (var c.in_ok-outcome-in-Lambda.outcome)) c.args.solver.now c.open_function.new.solver c.check_expression-in-Lambda.new.solver c.args.environment.now c.open_function.new.environment (Ok tt) c.requires.assumed (subst (λ qs. IsOpened (patterns_of (known_of c.args.constructors.now) (patterns qs)) (monotype (type_of c.args.t.now)) (Var (var c.in_ok-outcome-in-Lambda.outcome)) c.args.solver.now c.args.environment.now c.open_function.new.solver c.open_function.new.environment) c.deref-in-Lambda.ensures.value c.in_ok-outcome-in-Lambda.ensures.opened) (moved_solved (known_of c.args.constructors.now) c.deref-in-Lambda-2.result.now c.in-Lambda.body.value (Var (var c.in_ok-outcome-in-Lambda.outcome)) c.open_function.new.environment c.open_function.new.environment c.open_function.new.solver c.check_expression-in-Lambda.new.solver refl c.deref-in-Lambda-2.ensures c.in_ok-check_expression-in-Lambda.ensures.answers))
 
 pub check_expression-returns-in_ok-check_expression-in-Lambda-clause-same : goal.check_expression-returns-in_ok-check_expression-in-Lambda-clause-same
 check_expression-returns-in_ok-check_expression-in-Lambda-clause-same t c =
-    let o = (subst (λ qs. IsOpened (patterns_of (known_of c.args.constructors.now) (patterns qs)) (monotype (type_of c.args.t.now)) (Var (var c.in_ok-outcome-in-Lambda.outcome)) c.args.solver.now c.args.environment.now c.open_function.new.solver c.open_function.new.environment) c.deref-in-Lambda.ensures.value c.in_ok-outcome-in-Lambda.ensures) in
+    let o = (subst (λ qs. IsOpened (patterns_of (known_of c.args.constructors.now) (patterns qs)) (monotype (type_of c.args.t.now)) (Var (var c.in_ok-outcome-in-Lambda.outcome)) c.args.solver.now c.args.environment.now c.open_function.new.solver c.open_function.new.environment) c.deref-in-Lambda.ensures.value c.in_ok-outcome-in-Lambda.ensures.opened) in
     c.truncate.ensures o.added c.args.environment.now (c.in_ok-check_expression-in-Lambda.ensures.same ∙ o.entries) (sym c.len-depth.ensures)
 
 pub check_expression-returns-in_err-check_bindings-in-Let-clause-answers : goal.check_expression-returns-in_err-check_bindings-in-Let-clause-answers
@@ -347,21 +348,21 @@ check_right_side-check_bodies-requires t c =
 pub check_alternative-returns-in_err-open_alternative-clause-answers : goal.check_alternative-returns-in_err-open_alternative-clause-answers
 check_alternative-returns-in_err-open_alternative-clause-answers t c =
     refused_by (ChecksChoice (known_of c.args.constructors.now) c.args.pat.now c.args.rhs.now c.args.first (type_of c.args.t.now) c.args.environment.now) c.args.solver.now c.open_alternative.new.solver c.from_residual.result c.in_err-open_alternative.field-0.0 c.from_residual.ensures.1
-    (choice_refused (known_of c.args.constructors.now) c.args.pat.now c.args.rhs.now c.args.first (type_of c.args.t.now) c.args.solver.now c.args.environment.now c.in_err-open_alternative.field-0.0 c.in_err-open_alternative.ensures)
+    (choice_refused (known_of c.args.constructors.now) c.args.pat.now c.args.rhs.now c.args.first (type_of c.args.t.now) c.args.solver.now c.args.environment.now c.in_err-open_alternative.field-0.0 c.in_err-open_alternative.ensures.opened)
 
 pub check_alternative-check_right_side-requires : goal.check_alternative-check_right_side-requires
 check_alternative-check_right_side-requires t c =
     let smaller : suc (right_side_size c.args.rhs.now) < suc (suc (right_side_size c.args.rhs.now)) = omega arith in
-    (search rules, (c.in_ok-open_alternative.ensures.result_given, c.in_ok-open_alternative.ensures.given))
+    (search rules, (c.in_ok-open_alternative.ensures.opened.result_given, c.in_ok-open_alternative.ensures.opened.given))
 
 pub check_alternative-returns-in_err-check_right_side-clause-answers : goal.check_alternative-returns-in_err-check_right_side-clause-answers
 check_alternative-returns-in_err-check_right_side-clause-answers t c =
     refused_by (ChecksChoice (known_of c.args.constructors.now) c.args.pat.now c.args.rhs.now c.args.first (type_of c.args.t.now) c.args.environment.now) c.args.solver.now c.check_right_side.new.solver c.from_residual-in_err-check_right_side.result c.in_err-check_right_side.field-0.0 c.from_residual-in_err-check_right_side.ensures.1
-    (choice_answers {X = Unit {0}} (known_of c.args.constructors.now) c.args.pat.now c.args.rhs.now c.args.first (type_of c.args.t.now) c.args.solver.now c.open_alternative.new.solver c.check_right_side.new.solver c.args.environment.now c.open_alternative.new.environment (Err c.in_err-check_right_side.field-0.0) c.requires.assumed c.in_ok-open_alternative.ensures c.in_err-check_right_side.ensures.answers)
+    (choice_answers {X = Unit {0}} (known_of c.args.constructors.now) c.args.pat.now c.args.rhs.now c.args.first (type_of c.args.t.now) c.args.solver.now c.open_alternative.new.solver c.check_right_side.new.solver c.args.environment.now c.open_alternative.new.environment (Err c.in_err-check_right_side.field-0.0) c.requires.assumed c.in_ok-open_alternative.ensures.opened c.in_err-check_right_side.ensures.answers)
 
 pub check_alternative-returns-clause-answers : goal.check_alternative-returns-clause-answers
 check_alternative-returns-clause-answers t c =
-    choice_answers {X = Unit {0}} (known_of c.args.constructors.now) c.args.pat.now c.args.rhs.now c.args.first (type_of c.args.t.now) c.args.solver.now c.open_alternative.new.solver c.check_right_side.new.solver c.args.environment.now c.open_alternative.new.environment (Ok tt) c.requires.assumed c.in_ok-open_alternative.ensures c.in_ok-check_right_side.ensures.answers
+    choice_answers {X = Unit {0}} (known_of c.args.constructors.now) c.args.pat.now c.args.rhs.now c.args.first (type_of c.args.t.now) c.args.solver.now c.open_alternative.new.solver c.check_right_side.new.solver c.args.environment.now c.open_alternative.new.environment (Ok tt) c.requires.assumed c.in_ok-open_alternative.ensures.opened c.in_ok-check_right_side.ensures.answers
 
 pub check_alternatives-choices-init : goal.check_alternatives-choices-init
 check_alternatives-choices-init t c = record { same = refl; checked = choices_none (known_of c.args.constructors.now) c.args.choices.now c.args.first (type_of c.args.t.now) c.args.environment.now c.args.solver.now (problem_below c.args.solver.now c.well_formed-2.ensures) }
@@ -514,11 +515,11 @@ check_typed-returns-clause-answers t c =
 pub check_clause-returns-in_err-check_right_side-clause-answers : goal.check_clause-returns-in_err-check_right_side-clause-answers
 check_clause-returns-in_err-check_right_side-clause-answers t c =
     refused_by (ChecksClause (known_of c.args.constructors.now) c.args.pats.now c.args.rhs.now (type_of c.args.t.now) c.args.environment.now) c.args.solver.now c.check_right_side.new.solver c.from_residual-in_err-check_right_side.result c.in_err-check_right_side.field-0.0 c.from_residual-in_err-check_right_side.ensures.1
-    (clause_answers {X = Unit {0}} (known_of c.args.constructors.now) c.args.pats.now c.args.rhs.now (type_of c.args.t.now) (Var (var c.in_ok-outcome.outcome)) c.args.solver.now c.open_function.new.solver c.check_right_side.new.solver c.args.environment.now c.open_function.new.environment (Err c.in_err-check_right_side.field-0.0) c.requires.assumed c.in_ok-outcome.ensures c.in_err-check_right_side.ensures.answers)
+    (clause_answers {X = Unit {0}} (known_of c.args.constructors.now) c.args.pats.now c.args.rhs.now (type_of c.args.t.now) (Var (var c.in_ok-outcome.outcome)) c.args.solver.now c.open_function.new.solver c.check_right_side.new.solver c.args.environment.now c.open_function.new.environment (Err c.in_err-check_right_side.field-0.0) c.requires.assumed c.in_ok-outcome.ensures.opened c.in_err-check_right_side.ensures.answers)
 
 pub check_clause-returns-clause-answers : goal.check_clause-returns-clause-answers
 check_clause-returns-clause-answers t c =
-    clause_answers {X = Unit {0}} (known_of c.args.constructors.now) c.args.pats.now c.args.rhs.now (type_of c.args.t.now) (Var (var c.in_ok-outcome.outcome)) c.args.solver.now c.open_function.new.solver c.check_right_side.new.solver c.args.environment.now c.open_function.new.environment (Ok tt) c.requires.assumed c.in_ok-outcome.ensures c.in_ok-check_right_side.ensures.answers
+    clause_answers {X = Unit {0}} (known_of c.args.constructors.now) c.args.pats.now c.args.rhs.now (type_of c.args.t.now) (Var (var c.in_ok-outcome.outcome)) c.args.solver.now c.open_function.new.solver c.check_right_side.new.solver c.args.environment.now c.open_function.new.environment (Ok tt) c.requires.assumed c.in_ok-outcome.ensures.opened c.in_ok-check_right_side.ensures.answers
 
 pub check_bindings-returns-then-is_empty-clause-listed : goal.check_bindings-returns-then-is_empty-clause-listed
 check_bindings-returns-then-is_empty-clause-listed t c =
@@ -531,7 +532,7 @@ check_bindings-groups-init t c =
       sized = (let l = c.in_ok-types.ensures.len in omega (arith, l, c.in_ok-types.types.ok.0));
       numbers = zeroes_up_to c.args.solver.now.given (length c.in_ok-found.found.numbers) c.in_ok-types.types.items (search rules);
       assumed = c.in_ok-bind_signed.ensures.given c.args.solver.now.given c.requires;
-      added = c.in_ok-bind_signed.ensures.added;
+      added = c.bind_signed.ensures.kept;
       closed = c.in_ok-bind_signed.ensures.given 0;
       stage = signed_start k c.args.list.now (lists c.in_ok-found.found.groups.items) (length c.in_ok-found.found.numbers) (c.in_ok-found.ensures.distinct k) (c.in_ok-found.ensures.groups k) c.args.solver.now c.args.environment.now c.bind_signed.new.environment (c.in_ok-bind_signed.ensures.bound k) (problem_below c.args.solver.now c.well_formed-2.ensures);
     }
@@ -595,7 +596,7 @@ check_bindings-groups-preserved t c =
     let kept : length c.infer_group.new.types ≡ length c.groups.types.items = c.infer_group.auto.types ∙ ap length c.deref_mut.ensures.value in
     let new = written_to c.infer_group.new.types c.groups.types.items c.groups.types.len (c.groups.types.ok.0) kept in
     subst (λ z. GroupsInferred k c.args.list.now gs n z (c.groups.i + 1) c.args.solver.now c.args.environment.now c.infer_group.new.solver c.infer_group.new.environment) (sym new)
-    (next_stage k c.args.list.now gs n c.groups.i c.groups.types.items c.infer_group.new.types c.deref.result.now c.args.solver.now c.groups.solver c.infer_group.new.solver c.args.environment.now c.groups.environment c.infer_group.new.environment c.requires v within here (c.in_ok-infer_group.ensures.inferred v.added.0 c.args.environment.now v.added.1 (sym c.len-depth.ensures)) (kept ∙ v.sized) c.in_ok-infer_group.ensures.numbers c.in_ok-infer_group.ensures.assumed c.in_ok-infer_group.ensures.added (λ a. c.in_ok-infer_group.ensures.closed (v.closed a)))
+    (next_stage k c.args.list.now gs n c.groups.i c.groups.types.items c.infer_group.new.types c.deref.result.now c.args.solver.now c.groups.solver c.infer_group.new.solver c.args.environment.now c.groups.environment c.infer_group.new.environment c.requires v within here (c.in_ok-infer_group.ensures.inferred v.added.0 c.args.environment.now v.added.1 (sym c.len-depth.ensures)) (kept ∙ v.sized) c.in_ok-infer_group.ensures.numbers c.in_ok-infer_group.ensures.assumed c.infer_group.ensures.kept (λ a. c.in_ok-infer_group.ensures.closed (v.closed a)))
 
 pub check_bindings-returns-clause-listed : goal.check_bindings-returns-clause-listed
 check_bindings-returns-clause-listed t c =
@@ -728,11 +729,11 @@ infer_group-returns-clause-closed t c = λ a.
     let back : c.truncate.new.self ≡ c.args.environment.now = c.truncate.ensures o.added.0 c.args.environment.now (c.in_ok-check_members.ensures.same ∙ o.added.1) (sym c.len-inner.ensures) in
     c.in_ok-close_group.ensures.closed_alone (subst (AreAssumed 0) (sym back) a)
 
-pub infer_group-returns-clause-added : goal.infer_group-returns-clause-added
-infer_group-returns-clause-added t c =
+pub infer_group-returns-clause-kept : goal.infer_group-returns-clause-kept
+infer_group-returns-clause-kept t c =
     let o = c.in_ok-members.ensures.opened in
     let back : c.truncate.new.self ≡ c.args.environment.now = c.truncate.ensures o.added.0 c.args.environment.now (c.in_ok-check_members.ensures.same ∙ o.added.1) (sym c.len-inner.ensures) in
-    subst (λ z. Extends z c.close_group.new.environment) back c.in_ok-close_group.ensures.added
+    subst (λ z. Extends z c.close_group.new.environment) back c.close_group.ensures.kept
 
 pub check_member-returns-in-Clause-clause-grows : goal.check_member-returns-in-Clause-clause-grows
 check_member-returns-in-Clause-clause-grows t c = answers_grow _ c.args.solver.now c.check_clause.new.solver c.check_clause.result c.check_clause.ensures.answers
@@ -871,3 +872,27 @@ check_bindings-returns-in_err-check_all_signed-clause-listed t c =
     let last : length c.in_ok-found.found.groups.items ≤ c.groups.i = (let h = c.groups-test.false in omega (arith, h, c.len-i-end.ensures, c.in_ok-found.found.groups.ok.0)) in
     listed_passed (Unit {0}) (list_of k c.args.list.now) c.args.solver.now c.args.environment.now c.check_all_signed.new.solver c.check_all_signed.new.environment c.from_residual-in_err-check_all_signed.result c.in_err-check_all_signed.field-0.0 c.from_residual-in_err-check_all_signed.ensures.1
     (signed_end_refused k c.args.list.now (lists c.in_ok-found.found.groups.items) c.groups.i c.args.solver.now c.groups.solver c.args.environment.now c.groups.environment (subst (λ z. z ≤ c.groups.i) (sym (length-map c.in_ok-found.found.groups.items (λ r. r.items))) last) c.requires v.stage c.in_err-check_all_signed.field-0.0 c.in_err-check_all_signed.ensures.answers)
+
+pub check_alternative-returns-in_err-check_right_side-clause-kept : goal.check_alternative-returns-in_err-check_right_side-clause-kept
+check_alternative-returns-in_err-check_right_side-clause-kept t c = extended c.args.environment.now c.open_alternative.new.environment c.check_right_side.new.environment c.open_alternative.ensures.kept c.check_right_side.ensures.kept
+
+pub check_clause-returns-in_err-check_right_side-clause-kept : goal.check_clause-returns-in_err-check_right_side-clause-kept
+check_clause-returns-in_err-check_right_side-clause-kept t c = extended c.args.environment.now c.open_function.new.environment c.check_right_side.new.environment c.open_function.ensures.kept c.check_right_side.ensures.kept
+
+pub check_right_side-returns-in_err-check_bodies-clause-kept : goal.check_right_side-returns-in_err-check_bodies-clause-kept
+check_right_side-returns-in_err-check_bodies-clause-kept t c = extended c.args.environment.now c.check_bindings.new.environment c.check_bodies.new.environment c.check_bindings.ensures.kept c.check_bodies.ensures.kept
+
+pub check_expression-returns-in_err-check_expression-in-Lambda-clause-kept : goal.check_expression-returns-in_err-check_expression-in-Lambda-clause-kept
+check_expression-returns-in_err-check_expression-in-Lambda-clause-kept t c = extended c.args.environment.now c.open_function.new.environment c.check_expression-in-Lambda.new.environment c.open_function.ensures.kept c.check_expression-in-Lambda.ensures.kept
+
+pub check_expression-returns-in_err-check_expression-in-Let-clause-kept : goal.check_expression-returns-in_err-check_expression-in-Let-clause-kept
+check_expression-returns-in_err-check_expression-in-Let-clause-kept t c = extended c.args.environment.now c.check_bindings.new.environment c.check_expression-in-Let.new.environment c.check_bindings.ensures.kept c.check_expression-in-Let.ensures.kept
+
+pub infer_group-returns-in_err-check_members-clause-kept : goal.infer_group-returns-in_err-check_members-clause-kept
+infer_group-returns-in_err-check_members-clause-kept t c = extended c.args.environment.now c.open_group.new.environment c.check_members.new.environment c.open_group.ensures.kept c.check_members.ensures.kept
+
+pub check_bindings-returns-in_err-infer_group-clause-kept : goal.check_bindings-returns-in_err-infer_group-clause-kept
+check_bindings-returns-in_err-infer_group-clause-kept t c = extended c.args.environment.now c.groups.environment c.infer_group.new.environment c.groups.invariant.added c.infer_group.ensures.kept
+
+pub check_bindings-returns-in_err-check_all_signed-clause-kept : goal.check_bindings-returns-in_err-check_all_signed-clause-kept
+check_bindings-returns-in_err-check_all_signed-clause-kept t c = extended c.args.environment.now c.groups.environment c.check_all_signed.new.environment c.groups.invariant.added c.check_all_signed.ensures.kept

@@ -16,5 +16,5 @@ invariant-nodes l = record {
   bound : (k : Known) (all : Declarations) → l.numbers ≡ list_nodes all all → (A : Assumptions) (m : ℕ → Monotype) → IsSolution l.solver.equations m → Keeps l.kept (assumptions_put m A) → BindsSchemes k all l.types m A (take l.place l.group) l.initial.environment l.environment;
   given : AreAssumed l.solver.given l.initial.environment → AreAssumed l.solver.given l.environment;
   closed : ((k : Leaf) → has_leaf l.kept k ≡ false) → AreAssumed 0 l.initial.environment → AreAssumed 0 l.environment;
-  added : Extends l.initial.environment l.environment;
+  kept : Extends l.initial.environment l.environment;
 }

@@ -11,5 +11,5 @@ abbrev pub invariant-nodes : goal.invariant-nodes
 invariant-nodes l = record {
   bound : (k : Known) (all : Declarations) → l.numbers ≡ list_nodes all all → BindsTypes k all l.types (take l.place l.group) l.initial.environment l.environment;
   given : (g : ℕ) → AreGivenTypes g l.types → AreAssumed g l.initial.environment → AreAssumed g l.environment;
-  added : Extends l.initial.environment l.environment;
+  kept : Extends l.initial.environment l.environment;
 }

@@ -20,7 +20,7 @@ returns-clause-opened c =
       placed = subst (λ f. ArePlaced f c.args.group.now c.place_types.new.types) first c.place_types.ensures.placed;
       names = c.in_ok-bind_types.ensures.bound;
       members = subst (λ rs. AreMembersOf (lists rs) c.args.group.now c.in_ok-group_members.field-0.items) c.deref.ensures.value c.in_ok-group_members.ensures;
-      added = c.in_ok-bind_types.ensures.added;
+      added = c.bind_types.ensures.kept;
       numbers = numbers;
       assumed = c.in_ok-bind_types.ensures.given c.new_variables.new.solver.given numbers (assumed_later c.args.solver.now.given c.new_variables.new.solver.given c.args.environment.now (omega (arith, more)) c.requires.assumed);
     }

@@ -15,7 +15,7 @@ pub returns-in_default : goal.returns-in_default
 returns-in_default c = record {
   bound = λ k all a. binds_other k all c.args.decl.now (declarations c.args.rest.now) c.args.environment.now (is_other _ c.args.decl.now c.decl.view_is (λ n ps r e. c.in_default.not-Clause n ps r e));
   given = λ g a. a;
-  added = ([], refl);
+  kept = ([], refl);
 }
 
 pub returns-then-is_continued-clause-bound : goal.returns-then-is_continued-clause-bound
@@ -38,10 +38,13 @@ returns-clause-bound c = λ k all a.
     (ap (λ ps. is_continued c.in-Clause.name.text (patterns ps) (declarations c.args.rest.now)) (sym c.deref.ensures.value) ∙ (sym c.is_continued.ensures ∙ c.if-is_continued.false))
     (sym (a c.in-Clause.name.text) ∙ (sym c.declared_for.ensures ∙ ap (option_map (λ t. declared_type t.now)) c.in-Some.is))
     c.in_ok-declared.ensures.given c.in_ok-declared.ensures.body
-    (c.in_ok-bind.ensures ∙ ap (λ z. record { name = z; scheme = record { quantified = c.in_ok-declared.declared.count; body = type_of c.in_ok-declared.declared.body } } ∷ c.args.environment.now) (ap identifier c.key_of.ensures)))
+    (c.in_ok-bind.ensures.bound ∙ ap (λ z. record { name = z; scheme = record { quantified = c.in_ok-declared.declared.count; body = type_of c.in_ok-declared.declared.body } } ∷ c.args.environment.now) (ap identifier c.key_of.ensures)))
 
 pub returns-clause-given : goal.returns-clause-given
-returns-clause-given c = λ g a. subst (AreAssumed g) (sym c.in_ok-bind.ensures) (well_formed_more c.in_ok-declared.declared.count (c.in_ok-declared.declared.count + g) (type_of c.in_ok-declared.declared.body) (omega arith) c.in_ok-declared.ensures.given, a)
+returns-clause-given c = λ g a. subst (AreAssumed g) (sym c.in_ok-bind.ensures.bound) (well_formed_more c.in_ok-declared.declared.count (c.in_ok-declared.declared.count + g) (type_of c.in_ok-declared.declared.body) (omega arith) c.in_ok-declared.ensures.given, a)
 
-pub returns-clause-added : goal.returns-clause-added
-returns-clause-added c = (_ ∷ [], c.in_ok-bind.ensures)
+pub returns-clause-kept : goal.returns-clause-kept
+returns-clause-kept c = (_ ∷ [], c.in_ok-bind.ensures.bound)
+
+pub returns-in_err-bind-clause-kept : goal.returns-in_err-bind-clause-kept
+returns-in_err-bind-clause-kept c = ([], c.in_err-bind.ensures.same)

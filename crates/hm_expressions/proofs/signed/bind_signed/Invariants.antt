@@ -10,5 +10,5 @@ abbrev pub invariant-decls : goal.invariant-decls
 invariant-decls l = record {
   bound : (k : Known) → BindsSigned (bindings_of k (declarations l.decls) (declarations (drop (length l.decls - l.behind) l.decls))) l.initial.environment l.environment;
   given : (g : ℕ) → AreAssumed g l.initial.environment → AreAssumed g l.environment;
-  added : Extends l.initial.environment l.environment;
+  kept : Extends l.initial.environment l.environment;
 }

@@ -44,12 +44,13 @@ groups-preserved c =
       judged = λ added base e l start.
           unit_step k c.args.decls.now c.args.found.now.numbers (lists c.args.found.now.rows.items) c.requires.list gs n refl c.groups.i c.deref.result.now within here (all_one n c.deref.result.now below) base c.groups.environment c.judge_group.new.environment
           (assumed_part 0 added base (subst (AreAssumed 0) e c.requires.closed)) c.groups.typed c.judge_group.new.typed (v.judged added base e l start)
-          (c.in_ok-is_same.ensures.judged (v.added.0 ++ added) base (v.added.1 ∙ (ap (λ z. v.added.0 ++ z) e ∙ sym (append_assoc v.added.0 added base))) l);
-      closed = c.in_ok-is_same.ensures.closed;
-      added = extended c.args.environment.now c.groups.environment c.judge_group.new.environment v.added c.in_ok-is_same.ensures.added;
+          (c.in_ok-judge_group.ensures.judged (v.kept.0 ++ added) base (v.kept.1 ∙ (ap (λ z. v.kept.0 ++ z) e ∙ sym (append_assoc v.kept.0 added base))) l);
+      closed = c.in_ok-judge_group.ensures.closed;
+      kept = extended c.args.environment.now c.groups.environment c.judge_group.new.environment v.kept c.in_ok-judge_group.ensures.kept;
       sized = c.judge_group.auto.typed ∙ v.sized;
-      shown = subst (λ s. AllShown s (length c.args.found.now.numbers)) (sym c.in_ok-is_same.ensures.shown) v.shown;
-      same = c.in_ok-working-2.ensures;
+      shown = subst (λ s. AllShown s (length c.args.found.now.numbers)) (sym c.in_ok-judge_group.ensures.shown) v.shown;
+      types = c.judge_group.auto.types ∙ v.types;
+      numbers = c.in_ok-judge_group.ensures.numbers;
     }
 
 pub returns-clause-judged : goal.returns-clause-judged

@@ -4,6 +4,7 @@ use Rattle.hm_groups.specs.Nodes.{AllShown}
 use Rattle.hm_expressions.specs.BoundNames.{Extends}
 use Rattle.hm_expressions.specs.Constructors.{known_of}
 use Rattle.hm_expressions.specs.Environments.{AreAssumed, Assumed}
+use Rattle.hm_expressions.specs.OpenGroups.{AreUpTo}
 use Rattle.hm_infer.specs.JudgedUnits.{UnitsJudged}
 use Rattle.hm_infer.proofs.judging_units.judge_each.Given as goal
 
@@ -11,8 +12,9 @@ abbrev pub invariant-groups : goal.invariant-groups
 invariant-groups l = record {
   judged : (added base : List Assumed) → l.initial.environment ≡ added ++ base → length base ≡ l.depth → UnitsJudged (known_of l.constructors) l.decls (lists l.found.groups.items) (length l.found.numbers) 0 base l.initial.environment l.initial.typed → UnitsJudged (known_of l.constructors) l.decls (lists l.found.groups.items) (length l.found.numbers) l.i base l.environment l.typed;
   closed : AreAssumed 0 l.environment;
-  added : Extends l.initial.environment l.environment;
+  kept : Extends l.initial.environment l.environment;
   sized : length l.typed ≡ length l.found.numbers;
   shown : AllShown l.shown (length l.found.numbers);
-  same : l.working ≡ l.environment;
+  types : length l.types ≡ length l.found.numbers;
+  numbers : AreUpTo 0 l.types;
 }

@@ -1,11 +1,12 @@
-use Rattle.std.proofs.Common.{◌∙◌, Ok, Err, sym, ap, refl, subst, subst₂}
+use Rattle.std.proofs.Common.{sym, ap, refl, subst}
 use Rattle.hm_expressions.specs.Constructors.{known_of}
 use Rattle.hm_expressions.specs.Dependences.{TellsMembers, skipped, untyped, typed}
-use Rattle.hm_expressions.specs.JudgedGroups.{JudgesGroup}
-use Rattle.hm_unify.specs.declared.faults.UnifyFault.TheVariants.{Clash}
 use Rattle.hm_graph.specs.Digraph.{lists}
 use Rattle.hm_expressions.proofs.JudgedGroups.{judges_clash}
 use Rattle.hm_expressions.proofs.Referring.{members_at, member_places}
+use Rattle.hm_expressions.proofs.Naming.{kept_same}
+use Rattle.hm_expressions.specs.Environments.{AreAssumed}
+use Rattle.hm_infer.proofs.Cleared.{empty_elsewhere}
 use Rattle.hm_infer.proofs.judging_units.judge_group.Goals as goal
 
 pub members_refer_to_typed-requires-clause-members : goal.members_refer_to_typed-requires-clause-members
@@ -29,7 +30,7 @@ returns-in-Ok-clause-judged c = λ added base e l. record {
   members = c.deref-2.result.now;
   are_members = members_at c.deref.result.now c.args.found.now.rows.items c.args.group.now c.in_ok-members.members.items c.deref-2.result.now c.deref.ensures.value c.deref-2.ensures.value c.in_ok-members.ensures;
   outcome = typed c.new-solver.result (subst (λ b. TellsMembers b c.args.found.now.numbers c.mark.new.typed c.args.decls.now c.deref-2.result.now) c.if-not-branch.false c.in_ok-members_refer_to_typed.ensures.told) (ap (λ s. s.equations) c.new-solver.ensures)
-      (subst₂ (λ es fs. JudgesGroup {X = Unit {0}} (known_of c.args.constructors.now) c.args.decls.now c.args.group.now base c.new-solver.result es fs (Ok tt)) c.requires.same (sym c.in_ok-catch_up-in-Ok.ensures) (c.in-Ok.ensures.judged added base (c.requires.same ∙ e) l)) refl;
+      (c.in-Ok.ensures.judged added base e l) refl;
 }
 
 pub returns-in-Err-Clash-clause-judged : goal.returns-in-Err-Clash-clause-judged
@@ -39,5 +40,18 @@ returns-in-Err-Clash-clause-judged c = λ added base e l. record {
   members = c.deref-2.result.now;
   are_members = members_at c.deref.result.now c.args.found.now.rows.items c.args.group.now c.in_ok-members.members.items c.deref-2.result.now c.deref.ensures.value c.deref-2.ensures.value c.in_ok-members.ensures;
   outcome = untyped c.new-solver.result c.infer_group.new.environment (subst (λ b. TellsMembers b c.args.found.now.numbers c.mark.new.typed c.args.decls.now c.deref-2.result.now) c.if-not-branch.false c.in_ok-members_refer_to_typed.ensures.told) (ap (λ s. s.equations) c.new-solver.ensures)
-      (subst (λ es. JudgesGroup {X = Unit {0}} (known_of c.args.constructors.now) c.args.decls.now c.args.group.now base c.new-solver.result es c.infer_group.new.environment (Err Clash)) c.requires.same (judges_clash (Unit {0}) (known_of c.args.constructors.now) c.args.decls.now c.args.group.now base c.new-solver.result c.args.working.now c.infer_group.new.environment c.in-Err-Clash.field-0 c.in-Err-Clash.field-0-is (c.in-Err-Clash.ensures.judged added base (c.requires.same ∙ e) l))) c.mark-in-Err-Clash.ensures refl;
+      (judges_clash (Unit {0}) (known_of c.args.constructors.now) c.args.decls.now c.args.group.now base c.new-solver.result c.args.environment.now c.infer_group.new.environment c.in-Err-Clash.field-0 c.in-Err-Clash.field-0-is (c.in-Err-Clash.ensures.judged added base e l)) c.mark-in-Err-Clash.ensures
+      (let k = c.in-Err-Clash.ensures.kept in c.truncate.ensures k.0 c.args.environment.now k.1 (sym c.len-outside.ensures));
 }
+
+pub clear-requires-clause-others : goal.clear-requires-clause-others
+clear-requires-clause-others c = empty_elsewhere c.args.group.now c.args.types.now c.infer_group.new.types c.infer_group.auto.types c.requires.numbers c.in-Ok.ensures.changed
+
+pub clear-requires-in-Err-Clash-clause-others : goal.clear-requires-in-Err-Clash-clause-others
+clear-requires-in-Err-Clash-clause-others c = empty_elsewhere c.args.group.now c.args.types.now c.infer_group.new.types c.infer_group.auto.types c.requires.numbers c.in-Err-Clash.ensures.changed
+
+pub returns-in-Err-Clash-clause-closed : goal.returns-in-Err-Clash-clause-closed
+returns-in-Err-Clash-clause-closed c = let k = c.in-Err-Clash.ensures.kept in subst (AreAssumed 0) (sym (c.truncate.ensures k.0 c.args.environment.now k.1 (sym c.len-outside.ensures))) c.requires.closed
+
+pub returns-in-Err-Clash-clause-kept : goal.returns-in-Err-Clash-clause-kept
+returns-in-Err-Clash-clause-kept c = let k = c.in-Err-Clash.ensures.kept in kept_same c.args.environment.now c.truncate.new.self (c.truncate.ensures k.0 c.args.environment.now k.1 (sym c.len-outside.ensures))

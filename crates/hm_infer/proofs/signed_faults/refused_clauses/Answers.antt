@@ -1,4 +1,4 @@
-use Rattle.std.proofs.Common.{◌<◌, ◌≤◌, length, get_or, false, arith}
+use Rattle.std.proofs.Common.{◌<◌, ◌≤◌, length, get_or, false, subst, ◌∙◌, arith}
 use Rattle.hm_syntax.specs.Trees.{Declarations}
 use Rattle.hm_expressions.specs.Constructors.{known_of}
 use Rattle.hm_expressions.specs.Environments.{assumptions}
@@ -12,9 +12,9 @@ decls-preserved c =
     let low : c.decls.i < length c.args.decls.now = (let h = c.decls-test.true in omega (arith, h)) in
     record {
       told = flagged_step (λ p d b. (all : Declarations) → AreSignatures all c.args.signatures.now → Refuses (get_or c.args.waiting.now p false) b (known_of c.args.constructors.now) all (assumptions c.args.environment.now) d)
-          c.args.decls.now c.decls.i _ c.in_ok-is_refused.is_refused c.decls.refused.items c.push.new.self.items low c.index-decls-i.is c.in_ok-push.ensures.items c.in_ok-is_refused.ensures.told c.decls.invariant.told;
+          c.args.decls.now c.decls.i _ c.in_ok-is_refused.is_refused c.decls.refused.items c.push.new.self.items low c.index-decls-i.is c.in_ok-push.ensures.items (λ all a. subst (λ es. Refuses (get_or c.args.waiting.now c.decls.i false) c.in_ok-is_refused.is_refused (known_of c.args.constructors.now) all (assumptions es) c.index-decls-i.result) c.decls.invariant.same (c.in_ok-is_refused.ensures.told all a)) c.decls.invariant.told;
       inside = (omega (arith, low));
-      same = c.in_ok-working-2.ensures;
+      same = c.in_ok-is_refused.ensures.same ∙ c.decls.invariant.same;
     }
 
 pub returns-clause-told : goal.returns-clause-told

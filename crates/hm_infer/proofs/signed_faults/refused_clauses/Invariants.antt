@@ -9,7 +9,7 @@ use Rattle.hm_infer.proofs.signed_faults.refused_clauses.Given as goal
 
 abbrev pub invariant-decls : goal.invariant-decls
 invariant-decls l = record {
-  told : Flagged (λ p d b. (all : Declarations) → AreSignatures all l.signatures → Refuses (get_or l.waiting p false) b (known_of l.constructors) all (assumptions l.environment) d) l.decls l.i l.refused.items;
+  told : Flagged (λ p d b. (all : Declarations) → AreSignatures all l.signatures → Refuses (get_or l.waiting p false) b (known_of l.constructors) all (assumptions l.initial.environment) d) l.decls l.i l.refused.items;
   inside : l.i ≤ length l.decls;
-  same : l.working ≡ l.environment;
+  same : l.environment ≡ l.initial.environment;
 }

@@ -2,7 +2,7 @@ use Rattle.std.proofs.Common.{◌≤◌, List, subst, [], refl, ◌≡◌, ◌-�
 use Rattle.std.specs.Map.{lookup}
 use Rattle.hm_groups.specs.Keys.{number_of, same_variable, variable_of_key}
 use Rattle.hm_groups.proofs.Numberings.{take_all_but, updated}
-use Rattle.hm_expressions.specs.Kept.{assumed_of}
+use Rattle.hm_expressions.specs.Kept.{assumed_of, entries_of}
 use Rattle.hm_expressions.specs.declared.environment.Binding.{Binding}
 use Rattle.hm_expressions.specs.Places.{AreClosedFrom}
 use Rattle.hm_expressions.proofs.ClosedRuns.{runs_more, runs_same}
@@ -27,5 +27,10 @@ invariant_of-self-in-Err c =
       runs_same c.self.inside.items.items c.pop.new.self.items c.self.invariant.1 back,
     )
 
-pub returns-in-Ok : goal.returns-in-Ok
-returns-in-Ok c = stack_pushed assumed_of c.self.inside.items.items c.push.new.self.items _ [] c.args.self.now c.in_ok-push.ensures.items c.self.view_is
+pub returns-in-Ok-clause-bound : goal.returns-in-Ok-clause-bound
+returns-in-Ok-clause-bound c = stack_pushed assumed_of c.self.inside.items.items c.push.new.self.items _ [] c.args.self.now c.in_ok-push.ensures.items c.self.view_is
+
+pub returns-in-Err-clause-same : goal.returns-in-Err-clause-same
+returns-in-Err-clause-same c =
+    let long : vec_len c.push.new.self - 1 ≡ length c.self.inside.items.items = omega (arith, c.in_ok-push.ensures.len, c.self.inside.items.ok.0) in
+    ap entries_of (c.pop.ensures.rest ∙ take_all_but c.self.inside.items.items c.push.new.self.items (vec_len c.push.new.self - 1) _ long c.in_ok-push.ensures.items) ∙ c.self.view_is
