@@ -1,7 +1,7 @@
 -- The marks of entries that calls wrote.
-use Rattle.std.proofs.Common.{◌≡◌, ◌==◌, ◌&&◌, ℕ, ◌+◌, ◌<◌, ◌≤◌, ◌↔◌, Bool, true, false, cond, not, List, [], ◌∷◌, ◌++◌, length, get_or, take, count_by, sum_by, refl, sym, ap, subst, ◌∙◌, arith}
+use Rattle.std.proofs.Common.{◌≡◌, ◌==◌, ◌&&◌, ℕ, ◌+◌, ◌<◌, ◌≤◌, Bool, true, false, cond, not, List, [], ◌∷◌, ◌++◌, length, get_or, take, count_by, sum_by, refl, sym, ap, subst, ◌∙◌, arith}
 use Rattle.std.proofs.lemmas.Bool.{eq-eqb, false≢true}
-use Rattle.std.proofs.lemmas.List.{take_more, take_all}
+use Rattle.std.proofs.lemmas.List.{take_more}
 use Rattle.std.proofs.lemmas.List.Sums.{sum_by_more_le, sum_by-append, sum_by-take-le}
 use Rattle.hm_store.specs.Agreement.{writers, writes_at}
 use Rattle.hm_store.specs.AuditsInside.{IsTwice, Marks, mark}
@@ -47,16 +47,6 @@ writers_more i records k r lt is =
     let sums = sum_by-append (λ (x : Record). count_by (writes_at i) x.calls.items) (take k records) (r ∷ []) in
     omega (arith, ap (writers i) more, sums)
 
-pub marked_more : (old now : List Bool) (entries : ℕ) (records : List Record) (k : ℕ) (r : Record) → AreMarked old entries (take k records) → k < length records → r ≡ get_or records k r → Marks old (λ i. count_by (writes_at i) r.calls.items) now
-    → AreMarked now entries (take (k + 1) records)
-marked_more old now entries records k r marked lt is marks = record {
-  len = marks.len ∙ marked.len;
-  each = λ i below. let a = marked.each i below in
-      let b = marks.each i (subst (λ n. i < n) (sym marked.len) below) in
-      let m = writers_more i records k r lt is in
-      omega (arith, a, b, m);
-}
-
 -- an entry that is written twice
 pub written_twice : (marks lent : List Bool) (entries : ℕ) (records : List Record) (k : ℕ) (r : Record) (calls : List Call) → AreMarked marks entries (take k records) → k < length records → r ≡ get_or records k r
     → lent ≡ marks → calls ≡ r.calls.items → IsTwice lent (λ i. count_by (writes_at i) calls) → ¬ ((i : ℕ) → i < entries → writers i records ≡ 1)
@@ -70,18 +60,3 @@ written_twice marks lent entries records k r calls marked lt is same_marks same_
     let o = once e below in
     let more = twice.more in
     absurd (omega (arith, a, m, all, o, more))
-
-one_of_mark : (b : Bool) → ◌≡◌ {A = ℕ} (cond b 1 0) 1 → b ≡ true
-one_of_mark true h = refl
-one_of_mark false h = absurd (omega (arith, h))
-
--- at the end each entry has its mark where each is written once
-pub marked_all : (marks : List Bool) (entries : ℕ) (records : List Record) (k : ℕ) → AreMarked marks entries (take k records) → length records ≤ k
-    → ((i : ℕ) → i < length marks → get_or marks i false ≡ true) ↔ ((i : ℕ) → i < entries → writers i records ≡ 1)
-marked_all marks entries records k marked le = (
-  λ all i below. let e = sym (written i below) in let m : mark marks i ≡ 1 = rw (all i (subst (λ n. i < n) (sym marked.len) below)) refl in e ∙ m,
-  λ once i below. let l = subst (λ n. i < n) marked.len below in one_of_mark (get_or marks i false) (written i l ∙ once i l),
-)
-  where
-    written : (i : ℕ) → i < entries → mark marks i ≡ writers i records
-    written i below = marked.each i below ∙ ap (writers i) (take_all k records le)

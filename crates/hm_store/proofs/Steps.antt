@@ -1,22 +1,17 @@
 -- Each step of a store keeps what holds of its fields.
-use Rattle.std.proofs.Common.{◌≡◌, ℕ, ◌+◌, ◌*◌, ◌^◌, ◌<◌, ◌≤◌, ⊎_elim, Bool, true, false, List, [], ◌∷◌, length, get_or, set, replicate, Option, Some, None, refl, ap, subst, ◌∙◌, sym, arith, length-append}
+use Rattle.std.proofs.Common.{◌≡◌, ℕ, ◌+◌, ◌<◌, Bool, true, false, List, [], ◌∷◌, length, get_or, set, Some, None, refl, ap, subst, ◌∙◌, sym, arith, length-append}
 use Rattle.std.specs.Prelude.{sum_by}
-use Rattle.std.proofs.lemmas.List.{length-set, length-map, length-replicate, get_or-replicate, get_or_past}
+use Rattle.std.proofs.lemmas.List.{length-set}
 use Rattle.std.proofs.lemmas.List.Sums.{sum_by-set}
-use Rattle.std.proofs.lemmas.List.Folds.{sum_by-replicate}
-use Rattle.std.proofs.lemmas.Bool.{cases_lt}
 use Rattle.hm_types.specs.StandardPrelude.{prelude_interface}
-use Rattle.hm_syntax.specs.declared.ast.Module.{Module}
-use Rattle.hm_graph.specs.Outline.{outline}
 use Rattle.hm_verdicts.specs.ModuleVerdicts.{IsVerdict}
-use Rattle.hm_verdicts.specs.Sets.{IsLawfulSet}
 use Rattle.hm_check.specs.Outcomes.{Checked, IsGood}
-use Rattle.hm_store.specs.Plans.{AreDependents, dependents_of}
+use Rattle.hm_store.specs.Plans.{dependents_of}
 use Rattle.hm_store.specs.Objects.{State, status_at, reply_of, Allowed, opening, skip_all}
-use Rattle.hm_store.specs.Builds.{Build, IsOf, IsSound, AgreesWith, Agrees, Refuses, state_of, status_by, with_entry, with_kept}
+use Rattle.hm_store.specs.Builds.{Build, IsOf, IsSound, Agrees, Refuses, state_of, status_by, with_entry, with_kept}
 use Rattle.hm_store.specs.StoresInside.{Holds, left_for}
 use Rattle.hm_store.specs.declared.object.Status.{Status}
-use Rattle.hm_store.specs.declared.object.Status.TheVariants.{Waiting, Claimed, Published, Failed, Skipped}
+use Rattle.hm_store.specs.declared.object.Status.TheVariants.{Claimed, Published, Failed, Skipped}
 use Rattle.hm_store.specs.declared.object.Entry.{Entry}
 use Rattle.hm_store.specs.declared.object.Entry.TheVariants.{Claim, Publish, Fail, Stop}
 use Rattle.hm_store.specs.declared.object.Claimed.TheVariants.{Job}
@@ -150,35 +145,4 @@ fail_step b ss stopped room w m c h k faulty =
       state = state;
       space = let s : sum_by left_for (set ss m Failed) + 1 ≡ sum_by left_for ss + 0 = rw k.claimed at sums in let f = h.space in let g = skipped.1 in omega (arith, length-append b.journal (Fail w m ∷ []));
       few = h.few;
-    }
-
-waits_or_none : (n m : ℕ) → AgreesWith (status_at (replicate n Waiting) m) None
-waits_or_none n m = ⊎_elim (λ (lt : m < n). rw (get_or-replicate n m Waiting Skipped lt) refl)
-    (λ (le : n ≤ m). rw (get_or_past (replicate n Waiting) m Skipped (omega (arith, length-replicate n Waiting))) refl) (cases_lt m n)
-
-nothing_at : (n m : ℕ) (none : Option Checked) → get_or (replicate n none) m none ≡ none
-nothing_at n m none = ⊎_elim (λ (lt : m < n). get_or-replicate n m none none lt)
-    (λ (le : n ≤ m). get_or_past (replicate n none) m none (omega (arith, length-replicate n none))) (cases_lt m n)
-
--- the build of a new store
-abbrev pub new_build : List Module → List (List ℕ) → List (List ℕ) → Build
-new_build ms plan rows = record { modules = ms; given = record { imports = plan; dependents = rows }; journal = []; kept = replicate (length ms) None }
-
-pub new_holds : (ms : List Module) (plan rows : List (List ℕ)) (room : ℕ) → IsLawfulSet (record { modules = ms; plan = plan }) → AreDependents (record { imports = plan; dependents = rows }) → 2 * length ms + 1 ≤ room → room < 2 ^ 62
-    → Holds (new_build ms plan rows) (replicate (length ms) Waiting) false room
-new_holds ms plan rows room lawful dependents space few =
-    let count : length plan ≡ length ms = lawful.planned.len ∙ length-map ms (λ m. outline m.header) in
-    let state : state_of (new_build ms plan rows) ≡ state_with (replicate (length ms) Waiting) false = rw count refl in
-    record {
-      legal = record {
-        lawful = lawful;
-        dependents = dependents;
-        allowed = tt;
-        count = length-replicate (length ms) None;
-        agrees = subst (λ (s : State). Agrees s.statuses (replicate (length ms) None)) (sym state) (λ m. rw (nothing_at (length ms) m None) (waits_or_none (length ms) m));
-        sound = λ m c at. absurd (let e : None ≡ Some c = sym (nothing_at (length ms) m None) ∙ at in cc);
-      };
-      state = state;
-      space = omega (arith, sum_by-replicate left_for (length ms) Waiting);
-      few = few;
     }
