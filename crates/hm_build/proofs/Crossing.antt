@@ -69,23 +69,14 @@ module_send = search (parts_of_trees, expressions, patterns, written_types, cros
 pub module_sync : IsSync Module.the_row
 module_sync = search (parts_of_trees, expressions, patterns, written_types, crosses, sendable) depth 30 fits 5000
 
-pub verdict_send : IsSend Verdict.the_row
-verdict_send = search (interface_send, interface_sync, Fault.the_send, crosses, sendable) depth 30 fits 5000
-
 pub verdict_field_send : IsSend Verdict.the_field.row
 verdict_field_send = search (interface_send, interface_sync, Fault.the_send, crosses, sendable) depth 30 fits 5000
 
 pub outcome_send : IsSend Outcome.the_row
 outcome_send = search (interface_send, interface_sync, module_send, module_sync, verdict_field_send, crosses, sendable) depth 30 fits 5000
 
-pub act_send : IsSend Act.the_row
-act_send = search (interface_send, interface_sync, crosses, sendable) depth 30 fits 5000
-
 pub act_field_send : IsSend Act.the_field.row
 act_field_send = search (interface_send, interface_sync, crosses, sendable) depth 30 fits 5000
-
-pub call_send : IsSend Call.the_row
-call_send = search (act_field_send, crosses, sendable) depth 30 fits 5000
 
 pub call_field_send : IsSend Call.the_field.row
 call_field_send = search (act_field_send, crosses, sendable) depth 30 fits 5000
@@ -98,9 +89,6 @@ record_field_send = search (call_field_send, crosses, sendable) depth 30 fits 50
 
 pub finished_send : IsSend Finished.the_row
 finished_send = search (store_send, module_send, module_sync, record_field_send, crosses, sendable) depth 30 fits 5000
-
-pub finished_field_send : IsSend Finished.the_field.row
-finished_field_send = search (store_send, module_send, module_sync, record_field_send, crosses, sendable) depth 30 fits 5000
 
 module _ (L : RattleType) (l : Ghosts L.Denot) where
   pub pass_send : IsSend (Pass.the_row L l)

@@ -15,6 +15,7 @@ module _ (settled : SettledBuildIsSettled) (verdicts : SettledIsVerdict) (princi
       let all = settled b h.legal h.settled in
       record { each = verdicts (set_of b) (settlement b) h.legal.lawful all; together = principal (set_of b) (settlement b) h.legal.lawful all }
 
-  pub finished_have_verdicts : (r : Result Finished BuildFault) → IfOk r (λ f. IsFinished sources workers f.store f.records.items) → IfOk r (λ f. HasVerdicts f.store)
-  finished_have_verdicts (Ok f) h = has_verdicts f h
-  finished_have_verdicts (Err e) h = tt
+  -- a build of modules that are read from sources, whatever the sources are
+  pub finished_have_verdicts : (read : List (List ℕ) → Type 0) (r : Result Finished BuildFault) → IfOk r (λ f. (s : List (List ℕ)) → read s → IsFinished s workers f.store f.records.items) → read sources → IfOk r (λ f. HasVerdicts f.store)
+  finished_have_verdicts read (Ok f) h a = has_verdicts f (h sources a)
+  finished_have_verdicts read (Err e) h a = tt

@@ -7,7 +7,7 @@ use Rattle.std.proofs.lemmas.List.Sorted.{Contains-permutation, IsPermutation-ma
 use Rattle.std.proofs.lemmas.Map.Keys.{IsDistinct-from_apart}
 use Rattle.std.specs.declared.alloc.Global.{Global}
 use Rattle.std.specs.declared.sync.Arc.{Arc}
-use Rattle.std.proofs.lemmas.List.{get_or-map, length-map, get_or_default}
+use Rattle.std.proofs.lemmas.List.{get_or-map, length-map}
 use Rattle.hm_syntax.specs.declared.ast.Module.{Module}
 use Rattle.hm_verdicts.specs.Reports.{name_of_module, Block, IsBlockOf, IsReport, count_line}
 use Rattle.hm_verdicts.specs.Sets.{ModuleSet, no_module, IsLawfulSet}
@@ -20,9 +20,7 @@ use Rattle.hm_build.specs.ReportBlocks.{AreBlocksOf}
 use Rattle.hm_build.proofs.Blame.{names_apart}
 use Rattle.hm_sources.proofs.Ordering.{sorted_map}
 use Rattle.hm_build.proofs.Strict.{strict, unlike}
-use Rattle.hm_build.specs.Settling.{module_set, status_of, statuses_of}
-use Rattle.hm_build.specs.declared.statuses.Settled.{Settled}
-use Rattle.hm_build.specs.declared.statuses.Settled.TheVariants.{Skipped}
+use Rattle.hm_build.specs.Settling.{module_set}
 
 -- the name of a module by its place
 pub name_by_place : (modules : List (Arc Module Global)) (plan : List (List ℕ)) (i : ℕ) (m : Arc Module Global) → i < length modules → m ≡ get_or modules i m → name_of_module (module_set modules plan) i ≡ (arc_value m).header.name.text
@@ -30,10 +28,6 @@ name_by_place modules plan i m l is = ap (λ x. x.header.name.text) (get_or-map 
 
 pub inside_set : (modules : List (Arc Module Global)) (plan : List (List ℕ)) (i : ℕ) → i < length modules → i < length (module_set modules plan).modules
 inside_set modules plan i l = subst (λ n. i < n) (sym (length-map modules arc_value)) l
-
--- the status of a module by its place
-pub status_by_place : (settled : List Settled) (i : ℕ) (r s : Settled) → i < length settled → r ≡ get_or settled i r → r ≡ s → statuses_of settled i ≡ status_of s
-status_by_place settled i r s l is e = ap status_of (get_or_default settled i Skipped r l ∙ (sym is ∙ e))
 
 same_block : (x y : Block) → x.name ≡ y.name → x.text ≡ y.text → x ≡ y
 same_block x y e f = ap₂ (λ n t. made n t) e f

@@ -156,7 +156,7 @@ fn worked<L: Ledger + Send + Sync, G: Gate + Sync, R: Threads + Wait + Sync>(
     finished(alloc, modules, store, records, workers)
 }
 
-/// Builds the modules of sources on a thread whose stack is large enough for them.
+/// Builds the modules of sources on a thread whose stack is large enough for them. `build` and `run` both stand on it.
 pub(crate) fn build_here<T: Threads + Wait + Sync, G: Gate + Sync>(
     rt: &T,
     alloc: Global,
@@ -167,8 +167,11 @@ pub(crate) fn build_here<T: Threads + Wait + Sync, G: Gate + Sync>(
     requires { (0 < workers) × (workers ≤ 16) }
     ensures finished { IfOk result (λ f. IsFinished (map (λ s. s.items) sources.now) workers f.store f.records.items) }
     ensures modules { IfOk result (λ f. map arc_value f.modules.items ≡ f.store.modules) }
+    ensures verdicts { IfOk result (λ f. HasVerdicts f.store) }
     ensures err { IfErr result (IsBuildError (map (λ s. s.items) sources.now)) }
 {
+    settled_builds_are_settled_sets();
+    settled_modules_have_their_verdicts();
     let fresh = read(alloc, sources)?;
     let blank = Blank::new(workers as u64);
     worked::<Brand, G, T>(rt, alloc, fresh, workers, gate, stack_size(sources), blank)
@@ -186,8 +189,9 @@ impl Promise<Result<Finished, BuildFault>> for BuildOf {
     ghost use Rattle.std.specs.Arc.{arc_value};
     ghost use Rattle.hm_build.specs.Errors.{IsBuildError};
     ghost use Rattle.hm_build.specs.FinishedBuilds.{IsFinished};
+    ghost use Rattle.hm_build.specs.Headline.{HasVerdicts};
 
-    ghost kept_by = { λ p r. IfOk r (λ f. IsFinished (map (λ s. s.items) p.sources.value.items) p.workers f.store f.records.items) × (IfOk r (λ f. map arc_value f.modules.items ≡ f.store.modules) × IfErr r (IsBuildError (map (λ s. s.items) p.sources.value.items))) };
+    ghost kept_by = { λ p r. IfOk r (λ f. IsFinished (map (λ s. s.items) p.sources.value.items) p.workers f.store f.records.items) × (IfOk r (λ f. map arc_value f.modules.items ≡ f.store.modules) × (IfOk r (λ f. HasVerdicts f.store) × IfErr r (IsBuildError (map (λ s. s.items) p.sources.value.items)))) };
 }
 
 /// Builds the modules of sources on a thread of its own.
@@ -201,6 +205,7 @@ fn build_on_thread<T: Threads + Wait + Sync, G: Gate + Sync>(
     requires { (0 < workers) × (workers ≤ 16) }
     ensures finished { IfOk result (λ f. IsFinished (map (λ s. s.items) sources.items) workers f.store f.records.items) }
     ensures modules { IfOk result (λ f. map arc_value f.modules.items ≡ f.store.modules) }
+    ensures verdicts { IfOk result (λ f. HasVerdicts f.store) }
     ensures err { IfErr result (IsBuildError (map (λ s. s.items) sources.items)) }
 {
     thread::scope(
@@ -210,6 +215,7 @@ fn build_on_thread<T: Threads + Wait + Sync, G: Gate + Sync>(
             requires { (0 < workers) × (workers ≤ 16) }
             ensures finished { IfOk result (λ f. IsFinished (map (λ s. s.items) sources.items) workers f.store f.records.items) }
             ensures modules { IfOk result (λ f. map arc_value f.modules.items ≡ f.store.modules) }
+            ensures verdicts { IfOk result (λ f. HasVerdicts f.store) }
             ensures err { IfErr result (IsBuildError (map (λ s. s.items) sources.items)) }
         {
             let promise = BuildOf {
@@ -249,7 +255,5 @@ pub fn build<T: Threads + Wait + Sync, G: Gate + Sync>(
     if !(1..=MOST_WORKERS).contains(&workers) {
         return Err(BuildFault::Workers);
     }
-    settled_builds_are_settled_sets();
-    settled_modules_have_their_verdicts();
     build_on_thread(rt, alloc, sources, workers, gate)
 }
