@@ -41,9 +41,6 @@ record Marks (bytes : List ℕ) (n : ℕ) : Type 0 where
   pub digits : n ≤ marked_digits bytes
   pub some : 0 < n
 
-no_octal_mark : (m : ℕ) → IsTrue (is_one_of (codes "xX") m) → is_one_of (codes "oO") m ≡ false
-no_octal_mark m e = elim (one_of_two 120 88 m e) [ inl h ↦ rw h refl | inr h ↦ rw h refl ]
-
 no_hexadecimal_mark : (m : ℕ) → IsTrue (is_one_of (codes "oO") m) → is_one_of (codes "xX") m ≡ false
 no_hexadecimal_mark m e = elim (one_of_two 111 79 m e) [ inl h ↦ rw h refl | inr h ↦ rw h refl ]
 

@@ -142,16 +142,6 @@ pub record IsNameScan (bytes : List ℕ) (start : ℕ) : Type 0 where
   pub follows : StartsName (drop start bytes)
   pub bound : (k : ℕ) → NameBound k (drop start bytes) → NameBound (start + k) bytes
 
-pub scan_start : (bytes : List ℕ) → StartsName bytes → IsNameScan bytes 0
-scan_start bytes s = record {
-  within = omega arith;
-  qualifiers = [];
-  capitals = tt;
-  front = refl;
-  follows = s;
-  bound = λ k b. subst (λ (n : ℕ). NameBound n bytes) (sym (zero-add k)) b;
-}
-
 capitals_push : (qs : List (List ℕ)) (q : List ℕ) → AllByRecursion IsCapitalName qs → IsCapitalName q → AllByRecursion IsCapitalName (qs ++ q ∷ [])
 capitals_push [] q a c = (c, tt)
 capitals_push (r ∷ qs) q a c = (a.0, capitals_push qs q a.1 c)

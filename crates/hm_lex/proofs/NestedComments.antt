@@ -1,9 +1,9 @@
 -- Counting open comments from the left finds what the grammar of nested comments says.
 use Rattle.std.proofs.Common.{◌≡◌, ℕ, zero, suc, ◌+◌, ◌-◌, ◌<◌, ◌≤◌, Bool, true, false, eqb, List, [], ◌∷◌, ◌++◌, length, get_or, take, drop, Option, Some, None, refl, sym, ap, ◌∙◌, subst, inl, inr, arith, append_assoc, length-append, length-take-le, add_assoc, add-zero, length-drop}
-use Rattle.std.specs.Prelude.{◌&&◌, codes}
+use Rattle.std.specs.Prelude.{codes}
 use Rattle.std.specs.Str.{IsUtf8}
 use Rattle.std.proofs.lemmas.List.{drop_more, drop-drop, take_at}
-use Rattle.std.proofs.lemmas.Bool.{eqb-true, eq-eqb, false≢true}
+use Rattle.std.proofs.lemmas.Bool.{eqb-true, false≢true}
 use Rattle.hm_lex.specs.declared.byte_class.ByteClass.{ByteClass}
 use Rattle.hm_lex.specs.declared.byte_class.ByteClass.TheVariants.{Special}
 use Rattle.hm_lex.specs.declared.comments.CommentMark.{CommentMark}
@@ -95,9 +95,6 @@ step_end bytes i zero total le positive so_far = absurd (omega arith)
 step_end bytes i (suc d) total le positive so_far = ap (plus i) (sym (close_short d (drop i bytes) (omega (arith, length-drop i bytes)))) ∙ so_far
 
 -- ---- against the grammar
-
-both_true : (a b c d : ℕ) → a ≡ c → b ≡ d → (eqb a c && eqb b d) ≡ true
-both_true a b c d e f = rw (eq-eqb a c e, eq-eqb b d f) refl
 
 -- a byte where no mark stands
 plain_mark : (b c : ℕ) (bs : List ℕ) → IsPlain b (c ∷ bs) → mark_of b c ≡ Plain

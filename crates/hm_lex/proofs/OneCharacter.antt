@@ -36,10 +36,6 @@ Never bytes = (t : List ℕ) → IsItem t → Begins (t ++ 39 ∷ []) bytes → 
 abbrev pub Found : ℕ → List ℕ → Type 0
 Found n bytes = Begins (39 ∷ []) (drop n bytes) → IsItem (take n bytes)
 
-pub never_nil : Never []
-never_nil [] i b = let e = b.1 in cc
-never_nil (x ∷ xs) i b = let e = b.1 in cc
-
 -- ---- behind a backslash
 
 pub found_escape : (bytes : List ℕ) (n : ℕ) → get_or bytes 0 0 ≡ 92 → escape_len (drop 1 bytes) ≡ Some n → Found (n + 1) bytes

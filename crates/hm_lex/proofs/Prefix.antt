@@ -106,10 +106,6 @@ module _ (test : ℕ → Bool) where
   run_whole (d ∷ ds) c more (y ∷ ys) a f p =
       ap suc (run_whole ds c more ys a.1 f p.1) ∙ sym (run_more y ys (subst (λ (b : ℕ). test b ≡ true) p.0 a.0))
 
-  pub run_of : (bytes : List ℕ) → IsRunOf test bytes → AllByRecursion (λ b. IsTrue (test b)) bytes
-  run_of [] r = absurd r
-  run_of (b ∷ bs) r = r
-
   -- a run begins where the first byte passes
   pub run_begins : (b : ℕ) (bs : List ℕ) → test b ≡ true → IsRunOf test (take (prefix_len test (b ∷ bs)) (b ∷ bs))
   run_begins b bs e = subst (λ (n : ℕ). IsRunOf test (take n (b ∷ bs))) (sym (run_more b bs e)) (e, run_passes bs)

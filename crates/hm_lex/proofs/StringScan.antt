@@ -1,5 +1,5 @@
 -- The scan over the items of a string.
-use Rattle.std.proofs.Common.{◌≡◌, ◌≢◌, ℕ, suc, ◌+◌, ◌<◌, ◌≤◌, List, [], ◌∷◌, ◌++◌, length, get_or, take, drop, Some, None, refl, sym, ap, ◌∙◌, subst, arith, append_assoc, length-append, length-take-le, length-drop, zero-add}
+use Rattle.std.proofs.Common.{◌≡◌, ◌≢◌, ℕ, suc, ◌+◌, ◌<◌, ◌≤◌, List, [], ◌∷◌, ◌++◌, length, get_or, take, drop, Some, None, refl, sym, ap, ◌∙◌, subst, arith, append_assoc, length-append, length-take-le, length-drop}
 use Rattle.std.proofs.lemmas.List.{drop_more, drop-drop, take_more, take_at}
 use Rattle.std.proofs.lemmas.Str.{encode_ascii, IsUtf8-past_char, IsUtf8-encode, IsUtf8-append}
 use Rattle.hm_lex.specs.Quotes.{IsString}
@@ -31,13 +31,6 @@ pub record IsStringScan (bytes : List ℕ) (at : ℕ) : Type 0 where
   pub within : at ≤ length bytes
   pub forward : (t : List ℕ) → IsByteRest t → IsPrefix t (drop at bytes) → IsByteRest (take at bytes ++ t)
   pub backward : (u : List ℕ) → IsByteRest u → IsPrefix u bytes → Reached bytes at u
-
-pub string_start : (bytes : List ℕ) → IsStringScan bytes 0
-string_start bytes = record {
-  within = omega arith;
-  forward = λ t r p. r;
-  backward = λ u r p. record { tail = u; is_rest = r; begins = p; size = sym (zero-add (length u)) };
-}
 
 rest_positive : (t : List ℕ) → IsByteRest t → 0 < length t
 rest_positive [] (byte_ends e) = absurd cc
