@@ -310,9 +310,6 @@ module _ (ds : Bindings) (own : Identifier → Identifier → Bool) (units : Are
       declared (matched v q cs D) f d = declared D f d
 
   module _ (m : MostGeneralUnifier E1) (r : ℕ → Monotype) (u : Unifies r E1) (B' : Identifier → Scheme) (pinned : (x : Identifier) → after x ≡ true → B' x ≡ scheme_put r (made g A n B E1 m x)) where
-    opening : (ℕ → Monotype) → ℕ → Monotype
-    opening us a = open_with (is_free_in a (assumptions_put m.map A)) r us a
-
     is_after : (x : Identifier) → (finished x ≡ true) ⊎ (g x ≡ true) → after x ≡ true
     is_after x (inl e) = ap (λ b. b || g x) e
     is_after x (inr e) = go (finished x)

@@ -82,12 +82,6 @@ module _ (ds : Bindings) (own : Identifier → Identifier → Bool) (units : Are
     derives_of D ts B shut q b.1,
   )
 
-pub DerivesOf-weaker : (D : Bindings) (U V : Identifier → Type 0) (A : Assumptions) (own : Identifier → Identifier → Bool) (xs : List Identifier) (B : Identifier → Scheme) → ((y : Identifier) → V y → U y) → DerivesOf U A own xs B D → DerivesOf V A own xs B D
-DerivesOf-weaker no_binding U V A own xs B f d = tt
-DerivesOf-weaker (unsigned x cs D) U V A own xs B f d = ((λ v. d.0 (f x v)), DerivesOf-weaker D U V A own xs B f d.1)
-DerivesOf-weaker (signed x s cs D) U V A own xs B f d = (d.0, DerivesOf-weaker D U V A own xs B f d.1)
-DerivesOf-weaker (matched k p cs D) U V A own xs B f d = ((λ v. d.0 (f k v)), DerivesOf-weaker D U V A own xs B f d.1)
-
 pub reach_typed : (ds : Bindings) (own : Identifier → Identifier → Bool) (status : Identifier → Bool) → IsDown ds own (λ x. status x ≡ true) → {v w : Identifier} → status v ≡ true → Reaches ds v w → status w ≡ true
 reach_typed ds own status down s (directly r) = down.mentioned _ _ s r.0 r.1
 reach_typed ds own status down s (through r p) = reach_typed ds own status down (down.mentioned _ _ s r.0 r.1) p
