@@ -10,7 +10,7 @@ use Rattle.hm_graph.proofs.Searches.{marked_set, work_left-mark, marked-within}
 use Rattle.hm_graph.specs.Closure.{Closure, one, more}
 use Rattle.hm_graph.specs.Digraph.{Graph, Edge, Reaches, lists}
 use Rattle.hm_graph.specs.Marks.{IsMarked, IsClosed}
-use Rattle.hm_graph.specs.Checks.{number_of, least_of, IsReachedWithin, MarksWithin, ArePlaces, IsLeastFirst}
+use Rattle.hm_graph.specs.Checks.{number_of, least_of, IsReachedWithin, MarksWithin, ArePlaces}
 
 abbrev pub CoveredBelow : List (List ℕ) → List ℕ → ℕ → Type 0
 CoveredBelow groups numbers n = (x : ℕ) → x < n → (number_of numbers x < length groups) × Contains (get_or groups (number_of numbers x) []) x
@@ -103,14 +103,6 @@ HeightsBelow-set graph numbers earliest count x raised x_below below so_far has 
       ];
     }
 
-pub MarksWithin-none : (number : ℕ) (numbers : List ℕ) (marks : List Bool) (waiting : List ℕ) → MarksWithin [] number numbers marks marks waiting waiting
-MarksWithin-none number numbers marks waiting = record {
-  nodes = refl;
-  marks = λ k marked. inl marked;
-  waits = λ k there. inl there;
-  work = refl;
-}
-
 pub MarksWithin-skip : (row : List ℕ) (number : ℕ) (numbers : List ℕ) (old new : List Bool) (waiting_old waiting_new : List ℕ) (i : ℕ) → i < length row → MarksWithin (take i row) number numbers old new waiting_old waiting_new → MarksWithin (take (i + 1) row) number numbers old new waiting_old waiting_new
 MarksWithin-skip row number numbers old new waiting_old waiting_new i below so_far = record {
   nodes = so_far.nodes;
@@ -165,31 +157,6 @@ pub IsReachedWithinSearch-popped : (rows : List (Vec ℕ Global)) (numbers least
 IsReachedWithinSearch-popped rows numbers leasts x marks all waiting popped so_far =
     let there : Contains all x = rw popped (Contains-push_new waiting x x refl) in
     omega (arith, length-map rows (λ r. r.items), (so_far.waits x there).0)
-
-pub IsFirstBelow-push : (leasts earliest places : List ℕ) (n place : ℕ) → IsFirstBelow leasts earliest places n → place ≤ n → ((i : ℕ) → place ≤ i → i < n → least_of leasts i < least_of leasts n) → place ≤ get_or earliest n 0 → IsFirstBelow leasts earliest (places ++ place ∷ []) (n + 1)
-IsFirstBelow-push leasts earliest places n place so_far le above low = record {
-  len = omega (arith, length-append places (place ∷ []), so_far.len);
-  are_places = λ i below. elim (cases_lt i n) [
-    | inl less ↦
-        let inside : i < length places = omega (arith, so_far.len) in
-        rw (get_or_append_left places (place ∷ []) 0 i inside) (so_far.are_places i inside)
-    | inr past ↦
-        let same : i ≡ n = omega (arith, length-append places (place ∷ []), so_far.len) in
-        rw (same, get_or_push places place 0 n so_far.len) (le, above)
-  ];
-  low = λ i below. elim (cases_lt i n) [
-    | inl less ↦
-        let inside : i < length places = omega (arith, so_far.len) in
-        rw (get_or_append_left places (place ∷ []) 0 i inside) (so_far.low i less)
-    | inr past ↦
-        let same : i ≡ n = omega arith in
-        rw (same, get_or_push places place 0 n so_far.len) low
-  ];
-}
-
-pub IsFirstBelow-end : (leasts earliest places : List ℕ) (n : ℕ) → length leasts ≤ n → IsFirstBelow leasts earliest places n → IsLeastFirst leasts earliest
-IsFirstBelow-end leasts earliest places n past so_far i k below low less =
-    (so_far.are_places i (omega (arith, so_far.len))).1 k (omega (arith, so_far.low i (omega arith))) less
 
 pub Closure-flip : {R S : ℕ → ℕ → Type 0} {a b : ℕ} → ((x y : ℕ) → R y x → S x y) → Closure R a b → Closure S b a
 Closure-flip f (one r) = one (f _ _ r)

@@ -11,19 +11,13 @@ use Rattle.hm_graph.specs.Marks.{AreMarked, IsClosed, IsMarked, MarksReached}
 use Rattle.hm_graph.specs.Steps.{AreImporters}
 use Rattle.hm_graph.proofs.Closures.{Closure-trans}
 use Rattle.hm_graph.proofs.Graphs.{Reaches-within}
-use Rattle.hm_graph.proofs.Members.{Contains-nil, Contains-push_cases, Contains-push_new}
+use Rattle.hm_graph.proofs.Members.{Contains-push_cases, Contains-push_new}
 use Rattle.hm_graph.proofs.Rows.{IsStrictlyIncreasing-push}
 
 -- the numbers below n that have a mark
 pub record AreMarkedBelow (marks : List Bool) (numbers : List ℕ) (n : ℕ) : Type 0 where
   pub members : (k : ℕ) → Contains numbers k ↔ ((k < n) × IsMarked marks k)
   pub ascending : IsStrictlyIncreasing numbers
-
-pub AreMarkedBelow-none : (marks : List Bool) → AreMarkedBelow marks [] 0
-AreMarkedBelow-none marks = record {
-  members = λ k. ((λ there. absurd (Contains-nil k there)), (λ (below, _). absurd (omega arith)));
-  ascending = λ k below. absurd (omega arith);
-}
 
 pub AreMarkedBelow-push : (marks : List Bool) (numbers : List ℕ) (n : ℕ) → AreMarkedBelow marks numbers n → IsMarked marks n → AreMarkedBelow marks (numbers ++ n ∷ []) (n + 1)
 AreMarkedBelow-push marks numbers n so_far mark = record {

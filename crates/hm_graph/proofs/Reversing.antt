@@ -1,16 +1,9 @@
 -- the reversed edges, as far as it is done
-use Rattle.std.proofs.Common.{◌≡◌, ℕ, ◌+◌, ◌<◌, ◌≤◌, List, [], ◌∷◌, ◌++◌, length, get_or, take, set, replicate, inl, inr, refl, ap, ◌∙◌, arith}
-use Rattle.std.proofs.lemmas.List.{take_all, length-replicate}
+use Rattle.std.proofs.Common.{ℕ, ◌+◌, ◌<◌, List, [], ◌∷◌, ◌++◌, length, get_or, take, set, inl, inr, ◌∙◌, arith}
 use Rattle.hm_graph.specs.Digraph.{Graph, AddsEdge}
 use Rattle.hm_graph.specs.Reversed.{ReversesRow, IsReversed}
 use Rattle.hm_graph.proofs.Members.{Contains-take_old, Contains-take_new}
-use Rattle.hm_graph.proofs.Rows.{AddsEdge-set, Edge-replicate}
-
-pub ReversesRow-none : (old : Graph) (from : ℕ) → ReversesRow old old [] from
-ReversesRow-none old from = record {
-  len = refl;
-  edges = λ y x edge. inl edge;
-}
+use Rattle.hm_graph.proofs.Rows.{AddsEdge-set}
 
 pub ReversesRow-more : (old new : Graph) (row : List ℕ) (from i : ℕ) → i < length row → get_or row i 0 < length new → ReversesRow old new (take i row) from → ReversesRow old (set new (get_or row i 0) (get_or new (get_or row i 0) [] ++ from ∷ [])) (take (i + 1) row) from
 ReversesRow-more old new row from i below at_below so_far =
@@ -22,15 +15,6 @@ ReversesRow-more old new row from i below at_below so_far =
         | inr both ↦ inr (both.1, Contains-take_new row i 0 y below both.0)
       ];
     }
-
-pub ReversesRow-all : (old new : Graph) (row : List ℕ) (from i : ℕ) → length row ≤ i → ReversesRow old new (take i row) from → ReversesRow old new row from
-ReversesRow-all old new row from i past so_far = rw (take_all i row past) at so_far
-
-pub IsReversed-none : (rows back : Graph) → back ≡ replicate (length rows) [] → IsReversed rows 0 back
-IsReversed-none rows back empty = record {
-  len = ap length empty ∙ length-replicate (length rows) [];
-  edges = λ y x edge. absurd (Edge-replicate (length rows) y x (rw empty at edge));
-}
 
 pub IsReversed-more : (rows old new : Graph) (n : ℕ) → IsReversed rows n old → ReversesRow old new (get_or rows n []) n → IsReversed rows (n + 1) new
 IsReversed-more rows old new n so_far row = record {
