@@ -79,17 +79,6 @@ outline_at [] i = refl
 outline_at (m ∷ ms) zero = refl
 outline_at (m ∷ ms) (suc i) = outline_at ms i
 
-home_of : List ℕ → Identifier → List ℕ
-home_of d (local x) = d
-home_of d (global e) = e.«module»
-home_of d (binding n k) = n
-
-is_home : (m : List ℕ) (x : Identifier) → IsOf m x → home_of m x ≡ m
-unfolding home_of
-is_home m (local x) h = absurd h
-is_home m (global e) h = h
-is_home m (binding n k) h = h
-
 same_home : (m n : List ℕ) (x : Identifier) → IsOf m x → IsOf n x → m ≡ n
 same_home m n (local x) h k = absurd h
 same_home m n (global e) h k = sym h ∙ k

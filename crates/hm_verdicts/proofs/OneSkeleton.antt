@@ -60,8 +60,3 @@ module _ (p : ModuleSet) where
     pub number : ℕ
     pub derivation : HasSkeleton p number k
     pub stands : IsOneOf number js
-
-  pub owner_of : {js : List ℕ} {ks : List Interface} (d : HaveSkeletons p js ks) (k : Interface) → IsOneOf k ks → Owner js k
-  owner_of none k o = absurd o
-  owner_of (one_more {j = h} {js = js} {k = q} a rest) k (inl e) = record { number = h; derivation = subst (λ z. HasSkeleton p h z) (sym e) a; stands = inl refl }
-  owner_of (one_more {j = h} {js = js} {k = q} a rest) k (inr o) = let f = owner_of rest k o in record { number = f.number; derivation = f.derivation; stands = inr f.stands }
