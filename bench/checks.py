@@ -38,6 +38,14 @@ def untyped(count):
     return module(["g = 1 'c'"] + [f"f{n} x = x" for n in range(1, count)])
 
 
+def all_untyped(count):
+    return module(f"f{n} = 1 'c'" for n in range(count))
+
+
+def all_refused(count):
+    return module(line for n in range(count) for line in (f"f{n} :: Int", f"f{n} = 'c'"))
+
+
 def nested_lets(count):
     head = "".join(f"let {{ g{n} x = {'g%d x' % (n - 1) if n else 'x'} }} in " for n in range(count))
     return module([f"f = {head}g{count - 1} True"])
@@ -72,6 +80,7 @@ def imports(count):
 
 
 ONE = "1 modules: 1 good, 0 faulty, 0 skipped"
+FAULTY = "1 modules: 0 good, 1 faulty, 0 skipped"
 
 # the kind, what makes a set of a size, the size, and the last line of its report
 KINDS = [
@@ -79,7 +88,9 @@ KINDS = [
     ("bindings that stand alone", flat, 20_000, ONE),
     ("bindings with signatures", signed, 12_000, ONE),
     ("bindings of one group", mutual, 4_000, ONE),
-    ("bindings beside one without a type", untyped, 20_000, "1 modules: 0 good, 1 faulty, 0 skipped"),
+    ("bindings beside one without a type", untyped, 20_000, FAULTY),
+    ("bindings without a type", all_untyped, 20_000, FAULTY),
+    ("bindings without their declared type", all_refused, 12_000, FAULTY),
     ("lets within lets", nested_lets, 2_000, ONE),
     ("arguments of one application", arguments, 400_000, ONE),
     ("elements of a list", elements, 400_000, ONE),
