@@ -14,6 +14,8 @@ mod equal;
 #[cfg(test)]
 mod modules;
 #[cfg(test)]
+mod passes;
+#[cfg(test)]
 mod reports;
 #[cfg(test)]
 mod sources;

@@ -1,4 +1,6 @@
 //! The steps of a build store, one after the other.
+ghost use Rattle.std.specs.Prelude.{◌≡◌, [], IfOk};
+
 use crate::sources::module_of;
 use hm_check::{Outcome, check_module};
 use hm_graph::import_plan;
@@ -8,12 +10,14 @@ use std::process::Abort;
 use std::test::Fail;
 
 /// The outcome of the only module of a source, which imports none.
-fn outcome_of(alloc: Global, source: &[u8]) -> Result<Outcome, Fail> {
+pub(crate) fn outcome_of(alloc: Global, source: &[u8]) -> Result<Outcome, Fail> {
     Ok(check_module(alloc, &module_of(alloc, source)?, &[]).map_err(|_| "refused")?)
 }
 
 /// A store for two modules, with the numbers 0 and 1.
-fn store_of(alloc: Global, first: &[u8], second: &[u8]) -> Result<Store, Fail> {
+pub(crate) fn store_of(alloc: Global, first: &[u8], second: &[u8]) -> Result<Store, Fail>
+    ensures { IfOk result (λ s. s.journal ≡ []) }
+{
     let first = module_of(alloc, first)?;
     let second = module_of(alloc, second)?;
     let Ok(plan) = import_plan(alloc, &[&first.header, &second.header]) else {
@@ -97,10 +101,10 @@ fn answers(alloc: Global, store: &mut Store, step: &Step) -> Result<bool, Fail> 
 }
 
 /// A module that imports `B`.
-const IMPORTER: &[u8] = b"module A where { import B ; x = y }";
+pub(crate) const IMPORTER: &[u8] = b"module A where { import B ; x = y }";
 
 /// What it imports.
-const IMPORTED: &[u8] = b"module B where { y = 'c' }";
+pub(crate) const IMPORTED: &[u8] = b"module B where { y = 'c' }";
 
 /// Another module of that name.
 const OTHER: &[u8] = b"module B where { y = 1 }";
