@@ -103,9 +103,6 @@ one_order names xs ys o p = same_sorted xs ys o.sorted p.sorted (λ z. counts_pe
 
 -- ---- blocks
 
-block_name : Block → List ℕ
-block_name b = b.name
-
 pub same_block : (x y : Block) → x.name ≡ y.name → x.imports ≡ y.imports → x ≡ y
 same_block x y e f = ap (λ n. record { name = n; imports = x.imports }) e ∙ ap (λ l. record { name = y.name; imports = l }) f
 
