@@ -1,11 +1,8 @@
 -- Lists of pairs to which others are added.
-use Rattle.std.proofs.Common.{◌≡◌, ℕ, ◌+◌, ◌<◌, ◌≤◌, Bool, true, false, List, [], ◌∷◌, ◌++◌, Option, Some, None, ◌⊎◌, inl, inr, ⊎_elim, refl, sym, ap, ◌∙◌, subst, arith, Contains, length, take, get_or}
-use Rattle.std.proofs.lemmas.Bool.{both_ways}
+use Rattle.std.proofs.Common.{◌≡◌, ℕ, ◌+◌, ◌<◌, ◌≤◌, List, [], ◌∷◌, ◌++◌, ◌⊎◌, inl, inr, ⊎_elim, sym, ap, ◌∙◌, subst, arith, Contains, length, take, get_or}
 use Rattle.std.proofs.lemmas.List.{take_more, take_all}
 use Rattle.std.proofs.lemmas.List.Elements.{Contains-push, Contains-push_cases, Contains-append_left}
-use Rattle.hm_types.specs.declared.Entity.{Entity}
-use Rattle.hm_names.specs.declared.namespace.Namespace.{Namespace}
-use Rattle.hm_names.specs.Bindings.{Pair, Adds, IsPairOf}
+use Rattle.hm_names.specs.Bindings.{Adds}
 
 pub adds_none : {Y : Type 0} (old : List Y) (Q : Y → Type 0) → ((p : Y) → ¬ Q p) → Adds old old Q
 adds_none old Q none p = (λ h. inl h, λ h. ⊎_elim (λ b. b) (λ q. absurd (none p q)) h)
@@ -24,27 +21,6 @@ adds_push old new x is p = (
   (λ h. Contains-push_cases old x p (subst (λ l. Contains l p) is h)),
   (λ h. subst (λ l. Contains l p) (sym is) (⊎_elim (λ o. Contains-append_left old (x ∷ []) p o) (λ e. subst (λ q. Contains (old ++ x ∷ []) q) e (Contains-push old x)) h)),
 )
-
--- the pairs of one entity
-module _ (under : List ℕ) (s : Namespace) (x : List ℕ) (e : Entity) where
-  abbrev pub pair_with : Option (List ℕ) → Pair
-  pair_with q = record { space = s; qualifier = q; text = x; entity = e }
-
-  pair_is : (b : Bool) (q : Option (List ℕ)) (p : Pair) → IsPairOf b under s x e p → p.qualifier ≡ q → pair_with q ≡ p
-  pair_is b q p i h = rw (← i.space_is, ← h, ← i.text_is, ← i.entity_is) refl
-
-  pair_of : (b : Bool) (q : Option (List ℕ)) (p : Pair) → ((q ≡ None) × (b ≡ false)) ⊎ (q ≡ Some under) → pair_with q ≡ p → IsPairOf b under s x e p
-  pair_of b q p w h = subst (λ r. IsPairOf b under s x e r) h (record { space_is = refl; qualifier_is = w; text_is = refl; entity_is = refl })
-
-  pub adds_qualified : (old new : List Pair) (b : Bool) → b ≡ true → Adds old new (λ p. pair_with (Some under) ≡ p) → Adds old new (IsPairOf b under s x e)
-  adds_qualified old new b t a = adds_like old new (λ p. pair_with (Some under) ≡ p) (IsPairOf b under s x e) (λ p h. pair_of b (Some under) p (inr refl) h)
-      (λ p i. ⊎_elim (λ (n, f). absurd (both_ways b f t)) (λ q. pair_is b (Some under) p i q) i.qualifier_is) a
-
-  pub adds_both : (old mid new : List Pair) (b : Bool) → b ≡ false → Adds old mid (λ p. pair_with None ≡ p) → Adds mid new (λ p. pair_with (Some under) ≡ p) → Adds old new (IsPairOf b under s x e)
-  adds_both old mid new b f one two = adds_like old new (λ p. (pair_with None ≡ p) ⊎ (pair_with (Some under) ≡ p)) (IsPairOf b under s x e)
-      (λ p h. ⊎_elim (λ n. pair_of b None p (inl (refl, f)) n) (λ n. pair_of b (Some under) p (inr refl) n) h)
-      (λ p i. ⊎_elim (λ (n, g). inl (pair_is b None p i n)) (λ q. inr (pair_is b (Some under) p i q)) i.qualifier_is)
-      (adds_then old mid new (λ p. pair_with None ≡ p) (λ p. pair_with (Some under) ≡ p) one two)
 
 -- what is added for each element of a list
 module _ {X Y : Type 0} (P : X → Y → Type 0) where

@@ -1,8 +1,8 @@
--- The variables of a type whose synonyms are expanded are among its own, and the parameters of a declaration.
-use Rattle.std.proofs.Common.{◌≡◌, ℕ, zero, suc, Bool, true, false, cond, List, [], ◌∷◌, ◌++◌, map, Option, None, Some, inl, inr, ⊎_elim, ◌↔◌, refl, sym, ap, ◌∙◌, subst, Contains, take, get_or, ◌<◌, ◌+◌, length, Bor, arith}
-use Rattle.std.proofs.lemmas.Bool.{cases_Bool, both_ways}
+-- The variables of a type whose synonyms are expanded are among its own.
+use Rattle.std.proofs.Common.{◌≡◌, ℕ, zero, suc, Bool, true, false, List, [], ◌∷◌, ◌++◌, map, Option, None, Some, inl, inr, ⊎_elim, ◌↔◌, refl, sym, ap, ◌∙◌, subst, Contains, take, get_or, ◌<◌, ◌+◌, length, Bor, arith}
+use Rattle.std.proofs.lemmas.Bool.{both_ways}
 use Rattle.std.proofs.lemmas.List.{take_more, map-append}
-use Rattle.std.proofs.lemmas.List.Elements.{Contains-append_left, Contains-append_right, Contains-append_cases, Contains-push, Contains-push_cases}
+use Rattle.std.proofs.lemmas.List.Elements.{Contains-append_left, Contains-append_right, Contains-append_cases, Contains-push_cases}
 use Rattle.hm_types.specs.declared.Head.{Head}
 use Rattle.hm_types.specs.declared.Head.TheVariants as head
 use Rattle.hm_types.specs.Types.{Var, App, done, more}
@@ -18,7 +18,7 @@ use Rattle.hm_names.specs.Resolved.{Resolver, type_with, types_with}
 use Rattle.hm_names.specs.DeclaredSynonyms.{AreAmong, IsSound}
 use Rattle.hm_names.specs.declared.namespace.Namespace.TheVariants.{Types}
 use Rattle.hm_names.specs.Types.{entity_of, type_in, program_of, synonym_of}
-use Rattle.hm_names.proofs.Members.{none_in, cases, first, rest}
+use Rattle.hm_names.proofs.Members.{none_in, first, rest}
 use Rattle.hm_names.proofs.Standing.{among_decides}
 use Rattle.hm_names.proofs.TypesOfTrees.{no_rigid, arities, closed}
 
@@ -91,27 +91,6 @@ synonym_made ps vs count r t u s b size tree body is named sound =
 
 pub not_sound : {A : Type 0} (ps : List Identifier) (vs : List (List ℕ)) (t : TypeTree) (b : Bool) → (b ≡ true) ↔ AreAmong vs (type_variables t) → b ≡ false → (((n : Identifier) → ¬ Repeats ps n) → vs ≡ texts ps) → IsSound ps t → A
 not_sound ps vs t b says f named sound = absurd (both_ways b f (says.1 (subst (λ (l : List (List ℕ)). AreAmong l (type_variables t)) (sym (named sound.distinct)) sound.closed)))
-
--- Parameters
-
-repeats_before : (ns : List Identifier) (n k : Identifier) → Repeats ns k → Repeats (ns ++ n ∷ []) k
-repeats_before [] n k h = absurd h
-repeats_before (x ∷ ns) n k h = ⊎_elim (λ p. inl (Contains-append_left ns (n ∷ []) k p.0, p.1)) (λ r. inr (repeats_before ns n k r)) h
-
-repeats_last : (ns : List Identifier) (n : Identifier) → Contains (texts ns) n.text → Repeats (ns ++ n ∷ []) n
-repeats_last [] n c = absurd (none_in n.text c)
-repeats_last (x ∷ ns) n c = ⊎_elim (λ e. inl (Contains-push ns n, e)) (λ o. inr (repeats_last ns n o)) (cases x.text (texts ns) n.text c)
-
-pub parameter_more : (ps : List Identifier) (i : ℕ) (p : Identifier) (x : List ℕ) (old new : List (List ℕ)) → i < length ps → p ≡ get_or ps i p → x ≡ p.text → new ≡ cond (is_text_among x old) old (old ++ x ∷ [])
-    → (((n : Identifier) → ¬ Repeats (take i ps) n) → old ≡ texts (take i ps)) → ((n : Identifier) → ¬ Repeats (take (i + 1) ps) n) → new ≡ texts (take (i + 1) ps)
-parameter_more ps i p x old new h e name put known distinct =
-    let all : take (i + 1) ps ≡ take i ps ++ p ∷ [] = take_more ps i p h ∙ ap (λ z. take i ps ++ z ∷ []) (sym e) in
-    let now : (n : Identifier) → ¬ Repeats (take i ps ++ p ∷ []) n = subst (λ l. (n : Identifier) → ¬ Repeats l n) all distinct in
-    let before = known (λ n r. now n (repeats_before (take i ps) p n r)) in
-    elim (cases_Bool (is_text_among x old)) [
-      | inl t ↦ absurd (now p (repeats_last (take i ps) p (subst (λ z. Contains z p.text) before (subst (λ z. Contains old z) name ((among_decides x old).0 t)))))
-      | inr f ↦ put ∙ (ap (λ b. cond b old (old ++ x ∷ [])) f ∙ (ap (λ z. z ++ x ∷ []) before ∙ (ap (λ z. texts (take i ps) ++ z ∷ []) name ∙ (sym (map-append (λ (n : Identifier). n.text) (take i ps) (p ∷ [])) ∙ ap texts (sym all)))))
-    ]
 
 -- Variables that are looked up in turn
 

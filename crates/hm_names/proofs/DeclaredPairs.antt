@@ -4,14 +4,14 @@ use Rattle.std.proofs.lemmas.List.{get_or-map, length-map}
 use Rattle.std.proofs.lemmas.List.Elements.{Contains-append_left, Contains-append_right, Contains-push}
 use Rattle.hm_syntax.specs.Names.{Identifier}
 use Rattle.hm_syntax.specs.Lists.{constructors}
-use Rattle.hm_syntax.specs.Trees.{TypeTree, Pattern, Patterns, RightSide, DataConstructor, Declaration, data_declaration, newtype_declaration, synonym_declaration, signature, clause, pattern_binding}
+use Rattle.hm_syntax.specs.Trees.{TypeTree, Pattern, Patterns, RightSide, DataConstructor, Declaration, data_declaration, newtype_declaration, synonym_declaration, clause, pattern_binding}
 use Rattle.hm_names.specs.declared.namespace.Namespace.{Namespace}
 use Rattle.hm_names.specs.declared.namespace.Namespace.TheVariants.{Types, Constructors, Values}
 use Rattle.hm_names.specs.Bindings.{Pair, Adds, IsPairOf, IsDeclaredPair, IsOwnPair}
 use Rattle.hm_names.specs.Entities.{DeclaredBy, a_data_type, a_newtype, a_synonym, a_constructor, a_newtype_constructor, a_variable, a_matched_variable, named, constructor_name, constructor_list}
 use Rattle.hm_names.specs.Variables.{pattern_variables}
 use Rattle.hm_syntax.specs.declared.ast.Module.{Module}
-use Rattle.hm_names.proofs.AddedPairs.{adds_like, adds_then, adds_none, ForEach}
+use Rattle.hm_names.proofs.AddedPairs.{adds_like, adds_then, ForEach}
 
 pub listed : (cs : List DataConstructor) → constructor_list (constructors cs) ≡ cs
 listed [] = refl
@@ -68,12 +68,6 @@ module _ (m : List ℕ) where
     where
       back : (x : List ℕ) (s : Namespace) → DeclaredBy x (synonym_declaration n ps t) s → (p : Pair) → OwnPair s x p → OwnPair Types n.text p
       back x s (a_synonym e) p i = own_at Types x n.text p (sym e) i
-
-  pub signature_adds : (old : List Pair) (ns : List Identifier) (t : TypeTree) → Adds old old (IsDeclaredPair m (signature ns t))
-  signature_adds old ns t = adds_none old (IsDeclaredPair m (signature ns t)) (λ p i. none p.text p.space i.declared)
-    where
-      none : (x : List ℕ) (s : Namespace) → DeclaredBy x (signature ns t) s → ⊥
-      none x s h = elim h [ ]
 
   pub clause_adds : (old new : List Pair) (n : Identifier) (ps : Patterns) (r : RightSide) → Adds old new (OwnPair Values n.text) → Adds old new (IsDeclaredPair m (clause n ps r))
   clause_adds old new n ps r a = declared_like old new (clause n ps r) (OwnPair Values n.text) (λ p h. own_there (clause n ps r) Values n.text p (a_variable refl) h) back a

@@ -1,5 +1,5 @@
 -- Going over a row: what is done at each element, and what is left.
-use Rattle.std.proofs.Common.{◌≡◌, ℕ, ◌+◌, ◌<◌, ◌≤◌, List, [], ◌∷◌, ◌++◌, drop, length, map, get_or, refl, sym, ap, ◌∙◌, subst, arith, append_assoc, append-nil, Option, None, Some}
+use Rattle.std.proofs.Common.{◌≡◌, ℕ, ◌+◌, ◌<◌, ◌≤◌, List, [], ◌∷◌, ◌++◌, drop, length, map, get_or, refl, sym, ap, ◌∙◌, subst, arith, append_assoc, Option, None, Some}
 use Rattle.std.proofs.Math.Seq.{drop-cons}
 use Rattle.hm_syntax.specs.Trees.{TypeTree, Pattern, DataConstructor, Expression, Declaration, Alternative}
 use Rattle.hm_syntax.specs.Lists.{types, patterns, constructors, expressions, declarations, alternatives, bodies}
@@ -23,9 +23,6 @@ past (t ∷ ts) (Rattle.std.proofs.Common.suc i) h = past ts i (omega (arith, h)
 
 pub noting_more : (fs gs : List Fault) (w : Walking) → noting gs (noting fs w) ≡ noting (fs ++ gs) w
 noting_more fs gs w = ap (λ (l : List Fault). record w { faults = l }) (append_assoc w.faults fs gs)
-
-pub noting_none : (w : Walking) → noting [] w ≡ w
-noting_none w = ap (λ (l : List Fault). record w { faults = l }) (append-nil w.faults)
 
 -- an element is smaller than its row
 pub falls : {X : Type 0} (size : X → ℕ) (sizes : List X → ℕ) (opens : (x : X) (xs : List X) → (size x < sizes (x ∷ xs)) × (sizes xs ≤ sizes (x ∷ xs)))

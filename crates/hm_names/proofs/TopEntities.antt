@@ -52,14 +52,6 @@ kept_names r m (pattern_binding l c p q ∷ ds) =
 
 -- The entities among the heads
 
-one_left : (x : List ℕ) (xs ys : List (List ℕ)) → IsOneOf x xs → IsOneOf x (xs ++ ys)
-one_left x [] ys h = absurd h
-one_left x (z ∷ xs) ys h = elim h [ inl s ↦ inl s | inr o ↦ inr (one_left x xs ys o) ]
-
-one_right : (x : List ℕ) (xs ys : List (List ℕ)) → IsOneOf x ys → IsOneOf x (xs ++ ys)
-one_right x [] ys h = h
-one_right x (z ∷ xs) ys h = inr (one_right x xs ys h)
-
 one_either : (x : List ℕ) (xs ys : List (List ℕ)) → IsOneOf x (xs ++ ys) → IsOneOf x xs ⊎ IsOneOf x ys
 one_either x [] ys h = inr h
 one_either x (z ∷ xs) ys h = elim h [ inl s ↦ inl (inl s) | inr o ↦ elim (one_either x xs ys o) [ inl p ↦ inl (inr p) | inr q ↦ inr q ] ]

@@ -94,9 +94,6 @@ places_new xs y table next h absent updated x = updated x ∙ at (bytes_eq y x) 
         other true k = rw (among_more x y xs, k, place_before x y xs k) refl
         other false k = rw (among_more x y xs, k, turned false e) refl
 
-pub places_none : (table : PlaceTable) → ((x : List ℕ) → place_in table x ≡ None) → ArePlaces [] table
-places_none table h x = h x
-
 -- what the table answers
 pub place_missing : (xs : List (List ℕ)) (x : List ℕ) (table : PlaceTable) → ArePlaces xs table → place_in table x ≡ None → place x xs ≡ length xs
 place_missing xs x table h e = at (is_text_among x xs) refl

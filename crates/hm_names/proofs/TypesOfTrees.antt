@@ -1,7 +1,6 @@
--- Types of the type system that are made from trees: the places of their variables, their arguments, and what they have.
-use Rattle.std.proofs.Common.{◌≡◌, ◌⊎◌, Contains, ◌||◌, ℕ, suc, ◌+◌, ◌<◌, ◌≤◌, nat_lt, not, Bool, true, false, cond, List, [], ◌∷◌, map, length, None, Some, inl, inr, refl, sym, ap, ◌∙◌, subst, arith}
-use Rattle.std.specs.List.{position, position_or_len}
-use Rattle.std.proofs.lemmas.Bool.{cases_Bool, ltb-false}
+-- Types of the type system that are made from trees: their arguments, and what they have.
+use Rattle.std.proofs.Common.{◌≡◌, ◌⊎◌, Contains, ◌||◌, ℕ, suc, ◌<◌, Bool, true, false, cond, List, [], ◌∷◌, map, length, inl, inr, refl, sym, ap, ◌∙◌, subst, arith}
+use Rattle.std.proofs.lemmas.Bool.{cases_Bool}
 use Rattle.hm_types.specs.Types.{App, more, put_all}
 use Rattle.hm_types.specs.Monotypes.{Mono, var, arguments_of, list_of}
 use Rattle.hm_types.specs.Types.{Var}
@@ -21,37 +20,6 @@ use Rattle.hm_names.proofs.Members.{none_in, cases, first}
 use Rattle.std.proofs.lemmas.List.Elements.{Contains-append_left, Contains-append_right}
 use Rattle.std.proofs.lemmas.Slice.Eq.{bytes_eq-Decides}
 use Rattle.std.proofs.lemmas.Bool.Decides.{Decides-eqb}
-
--- the place of a variable
-
-place_is : (x : List ℕ) (xs : List (List ℕ)) → position_or_len (same_text x) xs ≡ place x xs
-place_is x [] = refl
-place_is x (y ∷ ys) = go (same_text x y) (place_is x ys)
-  where
-    go : (b : Bool) → position_or_len (same_text x) ys ≡ place x ys → cond (not b) (1 + position_or_len (same_text x) ys) 0 ≡ cond b 0 (suc (place x ys))
-    go true h = refl
-    go false h = let k : 1 + position_or_len (same_text x) ys ≡ suc (place x ys) = omega (arith, h) in k
-
-place_within : (x : List ℕ) (xs : List (List ℕ)) → place x xs ≤ length xs
-place_within x [] = omega arith
-place_within x (y ∷ ys) = go (same_text x y) (place_within x ys)
-  where
-    go : (b : Bool) → place x ys ≤ length ys → cond b 0 (suc (place x ys)) ≤ suc (length ys)
-    go true h = omega arith
-    go false h = omega (arith, h)
-
-pub place_found : (x : List ℕ) (xs : List (List ℕ)) (j : ℕ) → Some j ≡ position (same_text x) xs → j ≡ place x xs
-place_found x xs j h = go (nat_lt (position_or_len (same_text x) xs) (length xs)) h ∙ place_is x xs
-  where
-    go : (b : Bool) → Some j ≡ cond b (Some (position_or_len (same_text x) xs)) None → j ≡ position_or_len (same_text x) xs
-    go true h = cc
-    go false h = absurd (let z : Some j ≡ None = h in cc)
-
-pub place_absent : (x : List ℕ) (xs : List (List ℕ)) → None ≡ position (same_text x) xs → length xs ≡ place x xs
-place_absent x xs h = elim (cases_Bool (nat_lt (position_or_len (same_text x) xs) (length xs))) [
-  | inl t ↦ absurd (let z : None ≡ Some (position_or_len (same_text x) xs) = h ∙ ap (λ b. cond b (Some (position_or_len (same_text x) xs)) None) t in cc)
-  | inr f ↦ let b = place_within x xs in let e = place_is x xs in let n = ltb-false (position_or_len (same_text x) xs) (length xs) f in omega (arith, b, e, n)
-]
 
 -- the arguments of a type constructor
 pub arguments_are : (vs : List (List ℕ)) (ts : List TypeTree) → arguments_of (map (λ t. program_of (type_in vs t)) ts) ≡ put_all (λ v. Var (var v)) (types_in vs (types ts))
