@@ -18,9 +18,6 @@ use Rattle.hm_groups.proofs.Rows.{past}
 use Rattle.hm_groups.proofs.Walking.{Contains-nil}
 use Rattle.hm_groups.proofs.Numberings.{some_injective}
 
-pub adds_none : (a b : Graph) (E : ℕ → ℕ → Type 0) → b ≡ a → ((x y : ℕ) → ¬ (E x y)) → AddsEdges a b E
-adds_none a b E e n x y = subst (λ g. Edge g x y ↔ (Edge a x y ⊎ E x y)) (sym e) (inl, λ s. ⊎_elim (λ h. h) (λ h. absurd (n x y h)) s)
-
 pub adds_both : (a b c : Graph) (E F G : ℕ → ℕ → Type 0) → AddsEdges a b E → AddsEdges b c F → ((x y : ℕ) → E x y ⊎ F x y → G x y) → ((x y : ℕ) → G x y → E x y ⊎ F x y) → AddsEdges a c G
 adds_both a b c E F G f g to back x y = (
   (λ h. ⊎_elim (λ k. ⊎_elim inl (λ e. inr (to x y (inl e))) ((f x y).0 k)) (λ e. inr (to x y (inr e))) ((g x y).0 h)),

@@ -7,7 +7,6 @@ use Rattle.hm_graph.proofs.Members.{Contains-take_cases, Contains-take_old, Cont
 use Rattle.hm_typing.specs.Names.{IsOneOf}
 use Rattle.hm_groups.specs.declared.members.Member.{Member}
 use Rattle.hm_groups.specs.GroupMembers.{AddsRow, AreMembersOf}
-use Rattle.hm_groups.proofs.Walking.{Contains-nil}
 
 one_left : {X : Type 0} (x : X) (xs ys : List X) → IsOneOf x xs → IsOneOf x (xs ++ ys)
 one_left x [] ys o = absurd o
@@ -31,9 +30,6 @@ one_pushed x y xs = (
 
 member_is : (m : Member) (p n : ℕ) → m.place ≡ p → m.node ≡ n → m ≡ record { place = p; node = n }
 member_is m p n e f = Rattle.std.proofs.Common.ap₂ (λ a b. record { place = a; node = b }) e f
-
-pub row_none : (node : ℕ) (row : List ℕ) (old : List Member) → AddsRow node (take 0 row) old old
-row_none node row old m = (inl, λ s. ⊎_elim (λ h. h) (λ h. absurd (Contains-nil m.place h.1)) s)
 
 pub row_step : (node : ℕ) (row : List ℕ) (i : ℕ) (old now new : List Member) → i < length row → AddsRow node (take i row) old now → new ≡ now ++ record { place = get_or row i 0; node = node } ∷ [] → AddsRow node (take (i + 1) row) old new
 row_step node row i old now new l f e m = (

@@ -12,10 +12,6 @@ use Rattle.std.proofs.Math.Seq.{take-append_seam}
 use mathlib.Core.Path.{fun_ext}
 use Rattle.hm_groups.specs.Keys.{Table, number_of, same_qualifier, same_variable, variable_of_key, nodes_of, IsNode, IsNumbering}
 
-pub text_is : (o : Option (List ℕ)) → List ℕ → List ℕ
-text_is None d = d
-text_is (Some x) d = x
-
 pub same_qualifier-is : (p q : Option (List ℕ)) → same_qualifier p q ≡ true → p ≡ q
 same_qualifier-is None None e = refl
 same_qualifier-is None (Some y) e = absurd (both_ways false refl e)

@@ -58,9 +58,6 @@ is_signed-more (signature ns t) ds x = cond_some (is_signed_among x ns) _ _ ∙ 
 is_signed-more (clause n ps r) ds x = refl
 is_signed-more (pattern_binding l c p r) ds x = refl
 
-pub is_signed-one : (ns : List Identifier) (t : Rattle.hm_syntax.specs.Trees.TypeTree) (x : List ℕ) → is_signed (more_declarations (signature ns t) no_declarations) x ≡ is_signed_among x ns
-is_signed-one ns t x = cond_some (is_signed_among x ns) _ _ ∙ or_false (is_signed_among x ns)
-
 pub signed_step : (d : Declaration) (left rest : List Declaration) (all : Bool) (x : List ℕ) (h h' : Bool) → left ≡ d ∷ rest → h' ≡ (is_signed (more_declarations d no_declarations) x || h) →
     (is_signed (declarations left) x || h) ≡ all → (is_signed (declarations rest) x || h') ≡ all
 signed_step d left rest all x h h' e f g =

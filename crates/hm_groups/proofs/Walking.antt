@@ -109,30 +109,6 @@ Hides-both nodes xs ys a b c p q r f g = record {
   kept = λ k s. ⊎_elim (λ t. g.kept k t) (λ t. inr ((g.noted k).1 (inl t))) (f.kept k s);
 }
 
--- one variable that is no node
-pub Hides-stranger : (nodes : List (Option Variable)) (x : Variable) (shown : List Bool) (noted : List ℕ) → ((k : ℕ) → ¬ (slice_get nodes k ≡ Some (Some x))) → Hides nodes (x ∷ []) shown shown noted noted
-Hides-stranger nodes x shown noted stranger = record {
-  size = refl;
-  stays = λ k. ((λ s. (s, λ n. never k n)), (λ h. h.0));
-  noted = λ k. (inl, λ s. ⊎_elim (λ h. h) (λ h. absurd (never k h.1)) s);
-  kept = λ k s. inl s;
-}
-  where
-    never : (k : ℕ) → ¬ (IsNodeWith nodes (λ y. IsOneOf y (x ∷ [])) k)
-    never k n = stranger k (n.node ∙ ap (λ z. Some (Some z)) (⊎_elim (λ e. e) (λ o. absurd o) n.holds))
-
--- one that is not shown
-pub Hides-hidden : (nodes : List (Option Variable)) (x : Variable) (j : ℕ) (shown : List Bool) (noted : List ℕ) → ((k : ℕ) → slice_get nodes k ≡ Some (Some x) → k ≡ j) → ¬ (IsShown shown j) → Hides nodes (x ∷ []) shown shown noted noted
-Hides-hidden nodes x j shown noted at hidden = record {
-  size = refl;
-  stays = λ k. ((λ s. (s, λ n. hidden (subst (IsShown shown) (place k n) s))), (λ h. h.0));
-  noted = λ k. (inl, λ s. ⊎_elim (λ h. h) (λ h. absurd (hidden (subst (IsShown shown) (place k h.1) h.0))) s);
-  kept = λ k s. inl s;
-}
-  where
-    place : (k : ℕ) → IsNodeWith nodes (λ y. IsOneOf y (x ∷ [])) k → k ≡ j
-    place k n = at k (n.node ∙ ap (λ z. Some (Some z)) (⊎_elim (λ e. e) (λ o. absurd o) n.holds))
-
 pub shown-set : (shown : List Bool) (j k : ℕ) → IsShown (set shown j false) k → IsShown shown k × (k ≢ j)
 shown-set [] j k s = (s, λ e. absurd (both_ways false refl s))
 shown-set (b ∷ bs) zero zero s = absurd (both_ways false refl s)
@@ -171,9 +147,6 @@ Hides-shown nodes x j shown new noted more here at s e f = record {
 -- what is left to hide
 abbrev pub StillHides : List (Option Variable) → List Variable → List Variable → List Bool → List Bool → List ℕ → List ℕ → Type 0
 StillHides nodes left all shown now noted more = (length now ≡ length shown) × ((c : List Bool) (r : List ℕ) → Hides nodes left now c more r → Hides nodes all shown c noted r)
-
-pub StillHides-all : (nodes : List (Option Variable)) (xs ys : List Variable) (shown : List Bool) (noted : List ℕ) → xs ≡ ys → StillHides nodes xs ys shown shown noted noted
-StillHides-all nodes xs ys shown noted e = (refl, λ c r h. subst (λ z. Hides nodes z shown c noted r) e h)
 
 pub StillHides-step : (nodes : List (Option Variable)) (left xs rest all : List Variable) (a b c : List Bool) (p q r : List ℕ) → left ≡ xs ++ rest → Hides nodes xs b c q r → StillHides nodes left all a b p q → StillHides nodes rest all a c p r
 StillHides-step nodes left xs rest all a b c p q r e h s = (h.size ∙ s.0, λ d t g. s.1 d t (subst (λ z. Hides nodes z b d q t) (sym e) (Hides-both nodes xs rest b c d q r t h g)))
@@ -273,9 +246,6 @@ Walks-scope nodes xs P a b c d p q all x y e f h w t = record {
 -- what is left to walk over
 abbrev pub StillWalks : List (Option Variable) → (Variable → Type 0) → (Variable → Type 0) → List Bool → List Bool → List ℕ → List ℕ → Type 0
 StillWalks nodes Left All_ shown now x y = (now ≡ shown) × ((c : List Bool) (z : List ℕ) → Walks nodes Left now c y z → Walks nodes All_ shown c x z)
-
-pub StillWalks-all : (nodes : List (Option Variable)) (P Q : Variable → Type 0) (shown : List Bool) (x : List ℕ) → P ≡ Q → StillWalks nodes P Q shown shown x x
-StillWalks-all nodes P Q shown x e = (refl, λ c z w. subst (λ R. Walks nodes R shown c x z) e w)
 
 pub StillWalks-step : (nodes : List (Option Variable)) (Left P Rest All_ : Variable → Type 0) (a b c : List Bool) (x y z : List ℕ) → ((v : Variable) → P v ⊎ Rest v → Left v) → ((v : Variable) → Left v → P v ⊎ Rest v) → Walks nodes P b c y z → StillWalks nodes Left All_ a b x y → StillWalks nodes Rest All_ a c x z
 StillWalks-step nodes Left P Rest All_ a b c x y z to back w s =
