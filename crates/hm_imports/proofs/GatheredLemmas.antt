@@ -37,15 +37,6 @@ module _ (hiding : Bool) (f : Interface) (v : Identifier) where
       back : (n : FullName) → IsBehind hiding f v n subs.None → n ≡ bare Constructors v.text
       back n (gathered.alone g e) = e
 
-  pub behind_not : (old : List FullName) → hiding ≡ false → Adds old old (λ n. IsBehind hiding f v n subs.None)
-  behind_not old h = adds_none old (λ n. IsBehind hiding f v n subs.None) none
-    where
-      none : (n : FullName) → IsBehind hiding f v n subs.None → ⊥
-      none n (gathered.alone g e) = let c : true ≡ false = sym g ∙ h in cc
-
-  pub behind_all : (old : List FullName) → Adds old old (λ n. IsBehind hiding f v n subs.All)
-  behind_all old = adds_none old (λ n. IsBehind hiding f v n subs.All) (λ n b. elim b [ ])
-
   pub behind_none : (old : List FullName) (cs : List Identifier) → ((r : TypeEntry) → Contains f.types r → ¬ (r.name ≡ v.text)) → Adds old old (λ n. IsBehind hiding f v n (subs.Some cs))
   behind_none old cs no_type = adds_none old (λ n. IsBehind hiding f v n (subs.Some cs)) none
     where
@@ -87,12 +78,6 @@ module _ (f : Interface) where
     where
       none : (n : FullName) → IsOpenedBy f n (item.Con v subs.All) → ⊥
       none n (gathered.opened {r = r} c e i) = no_type r c e
-
-  not_opened : (n : FullName) (j : Item) → ((v : Identifier) → ¬ (j ≡ item.Con v subs.All)) → IsOpenedBy f n j → ⊥
-  not_opened n j other (gathered.opened {v} c e i) = other v refl
-
-  pub opened_other : (old : List FullName) (j : Item) → ((v : Identifier) → ¬ (j ≡ item.Con v subs.All)) → Adds old old (λ n. IsOpenedBy f n j)
-  opened_other old j other = adds_none old (λ n. IsOpenedBy f n j) (λ n h. not_opened n j other h)
 
 -- all together
 module _ (f : Interface) (is : List Item) where
