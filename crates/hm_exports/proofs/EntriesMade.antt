@@ -138,9 +138,6 @@ module _ {R : Type 0} (name : R → List ℕ) (entity : R → Entity) (H : R →
 -- Types and synonyms
 
 module _ (c : ModuleCore) (table : Table KnownType) (known : AreTypesOf c table) (key : EntityKey) (e : Entity) (is : entity_at key ≡ e) where
-  abbrev Meant : Option TypeDescription
-  Meant = type_meant c.name c.decls c.interfaces e
-
   told : option_map meaning_of (get_by (same_key key) table) ≡ option_map (λ (d : TypeDescription). d.meaning) (type_meant c.name c.decls c.interfaces e)
   told = known key ∙ ap (λ z. option_map (λ (d : TypeDescription). d.meaning) (type_meant c.name c.decls c.interfaces z)) is
 
@@ -285,9 +282,6 @@ module _ (m : List ℕ) where
   imported_schemes_are (f ∷ fs) = joined scheme_of_source (map imported f.constructors) (imported_sources fs) _ _ (entry_schemes_are f.constructors) (imported_schemes_are fs)
 
   module _ (ds : List Declaration) (fs : List Interface) (e : Entity) where
-    abbrev TheSource : Option ConstructorSource
-    TheSource = first_of (source_entity m) e (declared_sources ds ++ imported_sources fs)
-
     meant_is : constructor_meant m ds fs e ≡ option_map description_of (first_of (source_entity m) e (declared_sources ds ++ imported_sources fs))
     meant_is = ap (λ l. first_of (λ (d : ConstructorDescription). d.entity) e l) (joined description_of (declared_sources ds) (imported_sources fs) _ _ (declared_are ds) (imported_are fs))
         ∙ first_mapped (source_entity m) (λ (d : ConstructorDescription). d.entity) description_of one_entity e (declared_sources ds ++ imported_sources fs)

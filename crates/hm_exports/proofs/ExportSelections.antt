@@ -53,9 +53,6 @@ module _ (bare : List Pair) (q : Pair) (k : Selector) where
       one y z e = cc
 
 module _ (ds : List ConstructorDescription) (q : Pair) (k : Selector) where
-  abbrev OwnerIn : Option Entity
-  OwnerIn = option_map (λ d. d.owner) (first_of (λ d. d.entity) q.entity ds)
-
   pub not_constructor : (old : List Pair) → ¬ (q.space ≡ Constructors) → Adds old old (IsOfOwner ds q k)
   not_constructor old n = adds_none old (IsOfOwner ds q k) (λ p h. n h.0)
 

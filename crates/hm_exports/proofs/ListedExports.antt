@@ -18,7 +18,7 @@ use Rattle.hm_names.specs.declared.faults.Fault.{Fault}
 use Rattle.hm_names.specs.declared.faults.Kind.{Kind}
 use Rattle.hm_names.specs.declared.faults.Kind.TheVariants.{Unbound, Ambiguous, ExportClash, NotImported}
 use Rattle.hm_names.specs.Bindings.{Pair, Adds, IsOwnPair}
-use Rattle.hm_exports.specs.ExportItems.{bare_pair, GivesPair, NameFault, FaultBehind, ItemFault, ClashFault, LeastFault}
+use Rattle.hm_exports.specs.ExportItems.{bare_pair, GivesPair, FaultBehind, ItemFault, ClashFault, LeastFault}
 use Rattle.hm_names.specs.Exports.{IsExported, all, listed}
 use Rattle.hm_names.specs.Faults.Exports.{ExportFault, unbound_value, unbound_type, ambiguous_value, ambiguous_type, unbound_constructor, clash, not_imported, item_name, bare_at}
 use Rattle.hm_names.specs.Faults.Phases.{HasFault, Exporting, fault}
@@ -114,9 +114,6 @@ module _ (m : Module) (fs : List Interface) where
 
   -- the exports of a module with an export list
   module _ (es : List Export) (e : ModuleExports) (stand : m.header.exports ≡ Some es) (are : AreListedExports m fs es e) where
-    name_fault : (s : Namespace) (n : Identifier) (g : Fault) → NameFault m fs s n g → (k : Kind) × ((n' : Identifier) × ((fault k n' ≡ g) × (NameFault m fs s n g)))
-    name_fault s n g h = ⊎_elim (λ (u, is). (Unbound, (n, (is, h)))) (λ (a, is). (Ambiguous, (n, (is, h)))) h
-
     of_fault : (k : Kind) (n : Identifier) (g : Fault) → ExportFault m fs es k n → fault k n ≡ g → HasFault m fs Exporting g
     of_fault k n g f is = record { kind = k; name = n; stands = (es, (stand, f)); is = sym is }
 

@@ -120,9 +120,6 @@ module _ (m : Module) (fs : List Interface) (c : ModuleCore) (core : IsCore m fs
     pub is_interface : IsInterface (record { name = n; types = ts; synonyms = ss; constructors = cs; values = vs })
     is_interface = record { types = types.ordered; synonyms = synonyms.ordered; apart = apart; constructors = constructors.ordered; values = values.ordered }
 
-    pub is_ordered : (f : Interface) → f ≡ record { name = n; types = ts; synonyms = ss; constructors = cs; values = vs } → IsInterface f
-    is_ordered f is = subst IsInterface (sym is) is_interface
-
     pub is_interface_of : (f : Interface) → n ≡ c.name → f ≡ record { name = n; types = ts; synonyms = ss; constructors = cs; values = vs } → IsInterfaceOf c given f
     is_interface_of f named is = subst (λ z. IsInterfaceOf c given z) (sym is) (record { name = named; types = types.exact; synonyms = synonyms.exact; constructors = constructors.exact; values = values.exact })
 
