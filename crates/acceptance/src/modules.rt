@@ -2,8 +2,9 @@
 //! interfaces that it is handed.
 use crate::checks::{DECLARED, ILL_FORMED, TYPED, UNTYPED};
 use crate::sources::module_of;
-use hm_check::{CheckFault, Outcome, Verdict, check_module};
+use hm_check::{CheckFault, check_module};
 use hm_names::{Fault, Kind};
+use hm_outcomes::{Outcome, Verdict};
 use hm_types::{Interface, interface_text};
 use std::alloc::{AllocError, Global};
 use std::process::Abort;

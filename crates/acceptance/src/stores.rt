@@ -2,8 +2,9 @@
 ghost use Rattle.std.specs.Prelude.{◌≡◌, [], IfOk};
 
 use crate::sources::module_of;
-use hm_check::{Outcome, check_module};
+use hm_check::check_module;
 use hm_graph::import_plan;
+use hm_outcomes::Outcome;
 use hm_store::{Claimed, Refusal, Status, Store};
 use std::alloc::Global;
 use std::process::Abort;

@@ -15,8 +15,8 @@ use Rattle.hm_syntax.specs.contracts.ast.Module as Module
 use Rattle.hm_syntax.proofs.ast.Alt.TheLaws.TheKnot.{crosses as expressions}
 use Rattle.hm_syntax.proofs.ast.Pat.TheLaws.TheKnot.{crosses as patterns}
 use Rattle.hm_syntax.proofs.ast.TypeExpr.TheLaws.TheKnot.{crosses as written_types}
-use Rattle.hm_check.specs.contracts.outcome.Verdict as Verdict
-use Rattle.hm_check.specs.contracts.outcome.Outcome as Outcome
+use Rattle.hm_outcomes.specs.contracts.outcome.Verdict as Verdict
+use Rattle.hm_outcomes.specs.contracts.outcome.Outcome as Outcome
 use Rattle.hm_store.specs.contracts.record.Call as Call
 use Rattle.hm_store.specs.contracts.record.Act as Act
 use Rattle.hm_store.specs.contracts.record.Pass as Pass

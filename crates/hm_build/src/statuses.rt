@@ -3,8 +3,8 @@ ghost use Rattle.std.specs.Prelude.{◌≡◌, ◌<◌, IfOk, length};
 ghost use Rattle.hm_store.specs.Settlements.{settlement};
 ghost use Rattle.hm_build.specs.Settling.{status_of, statuses_of};
 
-use hm_check::Verdict;
 use hm_names::Fault;
+use hm_outcomes::Verdict;
 use hm_store::Store;
 use hm_syntax::Row;
 use hm_types::Interface;

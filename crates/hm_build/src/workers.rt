@@ -1,7 +1,8 @@
 //! What the workers of a build do.
 
 use crate::{BuildFault, Gate};
-use hm_check::{CheckFault, Outcome, check_module};
+use hm_check::{CheckFault, check_module};
+use hm_outcomes::Outcome;
 use hm_store::{LookFault, Pass, Shared, Turn};
 use hm_syntax::Module;
 use hm_types::Interface;

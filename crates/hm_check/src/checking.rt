@@ -9,14 +9,14 @@ ghost use Rattle.hm_names.specs.Cores.{IsCore, IsSomeCore};
 ghost use Rattle.hm_names.specs.Imports.{AreImportsOf};
 ghost use Rattle.hm_names.specs.SchemeTables.{scheme_of};
 ghost use Rattle.hm_verdicts.specs.ModuleVerdicts.{ArePrincipal, IsVerdict};
-ghost use Rattle.hm_check.specs.Outcomes.{verdict_of};
+ghost use Rattle.hm_outcomes.specs.Outcomes.{verdict_of};
 ghost use Rattle.hm_check.specs.Refusals.{IsRefused};
 
-use crate::outcome::{Outcome, Verdict};
 use hm_exports::export;
 use hm_imports::are_imports_of;
 use hm_infer::{InferFault, infer};
 use hm_names::{Core, Schemes, ScopeFault};
+use hm_outcomes::{Outcome, Verdict};
 use hm_scope::scope;
 use hm_syntax::{Module, Row};
 use hm_types::Interface;

@@ -2,7 +2,5 @@
 #![tactic(auto)]
 
 mod checking;
-mod outcome;
 
 pub use crate::checking::{CheckFault, check_module};
-pub use crate::outcome::{Outcome, Verdict};

@@ -5,7 +5,7 @@ use Rattle.std.proofs.lemmas.List.{length-set}
 use Rattle.std.proofs.lemmas.List.Sums.{sum_by-set}
 use Rattle.hm_types.specs.StandardPrelude.{prelude_interface}
 use Rattle.hm_verdicts.specs.ModuleVerdicts.{IsVerdict}
-use Rattle.hm_check.specs.Outcomes.{Checked, IsGood}
+use Rattle.hm_outcomes.specs.Outcomes.{Checked, IsGood}
 use Rattle.hm_store.specs.Plans.{dependents_of}
 use Rattle.hm_store.specs.Objects.{State, status_at, reply_of, Allowed, opening, skip_all}
 use Rattle.hm_store.specs.Builds.{Build, IsOf, IsSound, Agrees, Refuses, state_of, status_by, with_entry, with_kept}

@@ -6,7 +6,7 @@ use Rattle.hm_syntax.specs.declared.ast.Module.{Module}
 use Rattle.hm_names.specs.declared.faults.Fault.{Fault}
 use Rattle.hm_verdicts.specs.ModuleVerdicts.{Verdict, Good, Faulty, IsVerdict}
 use Rattle.hm_verdicts.specs.Sets.{ModuleSet, IsLawfulSet}
-use Rattle.hm_check.specs.Outcomes.{Checked}
+use Rattle.hm_outcomes.specs.Outcomes.{Checked}
 use Rattle.hm_store.specs.Plans.{Given, AreDependents, imports_of}
 use Rattle.hm_store.specs.Objects.{State, status_at, is_settled, state_after, IsAllowed}
 use Rattle.hm_store.specs.declared.object.Status.{Status}

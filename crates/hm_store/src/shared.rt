@@ -1,14 +1,14 @@
 //! The store behind a lock, for workers that have a pass each.
 ghost use Rattle.std.specs.Prelude.{◌≡◌, ◌≤◌, ◌<◌, ◌+◌, ◌^◌, [], All, length, vec_len, IfOk, IfErr, IfSome, IfNone, ℕ, slice_index_or, option_map};
 ghost use Rattle.std.specs.Arc.{arc_value};
-ghost use Rattle.hm_check.specs.Outcomes.{IsGood};
+ghost use Rattle.hm_outcomes.specs.Outcomes.{IsGood};
 ghost use Rattle.hm_store.specs.Records.{Adds, act_of};
 ghost use Rattle.hm_store.specs.declared.record.Act.TheVariants.{Publish, Fail, Stop, Look};
 
 use crate::object::{Claimed, Refusal, Turn};
 use crate::record::{Act, Pass};
 use crate::store::Store;
-use hm_check::Outcome;
+use hm_outcomes::Outcome;
 use hm_types::Interface;
 use std::alloc::{AllocError, Global};
 use std::sync::ledger::{Blank, Book, Ledger, Share};

@@ -4,7 +4,7 @@ ghost use Rattle.std.specs.Arc.{arc_value};
 ghost use Rattle.std.specs.Option.{option_copied};
 ghost use Rattle.hm_graph.specs.Digraph.{lists};
 ghost use Rattle.hm_verdicts.specs.Sets.{IsLawfulSet};
-ghost use Rattle.hm_check.specs.Outcomes.{IsGood, verdict_of};
+ghost use Rattle.hm_outcomes.specs.Outcomes.{IsGood, verdict_of};
 ghost use Rattle.hm_store.specs.Builds.{IsAllSettled, IsLegal, IsNew, Settles, after_claim, after_stop, interface_at, kept_at, state_of, status_by};
 ghost use Rattle.hm_store.specs.Objects.{reply_of, status_at};
 ghost use Rattle.hm_store.specs.Plans.{AreDependents};
@@ -12,8 +12,8 @@ ghost use Rattle.hm_store.specs.declared.object.Claimed.TheVariants.{Done};
 ghost use Rattle.hm_store.specs.declared.object.Entry.TheVariants.{Fail, Publish};
 
 use crate::object::{Claimed, Entry, Refusal, Status};
-use hm_check::{Outcome, Verdict};
 use hm_graph::Plan;
+use hm_outcomes::{Outcome, Verdict};
 use hm_syntax::Module;
 use hm_types::Interface;
 use readiness::{reply_at, skip_all, status_at};

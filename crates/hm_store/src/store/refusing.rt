@@ -5,8 +5,8 @@ ghost use Rattle.hm_store.specs.Builds.{IsOf, Refuses, interface_at};
 
 use super::Store;
 use crate::object::{Refusal, Status};
-use hm_check::Outcome;
 use hm_equal::is_same_module;
+use hm_outcomes::Outcome;
 use hm_syntax::Module;
 use hm_types::Interface;
 use std::sync::Arc;

@@ -1,0 +1,95 @@
+//! What a checked module came to.
+
+ghost use Rattle.std.specs.Prelude.{◌≡◌, ◌∷◌, ◌↔◌, IsTrue, map};
+ghost use Rattle.std.specs.Arc.{arc_value};
+ghost use Rattle.hm_types.specs.StandardPrelude.{prelude_interface};
+ghost use Rattle.hm_verdicts.specs.ModuleVerdicts.{IsVerdict};
+ghost use Rattle.hm_outcomes.specs.Outcomes.{IsGood, verdict_of};
+
+use hm_names::Fault;
+use hm_syntax::{Module, Row};
+use hm_types::Interface;
+use std::marker::Model;
+use std::sync::Arc;
+
+/// The verdict of a module for the interfaces of its imports.
+#[derive(Drop)]
+pub enum Verdict {
+    /// It is well-formed and typed, and this is its interface.
+    Good(Arc<Interface>),
+    /// Its faults, at least one: those of the first phase that has any, or of its units without a type.
+    Faulty(Row<Fault>),
+}
+
+/// A module, the interfaces of its imports, and its verdict for Prelude's interface and these.
+#[derive(Drop)]
+pub struct Outcome {
+    module: Arc<Module>,
+    imports: Row<Arc<Interface>>,
+    verdict: Verdict,
+}
+
+impl Model for Outcome {
+    ghost use Rattle.std.specs.Prelude.{◌∷◌, map};
+    ghost use Rattle.std.specs.Coded.{codes};
+    ghost use Rattle.hm_syntax.specs.Codes.{coded_declaration};
+    ghost use Rattle.hm_types.specs.Interfaces.{coded_exports};
+    ghost use Rattle.std.specs.Arc.{arc_value};
+    ghost use Rattle.hm_types.specs.StandardPrelude.{prelude_interface};
+    ghost use Rattle.hm_verdicts.specs.ModuleVerdicts.{IsVerdict};
+    ghost use Rattle.hm_outcomes.specs.Outcomes.{Checked, verdict_of};
+
+    ghost Value = { Checked };
+
+    ghost coded = { Prim.hlevel (codes, coded_declaration, coded_exports) };
+
+    ghost view = { λ o. record { «module» = arc_value o.«module»; imports = map arc_value o.imports; verdict = verdict_of o.verdict } };
+
+    ghost invariant = { λ o. IsVerdict (arc_value o.«module») (prelude_interface ∷ map arc_value o.imports) (verdict_of o.verdict) };
+}
+
+impl Outcome {
+    /// The outcome of a module with its verdict.
+    pub fn new(module: Arc<Module>, imports: Row<Arc<Interface>>, verdict: Verdict) -> Outcome
+        requires { IsVerdict (arc_value «module») (prelude_interface ∷ map arc_value imports) (verdict_of verdict) }
+        ensures { result ≡ record { «module» = arc_value «module»; imports = map arc_value imports; verdict = verdict_of verdict } }
+    {
+        Outcome {
+            module,
+            imports,
+            verdict,
+        }
+    }
+
+    /// The module that was checked.
+    pub fn module(&self) -> &Arc<Module>
+        ensures { arc_value result.now ≡ self.now.«module» }
+    {
+        &self.module
+    }
+
+    /// The interfaces of its imports, Prelude's left out, in order of first import.
+    pub fn imports(&self) -> &[Arc<Interface>]
+        ensures { map arc_value result.now ≡ self.now.imports }
+    {
+        self.imports.as_slice()
+    }
+
+    /// The verdict.
+    pub fn verdict(&self) -> &Verdict
+        ensures value { verdict_of result.now ≡ self.now.verdict }
+        ensures right { IsVerdict self.now.«module» (prelude_interface ∷ self.now.imports) self.now.verdict }
+    {
+        &self.verdict
+    }
+
+    /// Whether the module is good.
+    pub fn is_good(&self) -> bool
+        ensures { IsTrue result ↔ IsGood self.now.verdict }
+    {
+        match &self.verdict {
+            Verdict::Good(_) => true,
+            Verdict::Faulty(_) => false,
+        }
+    }
+}
