@@ -5,20 +5,10 @@ use Rattle.hm_types.specs.Types.{Var, App, done, more, In, InArgs}
 use Rattle.hm_types.specs.Monotypes.{Leaf, Mono, Monos, var, rigid}
 use Rattle.hm_types.specs.Schemes.{is_among, place}
 use Rattle.hm_types.proofs.Substitution.{bool_cases}
-use Rattle.hm_typing.specs.Schemes.{Monotype}
-use Rattle.hm_typing.specs.Assumptions.{FreeIn, assumptions_put}
 use Rattle.hm_typing.proofs.Types.{In-put}
-use Rattle.hm_typing.proofs.Principal.{assumptions_put_closed}
 use Rattle.hm_unify.specs.WellFormed.{IsWellFormed, AreWellFormed}
-use Rattle.hm_expressions.specs.declared.collecting.Collected.{Collected}
-use Rattle.hm_expressions.specs.Collected.{has_leaf}
 use Rattle.hm_expressions.specs.Generalised.{IsClosing, closing}
-use Rattle.hm_expressions.specs.Generalisations.{Keeps}
-use Rattle.hm_expressions.specs.Environments.{Assumed, AreAssumed, assumptions}
-use Rattle.hm_expressions.specs.Problems.{number}
 use Rattle.hm_expressions.proofs.CanonicalSchemes.{index}
-use Rattle.hm_expressions.proofs.Closing.{assumed_part}
-use Rattle.hm_expressions.proofs.PrincipalLists.{closed_assumptions}
 
 -- A type whose variables are below a number
 
@@ -45,7 +35,7 @@ among_place n (x ∷ xs) h = go (λ k. among_place n xs k) (n == x) h
     go f true k = omega arith
     go f false k = let r = f k in omega arith
 
-slot_below : (kept : Collected) (q : ℕ) (xs ys : List ℕ) (k : Leaf) → q ≡ length xs + length ys → has_leaf kept k ≡ false → ((n : ℕ) → k ≡ var n → is_among n xs ≡ true) → ((n : ℕ) → k ≡ rigid n → is_among n ys ≡ true) → index (closing kept q xs ys k) < q + 0
+slot_below : (kept : Leaf → Bool) (q : ℕ) (xs ys : List ℕ) (k : Leaf) → q ≡ length xs + length ys → kept k ≡ false → ((n : ℕ) → k ≡ var n → is_among n xs ≡ true) → ((n : ℕ) → k ≡ rigid n → is_among n ys ≡ true) → index (closing kept q xs ys k) < q + 0
 slot_below kept q xs ys (var n) e h f g =
     let p = among_place n xs (f n refl) in
     subst (λ b. index (cond b (var (n + q)) (var (place n xs))) < q + 0) (sym h) (omega arith)
@@ -53,25 +43,8 @@ slot_below kept q xs ys (rigid n) e h f g =
     let p = among_place n ys (g n refl) in
     subst (λ b. index (cond b (rigid (n + q)) (var (place n ys + length xs))) < q + 0) (sym h) (omega arith)
 
-pub closing_alone : (kept : Collected) (t body : Mono) (q g : ℕ) → IsClosing kept t q body → IsWellFormed (q + g) body → ((l : Leaf) → has_leaf kept l ≡ false) → IsWellFormed (q + 0) body
+pub closing_alone : (kept : Leaf → Bool) (t body : Mono) (q g : ℕ) → IsClosing kept t q body → IsWellFormed (q + g) body → ((l : Leaf) → In l t → kept l ≡ false) → IsWellFormed (q + 0) body
 closing_alone kept t body q g c w none = below_given (q + g) (q + 0) body w (λ l i. at l (In-put (λ k. Var (closing kept q c.plain c.rigid k)) l t (subst (In l) c.whole i)))
   where
     at : (l : Leaf) → (k : Leaf) × In k t × In l (Var (closing kept q c.plain c.rigid k)) → index l < q + 0
-    at l h = subst (λ z. index z < q + 0) (sym h.2) (slot_below kept q c.plain c.rigid h.0 c.many (none h.0) (λ n e. c.plain_slots n (subst (λ z. In z t) e h.1)) (λ n e. c.rigid_slots n (subst (λ z. In z t) e h.1)))
-
--- Nothing is kept
-
-pub nothing_kept : (kept : Collected) (es : List Assumed) (d : ℕ) → d ≤ length es → AreAssumed 0 es → (m : ℕ → Monotype) → ((added base : List Assumed) → es ≡ added ++ base → length base ≡ d → Keeps kept (assumptions_put m (assumptions base))) → (l : Leaf) → has_leaf kept l ≡ false
-nothing_kept kept es d h a m keeps l = ⊎_elim (λ t. absurd (never t)) (λ f. f) (bool_cases (has_leaf kept l))
-  where
-    base : List Assumed
-    base = drop (length es - d) es
-
-    whole : es ≡ take (length es - d) es ++ drop (length es - d) es
-    whole = sym (take-append-drop (length es - d) es)
-
-    never : has_leaf kept l ≡ true → ⊥
-    never t =
-        let shut = closed_assumptions (drop (length es - d) es) (assumed_part 0 (take (length es - d) es) (drop (length es - d) es) (subst (AreAssumed 0) whole a)) in
-        let f = (keeps (take (length es - d) es) (drop (length es - d) es) whole (let e = length-drop (length es - d) es in omega (arith, e, h)) l).0 t in
-        shut (number l) (subst (FreeIn (number l)) (assumptions_put_closed m (assumptions (drop (length es - d) es)) shut) f)
+    at l h = subst (λ z. index z < q + 0) (sym h.2) (slot_below kept q c.plain c.rigid h.0 c.many (none h.0 h.1) (λ n e. c.plain_slots n (subst (λ z. In z t) e h.1)) (λ n e. c.rigid_slots n (subst (λ z. In z t) e h.1)))

@@ -7,16 +7,19 @@ use Rattle.hm_syntax.specs.Lists.{declarations}
 use Rattle.hm_names.specs.Syntax.{Known}
 use Rattle.hm_groups.specs.declared.members.Member.{Member}
 use Rattle.hm_groups.specs.Variables.{Variable}
+use Rattle.hm_unify.specs.Unifier.{Equation}
 use Rattle.hm_unify.specs.Solving.{Solving}
 use Rattle.hm_unify.specs.declared.faults.UnifyFault.{UnifyFault}
 use Rattle.hm_expressions.specs.Problems.{Refuses}
-use Rattle.hm_expressions.specs.Environments.{Assumed, assumptions}
+use Rattle.hm_expressions.specs.Environments.{Assumed, assumptions, AreAssumed}
+use Rattle.hm_expressions.specs.Generalisations.{KeepsNone}
+use Rattle.hm_unify.specs.Levels.{is_outer}
 use Rattle.hm_expressions.specs.GroupQuestions.{AreMembers, AreGivenTypes, MembersHave, HaveTypesOfAll}
 use Rattle.hm_expressions.specs.OpenGroups.{AreUpTo, IsOpenGroup, IsClosedGroup}
-use Rattle.hm_expressions.specs.Stages.{IsListFound, InfersGroup}
+use Rattle.hm_expressions.specs.Stages.{IsListFound, InfersGroup, ClosesGroup}
 use Rattle.hm_expressions.proofs.Outcomes.{SolvedBy}
 use Rattle.hm_expressions.proofs.GroupAnswers.{members_are}
-use Rattle.hm_expressions.proofs.GroupSteps.{refused, inferred}
+use Rattle.hm_expressions.proofs.GroupSteps.{refused, inferred, keeps, keeps_nothing}
 
 place_in : (j : ℕ) (group : List ℕ) → IsOneOf j group → (p : ℕ) × (p < length group) × (get_or group p 0 ≡ j)
 place_in j [] o = absurd o
@@ -34,10 +37,15 @@ module _ (k : Known) (decls : List Declaration) (nodes : List (Option Variable))
   infers_refused X base s2 es2 e f L finished g B s next tests assumed stage sees =
       refused k decls (length nodes) (ap length found.nodes_are) found.apart rows found.rows_are group (all_one (length nodes) group below) ms open_.members types s0.given open_.placed base es0 es1 s0 s1 open_.given refl (open_.names k (declarations decls) found.nodes_are) L finished g B s next tests assumed stage sees e f
 
-  pub infers_solved : (X : Type 0) (added base : List Assumed) (depth : ℕ) (s2 : Solving) (es2 : List Assumed) (x : X) → es0 ≡ added ++ base → length base ≡ depth → ((τ : Identifier → Monotype) → HaveTypesOfAll k decls τ types ms → SolvedBy (MembersHave k decls types τ ms (assumptions es1)) s1 s2) → IsClosedGroup nodes group types depth s2 es0 es2 → InfersGroup {X = X} k decls group base s0 es0 s2 es2 (Ok x)
-  infers_solved X added base depth s2 es2 x e l answers closed L finished g B s next tests assumed stage sees =
-      let c = closed added base e l in
-      inferred k decls (length nodes) (ap length found.nodes_are) found.apart rows found.rows_are group (all_one (length nodes) group below) ms open_.members types s0.given open_.placed base es0 es1 s0 s1 open_.given refl (open_.names k (declarations decls) found.nodes_are) L finished g B s next tests assumed stage sees s2 answers c.0 es2 (c.1 k (declarations decls) found.nodes_are)
+  pub infers_solved : (X : Type 0) (added base : List Assumed) (s2 : Solving) (es2 : List Assumed) (x : X) → es0 ≡ added ++ base → ((τ : Identifier → Monotype) → HaveTypesOfAll k decls τ types ms → SolvedBy (MembersHave k decls types τ ms (assumptions es1)) s1 s2) → IsClosedGroup nodes group types s0.given s2 es0 es2 → InfersGroup {X = X} k decls group base s0 es0 s2 es2 (Ok x)
+  infers_solved X added base s2 es2 x e answers c L finished g B s next tests assumed stage sees =
+      inferred k decls (length nodes) (ap length found.nodes_are) found.apart rows found.rows_are group (all_one (length nodes) group below) ms open_.members types s0.given open_.placed base es0 es1 s0 s1 open_.given refl (open_.names k (declarations decls) found.nodes_are) L finished g B s next tests assumed stage sees s2 answers c.0 es2
+      (c.1.1 k (declarations decls) found.nodes_are (assumptions base)
+      (keeps k decls (length nodes) (ap length found.nodes_are) found.apart rows found.rows_are group (all_one (length nodes) group below) ms open_.members types s0.given open_.placed base es0 es1 s0 s1 open_.given refl (open_.names k (declarations decls) found.nodes_are) L finished g B s next tests assumed stage sees s2 answers c.0 c.1.0))
+
+  pub closes_group : (base : List Assumed) (s2 : Solving) (es2 : List Assumed) → ((τ : Identifier → Monotype) → HaveTypesOfAll k decls τ types ms → SolvedBy (MembersHave k decls types τ ms (assumptions es1)) s1 s2) → IsClosedGroup nodes group types s0.given s2 es0 es2 → (KeepsNone (is_outer s2.equations s0.given) s2.equations types group → AreAssumed 0 es0 → AreAssumed 0 es2) → ClosesGroup k decls group base s0 es0 es2
+  closes_group base s2 es2 answers c alone L finished g B s next tests assumed stage sees shut =
+      alone (keeps_nothing k decls (length nodes) (ap length found.nodes_are) found.apart rows found.rows_are group (all_one (length nodes) group below) ms open_.members types s0.given open_.placed base es0 es1 s0 s1 open_.given refl (open_.names k (declarations decls) found.nodes_are) L finished g B s next tests assumed stage sees s2 answers c.0 c.1.0 shut)
 
 pub infers_passed : (X : Type 0) (k : Known) (decls : List Declaration) (group : List ℕ) (base : List Assumed) (s0 : Solving) (es0 : List Assumed) (s2 : Solving) (es2 : List Assumed) (outcome : Result X UnifyFault) (e : UnifyFault) → IsErrAnd outcome (λ y. y ≡ e) → InfersGroup {X = X} k decls group base s0 es0 s2 es2 (Err e) → InfersGroup {X = X} k decls group base s0 es0 s2 es2 outcome
 infers_passed X k decls group base s0 es0 s2 es2 (Ok x) e i f = absurd i
@@ -45,3 +53,7 @@ infers_passed X k decls group base s0 es0 s2 es2 (Err y) e i f = subst (λ z. In
 
 pub given_up_to : (g : ℕ) (types : List ℕ) → AreGivenTypes g types → AreUpTo g types
 given_up_to g types a j l = let h = a j l in omega arith
+
+-- the first variables of a solver: none is older
+pub none_older : (n : ℕ) (es : List Equation) (types nodes : List ℕ) → n ≡ 0 → KeepsNone (is_outer es n) es types nodes
+none_older n es types nodes e j o l i = ap (λ k. is_outer es k l) e

@@ -1,10 +1,10 @@
 -- A group of a list is inferred: from one stage to the next.
-use Rattle.std.proofs.Common.{◌≡◌, ℕ, ◌<◌, ◌||◌, List, length, get_or, Bool, true, false, inl, inr, ◌⊎◌, ⊎_elim, ◌↔◌, refl, sym, ap, ◌∙◌, subst, true≢false}
+use Rattle.std.proofs.Common.{◌≡◌, ℕ, ◌+◌, ◌<◌, ◌||◌, List, length, get_or, Bool, true, false, inl, inr, ◌⊎◌, ⊎_elim, ◌↔◌, refl, sym, ap, ◌∙◌, subst, arith, true≢false}
 use Rattle.std.specs.Bool.{Decides}
-use Rattle.hm_types.specs.Types.{put}
+use Rattle.hm_types.specs.Types.{Var, App, put}
 use Rattle.hm_typing.specs.Names.{Identifier, IsOneOf}
 use Rattle.hm_typing.specs.Schemes.{Monotype, Scheme, IsInstance, scheme_put, monomorphic}
-use Rattle.hm_typing.specs.Assumptions.{Assumptions, Has, assumptions_put}
+use Rattle.hm_typing.specs.Assumptions.{Assumptions, FreeIn, Has, assumptions_put}
 use Rattle.hm_typing.specs.Generalisation.{quantify}
 use Rattle.hm_typing.specs.Syntax.{Bindings, names}
 use Rattle.hm_typing.specs.Units.{IsSigned}
@@ -21,6 +21,9 @@ use Rattle.hm_groups.specs.Nodes.{list_nodes}
 use Rattle.hm_groups.specs.Groups.{node_name}
 use Rattle.hm_groups.specs.Members.{AreRows}
 use Rattle.hm_groups.specs.GroupMembers.{AreMembersOf}
+use Rattle.hm_typing.proofs.Principal.{assumptions_put_closed}
+use Rattle.hm_unify.specs.Bindings.{solution}
+use Rattle.hm_unify.specs.Levels.{is_outer}
 use Rattle.hm_unify.specs.Solving.{Solving}
 use Rattle.hm_unify.specs.declared.faults.UnifyFault.{UnifyFault}
 use Rattle.hm_expressions.specs.Problems.{problem, bound, Refuses, given_more}
@@ -28,12 +31,20 @@ use Rattle.hm_expressions.specs.Environments.{Assumed, assumptions, AreAssumed}
 use Rattle.hm_expressions.specs.Lists.{IsWritten, RefusesList}
 use Rattle.hm_expressions.specs.GroupQuestions.{type_at, MembersHave, HaveTypesOfAll}
 use Rattle.hm_expressions.specs.BoundNames.{Binds, BindsTypes, BindsSchemes, Sees, names_at, ArePlaced}
+use Rattle.hm_expressions.specs.Generalisations.{IsSolution, KeepsEach, KeepsNone}
 use Rattle.hm_expressions.specs.Stages.{IsStage, list_of, AreApart}
 use Rattle.hm_expressions.proofs.Outcomes.{SolvedBy, solved_same, pass_on}
 use Rattle.hm_expressions.proofs.Derived.{assumed_below}
+use Rattle.hm_expressions.proofs.OuterVariables.{keeps_outer, keeps_none}
+use Rattle.hm_expressions.proofs.PrincipalLists.{closed_assumptions}
+use Rattle.hm_expressions.proofs.States.{more_rest}
 use Rattle.hm_expressions.proofs.Steps.{variable_at, made}
 use Rattle.hm_expressions.proofs.Stages.{stage_group, stage_refused}
 use Rattle.hm_expressions.proofs.GroupAnswers.{place_among, all_placed, type_is, types_are, question_to, question_from, in_names}
+
+abbrev number_in : Monotype → ℕ
+number_in (Var a) = a
+number_in (App h ts) = 0
 
 bool_cases : (b : Bool) → (b ≡ true) ⊎ (b ≡ false)
 bool_cases true = inl refl
@@ -97,7 +108,7 @@ module _ (k : Known) (decls : List Declaration) (n : ℕ) (long : n ≡ length (
         (pass_on {P = GroupQ g (names (list_of k decls)) (assumptions base) B (variable_at s0.given (place_among k (declarations decls) types first group)) (list_of k decls)} {Q = MembersHave k decls types (variable_at first (place_among k (declarations decls) types first group)) ms (assumptions es1)} (given_more s0 (length group)) (given_more s0 (length group)) e
         (λ r u p. (r, u, from r p)) (subst (λ z. Refuses (MembersHave k decls types (variable_at first (place_among k (declarations decls) types first group)) ms (assumptions es1)) z e) given (n_ _ typed_all)))
 
-    module _ (s1 : Solving) (answers : (ρ : Identifier → Monotype) → HaveTypesOfAll k decls ρ types ms → SolvedBy (MembersHave k decls types ρ ms (assumptions es1)) s0' s1) (m : MostGeneralUnifier (problem s1)) (es2 : List Assumed) (bound_schemes : BindsSchemes k (declarations decls) types m.map (assumptions base) group es0 es2) where
+    module _ (s1 : Solving) (answers : (ρ : Identifier → Monotype) → HaveTypesOfAll k decls ρ types ms → SolvedBy (MembersHave k decls types ρ ms (assumptions es1)) s0' s1) (m : MostGeneralUnifier (problem s1)) where
       solved : SolvedBy (GroupQ g (names (list_of k decls)) (assumptions base) B (variable_at s0.given (place_among k (declarations decls) types first group)) (list_of k decls)) (given_more s0 (length group)) s1
       solved = subst (λ z. SolvedBy (GroupQ g (names (list_of k decls)) (assumptions base) B (variable_at s0.given (place_among k (declarations decls) types first group)) (list_of k decls)) z s1) given
           (solved_same {P = MembersHave k decls types (variable_at first (place_among k (declarations decls) types first group)) ms (assumptions es1)} {Q = GroupQ g (names (list_of k decls)) (assumptions base) B (variable_at s0.given (place_among k (declarations decls) types first group)) (list_of k decls)} s0' s1 to from (answers _ typed_all))
@@ -110,12 +121,29 @@ module _ (k : Known) (decls : List Declaration) (n : ℕ) (long : n ≡ length (
           cond_true (g (node_name k (declarations decls) j)) _ _ ((tests (node_name k (declarations decls) j)).1 (in_names k (declarations decls) group j o))
           ∙ ap (λ t. quantify (assumptions_put m.map (assumptions base)) (put m.map t)) (ap (λ f. variable_at f (place_among k (declarations decls) types first group) (node_name k (declarations decls) j)) (sym starts) ∙ type_is k decls n long apart rows are_rows group numbers ms are_members types first are_placed j o)
 
-      pub inferred : (C : Identifier → Scheme) × (IsStage (list_of k decls) L (assumptions base) (λ y. finished y || g y) C s s1 × Sees (list_of k decls) (assumptions base) (λ y. finished y || g y) C es2)
-      inferred = (
-        made g (assumptions base) s0.given (place_among k (declarations decls) types first group) B s1 m,
-        (
-          stage_group (list_of k decls) L (assumptions base) finished g next B s s0 low stage (length group) (place_among k (declarations decls) types first group) (λ p. node_name k (declarations decls) (get_or group p 0)) placing s1 solved m,
-          sees_after (list_of k decls) L (assumptions base) finished g next (names_at k (declarations decls) group) tests B (made g (assumptions base) s0.given (place_among k (declarations decls) types first group) B s1 m) es0 es2 (λ y e. cond_false (g y) _ _ e) sees
-              (bound_schemes (made g (assumptions base) s0.given (place_among k (declarations decls) types first group) B s1 m) schemes_are),
-        ),
-      )
+      -- of the variables of the group's types those are outer that are free in what is assumed outside the list
+      pub keeps : IsSolution s1.equations m.map → KeepsEach (is_outer s1.equations s0.given) s1.equations types group (assumptions_put m.map (assumptions base))
+      keeps sol j o =
+          let y = node_name k (declarations decls) j in
+          let gy : g (node_name k (declarations decls) j) ≡ true = (tests (node_name k (declarations decls) j)).1 (in_names k (declarations decls) group j o) in
+          let is : variable_at first (place_among k (declarations decls) types first group) (node_name k (declarations decls) j) ≡ type_at types j = type_is k decls n long apart rows are_rows group numbers ms are_members types first are_placed j o in
+          let twice : (first + place_among k (declarations decls) types first group (node_name k (declarations decls) j)) + (first + place_among k (declarations decls) types first group (node_name k (declarations decls) j)) ≡ get_or types j 0 + get_or types j 0 = ap number_in is in
+          let at : s0.given + place_among k (declarations decls) types first group (node_name k (declarations decls) j) ≡ get_or types j 0 = omega (arith, twice, starts) in
+          keeps_outer (list_of k decls) g (assumptions base) B s0 (length group) (place_among k (declarations decls) types first group) stage.below (λ a f. let l = low a f in let h = stage.grows in omega arith) stage.schemes.below s1 solved m
+          (λ y a i. stage.schemes.inner m.map (more_rest s0 (length group) m.map (solved.sound m.map m.unifies).0) y a i) sol (node_name k (declarations decls) j) (get_or types j 0) (placing (node_name k (declarations decls) j) gy).0 at
+
+      pub keeps_nothing : IsSolution s1.equations m.map → AreAssumed 0 base → KeepsNone (is_outer s1.equations s0.given) s1.equations types group
+      keeps_nothing sol closed j o l i =
+          keeps_none (is_outer s1.equations s0.given) (solution s1.equations (get_or types j 0)) (assumptions_put m.map (assumptions base)) (keeps sol j o)
+          (λ a f. let shut = closed_assumptions base closed in shut a (subst (FreeIn a) (assumptions_put_closed m.map (assumptions base) shut) f)) l i
+
+      module _ (es2 : List Assumed) (bound_schemes : BindsSchemes k (declarations decls) types m.map (assumptions base) group es0 es2) where
+        pub inferred : (C : Identifier → Scheme) × (IsStage (list_of k decls) L (assumptions base) (λ y. finished y || g y) C s s1 × Sees (list_of k decls) (assumptions base) (λ y. finished y || g y) C es2)
+        inferred = (
+          made g (assumptions base) s0.given (place_among k (declarations decls) types first group) B s1 m,
+          (
+            stage_group (list_of k decls) L (assumptions base) finished g next B s s0 low stage (length group) (place_among k (declarations decls) types first group) (λ p. node_name k (declarations decls) (get_or group p 0)) placing s1 solved m,
+            sees_after (list_of k decls) L (assumptions base) finished g next (names_at k (declarations decls) group) tests B (made g (assumptions base) s0.given (place_among k (declarations decls) types first group) B s1 m) es0 es2 (λ y e. cond_false (g y) _ _ e) sees
+                (bound_schemes (made g (assumptions base) s0.given (place_among k (declarations decls) types first group) B s1 m) schemes_are),
+          ),
+        )

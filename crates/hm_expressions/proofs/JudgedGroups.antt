@@ -1,7 +1,7 @@
 -- A group that is judged by itself: its members' answer is its principal schemes, or that it has no types.
 use Rattle.std.proofs.Common.{◌≡◌, ℕ, ◌+◌, ◌<◌, List, [], ◌++◌, length, get_or, All, Bool, true, false, cond, Option, Result, Ok, Err, IsErrAnd, inl, inr, ◌⊎◌, refl, sym, ap, ◌∙◌, subst, arith}
 use Rattle.std.specs.Bool.{Decides}
-use Rattle.hm_types.specs.Types.{Var, put}
+use Rattle.hm_types.specs.Types.{Var, App, In, put}
 use Rattle.hm_types.specs.Monotypes.{var}
 use Rattle.hm_typing.specs.Names.{Identifier, IsOneOf}
 use Rattle.hm_typing.specs.Schemes.{Monotype, Scheme, Free, Quantified, instance, IsInstance, monomorphic}
@@ -24,6 +24,7 @@ use Rattle.hm_groups.specs.declared.members.Member.{Member}
 use Rattle.hm_groups.specs.Nodes.{list_nodes}
 use Rattle.hm_groups.specs.Groups.{node_name}
 use Rattle.hm_groups.specs.Variables.{Variable}
+use Rattle.hm_unify.specs.Levels.{is_outer}
 use Rattle.hm_unify.specs.Solving.{Solving}
 use Rattle.hm_unify.specs.WellFormed.{EquationsAreWellFormed}
 use Rattle.hm_unify.specs.declared.faults.UnifyFault.{UnifyFault}
@@ -31,6 +32,7 @@ use Rattle.hm_unify.specs.declared.faults.UnifyFault.TheVariants.{Clash, Memory}
 use Rattle.hm_expressions.specs.Problems.{number, problem, bound, equal_facts, Refuses, given_more}
 use Rattle.hm_expressions.specs.Environments.{Assumed, AreAssumed, assumptions}
 use Rattle.hm_expressions.specs.BoundNames.{Binds, BindsSchemes, Sees, names_at}
+use Rattle.hm_expressions.specs.Generalisations.{IsSolution, KeepsEach}
 use Rattle.hm_expressions.specs.GroupQuestions.{type_at, MembersHave, HaveTypesOfAll}
 use Rattle.hm_expressions.specs.JudgedGroups.{AfterJudged, JudgesGroup}
 use Rattle.hm_expressions.specs.OpenGroups.{IsOpenGroup, IsClosedGroup}
@@ -38,10 +40,15 @@ use Rattle.hm_expressions.specs.Stages.{list_of, IsListFound}
 use Rattle.hm_expressions.proofs.GroupAnswers.{place_among, all_placed, type_is, types_are, question_to, question_from, in_names}
 use Rattle.hm_expressions.proofs.GroupEnds.{all_one}
 use Rattle.hm_expressions.proofs.GroupSteps.{sees_after}
+use Rattle.hm_expressions.proofs.OuterVariables.{keeps_outer}
 use Rattle.hm_expressions.proofs.Outcomes.{SolvedBy, solved_same}
 use Rattle.hm_expressions.proofs.PrincipalLists.{closed_assumptions}
 use Rattle.hm_expressions.proofs.States.{guess, guess_new, guess_unifies, problem_below, rigid_unify}
 use Rattle.hm_expressions.proofs.Steps.{GroupHas-in, variable_at}
+
+abbrev number_in : Monotype → ℕ
+number_in (Var a) = a
+number_in (App h ts) = 0
 
 bool_cases : (b : Bool) → (b ≡ true) ⊎ (b ≡ false)
 bool_cases true = inl refl
@@ -138,7 +145,7 @@ module _ (k : Known) (decls : List Declaration) (nodes : List (Option Variable))
         (subst (λ z. Unifies (guess s0.given Var (λ i. τ (node_name k (declarations decls) (get_or group i 0)))) (problem z)) (sym given) (guessed_unifies (list_of k decls) L (assumptions base) shut status g next B shutB s0 empty (length group) (place_among k (declarations decls) types s0.given group) (λ p. node_name k (declarations decls) (get_or group p 0)) placing τ))
         (from _ (asked (list_of k decls) L (assumptions base) shut status g next B shutB s0 empty (length group) (place_among k (declarations decls) types s0.given group) (λ p. node_name k (declarations decls) (get_or group p 0)) placing τ h))
 
-    module _ (s2 : Solving) (es2 : List Assumed) (answers : (ρ : Identifier → Monotype) → HaveTypesOfAll k decls ρ types ms → SolvedBy (MembersHave k decls types ρ ms (assumptions es1)) s1 s2) (m : MostGeneralUnifier (problem s2)) (bound_schemes : BindsSchemes k (declarations decls) types m.map (assumptions base) group es0 es2) where
+    module _ (s2 : Solving) (answers : (ρ : Identifier → Monotype) → HaveTypesOfAll k decls ρ types ms → SolvedBy (MembersHave k decls types ρ ms (assumptions es1)) s1 s2) (m : MostGeneralUnifier (problem s2)) where
       solved : SolvedBy (GroupQ g (names (list_of k decls)) (assumptions base) B (variable_at s0.given (place_among k (declarations decls) types s0.given group)) (list_of k decls)) (given_more s0 (length group)) s2
       solved = subst (λ z. SolvedBy (GroupQ g (names (list_of k decls)) (assumptions base) B (variable_at s0.given (place_among k (declarations decls) types s0.given group)) (list_of k decls)) z s2) given
           (solved_same {P = MembersHave k decls types (variable_at s0.given (place_among k (declarations decls) types s0.given group)) ms (assumptions es1)} {Q = GroupQ g (names (list_of k decls)) (assumptions base) B (variable_at s0.given (place_among k (declarations decls) types s0.given group)) (list_of k decls)} s1 s2 to from (answers _ typed_all))
@@ -155,20 +162,30 @@ module _ (k : Known) (decls : List Declaration) (nodes : List (Option Variable))
           ∙ (ap (λ A. quantify A (put m.map (variable_at s0.given (place_among k (declarations decls) types s0.given group) (node_name k (declarations decls) j)))) (sym (assumptions_put_closed m.map (assumptions base) shut))
           ∙ ap (λ u. quantify (assumptions_put m.map (assumptions base)) (put m.map u)) (type_is k decls (length nodes) long found.apart rows found.rows_are group (all_one (length nodes) group below) ms open_.members types s0.given open_.placed j o)))
 
-      judged_at : (X : Type 0) (x : X) → AfterJudged {X = X} (list_of k decls) (assumptions base) status g B es2 (Ok x)
-      judged_at X x = (
-        t,
-        sees_after (list_of k decls) L (assumptions base) status g next (names_at k (declarations decls) group) tests B (λ y. cond (g y) (t.schemes y) (B y)) es0 es2 (λ y e. cond_false (g y) _ _ e) sees
-            (bound_schemes (λ y. cond (g y) (t.schemes y) (B y)) schemes_are),
-      )
+      keeps : IsSolution s2.equations m.map → KeepsEach (is_outer s2.equations s0.given) s2.equations types group (assumptions_put m.map (assumptions base))
+      keeps sol j o =
+          let gy : g (node_name k (declarations decls) j) ≡ true = (tests (node_name k (declarations decls) j)).1 (in_names k (declarations decls) group j o) in
+          let twice : (s0.given + place_among k (declarations decls) types s0.given group (node_name k (declarations decls) j)) + (s0.given + place_among k (declarations decls) types s0.given group (node_name k (declarations decls) j)) ≡ get_or types j 0 + get_or types j 0 =
+          ap number_in (type_is k decls (length nodes) long found.apart rows found.rows_are group (all_one (length nodes) group below) ms open_.members types s0.given open_.placed j o) in
+          let at : s0.given + place_among k (declarations decls) types s0.given group (node_name k (declarations decls) j) ≡ get_or types j 0 = omega (arith, twice) in
+          keeps_outer (list_of k decls) g (assumptions base) B s0 (length group) (place_among k (declarations decls) types s0.given group) (no_facts s0 empty) (λ a f. absurd (shut a f)) (λ y a i. absurd (shutB y a i)) s2 solved m
+          (λ y a i. absurd (shutB y a (subst (λ σ. In (Free a) σ) (ap (λ f. f y) (over_closed m.map B shutB)) i))) sol (node_name k (declarations decls) j) (get_or types j 0) (placing (node_name k (declarations decls) j) gy).0 at
+
+      module _ (es2 : List Assumed) (bound_schemes : BindsSchemes k (declarations decls) types m.map (assumptions base) group es0 es2) where
+        judged_at : (X : Type 0) (x : X) → AfterJudged {X = X} (list_of k decls) (assumptions base) status g B es2 (Ok x)
+        judged_at X x = (
+          t,
+          sees_after (list_of k decls) L (assumptions base) status g next (names_at k (declarations decls) group) tests B (λ y. cond (g y) (t.schemes y) (B y)) es0 es2 (λ y e. cond_false (g y) _ _ e) sees
+              (bound_schemes (λ y. cond (g y) (t.schemes y) (B y)) schemes_are),
+        )
 
   pub judges_refused : (X : Type 0) (s2 : Solving) (es2 : List Assumed) (e : UnifyFault) → ((τ : Identifier → Monotype) → HaveTypesOfAll k decls τ types ms → Refuses (MembersHave k decls types τ ms (assumptions es1)) s1 e) → JudgesGroup {X = X} k decls group base s0 es0 es2 (Err e)
   judges_refused X s2 es2 e n L status g B empty next tests closed shutB sees = refused_at L status g B empty next tests closed shutB sees X es2 e n
 
-  pub judges_solved : (X : Type 0) (added : List Assumed) (depth : ℕ) (s2 : Solving) (es2 : List Assumed) (x : X) → es0 ≡ added ++ base → length base ≡ depth → ((τ : Identifier → Monotype) → HaveTypesOfAll k decls τ types ms → SolvedBy (MembersHave k decls types τ ms (assumptions es1)) s1 s2) → IsClosedGroup nodes group types depth s2 es0 es2 → JudgesGroup {X = X} k decls group base s0 es0 es2 (Ok x)
-  judges_solved X added depth s2 es2 x e l answers closes L status g B empty next tests closed shutB sees =
-      let c = closes added base e l in
-      judged_at L status g B empty next tests closed shutB sees s2 es2 answers c.0 (c.1 k (declarations decls) found.nodes_are) X x
+  pub judges_solved : (X : Type 0) (added : List Assumed) (s2 : Solving) (es2 : List Assumed) (x : X) → es0 ≡ added ++ base → ((τ : Identifier → Monotype) → HaveTypesOfAll k decls τ types ms → SolvedBy (MembersHave k decls types τ ms (assumptions es1)) s1 s2) → IsClosedGroup nodes group types s0.given s2 es0 es2 → JudgesGroup {X = X} k decls group base s0 es0 es2 (Ok x)
+  judges_solved X added s2 es2 x e answers c L status g B empty next tests closed shutB sees =
+      judged_at L status g B empty next tests closed shutB sees s2 answers c.0 es2
+      (c.1.1 k (declarations decls) found.nodes_are (assumptions base) (keeps L status g B empty next tests closed shutB sees s2 answers c.0 c.1.0)) X x
 
 pub judges_passed : (X : Type 0) (k : Known) (decls : List Declaration) (group : List ℕ) (base : List Assumed) (s0 : Solving) (es0 es2 : List Assumed) (outcome : Result X UnifyFault) (e : UnifyFault) → IsErrAnd outcome (λ y. y ≡ e) → JudgesGroup {X = X} k decls group base s0 es0 es2 (Err e) → JudgesGroup {X = X} k decls group base s0 es0 es2 outcome
 judges_passed X k decls group base s0 es0 es2 (Ok x) e i f = absurd i

@@ -43,4 +43,4 @@ pub mod CanonicalSchemes
 pub mod ClosedGroups
 pub mod JudgedGroups
 pub mod Referring
-pub mod ClosedRuns
+pub mod OuterVariables

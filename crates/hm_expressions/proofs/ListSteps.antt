@@ -4,7 +4,7 @@ use Rattle.std.proofs.Common.{◌≡◌, ◌==◌, ℕ, zero, suc, ◌+◌, ◌<
 use Rattle.std.proofs.lemmas.List.{length-map, take_all, get_or_default}
 use Rattle.hm_graph.specs.Digraph.{lists}
 use Rattle.hm_graph.proofs.Rows.{row_at}
-use Rattle.hm_expressions.proofs.Naming.{extended}
+use Rattle.hm_expressions.proofs.Naming.{extended, in_place}
 use Rattle.hm_typing.specs.Names.{Identifier, IsOneOf, IsDistinct}
 use Rattle.hm_typing.specs.Schemes.{Scheme}
 use Rattle.hm_typing.specs.Assumptions.{Assumptions, Has, assumptions_put, bind_all}
@@ -25,7 +25,7 @@ use Rattle.hm_expressions.specs.Environments.{Assumed, assumptions, AreAssumed}
 use Rattle.hm_expressions.specs.Lists.{AreAlike, RefusesList, Listed}
 use Rattle.hm_expressions.specs.BoundNames.{Extends, Sees}
 use Rattle.hm_expressions.specs.OpenGroups.{AreUpTo}
-use Rattle.hm_expressions.specs.Stages.{IsStage, list_of, InfersGroup}
+use Rattle.hm_expressions.specs.Stages.{IsStage, list_of, ClosesGroup, InfersGroup}
 
 -- the groups from i on are left
 pub record ListStage (k : Known) (decls : List Declaration) (gs : List (List ℕ)) (i : ℕ) (s0 : Solving) (es0 : List Assumed) (s : Solving) (es : List Assumed) : Type 0 where
@@ -71,6 +71,14 @@ list_refused X k decls gs i group s0 s s1 es0 es es1 x l e a st infers = at st.t
     at [] f o = absurd f
     at (g ∷ tests) f o = infers st.layout st.finished g st.schemes s0 o.0 f.0 a st.stage st.sees
 
+-- and nothing is free after it where nothing was
+pub list_closed : (k : Known) (decls : List Declaration) (gs : List (List ℕ)) (i : ℕ) (group : List ℕ) (s0 s : Solving) (es0 es es1 : List Assumed) → i < length gs → group ≡ get_or gs i group → AreAssumed s0.given es0 → ListStage k decls gs i s0 es0 s es → ClosesGroup k decls group es0 s es es1 → AreAssumed 0 es0 → AreAssumed 0 es → AreAssumed 0 es1
+list_closed k decls gs i group s0 s es0 es es1 l e a st closes = at st.tests (subst (λ z. AreTestsOf st.tests (map (map (node_name k (declarations decls))) z)) (drop_more gs i group l e) st.tests_are) st.order
+  where
+    at : (tests : List (Identifier → Bool)) → AreTestsOf tests (map (node_name k (declarations decls)) group ∷ map (map (node_name k (declarations decls))) (drop (i + 1) gs)) → IsOrder (list_of k decls) st.layout.own st.finished tests → AreAssumed 0 es0 → AreAssumed 0 es → AreAssumed 0 es1
+    at [] f o = absurd f
+    at (g ∷ tests) f o = closes st.layout st.finished g st.schemes s0 o.0 f.0 a st.stage st.sees
+
 -- the end
 
 pub alike : (ds : Bindings) (A : Assumptions) (finished : Identifier → Bool) (B : Identifier → Scheme) (es : List Assumed) → ((x : Identifier) → IsUnsigned x ds → finished x ≡ true) → Sees ds A finished B es → AreAlike (assumptions es) (bind_all (names ds) B A)
@@ -103,11 +111,6 @@ numbered_at : (ds : Bindings) (name : ℕ → Identifier) (n : ℕ) (before : Li
 numbered_at ds name n before [] i group o l e = absurd (omega arith)
 numbered_at ds name n before (g ∷ gs) zero group o l e = (before, subst (NumberedGroup ds name n before) (sym e) o.0)
 numbered_at ds name n before (g ∷ gs) (suc i) group o l e = numbered_at ds name n (before ++ g) gs i group o.1 (omega arith) e
-
-in_place : (xs : List ℕ) (i d : ℕ) → i < length xs → IsOneOf (get_or xs i d) xs
-in_place [] i d l = absurd (omega arith)
-in_place (x ∷ xs) zero d l = inl refl
-in_place (x ∷ xs) (suc i) d l = inr (in_place xs i d (omega arith))
 
 pub group_below : (ds : Bindings) (name : ℕ → Identifier) (n : ℕ) (gs : List (List ℕ)) (i : ℕ) (group : List ℕ) → AreNumberedGroups ds name n gs → i < length gs → group ≡ get_or gs i group → All (λ j. j < n) group
 group_below ds name n gs i group r l e = let g = numbered_at ds name n [] gs i group r.in_order l e in λ p d h. ((g.1.members (get_or group p d)).0 (in_place group p d h)).0
@@ -156,16 +159,13 @@ pub repeated_refused : (ds : Bindings) (s : Solving) (es : List Assumed) (e : Un
 repeated_refused ds s es Clash n = λ r u B d. n refl d.units.0
 repeated_refused ds s es Memory n = tt
 
-pub deep_enough : (es0 es : List Assumed) (depth : ℕ) → depth ≡ length es0 → Extends es0 es → depth ≤ length es
-deep_enough es0 es depth e x = let h = ap length x.1 in let k = length-append x.0 es0 in omega (arith, h, k, e)
-
 pub next_stage : (k : Known) (decls : List Declaration) (gs : List (List ℕ)) (n : ℕ) (i : ℕ) (types types1 group : List ℕ) (s0 s s1 : Solving) (es0 es es1 : List Assumed) → AreAssumed s0.given es0 → GroupsInferred k decls gs n types i s0 es0 s es → i < length gs → group ≡ get_or gs i group → InfersGroup {X = Unit {0}} k decls group es0 s es s1 es1 (Ok tt) →
-    length types1 ≡ n → AreUpTo s1.given types1 → AreAssumed s1.given es1 → Extends es es1 → (AreAssumed 0 es0 → AreAssumed 0 es1) → GroupsInferred k decls gs n types1 (i + 1) s0 es0 s1 es1
-next_stage k decls gs n i types types1 group s0 s s1 es0 es es1 a g l e infers sized numbers assumed added closed = record {
+    length types1 ≡ n → AreUpTo s1.given types1 → AreAssumed s1.given es1 → Extends es es1 → ClosesGroup k decls group es0 s es es1 → GroupsInferred k decls gs n types1 (i + 1) s0 es0 s1 es1
+next_stage k decls gs n i types types1 group s0 s s1 es0 es es1 a g l e infers sized numbers assumed added closes = record {
   sized = sized;
   numbers = numbers;
   assumed = assumed;
   added = extended es0 es es1 g.added added;
-  closed = closed;
+  closed = λ b. list_closed k decls gs i group s0 s es0 es es1 l e a g.stage closes b (g.closed b);
   stage = list_step (Unit {0}) k decls gs i group s0 s s1 es0 es es1 tt l e a g.stage infers;
 }

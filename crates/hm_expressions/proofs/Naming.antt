@@ -1,5 +1,5 @@
 -- The names of a group are bound, one after the other.
-use Rattle.std.proofs.Common.{◌≡◌, ℕ, zero, suc, ◌+◌, ◌<◌, ◌≤◌, List, [], ◌∷◌, ◌++◌, take, length, get_or, Option, Some, None, inl, inr, ◌⊎◌, ⊎_elim, ◌↔◌, refl, sym, ap, ◌∙◌, subst, append_assoc}
+use Rattle.std.proofs.Common.{◌≡◌, ℕ, zero, suc, ◌+◌, ◌<◌, ◌≤◌, List, [], ◌∷◌, ◌++◌, take, length, get_or, Option, Some, None, inl, inr, ◌⊎◌, ⊎_elim, ◌↔◌, refl, sym, ap, ◌∙◌, subst, append_assoc, arith}
 use Rattle.std.specs.List.{slice_get}
 use Rattle.std.proofs.lemmas.List.{take_more, take_all, map-append}
 use Rattle.hm_types.specs.Types.{Var, In, put}
@@ -190,6 +190,12 @@ pub node_bound : (k : Known) (all : Declarations) (ns : List (Option Variable)) 
 node_bound k all ns j x key s es es1 e h f g xs σ base b same =
     let y = node_variable k all ns j x e h in
     subst (λ z. Binds (xs ++ z ∷ []) σ base es1) (f ∙ sym y) (binds_more xs σ base es es1 key s b g (subst (λ z. SameInstances (scheme_in s) (σ z)) (y ∙ sym f) same))
+
+-- an element of a list of numbers
+pub in_place : (xs : List ℕ) (i d : ℕ) → i < length xs → IsOneOf (get_or xs i d) xs
+in_place [] i d l = absurd (omega arith)
+in_place (x ∷ xs) zero d l = inl refl
+in_place (x ∷ xs) (suc i) d l = inr (in_place xs i d (omega arith))
 
 pub extended : (es es1 es2 : List Assumed) → Extends es es1 → Extends es1 es2 → Extends es es2
 extended es es1 es2 a b = (b.0 ++ a.0, b.1 ∙ (ap (λ z. b.0 ++ z) a.1 ∙ sym (append_assoc b.0 a.0 es)))

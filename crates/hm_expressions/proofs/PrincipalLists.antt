@@ -79,10 +79,10 @@ inferred_list ds es es' s s' a b m =
     record { schemes = p.schemes; principal = p.principal; map = m.map; seen = λ x w t. has_principal (assumptions es) ds b.schemes s s' shut b.listed m (assumptions es') b.assumed p x w t }
 
 -- no equation was there before
-refusal : (X : Type 0) (ds : Bindings) (es es' : List Assumed) (s : Solving) (e : UnifyFault) → AreAssumed 0 es → s ≡ record { equations = []; given = 0; failed = false } → RefusesList ds s es e → Inferred {X = X} ds es es' (Err e)
+refusal : (X : Type 0) (ds : Bindings) (es es' : List Assumed) (s : Solving) (e : UnifyFault) → AreAssumed 0 es → s ≡ record { equations = []; given = 0; failed = false; opened = [] } → RefusesList ds s es e → Inferred {X = X} ds es es' (Err e)
 refusal X ds es es' s Memory a k n = tt
 refusal X ds es es' s Clash a k n = λ B h. n Var (subst (λ z. Unifies Var (problem z)) (sym k) tt) B (subst (λ C. DerivedSchemes C ds B) (sym (assumptions_put_closed Var (assumptions es) (closed_assumptions es a))) (DerivedUnits-Has ds (assumptions es) B h))
 
-pub list_refused : {X : Type 0} (ds : Bindings) (es es' : List Assumed) (s : Solving) (e : UnifyFault) (outcome : Result X UnifyFault) → AreAssumed 0 es → s ≡ record { equations = []; given = 0; failed = false } → RefusesList ds s es e → IsErrAnd outcome (λ y. y ≡ e) → Inferred ds es es' outcome
+pub list_refused : {X : Type 0} (ds : Bindings) (es es' : List Assumed) (s : Solving) (e : UnifyFault) (outcome : Result X UnifyFault) → AreAssumed 0 es → s ≡ record { equations = []; given = 0; failed = false; opened = [] } → RefusesList ds s es e → IsErrAnd outcome (λ y. y ≡ e) → Inferred ds es es' outcome
 list_refused {X} ds es es' s e (Ok x) a k n i = absurd i
 list_refused {X} ds es es' s e (Err y) a k n i = refusal X ds es es' s y a k (subst (RefusesList ds s es) (sym i) n)

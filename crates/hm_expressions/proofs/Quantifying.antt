@@ -16,11 +16,9 @@ use Rattle.hm_typing.proofs.SchemeLaws.{In_scheme_put, scheme_put_In}
 use Rattle.hm_types.specs.Substitution.{substitute, image}
 use Rattle.hm_unify.specs.Unifier.{Equation}
 use Rattle.hm_unify.specs.Bindings.{solution}
-use Rattle.hm_expressions.specs.declared.collecting.Collected.{Collected}
-use Rattle.hm_expressions.specs.Collected.{has_leaf}
 use Rattle.hm_expressions.specs.Problems.{number, monotype}
 use Rattle.hm_expressions.specs.Environments.{Assumed, OpenScheme, assumptions, scheme_in, slot}
-use Rattle.hm_expressions.specs.Generalised.{IsFreeAt, IsFreeUnder, IsFreeAmong, IsClosing, closing}
+use Rattle.hm_expressions.specs.Generalised.{IsClosing, closing}
 use Rattle.hm_expressions.specs.Generalisations.{IsGeneralisation, IsSolution, Keeps, renumbered}
 use Rattle.hm_expressions.proofs.Leaves.{leaf_at, leaf_at-number, map_at}
 
@@ -29,86 +27,15 @@ number_one k l e = sym (leaf_at-number k) ∙ (ap leaf_at e ∙ leaf_at-number l
 
 -- Variables that are free in assumptions
 
-here_at : (es : List Equation) (m : ℕ → Monotype) → IsSolution es m → (k : Leaf) → m (number k) ≡ map_at (solution es) k
+pub here_at : (es : List Equation) (m : ℕ → Monotype) → IsSolution es m → (k : Leaf) → m (number k) ≡ map_at (solution es) k
 here_at es m sol (var n) = (sol n).0
 here_at es m sol (rigid n) = (sol n).1
 
-in_monotype : (l : Leaf) (u : Mono) → In l u → In (number l) (monotype u)
+pub in_monotype : (l : Leaf) (u : Mono) → In l u → In (number l) (monotype u)
 in_monotype l u i = put-In (λ k. Var (number k)) l (number l) u i refl
 
-of_monotype : (l : Leaf) (u : Mono) → In (number l) (monotype u) → In l u
+pub of_monotype : (l : Leaf) (u : Mono) → In (number l) (monotype u) → In l u
 of_monotype l u i = let h = In-put (λ k. Var (number k)) (number l) u i in subst (λ k. In k u) (sym (number_one l h.0 h.2)) h.1
-
-free_of : SchemeVariable → ℕ
-free_of (Free a) = a
-free_of (Quantified a) = 0
-
-IsFreeOne : SchemeVariable → Type 0
-IsFreeOne (Free a) = Unit {0}
-IsFreeOne (Quantified a) = ⊥
-
--- the variable that an outer leaf of a scheme's body stands for
-outer_leaf : ℕ → Leaf → Leaf
-outer_leaf q (var n) = var (n - q)
-outer_leaf q (rigid n) = rigid (n - q)
-
-number_of : Leaf → ℕ
-number_of (var n) = n
-number_of (rigid n) = n
-
-outer_slot : (q : ℕ) (k : Leaf) → q ≤ number_of k → slot q k ≡ Free (number (outer_leaf q k))
-unfolding outer_leaf number_of
-outer_slot q (var n) h = let t : nat_lt n q ≡ false = grind (arith, nat_tests) in ap (λ b. cond b (Quantified n) (Free (number (var (n - q))))) t
-outer_slot q (rigid n) h = let t : nat_lt n q ≡ false = grind (arith, nat_tests) in ap (λ b. cond b (Quantified n) (Free (number (rigid (n - q))))) t
-
-is_outer : (q : ℕ) (k : Leaf) (a : ℕ) → Free a ≡ slot q k → q ≤ number_of k
-unfolding number_of IsFreeOne
-is_outer q (var n) a e = at (nat_lt n q) refl
-  where
-    at : (b : Bool) → nat_lt n q ≡ b → q ≤ n
-    at true t = absurd (subst IsFreeOne (e ∙ ap (λ b. cond b (Quantified n) (Free (number (var (n - q))))) t) tt)
-    at false t = grind (arith, nat_tests)
-is_outer q (rigid n) a e = at (nat_lt n q) refl
-  where
-    at : (b : Bool) → nat_lt n q ≡ b → q ≤ n
-    at true t = absurd (subst IsFreeOne (e ∙ ap (λ b. cond b (Quantified n) (Free (number (rigid (n - q))))) t) tt)
-    at false t = grind (arith, nat_tests)
-
-at_there : (es : List Equation) (q : ℕ) (l k : Leaf) → IsFreeAt es q l k → (q ≤ number_of k) × In (number l) (map_at (solution es) (outer_leaf q k))
-unfolding outer_leaf number_of
-at_there es q l (var n) h = (h.0, in_monotype l (solution es (n - q)) h.1)
-at_there es q l (rigid n) h = (h.0, ap number h.1)
-
-at_back : (es : List Equation) (q : ℕ) (l k : Leaf) → q ≤ number_of k → In (number l) (map_at (solution es) (outer_leaf q k)) → IsFreeAt es q l k
-unfolding outer_leaf number_of
-at_back es q l (var n) h i = (h, of_monotype l (solution es (n - q)) i)
-at_back es q l (rigid n) h i = (h, number_one l (rigid (n - q)) i)
-
-under_there : (es : List Equation) (m : ℕ → Monotype) → IsSolution es m → (s : OpenScheme) (l : Leaf) → IsFreeUnder es s.quantified l s.body → In (Free (number l)) (scheme_put m (scheme_in s))
-under_there es m sol s l (k, i, h) =
-    let p = at_there es s.quantified l k h in
-    let a = number (outer_leaf s.quantified k) in
-    In_scheme_put m a (number l) (scheme_in s) (put-In (λ j. Var (slot s.quantified j)) k (Free a) s.body i (sym (outer_slot s.quantified k p.0)))
-    (subst (In (number l)) (sym (here_at es m sol (outer_leaf s.quantified k))) p.1)
-
-under_back : (es : List Equation) (m : ℕ → Monotype) → IsSolution es m → (s : OpenScheme) (l : Leaf) → In (Free (number l)) (scheme_put m (scheme_in s)) → IsFreeUnder es s.quantified l s.body
-unfolding free_of
-under_back es m sol s l i =
-    let h = scheme_put_In m (number l) (scheme_in s) i in
-    let k = In-put (λ j. Var (slot s.quantified j)) (Free h.0) s.body h.1 in
-    let o = is_outer s.quantified k.0 h.0 k.2 in
-    let same : h.0 ≡ number (outer_leaf s.quantified k.0) = ap free_of (k.2 ∙ outer_slot s.quantified k.0 o) in
-    (k.0, k.1, at_back es s.quantified l k.0 o (subst (In (number l)) (ap m same ∙ here_at es m sol (outer_leaf s.quantified k.0)) h.2))
-
-pub free_there : (es : List Equation) (m : ℕ → Monotype) → IsSolution es m → (l : Leaf) (entries : List Assumed) → IsFreeAmong es l entries → FreeIn (number l) (assumptions_put m (assumptions entries))
-free_there es m sol l [] f = f
-free_there es m sol l (e ∷ entries) (inl f) = inl (under_there es m sol e.scheme l f)
-free_there es m sol l (e ∷ entries) (inr f) = inr (free_there es m sol l entries f)
-
-pub free_back : (es : List Equation) (m : ℕ → Monotype) → IsSolution es m → (l : Leaf) (entries : List Assumed) → FreeIn (number l) (assumptions_put m (assumptions entries)) → IsFreeAmong es l entries
-free_back es m sol l [] f = f
-free_back es m sol l (e ∷ entries) (inl f) = inl (under_back es m sol e.scheme l f)
-free_back es m sol l (e ∷ entries) (inr f) = inr (free_back es m sol l entries f)
 
 -- Places
 
@@ -131,9 +58,6 @@ at_place n (x ∷ xs) h =
           rw other (ap (λ k. get_or (x ∷ xs) k 0) e ∙ rest)
     ]
 
-pub keeps : (es : List Equation) (entries : List Assumed) (c : Collected) → ((l : Leaf) → (has_leaf c l ≡ true) ↔ IsFreeAmong es l entries) → (m : ℕ → Monotype) → IsSolution es m → Keeps c (assumptions_put m (assumptions entries))
-keeps es entries c h m sol l = (λ k. free_there es m sol l entries ((h l).0 k), λ k. (h l).1 (free_back es m sol l entries k))
-
 -- The scheme
 
 slot_at : List ℕ → List ℕ → Leaf → ℕ
@@ -143,7 +67,7 @@ slot_at xs ys (rigid n) = place n ys + length xs
 from_slot : List ℕ → List ℕ → ℕ → ℕ
 from_slot xs ys i = cond (nat_lt i (length xs)) (number (var (get_or xs i 0))) (number (rigid (get_or ys (i - length xs) 0)))
 
-has_slot : (kept : Collected) (t body : Mono) (q : ℕ) (c : IsClosing kept t q body) (l : Leaf) → In l t → (slot_at c.plain c.rigid l < q) × (from_slot c.plain c.rigid (slot_at c.plain c.rigid l) ≡ number l)
+has_slot : (kept : Leaf → Bool) (t body : Mono) (q : ℕ) (c : IsClosing kept t q body) (l : Leaf) → In l t → (slot_at c.plain c.rigid l < q) × (from_slot c.plain c.rigid (slot_at c.plain c.rigid l) ≡ number l)
 unfolding slot_at from_slot
 has_slot kept t body q c (var n) i =
     let a = c.plain_slots n i in
@@ -160,7 +84,7 @@ has_slot kept t body q c (rigid n) i =
     let d : k - length c.plain ≡ place n c.rigid = omega arith in
     (omega arith, ap (λ z. cond z (number (var (get_or c.plain k 0))) (number (rigid (get_or c.rigid (k - length c.plain) 0)))) e ∙ (ap (λ z. number (rigid (get_or c.rigid z 0))) d ∙ ap (λ z. number (rigid z)) (at_place n c.rigid a)))
 
-closing_kept : (kept : Collected) (q : ℕ) (xs ys : List ℕ) (l : Leaf) → has_leaf kept l ≡ true → slot q (closing kept q xs ys l) ≡ Free (number l)
+closing_kept : (kept : Leaf → Bool) (q : ℕ) (xs ys : List ℕ) (l : Leaf) → kept l ≡ true → slot q (closing kept q xs ys l) ≡ Free (number l)
 closing_kept kept q xs ys (var n) h =
     let t : nat_lt (n + q) q ≡ false = grind (arith, nat_tests) in
     let d : (n + q) - q ≡ n = omega arith in
@@ -173,7 +97,7 @@ closing_kept kept q xs ys (rigid n) h =
 slot_below : (q k : ℕ) → k < q → slot q (var k) ≡ Quantified k
 slot_below q k h = let t : nat_lt k q ≡ true = grind (arith, nat_tests) in ap (λ b. cond b (Quantified k) (Free (number (var (k - q))))) t
 
-closing_slot : (kept : Collected) (q : ℕ) (xs ys : List ℕ) (l : Leaf) → has_leaf kept l ≡ false → slot_at xs ys l < q → slot q (closing kept q xs ys l) ≡ Quantified (slot_at xs ys l)
+closing_slot : (kept : Leaf → Bool) (q : ℕ) (xs ys : List ℕ) (l : Leaf) → kept l ≡ false → slot_at xs ys l < q → slot q (closing kept q xs ys l) ≡ Quantified (slot_at xs ys l)
 unfolding slot_at
 closing_slot kept q xs ys (var n) h b = ap (λ z. slot q (cond z (var (n + q)) (var (place n xs)))) h ∙ slot_below q (place n xs) b
 closing_slot kept q xs ys (rigid n) h b = ap (λ z. slot q (cond z (rigid (n + q)) (var (place n ys + length xs)))) h ∙ slot_below q (place n ys + length xs) b
@@ -186,21 +110,21 @@ solved_type es m sol t = put-put m (λ l. Var (number l)) t ∙ (put-agree _ _ t
     at (var n) = (sol n).0
     at (rigid n) = (sol n).1
 
-closed_at : (kept : Collected) (A : Assumptions) (t body : Mono) (q : ℕ) (c : IsClosing kept t q body) → Keeps kept A → (l : Leaf) → In l t → (b : Bool) → has_leaf kept l ≡ b → (d : Dec (FreeIn (number l) A)) →
+closed_at : (kept : Leaf → Bool) (A : Assumptions) (t body : Mono) (q : ℕ) (c : IsClosing kept t q body) → Keeps kept t A → (l : Leaf) → In l t → (b : Bool) → kept l ≡ b → (d : Dec (FreeIn (number l) A)) →
     slot q (closing kept q c.plain c.rigid l) ≡ slot q (closing kept q c.plain c.rigid l) → Var (slot q (closing kept q c.plain c.rigid l)) ≡ renumbered (λ a. slot_at c.plain c.rigid (leaf_at a)) (quantified_unless d (number l))
 closed_at kept A t body q c k l i true e (yes f) r = ap Var (closing_kept kept q c.plain c.rigid l e)
-closed_at kept A t body q c k l i true e (no g) r = absurd (g ((k l).0 e))
-closed_at kept A t body q c k l i false e (yes f) r = absurd (true≢false (sym ((k l).1 f) ∙ e))
+closed_at kept A t body q c k l i true e (no g) r = absurd (g ((k l i).0 e))
+closed_at kept A t body q c k l i false e (yes f) r = absurd (true≢false (sym ((k l i).1 f) ∙ e))
 closed_at kept A t body q c k l i false e (no g) r =
     ap Var (closing_slot kept q c.plain c.rigid l e (has_slot kept t body q c l i).0) ∙ ap (λ z. Var (Quantified (slot_at c.plain c.rigid z))) (sym (leaf_at-number l))
 
-closed_type : (kept : Collected) (A : Assumptions) (t body : Mono) (q : ℕ) → IsClosing kept t q body → Keeps kept A → IsGeneralisation A (monotype t) (scheme_in (record { quantified = q; body = body }))
+closed_type : (kept : Leaf → Bool) (A : Assumptions) (t body : Mono) (q : ℕ) → IsClosing kept t q body → Keeps kept t A → IsGeneralisation A (monotype t) (scheme_in (record { quantified = q; body = body }))
 closed_type kept A t body q c k = record {
   slots = λ a. slot_at c.plain c.rigid (leaf_at a);
   back = from_slot c.plain c.rigid;
   whole =
       ap (put (λ l. Var (slot q l))) c.whole ∙ (put-put (λ l. Var (slot q l)) (λ l. Var (closing kept q c.plain c.rigid l)) t ∙
-      (put-agree _ _ t (λ l i. closed_at kept A t body q c k l i (has_leaf kept l) refl (is_free_in (number l) A) refl) ∙
+      (put-agree _ _ t (λ l i. closed_at kept A t body q c k l i (kept l) refl (is_free_in (number l) A) refl) ∙
       sym (ap (put (renumbered (λ a. slot_at c.plain c.rigid (leaf_at a)))) (put-put (λ a. Var (quantified_unless (is_free_in a A) a)) (λ l. Var (number l)) t) ∙
       put-put (renumbered (λ a. slot_at c.plain c.rigid (leaf_at a))) (λ l. Var (quantified_unless (is_free_in (number l) A) (number l))) t)));
   undone = λ a i n.
@@ -209,7 +133,7 @@ closed_type kept A t body q c k = record {
       ap (λ z. from_slot c.plain c.rigid (slot_at c.plain c.rigid z)) e ∙ ((has_slot kept t body q c h.0 h.1).1 ∙ sym h.2);
 }
 
-pub generalised : (es : List Equation) (kept : Collected) (t body : Mono) (q : ℕ) → IsClosing kept (substitute (solution es) t) q body → (A : Assumptions) (m : ℕ → Monotype) → IsSolution es m → Keeps kept (assumptions_put m A) →
+pub generalised : (es : List Equation) (kept : Leaf → Bool) (t body : Mono) (q : ℕ) → IsClosing kept (substitute (solution es) t) q body → (A : Assumptions) (m : ℕ → Monotype) → IsSolution es m → Keeps kept (substitute (solution es) t) (assumptions_put m A) →
     IsGeneralisation (assumptions_put m A) (put m (monotype t)) (scheme_in (record { quantified = q; body = body }))
 generalised es kept t body q c A m sol k =
     subst (λ u. IsGeneralisation (assumptions_put m A) u (scheme_in (record { quantified = q; body = body }))) (sym (solved_type es m sol t)) (closed_type kept (assumptions_put m A) (substitute (solution es) t) body q c k)
@@ -229,19 +153,19 @@ mutual
   put_all_given g j f done h w = tt
   put_all_given g j f (more t ts) h w = (put_given g j f t (λ l i. h l (inl i)) w.0, put_all_given g j f ts (λ l i. h l (inr i)) w.1)
 
-closing_given : (kept : Collected) (q : ℕ) (xs ys : List ℕ) (g : ℕ) (l : Leaf) → slot_at xs ys l < q → IsWellFormed g (Var l) → IsWellFormed (q + g) (Var (closing kept q xs ys l))
+closing_given : (kept : Leaf → Bool) (q : ℕ) (xs ys : List ℕ) (g : ℕ) (l : Leaf) → slot_at xs ys l < q → IsWellFormed g (Var l) → IsWellFormed (q + g) (Var (closing kept q xs ys l))
 unfolding slot_at
-closing_given kept q xs ys g (var n) b w = at (has_leaf kept (var n))
+closing_given kept q xs ys g (var n) b w = at (kept (var n))
   where
     at : (z : Bool) → IsWellFormed (q + g) (Var (cond z (var (n + q)) (var (place n xs))))
     at true = let h : n < g = w in omega arith
     at false = let h : place n xs < q = b in omega arith
-closing_given kept q xs ys g (rigid n) b w = at (has_leaf kept (rigid n))
+closing_given kept q xs ys g (rigid n) b w = at (kept (rigid n))
   where
     at : (z : Bool) → IsWellFormed (q + g) (Var (cond z (rigid (n + q)) (var (place n ys + length xs))))
     at true = let h : n < g = w in omega arith
     at false = let h : place n ys + length xs < q = b in omega arith
 
-pub closing_well_formed : (kept : Collected) (t body : Mono) (q g : ℕ) → IsClosing kept t q body → IsWellFormed g t → IsWellFormed (q + g) body
+pub closing_well_formed : (kept : Leaf → Bool) (t body : Mono) (q g : ℕ) → IsClosing kept t q body → IsWellFormed g t → IsWellFormed (q + g) body
 closing_well_formed kept t body q g c w =
     subst (IsWellFormed (q + g)) (sym c.whole) (put_given g (q + g) (closing kept q c.plain c.rigid) t (λ l i h. closing_given kept q c.plain c.rigid g l (has_slot kept t body q c l i).0 h) w)

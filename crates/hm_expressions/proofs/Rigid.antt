@@ -6,8 +6,8 @@ use Rattle.hm_types.specs.Monotypes.{Leaf, var, rigid}
 use Rattle.hm_typing.specs.Schemes.{Monotype}
 use Rattle.hm_typing.specs.Assumptions.{Assumptions, assumptions_put, FreeIn}
 use Rattle.hm_typing.specs.Problems.{Unifies, IsBelow, FactsBelow, MostGeneralUnifier}
-use Rattle.hm_typing.proofs.Types.{put-agree, put-put}
-use Rattle.hm_typing.proofs.SchemeLaws.{assumptions_put-agree, assumptions_put_put, AssumptionsBelow, assumptions_put_FreeIn, FreeIn_put}
+use Rattle.hm_typing.proofs.Types.{put-agree, put-put, In-put, put-In}
+use Rattle.hm_typing.proofs.SchemeLaws.{assumptions_put-agree, assumptions_put_put, AssumptionsBelow}
 use Rattle.hm_typing.proofs.Check.{assumptions_put_unifier}
 use Rattle.hm_typing.proofs.Signed.{lift, lift_misses, Unifies-lift, each_lifted}
 use Rattle.hm_unify.specs.Solving.{Solving}
@@ -109,10 +109,10 @@ module _ (J : Assumptions → Monotype → Type 0) (J-put : (r : ℕ → Monotyp
         (c.0, (λ x h. c.1 x (omega arith) ∙ guess_below g r (λ i. Var i) x h), c.2);
   }
 
-  -- a rigid variable escapes
+  -- a rigid variable occurs in the value of an older one
   pub rigid_escapes : (s : Monotype) (A : Assumptions) (s0 s2 : Solving) (w : ℕ) → FactsBelow (bound s0) (problem s0) → AssumptionsBelow (bound s0) A → SolvedBy (AtRigidFrom s0.given s A) (given_more s0 w) s2 →
-      (m : MostGeneralUnifier (problem s2)) → (i : ℕ) → i < w → FreeIn (rigid_from s0.given i) (assumptions_put m.map A) → HasNone (AtInstances s A) s0
-  rigid_escapes s A s0 s2 w d b a m i h f r u p =
+      (m : MostGeneralUnifier (problem s2)) → (i : ℕ) → i < w → (z : ℕ) → z < bound s0 → In (rigid_from s0.given i) (m.map z) → HasNone (AtInstances s A) s0
+  rigid_escapes s A s0 s2 w d b a m i h z lz f r u p =
       let g = s0.given in
       let n = bound s0 in
       let k = bound (given_more s0 w) in
@@ -122,11 +122,10 @@ module _ (J : Assumptions → Monotype → Type 0) (J-put : (r : ℕ → Monotyp
       let p' : AtInstances s A r' = λ us. subst (λ C. J C (put us s)) (sym env) (each_lifted J J-put s (assumptions_put r A) (lift n k) p us) in
       let q = guess g r' (λ j. Var j) in
       let c = a.complete q (guess_unifies s0 w r' (λ j. Var j) d u') (guessed s A s0 b r' p') in
-      let same : assumptions_put c.0 (assumptions_put m.map A) ≡ assumptions_put (lift n k) (assumptions_put r A) =
-      assumptions_put_unifier A (problem s2) m c.0 c.2 ∙ (assumptions_put-agree c.0 r' A (λ y z. c.1 y (let l = b y z in omega arith) ∙ guess_below g r' (λ j. Var j) y (b y z)) ∙ env) in
-      let here : FreeIn (rigid_from g i) (assumptions_put (lift n k) (assumptions_put r A)) =
-      subst (FreeIn (rigid_from g i)) same (FreeIn_put c.0 (rigid_from g i) (rigid_from g i) (assumptions_put m.map A) f (subst (In (rigid_from g i)) (sym (c.1 (rigid_from g i) (omega arith) ∙ guess_rigid g r' (λ j. Var j) (g + i) (omega arith))) refl)) in
-      let from = assumptions_put_FreeIn (lift n k) (rigid_from g i) (assumptions_put r A) here in
+      let value : put c.0 (m.map z) ≡ put (lift n k) (r z) = m.most c.0 c.2 z ∙ (c.1 z (omega arith) ∙ guess_below g r' (λ j. Var j) z lz) in
+      let here : In (rigid_from g i) (put c.0 (m.map z)) =
+      put-In c.0 (rigid_from g i) (rigid_from g i) (m.map z) f (subst (In (rigid_from g i)) (sym (c.1 (rigid_from g i) (omega arith) ∙ guess_rigid g r' (λ j. Var j) (g + i) (omega arith))) refl) in
+      let from = In-put (lift n k) (rigid_from g i) (r z) (subst (In (rigid_from g i)) value here) in
       ⊎_elim (λ l. absurd (omega arith)) (λ l. absurd (omega arith)) (lift_misses n k from.0 (rigid_from g i) from.2)
 
   -- what is asked at the rigid variables is refused

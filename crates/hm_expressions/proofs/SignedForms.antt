@@ -13,6 +13,7 @@ use Rattle.hm_typing.specs.Programs.{monotype_of}
 use Rattle.hm_typing.specs.Syntax as typed
 use Rattle.hm_typing.specs.SecondForm.{DeriveClauses}
 use Rattle.hm_typing.proofs.Put.{DeriveClauses-put}
+use Rattle.hm_unify.specs.Levels.{IsOuter}
 use Rattle.hm_unify.specs.Solving.{Solving}
 use Rattle.hm_unify.specs.declared.faults.UnifyFault.{UnifyFault}
 use Rattle.hm_unify.specs.declared.faults.UnifyFault.TheVariants.{Clash, Memory}
@@ -24,6 +25,7 @@ use Rattle.hm_expressions.specs.SignedLists.{AtDeclared, SignedClauseHas}
 use Rattle.hm_expressions.proofs.DeclaredTypes.{declared_below}
 use Rattle.hm_expressions.proofs.Derived.{assumed_below}
 use Rattle.hm_expressions.proofs.Outcomes.{SolvedBy, solved_same, solved_nothing, pass_on}
+use Rattle.hm_expressions.proofs.OuterVariables.{free_is_outer, outer_inside}
 use Rattle.hm_expressions.proofs.Rigid.{AtInstances, AtRigidFrom, rigid_solved, rigid_escapes, rigid_refused}
 use Rattle.hm_expressions.proofs.Sides.{ChecksClause}
 use Rattle.hm_expressions.proofs.SignedNames.{IsOther}
@@ -81,11 +83,11 @@ module _ (known : Known) (all : Declarations) (n : Identifier) (ps : List tree.P
     refused e r = pass_on {P = SignedAsks known all (clause n (patterns ps) q) es} {Q = AtEach} s s e (λ v u p. (v, u, from_asked v p)) r
 
     -- the clause has the declared type at each instance
-    pub clause_signed : {X : Type 0} (s2 : Solving) (y : X) → SolvedBy (ChecksClause known ps q own es) s1 s2 → TellsEscape {X = X} first count es s2 (Ok y) → SolvedBy (SignedAsks known all (clause n (patterns ps) q) es) s s2
+    pub clause_signed : {X : Type 0} (s2 : Solving) (y : X) → SolvedBy (ChecksClause known ps q own es) s1 s2 → TellsEscape {X = X} first count s2 (Ok y) → SolvedBy (SignedAsks known all (clause n (patterns ps) q) es) s s2
     clause_signed s2 y a k =
         solved_same {P = AtEach} {Q = SignedAsks known all (clause n (patterns ps) q) es} s s2 to_asked from_asked
         (rigid_solved (ClauseHas known ps q) (ClauseHas-put known ps q) (monotype_of body) (assumptions es) s s2 count taken.below (assumed_below s.given es assumed) (declared_below count body taken.given) (inner s2 a) k.0
-        (λ i h f. k.1 i h (subst (λ z. FreeIn (number (rigid (z + i))) (assumptions_put k.0.map (assumptions es))) (sym taken.from) f)))
+        (λ i h f. k.1.1 i h (subst (λ z. IsOuter s2.equations z (rigid (z + i))) (sym taken.from) (free_is_outer s2.equations k.0.map k.1.0 (assumptions es) s.given (assumed_below s.given es assumed) (rigid (s.given + i)) f))))
 
     pub clause_refused : (e : UnifyFault) → Refuses (ChecksClause known ps q own es) s1 e → Refuses (SignedAsks known all (clause n (patterns ps) q) es) s e
     clause_refused e r =
@@ -93,9 +95,9 @@ module _ (known : Known) (all : Declarations) (n : Identifier) (ps : List tree.P
         (rigid_refused (ClauseHas known ps q) (ClauseHas-put known ps q) (monotype_of body) (assumptions es) s count e taken.below (assumed_below s.given es assumed)
         (pass_on {P = AtRigid} {Q = ChecksClause known ps q own es} (given_more s count) (given_more s count) e (λ v u p. (v, u, from_rigid v p)) (subst (λ z. Refuses (ChecksClause known ps q own es) z e) taken.next r)))
 
-    pub clause_escapes : (s2 : Solving) (e : UnifyFault) → SolvedBy (ChecksClause known ps q own es) s1 s2 → TellsEscape {X = Unit {0}} first count es s2 (Err e) → Refuses (SignedAsks known all (clause n (patterns ps) q) es) s e
+    pub clause_escapes : (s2 : Solving) (e : UnifyFault) → SolvedBy (ChecksClause known ps q own es) s1 s2 → TellsEscape {X = Unit {0}} first count s2 (Err e) → Refuses (SignedAsks known all (clause n (patterns ps) q) es) s e
     clause_escapes s2 Clash a k =
+        let o = outer_inside s2.equations k.0.map k.1.0 s.given (rigid (s.given + k.1.1.0)) (subst (λ z. IsOuter s2.equations z (rigid (z + k.1.1.0))) taken.from k.1.1.1.1) in
         refused Clash
-        (rigid_escapes (ClauseHas known ps q) (ClauseHas-put known ps q) (monotype_of body) (assumptions es) s s2 count taken.below (assumed_below s.given es assumed) (inner s2 a) k.0 k.1.0 k.1.1.0
-        (subst (λ z. FreeIn (number (rigid (z + k.1.0))) (assumptions_put k.0.map (assumptions es))) taken.from k.1.1.1))
+        (rigid_escapes (ClauseHas known ps q) (ClauseHas-put known ps q) (monotype_of body) (assumptions es) s s2 count taken.below (assumed_below s.given es assumed) (inner s2 a) k.0 k.1.1.0 k.1.1.1.0 o.0 o.1.0 o.1.1)
     clause_escapes s2 Memory a k = tt

@@ -11,6 +11,7 @@ use Rattle.hm_typing.specs.Programs.{monotype_of}
 use Rattle.hm_typing.specs.SecondForm.{Derives}
 use Rattle.hm_typing.proofs.Put.{Derives-put}
 use Rattle.hm_typing.proofs.Solve.{put-below}
+use Rattle.hm_unify.specs.Levels.{IsOuter}
 use Rattle.hm_unify.specs.Solving.{Solving}
 use Rattle.hm_unify.specs.WellFormed.{IsWellFormed}
 use Rattle.hm_unify.specs.declared.faults.UnifyFault.{UnifyFault}
@@ -24,6 +25,7 @@ use Rattle.hm_expressions.proofs.DeclaredTypes.{declared_below}
 use Rattle.hm_expressions.proofs.Derived.{Checks, AnswersExpression, assumed_below}
 use Rattle.hm_expressions.proofs.Leaves.{monotype-below}
 use Rattle.hm_expressions.proofs.Outcomes.{SolvedBy, solved_same, solved_both, carries_second, pass_on}
+use Rattle.hm_expressions.proofs.OuterVariables.{free_is_outer, outer_inside}
 use Rattle.hm_expressions.proofs.Rigid.{AtInstances, AtRigidFrom, rigid_solved, rigid_escapes, rigid_refused}
 
 -- x has a type under A
@@ -64,20 +66,20 @@ module _ (known : Known) (x : Expression) (body own : Mono) (count first : ℕ) 
   inner s2 a = solved_same (given_more s count) s2 to_rigid from_rigid (subst (λ z. SolvedBy (Checks known x own es) z s2) taken.next a)
 
   -- x has the declared type at each instance
-  pub at_each : {X : Type 0} (s2 : Solving) (y : X) → SolvedBy (Checks known x own es) s1 s2 → TellsEscape {X = X} first count es s2 (Ok y) → SolvedBy (AtEach known x (monotype_of body) es) s s2
+  pub at_each : {X : Type 0} (s2 : Solving) (y : X) → SolvedBy (Checks known x own es) s1 s2 → TellsEscape {X = X} first count s2 (Ok y) → SolvedBy (AtEach known x (monotype_of body) es) s s2
   at_each s2 y a k =
       rigid_solved (Has known x) (Has-put known x) (monotype_of body) (assumptions es) s s2 count taken.below (assumed_below s.given es assumed) (declared_below count body taken.given) (inner s2 a) k.0
-      (λ i h f. k.1 i h (subst (λ z. Rattle.hm_typing.specs.Assumptions.FreeIn (number (rigid (z + i))) (assumptions_put k.0.map (assumptions es))) (sym taken.from) f))
+      (λ i h f. k.1.1 i h (subst (λ z. IsOuter s2.equations z (rigid (z + i))) (sym taken.from) (free_is_outer s2.equations k.0.map k.1.0 (assumptions es) s.given (assumed_below s.given es assumed) (rigid (s.given + i)) f)))
 
   pub inner_refused : (e : UnifyFault) → Refuses (Checks known x own es) s1 e → Refuses (AtEach known x (monotype_of body) es) s e
   inner_refused e n =
       rigid_refused (Has known x) (Has-put known x) (monotype_of body) (assumptions es) s count e taken.below (assumed_below s.given es assumed)
       (pass_on {P = AtRigid known x s.given (monotype_of body) es} {Q = Checks known x own es} (given_more s count) (given_more s count) e (λ r u p. (r, u, from_rigid r p)) (subst (λ z. Refuses (Checks known x own es) z e) taken.next n))
 
-  pub escape_refused : (s2 : Solving) (e : UnifyFault) → SolvedBy (Checks known x own es) s1 s2 → TellsEscape {X = Unit {0}} first count es s2 (Err e) → Refuses (AtEach known x (monotype_of body) es) s e
+  pub escape_refused : (s2 : Solving) (e : UnifyFault) → SolvedBy (Checks known x own es) s1 s2 → TellsEscape {X = Unit {0}} first count s2 (Err e) → Refuses (AtEach known x (monotype_of body) es) s e
   escape_refused s2 Clash a k =
-      rigid_escapes (Has known x) (Has-put known x) (monotype_of body) (assumptions es) s s2 count taken.below (assumed_below s.given es assumed) (inner s2 a) k.0 k.1.0 k.1.1.0
-      (subst (λ z. Rattle.hm_typing.specs.Assumptions.FreeIn (number (rigid (z + k.1.0))) (assumptions_put k.0.map (assumptions es))) taken.from k.1.1.1)
+      let o = outer_inside s2.equations k.0.map k.1.0 s.given (rigid (s.given + k.1.1.0)) (subst (λ z. IsOuter s2.equations z (rigid (z + k.1.1.0))) taken.from k.1.1.1.1) in
+      rigid_escapes (Has known x) (Has-put known x) (monotype_of body) (assumptions es) s s2 count taken.below (assumed_below s.given es assumed) (inner s2 a) k.0 k.1.1.0 k.1.1.1.0 o.0 o.1.0 o.1.1
   escape_refused s2 Memory a k = tt
 
   module _ (ty : TypeTree) (t : Mono) (is : monotype_of body ≡ declared_type ty) (w : IsWellFormed s.given t) where
@@ -95,7 +97,3 @@ module _ (known : Known) (x : Expression) (body own : Mono) (count first : ℕ) 
     typed_answers s2 s3 (Ok y) a m = solved_same {P = λ r. AtEach known x (monotype_of body) es r × IsTyped body t r} s s3 both parts (solved_both s s2 s3 (typed_local body t s w) a m)
     typed_answers s2 s3 (Err e) a n =
         pass_on {P = Checks known (typed_expression x ty) t es} {Q = IsTyped body t} s s2 e (λ r u p. carries_second {P = AtEach known x (monotype_of body) es} {Q = IsTyped body t} s s2 (typed_local body t s w) a r u (parts r p)) n
-
--- in the states of the program
-pub tells_moved : {X : Type 0} (first count : ℕ) (es fs : List Assumed) (s : Solving) (outcome : Result X UnifyFault) → fs ≡ es → TellsEscape first count fs s outcome → TellsEscape first count es s outcome
-tells_moved first count es fs s outcome e k = subst (λ x. TellsEscape first count x s outcome) e k

@@ -1,12 +1,11 @@
 -- The closure of a type under assumptions, up to the numbers of the quantified variables (Damas and Milner 1982, section 5; Haskell 98 Report, section 4.5.2).
-use Rattle.std.specs.Prelude.{◌≡◌, ℕ, List, true, ◌↔◌}
-use Rattle.hm_types.specs.Monotypes.{Leaf, var, rigid}
+use Rattle.std.specs.Prelude.{◌≡◌, ℕ, Bool, List, true, false, ◌↔◌, slice_index_or}
+use Rattle.hm_types.specs.Monotypes.{Leaf, Mono, var, rigid}
 use Rattle.hm_unify.specs.Unifier.{Equation}
 use Rattle.hm_unify.specs.Bindings.{solution}
 use Rattle.hm_expressions.specs.Problems.{number, monotype}
-use Rattle.hm_expressions.specs.declared.collecting.Collected.{Collected}
-use Rattle.hm_expressions.specs.Collected.{has_leaf}
 use Rattle.hm_types.specs.Types.{Var, In, put}
+use Rattle.hm_typing.specs.Names.{IsOneOf}
 use Rattle.hm_typing.specs.Schemes.{Monotype, Scheme, SchemeVariable, Free, Quantified}
 use Rattle.hm_typing.specs.Assumptions.{Assumptions, FreeIn}
 use Rattle.hm_typing.specs.Generalisation.{quantify}
@@ -15,9 +14,17 @@ use Rattle.hm_typing.specs.Generalisation.{quantify}
 abbrev pub IsSolution : List Equation → (ℕ → Monotype) → Type 0
 IsSolution es m = (n : ℕ) → (m (number (var n)) ≡ monotype (solution es n)) × (m (number (rigid n)) ≡ Var (number (rigid n)))
 
--- the variables that are kept are those that are free in A
-abbrev pub Keeps : Collected → Assumptions → Type 0
-Keeps kept A = (l : Leaf) → (has_leaf kept l ≡ true) ↔ FreeIn (number l) A
+-- of the variables of t those are kept that are free in A
+abbrev pub Keeps : (Leaf → Bool) → Mono → Assumptions → Type 0
+Keeps kept t A = (l : Leaf) → In l t → (kept l ≡ true) ↔ FreeIn (number l) A
+
+-- so it is for the values of the variables that are the types of some nodes
+abbrev pub KeepsEach : (Leaf → Bool) → List Equation → List ℕ → List ℕ → Assumptions → Type 0
+KeepsEach kept es types nodes A = (j : ℕ) → IsOneOf j nodes → Keeps kept (solution es (slice_index_or types j 0)) A
+
+-- none is kept of the variables of these
+abbrev pub KeepsNone : (Leaf → Bool) → List Equation → List ℕ → List ℕ → Type 0
+KeepsNone kept es types nodes = (j : ℕ) → IsOneOf j nodes → (l : Leaf) → In l (solution es (slice_index_or types j 0)) → kept l ≡ false
 
 -- the quantified variables with other numbers
 abbrev pub renumbered : (ℕ → ℕ) → SchemeVariable → Scheme

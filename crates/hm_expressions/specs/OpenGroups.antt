@@ -1,5 +1,5 @@
 -- What is done before and after the members of a group are checked. Public clauses name `AreUpTo` and `ChangesOnly` alone of these.
-use Rattle.std.specs.Prelude.{◌≡◌, ℕ, ◌<◌, ◌≤◌, ◌++◌, List, Option, length, slice_index_or}
+use Rattle.std.specs.Prelude.{◌≡◌, ℕ, ◌<◌, ◌≤◌, List, Option, length, slice_index_or}
 use Rattle.hm_typing.specs.Names.{IsOneOf}
 use Rattle.hm_typing.specs.Problems.{MostGeneralUnifier}
 use Rattle.hm_syntax.specs.Trees.{Declarations}
@@ -9,8 +9,11 @@ use Rattle.hm_groups.specs.GroupMembers.{AreMembersOf}
 use Rattle.hm_groups.specs.Nodes.{list_nodes}
 use Rattle.hm_groups.specs.Variables.{Variable}
 use Rattle.hm_unify.specs.Solving.{Solving}
+use Rattle.hm_unify.specs.Levels.{is_outer}
+use Rattle.hm_typing.specs.Assumptions.{Assumptions, assumptions_put}
 use Rattle.hm_expressions.specs.Problems.{problem, given_more}
-use Rattle.hm_expressions.specs.Environments.{Assumed, assumptions, AreAssumed}
+use Rattle.hm_expressions.specs.Environments.{Assumed, AreAssumed}
+use Rattle.hm_expressions.specs.Generalisations.{IsSolution, KeepsEach}
 use Rattle.hm_expressions.specs.GroupQuestions.{AreGivenTypes}
 use Rattle.hm_expressions.specs.BoundNames.{ArePlaced, Extends, BindsTypes, BindsSchemes}
 
@@ -32,7 +35,8 @@ pub record IsOpenGroup (nodes : List (Option Variable)) (rows : List (List ℕ))
   pub numbers : AreGivenTypes s1.given types
   pub assumed : AreAssumed s1.given es1
 
--- the names of a group are bound to their schemes, over the outermost `depth` assumptions
+-- the names of a group are bound to their schemes, which keep the variables that occur in the values of the first `older`
 abbrev pub IsClosedGroup : List (Option Variable) → List ℕ → List ℕ → ℕ → Solving → List Assumed → List Assumed → Type 0
-IsClosedGroup nodes group types depth s es0 es1 =
-    (added base : List Assumed) → es0 ≡ added ++ base → length base ≡ depth → (m : MostGeneralUnifier (problem s)) × ((k : Known) (all : Declarations) → nodes ≡ list_nodes all all → BindsSchemes k all types m.map (assumptions base) group es0 es1)
+IsClosedGroup nodes group types older s es0 es1 =
+    (m : MostGeneralUnifier (problem s)) × (IsSolution s.equations m.map ×
+    ((k : Known) (all : Declarations) → nodes ≡ list_nodes all all → (A : Assumptions) → KeepsEach (is_outer s.equations older) s.equations types group (assumptions_put m.map A) → BindsSchemes k all types m.map A group es0 es1))

@@ -54,6 +54,12 @@ InfersGroup k decls group base s0 es0 s1 es1 outcome =
     (L : Layout (list_of k decls)) (finished g : Identifier → Bool) (B : Identifier → Scheme) (s : Solving) → IsNext (list_of k decls) L.own finished g → ((y : Identifier) → Decides (g y) (IsOneOf y (names_at k (declarations decls) group))) → AreAssumed s.given base →
     IsStage (list_of k decls) L (assumptions base) finished B s s0 → Sees (list_of k decls) (assumptions base) finished B es0 → AfterGroup (list_of k decls) L base finished g s s1 es1 outcome
 
+-- where nothing is free in what was assumed outside the list, nor in the environment, nothing is after the group
+abbrev pub ClosesGroup : Known → List Declaration → List ℕ → List Assumed → Solving → List Assumed → List Assumed → Type 0
+ClosesGroup k decls group base s0 es0 es1 =
+    (L : Layout (list_of k decls)) (finished g : Identifier → Bool) (B : Identifier → Scheme) (s : Solving) → IsNext (list_of k decls) L.own finished g → ((y : Identifier) → Decides (g y) (IsOneOf y (names_at k (declarations decls) group))) → AreAssumed s.given base →
+    IsStage (list_of k decls) L (assumptions base) finished B s s0 → Sees (list_of k decls) (assumptions base) finished B es0 → AreAssumed 0 base → AreAssumed 0 es0 → AreAssumed 0 es1
+
 -- what is found of a list: its nodes, which are apart, and the rows of its declarations
 pub record IsListFound (k : Known) (decls : List Declaration) (nodes : List (Option Variable)) (rows : List (List ℕ)) : Type 0 where
   pub nodes_are : nodes ≡ list_nodes (declarations decls) (declarations decls)

@@ -1,28 +1,20 @@
 //! What is assumed of names.
 
 ghost use Rattle.std.specs.Prelude.{◌≡◌, ℕ, ◌≤◌, ◌-◌, ◌∷◌, ◌++◌, [], List, None, cond, length, take, IfOk, MatchOption, OnErr, OnOk};
-ghost use Rattle.hm_expressions.specs.Generalisations.{IsSolution, Keeps};
-ghost use Rattle.hm_typing.specs.Schemes.{Monotype};
-ghost use Rattle.hm_typing.specs.Assumptions.{assumptions_put};
 ghost use Rattle.hm_types.specs.Shape.{type_of};
 ghost use Rattle.hm_typing.specs.Names.{IsOneOf};
 ghost use Rattle.hm_expressions.specs.BoundNames.{Extends};
-ghost use Rattle.hm_expressions.specs.Collected.{Gathers};
-ghost use Rattle.hm_expressions.specs.Generalised.{IsFreeAmong};
 ghost use Rattle.hm_expressions.specs.Kept.{entries_of};
-ghost use Rattle.hm_expressions.specs.Environments.{AreAssumed, Assumed, assumptions, IsSchemeOf, assumed_names, monomorphic_entries};
-ghost use Rattle.hm_expressions.specs.Places.{AreClosedFrom, HaveRuns, IsPlaced};
+ghost use Rattle.hm_expressions.specs.Environments.{Assumed, IsSchemeOf, assumed_names, monomorphic_entries};
+ghost use Rattle.hm_expressions.specs.Places.{IsPlaced};
 ghost use Rattle.hm_groups.specs.Keys.{number_of, same_variable, variable_of_key};
 ghost use Rattle.hm_groups.specs.Variables.{Variable, identifier};
 ghost use Rattle.hm_names.specs.Syntax.{name_of};
 
-use crate::collecting::{Collected, none_collected};
-use crate::generalising::{gather_free, is_closed};
 use crate::variables::Variables;
 use hm_groups::{LentName, key_of};
 use hm_syntax::Name;
 use hm_types::Ty;
-use hm_unify::Solver;
 use indexmap::IndexMap;
 use std::alloc::{AllocError, Global};
 use std::marker::Model;
@@ -35,15 +27,13 @@ pub(crate) struct Scheme<'a> {
     pub body: &'a Ty,
 }
 
-/// A name with its scheme, the place of the assumption of this name that it hides, and that from
-/// which on all assumptions before it have no free variables.
+/// A name with its scheme, and the place of the assumption of this name that it hides.
 #[derive(Drop)]
 pub struct Binding<'a> {
     pub name: LentName<'a>,
     pub quantified: usize,
     pub body: Ty,
     hidden: Option<usize>,
-    closed_from: usize,
 }
 
 /// What is assumed of names, which are lent by the trees and interfaces of a core. Contracts see a
@@ -67,9 +57,9 @@ impl<'a> Model for Environment<'a> {
 
     ghost view = { λ s. entries_of s.items.items };
 
-    ghost use Rattle.hm_expressions.specs.Places.{HaveRuns, IsPlaced};
+    ghost use Rattle.hm_expressions.specs.Places.{IsPlaced};
 
-    ghost invariant = { λ s. IsPlaced s.items.items s.innermost × HaveRuns s.items.items };
+    ghost invariant = { λ s. IsPlaced s.items.items s.innermost };
 }
 
 impl<'a> Environment<'a> {
@@ -110,13 +100,11 @@ impl<'a> Environment<'a> {
         let place = self.items.len();
         let key = name;
         let hidden = place_of(&self.innermost, &key);
-        let closed_from = closed_run(&self.items);
         self.items.push(Binding {
             name,
             quantified,
             body,
             hidden,
-            closed_from,
         })?;
         match self.innermost.insert(name, place) {
             Ok(_) => Ok(()),
@@ -163,23 +151,6 @@ impl<'a> Environment<'a> {
         }
         Ok(())
     }
-
-    /// The variables that are free in the outermost `depth` schemes, with what the solver knows put
-    /// for their free variables.
-    pub(crate) fn free_variables(
-        &self,
-        alloc: Global,
-        solver: &Solver,
-        depth: usize,
-    ) -> Result<Collected, AllocError>
-        requires given { AreAssumed solver.now.given self.now }
-        requires depth { depth ≤ length self.now }
-        ensures { IfOk result (λ c. (added base : List Assumed) → self.now ≡ added ++ base → length base ≡ depth → (m : ℕ → Monotype) → IsSolution solver.now.equations m → Keeps c (assumptions_put m (assumptions base))) }
-    {
-        let mut found = none_collected(alloc);
-        gather_all(solver, &mut found, &self.items[..depth])?;
-        Ok(found)
-    }
 }
 
 /// The place that a table has for a name.
@@ -214,7 +185,6 @@ fn restore<'a>(
 /// Forgets the last assumption: what it hid is seen again.
 fn forget_last<'a>(items: &mut Vec<Binding<'a>>, innermost: &mut IndexMap<LentName<'a>, usize>)
     ensures items { items.new.items ≡ take (length items.old.items - 1) items.old.items }
-    ensures runs { HaveRuns items.old.items → HaveRuns items.new.items }
     ensures placed { IsPlaced items.old.items innermost.old → IsPlaced items.new.items innermost.new }
 {
     let Some(last) = items.pop() else {
@@ -230,48 +200,9 @@ fn forget_from<'a>(
     depth: usize,
 )
     ensures items { depth ≤ length items.old.items → items.new.items ≡ take depth items.old.items }
-    ensures runs { HaveRuns items.old.items → HaveRuns items.new.items }
     ensures placed { IsPlaced items.old.items innermost.old → IsPlaced items.new.items innermost.new }
 {
     'items: while items.len() > depth {
         forget_last(items, innermost);
     }
-}
-
-/// The place from which on all assumptions have no free variables.
-fn closed_run(items: &[Binding<'_>]) -> usize
-    requires { HaveRuns items.now }
-    ensures inside { result ≤ length items.now }
-    ensures closed { AreClosedFrom items.now result (length items.now) }
-{
-    let count = items.len();
-    if count == 0 {
-        return 0;
-    }
-    let last = &items[count - 1];
-    if is_closed(last.quantified, &last.body) {
-        last.closed_from
-    } else {
-        count
-    }
-}
-
-/// Adds the variables that are free in schemes, with what the solver knows put for their free
-/// variables. Runs of schemes without any are passed over.
-fn gather_all(
-    solver: &Solver,
-    found: &mut Collected,
-    items: &[Binding<'_>],
-) -> Result<(), AllocError>
-    requires given { AreAssumed solver.now.given (entries_of items.now) }
-    requires runs { HaveRuns items.now }
-    ensures { OnOk result (Gathers (λ l. IsFreeAmong solver.now.equations l (entries_of items.now)) found.old found.new) }
-{
-    let mut left = items.len();
-    'items: while left > 0 {
-        let item = &items[left - 1];
-        gather_free(solver, found, item.quantified, &item.body)?;
-        left = item.closed_from;
-    }
-    Ok(())
 }

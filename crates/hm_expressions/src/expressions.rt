@@ -24,7 +24,7 @@ ghost use Rattle.hm_expressions.specs.BoundNames.{Extends};
 ghost use Rattle.hm_expressions.specs.SignedLists.{AreSignatures, SignedClauseHas, SignedClausesHave};
 ghost use Rattle.hm_syntax.specs.Lists.{declarations};
 ghost use Rattle.hm_syntax.specs.Trees.{Declarations};
-ghost use Rattle.hm_expressions.specs.Stages.{InfersGroup, IsListFound, list_of};
+ghost use Rattle.hm_expressions.specs.Stages.{ClosesGroup, InfersGroup, IsListFound, list_of};
 ghost use Rattle.hm_typing.specs.Names.{Identifier};
 ghost use Rattle.hm_typing.specs.Schemes.{Monotype};
 ghost use Rattle.hm_expressions.specs.Patterns.{from_number, put_each};
@@ -170,7 +170,7 @@ fn check_typed<'a>(
     let declared = declare(alloc, ty)?;
     let own = with_rigid_variables(alloc, solver, &declared)?;
     check_expression(alloc, solver, environment, constructors, inner, &own.body)?;
-    forbid_escape(alloc, solver, environment, own.first, declared.count)?;
+    forbid_escape(solver, own.first, declared.count)?;
     check_instance(alloc, solver, &declared, t)
 }
 
@@ -520,8 +520,8 @@ fn check_members<'a>(
     Ok(())
 }
 
-/// Infers the schemes of a group of a list, and binds its names in the environment. The
-/// assumptions of the list are the outermost `depth` ones.
+/// Infers the schemes of a group of a list, and binds its names in the environment. Variables that
+/// are in the value of one older than the group aren't quantified.
 #[cycle(checking)]
 pub fn infer_group<'a>(
     alloc: Global,
@@ -532,7 +532,6 @@ pub fn infer_group<'a>(
     found: &BindingGroups<'a>,
     group: &[usize],
     types: &mut [usize],
-    depth: usize,
 ) -> Result<(), UnifyFault>
     requires list { IsListFound (known_of constructors.now) decls.now found.now.numbers (lists found.now.rows.items) }
     requires nodes { All (λ j. j < length found.now.numbers) group.now }
@@ -540,15 +539,16 @@ pub fn infer_group<'a>(
     requires some { 0 < length group.now }
     requires numbers { AreUpTo solver.old.given types.old }
     requires assumed { AreAssumed solver.old.given environment.old }
-    requires depth { depth ≤ length environment.old }
-    ensures inferred { (added base : List Assumed) → environment.old ≡ added ++ base → length base ≡ depth → InfersGroup (known_of constructors.now) decls.now group.now base solver.old environment.old solver.new environment.new result }
+    ensures inferred { (added base : List Assumed) → environment.old ≡ added ++ base → InfersGroup (known_of constructors.now) decls.now group.now base solver.old environment.old solver.new environment.new result }
     ensures assumed { OnOk result (AreAssumed solver.new.given environment.new) }
-    ensures judged { (added base : List Assumed) → environment.old ≡ added ++ base → length base ≡ depth → JudgesGroup (known_of constructors.now) decls.now group.now base solver.old environment.old environment.new result }
-    ensures closed { OnOk result (AreAssumed 0 environment.old → AreAssumed 0 environment.new) }
+    ensures judged { (added base : List Assumed) → environment.old ≡ added ++ base → JudgesGroup (known_of constructors.now) decls.now group.now base solver.old environment.old environment.new result }
+    ensures closed { OnOk result ((added base : List Assumed) → environment.old ≡ added ++ base → ClosesGroup (known_of constructors.now) decls.now group.now base solver.old environment.old environment.new) }
+    ensures closed_first { OnOk result (solver.old.given ≡ 0 → AreAssumed 0 environment.old → AreAssumed 0 environment.new) }
     ensures numbers { OnOk result (AreUpTo solver.new.given types.new) }
     ensures kept { Extends environment.old environment.new }
     ensures changed { ChangesOnly group.now types.old types.new }
 {
+    let older = solver.given();
     let inner = environment.len();
     let members = open_group(alloc, solver, environment, found, group, types)?;
     check_members(
@@ -561,7 +561,7 @@ pub fn infer_group<'a>(
         types,
     )?;
     environment.truncate(inner);
-    close_group(alloc, solver, environment, found, group, types, depth)?;
+    close_group(alloc, solver, environment, found, group, types, older)?;
     Ok(())
 }
 
@@ -600,7 +600,7 @@ pub fn check_signed<'a>(
         rhs,
         &own.body,
     )?;
-    forbid_escape(alloc, solver, environment, own.first, declared.count)?;
+    forbid_escape(solver, own.first, declared.count)?;
     Ok(())
 }
 
@@ -655,7 +655,6 @@ pub fn check_bindings<'a>(
     }
     let found = binding_groups(alloc, list)?;
     let signatures = signatures_of(alloc, list)?;
-    let depth = environment.len();
     bind_signed(alloc, environment, &signatures, list)?;
     let count = found.numbers.len();
     let mut types = vec![in alloc; 0; count]?;
@@ -669,7 +668,6 @@ pub fn check_bindings<'a>(
             &found,
             &found.groups[i],
             &mut types,
-            depth,
         )?;
     }
     check_all_signed(alloc, solver, environment, constructors, &signatures, list)?;

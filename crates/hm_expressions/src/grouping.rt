@@ -4,13 +4,12 @@
 ghost use Rattle.std.specs.Prelude.{◌≡◌, ℕ, ◌+◌, ◌<◌, ◌≤◌, ◌^◌, ◌++◌, List, All, IfOk, IfErr, OnOk, false, length};
 ghost use Rattle.hm_groups.specs.Nodes.{list_nodes};
 ghost use Rattle.hm_groups.specs.Groups.{node_name};
-ghost use Rattle.hm_types.specs.Monotypes.{Leaf};
 ghost use Rattle.hm_types.specs.Shape.{type_of};
+ghost use Rattle.hm_unify.specs.Levels.{is_outer};
 ghost use Rattle.hm_unify.specs.WellFormed.{IsWellFormed};
-ghost use Rattle.hm_expressions.specs.Collected.{has_leaf};
 ghost use Rattle.hm_expressions.specs.BoundNames.{ArePlaced, BindsNode, Extends, BindsTypes, BindsSchemes};
 ghost use Rattle.hm_expressions.specs.Environments.{AreAssumed, Assumed, assumptions};
-ghost use Rattle.hm_expressions.specs.Generalisations.{IsSolution, Keeps};
+ghost use Rattle.hm_expressions.specs.Generalisations.{IsSolution, KeepsEach, KeepsNone};
 ghost use Rattle.hm_expressions.specs.GroupQuestions.{AreGivenTypes};
 ghost use Rattle.hm_expressions.specs.OpenGroups.{AreUpTo, ChangesOnly, IsOpenGroup, IsClosedGroup};
 ghost use Rattle.hm_graph.specs.Digraph.{lists};
@@ -20,7 +19,6 @@ ghost use Rattle.hm_syntax.specs.Trees.{Declarations};
 ghost use Rattle.hm_typing.specs.Assumptions.{Assumptions, assumptions_put};
 ghost use Rattle.hm_typing.specs.Schemes.{Monotype};
 
-use crate::collecting::Collected;
 use crate::environment::Environment;
 use crate::generalising::{Generalised, generalise};
 use crate::unifying::new_variables;
@@ -85,7 +83,8 @@ pub(crate) fn bind_types<'a>(
 }
 
 /// Binds the variables among the nodes of a group to the closures of their types, with what the
-/// solver knows put for their variables. The variables that are kept stay free.
+/// solver knows put for their variables. Those that are in the values of the first `older` stay
+/// free.
 pub(crate) fn bind_schemes<'a>(
     alloc: Global,
     solver: &Solver,
@@ -93,20 +92,20 @@ pub(crate) fn bind_schemes<'a>(
     numbers: &Numbers<'a>,
     group: &[usize],
     types: &[usize],
-    kept: &Collected,
+    older: usize,
 ) -> Result<(), AllocError>
     requires nodes { All (λ j. j < length numbers.now) group.now }
     requires types { length types.now ≡ length numbers.now }
     requires numbers { AreGivenTypes solver.now.given types.now }
-    ensures bound { OnOk result ((k : Known) (all : Declarations) → numbers.now ≡ list_nodes all all → (A : Assumptions) (m : ℕ → Monotype) → IsSolution solver.now.equations m → Keeps kept.now (assumptions_put m A) → BindsSchemes k all types.now m A group.now environment.old environment.new) }
+    ensures bound { OnOk result ((k : Known) (all : Declarations) → numbers.now ≡ list_nodes all all → (A : Assumptions) (m : ℕ → Monotype) → IsSolution solver.now.equations m → KeepsEach (is_outer solver.now.equations older) solver.now.equations types.now group.now (assumptions_put m A) → BindsSchemes k all types.now m A group.now environment.old environment.new) }
     ensures given { OnOk result (AreAssumed solver.now.given environment.old → AreAssumed solver.now.given environment.new) }
-    ensures closed { OnOk result (((l : Leaf) → has_leaf kept.now l ≡ false) → AreAssumed 0 environment.old → AreAssumed 0 environment.new) }
+    ensures closed { OnOk result (KeepsNone (is_outer solver.now.equations older) solver.now.equations types.now group.now → AreAssumed 0 environment.old → AreAssumed 0 environment.new) }
     ensures kept { Extends environment.old environment.new }
 {
     'nodes: for place in 0..group.len() {
         let node = group[place];
         let number = types[node];
-        let scheme = generalise(alloc, solver, kept, &Ty::Var(number))?;
+        let scheme = generalise(alloc, solver, older, &Ty::Var(number))?;
         let Generalised { quantified, body } = scheme;
         bind_node(environment, numbers, node, quantified, body)?;
     }
@@ -140,8 +139,8 @@ pub(crate) fn open_group<'a>(
     Ok(group_members(alloc, &found.rows, group)?)
 }
 
-/// Binds the names of a group to the closures of their types over the outermost `depth`
-/// assumptions.
+/// Binds the names of a group to the closures of their types: variables that are in the values of
+/// the first `older` stay free.
 pub(crate) fn close_group<'a>(
     alloc: Global,
     solver: &Solver,
@@ -149,21 +148,19 @@ pub(crate) fn close_group<'a>(
     found: &BindingGroups<'a>,
     group: &[usize],
     types: &[usize],
-    depth: usize,
+    older: usize,
 ) -> Result<(), UnifyFault>
     requires nodes { All (λ j. j < length found.now.numbers) group.now }
     requires types { length types.now ≡ length found.now.numbers }
     requires numbers { AreGivenTypes solver.now.given types.now }
     requires assumed { AreAssumed solver.now.given environment.old }
-    requires depth { depth ≤ length environment.old }
-    ensures closed { OnOk result (IsClosedGroup found.now.numbers group.now types.now depth solver.now environment.old environment.new) }
+    ensures closed { OnOk result (IsClosedGroup found.now.numbers group.now types.now older solver.now environment.old environment.new) }
     ensures assumed { OnOk result (AreAssumed solver.now.given environment.new) }
-    ensures closed_alone { OnOk result (AreAssumed 0 environment.old → AreAssumed 0 environment.new) }
+    ensures closed_alone { OnOk result (KeepsNone (is_outer solver.now.equations older) solver.now.equations types.now group.now → AreAssumed 0 environment.old → AreAssumed 0 environment.new) }
     ensures kept { Extends environment.old environment.new }
     ensures refused { IfErr result (λ e. e ≡ Memory) }
 {
     solver.has_solution();
-    let kept = environment.free_variables(alloc, solver, depth)?;
     Ok(bind_schemes(
         alloc,
         solver,
@@ -171,6 +168,6 @@ pub(crate) fn close_group<'a>(
         &found.numbers,
         group,
         types,
-        &kept,
+        older,
     )?)
 }

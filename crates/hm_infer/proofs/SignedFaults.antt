@@ -31,7 +31,7 @@ clause_typed k all d w es fs s s1 e f a m solved =
     (subst (λ C. SignedClauseHas k all C d) (assumptions_put_closed m.map (assumptions fs) (closed_assumptions fs a))
     (subst (λ z. SignedClauseHas k all (assumptions_put m.map (assumptions z)) d) f (solved.sound m.map m.unifies).1))
 
-pub clause_refused : (k : Known) (all : Declarations) (d : Declaration) (w : Bool) (es fs : List Assumed) (s : Solving) (x : UnifyFault) → w ≡ false → es ≡ fs → AreAssumed 0 fs → s ≡ record { equations = []; given = 0; failed = false } → x ≡ Clash → RefusesAnswer (λ r. SignedClauseHas k all (assumptions_put r (assumptions es)) d) s x → Refuses w true k all (assumptions fs) d
+pub clause_refused : (k : Known) (all : Declarations) (d : Declaration) (w : Bool) (es fs : List Assumed) (s : Solving) (x : UnifyFault) → w ≡ false → es ≡ fs → AreAssumed 0 fs → s ≡ record { equations = []; given = 0; failed = false; opened = [] } → x ≡ Clash → RefusesAnswer (λ r. SignedClauseHas k all (assumptions_put r (assumptions es)) d) s x → Refuses w true k all (assumptions fs) d
 clause_refused k all d w es fs s x e f a i c n =
     let never : HasNone (λ r. SignedClauseHas k all (assumptions_put r (assumptions es)) d) s = subst (RefusesAnswer (λ r. SignedClauseHas k all (assumptions_put r (assumptions es)) d) s) c n in
     subst (λ z. Refuses z true k all (assumptions fs) d) (sym e)

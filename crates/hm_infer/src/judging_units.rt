@@ -2,7 +2,7 @@
 //! closed assumptions where all that it refers to outside has types, and leaves no trace where it
 //! has none.
 
-ghost use Rattle.std.specs.Prelude.{◌≡◌, ℕ, ◌<◌, ◌≤◌, ◌++◌, List, All, IfOk, OnOk, length, slice_index_or};
+ghost use Rattle.std.specs.Prelude.{◌≡◌, ℕ, ◌<◌, ◌++◌, List, All, IfOk, OnOk, length, slice_index_or};
 ghost use Rattle.hm_graph.specs.Digraph.{lists};
 ghost use Rattle.hm_typing.specs.Names.{IsDistinct, IsOneOf};
 ghost use Rattle.hm_typing.specs.Orders.{AreNumberedGroups};
@@ -50,18 +50,16 @@ fn judge_group<'a>(
     types: &mut [usize],
     shown: &mut [bool],
     typed: &mut [bool],
-    depth: usize,
 ) -> Result<(), UnifyFault>
     requires list { IsListFound (known_of constructors.now) decls.now found.now.numbers (lists found.now.rows.items) }
     requires nodes { All (λ j. j < length found.now.numbers) group.now }
     requires some { 0 < length group.now }
     requires closed { AreAssumed 0 environment.old }
-    requires depth { depth ≤ length environment.old }
     requires types { length types.old ≡ length found.now.numbers }
     requires numbers { AreUpTo 0 types.old }
     requires shown { AllShown shown.old (length found.now.numbers) }
     requires typed { length typed.old ≡ length found.now.numbers }
-    ensures judged { OnOk result ((added base : List Assumed) → environment.old ≡ added ++ base → length base ≡ depth → UnitJudged (known_of constructors.now) decls.now found.now.numbers (lists found.now.rows.items) group.now base environment.old environment.new typed.old typed.new) }
+    ensures judged { OnOk result ((added base : List Assumed) → environment.old ≡ added ++ base → UnitJudged (known_of constructors.now) decls.now found.now.numbers (lists found.now.rows.items) group.now base environment.old environment.new typed.old typed.new) }
     ensures closed { OnOk result (AreAssumed 0 environment.new) }
     ensures kept { OnOk result (Extends environment.old environment.new) }
     ensures numbers { OnOk result (AreUpTo 0 types.new) }
@@ -84,7 +82,6 @@ fn judge_group<'a>(
         found,
         group,
         types,
-        depth,
     ) {
         Ok(()) => {
             clear(types, group);
@@ -110,17 +107,15 @@ fn judge_each<'a>(
     types: &mut [usize],
     shown: &mut [bool],
     typed: &mut [bool],
-    depth: usize,
 ) -> Result<(), UnifyFault>
     requires list { IsListFound (known_of constructors.now) decls.now found.now.numbers (lists found.now.rows.items) }
     requires groups { AreNumberedGroups (list_of (known_of constructors.now) decls.now) (node_name (known_of constructors.now) (declarations decls.now)) (length found.now.numbers) (lists found.now.groups.items) }
     requires closed { AreAssumed 0 environment.old }
-    requires depth { depth ≤ length environment.old }
     requires types { length types.old ≡ length found.now.numbers }
     requires numbers { AreUpTo 0 types.old }
     requires shown { AllShown shown.old (length found.now.numbers) }
     requires typed { length typed.old ≡ length found.now.numbers }
-    ensures judged { OnOk result ((added base : List Assumed) → environment.old ≡ added ++ base → length base ≡ depth → UnitsJudged (known_of constructors.now) decls.now (lists found.now.groups.items) (length found.now.numbers) 0 base environment.old typed.old → UnitsJudged (known_of constructors.now) decls.now (lists found.now.groups.items) (length found.now.numbers) (length (lists found.now.groups.items)) base environment.new typed.new) }
+    ensures judged { OnOk result ((added base : List Assumed) → environment.old ≡ added ++ base → UnitsJudged (known_of constructors.now) decls.now (lists found.now.groups.items) (length found.now.numbers) 0 base environment.old typed.old → UnitsJudged (known_of constructors.now) decls.now (lists found.now.groups.items) (length found.now.numbers) (length (lists found.now.groups.items)) base environment.new typed.new) }
     ensures closed { OnOk result (AreAssumed 0 environment.new) }
 {
     'groups: for i in 0..found.groups.len() {
@@ -134,28 +129,25 @@ fn judge_each<'a>(
             types,
             shown,
             typed,
-            depth,
         )?;
     }
     Ok(())
 }
 
-/// Judges the groups of a list in order, where the variables with signatures are bound inside the
-/// outermost `depth` assumptions. Answers which nodes are typed, and binds their names.
+/// Judges the groups of a list in order, where the variables with signatures are bound. Answers
+/// which nodes are typed, and binds their names.
 pub(crate) fn judge_groups<'a>(
     alloc: Global,
     environment: &mut Environment<'a>,
     constructors: &Constructors,
     decls: &'a [Decl],
     found: &BindingGroups<'a>,
-    depth: usize,
 ) -> Result<Vec<bool>, UnifyFault>
     requires list { IsListFound (known_of constructors.now) decls.now found.now.numbers (lists found.now.rows.items) }
     requires groups { AreNumberedGroups (list_of (known_of constructors.now) decls.now) (node_name (known_of constructors.now) (declarations decls.now)) (length found.now.numbers) (lists found.now.groups.items) }
     requires distinct { IsDistinct (names (list_of (known_of constructors.now) decls.now)) }
     requires closed { AreAssumed 0 environment.old }
-    requires depth { depth ≤ length environment.old }
-    ensures judged { IfOk result (λ typed. (added base : List Assumed) → environment.old ≡ added ++ base → length base ≡ depth → BindsSigned (list_of (known_of constructors.now) decls.now) base environment.old → UnitsJudged (known_of constructors.now) decls.now (lists found.now.groups.items) (length found.now.numbers) (length (lists found.now.groups.items)) base environment.new typed.items) }
+    ensures judged { IfOk result (λ typed. (added base : List Assumed) → environment.old ≡ added ++ base → BindsSigned (list_of (known_of constructors.now) decls.now) base environment.old → UnitsJudged (known_of constructors.now) decls.now (lists found.now.groups.items) (length found.now.numbers) (length (lists found.now.groups.items)) base environment.new typed.items) }
     ensures sized { IfOk result (λ typed. length typed.items ≡ length found.now.numbers) }
     ensures closed { OnOk result (AreAssumed 0 environment.new) }
 {
@@ -172,7 +164,6 @@ pub(crate) fn judge_groups<'a>(
         &mut types,
         &mut shown,
         &mut typed,
-        depth,
     )?;
     Ok(typed)
 }

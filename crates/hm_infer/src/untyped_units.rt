@@ -69,9 +69,8 @@ fn starts_of_groups<'a>(
     requires signatures { AreSignatures (declarations decls.now) signatures.now }
     ensures { IfOk result (λ starts. (o : IsCoreList (known_of constructors.now) decls.now) → AreFaultStarts o.core (assumptions environment.old) starts.items) }
 {
-    let depth = environment.len();
     bind_signed(alloc, environment, signatures, decls)?;
-    let mut typed = judge_groups(alloc, environment, constructors, decls, found, depth)?;
+    let mut typed = judge_groups(alloc, environment, constructors, decls, found)?;
     let signed = signed_starts(
         alloc,
         environment,

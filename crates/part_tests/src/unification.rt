@@ -1,6 +1,6 @@
 //! Worked rows: pairs of types over two variables and a rigid one, and what a solver answers.
 
-ghost use Rattle.std.specs.Prelude.{◌≡◌, ℕ, IfOk};
+ghost use Rattle.std.specs.Prelude.{◌≡◌, ◌∷◌, [], ℕ, IfOk};
 ghost use Rattle.hm_types.specs.Types.{App as app, done as none, more};
 ghost use Rattle.hm_types.specs.Shape.{type_of};
 ghost use Rattle.hm_types.specs.declared.Head.TheVariants as head;
@@ -99,6 +99,52 @@ fn a_solver_goes_on_after_a_clash(rt: HostRuntime) -> Result<(), Fail> {
         assert!(rt; again.is_ok());
         let found = solver.value(&example(alloc, 0)?)?;
         assert!(rt; found.is_same(&example(alloc, 3)?));
+        return Ok(());
+    }
+    assert!(rt; false, "no clash");
+    Ok(())
+}
+
+/// A solver that has given the variable 0, opened a level, and given the variables 1 and 2.
+fn solver_inside_a_level(alloc: Global) -> Result<Solver, AllocError>
+    ensures given { IfOk result (λ solver. solver.given ≡ 3) }
+    ensures opened { IfOk result (λ solver. solver.opened ≡ 1 ∷ []) }
+{
+    let mut solver = Solver::new(alloc);
+    let _outer = solver.fresh()?;
+    solver.enter()?;
+    let _first = solver.fresh()?;
+    let _second = solver.fresh()?;
+    Ok(solver)
+}
+
+/// Variable 1 becomes part of the value of variable 0, which is older than the level.
+#[test]
+fn a_variable_in_an_older_one_is_not_deeper(rt: HostRuntime) -> Result<(), Fail> {
+    let alloc = rt.alloc();
+    let mut solver = solver_inside_a_level(alloc)?;
+    let value = Ty::function(alloc, Ty::Var(1), constant(alloc, "Int")?)?;
+    let Ok(()) = solver.unify(&Ty::Var(0), value) else {
+        assert!(rt; false, "refused");
+        return Ok(());
+    };
+    let both = Ty::function(alloc, Ty::Var(1), Ty::Var(2))?;
+    let found = solver.deeper(&both)?;
+    assert!(rt; found.as_slice() == [2]);
+    solver.leave();
+    Ok(())
+}
+
+/// The equation of variables 0 and 2 is taken back, and the level of variable 2 put back.
+#[test]
+fn a_clash_puts_levels_back(rt: HostRuntime) -> Result<(), Fail> {
+    let alloc = rt.alloc();
+    let mut solver = solver_inside_a_level(alloc)?;
+    let left = pair(alloc, Ty::Var(2), constant(alloc, "Int")?)?;
+    let right = pair(alloc, Ty::Var(0), constant(alloc, "Char")?)?;
+    if let Err(UnifyFault::Clash) = solver.unify(&left, right) {
+        let found = solver.deeper(&Ty::Var(2))?;
+        assert!(rt; found.as_slice() == [2]);
         return Ok(());
     }
     assert!(rt; false, "no clash");

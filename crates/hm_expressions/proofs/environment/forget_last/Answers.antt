@@ -1,13 +1,6 @@
-use Rattle.std.proofs.Common.{◌≡◌, ◌∷◌, ◌++◌, [], rules, sym, subst, length, take, ◌-◌}
-use Rattle.hm_expressions.specs.Places.{HaveRuns}
-use Rattle.hm_expressions.proofs.ClosedRuns.{runs_taken}
+use Rattle.std.proofs.Common.{◌≡◌, ◌∷◌, ◌++◌, [], rules}
 use Rattle.hm_expressions.proofs.Placed.{last_forgotten, last_placed}
 use Rattle.hm_expressions.proofs.environment.forget_last.Goals as goal
-
-pub returns-clause-runs : goal.returns-clause-runs
-returns-clause-runs c = λ runs.
-    let rest : c.pop.new.self.items ≡ take (length c.args.items.now.items - 1) c.args.items.now.items = search rules in
-    subst HaveRuns (sym rest) (runs_taken c.args.items.now.items (length c.args.items.now.items - 1) runs)
 
 pub returns-clause-placed : goal.returns-clause-placed
 returns-clause-placed c = λ placed.

@@ -1,13 +1,20 @@
-use Rattle.std.proofs.Common.{◌+◌, [], refl, sym, ◌∙◌, arith}
+use Rattle.std.proofs.Common.{◌≡◌, ◌+◌, sym, ◌∙◌, subst, true≢false, inl, inr, arith}
 use Rattle.hm_types.specs.Monotypes.{rigid}
+use Rattle.hm_unify.proofs.Outer.{outer_is_tested}
+use Rattle.hm_expressions.specs.Escapes.{Escapes}
+use Rattle.hm_expressions.proofs.States.{less_or}
 use Rattle.hm_expressions.proofs.escaping.has_escaped.Goals as goal
 
-pub returns-then-has_number-clause-escaped : goal.returns-then-has_number-clause-escaped
-returns-then-has_number-clause-escaped c e m solves =
-    let there = sym c.has_number.ensures ∙ c.if-has_number.true in
-    (c.loop-i.i, (c.loop-i-test.true, (c.in_ok-free.ensures [] c.args.environment.now refl (sym c.len-depth.ensures) m solves (rigid (c.args.first + c.loop-i.i))).0 there))
+pub returns-then-is_outer_rigid-clause-escaped : goal.returns-then-is_outer_rigid-clause-escaped
+returns-then-is_outer_rigid-clause-escaped c = λ _.
+    (c.loop-i.i, (c.loop-i-test.true, (outer_is_tested c.args.solver.now.equations c.args.first (rigid (c.args.first + c.loop-i.i))).0 (sym c.is_outer_rigid.ensures ∙ c.if-is_outer_rigid.true)))
 
-pub returns-clause-none : goal.returns-clause-none
-returns-clause-none c e m solves i below free =
-    let all = c.loop-i-test.false in
-    c.loop-i.invariant i (omega (arith, all)) ((c.in_ok-free.ensures [] c.args.environment.now refl (sym c.len-depth.ensures) m solves (rigid (c.args.first + i))).1 free)
+pub loop-i-preserved : goal.loop-i-preserved
+loop-i-preserved c = λ j h o.
+    elim (less_or j c.loop-i.i) [
+      | inl l ↦ c.loop-i.invariant j l o
+      | inr g ↦
+          let same : j ≡ c.loop-i.i = omega arith in
+          let outer = (outer_is_tested c.args.solver.now.equations c.args.first (rigid (c.args.first + c.loop-i.i))).1 (subst (Escapes c.args.first c.args.solver.now) same o) in
+          absurd (true≢false (sym outer ∙ (sym c.is_outer_rigid.ensures ∙ c.if-is_outer_rigid.false)))
+    ]

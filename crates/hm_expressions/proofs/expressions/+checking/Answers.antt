@@ -30,17 +30,19 @@ use Rattle.hm_graph.specs.Digraph.{lists}
 use Rattle.hm_expressions.specs.BoundNames.{Extends}
 use Rattle.hm_expressions.specs.OpenGroups.{AreUpTo, IsOpenGroup, IsClosedGroup}
 use Rattle.hm_expressions.proofs.OpenedForms.{empty_listed, none_of}
-use Rattle.hm_expressions.proofs.ListSteps.{GroupsInferred, is_zero, list_refused, group_below, group_some, zeroes_up_to, group_at, rows_long, written_to, listed_passed, deep_enough, next_stage}
+use Rattle.hm_expressions.proofs.ListSteps.{GroupsInferred, is_zero, list_refused, group_below, group_some, zeroes_up_to, group_at, rows_long, written_to, listed_passed, next_stage}
 use Rattle.std.proofs.lemmas.List.{length-map}
 use Rattle.hm_groups.specs.Groups.{node_name}
 use Rattle.hm_expressions.specs.Stages.{list_of}
 use Rattle.std.proofs.Common.{◌+◌, ◌*◌}
 use Rattle.hm_unify.proofs.WellFormed.{well_formed_more}
-use Rattle.hm_expressions.proofs.GroupEnds.{group_members_are, infers_refused, infers_solved, infers_passed, given_up_to}
+use Rattle.hm_unify.specs.Levels.{is_outer}
+use Rattle.hm_expressions.specs.Generalisations.{KeepsNone}
+use Rattle.hm_expressions.proofs.GroupEnds.{closes_group, none_older, group_members_are, infers_refused, infers_solved, infers_passed, given_up_to}
 use Rattle.hm_expressions.proofs.NodeTypes.{types_later}
 use Rattle.hm_expressions.proofs.MemberForms.{answers_grow, later_grow, same_member, is_member, declaration_at, AsksMember, clause_member, pattern_member, members_none, members_more, members_refused, members_all}
 use Rattle.hm_expressions.proofs.Sides.{ChecksClause, clause_answers, ChecksChoice, ChecksChoices, choice_answers, choice_refused, body_is, plain_answers, guarded_answers, ChecksBodies, bodies_none, bodies_more, bodies_refused, bodies_all, ChecksSide, side_answers, side_refused}
-use Rattle.hm_expressions.proofs.TypedForms.{IsTaken, at_each, escape_refused, inner_refused, tells_moved, typed_answers, typed_refused}
+use Rattle.hm_expressions.proofs.TypedForms.{IsTaken, at_each, escape_refused, inner_refused, typed_answers, typed_refused}
 use Rattle.std.specs.Prelude.{option_map}
 use Rattle.hm_syntax.specs.Trees.{clause as clause_tree}
 use Rattle.hm_names.specs.Types.{declared_type}
@@ -462,12 +464,6 @@ check_typed-returns-in_err-check_expression-clause-answers t c =
     (typed_refused known x body own count first es s s1 c.requires.assumed taken c.args.ty.now (type_of c.args.t.now) c.in_ok-declared.ensures.body c.requires.given fault
     (inner_refused known x body own count first es s s1 c.requires.assumed taken fault c.in_err-check_expression.ensures.answers))
 
-pub check_typed-forbid_escape-requires-clause-assumed : goal.check_typed-forbid_escape-requires-clause-assumed
-check_typed-forbid_escape-requires-clause-assumed t c =
-    let k = given_next c.args.solver.now c.with_rigid_variables.new.solver c.in_ok-declared.declared.count c.in_ok-own.ensures.next in
-    let l = solved_grows _ c.with_rigid_variables.new.solver c.check_expression.new.solver c.in_ok-check_expression.ensures.answers in
-    assumed_at c.args.solver.now c.check_expression.new.solver c.args.environment.now c.check_expression.new.environment c.in_ok-check_expression.ensures.same (omega (arith, k, l)) c.requires.assumed
-
 pub check_typed-returns-in_err-forbid_escape-clause-answers : goal.check_typed-returns-in_err-forbid_escape-clause-answers
 check_typed-returns-in_err-forbid_escape-clause-answers t c =
     let known = known_of c.args.constructors.now in
@@ -486,7 +482,7 @@ check_typed-returns-in_err-forbid_escape-clause-answers t c =
     refused_by (Checks known (typed_expression x c.args.ty.now) (type_of c.args.t.now) es) s s2 outcome fault c.from_residual-in_err-forbid_escape.ensures.1
     (typed_refused known x body own count first es s s1 c.requires.assumed taken c.args.ty.now (type_of c.args.t.now) c.in_ok-declared.ensures.body c.requires.given fault
     (escape_refused known x body own count first es s s1 c.requires.assumed taken s2 fault c.in_ok-check_expression.ensures.answers
-    (tells_moved {X = Unit {0}} first count es c.check_expression.new.environment s2 (Err fault) c.in_ok-check_expression.ensures.same c.in_err-forbid_escape.ensures)))
+    c.in_err-forbid_escape.ensures))
 
 pub check_typed-check_instance-requires-clause-given : goal.check_typed-check_instance-requires-clause-given
 check_typed-check_instance-requires-clause-given t c =
@@ -508,7 +504,7 @@ check_typed-returns-clause-answers t c =
     let first = c.in_ok-own.own.first in
     let taken : IsTaken s s1 count first body own = record { next = c.in_ok-own.ensures.next; from = c.in_ok-own.ensures.first; shape = c.in_ok-own.ensures.body; below = c.in_ok-own.ensures.below; given = c.in_ok-declared.ensures.given } in
     let s3 = c.check_instance.new.solver in
-    let tells = tells_moved first count es c.check_expression.new.environment s2 (Ok c.in_ok-forbid_escape.field-0) c.in_ok-check_expression.ensures.same c.in_ok-forbid_escape.ensures in
+    let tells = c.in_ok-forbid_escape.ensures in
     typed_answers known x body own count first es s s1 c.requires.assumed taken c.args.ty.now (type_of c.args.t.now) c.in_ok-declared.ensures.body c.requires.given s2 s3 c.check_instance.result
     (at_each known x body own count first es s s1 c.requires.assumed taken s2 c.in_ok-forbid_escape.field-0 c.in_ok-check_expression.ensures.answers tells) c.check_instance.ensures
 
@@ -560,7 +556,7 @@ check_bindings-infer_group-requires t c =
               group_some (list_of k c.args.list.now) name n gs c.groups.i c.deref.result.now are within here,
               (
                 subst (AreUpTo c.groups.solver.given) (sym same) v.numbers,
-                (v.assumed, deep_enough c.args.environment.now c.groups.environment _ c.len-depth.ensures v.added),
+                v.assumed,
               ),
             ),
           ),
@@ -580,7 +576,7 @@ check_bindings-returns-in_err-infer_group-clause-listed t c =
     let are = c.in_ok-found.ensures.groups k in
     let v = c.groups.invariant in
     listed_passed (Unit {0}) (list_of k c.args.list.now) c.args.solver.now c.args.environment.now c.infer_group.new.solver c.infer_group.new.environment c.from_residual-in_err-infer_group.result c.in_err-infer_group.field-0.0 c.from_residual-in_err-infer_group.ensures.1
-    (list_refused (Unit {0}) k c.args.list.now gs c.groups.i c.deref.result.now c.args.solver.now c.groups.solver c.infer_group.new.solver c.args.environment.now c.groups.environment c.infer_group.new.environment c.in_err-infer_group.field-0.0 within here c.requires v.stage (c.in_err-infer_group.ensures.inferred v.added.0 c.args.environment.now v.added.1 (sym c.len-depth.ensures)))
+    (list_refused (Unit {0}) k c.args.list.now gs c.groups.i c.deref.result.now c.args.solver.now c.groups.solver c.infer_group.new.solver c.args.environment.now c.groups.environment c.infer_group.new.environment c.in_err-infer_group.field-0.0 within here c.requires v.stage (c.in_err-infer_group.ensures.inferred v.added.0 c.args.environment.now v.added.1))
 
 pub check_bindings-groups-preserved : goal.check_bindings-groups-preserved
 check_bindings-groups-preserved t c =
@@ -596,7 +592,7 @@ check_bindings-groups-preserved t c =
     let kept : length c.infer_group.new.types ≡ length c.groups.types.items = c.infer_group.auto.types ∙ ap length c.deref_mut.ensures.value in
     let new = written_to c.infer_group.new.types c.groups.types.items c.groups.types.len (c.groups.types.ok.0) kept in
     subst (λ z. GroupsInferred k c.args.list.now gs n z (c.groups.i + 1) c.args.solver.now c.args.environment.now c.infer_group.new.solver c.infer_group.new.environment) (sym new)
-    (next_stage k c.args.list.now gs n c.groups.i c.groups.types.items c.infer_group.new.types c.deref.result.now c.args.solver.now c.groups.solver c.infer_group.new.solver c.args.environment.now c.groups.environment c.infer_group.new.environment c.requires v within here (c.in_ok-infer_group.ensures.inferred v.added.0 c.args.environment.now v.added.1 (sym c.len-depth.ensures)) (kept ∙ v.sized) c.in_ok-infer_group.ensures.numbers c.in_ok-infer_group.ensures.assumed c.infer_group.ensures.kept (λ a. c.in_ok-infer_group.ensures.closed (v.closed a)))
+    (next_stage k c.args.list.now gs n c.groups.i c.groups.types.items c.infer_group.new.types c.deref.result.now c.args.solver.now c.groups.solver c.infer_group.new.solver c.args.environment.now c.groups.environment c.infer_group.new.environment c.requires v within here (c.in_ok-infer_group.ensures.inferred v.added.0 c.args.environment.now v.added.1) (kept ∙ v.sized) c.in_ok-infer_group.ensures.numbers c.in_ok-infer_group.ensures.assumed c.infer_group.ensures.kept (c.in_ok-infer_group.ensures.closed v.added.0 c.args.environment.now v.added.1))
 
 pub check_bindings-returns-clause-listed : goal.check_bindings-returns-clause-listed
 check_bindings-returns-clause-listed t c =
@@ -682,12 +678,12 @@ infer_group-check_members-requires t c =
     (omega arith, (group_members_are (known_of c.args.constructors.now) c.args.decls.now c.args.found.now.numbers (lists c.args.found.now.rows.items) c.args.group.now c.open_group.new.types c.deref.result.now c.args.solver.now c.args.environment.now c.open_group.new.solver c.open_group.new.environment c.requires.list c.requires.nodes (subst (λ z. IsOpenGroup c.args.found.now.numbers (lists c.args.found.now.rows.items) c.args.group.now c.args.solver.now c.args.environment.now c.open_group.new.solver c.open_group.new.environment c.open_group.new.types z) (sym c.deref.ensures.value) c.in_ok-members.ensures.opened) (length c.open_group.new.types) (omega (arith, c.requires.types, c.open_group.auto.types)), (o.numbers, o.assumed)))
 
 pub infer_group-returns-in_err-check_members-clause-inferred : goal.infer_group-returns-in_err-check_members-clause-inferred
-infer_group-returns-in_err-check_members-clause-inferred t c = λ added base e l.
+infer_group-returns-in_err-check_members-clause-inferred t c = λ added base e.
     infers_passed (Unit {0}) (known_of c.args.constructors.now) c.args.decls.now c.args.group.now base c.args.solver.now c.args.environment.now c.check_members.new.solver c.check_members.new.environment c.from_residual-in_err-check_members.result c.in_err-check_members.field-0.0 c.from_residual-in_err-check_members.ensures.1
     (infers_refused (known_of c.args.constructors.now) c.args.decls.now c.args.found.now.numbers (lists c.args.found.now.rows.items) c.args.group.now c.open_group.new.types c.deref.result.now c.args.solver.now c.args.environment.now c.open_group.new.solver c.open_group.new.environment c.requires.list c.requires.nodes (subst (λ z. IsOpenGroup c.args.found.now.numbers (lists c.args.found.now.rows.items) c.args.group.now c.args.solver.now c.args.environment.now c.open_group.new.solver c.open_group.new.environment c.open_group.new.types z) (sym c.deref.ensures.value) c.in_ok-members.ensures.opened) (Unit {0}) base c.check_members.new.solver c.check_members.new.environment c.in_err-check_members.field-0.0 c.in_err-check_members.ensures.answers)
 
 pub infer_group-returns-in_err-check_members-clause-judged : goal.infer_group-returns-in_err-check_members-clause-judged
-infer_group-returns-in_err-check_members-clause-judged t c = λ added base e l.
+infer_group-returns-in_err-check_members-clause-judged t c = λ added base e.
     judges_passed (Unit {0}) (known_of c.args.constructors.now) c.args.decls.now c.args.group.now base c.args.solver.now c.args.environment.now c.check_members.new.environment c.from_residual-in_err-check_members.result c.in_err-check_members.field-0.0 c.from_residual-in_err-check_members.ensures.1
     (judges_refused (known_of c.args.constructors.now) c.args.decls.now c.args.found.now.numbers (lists c.args.found.now.rows.items) c.args.group.now c.open_group.new.types c.deref.result.now c.args.solver.now c.args.environment.now c.open_group.new.solver c.open_group.new.environment c.requires.list c.requires.nodes (subst (λ z. IsOpenGroup c.args.found.now.numbers (lists c.args.found.now.rows.items) c.args.group.now c.args.solver.now c.args.environment.now c.open_group.new.solver c.open_group.new.environment c.open_group.new.types z) (sym c.deref.ensures.value) c.in_ok-members.ensures.opened) base (Unit {0}) c.check_members.new.solver c.check_members.new.environment c.in_err-check_members.field-0.0 c.in_err-check_members.ensures.answers)
 
@@ -700,34 +696,40 @@ infer_group-close_group-requires-clause-assumed t c =
     let back : c.truncate.new.self ≡ c.args.environment.now = c.truncate.ensures o.added.0 c.args.environment.now (c.in_ok-check_members.ensures.same ∙ o.added.1) (sym c.len-inner.ensures) in
     assumed_at c.args.solver.now c.check_members.new.solver c.args.environment.now c.truncate.new.self back (let g = ap (λ z. z.given) o.given in let h = c.in_ok-check_members.ensures.grows in omega (arith, g, h)) c.requires.assumed
 
-pub infer_group-close_group-requires-clause-depth : goal.infer_group-close_group-requires-clause-depth
-infer_group-close_group-requires-clause-depth t c =
-    let o = c.in_ok-members.ensures.opened in
-    let back : c.truncate.new.self ≡ c.args.environment.now = c.truncate.ensures o.added.0 c.args.environment.now (c.in_ok-check_members.ensures.same ∙ o.added.1) (sym c.len-inner.ensures) in
-    subst (λ z. c.args.depth ≤ length z) (sym back) c.requires.depth
-
 pub infer_group-returns-clause-inferred : goal.infer_group-returns-clause-inferred
-infer_group-returns-clause-inferred t c = λ added base e l.
+infer_group-returns-clause-inferred t c = λ added base e.
     let o = c.in_ok-members.ensures.opened in
     let back : c.truncate.new.self ≡ c.args.environment.now = c.truncate.ensures o.added.0 c.args.environment.now (c.in_ok-check_members.ensures.same ∙ o.added.1) (sym c.len-inner.ensures) in
-    infers_solved (known_of c.args.constructors.now) c.args.decls.now c.args.found.now.numbers (lists c.args.found.now.rows.items) c.args.group.now c.open_group.new.types c.deref.result.now c.args.solver.now c.args.environment.now c.open_group.new.solver c.open_group.new.environment c.requires.list c.requires.nodes (subst (λ z. IsOpenGroup c.args.found.now.numbers (lists c.args.found.now.rows.items) c.args.group.now c.args.solver.now c.args.environment.now c.open_group.new.solver c.open_group.new.environment c.open_group.new.types z) (sym c.deref.ensures.value) c.in_ok-members.ensures.opened) (Unit {0}) added base c.args.depth c.check_members.new.solver c.close_group.new.environment tt e l c.in_ok-check_members.ensures.answers
-    (subst (λ z. IsClosedGroup c.args.found.now.numbers c.args.group.now c.open_group.new.types c.args.depth c.check_members.new.solver z c.close_group.new.environment) back c.in_ok-close_group.ensures.closed)
+    infers_solved (known_of c.args.constructors.now) c.args.decls.now c.args.found.now.numbers (lists c.args.found.now.rows.items) c.args.group.now c.open_group.new.types c.deref.result.now c.args.solver.now c.args.environment.now c.open_group.new.solver c.open_group.new.environment c.requires.list c.requires.nodes (subst (λ z. IsOpenGroup c.args.found.now.numbers (lists c.args.found.now.rows.items) c.args.group.now c.args.solver.now c.args.environment.now c.open_group.new.solver c.open_group.new.environment c.open_group.new.types z) (sym c.deref.ensures.value) c.in_ok-members.ensures.opened) (Unit {0}) added base c.check_members.new.solver c.close_group.new.environment tt e c.in_ok-check_members.ensures.answers
+    (subst (λ n. IsClosedGroup c.args.found.now.numbers c.args.group.now c.open_group.new.types n c.check_members.new.solver c.args.environment.now c.close_group.new.environment) c.given-older.ensures
+    (subst (λ z. IsClosedGroup c.args.found.now.numbers c.args.group.now c.open_group.new.types c.given-older.result c.check_members.new.solver z c.close_group.new.environment) back c.in_ok-close_group.ensures.closed))
 
 pub infer_group-returns-clause-judged : goal.infer_group-returns-clause-judged
-infer_group-returns-clause-judged t c = λ added base e l.
+infer_group-returns-clause-judged t c = λ added base e.
     let o = c.in_ok-members.ensures.opened in
     let back : c.truncate.new.self ≡ c.args.environment.now = c.truncate.ensures o.added.0 c.args.environment.now (c.in_ok-check_members.ensures.same ∙ o.added.1) (sym c.len-inner.ensures) in
-    judges_solved (known_of c.args.constructors.now) c.args.decls.now c.args.found.now.numbers (lists c.args.found.now.rows.items) c.args.group.now c.open_group.new.types c.deref.result.now c.args.solver.now c.args.environment.now c.open_group.new.solver c.open_group.new.environment c.requires.list c.requires.nodes (subst (λ z. IsOpenGroup c.args.found.now.numbers (lists c.args.found.now.rows.items) c.args.group.now c.args.solver.now c.args.environment.now c.open_group.new.solver c.open_group.new.environment c.open_group.new.types z) (sym c.deref.ensures.value) c.in_ok-members.ensures.opened) base (Unit {0}) added c.args.depth c.check_members.new.solver c.close_group.new.environment tt e l c.in_ok-check_members.ensures.answers
-    (subst (λ z. IsClosedGroup c.args.found.now.numbers c.args.group.now c.open_group.new.types c.args.depth c.check_members.new.solver z c.close_group.new.environment) back c.in_ok-close_group.ensures.closed)
+    judges_solved (known_of c.args.constructors.now) c.args.decls.now c.args.found.now.numbers (lists c.args.found.now.rows.items) c.args.group.now c.open_group.new.types c.deref.result.now c.args.solver.now c.args.environment.now c.open_group.new.solver c.open_group.new.environment c.requires.list c.requires.nodes (subst (λ z. IsOpenGroup c.args.found.now.numbers (lists c.args.found.now.rows.items) c.args.group.now c.args.solver.now c.args.environment.now c.open_group.new.solver c.open_group.new.environment c.open_group.new.types z) (sym c.deref.ensures.value) c.in_ok-members.ensures.opened) base (Unit {0}) added c.check_members.new.solver c.close_group.new.environment tt e c.in_ok-check_members.ensures.answers
+    (subst (λ n. IsClosedGroup c.args.found.now.numbers c.args.group.now c.open_group.new.types n c.check_members.new.solver c.args.environment.now c.close_group.new.environment) c.given-older.ensures
+    (subst (λ z. IsClosedGroup c.args.found.now.numbers c.args.group.now c.open_group.new.types c.given-older.result c.check_members.new.solver z c.close_group.new.environment) back c.in_ok-close_group.ensures.closed))
 
 pub infer_group-returns-clause-numbers : goal.infer_group-returns-clause-numbers
 infer_group-returns-clause-numbers t c = given_up_to c.check_members.new.solver.given c.open_group.new.types (types_later c.open_group.new.solver.given c.check_members.new.solver.given c.open_group.new.types c.in_ok-check_members.ensures.grows c.in_ok-members.ensures.opened.numbers)
 
 pub infer_group-returns-clause-closed : goal.infer_group-returns-clause-closed
-infer_group-returns-clause-closed t c = λ a.
+infer_group-returns-clause-closed t c = λ added base e.
     let o = c.in_ok-members.ensures.opened in
     let back : c.truncate.new.self ≡ c.args.environment.now = c.truncate.ensures o.added.0 c.args.environment.now (c.in_ok-check_members.ensures.same ∙ o.added.1) (sym c.len-inner.ensures) in
-    c.in_ok-close_group.ensures.closed_alone (subst (AreAssumed 0) (sym back) a)
+    let s2 = c.check_members.new.solver in
+    closes_group (known_of c.args.constructors.now) c.args.decls.now c.args.found.now.numbers (lists c.args.found.now.rows.items) c.args.group.now c.open_group.new.types c.deref.result.now c.args.solver.now c.args.environment.now c.open_group.new.solver c.open_group.new.environment c.requires.list c.requires.nodes (subst (λ z. IsOpenGroup c.args.found.now.numbers (lists c.args.found.now.rows.items) c.args.group.now c.args.solver.now c.args.environment.now c.open_group.new.solver c.open_group.new.environment c.open_group.new.types z) (sym c.deref.ensures.value) c.in_ok-members.ensures.opened) base c.check_members.new.solver c.close_group.new.environment c.in_ok-check_members.ensures.answers
+    (subst (λ n. IsClosedGroup c.args.found.now.numbers c.args.group.now c.open_group.new.types n c.check_members.new.solver c.args.environment.now c.close_group.new.environment) c.given-older.ensures
+    (subst (λ z. IsClosedGroup c.args.found.now.numbers c.args.group.now c.open_group.new.types c.given-older.result c.check_members.new.solver z c.close_group.new.environment) back c.in_ok-close_group.ensures.closed))
+    (λ none a. c.in_ok-close_group.ensures.closed_alone (subst (λ n. KeepsNone (is_outer c.check_members.new.solver.equations n) c.check_members.new.solver.equations c.open_group.new.types c.args.group.now) (sym c.given-older.ensures) none) (subst (AreAssumed 0) (sym back) a))
+
+pub infer_group-returns-clause-closed_first : goal.infer_group-returns-clause-closed_first
+infer_group-returns-clause-closed_first t c = λ z a.
+    let o = c.in_ok-members.ensures.opened in
+    let back : c.truncate.new.self ≡ c.args.environment.now = c.truncate.ensures o.added.0 c.args.environment.now (c.in_ok-check_members.ensures.same ∙ o.added.1) (sym c.len-inner.ensures) in
+    c.in_ok-close_group.ensures.closed_alone (none_older c.given-older.result c.check_members.new.solver.equations c.open_group.new.types c.args.group.now (c.given-older.ensures ∙ z)) (subst (AreAssumed 0) (sym back) a)
 
 pub infer_group-returns-clause-kept : goal.infer_group-returns-clause-kept
 infer_group-returns-clause-kept t c =
@@ -790,12 +792,6 @@ check_signed-returns-in_err-check_clause-clause-answers t c = λ all a.
     (clause_refused known all c.in-Clause.name c.in-Clause.pats.items c.in-Clause.rhs es s body own count first s1 is c.requires.assumed taken fault
     (subst (λ ps. Refuses (ChecksClause known ps c.in-Clause.rhs own es) s1 fault) c.deref.ensures.value c.in_err-check_clause.ensures.answers)))
 
-pub check_signed-forbid_escape-requires-clause-assumed : goal.check_signed-forbid_escape-requires-clause-assumed
-check_signed-forbid_escape-requires-clause-assumed t c =
-    let k = given_next c.args.solver.now c.with_rigid_variables.new.solver c.in_ok-declared.declared.count c.in_ok-own.ensures.next in
-    let l = solved_grows _ c.with_rigid_variables.new.solver c.check_clause.new.solver c.in_ok-check_clause.ensures.answers in
-    assumed_at c.args.solver.now c.check_clause.new.solver c.args.environment.now c.check_clause.new.environment c.in_ok-check_clause.ensures.same (omega (arith, k, l)) c.requires.assumed
-
 pub check_signed-returns-in_err-forbid_escape-clause-answers : goal.check_signed-returns-in_err-forbid_escape-clause-answers
 check_signed-returns-in_err-forbid_escape-clause-answers t c = λ all a.
     let known = known_of c.args.constructors.now in
@@ -814,7 +810,7 @@ check_signed-returns-in_err-forbid_escape-clause-answers t c = λ all a.
     (refused_by (SignedAsks known all (clause_tree c.in-Clause.name (patterns c.in-Clause.pats.items) c.in-Clause.rhs) es) s s2 c.from_residual-in_err-forbid_escape.result fault c.from_residual-in_err-forbid_escape.ensures.1
     (clause_escapes known all c.in-Clause.name c.in-Clause.pats.items c.in-Clause.rhs es s body own count first s1 is c.requires.assumed taken s2 fault
     (subst (λ ps. SolvedBy (ChecksClause known ps c.in-Clause.rhs own es) s1 s2) c.deref.ensures.value c.in_ok-check_clause.ensures.answers)
-    (tells_moved {X = Unit {0}} first count es c.check_clause.new.environment s2 (Err fault) c.in_ok-check_clause.ensures.same c.in_err-forbid_escape.ensures)))
+    c.in_err-forbid_escape.ensures))
 
 pub check_signed-returns-clause-answers : goal.check_signed-returns-clause-answers
 check_signed-returns-clause-answers t c = λ all a.
@@ -832,7 +828,7 @@ check_signed-returns-clause-answers t c = λ all a.
     subst (λ d. SolvedBy (SignedAsks known all d es) s s2) (sym (ap declaration_tree c.in-Clause.is) ∙ c.decl.view_is)
     (clause_signed known all c.in-Clause.name c.in-Clause.pats.items c.in-Clause.rhs es s body own count first s1 is c.requires.assumed taken s2 c.in_ok-forbid_escape.field-0
     (subst (λ ps. SolvedBy (ChecksClause known ps c.in-Clause.rhs own es) s1 s2) c.deref.ensures.value c.in_ok-check_clause.ensures.answers)
-    (tells_moved first count es c.check_clause.new.environment s2 (Ok c.in_ok-forbid_escape.field-0) c.in_ok-check_clause.ensures.same c.in_ok-forbid_escape.ensures))
+    c.in_ok-forbid_escape.ensures)
 
 pub check_all_signed-decls-init : goal.check_all_signed-decls-init
 check_all_signed-decls-init t c = record { same = refl; checked = signed_nothing (known_of c.args.constructors.now) (declarations c.args.decls.now) c.args.decls.now c.args.environment.now c.args.solver.now (problem_below c.args.solver.now c.well_formed-2.ensures) }

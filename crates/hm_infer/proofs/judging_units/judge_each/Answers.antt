@@ -41,10 +41,10 @@ groups-preserved c =
     let within = rows_long c.args.found.now.groups.items c.groups.i low in
     let below = group_below (list_of k c.args.decls.now) (node_name k (declarations c.args.decls.now)) n gs c.groups.i c.deref.result.now c.requires.groups within here in
     record {
-      judged = λ added base e l start.
+      judged = λ added base e start.
           unit_step k c.args.decls.now c.args.found.now.numbers (lists c.args.found.now.rows.items) c.requires.list gs n refl c.groups.i c.deref.result.now within here (all_one n c.deref.result.now below) base c.groups.environment c.judge_group.new.environment
-          (assumed_part 0 added base (subst (AreAssumed 0) e c.requires.closed)) c.groups.typed c.judge_group.new.typed (v.judged added base e l start)
-          (c.in_ok-judge_group.ensures.judged (v.kept.0 ++ added) base (v.kept.1 ∙ (ap (λ z. v.kept.0 ++ z) e ∙ sym (append_assoc v.kept.0 added base))) l);
+          (assumed_part 0 added base (subst (AreAssumed 0) e c.requires.closed)) c.groups.typed c.judge_group.new.typed (v.judged added base e start)
+          (c.in_ok-judge_group.ensures.judged (v.kept.0 ++ added) base (v.kept.1 ∙ (ap (λ z. v.kept.0 ++ z) e ∙ sym (append_assoc v.kept.0 added base))));
       closed = c.in_ok-judge_group.ensures.closed;
       kept = extended c.args.environment.now c.groups.environment c.judge_group.new.environment v.kept c.in_ok-judge_group.ensures.kept;
       sized = c.judge_group.auto.typed ∙ v.sized;
@@ -54,6 +54,6 @@ groups-preserved c =
     }
 
 pub returns-clause-judged : goal.returns-clause-judged
-returns-clause-judged c = λ added base e l start.
+returns-clause-judged c = λ added base e start.
     let last : length c.args.found.now.groups.items ≤ c.groups.i = (let h = c.groups-test.false in omega (arith, h, c.len-i-end.ensures, c.args.found.now.groups.ok.0)) in
-    units_end (known_of c.args.constructors.now) c.args.decls.now (lists c.args.found.now.groups.items) (length c.args.found.now.numbers) c.groups.i base c.groups.environment c.groups.typed (subst (λ z. z ≤ c.groups.i) (sym (length-map c.args.found.now.groups.items (λ r. r.items))) last) (c.groups.invariant.judged added base e l start)
+    units_end (known_of c.args.constructors.now) c.args.decls.now (lists c.args.found.now.groups.items) (length c.args.found.now.numbers) c.groups.i base c.groups.environment c.groups.typed (subst (λ z. z ≤ c.groups.i) (sym (length-map c.args.found.now.groups.items (λ r. r.items))) last) (c.groups.invariant.judged added base e start)

@@ -10,7 +10,7 @@ use Rattle.hm_infer.proofs.judging_units.judge_each.Given as goal
 
 abbrev pub invariant-groups : goal.invariant-groups
 invariant-groups l = record {
-  judged : (added base : List Assumed) → l.initial.environment ≡ added ++ base → length base ≡ l.depth → UnitsJudged (known_of l.constructors) l.decls (lists l.found.groups.items) (length l.found.numbers) 0 base l.initial.environment l.initial.typed → UnitsJudged (known_of l.constructors) l.decls (lists l.found.groups.items) (length l.found.numbers) l.i base l.environment l.typed;
+  judged : (added base : List Assumed) → l.initial.environment ≡ added ++ base → UnitsJudged (known_of l.constructors) l.decls (lists l.found.groups.items) (length l.found.numbers) 0 base l.initial.environment l.initial.typed → UnitsJudged (known_of l.constructors) l.decls (lists l.found.groups.items) (length l.found.numbers) l.i base l.environment l.typed;
   closed : AreAssumed 0 l.environment;
   kept : Extends l.initial.environment l.environment;
   sized : length l.typed ≡ length l.found.numbers;

@@ -15,7 +15,7 @@ members_refer_to_typed-requires-clause-members c =
     (members_at c.deref.result.now c.args.found.now.rows.items c.args.group.now c.in_ok-members.members.items c.deref-2.result.now c.deref.ensures.value c.deref-2.ensures.value c.in_ok-members.ensures)
 
 pub returns-then-not-branch-clause-judged : goal.returns-then-not-branch-clause-judged
-returns-then-not-branch-clause-judged c = λ added base e l. record {
+returns-then-not-branch-clause-judged c = λ added base e. record {
   marked = c.mark.new.typed;
   is_marked = c.mark.ensures;
   members = c.deref-2.result.now;
@@ -24,23 +24,23 @@ returns-then-not-branch-clause-judged c = λ added base e l. record {
 }
 
 pub returns-in-Ok-clause-judged : goal.returns-in-Ok-clause-judged
-returns-in-Ok-clause-judged c = λ added base e l. record {
+returns-in-Ok-clause-judged c = λ added base e. record {
   marked = c.mark.new.typed;
   is_marked = c.mark.ensures;
   members = c.deref-2.result.now;
   are_members = members_at c.deref.result.now c.args.found.now.rows.items c.args.group.now c.in_ok-members.members.items c.deref-2.result.now c.deref.ensures.value c.deref-2.ensures.value c.in_ok-members.ensures;
   outcome = typed c.new-solver.result (subst (λ b. TellsMembers b c.args.found.now.numbers c.mark.new.typed c.args.decls.now c.deref-2.result.now) c.if-not-branch.false c.in_ok-members_refer_to_typed.ensures.told) (ap (λ s. s.equations) c.new-solver.ensures)
-      (c.in-Ok.ensures.judged added base e l) refl;
+      (c.in-Ok.ensures.judged added base e) refl;
 }
 
 pub returns-in-Err-Clash-clause-judged : goal.returns-in-Err-Clash-clause-judged
-returns-in-Err-Clash-clause-judged c = λ added base e l. record {
+returns-in-Err-Clash-clause-judged c = λ added base e. record {
   marked = c.mark.new.typed;
   is_marked = c.mark.ensures;
   members = c.deref-2.result.now;
   are_members = members_at c.deref.result.now c.args.found.now.rows.items c.args.group.now c.in_ok-members.members.items c.deref-2.result.now c.deref.ensures.value c.deref-2.ensures.value c.in_ok-members.ensures;
   outcome = untyped c.new-solver.result c.infer_group.new.environment (subst (λ b. TellsMembers b c.args.found.now.numbers c.mark.new.typed c.args.decls.now c.deref-2.result.now) c.if-not-branch.false c.in_ok-members_refer_to_typed.ensures.told) (ap (λ s. s.equations) c.new-solver.ensures)
-      (judges_clash (Unit {0}) (known_of c.args.constructors.now) c.args.decls.now c.args.group.now base c.new-solver.result c.args.environment.now c.infer_group.new.environment c.in-Err-Clash.field-0 c.in-Err-Clash.field-0-is (c.in-Err-Clash.ensures.judged added base e l)) c.mark-in-Err-Clash.ensures
+      (judges_clash (Unit {0}) (known_of c.args.constructors.now) c.args.decls.now c.args.group.now base c.new-solver.result c.args.environment.now c.infer_group.new.environment c.in-Err-Clash.field-0 c.in-Err-Clash.field-0-is (c.in-Err-Clash.ensures.judged added base e)) c.mark-in-Err-Clash.ensures
       (let k = c.in-Err-Clash.ensures.kept in c.truncate.ensures k.0 c.args.environment.now k.1 (sym c.len-outside.ensures));
 }
 
@@ -55,3 +55,6 @@ returns-in-Err-Clash-clause-closed c = let k = c.in-Err-Clash.ensures.kept in su
 
 pub returns-in-Err-Clash-clause-kept : goal.returns-in-Err-Clash-clause-kept
 returns-in-Err-Clash-clause-kept c = let k = c.in-Err-Clash.ensures.kept in kept_same c.args.environment.now c.truncate.new.self (c.truncate.ensures k.0 c.args.environment.now k.1 (sym c.len-outside.ensures))
+
+pub returns-in-Ok-clause-closed : goal.returns-in-Ok-clause-closed
+returns-in-Ok-clause-closed c = c.in-Ok.ensures.closed_first (ap (λ s. s.given) c.new-solver.ensures) c.requires.closed

@@ -22,7 +22,7 @@ unsigned_fault_starts-requires-clause-groups c =
     let j : ListJudged nodes rows gs base c.judge_groups.new.environment c.in_ok-typed.typed.items k ds = record {
       found = c.requires.list;
       groups = c.requires.groups;
-      judged = c.in_ok-typed.ensures.judged c.bind_signed.ensures.kept.0 base c.bind_signed.ensures.kept.1 (sym c.len-depth.ensures) (c.in_ok-bind_signed.ensures.bound k);
+      judged = c.in_ok-typed.ensures.judged c.bind_signed.ensures.kept.0 base c.bind_signed.ensures.kept.1 (c.in_ok-bind_signed.ensures.bound k);
     } in
     subst (ArePlainGroups gs (length nodes)) (sym c.deref_mut.ensures.value) (plain_groups k ds nodes rows j.found gs j.groups base c.judge_groups.new.environment c.requires.closed c.in_ok-typed.typed.items j.judged)
 
@@ -37,7 +37,7 @@ unsigned_fault_starts-requires-clause-members c = λ g o.
     let j : ListJudged nodes rows gs base c.judge_groups.new.environment c.in_ok-typed.typed.items k ds = record {
       found = c.requires.list;
       groups = c.requires.groups;
-      judged = c.in_ok-typed.ensures.judged c.bind_signed.ensures.kept.0 base c.bind_signed.ensures.kept.1 (sym c.len-depth.ensures) (c.in_ok-bind_signed.ensures.bound k);
+      judged = c.in_ok-typed.ensures.judged c.bind_signed.ensures.kept.0 base c.bind_signed.ensures.kept.1 (c.in_ok-bind_signed.ensures.bound k);
     } in
     groups_declared nodes rows gs base c.judge_groups.new.environment c.requires.closed c.in_ok-typed.typed.items k ds j c.requires.core g o
 
@@ -52,7 +52,7 @@ returns c = λ o.
     let j : ListJudged nodes rows gs base c.judge_groups.new.environment c.in_ok-typed.typed.items k ds = record {
       found = c.requires.list;
       groups = c.requires.groups;
-      judged = c.in_ok-typed.ensures.judged c.bind_signed.ensures.kept.0 base c.bind_signed.ensures.kept.1 (sym c.len-depth.ensures) (c.in_ok-bind_signed.ensures.bound k);
+      judged = c.in_ok-typed.ensures.judged c.bind_signed.ensures.kept.0 base c.bind_signed.ensures.kept.1 (c.in_ok-bind_signed.ensures.bound k);
     } in
     let unsigned : AreUnsignedStarts ds nodes rows gs c.in_ok-typed.typed.items c.in_ok-starts.starts.items = subst (λ z. AreUnsignedStarts ds nodes rows gs z c.in_ok-starts.starts.items) c.deref_mut.ensures.value c.in_ok-starts.ensures in
     record {

@@ -19,12 +19,12 @@ returns-in-Solved-clause-kept c =
     let p : Pending = record { left = c.args.left.now; right = c.args.right } in
     keeps_reduced (keeps_first es work p c.requires.empty c.requires.sound.triangular) _ (reduces_solved es (work ++ p ∷ []) work p c.in_ok-prepared.prepared refl c.in_ok-prepared.ensures c.in-Solved.ensures)
 
-pub returns-in_ok-add-in-Bind-clause-kept : goal.returns-in_ok-add-in-Bind-clause-kept
-returns-in_ok-add-in-Bind-clause-kept c =
+pub returns-in_ok-add_binding-in-Bind-clause-kept : goal.returns-in_ok-add_binding-in-Bind-clause-kept
+returns-in_ok-add_binding-in-Bind-clause-kept c =
     let es = equations_in c.args.bindings.now in
     let work = c.args.work.now.items in
     let p : Pending = record { left = c.args.left.now; right = c.args.right } in
-    keeps_added es (equations_in c.add.new.self) c.in-Bind.binding (keeps_first es work p c.requires.empty c.requires.sound.triangular) c.in_ok-add-in-Bind.ensures.added (finds_binding es (work ++ p ∷ []) work p c.in_ok-prepared.prepared refl c.in_ok-prepared.ensures c.in-Bind.binding c.in-Bind.ensures)
+    keeps_added es (equations_in c.add_binding.new.bindings) c.in-Bind.binding (keeps_first es work p c.requires.empty c.requires.sound.triangular) c.in_ok-add_binding-in-Bind.ensures.added (finds_binding es (work ++ p ∷ []) work p c.in_ok-prepared.prepared refl c.in_ok-prepared.ensures c.in-Bind.binding c.in-Bind.ensures)
 
 pub returns-in_ok-push_pairs-in-Arguments-clause-kept : goal.returns-in_ok-push_pairs-in-Arguments-clause-kept
 returns-in_ok-push_pairs-in-Arguments-clause-kept c =

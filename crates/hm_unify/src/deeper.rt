@@ -1,0 +1,90 @@
+//! The variables of a type that occur in the value of no older one.
+
+ghost use Rattle.std.specs.Prelude.{◌≡◌, ◌||◌, ◌++◌, ◌∷◌, [], if◌then◌else◌, OnOk};
+ghost use Rattle.hm_types.specs.Monotypes.{var, rigid};
+ghost use Rattle.hm_types.specs.Schemes.{is_among};
+ghost use Rattle.hm_types.specs.Shape.{type_of};
+ghost use Rattle.hm_unify.specs.Levels.{is_outer, deeper_after};
+ghost use Rattle.hm_unify.specs.LevelTables.{IsLevelled};
+ghost use Rattle.hm_unify.specs.Steps.{equations_in, IsSound};
+
+use crate::bindings::Bindings;
+use crate::levels::Levels;
+use hm_types::Ty;
+use std::alloc::AllocError;
+
+/// Whether a variable occurs in the value of one of the first `count`.
+pub(crate) fn is_outer_variable(
+    bindings: &Bindings,
+    levels: &Levels,
+    count: usize,
+    number: usize,
+) -> bool
+    requires sound { IsSound bindings.now }
+    requires levelled { IsLevelled (equations_in bindings.now) levels.now }
+    ensures { result ≡ is_outer (equations_in bindings.now) count (var number) }
+{
+    if bindings.is_bound(number) {
+        return false;
+    }
+    levels.of_variable(number) < count
+}
+
+/// The same for a rigid variable.
+pub(crate) fn is_outer_rigid(
+    bindings: &Bindings,
+    levels: &Levels,
+    count: usize,
+    number: usize,
+) -> bool
+    requires { IsLevelled (equations_in bindings.now) levels.now }
+    ensures { result ≡ is_outer (equations_in bindings.now) count (rigid number) }
+{
+    let _ = bindings;
+    levels.of_rigid(number) < count
+}
+
+/// Adds a number to those seen, unless it is there or is that of an outer variable.
+fn see(seen: &mut Vec<usize>, is_outer: bool, number: usize) -> Result<(), AllocError>
+    ensures { OnOk result (seen.new.items ≡ (if is_outer || is_among number seen.old.items then seen.old.items else (seen.old.items ++ number ∷ []))) }
+{
+    if is_outer {
+        return Ok(());
+    }
+    if seen.contains(&number) {
+        return Ok(());
+    }
+    seen.push(number)?;
+    Ok(())
+}
+
+/// Adds to the numbers seen those of the variables of a type that are in the value of none of the
+/// first `count`.
+pub(crate) fn collect_deeper(
+    bindings: &Bindings,
+    levels: &Levels,
+    count: usize,
+    seen: &mut Vec<usize>,
+    t: &Ty,
+) -> Result<(), AllocError>
+    requires sound { IsSound bindings.now }
+    requires levelled { IsLevelled (equations_in bindings.now) levels.now }
+    ensures { OnOk result (seen.new.items ≡ deeper_after (equations_in bindings.now) count seen.old.items (type_of t.now)) }
+{
+    match t {
+        Ty::Var(n) => {
+            let outer = is_outer_variable(bindings, levels, count, *n);
+            see(seen, outer, *n)?;
+        }
+        Ty::Rigid(n) => {
+            let outer = is_outer_rigid(bindings, levels, count, *n);
+            see(seen, outer, *n)?;
+        }
+        Ty::App(_, arguments) => {
+            for argument in arguments.as_slice() {
+                collect_deeper(bindings, levels, count, seen, argument)?;
+            }
+        }
+    }
+    Ok(())
+}
