@@ -21,7 +21,7 @@ REPORT = "module A\n  val x = A.x :: Int\nmodule B\n  val y = B.y :: Int\n2 modu
 
 # a module behind the one that it imports, and what one worker does
 BEHIND = "module A where { import B ; x = y }\nmodule B where { y = 'c' }"
-JOURNAL = "module A\n  val x = A.x :: Char\nmodule B\n  val y = B.y :: Char\n2 modules: 2 good, 0 faulty, 0 skipped\nclaim 0 B\npublish 0 B\nclaim 0 A\npublish 0 A\n"
+JOURNAL = "module A\n  val x = A.x :: Char\nmodule B\n  val y = B.y :: Char\n2 modules: 2 good, 0 faulty, 0 skipped\nclaim 0 B\npublish 0 B 0\nclaim 0 A\npublish 0 A 1\n"
 
 # what the help shows
 PAIR = "module A where { pair x = (x, x) }"

@@ -97,7 +97,51 @@ fn the_journal_of_one_worker(rt: HostRuntime) -> Result<(), Fail> {
     let journal = journal_text(rt.alloc(), &finished)?;
     assert_eq!(rt;
         journal.as_str(),
-        "claim 0 B\npublish 0 B\nclaim 0 A\npublish 0 A\n"
+        "claim 0 B\npublish 0 B 0\nclaim 0 A\npublish 0 A 1\n"
+    );
+    Ok(())
+}
+
+/// Three modules, of which the first imports the second.
+const THREE: &[u8] = b"module A where { import B }\nmodule B where { }\nmodule C where { }";
+
+#[test]
+fn the_least_module_that_is_ready_comes_first(rt: HostRuntime) -> Result<(), Fail> {
+    let finished = built(&rt, THREE, 1, &Open)?;
+    let journal = journal_text(rt.alloc(), &finished)?;
+    assert_eq!(rt;
+        journal.as_str(),
+        "claim 0 B\npublish 0 B 0\nclaim 0 A\npublish 0 A 1\nclaim 0 C\npublish 0 C 2\n"
+    );
+    Ok(())
+}
+
+/// The most modules of a set, each of which imports the next.
+fn chain(alloc: Global) -> Result<String, AllocError> {
+    let mut text = String::new(alloc);
+    for number in 1..4096usize {
+        let importer = number - 1;
+        write!(text, "module M{importer} where {{ import M{number} }}\n")?;
+    }
+    text.push_str("module M4095 where { }\n")?;
+    Ok(text)
+}
+
+#[test]
+fn the_journal_of_a_chain(rt: HostRuntime) -> Result<(), Fail> {
+    let source = chain(rt.alloc())?;
+    let finished = built(&rt, source.as_bytes(), 1, &Open)?;
+    assert!(rt; finished.store.journal().len() == 8192);
+    let journal = journal_text(rt.alloc(), &finished)?;
+    assert!(rt;
+        journal
+            .as_bytes()
+            .starts_with(b"claim 0 M4095\npublish 0 M4095 0\nclaim 0 M4094\n")
+    );
+    assert!(rt;
+        journal
+            .as_bytes()
+            .ends_with(b"claim 0 M0\npublish 0 M0 4095\n")
     );
     Ok(())
 }
@@ -158,7 +202,7 @@ fn journals_of_one_worker(rt: HostRuntime) -> Result<(), Fail> {
         TWO,
         options,
         Status::Good,
-        b"module A\n  val x = A.x :: Char\nmodule B\n  val y = B.y :: Char\n2 modules: 2 good, 0 faulty, 0 skipped\nclaim 0 B\npublish 0 B\nclaim 0 A\npublish 0 A\n",
+        b"module A\n  val x = A.x :: Char\nmodule B\n  val y = B.y :: Char\n2 modules: 2 good, 0 faulty, 0 skipped\nclaim 0 B\npublish 0 B 0\nclaim 0 A\npublish 0 A 1\n",
     )?;
     check_run_by(
         &rt,

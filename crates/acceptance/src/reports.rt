@@ -25,7 +25,7 @@ fn reports_a_source_of_the_greatest_length(rt: HostRuntime) -> Result<(), Fail> 
 #[test]
 fn reports_the_most_modules(rt: HostRuntime) -> Result<(), Fail> {
     let mut source = String::new(rt.alloc());
-    for number in 0..256usize {
+    for number in 0..4096usize {
         write!(source, "module M{number} where {{ }}\n")?;
     }
     let mut readers = [Watched::new(source.as_bytes())];
@@ -45,7 +45,7 @@ fn reports_the_most_modules(rt: HostRuntime) -> Result<(), Fail> {
             .starts_with(b"module M0\nmodule M1\nmodule M10\n")
     );
     assert!(rt;
-        printed.as_slice().ends_with(b"module M99\n256 modules: 256 good, 0 faulty, 0 skipped\n")
+        printed.as_slice().ends_with(b"module M999\n4096 modules: 4096 good, 0 faulty, 0 skipped\n")
     );
     Ok(())
 }

@@ -78,6 +78,8 @@ enum Step {
     Status(usize, Status),
     /// How many entries the journal has.
     Entries(usize),
+    /// How many publications there are among so many entries.
+    Publications(usize, usize),
 }
 
 /// Whether a store answers a call as it must.
@@ -98,6 +100,9 @@ fn answers(alloc: Global, store: &mut Store, step: &Step) -> Result<bool, Fail> 
             Ok(*number < store.modules().len() && store.status(*number) == *status)
         }
         Step::Entries(count) => Ok(store.journal().len() == *count),
+        Step::Publications(at, count) => {
+            Ok(*at <= store.journal().len() && store.publications(*at) == *count)
+        }
     }
 }
 
@@ -114,7 +119,7 @@ const OTHER: &[u8] = b"module B where { y = 1 }";
 const FAULTY: &[u8] = b"module B where { y = z }";
 
 /// A module is published, once its outcome is its own and that of the worker that claimed it; a stop comes once.
-const PUBLISHED: [Step; 18] = [
+const PUBLISHED: [Step; 20] = [
     Step::Status(0, Status::Waiting),
     Step::Claim(0, Claimed::Job(1)),
     Step::Status(1, Status::Claimed(0)),
@@ -133,6 +138,8 @@ const PUBLISHED: [Step; 18] = [
     Step::Claim(0, Claimed::Done),
     Step::Entries(3),
     Step::Status(1, Status::Published),
+    Step::Publications(1, 0),
+    Step::Publications(3, 1),
 ];
 
 /// What was claimed before a stop can be published behind it.

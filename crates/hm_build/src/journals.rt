@@ -22,38 +22,49 @@ fn name_of(modules: &[Arc<Module>], number: usize) -> &str
     }
 }
 
-/// Appends the line of a step on a module.
+/// Appends what a line says of a step on a module.
 fn add_step(text: &mut String, word: &str, worker: usize, name: &str) -> Result<(), AllocError>
-    ensures { OnOk result (string_bytes text.new ≡ string_bytes text.old ++ (word.now ++ (codes " " ++ (decimal worker ++ (codes " " ++ (name.now ++ codes "\n")))))) }
+    ensures { OnOk result (string_bytes text.new ≡ string_bytes text.old ++ (word.now ++ (codes " " ++ (decimal worker ++ (codes " " ++ name.now))))) }
 {
-    write!(text, "{word} {worker} {name}\n")
+    write!(text, "{word} {worker} {name}")
 }
 
-/// Appends the line of an entry.
-fn add_entry(text: &mut String, store: &Store, entry: Entry) -> Result<(), AllocError>
-    ensures { OnOk result (string_bytes text.new ≡ string_bytes text.old ++ entry_line (set_of store.now) entry) }
+/// Appends the line of an entry behind so many publications.
+fn add_entry(
+    text: &mut String,
+    store: &Store,
+    publications: usize,
+    entry: Entry,
+) -> Result<(), AllocError>
+    ensures { OnOk result (string_bytes text.new ≡ string_bytes text.old ++ entry_line (set_of store.now) publications entry) }
 {
     match entry {
         Entry::Claim { worker, module } => {
-            add_step(text, "claim", worker, name_of(store.modules(), module))
+            add_step(text, "claim", worker, name_of(store.modules(), module))?;
+            write!(text, "\n")
         }
         Entry::Publish { worker, module } => {
-            add_step(text, "publish", worker, name_of(store.modules(), module))
+            add_step(text, "publish", worker, name_of(store.modules(), module))?;
+            write!(text, " {publications}\n")
         }
         Entry::Fail { worker, module } => {
-            add_step(text, "fail", worker, name_of(store.modules(), module))
+            add_step(text, "fail", worker, name_of(store.modules(), module))?;
+            write!(text, "\n")
         }
         Entry::Stop { worker } => write!(text, "stop {worker}\n"),
     }
 }
 
 /// The text of the journal of a build: a line for each entry, in order.
+#[tactic(auto, using(crate::proofs::JournalLines::next_line))]
 pub fn journal_text(alloc: Global, finished: &Finished) -> Result<String, AllocError>
     ensures { IfOk result (λ text. string_bytes text ≡ journal_bytes finished.now.store) }
 {
+    let store = &finished.store;
+    let journal = store.journal();
     let mut text = String::new(alloc);
-    for entry in finished.store.journal() {
-        add_entry(&mut text, &finished.store, *entry)?;
+    for place in 0..journal.len() {
+        add_entry(&mut text, store, store.publications(place), journal[place])?;
     }
     Ok(text)
 }

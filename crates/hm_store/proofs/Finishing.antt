@@ -1,15 +1,17 @@
 -- Where nothing is left to do, each module is settled.
-use Rattle.std.proofs.Common.{◌≡◌, ◌≢◌, ℕ, ◌<◌, true, false, length, refl, sym, subst, ◌∙◌}
-use Rattle.std.proofs.lemmas.Bool.{false≢true}
-use Rattle.std.proofs.lemmas.List.{length-map}
+use Rattle.std.proofs.Common.{◌≡◌, ◌≢◌, ℕ, ◌<◌, ◌≤◌, ⊎_elim, true, false, [], length, refl, sym, subst, ◌∙◌, arith}
+use Rattle.std.proofs.lemmas.Bool.{cases_lt, false≢true}
+use Rattle.std.proofs.lemmas.List.{get_or_past, length-map}
 use Rattle.hm_graph.specs.Closure.{one}
 use Rattle.hm_graph.specs.Marks.{IsClosed}
 use Rattle.hm_graph.specs.Outline.{outline}
+use Rattle.hm_graph.specs.Steps.{IsOnce}
 use Rattle.hm_graph.proofs.Graphs.{Reaches-within}
 use Rattle.hm_typing.specs.Names.{IsOneOf}
 use Rattle.hm_verdicts.specs.Sets.{imports_of}
 use Rattle.hm_verdicts.proofs.ImportOrder.{by_imports}
 use Rattle.hm_verdicts.proofs.Lists.{one_of_contained}
+use Rattle.hm_store.specs.Plans.{imports_of as build_imports}
 use Rattle.hm_store.specs.Objects.{status_at, is_claimed, is_settled, reply_of}
 use Rattle.hm_store.specs.Builds.{Build, IsLegal, IsAllSettled, set_of, state_of}
 use Rattle.hm_store.specs.declared.object.Status.{Status}
@@ -58,3 +60,10 @@ done_is_settled b h done going = by_imports (set_of b) h.lawful (λ m. is_settle
         let idle = done_is_idle b.given (state_of b) done going i (subst (λ n. i < n) (sym (statuses_length b h)) lt) in
         settled_by (status_at (state_of b).statuses i) idle.0
         (λ w. idle.1 w (λ k edge. settled_and_kept (status_at (state_of b).statuses k) (imports k (one_of_contained (imports_of (set_of b) i) k edge)) (λ lost. (build_follows b h).waiting i k edge lost w)))
+
+-- a module imports no other twice
+pub imports_once : (b : Build) → IsLegal b → (k : ℕ) → IsOnce (build_imports b.given k)
+imports_once b h k = ⊎_elim
+    (λ (l : k < length b.modules). (h.lawful.planned.each k (subst (λ n. k < n) (sym (length-map b.modules (λ m. outline m.header))) l)).once)
+    (λ (past : length b.modules ≤ k). rw (get_or_past b.given.imports k [] (let e = plan_length b h in omega (arith, e, past))) (λ p q less lt. absurd (omega (arith, lt))))
+    (cases_lt k (length b.modules))

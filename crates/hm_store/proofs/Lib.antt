@@ -1,12 +1,16 @@
 pub mod Calls
+pub mod DependentLists
 pub mod Finishing
 pub mod Following
 pub mod Journals
 pub mod Kept
 pub mod Lists
 pub mod Marking
+pub mod OpenImports
+pub mod Openings
 pub mod Playing
 pub mod ReadyModules
+pub mod ReadySteps
 pub mod Replies
 pub mod Settling
 pub mod Skipping

@@ -14,8 +14,10 @@ use Rattle.hm_store.specs.declared.object.Status.{Status}
 use Rattle.hm_store.specs.declared.object.Status.TheVariants.{Claimed, Published, Failed, Skipped}
 use Rattle.hm_store.specs.declared.object.Entry.{Entry}
 use Rattle.hm_store.specs.declared.object.Entry.TheVariants.{Claim, Publish, Fail, Stop}
+use Rattle.hm_store.specs.declared.object.Claimed.{Claimed as Reply}
 use Rattle.hm_store.specs.declared.object.Claimed.TheVariants.{Job}
-use Rattle.hm_store.proofs.Finishing.{statuses_length, plan_length}
+use Rattle.hm_store.proofs.Finishing.{build_follows, statuses_length, plan_length}
+use Rattle.hm_store.proofs.Following.{IsFollowing}
 use Rattle.hm_store.proofs.Journals.{allowed_more, state_more}
 use Rattle.hm_store.proofs.Kept.{agrees_by, agrees_kept, agrees_set, faulty_status, good_status, skips, sound_kept}
 use Rattle.hm_store.proofs.ReadyModules.{job_is_ready}
@@ -30,6 +32,9 @@ holds_length b ss stopped room h = sym (ap (λ (s : State). length s.statuses) h
 
 pub holds_plan : (b : Build) (ss : List Status) (stopped : Bool) (room : ℕ) → Holds b ss stopped room → length ss ≡ length b.given.imports
 holds_plan b ss stopped room h = holds_length b ss stopped room h ∙ sym (plan_length b h.legal)
+
+pub holds_follows : (b : Build) (ss : List Status) (stopped : Bool) (room : ℕ) → Holds b ss stopped room → IsFollowing b.given ss
+holds_follows b ss stopped room h = subst (λ (s : State). IsFollowing b.given s.statuses) h.state (build_follows b h.legal)
 
 holds_agrees : (b : Build) (ss : List Status) (stopped : Bool) (room : ℕ) → Holds b ss stopped room → Agrees ss b.kept
 holds_agrees b ss stopped room h = subst (λ (s : State). Agrees s.statuses b.kept) h.state h.legal.agrees
@@ -146,3 +151,9 @@ fail_step b ss stopped room w m c h k faulty =
       space = let s : sum_by left_for (set ss m Failed) + 1 ≡ sum_by left_for ss + 0 = rw k.claimed at sums in let f = h.space in let g = skipped.1 in omega (arith, length-append b.journal (Fail w m ∷ []));
       few = h.few;
     }
+
+-- the reply to a claim that isn't made after a stop, of the build that is seen
+pub reply_now : (b seen : Build) (ss : List Status) (stopped : Bool) (room : ℕ) (reply : Reply) → Holds b ss stopped room → b ≡ seen → stopped ≡ false → reply_of b.given (state_with ss false) ≡ reply → reply ≡ reply_of seen.given (state_of seen)
+reply_now b seen ss stopped room reply h same going e =
+    let inside : reply ≡ reply_of b.given (state_of b) = sym e ∙ ap (λ (s : State). reply_of b.given s) (ap (state_with ss) (sym going) ∙ sym h.state) in
+    subst (λ (x : Build). reply ≡ reply_of x.given (state_of x)) same inside

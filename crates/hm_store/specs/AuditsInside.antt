@@ -12,6 +12,7 @@ played r = record { statuses = r.statuses.items; stopped = r.stopped }
 pub record IsReplay (b : Build) (r : Replay) : Type 0 where
   pub within : r.at ≤ length b.journal
   pub state : played r ≡ state_after b.given (take r.at b.journal)
+  pub search_of : length r.search ≡ length b.given.imports
 
 -- 1 at an entry that has its mark
 abbrev pub mark : List Bool → ℕ → ℕ

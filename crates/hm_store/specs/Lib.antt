@@ -3,6 +3,8 @@ pub mod AuditsInside
 pub mod Builds
 pub mod Objects
 pub mod Plans
+pub mod Reaching
+pub mod Readiness
 pub mod Records
 pub mod Settlements
 pub mod StoresInside

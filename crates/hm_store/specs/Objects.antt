@@ -1,5 +1,5 @@
 -- The build object: what it knows, its replies and its steps. It is sequential: what several workers do at the same time is told by one list of its steps.
-use Rattle.std.specs.Prelude.{◌≡◌, ◌&&◌, ℕ, zero, suc, Bool, true, false, cond, List, [], ◌∷◌, length, replicate, fold, Option, Some, None, slice_index_or, slice_set}
+use Rattle.std.specs.Prelude.{◌≡◌, ◌&&◌, ℕ, zero, suc, Bool, true, false, cond, List, [], ◌∷◌, length, take, count_by, replicate, fold, Option, Some, None, slice_index_or, slice_set}
 use Rattle.std.specs.List.{list_any, list_all}
 use Rattle.hm_store.specs.Plans.{Given, imports_of, dependents_of}
 use Rattle.hm_store.specs.declared.object.Status.{Status}
@@ -81,6 +81,16 @@ after g s (Claim w m) = record { statuses = slice_set s.statuses m (Claimed w); 
 after g s (Publish w m) = record { statuses = slice_set s.statuses m Published; stopped = s.stopped }
 after g s (Fail w m) = record { statuses = skip_all (slice_set s.statuses m Failed) (dependents_of g m); stopped = s.stopped }
 after g s (Stop w) = record { statuses = s.statuses; stopped = true }
+
+abbrev pub is_publication : Entry → Bool
+is_publication (Claim w m) = false
+is_publication (Publish w m) = true
+is_publication (Fail w m) = false
+is_publication (Stop w) = false
+
+-- how many publications there are among the first `at` entries
+abbrev pub publications : List Entry → ℕ → ℕ
+publications es at = count_by is_publication (take at es)
 
 -- what the object allows in a state: a claim that it replies with, what comes of a claim of this worker, and the first stop
 abbrev pub Allowed : Given → State → Entry → Type 0

@@ -2,8 +2,9 @@
 use Rattle.std.specs.Prelude.{◌≡◌, ℕ, ◌+◌, ◌<◌, ◌≤◌, ◌^◌, Bool, cond, List, length, map, sum_by}
 use Rattle.std.specs.Vec.{vec_capacity}
 use Rattle.std.specs.Arc.{arc_value}
-use Rattle.hm_graph.specs.Digraph.{lists}
 use Rattle.hm_store.specs.Builds.{Build, IsLegal, state_of}
+use Rattle.hm_store.specs.Reaching.{dependents_in}
+use Rattle.hm_store.specs.Readiness.{KeepsReady}
 use Rattle.hm_store.specs.declared.object.Status.{Status}
 use Rattle.hm_store.specs.declared.object.Status.TheVariants.{Waiting, Claimed, Published, Failed, Skipped}
 use Rattle.hm_store.specs.declared.store.Store.TheInside.{Inside}
@@ -27,7 +28,10 @@ pub record Holds (b : Build) (ss : List Status) (stopped : Bool) (room : ℕ) : 
   pub few : room < 2 ^ 62
 
 abbrev pub build : Inside → Build
-build s = record { modules = map arc_value s.modules.items; given = record { imports = s.plan; dependents = lists s.dependents.items }; journal = s.journal.items; kept = s.outcomes.items }
+build s = record { modules = map arc_value s.modules.items; given = record { imports = s.plan; dependents = dependents_in s.plan }; journal = s.journal.items; kept = s.outcomes.items }
 
-abbrev pub IsKept : Inside → Type 0
-IsKept s = Holds (build s) s.statuses.items s.stopped (vec_capacity s.journal)
+-- the fields hold a legal build, and the counts and the ready modules are those of its statuses
+pub record IsKept (s : Inside) : Type 0 where
+  pub holds : Holds (build s) s.statuses.items s.stopped (vec_capacity s.journal)
+  pub search_of : length s.search ≡ length s.plan
+  pub ready : KeepsReady (build s).given s.statuses.items s.open_imports.items s.ready s.claimed

@@ -1,6 +1,6 @@
 //! The words of the build object: what it knows of a module, its entries and its replies.
 ghost use Rattle.std.specs.Prelude.{◌≡◌};
-ghost use Rattle.hm_store.specs.Objects.{is_claimed, is_published, is_settled, is_waiting};
+ghost use Rattle.hm_store.specs.Objects.{is_claimed, is_publication, is_published, is_settled, is_waiting};
 
 use thiserror::Error;
 
@@ -57,6 +57,21 @@ pub enum Entry {
     Fail { worker: usize, module: usize },
     /// The worker stopped the build.
     Stop { worker: usize },
+}
+
+impl Entry {
+    /// Whether a worker published an interface.
+    pub(crate) fn is_publication(self) -> bool
+        ensures { result ≡ is_publication self }
+    {
+        matches!(
+            self,
+            Entry::Publish {
+                worker: _,
+                module: _,
+            }
+        )
+    }
 }
 
 /// The reply of a store to a claim.

@@ -1,38 +1,47 @@
 //! The build store: each call is one step of the build object.
-ghost use Rattle.std.specs.Prelude.{◌≡◌, ◌<◌, ◌^◌, IfOk, None, length, map, not, false, option_map, replicate};
+ghost use Rattle.std.specs.Prelude.{◌≡◌, ◌<◌, ◌≤◌, ◌^◌, IfOk, None, count_by, length, map, not, false, option_map, replicate};
 ghost use Rattle.std.specs.Arc.{arc_value};
 ghost use Rattle.std.specs.Option.{option_copied};
-ghost use Rattle.hm_graph.specs.Digraph.{lists};
 ghost use Rattle.hm_verdicts.specs.Sets.{IsLawfulSet};
 ghost use Rattle.hm_outcomes.specs.Outcomes.{IsGood, verdict_of};
 ghost use Rattle.hm_store.specs.Builds.{IsAllSettled, IsLegal, IsNew, Settles, after_claim, after_stop, interface_at, kept_at, state_of, status_by};
-ghost use Rattle.hm_store.specs.Objects.{reply_of, status_at};
-ghost use Rattle.hm_store.specs.Plans.{AreDependents};
+ghost use Rattle.hm_store.specs.Objects.{is_publication, publications, reply_of, status_at};
 ghost use Rattle.hm_store.specs.declared.object.Claimed.TheVariants.{Done};
 ghost use Rattle.hm_store.specs.declared.object.Entry.TheVariants.{Fail, Publish};
 
 use crate::object::{Claimed, Entry, Refusal, Status};
-use hm_graph::Plan;
+use hm_graph::{Dependents, Plan};
 use hm_outcomes::{Outcome, Verdict};
 use hm_syntax::Module;
 use hm_types::Interface;
-use readiness::{reply_at, skip_all, status_at};
+use readiness::{skip_dependents, status_at};
+use ready_set::{close_imports, import_counts, reply_without_job, take_least, without_imports};
 use std::alloc::{AllocError, Global};
+use std::cmp::Reverse;
+use std::collections::BinaryHeap;
 use std::marker::Model;
 use std::sync::Arc;
 
 mod audit;
 mod readiness;
+mod ready_set;
 mod refusing;
 
 /// A build: its modules, which module imports which, the journal, and what came of each module. Its type keeps that the journal is legal, that
-/// the statuses are those after the journal, and that each outcome is right for the published interfaces of its module's imports.
+/// the statuses are those after the journal, that each outcome is right for the published interfaces of its module's imports, and that the counts
+/// of open imports and the set of the modules that are ready are those of the statuses.
 #[derive(Drop)]
 pub struct Store {
     modules: Vec<Arc<Module>>,
     plan: Plan,
-    dependents: Vec<Vec<usize>>,
+    search: Dependents,
     statuses: Vec<Status>,
+    /// How many imports of each module aren't published.
+    open_imports: Vec<usize>,
+    /// The modules that wait and have no open import, the least first.
+    ready: BinaryHeap<Reverse<usize>>,
+    /// How many modules are claimed.
+    claimed: usize,
     outcomes: Vec<Option<Outcome>>,
     journal: Vec<Entry>,
     stopped: bool,
@@ -61,15 +70,20 @@ impl Store {
         ensures new { IfOk result (IsNew (map arc_value modules.items) plan) }
     {
         let count = modules.len();
-        let dependents = dependent_rows(alloc, &plan)?;
+        let search = Dependents::new(alloc, count)?;
+        let open_imports = import_counts(alloc, &plan)?;
+        let ready = without_imports(alloc, &open_imports)?;
         let statuses = Vec::from_elem(alloc, Status::Waiting, count)?;
         let outcomes = no_outcomes(alloc, count)?;
         let journal = Vec::with_capacity(alloc, 2 * count + 1)?;
         Ok(Store {
             modules,
             plan,
-            dependents,
+            search,
             statuses,
+            open_imports,
+            ready,
+            claimed: 0,
             outcomes,
             journal,
             stopped: false,
@@ -96,6 +110,14 @@ impl Store {
         ensures legal { IsLegal self.now }
     {
         self.journal.as_slice()
+    }
+
+    /// How many publications there are among the first entries of the journal, so many as `at`.
+    pub fn publications(&self, at: usize) -> usize
+        requires { at ≤ length self.now.journal }
+        ensures { result ≡ publications self.now.journal at }
+    {
+        publications_in(&self.journal()[..at])
     }
 
     /// How many entries the journal has.
@@ -143,15 +165,19 @@ impl Store {
         // Where nothing is left to do and the build wasn't stopped, each module is settled.
         ensures done { result ≡ Done → (state_of self.old).stopped ≡ false → IsAllSettled self.new }
     {
-        let reply = reply_at(&self.plan, &self.statuses, self.stopped);
-        if let Claimed::Job(number) = reply {
-            self.statuses[number] = Status::Claimed(worker);
-            self.journal.push_reserved(Entry::Claim {
-                worker,
-                module: number,
-            });
+        if self.stopped {
+            return Claimed::Done;
         }
-        reply
+        let Some(number) = take_least(&mut self.ready) else {
+            return reply_without_job(self.claimed);
+        };
+        self.statuses[number] = Status::Claimed(worker);
+        self.claimed += 1;
+        self.journal.push_reserved(Entry::Claim {
+            worker,
+            module: number,
+        });
+        Claimed::Job(number)
     }
 
     /// Publishes the interface of a module that this worker has claimed.
@@ -169,6 +195,14 @@ impl Store {
             None => {
                 self.statuses[number] = status_by(outcome.verdict());
                 self.outcomes[number] = Some(outcome);
+                self.claimed -= 1;
+                let importers = self.plan.importers(number);
+                close_imports(
+                    &mut self.open_imports,
+                    &self.statuses,
+                    &mut self.ready,
+                    importers,
+                );
                 self.journal.push_reserved(Entry::Publish {
                     worker,
                     module: number,
@@ -193,7 +227,8 @@ impl Store {
             None => {
                 self.statuses[number] = status_by(outcome.verdict());
                 self.outcomes[number] = Some(outcome);
-                skip_all(&mut self.statuses, &self.dependents[number]);
+                self.claimed -= 1;
+                skip_dependents(&self.plan, &mut self.search, &mut self.statuses, number);
                 self.journal.push_reserved(Entry::Fail {
                     worker,
                     module: number,
@@ -237,16 +272,17 @@ fn status_by(verdict: &Verdict) -> Status
     }
 }
 
-/// For each module the modules that depend on it.
-fn dependent_rows(alloc: Global, plan: &Plan) -> Result<Vec<Vec<usize>>, AllocError>
-    ensures { IfOk result (λ rows. AreDependents (record { imports = plan.now; dependents = lists rows.items })) }
+/// How many of these entries are publications.
+fn publications_in(entries: &[Entry]) -> usize
+    ensures { result ≡ count_by is_publication entries.now }
 {
-    let mut rows = Vec::new(alloc);
-    for number in 0..plan.len() {
-        let row = plan.dependents(alloc, number)?;
-        rows.push(row)?;
+    let mut count: usize = 0;
+    for entry in entries {
+        if entry.is_publication() {
+            count += 1;
+        }
     }
-    Ok(rows)
+    count
 }
 
 /// No outcome yet, for so many modules.

@@ -15,7 +15,7 @@ nothing_below i l = absurd (omega (arith, l))
 -- the set without modules is lawful
 pub empty_lawful : IsLawfulSet no_modules
 empty_lawful = record {
-  lawful = record { few = λ h. nothing_below 256 h; distinct = λ m l. absurd (nothing_below m l); found = λ m i l. absurd (nothing_below m l); acyclic = never };
+  lawful = record { few = λ h. nothing_below 4096 h; distinct = λ m l. absurd (nothing_below m l); found = λ m i l. absurd (nothing_below m l); acyclic = never };
   planned = record { len = refl; each = λ m l. absurd (nothing_below m l) };
 }
   where

@@ -73,7 +73,7 @@ row_of_C = record {
 pub three_lawful : IsLawfulSet three_modules
 three_lawful = record {
   lawful = record {
-    few = λ h. let l : 256 < 3 = h in absurd (omega (arith, l));
+    few = λ h. let l : 4096 < 3 = h in absurd (omega (arith, l));
     distinct = λ m l t. taken m l t;
     found = λ m i l. no_import m i l;
     acyclic = λ m c. let q = reaches_are c in let a = q.0 in let b = q.1 in absurd (omega (arith, a, b));

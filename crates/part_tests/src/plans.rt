@@ -1,6 +1,6 @@
 ghost use Rattle.std.specs.Prelude.{◌≡◌, ◌<◌, length};
 
-use hm_graph::{Digraph, Plan, PlanFault, import_plan};
+use hm_graph::{Dependents, Digraph, Plan, PlanFault, import_plan};
 use hm_lex::Place;
 use hm_syntax::{Header, Import, List, Name, Row};
 use std::alloc::{AllocError, Global};
@@ -84,12 +84,12 @@ fn refused_sets(rt: HostRuntime) -> Result<(), AllocError> {
 fn the_most_modules(rt: HostRuntime) -> Result<(), AllocError> {
     let alloc = rt.alloc();
     let mut headers = Vec::new(alloc);
-    for number in 0..256 {
+    for number in 0..4096 {
         let text = format!(in alloc; "M{number}")?;
         headers.push(header_of(alloc, text.as_str(), &["Prelude"])?)?;
     }
-    assert!(rt; plan_of(alloc, &headers).is_ok_and(|plan| plan.len() == 256));
-    headers.push(header_of(alloc, "M256", &[])?)?;
+    assert!(rt; plan_of(alloc, &headers).is_ok_and(|plan| plan.len() == 4096));
+    headers.push(header_of(alloc, "M4096", &[])?)?;
     assert!(rt; plan_of(alloc, &headers).err() == Some(PlanFault::TooMany));
     Ok(())
 }
@@ -109,5 +109,10 @@ fn the_order_of_first_imports(rt: HostRuntime) -> Result<(), PlanFault> {
     assert!(rt; plan.imports(2) == [1].as_slice());
     assert!(rt; plan.importers(0).is_empty());
     assert!(rt; plan.importers(1) == [0, 2].as_slice());
+    let mut dependents = Dependents::new(alloc, 3)?;
+    dependents.find(&plan, 1);
+    assert!(rt; dependents.marks() == [true, false, true].as_slice());
+    dependents.find(&plan, 2);
+    assert!(rt; dependents.marks() == [true, false, false].as_slice());
     Ok(())
 }

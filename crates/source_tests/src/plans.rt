@@ -206,7 +206,7 @@ fn bounds_the_length(rt: HostRuntime) -> Result<(), Fail> {
 #[test]
 fn bounds_the_modules(rt: HostRuntime) -> Result<(), Fail> {
     let mut source = String::new(rt.alloc());
-    for number in 0..256usize {
+    for number in 0..4096usize {
         write!(source, "module M{number} where {{ }}\n")?;
     }
     let mut readers = [Watched::new(source.as_bytes())];
@@ -219,8 +219,8 @@ fn bounds_the_modules(rt: HostRuntime) -> Result<(), Fail> {
             .as_slice()
             .starts_with(b"module M0\nmodule M1\nmodule M10\n")
     );
-    assert!(rt; printed.as_slice().ends_with(b"module M99\n256 modules\n"));
-    source.push_str("module M256 where { }\n")?;
+    assert!(rt; printed.as_slice().ends_with(b"module M999\n4096 modules\n"));
+    source.push_str("module M4096 where { }\n")?;
     check(
         &rt,
         source.as_bytes(),

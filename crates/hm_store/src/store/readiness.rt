@@ -1,10 +1,11 @@
 //! What the statuses of the modules say: which module is ready, and what is replied to a worker that asks for one.
-ghost use Rattle.std.specs.Prelude.{◌≡◌, ◌<◌, [], length};
+ghost use Rattle.std.specs.Prelude.{◌≡◌, ◌<◌, [], ◌∷◌, cond, false, length, slice_index_or};
 ghost use Rattle.std.specs.List.{list_all, list_any};
+ghost use Rattle.hm_store.specs.Reaching.{below, dependents_in};
 ghost use Rattle.hm_store.specs.Objects.{is_claimed, is_published, is_ready, least_below, reply_of, skip_all as all_skipped, status_at};
 
 use crate::object::{Claimed, Status};
-use hm_graph::Plan;
+use hm_graph::{Dependents, Plan};
 
 /// The status of a module; `Skipped` for a number that no module has.
 pub(super) fn status_at(statuses: &[Status], number: usize) -> Status
@@ -66,13 +67,37 @@ pub(super) fn reply_at(plan: &Plan, statuses: &[Status], stopped: bool) -> Claim
     }
 }
 
-/// Skips those of the modules with these numbers that wait.
-pub(super) fn skip_all(statuses: &mut [Status], numbers: &[usize])
-    ensures { statuses.new ≡ all_skipped statuses.old numbers.now }
+/// Skips the modules that wait and reach a module through imports; none for a number that no module has.
+pub(super) fn skip_dependents(
+    plan: &Plan,
+    search: &mut Dependents,
+    statuses: &mut [Status],
+    number: usize,
+)
+    requires { length search.old ≡ length plan.now }
+    ensures len { length search.new ≡ length search.old }
+    ensures skipped { statuses.new ≡ all_skipped statuses.old (slice_index_or (dependents_in plan.now) number []) }
 {
-    for number in numbers {
-        if status_at(statuses, *number).is_waiting() {
-            statuses[*number] = Status::Skipped;
-        }
+    if number < plan.len() {
+        search.find(plan, number);
+        skip_marked(statuses, search.marks());
+    }
+}
+
+/// Skips those of the modules with a mark that wait.
+fn skip_marked(statuses: &mut [Status], marks: &[bool])
+    ensures { statuses.new ≡ all_skipped statuses.old (below (λ k. slice_index_or marks.now k false) (length marks.now)) }
+{
+    for number in 0..marks.len() {
+        skip_if(statuses, number, marks[number]);
+    }
+}
+
+/// Skips a module if it has a mark and waits.
+fn skip_if(statuses: &mut [Status], number: usize, marked: bool)
+    ensures { statuses.new ≡ all_skipped statuses.old (cond marked (number ∷ []) []) }
+{
+    if marked && status_at(statuses, number).is_waiting() {
+        statuses[number] = Status::Skipped;
     }
 }

@@ -5,12 +5,12 @@ ghost use Rattle.std.specs.Option.{option_copied};
 ghost use Rattle.hm_store.specs.Agreement.{Replies, look_in};
 ghost use Rattle.hm_store.specs.AuditsInside.{IsReplay, played};
 ghost use Rattle.hm_store.specs.Objects.{after, reply_of, status_at};
-ghost use Rattle.hm_store.specs.Plans.{dependents_of};
 
 use crate::object::{Claimed, Entry, Status};
 use crate::record::Act;
 use crate::store::Store;
-use crate::store::readiness::{reply_at, skip_all, status_at};
+use crate::store::readiness::{reply_at, skip_dependents, status_at};
+use hm_graph::Dependents;
 use hm_types::Interface;
 use std::alloc::{AllocError, Global};
 use std::sync::Arc;
@@ -21,6 +21,7 @@ pub(super) struct Replay {
     statuses: Vec<Status>,
     stopped: bool,
     at: usize,
+    search: Dependents,
 }
 
 impl Store {
@@ -30,10 +31,12 @@ impl Store {
         ensures opening { IfOk result (λ r. r.at ≡ 0) }
     {
         let statuses = Vec::from_elem(alloc, Status::Waiting, self.plan().len())?;
+        let search = Dependents::new(alloc, self.plan().len())?;
         Ok(Replay {
             statuses,
             stopped: false,
             at: 0,
+            search,
         })
     }
 
@@ -53,8 +56,10 @@ impl Store {
 
     /// Plays one entry.
     fn play(&self, replay: &mut Replay, entry: Entry)
+        requires { length replay.old.search ≡ length self.now.given.imports }
         ensures state { played replay.new ≡ after self.now.given (played replay.old) entry }
         ensures at { replay.new.at ≡ replay.old.at }
+        ensures search { length replay.new.search ≡ length replay.old.search }
     {
         let statuses = &mut replay.statuses;
         match entry {
@@ -71,19 +76,9 @@ impl Store {
                 module: number,
             } => {
                 put(statuses, number, Status::Failed);
-                skip_all(statuses, self.dependents_of(number));
+                skip_dependents(&self.plan, &mut replay.search, statuses, number);
             }
             Entry::Stop { worker: _ } => replay.stopped = true,
-        }
-    }
-
-    /// The modules that depend on a module; none for a number that no module has.
-    fn dependents_of(&self, number: usize) -> &[usize]
-        ensures { result.now ≡ dependents_of self.now.given number }
-    {
-        match self.dependents.get(number) {
-            Some(row) => row,
-            None => &[],
         }
     }
 

@@ -6,6 +6,9 @@ use Rattle.hm_store.proofs.store.Store.stop.Goals as goal
 
 pub invariant_of-self : goal.invariant_of-self
 invariant_of-self c =
-    let now = subst (λ (v : Bool). Holds (build c.self.inside) c.self.inside.statuses.items v (vec_capacity c.self.inside.journal)) c.if-first.true c.self.invariant in
-    rw (c.push_reserved.ensures.items, c.push_reserved.ensures.capacity)
-    (stop_step (build c.self.inside) c.self.inside.statuses.items _ c.args.worker now)
+    let now = subst (λ (v : Bool). Holds (build c.self.inside) c.self.inside.statuses.items v (vec_capacity c.self.inside.journal)) c.if-first.true c.self.invariant.holds in
+    record {
+      holds = rw (c.push_reserved.ensures.items, c.push_reserved.ensures.capacity) (stop_step (build c.self.inside) c.self.inside.statuses.items _ c.args.worker now);
+      search_of = c.self.invariant.search_of;
+      ready = c.self.invariant.ready;
+    }

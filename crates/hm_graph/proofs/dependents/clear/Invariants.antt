@@ -1,0 +1,8 @@
+use Rattle.std.proofs.Common.{◌≡◌, ℕ, ◌<◌, false, length, slice_index_or}
+use Rattle.hm_graph.proofs.dependents.clear.Given as goal
+
+abbrev pub invariant-loop-place : goal.invariant-loop-place
+invariant-loop-place l = record {
+  len : length l.marks ≡ length l.initial.marks;
+  clear : (k : ℕ) → k < l.place → slice_index_or l.marks k false ≡ false;
+}

@@ -1,0 +1,73 @@
+//! The modules that reach a module through imports, marked in space that is taken beforehand.
+
+ghost use Rattle.std.specs.Prelude.{◌≡◌, ◌<◌, ◌^◌, ◌↔◌, ℕ, IfOk, length};
+ghost use Rattle.hm_graph.specs.Digraph.{Reaches};
+ghost use Rattle.hm_graph.specs.Marks.{IsMarked};
+
+use crate::directed::mark_reached;
+use crate::planning::Plan;
+use std::alloc::{AllocError, Global};
+use std::marker::Model;
+
+/// A mark for each module, with room for a search.
+#[derive(Drop)]
+pub struct Dependents {
+    marks: Vec<bool>,
+    waiting: Vec<usize>,
+}
+
+impl Model for Dependents {
+    ghost use Rattle.std.specs.Prelude.{◌≡◌, ◌<◌, Bool, List, [], length};
+    ghost use Rattle.std.specs.Vec.{vec_capacity};
+
+    ghost Value = { List Bool };
+
+    ghost view = { λ d. d.marks.items };
+
+    ghost invariant = { λ d. (d.waiting.items ≡ []) × (length d.marks.items < vec_capacity d.waiting) };
+}
+
+impl Dependents {
+    /// No marks, of so many modules.
+    pub fn new(alloc: Global, count: usize) -> Result<Dependents, AllocError>
+        requires { count < 2 ^ 62 }
+        ensures { IfOk result (λ marks. length marks ≡ count) }
+    {
+        let marks = vec![in alloc; false; count]?;
+        let waiting = Vec::with_capacity(alloc, count + 1)?;
+        Ok(Dependents { marks, waiting })
+    }
+
+    /// Marks the modules that import a module or one of its importers, through however many imports, and no others.
+    pub fn find(&mut self, plan: &Plan, number: usize)
+        requires number { number < length plan.now }
+        requires len { length self.old ≡ length plan.now }
+        ensures len { length self.new ≡ length self.old }
+        ensures marks { (k : ℕ) → IsMarked self.new k ↔ Reaches plan.now k number }
+    {
+        clear(&mut self.marks);
+        mark_reached(
+            plan.importer_rows(),
+            number,
+            &mut self.marks,
+            &mut self.waiting,
+        );
+    }
+
+    /// The marks.
+    pub fn marks(&self) -> &[bool]
+        ensures { result.now ≡ self.now }
+    {
+        &self.marks
+    }
+}
+
+/// Takes all marks away.
+fn clear(marks: &mut [bool])
+    ensures len { length marks.new ≡ length marks.old }
+    ensures clear { (k : ℕ) → ¬ IsMarked marks.new k }
+{
+    for place in 0..marks.len() {
+        marks[place] = false;
+    }
+}
