@@ -1,7 +1,9 @@
 -- What a worker writes down of its calls, and in which order.
-use Rattle.std.specs.Prelude.{◌≡◌, ◌&&◌, ℕ, ◌+◌, ◌≤◌, Bool, true, cond, nat_le, List, [], ◌∷◌, ◌++◌, sum_by}
+use Rattle.std.specs.Prelude.{◌≡◌, ◌&&◌, ℕ, ◌+◌, ◌≤◌, Bool, true, cond, nat_le, List, [], ◌∷◌, ◌++◌, max, sum_by, Option, Some, None}
 use Rattle.hm_store.specs.declared.object.Turn.{Turn}
 use Rattle.hm_store.specs.declared.object.Turn.TheVariants as turn
+use Rattle.hm_store.specs.declared.object.Claimed.{Claimed}
+use Rattle.hm_store.specs.declared.object.Claimed.TheVariants as claimed
 use Rattle.hm_store.specs.declared.record.Act.{Act}
 use Rattle.hm_store.specs.declared.record.Act.TheVariants.{Job, Done, Publish, Fail, Stop, Look}
 use Rattle.hm_store.specs.declared.record.Call.{Call}
@@ -36,7 +38,17 @@ rises n (c ∷ cs) = nat_le n c.at && rises (known_after c) cs
 abbrev pub Adds : List Call → Act → List Call → Type 0
 Adds cs a ds = (at : ℕ) × (knows 0 cs ≤ at) × (ds ≡ cs ++ record { at = at; act = a } ∷ [])
 
+-- one call more, with this reply: at as many entries as there were, or as the worker knew, whichever is more
+abbrev pub AddsAt : ℕ → List Call → Act → List Call → Type 0
+AddsAt n cs a ds = ds ≡ cs ++ record { at = max n (knows 0 cs); act = a } ∷ []
+
 -- what is written down of the answer to a claim
 abbrev pub act_of : Turn → Act
 act_of (turn.Job m) = Job m
 act_of turn.Done = Done
+
+-- the object's reply to the claim of a worker that got this answer, or was told to wait
+abbrev pub replied : Option Turn → Claimed
+replied (Some (turn.Job m)) = claimed.Job m
+replied (Some turn.Done) = claimed.Done
+replied None = claimed.Later

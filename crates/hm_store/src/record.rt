@@ -1,6 +1,6 @@
 //! What a worker writes down of its calls.
 ghost use Rattle.std.specs.Prelude.{◌≡◌, ◌≤◌, ◌<◌, ◌+◌, true, [], ◌∷◌, ◌++◌, ◌^◌, max, IfOk, vec_len, vec_capacity};
-ghost use Rattle.hm_store.specs.Records.{knows, rises, wrote, wrote_in};
+ghost use Rattle.hm_store.specs.Records.{AddsAt, knows, rises, wrote, wrote_in};
 
 use hm_types::Interface;
 use std::alloc::{AllocError, Global};
@@ -41,21 +41,23 @@ pub struct Record {
 /// What a worker makes its calls with: its number, its record so far, and the room for calls that it has left.
 #[derive(Drop)]
 pub struct Pass<L: Ledger> {
-    pub worker: usize,
-    pub calls: Vec<Call>,
-    pub room: usize,
+    worker: usize,
+    calls: Vec<Call>,
+    room: usize,
     known: usize,
-    pub share: Share<L>,
-    pub ghost reserved: { vec_len calls + room ≤ vec_capacity calls },
-    pub ghost ordered: { rises 0 calls.items ≡ true },
-    pub ghost knowing: { known ≡ knows 0 calls.items },
-    pub ghost counted: { share.amount ≡ wrote_in calls.items },
-    pub ghost backed: { 0 < share.parts },
-    pub ghost bounded: { known + room < 2 ^ 63 },
-    pub ghost small: { room < 2 ^ 62 },
+    share: Share<L>,
+    ghost reserved: { vec_len calls + room ≤ vec_capacity calls },
+    ghost ordered: { rises 0 calls.items ≡ true },
+    ghost knowing: { known ≡ knows 0 calls.items },
+    ghost counted: { share.amount ≡ wrote_in calls.items },
+    ghost backed: { 0 < share.parts },
+    ghost bounded: { known + room < 2 ^ 63 },
+    ghost small: { room < 2 ^ 62 },
 }
 
 impl<L: Ledger> Pass<L> {
+    ghost use Rattle.hm_store.specs.Passes.{calls_of, room_of, share_of, worker_of};
+
     /// A pass with an empty record.
     pub(crate) fn new(
         alloc: Global,
@@ -65,10 +67,10 @@ impl<L: Ledger> Pass<L> {
     ) -> Result<Pass<L>, AllocError>
         requires share { (share.amount ≡ 0) × (0 < share.parts) }
         requires room { room < 2 ^ 62 }
-        ensures worker { IfOk result (λ p. p.worker ≡ worker) }
-        ensures room { IfOk result (λ p. p.room ≡ room) }
-        ensures empty { IfOk result (λ p. p.calls.items ≡ []) }
-        ensures parts { IfOk result (λ p. p.share.parts ≡ share.parts) }
+        ensures worker { IfOk result (λ p. worker_of p ≡ worker) }
+        ensures room { IfOk result (λ p. room_of p ≡ room) }
+        ensures empty { IfOk result (λ p. calls_of p ≡ []) }
+        ensures parts { IfOk result (λ p. (share_of p).parts ≡ share.parts) }
     {
         let calls = Vec::with_capacity(alloc, room)?;
         Ok(Pass {
@@ -83,14 +85,14 @@ impl<L: Ledger> Pass<L> {
     /// Writes down a call that wrote an entry.
     #[tactic(auto, using(crate::proofs::Calls::rises_more, crate::proofs::Calls::knows_more, crate::proofs::Calls::wrote_more))]
     pub(crate) fn wrote(&mut self, book: &mut Book<L>, entries: usize, act: Act)
-        requires room { 0 < self.old.room }
+        requires room { 0 < room_of self.old }
         requires writes { wrote act ≡ 1 }
-        requires place { entries + self.old.room < 2 ^ 63 }
+        requires place { entries + room_of self.old < 2 ^ 63 }
         ensures total { book.new.total ≡ book.old.total + 1 }
-        ensures calls { self.new.calls.items ≡ self.old.calls.items ++ record { at = max entries (knows 0 self.old.calls.items); act = act } ∷ [] }
-        ensures worker { self.new.worker ≡ self.old.worker }
-        ensures room { self.new.room + 1 ≡ self.old.room }
-        ensures parts { self.new.share.parts ≡ self.old.share.parts }
+        ensures calls { AddsAt entries (calls_of self.old) act (calls_of self.new) }
+        ensures worker { worker_of self.new ≡ worker_of self.old }
+        ensures room { room_of self.new + 1 ≡ room_of self.old }
+        ensures parts { (share_of self.new).parts ≡ (share_of self.old).parts }
     {
         let at = entries.max(self.known);
         book.add(&mut self.share, 1);
@@ -102,13 +104,13 @@ impl<L: Ledger> Pass<L> {
     /// Writes down a call that wrote none.
     #[tactic(auto, using(crate::proofs::Calls::rises_more, crate::proofs::Calls::knows_more, crate::proofs::Calls::wrote_more))]
     pub(crate) fn read(&mut self, entries: usize, act: Act)
-        requires room { 0 < self.old.room }
+        requires room { 0 < room_of self.old }
         requires writes { wrote act ≡ 0 }
-        requires place { entries + self.old.room < 2 ^ 63 }
-        ensures calls { self.new.calls.items ≡ self.old.calls.items ++ record { at = max entries (knows 0 self.old.calls.items); act = act } ∷ [] }
-        ensures worker { self.new.worker ≡ self.old.worker }
-        ensures room { self.new.room + 1 ≡ self.old.room }
-        ensures parts { self.new.share.parts ≡ self.old.share.parts }
+        requires place { entries + room_of self.old < 2 ^ 63 }
+        ensures calls { AddsAt entries (calls_of self.old) act (calls_of self.new) }
+        ensures worker { worker_of self.new ≡ worker_of self.old }
+        ensures room { room_of self.new + 1 ≡ room_of self.old }
+        ensures parts { (share_of self.new).parts ≡ (share_of self.old).parts }
     {
         let at = entries.max(self.known);
         self.calls.push_reserved(Call { at, act });
@@ -118,25 +120,25 @@ impl<L: Ledger> Pass<L> {
 
     /// The worker's number.
     pub fn worker(&self) -> usize
-        ensures { result ≡ self.now.worker }
+        ensures { result ≡ worker_of self.now }
     {
         self.worker
     }
 
     /// How many calls can still be made with it.
     pub fn room(&self) -> usize
-        ensures { result ≡ self.now.room }
+        ensures { result ≡ room_of self.now }
     {
         self.room
     }
 
     /// The record, and the share of the ledger that counts the journal entries that its calls wrote.
     pub fn into_record(self) -> (Record, Share<L>)
-        ensures worker { result.0.worker ≡ self.worker }
-        ensures calls { result.0.calls ≡ self.calls }
+        ensures worker { result.0.worker ≡ worker_of self }
+        ensures calls { result.0.calls.items ≡ calls_of self }
         ensures ordered { rises 0 result.0.calls.items ≡ true }
         ensures counted { result.1.amount ≡ wrote_in result.0.calls.items }
-        ensures parts { result.1.parts ≡ self.share.parts }
+        ensures parts { result.1.parts ≡ (share_of self).parts }
     {
         let Pass {
             worker,

@@ -1,8 +1,12 @@
 //! The store behind a lock, for workers that have a pass each.
-ghost use Rattle.std.specs.Prelude.{◌≡◌, ◌≤◌, ◌<◌, ◌+◌, ◌^◌, [], All, length, vec_len, IfOk, IfErr, IfSome, IfNone, ℕ, slice_index_or, option_map};
+ghost use Rattle.std.specs.Prelude.{◌≡◌, ◌≤◌, ◌<◌, ◌+◌, ◌^◌, [], All, length, not, vec_len, IfOk, IfErr, IfSome, IfNone, ℕ, slice_index_or, option_map};
 ghost use Rattle.std.specs.Arc.{arc_value};
 ghost use Rattle.hm_outcomes.specs.Outcomes.{IsGood};
-ghost use Rattle.hm_store.specs.Records.{Adds, act_of};
+ghost use Rattle.hm_store.specs.Builds.{Settles, after_claim, after_stop, interface_at, state_of};
+ghost use Rattle.hm_store.specs.Objects.{reply_of};
+ghost use Rattle.hm_store.specs.Passes.{calls_of, room_of, share_of, worker_of};
+ghost use Rattle.hm_store.specs.Records.{Adds, AddsAt, act_of, replied};
+ghost use Rattle.hm_store.specs.declared.object.Entry.TheVariants.{Publish as Published, Fail as Failed};
 ghost use Rattle.hm_store.specs.declared.record.Act.TheVariants.{Publish, Fail, Stop, Look};
 
 use crate::object::{Claimed, Refusal, Turn};
@@ -52,12 +56,14 @@ pub struct Shared<L: Ledger> {
 impl<L: Ledger> Locked<L> {
     /// Claims a module and writes it down; None where the worker has to wait.
     fn claim(&mut self, pass: &mut Pass<L>) -> Option<Turn>
-        requires { 0 < pass.old.room }
+        requires { 0 < room_of pass.old }
+        ensures reply { replied result ≡ reply_of self.old.store.given (state_of self.old.store) }
+        ensures step { self.new.store ≡ after_claim self.old.store (worker_of pass.old) (replied result) }
         ensures none { IfNone result (pass.new ≡ pass.old) }
-        ensures some { IfSome result (λ t. Adds pass.old.calls.items (act_of t) pass.new.calls.items) }
-        ensures worker { IfSome result (λ _. pass.new.worker ≡ pass.old.worker) }
-        ensures room { IfSome result (λ _. pass.new.room + 1 ≡ pass.old.room) }
-        ensures parts { IfSome result (λ _. pass.new.share.parts ≡ pass.old.share.parts) }
+        ensures some { IfSome result (λ t. AddsAt (length self.old.store.journal) (calls_of pass.old) (act_of t) (calls_of pass.new)) }
+        ensures worker { IfSome result (λ _. worker_of pass.new ≡ worker_of pass.old) }
+        ensures room { IfSome result (λ _. room_of pass.new + 1 ≡ room_of pass.old) }
+        ensures parts { IfSome result (λ _. (share_of pass.new).parts ≡ (share_of pass.old).parts) }
     {
         let Locked { store, book } = self;
         let entries = store.entries();
@@ -81,12 +87,13 @@ impl<L: Ledger> Locked<L> {
         number: usize,
         outcome: Outcome,
     ) -> Result<(), (Refusal, Outcome)>
-        requires room { 0 < pass.old.room }
+        requires room { 0 < room_of pass.old }
         requires good { IsGood outcome.verdict }
-        ensures ok { IfOk result (λ _. Adds pass.old.calls.items (Publish number) pass.new.calls.items) }
-        ensures worker { IfOk result (λ _. pass.new.worker ≡ pass.old.worker) }
-        ensures room { IfOk result (λ _. pass.new.room + 1 ≡ pass.old.room) }
-        ensures parts { IfOk result (λ _. pass.new.share.parts ≡ pass.old.share.parts) }
+        ensures settles { Settles self.old.store (worker_of pass.old) number outcome (Published (worker_of pass.old) number) self.new.store result }
+        ensures ok { IfOk result (λ _. AddsAt (length self.old.store.journal) (calls_of pass.old) (Publish number) (calls_of pass.new)) }
+        ensures worker { IfOk result (λ _. worker_of pass.new ≡ worker_of pass.old) }
+        ensures room { IfOk result (λ _. room_of pass.new + 1 ≡ room_of pass.old) }
+        ensures parts { IfOk result (λ _. (share_of pass.new).parts ≡ (share_of pass.old).parts) }
         ensures err { IfErr result (λ _. pass.new ≡ pass.old) }
         ensures returned { IfErr result (λ r. r.1 ≡ outcome) }
     {
@@ -104,12 +111,13 @@ impl<L: Ledger> Locked<L> {
         number: usize,
         outcome: Outcome,
     ) -> Result<(), (Refusal, Outcome)>
-        requires room { 0 < pass.old.room }
+        requires room { 0 < room_of pass.old }
         requires faulty { ¬ IsGood outcome.verdict }
-        ensures ok { IfOk result (λ _. Adds pass.old.calls.items (Fail number) pass.new.calls.items) }
-        ensures worker { IfOk result (λ _. pass.new.worker ≡ pass.old.worker) }
-        ensures room { IfOk result (λ _. pass.new.room + 1 ≡ pass.old.room) }
-        ensures parts { IfOk result (λ _. pass.new.share.parts ≡ pass.old.share.parts) }
+        ensures settles { Settles self.old.store (worker_of pass.old) number outcome (Failed (worker_of pass.old) number) self.new.store result }
+        ensures ok { IfOk result (λ _. AddsAt (length self.old.store.journal) (calls_of pass.old) (Fail number) (calls_of pass.new)) }
+        ensures worker { IfOk result (λ _. worker_of pass.new ≡ worker_of pass.old) }
+        ensures room { IfOk result (λ _. room_of pass.new + 1 ≡ room_of pass.old) }
+        ensures parts { IfOk result (λ _. (share_of pass.new).parts ≡ (share_of pass.old).parts) }
         ensures err { IfErr result (λ _. pass.new ≡ pass.old) }
         ensures returned { IfErr result (λ r. r.1 ≡ outcome) }
     {
@@ -122,11 +130,13 @@ impl<L: Ledger> Locked<L> {
 
     /// Stops the build and writes it down.
     fn stop(&mut self, pass: &mut Pass<L>) -> bool
-        requires { 0 < pass.old.room }
-        ensures adds { Adds pass.old.calls.items (Stop result) pass.new.calls.items }
-        ensures worker { pass.new.worker ≡ pass.old.worker }
-        ensures room { pass.new.room + 1 ≡ pass.old.room }
-        ensures parts { pass.new.share.parts ≡ pass.old.share.parts }
+        requires { 0 < room_of pass.old }
+        ensures reply { result ≡ not (state_of self.old.store).stopped }
+        ensures step { self.new.store ≡ after_stop self.old.store (worker_of pass.old) result }
+        ensures adds { AddsAt (length self.old.store.journal) (calls_of pass.old) (Stop result) (calls_of pass.new) }
+        ensures worker { worker_of pass.new ≡ worker_of pass.old }
+        ensures room { room_of pass.new + 1 ≡ room_of pass.old }
+        ensures parts { (share_of pass.new).parts ≡ (share_of pass.old).parts }
     {
         let Locked { store, book } = self;
         let entries = store.entries();
@@ -141,11 +151,12 @@ impl<L: Ledger> Locked<L> {
 
     /// Looks for a published interface and writes down what is found.
     fn look(&self, pass: &mut Pass<L>, number: usize) -> Result<Option<Arc<Interface>>, LookFault>
-        requires { 0 < pass.old.room }
-        ensures ok { IfOk result (λ r. (o : _) × Adds pass.old.calls.items (Look number o) pass.new.calls.items × (option_map arc_value o ≡ option_map arc_value r)) }
-        ensures worker { IfOk result (λ _. pass.new.worker ≡ pass.old.worker) }
-        ensures room { IfOk result (λ _. pass.new.room + 1 ≡ pass.old.room) }
-        ensures parts { IfOk result (λ _. pass.new.share.parts ≡ pass.old.share.parts) }
+        requires { 0 < room_of pass.old }
+        ensures reply { IfOk result (λ r. option_map arc_value r ≡ interface_at self.now.store.kept number) }
+        ensures ok { IfOk result (λ r. (o : _) × AddsAt (length self.now.store.journal) (calls_of pass.old) (Look number o) (calls_of pass.new) × (option_map arc_value o ≡ option_map arc_value r)) }
+        ensures worker { IfOk result (λ _. worker_of pass.new ≡ worker_of pass.old) }
+        ensures room { IfOk result (λ _. room_of pass.new + 1 ≡ room_of pass.old) }
+        ensures parts { IfOk result (λ _. (share_of pass.new).parts ≡ (share_of pass.old).parts) }
         ensures err { IfErr result (λ _. pass.new ≡ pass.old) }
     {
         match self.store.look(number) {
@@ -177,10 +188,10 @@ impl<L: Ledger> Shared<L> {
         requires empty { store.journal ≡ [] }
         requires room { room < 2 ^ 62 }
         ensures count { IfOk result (λ r. vec_len r.1 ≡ workers) }
-        ensures worker { IfOk result (λ r. (k : ℕ) (d : _) → k < workers → (slice_index_or r.1.items k d).worker ≡ k) }
-        ensures room { IfOk result (λ r. All (λ p. p.room ≡ room) r.1.items) }
-        ensures empty { IfOk result (λ r. All (λ p. p.calls.items ≡ []) r.1.items) }
-        ensures parts { IfOk result (λ r. All (λ p. p.share.parts ≡ 1) r.1.items) }
+        ensures worker { IfOk result (λ r. (k : ℕ) (d : _) → k < workers → worker_of (slice_index_or r.1.items k d) ≡ k) }
+        ensures room { IfOk result (λ r. All (λ p. room_of p ≡ room) r.1.items) }
+        ensures empty { IfOk result (λ r. All (λ p. calls_of p ≡ []) r.1.items) }
+        ensures parts { IfOk result (λ r. All (λ p. (share_of p).parts ≡ 1) r.1.items) }
     {
         let (book, rest) = blank.open::<L>();
         let passes = deal(alloc, workers, room, rest)?;
@@ -194,11 +205,11 @@ impl<L: Ledger> Shared<L> {
 
     /// Claims a module to check, and waits while none is ready but one that is being checked may make one so.
     pub fn claim<R: Wait>(&self, rt: &R, pass: &mut Pass<L>) -> Turn
-        requires { 0 < pass.old.room }
-        ensures adds { Adds pass.old.calls.items (act_of result) pass.new.calls.items }
-        ensures worker { pass.new.worker ≡ pass.old.worker }
-        ensures room { pass.new.room + 1 ≡ pass.old.room }
-        ensures parts { pass.new.share.parts ≡ pass.old.share.parts }
+        requires { 0 < room_of pass.old }
+        ensures adds { Adds (calls_of pass.old) (act_of result) (calls_of pass.new) }
+        ensures worker { worker_of pass.new ≡ worker_of pass.old }
+        ensures room { room_of pass.new + 1 ≡ room_of pass.old }
+        ensures parts { (share_of pass.new).parts ≡ (share_of pass.old).parts }
     {
         let mut locked = self.locked.lock(rt);
         for _ in rt.forever() {
@@ -218,12 +229,12 @@ impl<L: Ledger> Shared<L> {
         number: usize,
         outcome: Outcome,
     ) -> Result<(), (Refusal, Outcome)>
-        requires room { 0 < pass.old.room }
+        requires room { 0 < room_of pass.old }
         requires good { IsGood outcome.verdict }
-        ensures ok { IfOk result (λ _. Adds pass.old.calls.items (Publish number) pass.new.calls.items) }
-        ensures worker { IfOk result (λ _. pass.new.worker ≡ pass.old.worker) }
-        ensures room { IfOk result (λ _. pass.new.room + 1 ≡ pass.old.room) }
-        ensures parts { IfOk result (λ _. pass.new.share.parts ≡ pass.old.share.parts) }
+        ensures ok { IfOk result (λ _. Adds (calls_of pass.old) (Publish number) (calls_of pass.new)) }
+        ensures worker { IfOk result (λ _. worker_of pass.new ≡ worker_of pass.old) }
+        ensures room { IfOk result (λ _. room_of pass.new + 1 ≡ room_of pass.old) }
+        ensures parts { IfOk result (λ _. (share_of pass.new).parts ≡ (share_of pass.old).parts) }
         ensures err { IfErr result (λ _. pass.new ≡ pass.old) }
         ensures returned { IfErr result (λ r. r.1 ≡ outcome) }
     {
@@ -234,11 +245,11 @@ impl<L: Ledger> Shared<L> {
 
     /// Stops the build: each claim from now on is told that there is nothing left. True the first time.
     pub fn stop<R: Wait>(&self, rt: &R, pass: &mut Pass<L>) -> bool
-        requires { 0 < pass.old.room }
-        ensures adds { Adds pass.old.calls.items (Stop result) pass.new.calls.items }
-        ensures worker { pass.new.worker ≡ pass.old.worker }
-        ensures room { pass.new.room + 1 ≡ pass.old.room }
-        ensures parts { pass.new.share.parts ≡ pass.old.share.parts }
+        requires { 0 < room_of pass.old }
+        ensures adds { Adds (calls_of pass.old) (Stop result) (calls_of pass.new) }
+        ensures worker { worker_of pass.new ≡ worker_of pass.old }
+        ensures room { room_of pass.new + 1 ≡ room_of pass.old }
+        ensures parts { (share_of pass.new).parts ≡ (share_of pass.old).parts }
     {
         let first = self.locked.lock(rt).stop(pass);
         self.moved.notify_all();
@@ -253,12 +264,12 @@ impl<L: Ledger> Shared<L> {
         number: usize,
         outcome: Outcome,
     ) -> Result<(), (Refusal, Outcome)>
-        requires room { 0 < pass.old.room }
+        requires room { 0 < room_of pass.old }
         requires faulty { ¬ IsGood outcome.verdict }
-        ensures ok { IfOk result (λ _. Adds pass.old.calls.items (Fail number) pass.new.calls.items) }
-        ensures worker { IfOk result (λ _. pass.new.worker ≡ pass.old.worker) }
-        ensures room { IfOk result (λ _. pass.new.room + 1 ≡ pass.old.room) }
-        ensures parts { IfOk result (λ _. pass.new.share.parts ≡ pass.old.share.parts) }
+        ensures ok { IfOk result (λ _. Adds (calls_of pass.old) (Fail number) (calls_of pass.new)) }
+        ensures worker { IfOk result (λ _. worker_of pass.new ≡ worker_of pass.old) }
+        ensures room { IfOk result (λ _. room_of pass.new + 1 ≡ room_of pass.old) }
+        ensures parts { IfOk result (λ _. (share_of pass.new).parts ≡ (share_of pass.old).parts) }
         ensures err { IfErr result (λ _. pass.new ≡ pass.old) }
         ensures returned { IfErr result (λ r. r.1 ≡ outcome) }
     {
@@ -274,11 +285,11 @@ impl<L: Ledger> Shared<L> {
         pass: &mut Pass<L>,
         number: usize,
     ) -> Result<Option<Arc<Interface>>, LookFault>
-        requires { 0 < pass.old.room }
-        ensures ok { IfOk result (λ r. (o : _) × Adds pass.old.calls.items (Look number o) pass.new.calls.items × (option_map arc_value o ≡ option_map arc_value r)) }
-        ensures worker { IfOk result (λ _. pass.new.worker ≡ pass.old.worker) }
-        ensures room { IfOk result (λ _. pass.new.room + 1 ≡ pass.old.room) }
-        ensures parts { IfOk result (λ _. pass.new.share.parts ≡ pass.old.share.parts) }
+        requires { 0 < room_of pass.old }
+        ensures ok { IfOk result (λ r. (o : _) × Adds (calls_of pass.old) (Look number o) (calls_of pass.new) × (option_map arc_value o ≡ option_map arc_value r)) }
+        ensures worker { IfOk result (λ _. worker_of pass.new ≡ worker_of pass.old) }
+        ensures room { IfOk result (λ _. room_of pass.new + 1 ≡ room_of pass.old) }
+        ensures parts { IfOk result (λ _. (share_of pass.new).parts ≡ (share_of pass.old).parts) }
         ensures err { IfErr result (λ _. pass.new ≡ pass.old) }
     {
         self.locked.lock(rt).look(pass, number)
@@ -304,10 +315,10 @@ fn deal<L: Ledger>(
     requires share { (rest.parts ≡ workers) × (rest.amount ≡ 0) }
     requires room { room < 2 ^ 62 }
     ensures count { IfOk result (λ v. vec_len v ≡ workers) }
-    ensures worker { IfOk result (λ v. (k : ℕ) (d : _) → k < workers → (slice_index_or v.items k d).worker ≡ k) }
-    ensures room { IfOk result (λ v. All (λ p. p.room ≡ room) v.items) }
-    ensures empty { IfOk result (λ v. All (λ p. p.calls.items ≡ []) v.items) }
-    ensures parts { IfOk result (λ v. All (λ p. p.share.parts ≡ 1) v.items) }
+    ensures worker { IfOk result (λ v. (k : ℕ) (d : _) → k < workers → worker_of (slice_index_or v.items k d) ≡ k) }
+    ensures room { IfOk result (λ v. All (λ p. room_of p ≡ room) v.items) }
+    ensures empty { IfOk result (λ v. All (λ p. calls_of p ≡ []) v.items) }
+    ensures parts { IfOk result (λ v. All (λ p. (share_of p).parts ≡ 1) v.items) }
 {
     let mut passes = Vec::new(alloc);
     for worker in 0..workers {
