@@ -117,6 +117,20 @@ by_kind Published = inr (inr refl)
 by_kind Failed = inl refl
 by_kind Skipped = inl refl
 
+-- the same, with what is skipped for itself
+by_skip : (s : Status) → (s ≡ Skipped) ⊎ ((s ≡ Waiting) ⊎ (is_started s ≡ true))
+by_skip Waiting = inr (inl refl)
+by_skip (Claimed w) = inr (inr refl)
+by_skip Published = inr (inr refl)
+by_skip Failed = inr (inr refl)
+by_skip Skipped = inl refl
+
+-- a module that is one of these, and waits or is skipped, is skipped then
+is_skipped : (ks : List ℕ) (x : ℕ) (old new : Status) → IsSkipOf ks x old new → Contains ks x → (old ≡ Skipped) ⊎ (old ≡ Waiting) → new ≡ Skipped
+is_skipped ks x old new (inl a) c k = a.1.1
+is_skipped ks x old new (inr a) c (inl s) = a.0 ∙ s
+is_skipped ks x old new (inr a) c (inr w) = absurd (a.1 w c)
+
 -- module m, which was claimed, fails, and what depends on it is skipped
 module _ (g : Given) (ss : List Status) (m w : ℕ) (h : IsFollowing g ss) (is : status_at ss m ≡ Claimed w) (dependents : AreDependents g) where
   m_within : m < length ss
@@ -197,6 +211,20 @@ module _ (g : Given) (ss : List Status) (m w : ℕ) (h : IsFollowing g ss) (is :
           (λ (l : is_lost (status_at ss k) ≡ true). lost_end k (ap is_lost (as_before k n) ∙ l))
           (λ (r : (status_at ss k ≡ Waiting) ⊎ (is_started (status_at ss k) ≡ true)). ⊎_elim (λ (e : status_at ss k ≡ Waiting). skipped_now (as_before k n ∙ e) (at k)) (λ (b : is_started (status_at ss k) ≡ true). absurd (started b)) r)
           (by_kind (status_at ss k))
+
+  -- each module from which m is reached is skipped
+  pub reaching_skipped : (k : ℕ) → Reaches g.imports k m → status_at (skip_all (set ss m Failed) (dependents_of g m)) k ≡ Skipped
+  unfolding mid end
+  reaching_skipped k path = is_skipped (dependents_of g m) k (status_at mid k) (status_at end k) (at k) (depends k path) (⊎_elim
+      (λ (s : status_at ss k ≡ Skipped). inl (as_before k other ∙ s))
+      (λ (r : (status_at ss k ≡ Waiting) ⊎ (is_started (status_at ss k) ≡ true)). ⊎_elim (λ (e : status_at ss k ≡ Waiting). inr (as_before k other ∙ e)) (λ (b : is_started (status_at ss k) ≡ true). absurd (started b)) r)
+      (by_skip (status_at ss k)))
+    where
+      started : is_started (status_at ss k) ≡ true → ⊥
+      started b = differ is_published Published (Claimed w) refl refl (sym (reached_is_published g ss h k m b path) ∙ is)
+
+      other : k ≢ m
+      other f = started (ap is_started (ap (status_at ss) f ∙ is))
 
   length-end : length end ≡ length ss
   unfolding mid end

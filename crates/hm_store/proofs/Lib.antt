@@ -15,3 +15,5 @@ pub mod Replies
 pub mod Settling
 pub mod Skipping
 pub mod Steps
+pub mod WorkedBuilds
+pub mod WorkedLegal

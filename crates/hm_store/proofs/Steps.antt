@@ -3,12 +3,13 @@ use Rattle.std.proofs.Common.{◌≡◌, ℕ, ◌+◌, ◌<◌, Bool, true, fals
 use Rattle.std.specs.Prelude.{sum_by}
 use Rattle.std.proofs.lemmas.List.{length-set}
 use Rattle.std.proofs.lemmas.List.Sums.{sum_by-set}
+use Rattle.hm_graph.specs.Digraph.{Reaches}
 use Rattle.hm_types.specs.StandardPrelude.{prelude_interface}
 use Rattle.hm_verdicts.specs.ModuleVerdicts.{IsVerdict}
 use Rattle.hm_outcomes.specs.Outcomes.{Checked, IsGood}
 use Rattle.hm_store.specs.Plans.{dependents_of}
 use Rattle.hm_store.specs.Objects.{State, status_at, reply_of, Allowed, opening, skip_all}
-use Rattle.hm_store.specs.Builds.{Build, IsOf, IsSound, Agrees, Refuses, state_of, status_by, with_entry, with_kept}
+use Rattle.hm_store.specs.Builds.{Build, IsLegal, IsOf, IsSound, Agrees, Refuses, state_of, status_by, with_entry, with_kept}
 use Rattle.hm_store.specs.StoresInside.{Holds, left_for}
 use Rattle.hm_store.specs.declared.object.Status.{Status}
 use Rattle.hm_store.specs.declared.object.Status.TheVariants.{Claimed, Published, Failed, Skipped}
@@ -17,7 +18,7 @@ use Rattle.hm_store.specs.declared.object.Entry.TheVariants.{Claim, Publish, Fai
 use Rattle.hm_store.specs.declared.object.Claimed.{Claimed as Reply}
 use Rattle.hm_store.specs.declared.object.Claimed.TheVariants.{Job}
 use Rattle.hm_store.proofs.Finishing.{build_follows, statuses_length, plan_length}
-use Rattle.hm_store.proofs.Following.{IsFollowing}
+use Rattle.hm_store.proofs.Following.{IsFollowing, reaching_skipped}
 use Rattle.hm_store.proofs.Journals.{allowed_more, state_more}
 use Rattle.hm_store.proofs.Kept.{agrees_by, agrees_kept, agrees_set, faulty_status, good_status, skips, sound_kept}
 use Rattle.hm_store.proofs.ReadyModules.{job_is_ready}
@@ -151,6 +152,11 @@ fail_step b ss stopped room w m c h k faulty =
       space = let s : sum_by left_for (set ss m Failed) + 1 ≡ sum_by left_for ss + 0 = rw k.claimed at sums in let f = h.space in let g = skipped.1 in omega (arith, length-append b.journal (Fail w m ∷ []));
       few = h.few;
     }
+
+-- what reaches a module that fails is skipped
+pub skipped_by_failure : (b : Build) (w m : ℕ) (c : Checked) → IsLegal b → Refuses b w m c None → (k : ℕ) → Reaches b.given.imports k m → status_at (state_of (with_kept b m c (Fail w m))).statuses k ≡ Skipped
+skipped_by_failure b w m c h accepted k path =
+    ap (λ (s : State). status_at s.statuses k) (state_more b.given b.journal (Fail w m)) ∙ reaching_skipped b.given (state_of b).statuses m w (build_follows b h) accepted.0 h.dependents k path
 
 -- the reply to a claim that isn't made after a stop, of the build that is seen
 pub reply_now : (b seen : Build) (ss : List Status) (stopped : Bool) (room : ℕ) (reply : Reply) → Holds b ss stopped room → b ≡ seen → stopped ≡ false → reply_of b.given (state_with ss false) ≡ reply → reply ≡ reply_of seen.given (state_of seen)

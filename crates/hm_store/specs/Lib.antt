@@ -9,3 +9,4 @@ pub mod Readiness
 pub mod Records
 pub mod Settlements
 pub mod StoresInside
+pub mod Worked

@@ -1,6 +1,7 @@
 //! What holds of each legal build, and of what its workers wrote down, as contracts of functions that do nothing.
 ghost use Rattle.std.specs.Prelude.{◌≡◌, length};
 ghost use Rattle.hm_store.specs.Settlements.{SettledBuildIsSettled};
+ghost use Rattle.hm_store.specs.Worked.{DependentsRow, LeastRow, LegalRow, NotAllowedRow, RecordRow, RefusalRow, RepliesRow, SkipRow, StopRow, TwoRecordsRow};
 
 use crate::store::Store;
 use std::sync::ledger::{Book, Ledger, Share};
@@ -9,6 +10,21 @@ use std::sync::ledger::{Book, Ledger, Share};
 /// import isn't published.
 pub fn settled_builds_are_settled_sets()
     ensures { SettledBuildIsSettled }
+{}
+
+/// Worked builds: which modules depend on which; what is replied to claims; what a stop changes; what is skipped with a failure; what isn't
+/// allowed; why an outcome is refused; which records agree with a journal; and a legal build with its report.
+pub fn worked_builds()
+    ensures dependents { DependentsRow }
+    ensures replies { RepliesRow }
+    ensures least { LeastRow }
+    ensures stop { StopRow }
+    ensures skip { SkipRow }
+    ensures not_allowed { NotAllowedRow }
+    ensures refusal { RefusalRow }
+    ensures one_record { RecordRow }
+    ensures two_records { TwoRecordsRow }
+    ensures legal { LegalRow }
 {}
 
 /// Whoever holds the book that came with a store, and the shares of all records put together, knows that the journal has as many entries as the

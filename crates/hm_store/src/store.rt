@@ -1,13 +1,15 @@
 //! The build store: each call is one step of the build object.
-ghost use Rattle.std.specs.Prelude.{◌≡◌, ◌<◌, ◌≤◌, ◌^◌, IfOk, None, count_by, length, map, not, false, option_map, replicate};
+ghost use Rattle.std.specs.Prelude.{◌≡◌, ◌↔◌, ◌⊎◌, ◌<◌, ◌≤◌, ◌^◌, ℕ, IfOk, IsSome, None, OnOk, count_by, length, map, not, false, option_map, replicate};
 ghost use Rattle.std.specs.Arc.{arc_value};
 ghost use Rattle.std.specs.Option.{option_copied};
+ghost use Rattle.hm_graph.specs.Digraph.{Reaches};
 ghost use Rattle.hm_verdicts.specs.Sets.{IsLawfulSet};
 ghost use Rattle.hm_outcomes.specs.Outcomes.{IsGood, verdict_of};
 ghost use Rattle.hm_store.specs.Builds.{IsAllSettled, IsLegal, IsNew, Settles, after_claim, after_stop, interface_at, kept_at, state_of, status_by};
 ghost use Rattle.hm_store.specs.Objects.{is_publication, publications, reply_of, status_at};
 ghost use Rattle.hm_store.specs.declared.object.Claimed.TheVariants.{Done};
 ghost use Rattle.hm_store.specs.declared.object.Entry.TheVariants.{Fail, Publish};
+ghost use Rattle.hm_store.specs.declared.object.Status.TheVariants.{Failed, Published, Skipped};
 
 use crate::object::{Claimed, Entry, Refusal, Status};
 use hm_graph::{Dependents, Plan};
@@ -112,6 +114,13 @@ impl Store {
         self.journal.as_slice()
     }
 
+    /// What holds of every store: its build is legal.
+    pub fn legal(&self)
+        ensures { IsLegal self.now }
+    {
+        let _ = &self.journal;
+    }
+
     /// How many publications there are among the first entries of the journal, so many as `at`.
     pub fn publications(&self, at: usize) -> usize
         requires { at ≤ length self.now.journal }
@@ -153,7 +162,8 @@ impl Store {
     /// What was found out of a module; None where it isn't published and hasn't failed.
     pub fn verdict(&self, number: usize) -> Option<&Verdict>
         requires { number < length self.now.modules }
-        ensures { option_map verdict_of (option_copied result) ≡ option_map (λ c. c.verdict) (kept_at self.now.kept number) }
+        ensures verdict { option_map verdict_of (option_copied result) ≡ option_map (λ c. c.verdict) (kept_at self.now.kept number) }
+        ensures settled { IsSome result ↔ ((status_at (state_of self.now).statuses number ≡ Published) ⊎ (status_at (state_of self.now).statuses number ≡ Failed)) }
     {
         Some(self.outcomes[number].as_ref()?.verdict())
     }
@@ -220,7 +230,9 @@ impl Store {
         outcome: Outcome,
     ) -> Result<(), (Refusal, Outcome)>
         requires { ¬ IsGood outcome.verdict }
-        ensures { Settles self.old worker number outcome (Fail worker number) self.new result }
+        ensures settles { Settles self.old worker number outcome (Fail worker number) self.new result }
+        // Each module that reaches it through imports is skipped.
+        ensures skipped { OnOk result ((k : ℕ) → Reaches self.old.given.imports k number → status_at (state_of self.new).statuses k ≡ Skipped) }
     {
         match self.refusal(worker, number, &outcome) {
             Some(refusal) => Err((refusal, outcome)),
@@ -253,7 +265,8 @@ impl Store {
 
     /// The published interface of a module; None where it isn't published, and for a number that no module has.
     pub fn look(&self, number: usize) -> Option<&Arc<Interface>>
-        ensures { option_map arc_value (option_copied result) ≡ interface_at self.now.kept number }
+        ensures interface { option_map arc_value (option_copied result) ≡ interface_at self.now.kept number }
+        ensures published { IsSome result ↔ (status_at (state_of self.now).statuses number ≡ Published) }
     {
         match self.outcomes.get(number)?.as_ref()?.verdict() {
             Verdict::Good(interface) => Some(interface),

@@ -1,6 +1,7 @@
 use Rattle.std.proofs.Common.{◌≡◌, ◌-◌, List, length, set, None, subst, sym, ap, ◌∙◌}
 use Rattle.std.specs.Vec.{with_item, with_items, vec_capacity}
 use Rattle.std.proofs.lemmas.List.{length-set, with_items_is}
+use Rattle.hm_graph.specs.Digraph.{Reaches}
 use Rattle.hm_store.specs.Plans.{dependents_of}
 use Rattle.hm_store.specs.Objects.{skip_all}
 use Rattle.hm_store.specs.Builds.{Build, Refuses, status_by, with_kept}
@@ -13,7 +14,7 @@ use Rattle.hm_store.proofs.Kept.{faulty_status}
 use Rattle.hm_store.proofs.Skipping.{length-skips}
 use Rattle.hm_store.proofs.Following.{IsFollowing}
 use Rattle.hm_store.proofs.ReadySteps.{fail_ready}
-use Rattle.hm_store.proofs.Steps.{fail_step, holds_follows, to_keep}
+use Rattle.hm_store.proofs.Steps.{fail_step, holds_follows, skipped_by_failure, to_keep}
 use Rattle.hm_store.proofs.store.Store.fail.Goals as goal
 
 pub invariant_of-self : goal.invariant_of-self
@@ -40,3 +41,11 @@ invariant_of-self c =
       search_of = c.skip_dependents.ensures.len ∙ c.self.invariant.search_of;
       ready = subst (λ (xs : List Status). KeepsReady b.given xs c.self.inside.open_imports.items c.self.inside.ready (c.self.inside.claimed - 1)) (sym back) ready;
     }
+
+pub returns-in-None-clause-skipped : goal.returns-in-None-clause-skipped
+returns-in-None-clause-skipped c k path =
+    let b = build c.self.inside in
+    let m = c.args.number in
+    let accepted = subst (λ (x : Build). Refuses x c.args.worker m c.args.outcome None) (sym c.self.view_is) c.in-None.ensures in
+    rw c.push_reserved.ensures.items
+    (skipped_by_failure b c.args.worker m c.args.outcome c.self.invariant.holds.legal accepted k (subst (λ (x : Build). Reaches x.given.imports k m) (sym c.self.view_is) path))

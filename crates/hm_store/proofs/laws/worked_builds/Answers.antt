@@ -1,0 +1,17 @@
+use Rattle.hm_store.proofs.WorkedBuilds as rows
+use Rattle.hm_store.proofs.WorkedLegal.{legal}
+use Rattle.hm_store.proofs.laws.worked_builds.Goals as goal
+
+pub returns : goal.returns
+returns c = record {
+  dependents = rows.dependents;
+  replies = rows.replies;
+  least = rows.least;
+  stop = rows.stop;
+  skip = rows.skip;
+  not_allowed = rows.not_allowed;
+  refusal = rows.refusal;
+  one_record = rows.one_record;
+  two_records = rows.two_records;
+  legal = legal;
+}

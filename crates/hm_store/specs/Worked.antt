@@ -1,0 +1,159 @@
+-- Worked builds, and what is said of them.
+use Rattle.std.specs.Prelude.{◌≡◌, ℕ, false, List, [], ◌∷◌, ◌++◌, Option, None, Some}
+use Rattle.std.specs.Arc.{arc_value}
+use Rattle.std.specs.declared.alloc.Global.{Global}
+use Rattle.std.specs.declared.sync.Arc.{Arc}
+use Rattle.hm_types.specs.Interfaces.{Exports as Interface}
+use Rattle.hm_syntax.specs.declared.ast.Module.{Module}
+use Rattle.hm_verdicts.specs.Reports.{IsReport}
+use Rattle.hm_verdicts.specs.Worked.{three_modules, three_texts}
+use Rattle.hm_outcomes.specs.Outcomes.{Checked}
+use Rattle.hm_store.specs.Agreement.{Agree}
+use Rattle.hm_store.specs.Builds.{Build, IsAllSettled, IsLegal, Refuses, interface_at, set_of, state_of}
+use Rattle.hm_store.specs.Objects.{IsAllowed, reply_of, state_after}
+use Rattle.hm_store.specs.Plans.{Given, AreDependents}
+use Rattle.hm_store.specs.Records.{rises}
+use Rattle.hm_store.specs.Settlements.{settlement}
+use Rattle.hm_store.specs.declared.object.Claimed.{Claimed as Reply}
+use Rattle.hm_store.specs.declared.object.Claimed.TheVariants.{Job, Later, Done}
+use Rattle.hm_store.specs.declared.object.Entry.{Entry}
+use Rattle.hm_store.specs.declared.object.Entry.TheVariants.{Claim, Publish, Fail, Stop}
+use Rattle.hm_store.specs.declared.object.Refusal.TheVariants.{NotYours, Stranger}
+use Rattle.hm_store.specs.declared.object.Status.TheVariants as status
+use Rattle.hm_store.specs.declared.record.Act.{Act}
+use Rattle.hm_store.specs.declared.record.Act.TheVariants as act
+use Rattle.hm_store.specs.declared.record.Call.{Call}
+use Rattle.hm_store.specs.declared.record.Record.{Record}
+
+-- Plans
+
+-- two modules: 0 imports 1
+abbrev pub two : Given
+two = record { imports = (1 ∷ []) ∷ [] ∷ []; dependents = [] ∷ (0 ∷ []) ∷ [] }
+
+-- four modules: 1 imports 0 and 2, and 3 imports 1
+abbrev pub four : Given
+four = record { imports = [] ∷ (0 ∷ 2 ∷ []) ∷ [] ∷ (1 ∷ []) ∷ []; dependents = (1 ∷ 3 ∷ []) ∷ (3 ∷ []) ∷ (1 ∷ 3 ∷ []) ∷ [] ∷ [] }
+
+-- three modules: 0 imports 1
+abbrev pub beside : Given
+beside = record { imports = (1 ∷ []) ∷ [] ∷ [] ∷ []; dependents = [] ∷ (0 ∷ []) ∷ [] ∷ [] }
+
+-- the dependents are what they are called
+pub record DependentsRow : Type 0 where
+  pub of_two : AreDependents two
+  pub of_four : AreDependents four
+
+-- Replies
+
+-- the reply to a claim after these entries
+abbrev pub replied : Given → List Entry → Reply
+replied g es = reply_of g (state_after g es)
+
+-- a module waits for its import; nothing is left once both are published
+pub record RepliesRow : Type 0 where
+  pub first : replied two [] ≡ Job 1
+  pub later : replied two (Claim 0 1 ∷ []) ≡ Later
+  pub next : replied two (Claim 0 1 ∷ Publish 0 1 ∷ []) ≡ Job 0
+  pub last : replied two (Claim 0 1 ∷ Publish 0 1 ∷ Claim 0 0 ∷ Publish 0 0 ∷ []) ≡ Done
+
+-- of two that are ready the least is claimed, also where it became so later
+pub record LeastRow : Type 0 where
+  pub first : replied beside [] ≡ Job 1
+  pub next : replied beside (Claim 0 1 ∷ Publish 0 1 ∷ []) ≡ Job 0
+  pub other : replied beside (Claim 0 1 ∷ []) ≡ Job 2
+
+-- after a stop there is nothing left to do; what is claimed may still be published; a second stop isn't written down
+pub record StopRow : Type 0 where
+  pub reply : replied two (Stop 1 ∷ []) ≡ Done
+  pub claimed : IsAllowed two (Claim 0 1 ∷ Stop 1 ∷ Publish 0 1 ∷ [])
+  pub once : ¬ (IsAllowed two (Stop 0 ∷ Stop 1 ∷ []))
+
+-- what depends on a module that failed is skipped, also through others, and nothing else is
+pub record SkipRow : Type 0 where
+  pub statuses : (state_after four (Claim 0 0 ∷ Fail 0 0 ∷ [])).statuses ≡ status.Failed ∷ status.Skipped ∷ status.Waiting ∷ status.Skipped ∷ []
+  pub reply : replied four (Claim 0 0 ∷ Fail 0 0 ∷ []) ≡ Job 2
+
+-- no module is claimed before its import is published, published without a claim or by another worker, or claimed twice
+pub record NotAllowedRow : Type 0 where
+  pub early : ¬ (IsAllowed two (Claim 0 0 ∷ []))
+  pub unclaimed : ¬ (IsAllowed two (Publish 0 1 ∷ []))
+  pub by_another : ¬ (IsAllowed two (Claim 0 1 ∷ Publish 1 1 ∷ []))
+  pub twice : ¬ (IsAllowed two (Claim 0 1 ∷ Claim 1 1 ∷ []))
+
+-- Refusals
+
+-- worker 0 has claimed module 1
+abbrev pub begun : List Module → List (Option Checked) → Build
+begun modules kept = record { modules = modules; given = two; journal = Claim 0 1 ∷ []; kept = kept }
+
+-- whatever the outcome is of, a worker that hasn't claimed the module is told so, and nothing else
+pub record RefusalRow : Type 0 where
+  pub not_yours : (modules : List Module) (kept : List (Option Checked)) (c : Checked) → Refuses (begun modules kept) 1 1 c (Some NotYours)
+  pub stranger : (modules : List Module) (kept : List (Option Checked)) (c : Checked) → ¬ (Refuses (begun modules kept) 1 1 c (Some Stranger))
+  pub accepted : (modules : List Module) (kept : List (Option Checked)) (c : Checked) → ¬ (Refuses (begun modules kept) 1 1 c None)
+
+-- Records
+
+-- both modules were claimed and published, module 1 by worker 0, and module 0 by worker w
+abbrev pub journal_by : ℕ → List Entry
+journal_by w = Claim 0 1 ∷ Publish 0 1 ∷ Claim w 0 ∷ Publish w 0 ∷ []
+
+abbrev pub done : ℕ → List Module → List (Option Checked) → Build
+done w modules kept = record { modules = modules; given = two; journal = journal_by w; kept = kept }
+
+abbrev pub call : ℕ → Act → Call
+call at a = record { at = at; act = a }
+
+-- a record of this worker with these calls
+abbrev pub IsRecordOf : ℕ → List Call → Record → Type 0
+IsRecordOf w cs r = (r.worker ≡ w) × (r.calls.items ≡ cs)
+
+-- whatever the modules are and whatever interface module 1 has, a record of worker w with these calls alone agrees
+abbrev pub AloneAgree : ℕ → (Arc Interface Global → List Call) → Type 0
+AloneAgree w calls = (modules : List Module) (kept : List (Option Checked)) (f : Arc Interface Global) → interface_at kept 1 ≡ Some (arc_value f) → (r : Record) → IsRecordOf w (calls f) r → Agree (done 0 modules kept) (r ∷ [])
+
+-- or doesn't
+abbrev pub AloneDisagree : ℕ → (Arc Interface Global → List Call) → Type 0
+AloneDisagree w calls = (modules : List Module) (kept : List (Option Checked)) (f : Arc Interface Global) → interface_at kept 1 ≡ Some (arc_value f) → (r : Record) → IsRecordOf w (calls f) r → ¬ (Agree (done 0 modules kept) (r ∷ []))
+
+abbrev pub begins : List Call
+begins = call 0 (act.Job 1) ∷ call 1 (act.Publish 1) ∷ call 2 (act.Job 0) ∷ []
+
+abbrev pub found : Arc Interface Global → Call
+found f = call 3 (act.Look 1 (Some f))
+
+-- one worker: its record agrees; not without its last two calls, not with a look that finds nothing behind the publication, not with the reply
+-- that nothing is left while it has a module claimed, not as another worker's, and not twice
+pub record RecordRow : Type 0 where
+  pub whole : AloneAgree 0 (λ f. begins ++ (found f ∷ call 3 (act.Publish 0) ∷ call 4 act.Done ∷ []))
+  pub cut : AloneDisagree 0 (λ f. begins ++ (found f ∷ []))
+  pub blind : AloneDisagree 0 (λ f. begins ++ (call 3 (act.Look 1 None) ∷ call 3 (act.Publish 0) ∷ call 4 act.Done ∷ []))
+  pub early : AloneDisagree 0 (λ f. call 0 (act.Job 1) ∷ call 1 act.Done ∷ call 1 (act.Publish 1) ∷ call 2 (act.Job 0) ∷ found f ∷ call 3 (act.Publish 0) ∷ [])
+  pub by_another : AloneDisagree 1 (λ f. begins ++ (found f ∷ call 3 (act.Publish 0) ∷ call 4 act.Done ∷ []))
+  pub twice : (modules : List Module) (kept : List (Option Checked)) (f : Arc Interface Global) (r : Record) → IsRecordOf 0 (begins ++ (found f ∷ call 3 (act.Publish 0) ∷ call 4 act.Done ∷ [])) r → ¬ (Agree (done 0 modules kept) (r ∷ r ∷ []))
+
+-- the calls of the worker that checks module 1, and of one that looks too early, then claims module 0 and looks again
+abbrev pub one_calls : List Call
+one_calls = call 0 (act.Job 1) ∷ call 1 (act.Publish 1) ∷ []
+
+abbrev pub other_calls : Arc Interface Global → List Call
+other_calls f = call 0 (act.Look 1 None) ∷ call 2 (act.Job 0) ∷ found f ∷ call 3 (act.Publish 0) ∷ call 4 act.Done ∷ []
+
+-- two workers: their records agree with the one journal, and don't when their numbers are exchanged; no call has its place at that of an entry that its worker wrote before
+pub record TwoRecordsRow : Type 0 where
+  pub both : (modules : List Module) (kept : List (Option Checked)) (f : Arc Interface Global) → interface_at kept 1 ≡ Some (arc_value f) → (r s : Record) → IsRecordOf 0 one_calls r → IsRecordOf 1 (other_calls f) s → Agree (done 1 modules kept) (r ∷ s ∷ [])
+  pub exchanged : (modules : List Module) (kept : List (Option Checked)) (f : Arc Interface Global) (r s : Record) → IsRecordOf 1 one_calls r → IsRecordOf 0 (other_calls f) s → ¬ (Agree (done 1 modules kept) (r ∷ s ∷ []))
+  pub behind : rises 0 (call 0 (act.Job 1) ∷ call 0 (act.Look 1 None) ∷ []) ≡ false
+
+-- A legal build
+
+-- a build of the worked set, by one worker: A is published, B failed, and C, which imports B, is skipped; it has the set's one text
+pub record LegalRow : Type 0 where
+  pub build : Build
+  pub set : set_of build ≡ three_modules
+  pub journal : build.journal ≡ Claim 0 0 ∷ Publish 0 0 ∷ Claim 0 1 ∷ Fail 0 1 ∷ []
+  pub legal : IsLegal build
+  pub statuses : (state_of build).statuses ≡ status.Published ∷ status.Failed ∷ status.Skipped ∷ []
+  pub settled : IsAllSettled build
+  pub reported : IsReport (set_of build) (settlement build) three_texts
