@@ -25,3 +25,4 @@ pub mod Worked
 pub mod WorkedPlan
 pub mod WorkedModules
 pub mod WorkedReport
+pub mod WorkedVerdicts

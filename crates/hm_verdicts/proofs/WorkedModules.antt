@@ -45,10 +45,17 @@ use Rattle.hm_names.proofs.Existence.{has_resolver}
 use Rattle.hm_names.proofs.Members.{none_in, cases, first}
 use Rattle.hm_verdicts.specs.ModuleVerdicts.{ArePrincipal, IsCanonical, IsGoodFor, IsFaultyFor}
 use Rattle.hm_verdicts.specs.Worked.{at, module_of, letter, module_A, Z, module_B}
+use Rattle.hm_verdicts.specs.WorkedVerdicts.{character as character_scheme, entry_x as entry_of, interface_A, fault_Z}
 use Rattle.hm_verdicts.proofs.WorkedPlan.{head_of}
 
 abbrev pub prelude_alone : List Interface
 prelude_alone = prelude_interface ∷ []
+
+abbrev pub char_scheme : TypeScheme
+char_scheme = character_scheme
+
+abbrev pub entry_x : ValueEntry
+entry_x = entry_of char_scheme
 
 -- the one element of a list
 only : {X : Type 0} (a y : X) → Contains (a ∷ []) y → y ≡ a
@@ -239,9 +246,6 @@ only_char B l =
 principal_A : HasPrincipalSchemes A_assumes typed_A (λ y. closed char)
 principal_A = record { typed = has_char; most = λ B l y o t i. ⊎_elim (λ e. subst (λ σ. Rattle.hm_typing.specs.Schemes.IsInstance t σ) (ap B e ∙ only_char B l) i) (λ z. absurd z) o }
 
-abbrev pub char_scheme : TypeScheme
-char_scheme = record { vars = 0; body = App (head.Named (named (codes "Prelude") (codes "Char"))) done }
-
 abbrev pub given_A : List ℕ → Option TypeScheme
 given_A x = Some char_scheme
 
@@ -252,12 +256,6 @@ pub are_principal_A : ArePrincipal core_A given_A
 are_principal_A = record { schemes = λ y. closed char; principal = principal_A; each = λ e o. (char_scheme, (refl, canonical_A, ((λ t i. i), (λ t i. i)))) }
 
 -- Its interface
-
-abbrev pub entry_x : ValueEntry
-entry_x = record { name = codes "x"; entity = x_of_A; scheme = char_scheme }
-
-abbrev pub interface_A : Interface
-interface_A = record { name = codes "A"; types = []; synonyms = []; constructors = []; values = entry_x ∷ [] }
 
 scheme_or : TypeScheme → Option TypeScheme → TypeScheme
 scheme_or d None = d
@@ -297,9 +295,6 @@ pub good_A : IsGoodFor module_A prelude_alone interface_A
 good_A = record { core = core_A; is_core = is_core_A; given = given_A; principal = are_principal_A; interface = is_interface_A; ordered = interface_ordered }
 
 -- B exports the module Z, which it doesn't import
-
-abbrev pub fault_Z : Fault
-fault_Z = fault NotImported Z
 
 abbrev whole_Z : Export
 whole_Z = export.Whole Z

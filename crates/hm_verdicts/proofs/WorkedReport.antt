@@ -12,16 +12,15 @@ use Rattle.hm_verdicts.specs.Worked.{three_modules, three_texts}
 use Rattle.hm_verdicts.proofs.Composition.{settled_verdict}
 use Rattle.hm_verdicts.proofs.Entries.{not_failed}
 use Rattle.hm_verdicts.proofs.OneReport.{one_block_text}
-use Rattle.hm_verdicts.proofs.WorkedModules.{interface_A, fault_Z, good_A, faulty_B}
+use Rattle.hm_verdicts.specs.WorkedVerdicts.{fault_Z, three_statuses}
+use Rattle.hm_verdicts.proofs.WorkedModules.{good_A, faulty_B}
 use Rattle.hm_verdicts.proofs.WorkedPlan.{three, three_lawful}
 
 abbrev status : ℕ → Status
-status zero = Published interface_A
-status (suc zero) = Failed (fault_Z ∷ [])
-status (suc (suc i)) = Skipped
+status = three_statuses
 
 -- A and B have been judged by no interfaces, and C's import B isn't published
-settled : IsSettled three_modules status
+pub settled : IsSettled three_modules status
 settled = three (λ i. IsSettledAt three_modules status i (status i))
     (record { interfaces = []; published = tt; verdict = good_A })
     (record { interfaces = []; published = tt; verdict = faulty_B })
@@ -38,10 +37,10 @@ block_B = record { name = codes "B"; text = codes "faulty B\n  2:9 not-imported 
 abbrev block_C : Block
 block_C = record { name = codes "C"; text = codes "skipped C\n  by B\n" }
 
-digit : (n : ℕ) → n < 10 → decimal n ≡ (48 + n) ∷ []
+pub digit : (n : ℕ) → n < 10 → decimal n ≡ (48 + n) ∷ []
 digit n l = decimal_digit n l
 
-fault_text : codes "  2:9 not-imported Z\n" ≡ fault_line fault_Z
+pub fault_text : codes "  2:9 not-imported Z\n" ≡ fault_line fault_Z
 fault_text = ap₂ (λ x y. codes "  " ++ x ++ codes ":" ++ y ++ codes " " ++ codes "not-imported" ++ codes " " ++ codes "Z" ++ codes "\n") (sym (digit 2 (omega arith))) (sym (digit 9 (omega arith)))
 
 text_B : block_B.text ≡ codes "faulty " ++ name_of_module three_modules 1 ++ codes "\n" ++ flat_map fault_line (fault_Z ∷ [])
@@ -95,7 +94,7 @@ ordered : AreOrdered (map (λ b. b.name) blocks)
 unfolding IsStrictlySortedBy
 ordered = ((refl, (refl, tt)), ((refl, tt), (tt, tt)))
 
-abbrev count_of : List ℕ → List ℕ → List ℕ
+abbrev pub count_of : List ℕ → List ℕ → List ℕ
 count_of x y = x ++ codes " modules: " ++ y ++ codes " good, " ++ y ++ codes " faulty, " ++ y ++ codes " skipped\n"
 
 pub three_reported : IsReported three_modules three_texts

@@ -6,4 +6,5 @@ pub mod Verdicts
 pub mod Progress
 pub mod Reports
 pub mod Worked
+pub mod WorkedVerdicts
 pub mod Laws

@@ -3,6 +3,7 @@
 #![tactic(auto)]
 
 ghost use Rattle.hm_verdicts.specs.Laws.{AcceptedAreGood, AcceptedHavePrincipal, EndIsSettled, StepsAreSettled, HasOneModuleVerdict, HasOneReading, HasOneStatus, HasOneText, HasOneVerdict, NamesIgnoreSchemes, NoModulesHaveText, PublishedAreAskedFor, SettledIsReported, SettledIsVerdict, SyntaxIgnoresSchemes, ThreeModulesHaveText, TypedHavePrincipal};
+ghost use Rattle.hm_verdicts.specs.WorkedVerdicts.{AcceptedRow, AllGoodRow, CanonicalRow, CircularRow, FirstEntryRow, GeneralRow, LineRow, PlanRow, ProgressRow, PublishedRow, ReportRow, SetRow, SettledRow, SkeletonRow, VerdictRow};
 
 /// Whether a module is well-formed, its faults, its exports and what is typed of it don't depend on the schemes of imported variables.
 pub fn names_ignore_schemes()
@@ -59,4 +60,29 @@ pub fn no_modules_are_good()
 /// second is faulty, the third is skipped.
 pub fn three_modules_are_reported()
     ensures { ThreeModulesHaveText }
+{}
+
+/// Of the three modules the first alone is good, and each has one verdict; a plan without the import isn't theirs. A module that imports itself
+/// has no skeleton, `b -> a` isn't numbered as it should be, and a narrower scheme isn't as general.
+pub fn worked_verdicts()
+    ensures plan { PlanRow }
+    ensures skeleton { SkeletonRow }
+    ensures circular { CircularRow }
+    ensures first_entry { FirstEntryRow }
+    ensures verdict { VerdictRow }
+    ensures canonical { CanonicalRow }
+    ensures general { GeneralRow }
+    ensures set { SetRow }
+    ensures settled { SettledRow }
+    ensures accepted { AcceptedRow }
+{}
+
+/// Three modules may be judged in any order, but none is skipped before an import has failed; their report has a line for each fault, its
+/// blocks in order, and the count.
+pub fn worked_reports()
+    ensures progress { ProgressRow }
+    ensures published { PublishedRow }
+    ensures line { LineRow }
+    ensures report { ReportRow }
+    ensures all_good { AllGoodRow }
 {}
