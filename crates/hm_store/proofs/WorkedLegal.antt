@@ -9,10 +9,11 @@ use Rattle.hm_verdicts.specs.Reports.{name_of_module, IsBlockText, Block, IsBloc
 use Rattle.hm_verdicts.specs.Sets.{ModuleSet, imports_of, IsLawfulSet}
 use Rattle.hm_verdicts.specs.Verdicts.{Status as Settlement, Published, Failed, Skipped}
 use Rattle.hm_verdicts.specs.Worked.{module_A, module_B, three_modules, three_texts}
+use Rattle.hm_verdicts.specs.WorkedVerdicts.{interface_A, fault_Z}
 use Rattle.hm_verdicts.proofs.Composition.{settled_verdict}
 use Rattle.hm_verdicts.proofs.ImportOrder.{import_in}
 use Rattle.hm_verdicts.proofs.OneVerdict.{one_verdict}
-use Rattle.hm_verdicts.proofs.WorkedModules.{interface_A, fault_Z, good_A, faulty_B}
+use Rattle.hm_verdicts.proofs.WorkedModules.{good_A, faulty_B}
 use Rattle.hm_verdicts.proofs.WorkedPlan.{three, three_lawful}
 use Rattle.hm_verdicts.proofs.WorkedReport.{three_reported}
 use Rattle.hm_outcomes.specs.Outcomes.{Checked}
