@@ -51,6 +51,20 @@ def nested_lets(count):
     return module([f"f = {head}g{count - 1} True"])
 
 
+def lambda_variables(count):
+    return "\\" + " ".join(f"a{n}" for n in range(count)) + " -> "
+
+
+def lets_below_lambdas(count):
+    names = " ; ".join(f"g{n} x = a{n}" for n in range(count))
+    return module([f"f = {lambda_variables(count)}let {{ {names} }} in g0 True"])
+
+
+def declared_below_lambdas(count):
+    elements = ", ".join("(\\x -> x) :: a -> a" for _ in range(count))
+    return module([f"f = {lambda_variables(count)}[{elements}]"])
+
+
 def arguments(count):
     return module(["f a = a" + " 1" * count])
 
@@ -91,7 +105,9 @@ KINDS = [
     ("bindings beside one without a type", untyped, 20_000, FAULTY),
     ("bindings without a type", all_untyped, 20_000, FAULTY),
     ("bindings without their declared type", all_refused, 12_000, FAULTY),
-    ("lets within lets", nested_lets, 2_000, ONE),
+    ("lets within lets", nested_lets, 20_000, ONE),
+    ("names of one let below as many variables of a lambda", lets_below_lambdas, 4_000, ONE),
+    ("declared types below as many variables of a lambda", declared_below_lambdas, 2_000, ONE),
     ("arguments of one application", arguments, 400_000, ONE),
     ("elements of a list", elements, 400_000, ONE),
     ("constructors", constructors, 4_000, ONE),

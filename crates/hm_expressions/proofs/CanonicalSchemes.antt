@@ -15,10 +15,10 @@ use Rattle.hm_typing.proofs.Types.{put-agree, put-put, put-In}
 use Rattle.hm_typing.proofs.Bind.{scheme_put_closed}
 use Rattle.hm_unify.specs.WellFormed.{IsWellFormed, AreWellFormed}
 use Rattle.hm_unify.proofs.WellFormed.{well_formed_arities}
-use Rattle.hm_expressions.specs.Environments.{OpenScheme, opened, scheme_in, slot}
+use Rattle.hm_assumptions.specs.Environments.{OpenScheme, opened, scheme_in, slot}
 use Rattle.hm_expressions.specs.OwnSchemes.{canonical_scheme}
-use Rattle.hm_expressions.specs.Problems.{number}
-use Rattle.hm_expressions.proofs.Opened.{opened_given, scheme_given}
+use Rattle.hm_assumptions.specs.Problems.{number}
+use Rattle.hm_assumptions.proofs.Opened.{opened_given, scheme_given}
 
 -- the number of a variable, rigid or not
 abbrev pub index : Leaf → ℕ

@@ -18,13 +18,15 @@ use Rattle.hm_unify.specs.Solving.{Solving}
 use Rattle.hm_unify.specs.WellFormed.{IsWellFormed}
 use Rattle.hm_unify.proofs.WellFormed.{well_formed_more}
 use Rattle.hm_unify.specs.declared.faults.UnifyFault.{UnifyFault}
-use Rattle.hm_expressions.specs.Problems.{number, monotype, problem, bound, Answers, Refuses, given_more, new_at}
-use Rattle.hm_expressions.specs.Environments.{Assumed, assumptions, AreAssumed}
+use Rattle.hm_assumptions.specs.Problems.{number, monotype, problem, bound, Answers, Refuses, given_more, new_at}
+use Rattle.hm_assumptions.specs.Environments.{Assumed, assumptions, AreAssumed}
 use Rattle.hm_names.specs.Syntax.{Known, expression_of, alternatives_of}
-use Rattle.hm_expressions.proofs.Leaves.{monotype-below}
-use Rattle.hm_expressions.proofs.Outcomes.{SolvedBy, solved_same, solved_nothing, solved_both, solved_new, pass_on, carries_second, carries_new, IsLocalIn}
-use Rattle.hm_expressions.proofs.Derived.{Checks, AnswersExpression, assumed_below, assumed_later}
-use Rattle.hm_expressions.proofs.Sides.{Part, choice_type, ChecksChoice, ChecksChoices}
+use Rattle.hm_assumptions.proofs.Leaves.{monotype-below}
+use Rattle.hm_assumptions.proofs.Outcomes.{SolvedBy, solved_same, solved_nothing, solved_both, solved_new, pass_on, carries_second, carries_new, IsLocalIn}
+use Rattle.hm_expressions.proofs.Derived.{Checks, AnswersExpression}
+use Rattle.hm_assumptions.proofs.FoundNames.{assumed_below, assumed_later}
+use Rattle.hm_expressions.proofs.Sides.{Part, ChecksChoice, ChecksChoices}
+use Rattle.hm_assumptions.proofs.Entered.{choice_type}
 
 choices_append : (known : Known) (xs : List tree.Alternative) (p : tree.Pattern) (q : tree.RightSide) (A : Assumptions) (u : Monotype) → DeriveClauses A (alternatives_of known (alternatives xs)) u × DeriveClauses A (alternatives_of known (alternatives (alternative p q ∷ []))) u → DeriveClauses A (alternatives_of known (alternatives (xs ++ alternative p q ∷ []))) u
 choices_append known [] p q A u h = h.1

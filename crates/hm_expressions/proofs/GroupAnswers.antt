@@ -26,7 +26,7 @@ use Rattle.hm_syntax.specs.Lists.{declarations}
 use Rattle.hm_names.specs.Syntax.{Known, pattern_of, patterns_of, right_sides_of, where_of, bindings_of, is_continued, signature_of, add_clause, bound_by, declaration_count}
 use Rattle.hm_groups.specs.declared.members.Member.{Member}
 use Rattle.hm_groups.specs.Nodes.{list_nodes, owner}
-use Rattle.hm_groups.specs.Variables.{variable_of, identifier}
+use Rattle.hm_variables.specs.Variables.{variable_of, identifier}
 use Rattle.hm_groups.specs.Groups.{node_names, node_name}
 use Rattle.hm_groups.specs.References.{pattern_variables}
 use Rattle.hm_typing.specs.Patterns.{Matches}
@@ -36,8 +36,8 @@ use Rattle.hm_groups.specs.Checked.{GroupUnder, OneHas, DeclarationsHave}
 use Rattle.hm_groups.proofs.ByDeclarations.{by_declarations}
 use Rattle.hm_groups.proofs.Named.{names_fit, fit_length}
 use Rattle.hm_groups.proofs.Owned.{names_up, owner_begins, begins_owned, variables_before, few_before, own_name_at, have_places, have_at, drop_at}
-use Rattle.hm_expressions.specs.Problems.{number}
-use Rattle.hm_expressions.specs.Environments.{Assumed, assumptions}
+use Rattle.hm_assumptions.specs.Problems.{number}
+use Rattle.hm_assumptions.specs.Environments.{Assumed, assumptions}
 use Rattle.hm_expressions.specs.Lists.{IsWritten}
 use Rattle.hm_expressions.specs.GroupQuestions.{type_at, MemberHas, StandBefore, HaveTypesOf, MembersHave, AreMembers, HaveTypesOfAll}
 use Rattle.hm_expressions.specs.BoundNames.{Binds, Sees, names_at, ArePlaced}

@@ -6,18 +6,18 @@ use Rattle.hm_syntax.specs.Trees.{Declaration}
 use Rattle.hm_syntax.specs.Lists.{declarations}
 use Rattle.hm_names.specs.Syntax.{Known}
 use Rattle.hm_groups.specs.declared.members.Member.{Member}
-use Rattle.hm_groups.specs.Variables.{Variable}
+use Rattle.hm_variables.specs.Variables.{Variable}
 use Rattle.hm_unify.specs.Unifier.{Equation}
 use Rattle.hm_unify.specs.Solving.{Solving}
 use Rattle.hm_unify.specs.declared.faults.UnifyFault.{UnifyFault}
-use Rattle.hm_expressions.specs.Problems.{Refuses}
-use Rattle.hm_expressions.specs.Environments.{Assumed, assumptions, AreAssumed}
-use Rattle.hm_expressions.specs.Generalisations.{KeepsNone}
+use Rattle.hm_assumptions.specs.Problems.{Refuses}
+use Rattle.hm_assumptions.specs.Environments.{Assumed, assumptions, AreAssumed}
+use Rattle.hm_assumptions.specs.Generalisations.{KeepsNone}
 use Rattle.hm_unify.specs.Levels.{is_outer}
 use Rattle.hm_expressions.specs.GroupQuestions.{AreMembers, AreGivenTypes, MembersHave, HaveTypesOfAll}
 use Rattle.hm_expressions.specs.OpenGroups.{AreUpTo, IsOpenGroup, IsClosedGroup}
 use Rattle.hm_expressions.specs.Stages.{IsListFound, InfersGroup, ClosesGroup}
-use Rattle.hm_expressions.proofs.Outcomes.{SolvedBy}
+use Rattle.hm_assumptions.proofs.Outcomes.{SolvedBy}
 use Rattle.hm_expressions.proofs.GroupAnswers.{members_are}
 use Rattle.hm_expressions.proofs.GroupSteps.{refused, inferred, keeps, keeps_nothing}
 

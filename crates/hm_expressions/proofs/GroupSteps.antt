@@ -26,18 +26,18 @@ use Rattle.hm_unify.specs.Bindings.{solution}
 use Rattle.hm_unify.specs.Levels.{is_outer}
 use Rattle.hm_unify.specs.Solving.{Solving}
 use Rattle.hm_unify.specs.declared.faults.UnifyFault.{UnifyFault}
-use Rattle.hm_expressions.specs.Problems.{problem, bound, Refuses, given_more}
-use Rattle.hm_expressions.specs.Environments.{Assumed, assumptions, AreAssumed}
+use Rattle.hm_assumptions.specs.Problems.{problem, bound, Refuses, given_more}
+use Rattle.hm_assumptions.specs.Environments.{Assumed, assumptions, AreAssumed}
 use Rattle.hm_expressions.specs.Lists.{IsWritten, RefusesList}
 use Rattle.hm_expressions.specs.GroupQuestions.{type_at, MembersHave, HaveTypesOfAll}
 use Rattle.hm_expressions.specs.BoundNames.{Binds, BindsTypes, BindsSchemes, Sees, names_at, ArePlaced}
-use Rattle.hm_expressions.specs.Generalisations.{IsSolution, KeepsEach, KeepsNone}
+use Rattle.hm_assumptions.specs.Generalisations.{IsSolution, KeepsEach, KeepsNone}
 use Rattle.hm_expressions.specs.Stages.{IsStage, list_of, AreApart}
-use Rattle.hm_expressions.proofs.Outcomes.{SolvedBy, solved_same, pass_on}
-use Rattle.hm_expressions.proofs.Derived.{assumed_below}
+use Rattle.hm_assumptions.proofs.Outcomes.{SolvedBy, solved_same, pass_on}
+use Rattle.hm_assumptions.proofs.FoundNames.{assumed_below}
 use Rattle.hm_expressions.proofs.OuterVariables.{keeps_outer, keeps_none}
 use Rattle.hm_expressions.proofs.PrincipalLists.{closed_assumptions}
-use Rattle.hm_expressions.proofs.States.{more_rest}
+use Rattle.hm_assumptions.proofs.States.{more_rest}
 use Rattle.hm_expressions.proofs.Steps.{variable_at, made}
 use Rattle.hm_expressions.proofs.Stages.{stage_group, stage_refused}
 use Rattle.hm_expressions.proofs.GroupAnswers.{place_among, all_placed, type_is, types_are, question_to, question_from, in_names}

@@ -23,16 +23,16 @@ use Rattle.hm_names.specs.Syntax.{Known}
 use Rattle.hm_groups.specs.declared.members.Member.{Member}
 use Rattle.hm_groups.specs.Nodes.{list_nodes}
 use Rattle.hm_groups.specs.Groups.{node_name}
-use Rattle.hm_groups.specs.Variables.{Variable}
+use Rattle.hm_variables.specs.Variables.{Variable}
 use Rattle.hm_unify.specs.Levels.{is_outer}
 use Rattle.hm_unify.specs.Solving.{Solving}
 use Rattle.hm_unify.specs.WellFormed.{EquationsAreWellFormed}
 use Rattle.hm_unify.specs.declared.faults.UnifyFault.{UnifyFault}
 use Rattle.hm_unify.specs.declared.faults.UnifyFault.TheVariants.{Clash, Memory}
-use Rattle.hm_expressions.specs.Problems.{number, problem, bound, equal_facts, Refuses, given_more}
-use Rattle.hm_expressions.specs.Environments.{Assumed, AreAssumed, assumptions}
+use Rattle.hm_assumptions.specs.Problems.{number, problem, bound, equal_facts, Refuses, given_more}
+use Rattle.hm_assumptions.specs.Environments.{Assumed, AreAssumed, assumptions}
 use Rattle.hm_expressions.specs.BoundNames.{Binds, BindsSchemes, Sees, names_at}
-use Rattle.hm_expressions.specs.Generalisations.{IsSolution, KeepsEach}
+use Rattle.hm_assumptions.specs.Generalisations.{IsSolution, KeepsEach}
 use Rattle.hm_expressions.specs.GroupQuestions.{type_at, MembersHave, HaveTypesOfAll}
 use Rattle.hm_expressions.specs.JudgedGroups.{AfterJudged, JudgesGroup}
 use Rattle.hm_expressions.specs.OpenGroups.{IsOpenGroup, IsClosedGroup}
@@ -41,9 +41,9 @@ use Rattle.hm_expressions.proofs.GroupAnswers.{place_among, all_placed, type_is,
 use Rattle.hm_expressions.proofs.GroupEnds.{all_one}
 use Rattle.hm_expressions.proofs.GroupSteps.{sees_after}
 use Rattle.hm_expressions.proofs.OuterVariables.{keeps_outer}
-use Rattle.hm_expressions.proofs.Outcomes.{SolvedBy, solved_same}
+use Rattle.hm_assumptions.proofs.Outcomes.{SolvedBy, solved_same}
 use Rattle.hm_expressions.proofs.PrincipalLists.{closed_assumptions}
-use Rattle.hm_expressions.proofs.States.{guess, guess_new, guess_unifies, problem_below, rigid_unify}
+use Rattle.hm_assumptions.proofs.States.{guess, guess_new, guess_unifies, problem_below, rigid_unify}
 use Rattle.hm_expressions.proofs.Steps.{GroupHas-in, variable_at}
 
 abbrev number_in : Monotype → ℕ

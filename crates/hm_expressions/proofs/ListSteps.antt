@@ -1,10 +1,11 @@
 -- A binding list is inferred, group after group.
 use Rattle.std.proofs.lemmas.Bool.Decides.{nat_tests}
-use Rattle.std.proofs.Common.{◌≡◌, ◌==◌, ℕ, zero, suc, ◌+◌, ◌<◌, ◌≤◌, ◌||◌, List, [], ◌∷◌, ◌++◌, map, take, drop, length, get_or, replicate, All, Vec, Global, Bool, true, Result, Ok, Err, IsErrAnd, inl, inr, ⊎_elim, ◌↔◌, refl, sym, ap, ◌∙◌, subst, arith, length-append}
+use Rattle.std.proofs.Common.{◌≡◌, ◌==◌, ℕ, zero, suc, ◌+◌, ◌<◌, ◌≤◌, ◌||◌, List, [], ◌∷◌, ◌++◌, map, take, drop, length, get_or, replicate, All, Vec, Global, Bool, true, Result, Ok, Err, IsErrAnd, inl, inr, ⊎_elim, ◌↔◌, refl, sym, ap, ◌∙◌, subst, arith}
 use Rattle.std.proofs.lemmas.List.{length-map, take_all, get_or_default}
 use Rattle.hm_graph.specs.Digraph.{lists}
 use Rattle.hm_graph.proofs.Rows.{row_at}
-use Rattle.hm_expressions.proofs.Naming.{extended, in_place}
+use Rattle.hm_assumptions.proofs.Extended.{extended}
+use Rattle.hm_expressions.proofs.Naming.{in_place}
 use Rattle.hm_typing.specs.Names.{Identifier, IsOneOf, IsDistinct}
 use Rattle.hm_typing.specs.Schemes.{Scheme}
 use Rattle.hm_typing.specs.Assumptions.{Assumptions, Has, assumptions_put, bind_all}
@@ -21,11 +22,12 @@ use Rattle.hm_groups.specs.Groups.{node_name}
 use Rattle.hm_unify.specs.Solving.{Solving}
 use Rattle.hm_unify.specs.declared.faults.UnifyFault.{UnifyFault}
 use Rattle.hm_unify.specs.declared.faults.UnifyFault.TheVariants.{Clash, Memory}
-use Rattle.hm_expressions.specs.Environments.{Assumed, assumptions, AreAssumed}
+use Rattle.hm_assumptions.specs.Environments.{Assumed, assumptions, AreAssumed, Extends}
 use Rattle.hm_expressions.specs.Lists.{AreAlike, RefusesList, Listed}
-use Rattle.hm_expressions.specs.BoundNames.{Extends, Sees}
+use Rattle.hm_expressions.specs.BoundNames.{Sees}
 use Rattle.hm_expressions.specs.OpenGroups.{AreUpTo}
 use Rattle.hm_expressions.specs.Stages.{IsStage, list_of, ClosesGroup, InfersGroup}
+use Rattle.hm_assumptions.proofs.Suffixes.{drop_more}
 
 -- the groups from i on are left
 pub record ListStage (k : Known) (decls : List Declaration) (gs : List (List ℕ)) (i : ℕ) (s0 : Solving) (es0 : List Assumed) (s : Solving) (es : List Assumed) : Type 0 where
@@ -45,14 +47,6 @@ pub record GroupsInferred (k : Known) (decls : List Declaration) (gs : List (Lis
   pub added : Extends es0 es
   pub closed : AreAssumed 0 es0 → AreAssumed 0 es
   pub stage : ListStage k decls gs i s0 es0 s es
-
-drop_suc : {X : Type 0} (xs : List X) (i : ℕ) (x : X) → i < length xs → x ≡ get_or xs i x → drop i xs ≡ x ∷ drop (suc i) xs
-drop_suc [] i x l e = absurd (omega arith)
-drop_suc (y ∷ xs) zero x l e = ap (λ z. z ∷ xs) (sym e)
-drop_suc (y ∷ xs) (suc i) x l e = drop_suc xs i x (omega arith) e
-
-pub drop_more : {X : Type 0} (xs : List X) (i : ℕ) (x : X) → i < length xs → x ≡ get_or xs i x → drop i xs ≡ x ∷ drop (i + 1) xs
-drop_more xs i x l e = let n : suc i ≡ i + 1 = omega arith in drop_suc xs i x l e ∙ ap (λ j. x ∷ drop j xs) n
 
 -- a group, and the next stage
 pub list_step : (X : Type 0) (k : Known) (decls : List Declaration) (gs : List (List ℕ)) (i : ℕ) (group : List ℕ) (s0 s s1 : Solving) (es0 es es1 : List Assumed) (x : X) → i < length gs → group ≡ get_or gs i group → AreAssumed s0.given es0 → ListStage k decls gs i s0 es0 s es → InfersGroup {X = X} k decls group es0 s es s1 es1 (Ok x) → ListStage k decls gs (i + 1) s0 es0 s1 es1

@@ -24,12 +24,13 @@ use Rattle.hm_groups.specs.declared.members.Member.{Member}
 use Rattle.hm_groups.proofs.MemberLists.{one_pushed}
 use Rattle.hm_unify.specs.Solving.{Solving}
 use Rattle.hm_unify.specs.declared.faults.UnifyFault.{UnifyFault}
-use Rattle.hm_expressions.specs.Problems.{problem, bound, Answers, Refuses}
-use Rattle.hm_expressions.specs.Environments.{Assumed, assumptions, AreAssumed}
-use Rattle.hm_expressions.specs.Patterns.{put_each}
+use Rattle.hm_assumptions.specs.Problems.{problem, bound, Answers, Refuses}
+use Rattle.hm_assumptions.specs.Environments.{Assumed, assumptions, AreAssumed}
+use Rattle.hm_assumptions.specs.Patterns.{put_each}
 use Rattle.hm_expressions.specs.GroupQuestions.{type_at, AreGivenTypes, HaveTypesOf, StandBefore, MemberHas, MembersHave, AreMembers, HaveTypesOfAll}
-use Rattle.hm_expressions.proofs.Outcomes.{SolvedBy, solved_nothing, solved_same, solved_both, carries_second, pass_on}
-use Rattle.hm_expressions.proofs.Derived.{answers_reworded, assumed_below}
+use Rattle.hm_assumptions.proofs.Outcomes.{SolvedBy, solved_nothing, solved_same, solved_both, carries_second, pass_on}
+use Rattle.hm_expressions.proofs.Derived.{answers_reworded}
+use Rattle.hm_assumptions.proofs.FoundNames.{assumed_below}
 use Rattle.hm_expressions.proofs.Sides.{ChecksClause}
 use Rattle.hm_expressions.proofs.NodeTypes.{AsksBinding}
 

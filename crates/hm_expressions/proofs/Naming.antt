@@ -1,5 +1,5 @@
 -- The names of a group are bound, one after the other.
-use Rattle.std.proofs.Common.{◌≡◌, ℕ, zero, suc, ◌+◌, ◌<◌, ◌≤◌, List, [], ◌∷◌, ◌++◌, take, length, get_or, Option, Some, None, inl, inr, ◌⊎◌, ⊎_elim, ◌↔◌, refl, sym, ap, ◌∙◌, subst, append_assoc, arith}
+use Rattle.std.proofs.Common.{◌≡◌, ℕ, zero, suc, ◌+◌, ◌<◌, ◌≤◌, List, [], ◌∷◌, ◌++◌, take, length, get_or, Option, Some, None, inl, inr, ◌⊎◌, ⊎_elim, ◌↔◌, refl, sym, ap, ◌∙◌, subst, arith}
 use Rattle.std.specs.List.{slice_get}
 use Rattle.std.proofs.lemmas.List.{take_more, take_all, map-append}
 use Rattle.hm_types.specs.Types.{Var, In, put}
@@ -15,16 +15,16 @@ use Rattle.hm_syntax.specs.Trees.{Declarations}
 use Rattle.hm_names.specs.Syntax.{Known}
 use Rattle.hm_groups.specs.Groups.{node_name, node_names}
 use Rattle.hm_groups.specs.Nodes.{list_nodes}
-use Rattle.hm_groups.specs.Variables.{Variable, identifier}
+use Rattle.hm_variables.specs.Variables.{Variable, identifier}
 use Rattle.hm_groups.proofs.Named.{IsOwnName, AllFit, names_fit, fit_variable}
 use Rattle.std.proofs.lemmas.Option.{get_or_from_slice_get}
-use Rattle.hm_expressions.specs.Environments.{Assumed, OpenScheme, assumptions, scheme_in}
-use Rattle.hm_expressions.specs.Generalisations.{IsGeneralisation, renumbered}
+use Rattle.hm_assumptions.specs.Environments.{Assumed, OpenScheme, assumptions, scheme_in}
+use Rattle.hm_assumptions.specs.Generalisations.{IsGeneralisation, renumbered}
 use Rattle.hm_expressions.specs.Lists.{IsWritten}
 use Rattle.hm_expressions.specs.GroupQuestions.{type_at}
-use Rattle.hm_expressions.specs.BoundNames.{Extends, SameInstances, Binds, BindsNode, BindsTypes, BindsSchemes, names_at}
+use Rattle.hm_expressions.specs.BoundNames.{SameInstances, Binds, BindsNode, BindsTypes, BindsSchemes, names_at}
 use Rattle.hm_expressions.proofs.Generality.{quantified_in}
-use Rattle.hm_expressions.proofs.OpenedForms.{mono_scheme}
+use Rattle.hm_assumptions.proofs.OpenedFunctions.{mono_scheme}
 
 -- A closure with other numbers has the same instances, whatever is put for the free variables
 
@@ -196,15 +196,3 @@ pub in_place : (xs : List ℕ) (i d : ℕ) → i < length xs → IsOneOf (get_or
 in_place [] i d l = absurd (omega arith)
 in_place (x ∷ xs) zero d l = inl refl
 in_place (x ∷ xs) (suc i) d l = inr (in_place xs i d (omega arith))
-
-pub extended : (es es1 es2 : List Assumed) → Extends es es1 → Extends es1 es2 → Extends es es2
-extended es es1 es2 a b = (b.0 ++ a.0, b.1 ∙ (ap (λ z. b.0 ++ z) a.1 ∙ sym (append_assoc b.0 a.0 es)))
-
-pub kept_on : (es es1 es2 : List Assumed) → Extends es es1 → es2 ≡ es1 → Extends es es2
-kept_on es es1 es2 a e = (a.0, e ∙ a.1)
-
-pub kept_behind : (es es1 es2 : List Assumed) → es1 ≡ es → Extends es1 es2 → Extends es es2
-kept_behind es es1 es2 e a = (a.0, a.1 ∙ ap (λ z. a.0 ++ z) e)
-
-pub kept_same : (es es1 : List Assumed) → es1 ≡ es → Extends es es1
-kept_same es es1 e = ([], e)

@@ -16,15 +16,15 @@ use Rattle.hm_unify.specs.Solving.{Solving}
 use Rattle.hm_unify.specs.WellFormed.{IsWellFormed}
 use Rattle.hm_unify.specs.declared.faults.UnifyFault.{UnifyFault}
 use Rattle.hm_unify.specs.declared.faults.UnifyFault.TheVariants.{Clash, Memory}
-use Rattle.hm_expressions.specs.declared.variables.Variable.{Variable as KeptVariable}
-use Rattle.hm_expressions.specs.Problems.{number, monotype, problem, bound, Refuses}
-use Rattle.hm_expressions.specs.Patterns.{Variable, names_of, HaveTypes, AreGiven, put_each, IsMatched, RefusesMatch}
-use Rattle.hm_expressions.specs.Kept.{stack, variable_of, variables_of}
+use Rattle.hm_assumptions.specs.declared.variables.Variable.{Variable as KeptVariable}
+use Rattle.hm_assumptions.specs.Problems.{number, monotype, problem, bound, Refuses}
+use Rattle.hm_assumptions.specs.Patterns.{Variable, names_of, HaveTypes, AreGiven, put_each, IsMatched, RefusesMatch}
+use Rattle.hm_assumptions.specs.Kept.{stack, variable_of, variables_of}
 use Rattle.hm_expressions.specs.GroupQuestions.{type_at, AreGivenTypes, HaveTypesBefore, HaveNodeTypes}
-use Rattle.hm_expressions.proofs.OpenedForms.{append_nothing}
-use Rattle.hm_expressions.proofs.Tables.{stack_length}
-use Rattle.hm_expressions.proofs.Leaves.{monotype-below}
-use Rattle.hm_expressions.proofs.Outcomes.{SolvedBy, solved_nothing, solved_same, solved_both, carries_second, pass_on}
+use Rattle.hm_assumptions.proofs.OpenedFunctions.{append_nothing}
+use Rattle.hm_assumptions.proofs.Tables.{stack_length}
+use Rattle.hm_assumptions.proofs.Leaves.{monotype-below}
+use Rattle.hm_assumptions.proofs.Outcomes.{SolvedBy, solved_nothing, solved_same, solved_both, carries_second, pass_on}
 
 absurd_none : {X Y : Type 0} {a : X} → None ≡ Some a → Y
 absurd_none h = cc

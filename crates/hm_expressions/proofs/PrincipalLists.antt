@@ -12,11 +12,11 @@ use Rattle.hm_typing.proofs.SchemeLaws.{scheme_put-agree, scheme_put_put, scheme
 use Rattle.hm_typing.proofs.Bind.{Has-bind_all, assumptions_put-bind_all}
 use Rattle.hm_typing.proofs.Principal.{assumptions_put_closed, DerivedUnits-Has, Has-DerivedUnits}
 use Rattle.hm_unify.specs.Solving.{Solving}
-use Rattle.hm_expressions.specs.Problems.{problem}
+use Rattle.hm_assumptions.specs.Problems.{problem}
 use Rattle.hm_expressions.specs.Lists.{IsListed, IsBound, RefusesList, AreAlike, IsWritten}
-use Rattle.hm_expressions.specs.Environments.{Assumed, assumptions, AreAssumed}
+use Rattle.hm_assumptions.specs.Environments.{Assumed, assumptions, AreAssumed}
 use Rattle.hm_expressions.specs.PrincipalLists.{IsInferred, Inferred}
-use Rattle.hm_expressions.proofs.Derived.{assumed_below}
+use Rattle.hm_assumptions.proofs.FoundNames.{assumed_below}
 use Rattle.hm_unify.specs.declared.faults.UnifyFault.{UnifyFault}
 use Rattle.hm_unify.specs.declared.faults.UnifyFault.TheVariants.{Clash, Memory}
 

@@ -5,7 +5,7 @@ use Rattle.std.proofs.lemmas.List.{take_more, take_all}
 use native.Mathlib.Decide.{ℕ_discrete}
 use Rattle.hm_typing.specs.Names.{IsOneOf}
 use Rattle.hm_syntax.specs.Trees.{Declaration}
-use Rattle.hm_groups.specs.Variables.{Variable}
+use Rattle.hm_variables.specs.Variables.{Variable}
 use Rattle.hm_groups.specs.Walks.{IsNodeWith}
 use Rattle.hm_groups.specs.declared.members.Member.{Member}
 use Rattle.hm_groups.proofs.MemberLists.{one_pushed}

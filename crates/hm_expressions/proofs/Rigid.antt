@@ -12,10 +12,10 @@ use Rattle.hm_typing.proofs.Check.{assumptions_put_unifier}
 use Rattle.hm_typing.proofs.Signed.{lift, lift_misses, Unifies-lift, each_lifted}
 use Rattle.hm_unify.specs.Solving.{Solving}
 use Rattle.hm_unify.specs.declared.faults.UnifyFault.{UnifyFault}
-use Rattle.hm_expressions.specs.Problems.{number, problem, bound, HasNone, Refuses, given_more}
-use Rattle.hm_expressions.proofs.Leaves.{leaf_at, number-leaf_at, leaf_at-number}
-use Rattle.hm_expressions.proofs.States.{guess, guess_below, guess_rigid, guess_unifies, more_rest, rigid_leaves}
-use Rattle.hm_expressions.proofs.Outcomes.{SolvedBy, Carries, pass_on}
+use Rattle.hm_assumptions.specs.Problems.{number, problem, bound, HasNone, Refuses, given_more}
+use Rattle.hm_assumptions.proofs.Leaves.{leaf_at, number-leaf_at, leaf_at-number}
+use Rattle.hm_assumptions.proofs.States.{guess, guess_below, guess_rigid, guess_unifies, more_rest, rigid_leaves}
+use Rattle.hm_assumptions.proofs.Outcomes.{SolvedBy, Carries, pass_on}
 
 -- the number of rigid variable i, from g on
 abbrev pub rigid_from : ℕ → ℕ → ℕ

@@ -1,12 +1,12 @@
 -- Right sides and clauses, form by form.
 use Rattle.std.proofs.Common.{◌≡◌, ℕ, zero, suc, ◌+◌, ◌<◌, ◌≤◌, List, [], ◌∷◌, ◌++◌, length, take, get_or, Option, None, Some, Result, Ok, Err, sym, ap, ◌∙◌, subst}
 use Rattle.std.proofs.lemmas.List.{take_more, take_all}
-use Rattle.hm_types.specs.Types.{Var, put}
-use Rattle.hm_types.specs.Monotypes.{Mono, var}
+use Rattle.hm_types.specs.Types.{put}
+use Rattle.hm_types.specs.Monotypes.{Mono}
 use Rattle.hm_syntax.specs.Trees as tree
-use Rattle.hm_syntax.specs.Trees.{Expression, no_bodies, right_side, alternative}
+use Rattle.hm_syntax.specs.Trees.{Expression, no_bodies, right_side}
 use Rattle.hm_syntax.specs.Lists.{body, bodies, patterns, alternatives}
-use Rattle.hm_typing.specs.Schemes.{Monotype, arrow}
+use Rattle.hm_typing.specs.Schemes.{Monotype}
 use Rattle.hm_typing.specs.Assumptions.{Assumptions, assumptions_put}
 use Rattle.hm_typing.specs.Typing.{HasFunction, HasLocal}
 use Rattle.hm_typing.specs.SecondForm.{Derives, DeriveRightSides, DeriveClauses, DerivedSchemes}
@@ -18,15 +18,17 @@ use Rattle.hm_typing.proofs.More.{DeriveRightSides-more}
 use Rattle.hm_unify.specs.Solving.{Solving}
 use Rattle.hm_unify.specs.WellFormed.{IsWellFormed}
 use Rattle.hm_unify.specs.declared.faults.UnifyFault.{UnifyFault}
-use Rattle.hm_expressions.specs.Problems.{monotype, problem, bound, Answers, Refuses}
-use Rattle.hm_expressions.specs.Environments.{Assumed, assumptions, AreAssumed}
-use Rattle.hm_expressions.specs.Functions.{IsOpened, RefusesOpening}
+use Rattle.hm_assumptions.specs.Problems.{monotype, problem, bound, Answers, Refuses}
+use Rattle.hm_assumptions.specs.Environments.{Assumed, assumptions, AreAssumed}
+use Rattle.hm_assumptions.specs.Functions.{IsOpened, RefusesOpening}
 use Rattle.hm_expressions.specs.Lists.{IsBound, RefusesList}
 use Rattle.hm_names.specs.Syntax.{Known, expression_of, bodies_of, right_sides_of, where_of, bindings_of, pattern_of, patterns_of, alternatives_of}
-use Rattle.hm_expressions.proofs.Leaves.{monotype-below}
-use Rattle.hm_expressions.proofs.Outcomes.{SolvedBy, solved_same, solved_nothing, solved_both, pass_on, carries_second}
-use Rattle.hm_expressions.proofs.Derived.{Checks, AnswersExpression, assumed_below}
+use Rattle.hm_assumptions.proofs.Leaves.{monotype-below}
+use Rattle.hm_assumptions.proofs.Outcomes.{SolvedBy, solved_same, solved_nothing, solved_both, pass_on, carries_second}
+use Rattle.hm_expressions.proofs.Derived.{Checks, AnswersExpression}
+use Rattle.hm_assumptions.proofs.FoundNames.{assumed_below}
 use Rattle.hm_expressions.proofs.OpenedForms.{function_answers, function_refused, local_answers, local_refused, written_bodies}
+use Rattle.hm_assumptions.proofs.Entered.{choice_type}
 
 abbrev pub Part : Type 0
 Part = Option Expression × Expression
@@ -143,10 +145,6 @@ clause_refused known ps q t s es k n =
     function_refused (λ A u. HasLocal A (where_of known q) (λ B. DerivedSchemes A (where_of known q) B) (λ C. DeriveRightSides C (right_sides_of known q) u)) (patterns_of known (patterns ps)) (monotype t) s es k n
 
 -- alternatives
-
--- the type of an alternative: from that of the variable n to t
-abbrev pub choice_type : ℕ → Mono → Monotype
-choice_type n t = arrow (monotype (Var (var n))) (monotype t)
 
 abbrev pub ChecksChoice : Known → tree.Pattern → tree.RightSide → ℕ → Mono → List Assumed → (ℕ → Monotype) → Type 0
 ChecksChoice known p q n t es r = HasFunction (assumptions_put r (assumptions es)) (pattern (pattern_of known p) no_pattern) (put r (choice_type n t)) (λ A u. HasLocal A (where_of known q) (λ B. DerivedSchemes A (where_of known q) B) (λ C. DeriveRightSides C (right_sides_of known q) u))

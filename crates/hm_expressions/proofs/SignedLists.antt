@@ -27,16 +27,15 @@ use Rattle.hm_groups.specs.Groups.{node_name}
 use Rattle.hm_unify.specs.Solving.{Solving}
 use Rattle.hm_unify.specs.declared.faults.UnifyFault.{UnifyFault}
 use Rattle.hm_unify.specs.declared.faults.UnifyFault.TheVariants.{Clash, Memory}
-use Rattle.hm_expressions.specs.Problems.{problem, bound, Refuses}
-use Rattle.hm_expressions.specs.Environments.{Assumed, AreAssumed, assumptions}
-use Rattle.hm_expressions.specs.BoundNames.{Extends}
+use Rattle.hm_assumptions.specs.Problems.{problem, bound, Refuses}
+use Rattle.hm_assumptions.specs.Environments.{Assumed, AreAssumed, assumptions, Extends}
 use Rattle.hm_expressions.specs.Lists.{AreAlike, IsBound, RefusesList}
 use Rattle.hm_expressions.specs.SignedLists.{AtDeclared, BindsSigned, SignedClauseHas, SignedClausesHave}
 use Rattle.hm_expressions.specs.Stages.{Following, list_of}
-use Rattle.hm_expressions.proofs.Derived.{assumed_below, assumed_later}
+use Rattle.hm_assumptions.proofs.FoundNames.{assumed_below, assumed_later}
 use Rattle.hm_expressions.proofs.ListSteps.{ListStage, alike, past_end}
 use Rattle.hm_expressions.proofs.OpenedForms.{written_list}
-use Rattle.hm_expressions.proofs.Outcomes.{SolvedBy, solved_same}
+use Rattle.hm_assumptions.proofs.Outcomes.{SolvedBy, solved_same}
 use Rattle.hm_expressions.proofs.SignedSteps.{SignedAll}
 use Rattle.hm_expressions.proofs.Stages.{stage_listed, stage_start, to_stage}
 

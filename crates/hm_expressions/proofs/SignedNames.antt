@@ -25,7 +25,7 @@ use Rattle.hm_names.specs.Syntax.{Known, bindings_of, bound_by, add_clause, is_c
 use Rattle.hm_names.specs.Texts.{same_text}
 use Rattle.hm_names.specs.Types.{declared_type}
 use Rattle.hm_unify.specs.WellFormed.{IsWellFormed, AreWellFormed}
-use Rattle.hm_expressions.specs.Environments.{Assumed, OpenScheme, scheme_in, slot}
+use Rattle.hm_assumptions.specs.Environments.{Assumed, OpenScheme, scheme_in, slot}
 use Rattle.hm_expressions.specs.SignedLists.{Signatures, declared_in, AreSignatures, BindsSigned, BindsDeclaration}
 use Rattle.hm_groups.proofs.MemberLists.{one_pushed}
 use Rattle.hm_expressions.proofs.Naming.{binds_more, binds_none, same_scheme}
@@ -71,8 +71,8 @@ signature_added ns t d old new e h ds a x = h x ∙ (ap (cond (is_signed_among x
 
 mutual
   scheme_closed : (k : ℕ) (t : Mono) → IsWellFormed k t → scheme_in (record { quantified = k; body = t }) ≡ closed (monotype_of t)
-  scheme_closed k (Var (var n)) w = let h : n < k = w in let e : nat_lt n k ≡ true = grind (arith, nat_tests) in ap (λ b. Var (cond b (Quantified n) (Free (Rattle.hm_expressions.specs.Problems.number (var (n - k)))))) e
-  scheme_closed k (Var (rigid n)) w = let h : n < k = w in let e : nat_lt n k ≡ true = grind (arith, nat_tests) in ap (λ b. Var (cond b (Quantified n) (Free (Rattle.hm_expressions.specs.Problems.number (rigid (n - k)))))) e
+  scheme_closed k (Var (var n)) w = let h : n < k = w in let e : nat_lt n k ≡ true = grind (arith, nat_tests) in ap (λ b. Var (cond b (Quantified n) (Free (Rattle.hm_assumptions.specs.Problems.number (var (n - k)))))) e
+  scheme_closed k (Var (rigid n)) w = let h : n < k = w in let e : nat_lt n k ≡ true = grind (arith, nat_tests) in ap (λ b. Var (cond b (Quantified n) (Free (Rattle.hm_assumptions.specs.Problems.number (rigid (n - k)))))) e
   scheme_closed k (App h ts) w = ap (App h) (all_schemes_closed k ts w.1)
 
   all_schemes_closed : (k : ℕ) (ts : Monos) → AreWellFormed k ts → put_all (λ l. Var (slot k l)) ts ≡ put_all (λ a. Var (Quantified a)) (put_all variable_of ts)

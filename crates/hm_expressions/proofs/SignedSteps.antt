@@ -10,12 +10,12 @@ use Rattle.hm_typing.proofs.SchemeLaws.{assumptions_put-agree}
 use Rattle.hm_unify.specs.Solving.{Solving}
 use Rattle.hm_unify.specs.declared.faults.UnifyFault.{UnifyFault}
 use Rattle.hm_names.specs.Syntax.{Known}
-use Rattle.hm_expressions.specs.Problems.{problem, bound, Refuses}
-use Rattle.hm_expressions.specs.Environments.{Assumed, AreAssumed, assumptions}
+use Rattle.hm_assumptions.specs.Problems.{problem, bound, Refuses}
+use Rattle.hm_assumptions.specs.Environments.{Assumed, AreAssumed, assumptions}
 use Rattle.hm_expressions.specs.SignedLists.{SignedClauseHas, SignedClausesHave}
 use Rattle.hm_groups.proofs.MemberLists.{one_pushed}
-use Rattle.hm_expressions.proofs.Derived.{assumed_below}
-use Rattle.hm_expressions.proofs.Outcomes.{SolvedBy, solved_same, solved_nothing, solved_both, pass_on, carries_second}
+use Rattle.hm_assumptions.proofs.FoundNames.{assumed_below}
+use Rattle.hm_assumptions.proofs.Outcomes.{SolvedBy, solved_same, solved_nothing, solved_both, pass_on, carries_second}
 use Rattle.hm_expressions.proofs.SignedForms.{SignedAsks}
 
 abbrev pub SignedAll : Known → Declarations → List Declaration → List Assumed → (ℕ → Monotype) → Type 0

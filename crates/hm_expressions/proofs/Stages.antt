@@ -17,13 +17,13 @@ use Rattle.hm_typing.proofs.Lists.{SignedHas, stage_last, to_remaining, from_rem
 use Rattle.hm_unify.specs.Solving.{Solving}
 use Rattle.hm_unify.specs.declared.faults.UnifyFault.{UnifyFault}
 use Rattle.hm_unify.specs.declared.faults.UnifyFault.TheVariants.{Clash, Memory}
-use Rattle.hm_expressions.specs.Problems.{problem, bound, Refuses, given_more}
-use Rattle.hm_expressions.specs.Environments.{Assumed, assumptions, AreAssumed}
+use Rattle.hm_assumptions.specs.Problems.{problem, bound, Refuses, given_more}
+use Rattle.hm_assumptions.specs.Environments.{Assumed, assumptions, AreAssumed}
 use Rattle.hm_expressions.specs.Lists.{IsListed, RefusesList}
 use Rattle.hm_expressions.specs.Stages.{Following, IsStage}
-use Rattle.hm_expressions.proofs.Outcomes.{SolvedBy}
-use Rattle.hm_expressions.proofs.States.{more_rest}
-use Rattle.hm_expressions.proofs.Derived.{assumed_below}
+use Rattle.hm_assumptions.proofs.Outcomes.{SolvedBy}
+use Rattle.hm_assumptions.proofs.States.{more_rest}
+use Rattle.hm_assumptions.proofs.FoundNames.{assumed_below}
 use Rattle.hm_expressions.proofs.Steps.{variable_at, made, group_asked, step_guess, step_back, made_schemes}
 
 following_more : (Γ : Assumptions) (r : ℕ → Monotype) (C C' : Assumptions) → AreAtMostAsGeneral C C' → Following Γ C r → Following Γ C' r

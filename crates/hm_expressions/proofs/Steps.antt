@@ -23,9 +23,9 @@ use Rattle.hm_typing.proofs.Matching.{own_name, Matches-named, AreTogether, toge
 use Rattle.hm_typing.proofs.Bridge.{more-all, fresh, own_signed}
 use Rattle.hm_typing.proofs.Groups.{over, GroupHas, GroupQ, Remaining, Stage, AreSchemes, signed_same, cond_true, cond_false, group_guess, Remaining-more}
 use Rattle.hm_unify.specs.Solving.{Solving}
-use Rattle.hm_expressions.specs.Problems.{number, problem, bound, given_more}
-use Rattle.hm_expressions.proofs.States.{guess, guess_below, guess_new, guess_unifies, more_rest}
-use Rattle.hm_expressions.proofs.Outcomes.{SolvedBy}
+use Rattle.hm_assumptions.specs.Problems.{number, problem, bound, given_more}
+use Rattle.hm_assumptions.proofs.States.{guess, guess_below, guess_new, guess_unifies, more_rest}
+use Rattle.hm_assumptions.proofs.Outcomes.{SolvedBy}
 
 bool_cases : (b : Bool) → (b ≡ true) ⊎ (b ≡ false)
 bool_cases true = inl refl

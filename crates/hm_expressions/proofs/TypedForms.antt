@@ -18,13 +18,14 @@ use Rattle.hm_unify.specs.declared.faults.UnifyFault.{UnifyFault}
 use Rattle.hm_unify.specs.declared.faults.UnifyFault.TheVariants.{Clash, Memory}
 use Rattle.hm_names.specs.Syntax.{Known, expression_of}
 use Rattle.hm_names.specs.Types.{declared_type}
-use Rattle.hm_expressions.specs.Problems.{number, monotype, problem, bound, Answers, Refuses, given_more}
-use Rattle.hm_expressions.specs.Environments.{Assumed, AreAssumed, assumptions}
-use Rattle.hm_expressions.specs.Escapes.{TellsEscape}
-use Rattle.hm_expressions.proofs.DeclaredTypes.{declared_below}
-use Rattle.hm_expressions.proofs.Derived.{Checks, AnswersExpression, assumed_below}
-use Rattle.hm_expressions.proofs.Leaves.{monotype-below}
-use Rattle.hm_expressions.proofs.Outcomes.{SolvedBy, solved_same, solved_both, carries_second, pass_on}
+use Rattle.hm_assumptions.specs.Problems.{number, monotype, problem, bound, Answers, Refuses, given_more}
+use Rattle.hm_assumptions.specs.Environments.{Assumed, AreAssumed, assumptions}
+use Rattle.hm_assumptions.specs.Escapes.{TellsEscape}
+use Rattle.hm_assumptions.proofs.DeclaredTypes.{declared_below}
+use Rattle.hm_expressions.proofs.Derived.{Checks, AnswersExpression}
+use Rattle.hm_assumptions.proofs.FoundNames.{assumed_below}
+use Rattle.hm_assumptions.proofs.Leaves.{monotype-below}
+use Rattle.hm_assumptions.proofs.Outcomes.{SolvedBy, solved_same, solved_both, carries_second, pass_on}
 use Rattle.hm_expressions.proofs.OuterVariables.{free_is_outer, outer_inside}
 use Rattle.hm_expressions.proofs.Rigid.{AtInstances, AtRigidFrom, rigid_solved, rigid_escapes, rigid_refused}
 

@@ -1,4 +1,4 @@
--- What binding the names of a group does to the environment, and what is seen of a list while its groups are inferred. Public clauses name `Extends` alone of these.
+-- What binding the names of a group does to the environment, and what is seen of a list while its groups are inferred. No public clause names it.
 use Rattle.std.specs.Prelude.{◌≡◌, ℕ, ◌+◌, ◌<◌, ◌⊎◌, ◌↔◌, Bool, true, List, [], ◌∷◌, ◌++◌, map, length, slice_index_or}
 use Rattle.hm_types.specs.Types.{put}
 use Rattle.hm_typing.specs.Names.{Identifier, IsOneOf}
@@ -10,7 +10,7 @@ use Rattle.hm_typing.specs.Units.{IsSigned}
 use Rattle.hm_syntax.specs.Trees.{Declarations}
 use Rattle.hm_names.specs.Syntax.{Known}
 use Rattle.hm_groups.specs.Groups.{node_name}
-use Rattle.hm_expressions.specs.Environments.{Assumed, OpenScheme, assumptions, scheme_in}
+use Rattle.hm_assumptions.specs.Environments.{Assumed, OpenScheme, assumptions, scheme_in}
 use Rattle.hm_expressions.specs.Lists.{IsWritten}
 use Rattle.hm_expressions.specs.GroupQuestions.{type_at}
 
@@ -49,7 +49,3 @@ pub record Sees (ds : Bindings) (A : Assumptions) (finished : Identifier → Boo
 -- the types of the nodes of a group are the variables from `first` on
 abbrev pub ArePlaced : ℕ → List ℕ → List ℕ → Type 0
 ArePlaced first group types = (j : ℕ) → IsOneOf j group → (p : ℕ) × (p < length group) × (slice_index_or group p 0 ≡ j) × (slice_index_or types j 0 ≡ first + p)
-
--- more is assumed, inside what was
-abbrev pub Extends : List Assumed → List Assumed → Type 0
-Extends es es' = (added : List Assumed) × (es' ≡ added ++ es)

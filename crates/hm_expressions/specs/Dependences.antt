@@ -6,12 +6,12 @@ use Rattle.hm_syntax.specs.Trees.{Declaration}
 use Rattle.hm_names.specs.Syntax.{Known}
 use Rattle.hm_groups.specs.GroupMembers.{AreMembersOf}
 use Rattle.hm_groups.specs.References.{DeclarationRefers}
-use Rattle.hm_groups.specs.Variables.{Variable}
+use Rattle.hm_variables.specs.Variables.{Variable}
 use Rattle.hm_groups.specs.Walks.{IsNodeWith}
 use Rattle.hm_groups.specs.declared.members.Member.{Member}
 use Rattle.hm_unify.specs.Solving.{Solving}
 use Rattle.hm_unify.specs.declared.faults.UnifyFault.TheVariants.{Clash}
-use Rattle.hm_expressions.specs.Environments.{Assumed}
+use Rattle.hm_assumptions.specs.Environments.{Assumed}
 use Rattle.hm_expressions.specs.JudgedGroups.{JudgesGroup}
 
 -- the node is typed, by a table

@@ -13,9 +13,9 @@ use Rattle.hm_syntax.specs.Trees.{Declaration, data_declaration, newtype_declara
 use Rattle.hm_names.specs.Syntax.{Known, pattern_of, patterns_of, right_sides_of, where_of}
 use Rattle.hm_groups.specs.declared.members.Member.{Member}
 use Rattle.hm_types.specs.Shape.{type_of}
-use Rattle.hm_expressions.specs.declared.variables.Variable.{Variable as KeptVariable}
-use Rattle.hm_expressions.specs.Problems.{number, monotype}
-use Rattle.hm_expressions.specs.Patterns.{put_each}
+use Rattle.hm_assumptions.specs.declared.variables.Variable.{Variable as KeptVariable}
+use Rattle.hm_assumptions.specs.Problems.{number, monotype}
+use Rattle.hm_assumptions.specs.Patterns.{put_each}
 
 -- the variable of a node
 abbrev pub type_at : List ℕ → ℕ → Monotype

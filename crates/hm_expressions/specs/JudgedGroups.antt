@@ -14,7 +14,7 @@ use Rattle.hm_names.specs.Syntax.{Known}
 use Rattle.hm_unify.specs.Solving.{Solving}
 use Rattle.hm_unify.specs.declared.faults.UnifyFault.{UnifyFault}
 use Rattle.hm_unify.specs.declared.faults.UnifyFault.TheVariants.{Clash, Memory}
-use Rattle.hm_expressions.specs.Environments.{Assumed, AreAssumed, assumptions}
+use Rattle.hm_assumptions.specs.Environments.{Assumed, AreAssumed, assumptions}
 use Rattle.hm_expressions.specs.BoundNames.{Sees, names_at}
 use Rattle.hm_expressions.specs.Stages.{list_of}
 

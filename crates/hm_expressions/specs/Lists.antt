@@ -10,8 +10,8 @@ use Rattle.hm_typing.specs.Problems.{Unifies, FactsBelow}
 use Rattle.hm_unify.specs.Solving.{Solving}
 use Rattle.hm_unify.specs.declared.faults.UnifyFault.{UnifyFault}
 use Rattle.hm_unify.specs.declared.faults.UnifyFault.TheVariants.{Clash, Memory}
-use Rattle.hm_expressions.specs.Problems.{problem, bound}
-use Rattle.hm_expressions.specs.Environments.{Assumed, assumptions, AreAssumed}
+use Rattle.hm_assumptions.specs.Problems.{problem, bound}
+use Rattle.hm_assumptions.specs.Environments.{Assumed, assumptions, AreAssumed}
 
 -- B is the most general family of schemes that types the list under A, as the problem of s' tells it
 pub record IsListed (A : Assumptions) (ds : Bindings) (B : Identifier → Scheme) (s s' : Solving) : Type 0 where

@@ -7,15 +7,15 @@ use Rattle.hm_names.specs.Syntax.{Known}
 use Rattle.hm_groups.specs.declared.members.Member.{Member}
 use Rattle.hm_groups.specs.GroupMembers.{AreMembersOf}
 use Rattle.hm_groups.specs.Nodes.{list_nodes}
-use Rattle.hm_groups.specs.Variables.{Variable}
+use Rattle.hm_variables.specs.Variables.{Variable}
 use Rattle.hm_unify.specs.Solving.{Solving}
 use Rattle.hm_unify.specs.Levels.{is_outer}
 use Rattle.hm_typing.specs.Assumptions.{Assumptions, assumptions_put}
-use Rattle.hm_expressions.specs.Problems.{problem, given_more}
-use Rattle.hm_expressions.specs.Environments.{Assumed, AreAssumed}
-use Rattle.hm_expressions.specs.Generalisations.{IsSolution, KeepsEach}
+use Rattle.hm_assumptions.specs.Problems.{problem, given_more}
+use Rattle.hm_assumptions.specs.Environments.{Assumed, AreAssumed, Extends}
+use Rattle.hm_assumptions.specs.Generalisations.{IsSolution, KeepsEach}
 use Rattle.hm_expressions.specs.GroupQuestions.{AreGivenTypes}
-use Rattle.hm_expressions.specs.BoundNames.{ArePlaced, Extends, BindsTypes, BindsSchemes}
+use Rattle.hm_expressions.specs.BoundNames.{ArePlaced, BindsTypes, BindsSchemes}
 
 -- the variables of all nodes are at most those that were given
 abbrev pub AreUpTo : ℕ → List ℕ → Type 0

@@ -3,7 +3,7 @@ use Rattle.std.specs.Prelude.{◌≡◌, ℕ, List, Option, Some, false}
 use Rattle.hm_types.specs.Schemes.{TypeScheme, canonical_of}
 use Rattle.hm_types.specs.Types.{put}
 use Rattle.hm_typing.specs.Names.{global}
-use Rattle.hm_expressions.specs.Environments.{Assumed, OpenScheme, IsSchemeOf, opened}
+use Rattle.hm_assumptions.specs.Environments.{Assumed, OpenScheme, IsSchemeOf, opened}
 
 -- of a scheme without free variables: its variables are numbered in order of first occurrence
 abbrev pub canonical_scheme : OpenScheme → TypeScheme

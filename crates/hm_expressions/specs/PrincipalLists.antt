@@ -7,7 +7,7 @@ use Rattle.hm_typing.specs.Syntax.{Bindings, names}
 use Rattle.hm_typing.specs.BindingLists.{HasSchemes, HasPrincipalSchemes}
 use Rattle.hm_unify.specs.declared.faults.UnifyFault.{UnifyFault}
 use Rattle.hm_unify.specs.declared.faults.UnifyFault.TheVariants.{Clash, Memory}
-use Rattle.hm_expressions.specs.Environments.{Assumed, assumptions}
+use Rattle.hm_assumptions.specs.Environments.{Assumed, assumptions}
 use Rattle.hm_expressions.specs.Lists.{IsWritten}
 
 -- the environment gives each name that can be mentioned the instances of its principal scheme, with some types put for free variables

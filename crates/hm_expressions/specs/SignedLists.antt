@@ -17,7 +17,7 @@ use Rattle.hm_typing.specs.Orders.{SignedAre}
 use Rattle.hm_syntax.specs.Trees.{TypeTree, Declaration, data_declaration, newtype_declaration, synonym_declaration, signature, clause, pattern_binding, Declarations, more_declarations}
 use Rattle.hm_names.specs.Syntax.{Known, bindings_of, patterns_of, right_sides_of, where_of, signature_of}
 use Rattle.hm_names.specs.Types.{declared_type}
-use Rattle.hm_expressions.specs.Environments.{Assumed}
+use Rattle.hm_assumptions.specs.Environments.{Assumed}
 use Rattle.hm_expressions.specs.BoundNames.{Binds}
 
 -- the types that are declared, by the texts of their variables

@@ -14,11 +14,11 @@ use Rattle.hm_names.specs.Syntax.{Known, bindings_of}
 use Rattle.hm_groups.specs.Groups.{node_name}
 use Rattle.hm_groups.specs.Nodes.{list_nodes}
 use Rattle.hm_groups.specs.Members.{AreRows}
-use Rattle.hm_groups.specs.Variables.{Variable}
+use Rattle.hm_variables.specs.Variables.{Variable}
 use Rattle.hm_unify.specs.Solving.{Solving}
 use Rattle.hm_unify.specs.declared.faults.UnifyFault.{UnifyFault}
-use Rattle.hm_expressions.specs.Problems.{problem, bound}
-use Rattle.hm_expressions.specs.Environments.{Assumed, assumptions, AreAssumed}
+use Rattle.hm_assumptions.specs.Problems.{problem, bound}
+use Rattle.hm_assumptions.specs.Environments.{Assumed, assumptions, AreAssumed}
 use Rattle.hm_expressions.specs.Lists.{RefusesList}
 use Rattle.hm_expressions.specs.BoundNames.{Sees, names_at}
 

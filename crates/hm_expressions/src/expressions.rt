@@ -5,46 +5,36 @@ ghost use Rattle.std.specs.Prelude.{◌≡◌, ℕ, ◌+◌, ◌<◌, ◌≤◌,
 ghost use Rattle.hm_types.specs.Shape.{type_of};
 ghost use Rattle.hm_types.specs.Types.{Var, put};
 ghost use Rattle.hm_types.specs.Monotypes.{var};
-ghost use Rattle.hm_syntax.specs.Lists.{expressions, body, bodies, alternatives, patterns};
+ghost use Rattle.hm_syntax.specs.Lists.{expressions, body, bodies, alternatives, patterns, declarations};
 ghost use Rattle.hm_graph.specs.Digraph.{lists};
-ghost use Rattle.hm_syntax.specs.Trees.{no_bodies, typed_expression};
+ghost use Rattle.hm_syntax.specs.Trees.{no_bodies, typed_expression, Declarations};
 ghost use Rattle.hm_typing.specs.Assumptions.{assumptions_put};
-ghost use Rattle.hm_typing.specs.Schemes.{arrow};
+ghost use Rattle.hm_typing.specs.Schemes.{arrow, Monotype};
 ghost use Rattle.hm_typing.specs.Syntax.{pattern, no_pattern};
 ghost use Rattle.hm_typing.specs.Typing.{HasFunction, HasLocal};
 ghost use Rattle.hm_typing.specs.SecondForm.{Derives, DeriveAll, DeriveRightSides, DeriveClauses, DerivedSchemes};
 ghost use Rattle.hm_unify.specs.WellFormed.{IsWellFormed};
-ghost use Rattle.hm_expressions.specs.Problems.{Answers, monotype};
-ghost use Rattle.hm_expressions.specs.Environments.{AreAssumed, Assumed, assumptions};
+ghost use Rattle.hm_assumptions.specs.Problems.{Answers, monotype};
+ghost use Rattle.hm_assumptions.specs.Environments.{AreAssumed, Assumed, assumptions, Extends};
 ghost use Rattle.hm_expressions.specs.GroupQuestions.{AreGivenTypes, AreMembers, HaveTypesOf, HaveTypesOfAll, MemberHas, MembersHave, StandBefore, type_at};
 ghost use Rattle.hm_expressions.specs.JudgedGroups.{JudgesGroup};
 ghost use Rattle.hm_expressions.specs.Lists.{Listed};
 ghost use Rattle.hm_expressions.specs.OpenGroups.{AreUpTo, ChangesOnly};
-ghost use Rattle.hm_expressions.specs.BoundNames.{Extends};
 ghost use Rattle.hm_expressions.specs.SignedLists.{AreSignatures, SignedClauseHas, SignedClausesHave};
-ghost use Rattle.hm_syntax.specs.Lists.{declarations};
-ghost use Rattle.hm_syntax.specs.Trees.{Declarations};
 ghost use Rattle.hm_expressions.specs.Stages.{ClosesGroup, InfersGroup, IsListFound, list_of};
 ghost use Rattle.hm_typing.specs.Names.{Identifier};
-ghost use Rattle.hm_typing.specs.Schemes.{Monotype};
-ghost use Rattle.hm_expressions.specs.Patterns.{from_number, put_each};
+ghost use Rattle.hm_assumptions.specs.Patterns.{from_number, put_each};
 ghost use Rattle.hm_names.specs.Syntax.{expression_of, expressions_of, bodies_of, right_sides_of, where_of, pattern_of, patterns_of, alternatives_of};
-ghost use Rattle.hm_expressions.specs.Constructors.{known_of};
+ghost use Rattle.hm_assumptions.specs.Constructors.{known_of};
 
 use crate::bindings::match_binding;
-use crate::constructors::Constructors;
-use crate::declared::{check_instance, declare, with_rigid_variables};
-use crate::environment::Environment;
-use crate::escaping::forbid_escape;
-use crate::functions::{open_alternative, open_function};
 use crate::grouping::{close_group, open_group};
-use crate::instances::check_constructor;
-use crate::names::check_name;
-use crate::parts::{list_part, tuple_parts};
-use crate::patterns::element;
-use crate::shapes::{function_from, literal_type, prelude_type};
 use crate::signed::{bind_signed, declared_for, signatures_of};
-use crate::unifying::{equate, new_variables};
+use hm_assumptions::{
+    Constructors, Environment, check_constructor, check_instance, check_name, declare, element,
+    equate, forbid_escape, function_from, list_part, literal_type, new_variables, open_alternative,
+    open_function, prelude_type, tuple_parts, with_rigid_variables,
+};
 use hm_groups::{BindingGroups, Member, binding_groups};
 use hm_syntax::{Alt, Decl, DeclKind, Expr, ExprKind, Pat, Rhs, TypeExpr};
 use hm_types::Ty;

@@ -5,15 +5,14 @@ ghost use Rattle.hm_syntax.specs.Lists.{declarations};
 ghost use Rattle.hm_syntax.specs.Trees.{Declarations, more_declarations};
 ghost use Rattle.hm_names.specs.Syntax.{Known, is_signed_among};
 ghost use Rattle.hm_names.specs.Types.{declared_type};
-ghost use Rattle.hm_expressions.specs.BoundNames.{Extends};
-ghost use Rattle.hm_expressions.specs.Environments.{AreAssumed};
+ghost use Rattle.hm_assumptions.specs.Environments.{Extends, AreAssumed};
 ghost use Rattle.hm_expressions.specs.SignedLists.{AreSignatures, BindsDeclaration, BindsSigned, declared_in};
 ghost use Rattle.hm_expressions.specs.Stages.{list_of};
 
-use crate::declared::declare;
-use crate::environment::Environment;
-use hm_groups::{is_continued, key_of};
+use hm_assumptions::{Environment, declare};
+use hm_groups::is_continued;
 use hm_syntax::{Decl, DeclKind, Name, TypeExpr};
+use hm_variables::key_of;
 use indexmap::IndexMap;
 use std::alloc::{AllocError, Global};
 

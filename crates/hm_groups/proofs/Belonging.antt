@@ -7,7 +7,7 @@ use Rattle.hm_syntax.specs.Lists.{declarations}
 use Rattle.hm_groups.specs.Nodes.{owner, AddsEdges}
 use Rattle.hm_groups.specs.Members.{AreRows}
 use Rattle.hm_groups.proofs.EdgeLists.{adds_one, adds_iff}
-use Rattle.hm_groups.proofs.Numberings.{some_injective}
+use Rattle.hm_variables.proofs.Pushed.{some_injective}
 
 pub added_place : (rows : List (Vec ℕ Global)) (o : Option ℕ) (own place : ℕ) (old new : Vec ℕ Global) → o ≡ Some own → own < length rows → old ≡ get_or rows own old → new.items ≡ old.items ++ place ∷ [] →
     AddsEdges (lists rows) (lists (set rows own new)) (λ x y. (o ≡ Some x) × (y ≡ place))

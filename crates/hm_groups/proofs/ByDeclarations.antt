@@ -7,7 +7,7 @@ use Rattle.hm_typing.specs.Syntax as typed
 use Rattle.hm_typing.specs.SecondForm.{DeriveClauses}
 use Rattle.hm_syntax.specs.Trees.{data_declaration, newtype_declaration, synonym_declaration, signature, clause, pattern_binding, Declarations, no_declarations, more_declarations}
 use Rattle.hm_names.specs.Syntax.{Known, patterns_of, right_sides_of, where_of, bindings_of, is_continued, signature_of, add_clause, bound_by}
-use Rattle.hm_groups.specs.Variables.{variable_of, identifier}
+use Rattle.hm_variables.specs.Variables.{variable_of, identifier}
 use Rattle.hm_groups.specs.Checked.{BeginsUnsigned, GroupUnder, DeclarationsHave}
 use Rattle.hm_groups.proofs.Mentioned.{BeginsWithClauses, begins}
 

@@ -12,14 +12,15 @@ use Rattle.hm_typing.proofs.Matching.{distinct_rest, distinct_apart}
 use Rattle.hm_syntax.specs.Lists.{declarations, patterns}
 use Rattle.hm_syntax.specs.Trees.{Pattern, Declaration, data_declaration, newtype_declaration, synonym_declaration, signature, clause, pattern_binding, Declarations, no_declarations, more_declarations}
 use Rattle.hm_names.specs.Syntax.{Known, patterns_of, right_sides_of, where_of, bindings_of, is_continued, signature_of, add_clause, bound_by, declaration_count}
-use Rattle.hm_groups.specs.Variables.{Variable, variable_of, identifier}
+use Rattle.hm_variables.specs.Variables.{Variable, variable_of, identifier}
 use Rattle.hm_groups.specs.References.{pattern_variables, patterns_variables}
 use Rattle.hm_groups.specs.Nodes.{is_signed, new_nodes, list_nodes, IsRepeated}
 use Rattle.hm_groups.specs.Groups.{new_names, node_names}
 use Rattle.hm_groups.proofs.Walking.{among-left, among-right, among-cases}
-use Rattle.hm_groups.specs.Keys.{IsNode}
-use Rattle.hm_groups.proofs.Numberings.{some_injective, get-push_new}
-use Rattle.hm_groups.proofs.Mentioned.{pattern_same, identifier_injective}
+use Rattle.hm_groups.specs.Numberings.{IsNode}
+use Rattle.hm_variables.proofs.Pushed.{some_injective, get-push_new}
+use Rattle.hm_groups.proofs.Mentioned.{pattern_same}
+use Rattle.hm_variables.proofs.Identifiers.{identifier_injective}
 use Rattle.hm_groups.proofs.Named.{IsOwnName, names_fit, fit_variable, fit_back, place_of, at_place}
 use Rattle.hm_groups.proofs.Reached.{own_is, get_append}
 use Rattle.hm_groups.proofs.Related.{own_once}

@@ -10,13 +10,13 @@ use Rattle.hm_syntax.specs.Trees.{Declaration, data_declaration, newtype_declara
 use Rattle.hm_syntax.specs.Lists.{declarations}
 use Rattle.hm_names.specs.Syntax.{is_continued}
 use Rattle.hm_groups.specs.References.{pattern_variables}
-use Rattle.hm_groups.specs.Variables.{Variable, variable_of}
+use Rattle.hm_variables.specs.Variables.{Variable, variable_of}
 use Rattle.hm_groups.specs.Walks.{IsNodeWith, Walks, Hides}
 use Rattle.hm_groups.specs.Nodes.{is_signed, list_nodes, new_nodes, owner, owners, ListEdge, DeclarationEdge, AddsEdges, AllShown, IsGraphOf}
 use Rattle.hm_groups.proofs.NodeLists.{is_step, none_left}
 use Rattle.hm_groups.proofs.Rows.{past}
 use Rattle.hm_groups.proofs.Walking.{Contains-nil}
-use Rattle.hm_groups.proofs.Numberings.{some_injective}
+use Rattle.hm_variables.proofs.Pushed.{some_injective}
 
 pub adds_both : (a b c : Graph) (E F G : ℕ → ℕ → Type 0) → AddsEdges a b E → AddsEdges b c F → ((x y : ℕ) → E x y ⊎ F x y → G x y) → ((x y : ℕ) → G x y → E x y ⊎ F x y) → AddsEdges a c G
 adds_both a b c E F G f g to back x y = (

@@ -7,40 +7,17 @@ use Rattle.hm_typing.specs.Syntax as typed
 use Rattle.hm_typing.specs.Mentions.{Mentions, ExpressionsMention, ClausesMention, RightSidesMention, BindingsMention}
 use Rattle.hm_syntax.specs.Trees.{Pattern, variable_pattern, bound_pattern, constructor_pattern, literal_pattern, wildcard_pattern, tuple_pattern, list_pattern, lazy_pattern, Patterns, no_patterns, more_patterns, Expression, variable_expression, constructor_expression, literal_expression, application, lambda, let_expression, if_expression, case_expression, tuple_expression, list_expression, typed_expression, Expressions, no_expressions, more_expressions, data_declaration, newtype_declaration, synonym_declaration, signature, clause, pattern_binding, Declarations, no_declarations, more_declarations, RightSide, right_side, Bodies, no_bodies, plain_body, guarded_body, alternative, Alternatives, no_alternatives, more_alternatives}
 use Rattle.hm_names.specs.Syntax.{Known, name_in, pattern_of, patterns_of, expression_of, expressions_of, alternatives_of, right_sides_of, where_of, bodies_of, bindings_of, is_continued, signature_of, add_clause, bound_by, declaration_count}
-use Rattle.hm_groups.specs.Variables.{Variable, variable_of, identifier}
+use Rattle.hm_variables.specs.Variables.{Variable, variable_of, identifier}
 use Rattle.hm_groups.specs.References.{pattern_variables, patterns_variables, list_variables, Refers, ExpressionsRefer, DeclarationsRefer, RightSideRefers, BodiesRefer, AlternativesRefer}
+use Rattle.hm_variables.proofs.Identifiers.{identifier_injective}
 use Rattle.hm_groups.proofs.Walking.{among-left, among-right, among-cases}
 
 -- names
-
-abbrev module_text : Identifier → List ℕ
-module_text (local x) = []
-module_text (global e) = e.«module»
-module_text (binding m i) = []
-
-abbrev bare_text : Identifier → List ℕ
-bare_text (local x) = x
-bare_text (global e) = e.name
-bare_text (binding m i) = []
 
 abbrev pub IsBinding : Identifier → Type 0
 IsBinding (local x) = ⊥
 IsBinding (global e) = ⊥
 IsBinding (binding m i) = Unit {0}
-
-abbrev IsLocal : Identifier → Type 0
-IsLocal (local x) = Unit {0}
-IsLocal (global e) = ⊥
-IsLocal (binding m i) = ⊥
-
-same_parts : (p q : Option (List ℕ)) (x y : List ℕ) → name_in p x ≡ name_in q y → (p ≡ q) × (x ≡ y)
-same_parts None None x y e = (refl, ap bare_text e)
-same_parts None (Some q) x y e = absurd (subst IsLocal e tt)
-same_parts (Some p) None x y e = absurd (subst IsLocal (sym e) tt)
-same_parts (Some p) (Some q) x y e = (ap Some (ap module_text e), ap bare_text e)
-
-pub identifier_injective : (x y : Variable) → identifier x ≡ identifier y → x ≡ y
-identifier_injective x y e = let h = same_parts x.qualifier y.qualifier x.text y.text e in λ i. record { qualifier = h.0 i; text = h.1 i }
 
 pub no_binding_name : (q : Option (List ℕ)) (x m : List ℕ) (i : ℕ) → ¬ (name_in q x ≡ binding m i)
 no_binding_name None x m i e = subst IsBinding (sym e) tt

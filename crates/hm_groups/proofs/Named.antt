@@ -7,13 +7,13 @@ use Rattle.hm_typing.specs.Syntax as typed
 use Rattle.hm_typing.specs.Units.{IsUnsigned}
 use Rattle.hm_syntax.specs.Trees.{Declaration, data_declaration, newtype_declaration, synonym_declaration, signature, clause, pattern_binding, Declarations, no_declarations, more_declarations}
 use Rattle.hm_names.specs.Syntax.{Known, pattern_of, patterns_of, right_sides_of, where_of, bindings_of, is_continued, signature_of, add_clause, bound_by, declaration_count}
-use Rattle.hm_groups.specs.Variables.{Variable, variable_of, identifier}
+use Rattle.hm_variables.specs.Variables.{Variable, variable_of, identifier}
 use Rattle.hm_groups.specs.References.{pattern_variables}
 use Rattle.hm_groups.specs.Nodes.{is_signed, new_nodes, list_nodes}
 use Rattle.hm_groups.specs.Groups.{new_names, node_names}
 use Rattle.hm_groups.proofs.Walking.{among-left, among-right, among-cases}
 use Rattle.hm_groups.proofs.Mentioned.{pattern_same}
-use Rattle.hm_groups.proofs.Numberings.{some_injective}
+use Rattle.hm_variables.proofs.Pushed.{some_injective}
 
 -- a name per node: a variable's is its identifier, a pattern binding's is no source's
 abbrev pub IsOwnName : Identifier → Type 0

@@ -2,7 +2,7 @@
 use Rattle.std.proofs.Common.{◌≡◌, ℕ, ◌+◌, ◌-◌, ◌<◌, ◌≤◌, List, [], ◌∷◌, ◌++◌, take, drop, length, get_or, Option, sym, ap, ◌∙◌, arith}
 use Rattle.hm_syntax.specs.Trees.{Declaration, Declarations}
 use Rattle.hm_syntax.specs.Lists.{declarations}
-use Rattle.hm_groups.specs.Variables.{Variable}
+use Rattle.hm_variables.specs.Variables.{Variable}
 use Rattle.hm_groups.specs.Nodes.{new_nodes, list_nodes, owner, owner_of, owners}
 use Rattle.hm_groups.proofs.Rows.{unrolled, take_rest}
 

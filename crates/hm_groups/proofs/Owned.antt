@@ -9,12 +9,12 @@ use Rattle.hm_typing.specs.Syntax as typed
 use Rattle.hm_syntax.specs.Trees.{Pattern, Patterns, Declaration, data_declaration, newtype_declaration, synonym_declaration, signature, clause, pattern_binding, Declarations, no_declarations, more_declarations}
 use Rattle.hm_syntax.specs.Lists.{declarations}
 use Rattle.hm_names.specs.Syntax.{Known, pattern_of, patterns_of, right_sides_of, where_of, bindings_of, is_continued, signature_of, add_clause, bound_by, declaration_count}
-use Rattle.hm_groups.specs.Variables.{variable_of, identifier}
+use Rattle.hm_variables.specs.Variables.{variable_of, identifier}
 use Rattle.hm_groups.specs.References.{pattern_variables}
 use Rattle.hm_groups.specs.Nodes.{list_nodes, owner}
 use Rattle.hm_groups.specs.Groups.{node_names}
 use Rattle.hm_groups.specs.Checked.{BeginsUnsigned, OneHas, DeclarationsHave}
-use Rattle.hm_groups.proofs.Numberings.{some_injective, get-push_new}
+use Rattle.hm_variables.proofs.Pushed.{some_injective, get-push_new}
 use Rattle.hm_groups.proofs.Mentioned.{pattern_same}
 use Rattle.hm_groups.proofs.Reached.{get_append, own_place, HeadIsClause, head_continued, names_long}
 

@@ -10,11 +10,11 @@ use Rattle.hm_typing.specs.Mentions.{Mentions, ExpressionsMention, ClausesMentio
 use Rattle.hm_typing.specs.Units.{IsSigned, BindingMentions}
 use Rattle.hm_syntax.specs.Trees.{Pattern, Patterns, Expression, variable_expression, constructor_expression, literal_expression, application, lambda, let_expression, if_expression, case_expression, tuple_expression, list_expression, typed_expression, Expressions, no_expressions, more_expressions, data_declaration, newtype_declaration, synonym_declaration, signature, clause, pattern_binding, Declarations, no_declarations, more_declarations, RightSide, right_side, Bodies, no_bodies, plain_body, guarded_body, alternative, Alternatives, no_alternatives, more_alternatives}
 use Rattle.hm_names.specs.Syntax.{Known, name_in, patterns_of, expression_of, expressions_of, alternatives_of, right_sides_of, where_of, bodies_of, bindings_of, is_continued, signature_of, add_clause, bound_by, declaration_count}
-use Rattle.hm_groups.specs.Variables.{variable_of, identifier}
+use Rattle.hm_variables.specs.Variables.{variable_of, identifier}
 use Rattle.hm_groups.specs.References.{pattern_variables}
 use Rattle.hm_groups.specs.Nodes.{list_nodes, owner}
 use Rattle.hm_groups.specs.Groups.{node_names}
-use Rattle.hm_groups.proofs.Numberings.{some_injective, get-push_new}
+use Rattle.hm_variables.proofs.Pushed.{some_injective, get-push_new}
 use Rattle.hm_groups.proofs.Mentioned.{ClauseMentions, clause_mentions, BeginsWithClauses, begins}
 use Rattle.hm_groups.proofs.Named.{IsOwnName, names_fit, fit_length}
 

@@ -14,14 +14,15 @@ use Rattle.hm_typing.proofs.Bridge.{one_kind}
 use Rattle.hm_typing.proofs.Judge.{Reaches-trans}
 use Rattle.hm_syntax.specs.Trees.{Pattern, Declaration, data_declaration, newtype_declaration, synonym_declaration, signature, clause, pattern_binding, Declarations, no_declarations, more_declarations, RightSide}
 use Rattle.hm_names.specs.Syntax.{Known, pattern_of, patterns_of, right_sides_of, where_of, bindings_of, is_continued, signature_of, add_clause, bound_by, declaration_count}
-use Rattle.hm_groups.specs.Variables.{Variable, variable_of, identifier}
+use Rattle.hm_variables.specs.Variables.{Variable, variable_of, identifier}
 use Rattle.hm_groups.specs.References.{pattern_variables, patterns_variables, RightSideRefers}
 use Rattle.hm_groups.specs.Walks.{IsNodeWith}
 use Rattle.hm_groups.specs.Nodes.{list_nodes, ListEdge, IsGraphOf}
 use Rattle.hm_groups.specs.Groups.{node_names, node_name}
 use Rattle.hm_groups.proofs.Walking.{among-left, among-right, among-cases}
-use Rattle.hm_groups.proofs.Numberings.{some_injective}
-use Rattle.hm_groups.proofs.Mentioned.{begins, identifier_injective, patterns_among, pattern_among, right_side_same, pattern_same}
+use Rattle.hm_variables.proofs.Pushed.{some_injective}
+use Rattle.hm_groups.proofs.Mentioned.{begins, patterns_among, pattern_among, right_side_same, pattern_same}
+use Rattle.hm_variables.proofs.Identifiers.{identifier_injective}
 use Rattle.hm_groups.proofs.Named.{IsOwnName, AllFit, names_fit, fit_length, fit_variable, fit_back, names_unsigned, place_of, at_place}
 use Rattle.hm_groups.proofs.Reached.{own_is, never_right, FirstIs, clause_binding, get_append, own_place, owner_first, head_owner, signed_add}
 use Rattle.hm_groups.proofs.Grouped.{numbered_in_order, numbered_all}

@@ -6,11 +6,11 @@ use Rattle.hm_syntax.specs.Names.{Identifier}
 use Rattle.std.proofs.lemmas.Bool.{both_ways}
 use Rattle.std.proofs.lemmas.Bool.Decides.{nat_tests}
 use Rattle.std.proofs.lemmas.List.{take_all, length-drop}
-use Rattle.hm_groups.proofs.Numberings.{some_injective}
+use Rattle.hm_variables.proofs.Pushed.{some_injective}
 use Rattle.hm_syntax.specs.Trees.{Pattern, Patterns, RightSide, Declaration, clause, Expression, Alternative, Bodies, no_bodies}
 use Rattle.hm_syntax.specs.Lists.{patterns, declarations, expressions, alternatives, body, bodies}
 use Rattle.hm_syntax.specs.Sizes.{pattern_size, patterns_size, expression_size, expressions_size, declaration_size, declarations_size, alternative_size, alternatives_size, bodies_size}
-use Rattle.hm_groups.specs.Variables.{Variable}
+use Rattle.hm_variables.specs.Variables.{Variable}
 use Rattle.hm_groups.specs.References.{BodiesRefer}
 use Rattle.hm_names.specs.Faults.Lists.{has_patterns}
 use Rattle.hm_names.specs.Syntax.{is_continued}

@@ -4,9 +4,9 @@ use Rattle.std.specs.List.{slice_get}
 use Rattle.std.proofs.lemmas.Bool.{both_ways}
 use Rattle.std.proofs.lemmas.List.Elements.{Contains-append_left, Contains-push, Contains-push_cases, Contains-get_or}
 use Rattle.hm_typing.specs.Names.{IsOneOf}
-use Rattle.hm_groups.specs.Variables.{Variable}
+use Rattle.hm_variables.specs.Variables.{Variable}
 use Rattle.hm_groups.specs.Walks.{IsNodeWith, IsShown, Finds, Walks, Hides, Shows}
-use Rattle.hm_groups.proofs.Numberings.{some_injective}
+use Rattle.hm_variables.proofs.Pushed.{some_injective}
 
 pub Contains-nil : {X : Type 0} (x : X) → Contains [] x → ⊥
 Contains-nil x (k, below, is) = omega arith

@@ -3,7 +3,7 @@ use Rattle.std.specs.Prelude.{ℕ, cond, List, [], ◌∷◌, ◌++◌, map, sli
 use Rattle.hm_syntax.specs.Trees.{Declaration, data_declaration, newtype_declaration, synonym_declaration, signature, clause, pattern_binding, Declarations, no_declarations, more_declarations}
 use Rattle.hm_typing.specs.Names.{Identifier, local, binding}
 use Rattle.hm_names.specs.Syntax.{Known, is_continued, declaration_count}
-use Rattle.hm_groups.specs.Variables.{variable_of, identifier}
+use Rattle.hm_variables.specs.Variables.{variable_of, identifier}
 use Rattle.hm_groups.specs.References.{pattern_variables}
 use Rattle.hm_groups.specs.Nodes.{is_signed}
 

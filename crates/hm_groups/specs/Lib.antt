@@ -1,5 +1,4 @@
-pub mod Variables
-pub mod Keys
+pub mod Numberings
 pub mod References
 pub mod Walks
 pub mod Nodes

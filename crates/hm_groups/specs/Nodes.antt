@@ -9,7 +9,7 @@ use Rattle.indexmap.specs.IndexMap.{IndexMap, get_by}
 use Rattle.hm_graph.specs.Digraph.{Graph, Edge}
 use Rattle.hm_syntax.specs.Trees.{Declaration, data_declaration, newtype_declaration, synonym_declaration, signature, clause, pattern_binding, Declarations, no_declarations, more_declarations}
 use Rattle.hm_names.specs.Syntax.{is_continued, signature_of}
-use Rattle.hm_groups.specs.Variables.{Variable, variable_of}
+use Rattle.hm_variables.specs.Variables.{Variable, variable_of}
 use Rattle.hm_groups.specs.References.{pattern_variables, DeclarationRefers}
 use Rattle.hm_groups.specs.Walks.{IsNodeWith}
 use Rattle.hm_typing.specs.Names.{IsOneOf}

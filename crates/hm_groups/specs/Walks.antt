@@ -2,7 +2,7 @@
 use Rattle.std.specs.Prelude.{◌≡◌, ℕ, ◌⊎◌, ◌↔◌, Bool, true, false, List, length, slice_index_or, Option, Some, Contains}
 use Rattle.std.specs.List.{slice_get}
 use Rattle.hm_typing.specs.Names.{IsOneOf}
-use Rattle.hm_groups.specs.Variables.{Variable}
+use Rattle.hm_variables.specs.Variables.{Variable}
 
 -- the node k is a variable with P
 pub record IsNodeWith (nodes : List (Option Variable)) (P : Variable → Type 0) (k : ℕ) : Type 0 where

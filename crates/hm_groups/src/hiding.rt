@@ -3,7 +3,7 @@
 ghost use Rattle.std.specs.Prelude.{◌≡◌, OnOk, [], ◌∷◌, ◌<◌, length, All};
 ghost use Rattle.hm_syntax.specs.Lists.{patterns, declarations};
 ghost use Rattle.hm_names.specs.Syntax.{is_continued as goes_on};
-ghost use Rattle.hm_groups.specs.Variables.{variable_of};
+ghost use Rattle.hm_variables.specs.Variables.{variable_of};
 ghost use Rattle.hm_groups.specs.References.{pattern_variables, patterns_variables, binding_variables, list_variables};
 ghost use Rattle.hm_groups.specs.Walks.{Hides, Shows};
 

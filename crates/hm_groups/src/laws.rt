@@ -10,7 +10,7 @@ ghost use Rattle.hm_groups.specs.Groups.{node_names};
 ghost use Rattle.hm_typing.specs.Mentions.{Mentions, BindingsMention};
 ghost use Rattle.hm_syntax.specs.Trees.{Expression, Declarations};
 ghost use Rattle.hm_names.specs.Syntax.{Known, expression_of, bindings_of};
-ghost use Rattle.hm_groups.specs.Variables.{Variable, identifier};
+ghost use Rattle.hm_variables.specs.Variables.{Variable, identifier};
 ghost use Rattle.hm_groups.specs.References.{Refers, DeclarationsRefer};
 
 /// What the walk finds is what the typing calls a mention: of expressions, and of the right sides of a list.

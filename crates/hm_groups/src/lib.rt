@@ -5,7 +5,6 @@ mod edges;
 mod groups;
 mod hiding;
 pub mod laws;
-mod lent_names;
 mod members;
 mod nodes;
 mod numbers;
@@ -15,7 +14,6 @@ mod signed;
 
 pub use crate::groups::{BindingGroups, binding_groups};
 pub use crate::hiding::is_continued;
-pub use crate::lent_names::{LentName, key_of};
 pub use crate::members::{Member, group_members};
 pub use crate::numbers::Numbers;
 pub use crate::references::referred_nodes;

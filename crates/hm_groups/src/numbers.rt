@@ -2,12 +2,13 @@
 
 ghost use Rattle.std.specs.Prelude.{◌≡◌, ℕ, ◌∷◌, [], ◌++◌, Some, None, IfOk, OnOk, OnErr, IfSome, IfNone, ◌<◌, option_map, length};
 ghost use Rattle.std.specs.List.{slice_get};
-ghost use Rattle.hm_groups.specs.Variables.{Variable, variable_of};
-ghost use Rattle.hm_groups.specs.Keys.{IsNode, variable_of_key};
+ghost use Rattle.hm_variables.specs.Variables.{Variable, variable_of};
+ghost use Rattle.hm_groups.specs.Numberings.{IsNode};
+ghost use Rattle.hm_variables.specs.Keys.{variable_of_key};
 
-use crate::lent_names::{LentName, key_of};
 use hm_syntax::Name;
 use hm_unify::UnifyFault;
+use hm_variables::{LentName, key_of};
 use indexmap::IndexMap;
 use std::alloc::{AllocError, Global};
 use std::marker::Model;
@@ -22,8 +23,8 @@ pub struct Numbers<'a> {
 
 impl<'a> Model for Numbers<'a> {
     ghost use Rattle.std.specs.Prelude.{List, Option};
-    ghost use Rattle.hm_groups.specs.Variables.{Variable};
-    ghost use Rattle.hm_groups.specs.Keys.{nodes_of, IsNumbering};
+    ghost use Rattle.hm_variables.specs.Variables.{Variable};
+    ghost use Rattle.hm_groups.specs.Numberings.{nodes_of, IsNumbering};
 
     ghost Value = { List (Option Variable) };
 

@@ -3,7 +3,7 @@
 ghost use Rattle.std.specs.Prelude.{◌≡◌, ◌↔◌, ℕ, Contains, IfOk, OnOk, length};
 ghost use Rattle.hm_syntax.specs.Lists.{expressions, declarations, alternatives, body, bodies};
 ghost use Rattle.hm_syntax.specs.Trees.{no_bodies};
-ghost use Rattle.hm_groups.specs.Variables.{variable_of};
+ghost use Rattle.hm_variables.specs.Variables.{variable_of};
 ghost use Rattle.hm_groups.specs.References.{Refers, ExpressionsRefer, DeclarationRefers, DeclarationsRefer, RightSideRefers, BodiesRefer, AlternativeRefers, AlternativesRefer};
 ghost use Rattle.hm_groups.specs.Nodes.{AllShown};
 ghost use Rattle.hm_groups.specs.Walks.{IsNodeWith, Walks};

@@ -13,9 +13,9 @@ use Rattle.hm_names.specs.Cores.{ConstructorScheme, IsCore, assumed, declared_sc
 use Rattle.hm_names.specs.Entities.{constructor_list}
 use Rattle.hm_names.specs.ModuleCores.{ModuleCore}
 use Rattle.hm_names.proofs.SoundDeclarations.{distinct_there}
-use Rattle.hm_expressions.specs.Constructors.{HasDistinctParameters}
-use Rattle.hm_expressions.specs.Kept.{scheme_of as entry_scheme, schemes_of}
-use Rattle.hm_expressions.specs.declared.constructors.Entry.{Entry}
+use Rattle.hm_assumptions.specs.Constructors.{HasDistinctParameters}
+use Rattle.hm_assumptions.specs.Kept.{scheme_of as entry_scheme, schemes_of}
+use Rattle.hm_assumptions.specs.declared.constructors.Entry.{Entry}
 use Rattle.std.proofs.lemmas.List.{map-append}
 use Rattle.hm_infer.specs.Imported.{assumed_inside}
 
@@ -43,7 +43,7 @@ declared_more m (clause n ps r) ds = refl
 declared_more m (pattern_binding l c p r) ds = refl
 
 drop_here : {X : Type 0} (xs : List X) (i : ℕ) (x : X) → i < length xs → x ≡ get_or xs i x → drop i xs ≡ x ∷ drop (i + 1) xs
-drop_here xs i x l e = Rattle.hm_expressions.proofs.ListSteps.drop_more xs i x l e
+drop_here xs i x l e = Rattle.hm_assumptions.proofs.Suffixes.drop_more xs i x l e
 
 pub declared_step : (m : List ℕ) (ds : List Declaration) (i : ℕ) (d : Declaration) (old new whole : List ConstructorScheme) → i < length ds → d ≡ get_or ds i d → old ++ declared_schemes m (drop i ds) ≡ whole → new ≡ old ++ declared_schemes m (d ∷ []) → new ++ declared_schemes m (drop (i + 1) ds) ≡ whole
 declared_step m ds i d old new whole l e h f =

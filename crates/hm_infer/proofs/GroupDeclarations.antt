@@ -19,9 +19,9 @@ use Rattle.hm_names.specs.Syntax.{Known, name_of, bindings_of, is_continued, add
 use Rattle.hm_names.specs.Variables.{pattern_variables}
 use Rattle.hm_groups.specs.Groups.{node_name}
 use Rattle.hm_groups.specs.Nodes.{owner}
-use Rattle.hm_groups.specs.Variables.{Variable}
+use Rattle.hm_variables.specs.Variables.{Variable}
 use Rattle.hm_groups.proofs.Reached.{names_long}
-use Rattle.hm_expressions.specs.Environments.{Assumed, AreAssumed}
+use Rattle.hm_assumptions.specs.Environments.{Assumed, AreAssumed}
 use Rattle.hm_infer.specs.JudgedUnits.{UnitsJudged}
 use Rattle.hm_expressions.specs.Stages.{IsListFound, list_of}
 use Rattle.hm_infer.specs.UnitStarts.{HasMember}

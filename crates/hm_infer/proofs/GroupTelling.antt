@@ -17,9 +17,9 @@ use Rattle.hm_names.specs.Untyped.{IsTold}
 use Rattle.hm_groups.proofs.Reached.{names_long}
 use Rattle.hm_groups.specs.GroupMembers.{AreMembersOf}
 use Rattle.hm_groups.specs.Groups.{node_name}
-use Rattle.hm_groups.specs.Variables.{Variable}
+use Rattle.hm_variables.specs.Variables.{Variable}
 use Rattle.hm_groups.specs.declared.members.Member.{Member}
-use Rattle.hm_expressions.specs.Environments.{Assumed, AreAssumed, assumptions}
+use Rattle.hm_assumptions.specs.Environments.{Assumed, AreAssumed, assumptions}
 use Rattle.hm_infer.specs.JudgedUnits.{UnitsJudged}
 use Rattle.hm_expressions.specs.Stages.{IsListFound, list_of}
 use Rattle.hm_infer.specs.UnitFaults.{GroupTold}

@@ -9,7 +9,7 @@ use Rattle.hm_names.specs.ModuleCores.{ModuleCore}
 use Rattle.hm_names.specs.Syntax.{Known}
 use Rattle.hm_unify.specs.declared.faults.UnifyFault.{UnifyFault}
 use Rattle.hm_unify.specs.declared.faults.UnifyFault.TheVariants.{Clash}
-use Rattle.hm_expressions.specs.Environments.{Assumed, assumptions}
+use Rattle.hm_assumptions.specs.Environments.{Assumed, assumptions}
 use Rattle.hm_expressions.specs.PrincipalLists.{Inferred}
 use Rattle.hm_expressions.specs.Stages.{list_of}
 

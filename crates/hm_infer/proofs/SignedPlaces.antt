@@ -22,10 +22,10 @@ use Rattle.hm_groups.proofs.Reached.{names_long, never_right}
 use Rattle.hm_groups.specs.Groups.{node_name, node_names}
 use Rattle.hm_groups.specs.Nodes.{list_nodes}
 use Rattle.hm_groups.specs.References.{DeclarationRefers}
-use Rattle.hm_groups.specs.Variables.{Variable, identifier}
+use Rattle.hm_variables.specs.Variables.{Variable, identifier}
 use Rattle.hm_groups.specs.Walks.{IsNodeWith}
 use Rattle.hm_expressions.specs.Dependences.{IsReferred, TellsNodes}
-use Rattle.hm_expressions.specs.Environments.{Assumed, AreAssumed, assumptions}
+use Rattle.hm_assumptions.specs.Environments.{Assumed, AreAssumed, assumptions}
 use Rattle.hm_infer.specs.JudgedUnits.{UnitsJudged}
 use Rattle.hm_infer.specs.SignedFaults.{AreSignedFaults, BeginsRun, InRun, IsFaultAt, Refuses, Waits, goes_on}
 use Rattle.hm_expressions.specs.SignedLists.{SignedClauseHas}

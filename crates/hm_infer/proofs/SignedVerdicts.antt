@@ -19,7 +19,7 @@ use Rattle.hm_typing.proofs.Lists.{kind_of}
 use Rattle.hm_typing.proofs.More.{DeriveClauses-more}
 use Rattle.hm_typing.proofs.Principal.{assumptions_put_closed}
 use Rattle.hm_expressions.specs.BoundNames.{Sees}
-use Rattle.hm_expressions.specs.Environments.{Assumed, assumptions}
+use Rattle.hm_assumptions.specs.Environments.{Assumed, assumptions}
 use Rattle.hm_infer.specs.JudgedUnits.{Units}
 use Rattle.hm_expressions.specs.Lists.{IsWritten}
 use Rattle.hm_infer.proofs.JudgedLists.{state_of}

@@ -20,10 +20,10 @@ use Rattle.hm_names.specs.Syntax.{Known}
 use Rattle.hm_groups.proofs.MemberLists.{one_pushed}
 use Rattle.hm_groups.specs.declared.members.Member.{Member}
 use Rattle.hm_groups.specs.Groups.{node_name}
-use Rattle.hm_groups.specs.Variables.{Variable}
+use Rattle.hm_variables.specs.Variables.{Variable}
 use Rattle.hm_expressions.specs.BoundNames.{names_at}
 use Rattle.hm_expressions.specs.Dependences.{IsMarked}
-use Rattle.hm_expressions.specs.Environments.{Assumed, AreAssumed, assumptions}
+use Rattle.hm_assumptions.specs.Environments.{Assumed, AreAssumed, assumptions}
 use Rattle.hm_infer.specs.JudgedUnits.{IsBlocked, IsFreeToJudge, Units, UnitsJudged}
 use Rattle.hm_expressions.specs.Stages.{IsListFound, list_of}
 use Rattle.hm_infer.specs.UnitFaults.{AreAlike, AreGroupsTold, ArePlainGroups, GroupTold, IsSameTable, has_none, has_types}

@@ -1,5 +1,5 @@
 -- The units of a list, judged one after the other.
-use Rattle.std.proofs.Common.{◌≡◌, ℕ, zero, suc, ◌+◌, ◌<◌, ◌≤◌, ◌||◌, List, [], ◌∷◌, map, drop, length, get_or, replicate, Bool, true, false, cond, ⊎_elim, refl, sym, ap, ◌∙◌, subst, arith, true≢false}
+use Rattle.std.proofs.Common.{◌≡◌, ℕ, zero, suc, ◌+◌, ◌<◌, ◌≤◌, ◌||◌, List, [], ◌∷◌, map, drop, length, get_or, replicate, Bool, true, false, cond, ⊎_elim, refl, sym, ap, ◌∙◌, subst, arith, true≢false, Option}
 use Rattle.hm_typing.specs.Names.{Identifier, IsDistinct, IsOneOf}
 use Rattle.hm_typing.specs.Syntax.{names}
 use Rattle.hm_typing.specs.Orders.{AreNumberedGroups, AreTestsOf, IsOrder, Layout}
@@ -12,17 +12,16 @@ use Rattle.hm_syntax.specs.Trees.{Declaration}
 use Rattle.hm_syntax.specs.Lists.{declarations}
 use Rattle.hm_names.specs.Syntax.{Known}
 use Rattle.hm_groups.specs.Groups.{node_name}
-use Rattle.hm_groups.specs.Variables.{Variable}
-use Rattle.std.proofs.Common.{Option}
+use Rattle.hm_variables.specs.Variables.{Variable}
 use Rattle.hm_expressions.specs.BoundNames.{Sees}
 use Rattle.hm_expressions.specs.Dependences.{IsMarked, UnitJudged, UnitOutcome, skipped, untyped, typed}
-use Rattle.hm_expressions.specs.Environments.{Assumed, AreAssumed, assumptions}
+use Rattle.hm_assumptions.specs.Environments.{Assumed, AreAssumed, assumptions}
 use Rattle.hm_infer.specs.JudgedUnits.{UnitsJudged, no_units, typed_unit, untyped_unit, blocked_unit}
 use Rattle.hm_expressions.specs.SignedLists.{BindsSigned}
 use Rattle.hm_expressions.specs.Stages.{IsListFound, list_of}
 use Rattle.hm_expressions.proofs.GroupAnswers.{in_names}
 use Rattle.hm_infer.proofs.JudgedLists.{next_to_typed, state_of}
-use Rattle.hm_expressions.proofs.ListSteps.{drop_more}
+use Rattle.hm_assumptions.proofs.Suffixes.{drop_more}
 use Rattle.hm_infer.proofs.UnitSteps.{blocked, free, is_in, named_in}
 
 nothing_typed : (n j : ℕ) → get_or (replicate n false) j false ≡ false

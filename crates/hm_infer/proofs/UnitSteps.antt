@@ -17,7 +17,7 @@ use Rattle.hm_groups.specs.Groups.{node_name, node_names}
 use Rattle.hm_groups.specs.GroupMembers.{AreMembersOf}
 use Rattle.hm_groups.specs.Nodes.{DeclarationEdge, ListEdge, Star, list_nodes, owner}
 use Rattle.hm_groups.specs.References.{DeclarationRefers}
-use Rattle.hm_groups.specs.Variables.{Variable}
+use Rattle.hm_variables.specs.Variables.{Variable}
 use Rattle.hm_groups.specs.Walks.{IsNodeWith}
 use Rattle.hm_groups.specs.declared.members.Member.{Member}
 use Rattle.hm_groups.proofs.Named.{names_unsigned, place_of}

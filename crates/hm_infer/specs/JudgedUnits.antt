@@ -13,7 +13,7 @@ use Rattle.hm_syntax.specs.Lists.{declarations}
 use Rattle.hm_names.specs.Syntax.{Known}
 use Rattle.hm_groups.specs.Groups.{node_name}
 use Rattle.hm_expressions.specs.BoundNames.{Sees}
-use Rattle.hm_expressions.specs.Environments.{Assumed, assumptions}
+use Rattle.hm_assumptions.specs.Environments.{Assumed, assumptions}
 use Rattle.hm_expressions.specs.Stages.{list_of}
 
 -- all that the unit g mentions outside is typed

@@ -3,7 +3,7 @@ use Rattle.std.specs.Prelude.{◌≡◌, ℕ, ◌<◌, ◌≤◌, Bool, true, fa
 use Rattle.hm_typing.specs.Names.{IsOneOf}
 use Rattle.hm_syntax.specs.Trees.{Declaration}
 use Rattle.hm_groups.specs.GroupMembers.{AreMembersOf}
-use Rattle.hm_groups.specs.Variables.{Variable}
+use Rattle.hm_variables.specs.Variables.{Variable}
 use Rattle.hm_groups.specs.declared.members.Member.{Member}
 use Rattle.hm_expressions.specs.Dependences.{IsMarked, IsTyped, IsUntyped, TellsMembers}
 

@@ -12,10 +12,10 @@ use Rattle.hm_syntax.specs.Lists.{declarations}
 use Rattle.hm_typing.specs.Orders.{AreNumberedGroups}
 use Rattle.hm_typing.specs.Units.{IsSigned, IsUnsigned}
 use Rattle.hm_groups.specs.Groups.{node_name}
-use Rattle.hm_groups.specs.Variables.{Variable}
+use Rattle.hm_variables.specs.Variables.{Variable}
 use Rattle.hm_names.specs.Cores.{IsSomeCore, known, syntax_of}
 use Rattle.hm_names.specs.Syntax.{Known}
-use Rattle.hm_expressions.specs.Environments.{Assumed, AreAssumed, assumptions}
+use Rattle.hm_assumptions.specs.Environments.{Assumed, AreAssumed, assumptions}
 use Rattle.hm_infer.specs.JudgedUnits.{UnitsJudged}
 use Rattle.hm_expressions.specs.Stages.{IsListFound, list_of}
 use Rattle.hm_names.specs.ModuleCores.{ModuleCore}

@@ -6,10 +6,10 @@ ghost use Rattle.hm_typing.specs.Assumptions.{bind};
 ghost use Rattle.hm_typing.specs.Names.{global};
 ghost use Rattle.hm_typing.specs.Programs.{scheme_of};
 ghost use Rattle.hm_names.specs.Cores.{assumed, imported_values};
-ghost use Rattle.hm_expressions.specs.Environments.{AreAssumed, assumptions};
+ghost use Rattle.hm_assumptions.specs.Environments.{AreAssumed, assumptions};
 ghost use Rattle.hm_infer.specs.Imported.{assumed_inside};
 
-use hm_expressions::{Environment, entity_name};
+use hm_assumptions::{Environment, entity_name};
 use hm_types::{Interface, ValueEntry};
 use std::alloc::{AllocError, Global};
 use std::sync::Arc;

@@ -6,10 +6,10 @@ ghost use Rattle.hm_syntax.specs.Names.{Identifier};
 ghost use Rattle.hm_syntax.specs.Trees.{Declaration};
 ghost use Rattle.hm_names.specs.Cores.{IsSomeCore, declared_schemes, imported_schemes, known, scheme_in};
 ghost use Rattle.hm_names.specs.Faults.Lists.{Repeats};
-ghost use Rattle.hm_expressions.specs.Constructors.{HasDistinctParameters, known_of};
-ghost use Rattle.hm_expressions.specs.Kept.{schemes_of};
+ghost use Rattle.hm_assumptions.specs.Constructors.{HasDistinctParameters, known_of};
+ghost use Rattle.hm_assumptions.specs.Kept.{schemes_of};
 
-use hm_expressions::{Constructors, Entry};
+use hm_assumptions::{Constructors, Entry};
 use hm_names::{Core, declared_scheme};
 use hm_syntax::{Constr, Decl, DeclKind, Name};
 use hm_types::{ConstructorEntry, Interface};

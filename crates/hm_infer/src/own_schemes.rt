@@ -4,11 +4,11 @@ ghost use Rattle.std.specs.Prelude.{List, ◌+◌, ◌∷◌, IfOk, OnOk};
 ghost use Rattle.hm_types.specs.Shape.{type_of};
 ghost use Rattle.hm_unify.specs.WellFormed.{IsWellFormed};
 ghost use Rattle.hm_names.specs.SchemeTables.{scheme_of};
-ghost use Rattle.hm_expressions.specs.Environments.{AreAssumed, Assumed};
-ghost use Rattle.hm_expressions.specs.Kept.{assumed_of};
+ghost use Rattle.hm_assumptions.specs.Environments.{AreAssumed, Assumed};
+ghost use Rattle.hm_assumptions.specs.Kept.{assumed_of};
 ghost use Rattle.hm_expressions.specs.OwnSchemes.{HaveCanonical};
 
-use hm_expressions::{Binding, Environment, instantiate, own_text};
+use hm_assumptions::{Binding, Environment, instantiate, own_text};
 use hm_names::Schemes;
 use hm_types::canonical;
 use std::alloc::{AllocError, Global};

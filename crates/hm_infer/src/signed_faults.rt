@@ -6,13 +6,14 @@ ghost use Rattle.std.specs.Prelude.{◌≡◌, ◌<◌, IfOk, OnOk, drop, length
 ghost use Rattle.std.specs.Bool.{Decides};
 ghost use Rattle.hm_syntax.specs.Trees.{Declarations};
 ghost use Rattle.hm_groups.specs.Nodes.{AllShown};
-ghost use Rattle.hm_expressions.specs.Constructors.{known_of};
-ghost use Rattle.hm_expressions.specs.Environments.{AreAssumed, assumptions};
+ghost use Rattle.hm_assumptions.specs.Constructors.{known_of};
+ghost use Rattle.hm_assumptions.specs.Environments.{AreAssumed, assumptions};
 ghost use Rattle.hm_infer.specs.SignedFaults.{AreRefused, AreSignedFaults, AreWaiting, BeginsRun, HasFlag, IsFaultAt, Refuses, Waits, goes_on};
 ghost use Rattle.hm_expressions.specs.SignedLists.{AreSignatures};
 
 use crate::dependences::refers_to_typed;
-use hm_expressions::{Constructors, Environment, check_signed};
+use hm_assumptions::{Constructors, Environment};
+use hm_expressions::check_signed;
 use hm_groups::{Numbers, is_continued};
 use hm_syntax::{Decl, DeclKind, TypeExpr};
 use hm_unify::{Solver, UnifyFault};

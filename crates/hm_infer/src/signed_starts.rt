@@ -4,13 +4,13 @@
 ghost use Rattle.std.specs.Prelude.{◌≡◌, IfOk, length};
 ghost use Rattle.hm_graph.specs.Digraph.{lists};
 ghost use Rattle.hm_syntax.specs.Lists.{declarations};
-ghost use Rattle.hm_expressions.specs.Constructors.{known_of};
-ghost use Rattle.hm_expressions.specs.Environments.{AreAssumed};
+ghost use Rattle.hm_assumptions.specs.Constructors.{known_of};
+ghost use Rattle.hm_assumptions.specs.Environments.{AreAssumed};
 ghost use Rattle.hm_expressions.specs.SignedLists.{AreSignatures};
 ghost use Rattle.hm_infer.specs.UnitStarts.{TellsSigned};
 
 use crate::signed_faults::signed_faults;
-use hm_expressions::{Constructors, Environment};
+use hm_assumptions::{Constructors, Environment};
 use hm_groups::BindingGroups;
 use hm_syntax::{Decl, TypeExpr};
 use hm_unify::UnifyFault;

@@ -2,7 +2,7 @@ use Rattle.std.proofs.Common.{◌-◌, ◌∙◌, refl, sym, subst, arith}
 use Rattle.hm_types.specs.Shape.{type_of}
 use Rattle.hm_unify.specs.WellFormed.{IsWellFormed}
 use Rattle.hm_expressions.specs.GroupQuestions.{HaveNodeTypes}
-use Rattle.hm_expressions.proofs.States.{problem_below}
+use Rattle.hm_assumptions.proofs.States.{problem_below}
 use Rattle.hm_expressions.proofs.Derived.{refused_by}
 use Rattle.hm_expressions.proofs.NodeTypes.{rows_none, rows_more, rows_refused, rows_all, item_given}
 use Rattle.hm_expressions.proofs.bindings.equate_types.Goals as goal

@@ -1,5 +1,5 @@
 use Rattle.std.proofs.Common.{◌≡◌}
-use Rattle.hm_expressions.proofs.Outcomes.{SolvedBy}
+use Rattle.hm_assumptions.proofs.Outcomes.{SolvedBy}
 use Rattle.hm_expressions.proofs.NodeTypes.{Rows}
 use Rattle.hm_expressions.proofs.bindings.equate_types.Given as goal
 

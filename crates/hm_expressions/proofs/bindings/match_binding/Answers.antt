@@ -1,9 +1,9 @@
 use Rattle.std.proofs.Common.{sym, subst, arith}
 use Rattle.hm_typing.specs.Syntax.{bool}
 use Rattle.hm_names.specs.Syntax.{pattern_of}
-use Rattle.hm_expressions.specs.Constructors.{known_of}
-use Rattle.hm_expressions.specs.Kept.{variables_of}
-use Rattle.hm_expressions.specs.Patterns.{HaveTypes}
+use Rattle.hm_assumptions.specs.Constructors.{known_of}
+use Rattle.hm_assumptions.specs.Kept.{variables_of}
+use Rattle.hm_assumptions.specs.Patterns.{HaveTypes}
 use Rattle.hm_expressions.proofs.Derived.{refused_by}
 use Rattle.hm_expressions.proofs.NodeTypes.{PatternMatched, AsksBinding, binding_solved, binding_refused, pattern_refused, from_none, refused_none, pattern_grows, pattern_given, pattern_many, types_later}
 use Rattle.hm_expressions.proofs.bindings.match_binding.Goals as goal

@@ -1,56 +1,49 @@
-use Rattle.std.proofs.Common.{◌<◌, suc, ap, sym, ◌∙◌, subst, refl, arith, rules, Ok, Err, Some, None}
+use Rattle.std.proofs.Common.{◌<◌, suc, ap, sym, ◌∙◌, subst, refl, arith, rules, Ok, Err, Some, None, ◌≡◌, ◌≤◌, length, get_or, ◌+◌, ◌*◌}
 use Rattle.hm_types.specs.Shape.{type_of}
 use Rattle.hm_types.specs.Types.{Var}
 use Rattle.hm_types.specs.Monotypes.{var}
 use Rattle.hm_syntax.specs.Lists.{expressions, patterns, declarations, body, bodies, alternatives}
 use Rattle.hm_syntax.specs.Sizes.{expression_size, expressions_size, bodies_size, right_side_size, alternatives_size, declaration_size}
-use Rattle.hm_syntax.specs.Trees.{variable_expression, constructor_expression, literal_expression, application, if_expression, tuple_expression, list_expression, lambda, let_expression, right_side, case_expression, typed_expression, no_bodies}
+use Rattle.hm_syntax.specs.Trees.{variable_expression, constructor_expression, literal_expression, application, if_expression, tuple_expression, list_expression, lambda, let_expression, right_side, case_expression, typed_expression, no_bodies, clause as clause_tree}
 use Rattle.hm_syntax.specs.Views.OfExpressions.{expression_of as tree_of, declaration_of as declaration_tree}
 use Rattle.hm_expressions.proofs.JudgedGroups.{judges_passed, judges_refused, judges_solved}
-use Rattle.hm_expressions.specs.Environments.{AreAssumed}
-use Rattle.hm_expressions.specs.GroupQuestions.{HaveTypesOf}
-use Rattle.hm_expressions.specs.Problems.{monotype, Answers, Refuses}
+use Rattle.hm_assumptions.specs.Environments.{AreAssumed, assumptions, Extends}
+use Rattle.hm_expressions.specs.GroupQuestions.{HaveTypesOf, MembersHave}
+use Rattle.hm_assumptions.specs.Problems.{monotype, Answers, Refuses}
 use Rattle.hm_unify.specs.WellFormed.{IsWellFormed}
-use Rattle.hm_expressions.specs.Constructors.{known_of}
+use Rattle.hm_assumptions.specs.Constructors.{known_of}
 use Rattle.hm_names.specs.Syntax.{patterns_of, bindings_of}
-use Rattle.hm_expressions.specs.Functions.{IsOpened, RefusesOpening}
+use Rattle.hm_assumptions.specs.Functions.{IsOpened, RefusesOpening}
 use Rattle.hm_expressions.specs.Lists.{IsBound, RefusesList}
-use Rattle.hm_expressions.proofs.OpenedForms.{lambda_answers, lambda_refused, let_answers, let_refused}
-use Rattle.hm_expressions.proofs.States.{problem_below}
-use Rattle.hm_expressions.proofs.Opened.{more_given}
-use Rattle.hm_expressions.proofs.MatchedForms.{numbers_given, number_given}
+use Rattle.hm_expressions.proofs.OpenedForms.{lambda_answers, lambda_refused, let_answers, let_refused, empty_listed, none_of}
+use Rattle.hm_assumptions.proofs.States.{problem_below}
+use Rattle.hm_assumptions.proofs.Opened.{more_given}
+use Rattle.hm_assumptions.proofs.MatchedForms.{numbers_given, number_given}
 use Rattle.hm_expressions.proofs.Derived.{AnswersExpression, Checks, ChecksFunction, function_answers, function_refused, ChecksAll, expression_is, literal_checked, apply_answers, apply_refused, if_answers, if_refused_second, tuple_checked, tuple_unchecked, list_checked, list_unchecked, row_nothing, row_more, row_unchecked, row_all, solved_grows, size_of_item, moved_solved, moved_refused, moved_answers, assumed_at, type_at, given_next, first_given, parts_assumed, refused_by, row_number}
 use Rattle.hm_expressions.proofs.Choices.{choices_none, choices_more, choices_refused, choices_all, choices_moved, case_answers, case_refused, expression_positive, size_of_part, size_of_choice}
-use Rattle.std.proofs.Common.{◌≡◌, ◌≤◌, length, get_or}
 use Rattle.hm_groups.proofs.Rows.{declaration_falls}
-use Rattle.hm_expressions.specs.Environments.{assumptions}
-use Rattle.hm_expressions.specs.GroupQuestions.{MembersHave}
-use Rattle.hm_expressions.proofs.Outcomes.{SolvedBy, solved_nothing}
+use Rattle.hm_assumptions.proofs.Outcomes.{SolvedBy, solved_nothing}
 use Rattle.hm_graph.specs.Digraph.{lists}
-use Rattle.hm_expressions.specs.BoundNames.{Extends}
 use Rattle.hm_expressions.specs.OpenGroups.{AreUpTo, IsOpenGroup, IsClosedGroup}
-use Rattle.hm_expressions.proofs.OpenedForms.{empty_listed, none_of}
 use Rattle.hm_expressions.proofs.ListSteps.{GroupsInferred, is_zero, list_refused, group_below, group_some, zeroes_up_to, group_at, rows_long, written_to, listed_passed, next_stage}
 use Rattle.std.proofs.lemmas.List.{length-map}
 use Rattle.hm_groups.specs.Groups.{node_name}
 use Rattle.hm_expressions.specs.Stages.{list_of}
-use Rattle.std.proofs.Common.{◌+◌, ◌*◌}
 use Rattle.hm_unify.proofs.WellFormed.{well_formed_more}
 use Rattle.hm_unify.specs.Levels.{is_outer}
-use Rattle.hm_expressions.specs.Generalisations.{KeepsNone}
+use Rattle.hm_assumptions.specs.Generalisations.{KeepsNone}
 use Rattle.hm_expressions.proofs.GroupEnds.{closes_group, none_older, group_members_are, infers_refused, infers_solved, infers_passed, given_up_to}
 use Rattle.hm_expressions.proofs.NodeTypes.{types_later}
 use Rattle.hm_expressions.proofs.MemberForms.{answers_grow, later_grow, same_member, is_member, declaration_at, AsksMember, clause_member, pattern_member, members_none, members_more, members_refused, members_all}
 use Rattle.hm_expressions.proofs.Sides.{ChecksClause, clause_answers, ChecksChoice, ChecksChoices, choice_answers, choice_refused, body_is, plain_answers, guarded_answers, ChecksBodies, bodies_none, bodies_more, bodies_refused, bodies_all, ChecksSide, side_answers, side_refused}
 use Rattle.hm_expressions.proofs.TypedForms.{IsTaken, at_each, escape_refused, inner_refused, typed_answers, typed_refused}
 use Rattle.std.specs.Prelude.{option_map}
-use Rattle.hm_syntax.specs.Trees.{clause as clause_tree}
 use Rattle.hm_names.specs.Types.{declared_type}
 use Rattle.hm_expressions.proofs.SignedNames.{is_other}
 use Rattle.hm_expressions.proofs.SignedForms.{SignedAsks, clause_escapes, clause_refused, clause_signed, other_asked, unsigned_asked}
 use Rattle.hm_expressions.proofs.SignedSteps.{SignedAll, signed_done, signed_nothing, signed_refused, signed_step}
 use Rattle.hm_expressions.proofs.SignedLists.{signed_end, signed_end_refused, signed_start}
-use Rattle.hm_expressions.proofs.Naming.{extended}
+use Rattle.hm_assumptions.proofs.Extended.{extended}
 use Rattle.hm_expressions.proofs.expressions.+checking.Goals as goal
 
 pub check_expression-check_function-requires : goal.check_expression-check_function-requires

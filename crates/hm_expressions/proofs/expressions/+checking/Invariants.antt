@@ -2,15 +2,15 @@ use Rattle.std.proofs.Common.{◌≡◌, ◌+◌, ◌*◌, ◌≤◌, length, ta
 use Rattle.hm_graph.specs.Digraph.{lists}
 use Rattle.hm_typing.specs.Names.{Identifier}
 use Rattle.hm_typing.specs.Schemes.{Monotype}
-use Rattle.hm_expressions.specs.Environments.{assumptions}
+use Rattle.hm_assumptions.specs.Environments.{assumptions}
 use Rattle.hm_expressions.specs.GroupQuestions.{HaveTypesOfAll, MembersHave}
 use Rattle.hm_expressions.proofs.ListSteps.{GroupsInferred}
 use Rattle.hm_syntax.specs.Sizes.{expression_size, expressions_size, bodies_size, right_side_size, alternatives_size, declaration_size, declarations_size}
 use Rattle.hm_syntax.specs.Lists.{expressions, body, bodies, alternatives, declarations}
 use Rattle.hm_syntax.specs.Trees.{no_bodies}
 use Rattle.hm_types.specs.Shape.{type_of}
-use Rattle.hm_expressions.specs.Constructors.{known_of}
-use Rattle.hm_expressions.proofs.Outcomes.{SolvedBy}
+use Rattle.hm_assumptions.specs.Constructors.{known_of}
+use Rattle.hm_assumptions.proofs.Outcomes.{SolvedBy}
 use Rattle.hm_expressions.proofs.Derived.{ChecksAll}
 use Rattle.hm_expressions.proofs.SignedSteps.{SignedAll}
 use Rattle.hm_expressions.proofs.Sides.{ChecksBodies, ChecksChoices}

@@ -1,7 +1,7 @@
 use Rattle.std.proofs.Common.{[], ◌∷◌, refl, Some, ap, ◌∙◌}
 use Rattle.std.specs.Prelude.{option_map}
-use Rattle.hm_groups.specs.Keys.{variable_of_key}
-use Rattle.hm_groups.specs.Variables.{identifier}
+use Rattle.hm_variables.specs.Keys.{variable_of_key}
+use Rattle.hm_variables.specs.Variables.{identifier}
 use Rattle.hm_expressions.proofs.Naming.{binds_skipped, node_unwritten, node_bound}
 use Rattle.hm_expressions.proofs.grouping.bind_node.Goals as goal
 

@@ -1,6 +1,7 @@
 use Rattle.std.proofs.Common.{[], get_or, refl}
 use Rattle.hm_unify.specs.Levels.{is_outer}
-use Rattle.hm_expressions.proofs.Naming.{extended, in_place, schemes_none, schemes_step, schemes_all}
+use Rattle.hm_assumptions.proofs.Extended.{extended}
+use Rattle.hm_expressions.proofs.Naming.{in_place, schemes_none, schemes_step, schemes_all}
 use Rattle.hm_expressions.proofs.ClosedGroups.{closing_alone}
 use Rattle.hm_expressions.proofs.grouping.bind_schemes.Goals as goal
 

@@ -1,5 +1,6 @@
 use Rattle.std.proofs.Common.{[], get_or, refl, arith}
-use Rattle.hm_expressions.proofs.Naming.{extended, types_none, types_step, types_all}
+use Rattle.hm_assumptions.proofs.Extended.{extended}
+use Rattle.hm_expressions.proofs.Naming.{types_none, types_step, types_all}
 use Rattle.hm_expressions.proofs.grouping.bind_types.Goals as goal
 
 pub nodes-init : goal.nodes-init

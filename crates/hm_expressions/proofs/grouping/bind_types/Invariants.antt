@@ -2,9 +2,9 @@ use Rattle.std.proofs.Common.{◌≡◌, ℕ, take}
 use Rattle.hm_syntax.specs.Trees.{Declarations}
 use Rattle.hm_names.specs.Syntax.{Known}
 use Rattle.hm_groups.specs.Nodes.{list_nodes}
-use Rattle.hm_expressions.specs.Environments.{AreAssumed}
+use Rattle.hm_assumptions.specs.Environments.{AreAssumed, Extends}
 use Rattle.hm_expressions.specs.GroupQuestions.{AreGivenTypes}
-use Rattle.hm_expressions.specs.BoundNames.{Extends, BindsTypes}
+use Rattle.hm_expressions.specs.BoundNames.{BindsTypes}
 use Rattle.hm_expressions.proofs.grouping.bind_types.Given as goal
 
 abbrev pub invariant-nodes : goal.invariant-nodes

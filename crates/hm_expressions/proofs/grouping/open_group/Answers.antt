@@ -3,7 +3,7 @@ use Rattle.hm_graph.specs.Digraph.{lists}
 use Rattle.hm_groups.specs.GroupMembers.{AreMembersOf}
 use Rattle.hm_expressions.specs.GroupQuestions.{AreGivenTypes}
 use Rattle.hm_expressions.specs.BoundNames.{ArePlaced}
-use Rattle.hm_expressions.proofs.Derived.{assumed_later}
+use Rattle.hm_assumptions.proofs.FoundNames.{assumed_later}
 use Rattle.hm_expressions.proofs.Placing.{strictly_below}
 use Rattle.hm_expressions.proofs.grouping.open_group.Goals as goal
 

@@ -2,11 +2,11 @@ use Rattle.std.proofs.Common.{◌+◌, [], ◌∷◌, option_map, refl, sym, ap,
 use Rattle.hm_types.specs.Shape.{type_of}
 use Rattle.hm_syntax.specs.Lists.{declarations, patterns}
 use Rattle.hm_syntax.specs.Views.OfExpressions.{declaration_of}
-use Rattle.hm_groups.specs.Variables.{identifier}
+use Rattle.hm_variables.specs.Variables.{identifier}
 use Rattle.hm_names.specs.Syntax.{is_continued}
 use Rattle.hm_names.specs.Types.{declared_type}
 use Rattle.hm_unify.proofs.WellFormed.{well_formed_more}
-use Rattle.hm_expressions.specs.Environments.{AreAssumed}
+use Rattle.hm_assumptions.specs.Environments.{AreAssumed}
 use Rattle.hm_expressions.specs.SignedLists.{BindsDeclaration}
 use Rattle.hm_expressions.proofs.SignedNames.{is_other, binds_other, binds_continued, binds_unsigned, binds_declared}
 use Rattle.hm_expressions.proofs.signed.bind_declared.Goals as goal

@@ -4,7 +4,7 @@ use Rattle.hm_names.specs.Syntax.{bindings_of}
 use Rattle.hm_groups.proofs.Rows.{past}
 use Rattle.hm_groups.proofs.NodeLists.{IsStep, is_step, none_left}
 use Rattle.hm_expressions.specs.SignedLists.{BindsDeclaration, BindsSigned}
-use Rattle.hm_expressions.proofs.Naming.{extended}
+use Rattle.hm_assumptions.proofs.Extended.{extended}
 use Rattle.hm_expressions.proofs.SignedNames.{signed_none}
 use Rattle.hm_expressions.proofs.signed.bind_signed.Goals as goal
 

@@ -1,8 +1,7 @@
 use Rattle.std.proofs.Common.{ℕ, ◌-◌, drop, length}
 use Rattle.hm_syntax.specs.Lists.{declarations}
 use Rattle.hm_names.specs.Syntax.{Known, bindings_of}
-use Rattle.hm_expressions.specs.Environments.{AreAssumed}
-use Rattle.hm_expressions.specs.BoundNames.{Extends}
+use Rattle.hm_assumptions.specs.Environments.{AreAssumed, Extends}
 use Rattle.hm_expressions.specs.SignedLists.{BindsSigned}
 use Rattle.hm_expressions.proofs.signed.bind_signed.Given as goal
 

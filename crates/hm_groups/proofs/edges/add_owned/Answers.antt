@@ -1,6 +1,6 @@
 use Rattle.std.proofs.Common.{◌≡◌, ℕ, Some, sym, ◌∙◌, subst}
 use Rattle.hm_groups.specs.Nodes.{DeclarationEdge}
-use Rattle.hm_groups.proofs.Numberings.{some_injective}
+use Rattle.hm_variables.proofs.Pushed.{some_injective}
 use Rattle.hm_groups.proofs.EdgeLists.{adds_iff}
 use Rattle.hm_groups.proofs.edges.add_owned.Goals as goal
 

@@ -5,7 +5,7 @@ use Rattle.hm_graph.specs.Digraph.{lists}
 use Rattle.hm_typing.specs.Orders.{AreNumberedGroups}
 use Rattle.hm_syntax.specs.Lists.{declarations}
 use Rattle.hm_names.specs.Syntax.{bindings_of}
-use Rattle.hm_groups.specs.Variables.{Variable}
+use Rattle.hm_variables.specs.Variables.{Variable}
 use Rattle.hm_groups.specs.Nodes.{list_nodes}
 use Rattle.hm_groups.specs.Groups.{node_name}
 use Rattle.hm_groups.proofs.Related.{are_numbered}

@@ -3,7 +3,7 @@ use Rattle.std.specs.Map.{lookup}
 use Rattle.std.specs.List.{slice_get}
 use Rattle.hm_syntax.specs.Trees.{no_declarations}
 use Rattle.hm_syntax.specs.Lists.{declarations}
-use Rattle.hm_groups.specs.Variables.{Variable}
+use Rattle.hm_variables.specs.Variables.{Variable}
 use Rattle.hm_groups.specs.Nodes.{AreSigned}
 use Rattle.hm_groups.proofs.Distinct.{nodes_distinct, repeated_not_distinct, passed_on}
 use Rattle.hm_groups.proofs.groups.check_distinct.Goals as goal

@@ -1,7 +1,7 @@
 use Rattle.std.proofs.Common.{◌≡◌, ◌+◌, ◌∷◌, [], drop, sym, ap, ◌∙◌, subst, rules}
 use Rattle.hm_syntax.specs.Lists.{patterns}
 use Rattle.hm_syntax.specs.Views.OfPatterns.{pattern_of}
-use Rattle.hm_groups.specs.Variables.{variable_of}
+use Rattle.hm_variables.specs.Variables.{variable_of}
 use Rattle.hm_groups.specs.References.{pattern_variables, patterns_variables}
 use Rattle.hm_groups.specs.Walks.{Hides}
 use Rattle.hm_groups.proofs.Rows.{unrolled, past, pattern_falls}

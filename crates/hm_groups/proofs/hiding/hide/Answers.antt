@@ -1,5 +1,5 @@
 use Rattle.std.proofs.Common.{refl, rules}
-use Rattle.hm_groups.specs.Variables.{variable_of}
+use Rattle.hm_variables.specs.Variables.{variable_of}
 use Rattle.hm_groups.proofs.Walking.{Hides-shown}
 use Rattle.hm_groups.proofs.hiding.hide.Goals as goal
 

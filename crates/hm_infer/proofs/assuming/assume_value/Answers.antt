@@ -1,7 +1,7 @@
 use Rattle.std.proofs.Common.{◌∙◌, ap, ap₂, sym, subst}
 use Rattle.hm_types.specs.Shape.{type_of}
 use Rattle.hm_typing.specs.Assumptions.{bind}
-use Rattle.hm_expressions.specs.Environments.{AreAssumed, assumptions}
+use Rattle.hm_assumptions.specs.Environments.{AreAssumed, assumptions}
 use Rattle.hm_expressions.proofs.CanonicalSchemes.{entry_scheme, entry_given}
 use Rattle.hm_infer.proofs.assuming.assume_value.Goals as goal
 

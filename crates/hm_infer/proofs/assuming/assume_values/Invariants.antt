@@ -1,5 +1,5 @@
 use Rattle.std.proofs.Common.{◌≡◌, ◌-◌, drop, length}
-use Rattle.hm_expressions.specs.Environments.{AreAssumed, assumptions}
+use Rattle.hm_assumptions.specs.Environments.{AreAssumed, assumptions}
 use Rattle.hm_infer.specs.Imported.{assumed_inside}
 use Rattle.hm_infer.proofs.assuming.assume_values.Given as goal
 

@@ -1,7 +1,7 @@
 use Rattle.std.proofs.Common.{◌∙◌, ap, refl}
 use Rattle.std.specs.Arc.{arc_value}
 use Rattle.hm_types.specs.Interfaces.{Exports as Interface}
-use Rattle.hm_expressions.specs.Environments.{assumptions}
+use Rattle.hm_assumptions.specs.Environments.{assumptions}
 use Rattle.hm_infer.proofs.CoreTables.{interface_step}
 use Rattle.hm_infer.proofs.assuming.imported_environment.Goals as goal
 

@@ -1,7 +1,7 @@
 use Rattle.std.proofs.Common.{◌≡◌, ◌-◌, drop, length, map}
 use Rattle.std.specs.Arc.{arc_value}
 use Rattle.hm_names.specs.Cores.{assumed, imported_values}
-use Rattle.hm_expressions.specs.Environments.{AreAssumed, assumptions}
+use Rattle.hm_assumptions.specs.Environments.{AreAssumed, assumptions}
 use Rattle.hm_infer.proofs.assuming.imported_environment.Given as goal
 
 abbrev pub invariant-interfaces : goal.invariant-interfaces

@@ -1,6 +1,6 @@
 use Rattle.std.proofs.Common.{◌≡◌, ◌++◌, map, drop}
 use Rattle.hm_names.specs.Cores.{scheme_in}
-use Rattle.hm_expressions.specs.Kept.{schemes_of}
+use Rattle.hm_assumptions.specs.Kept.{schemes_of}
 use Rattle.hm_infer.proofs.declaring.add_constructors.Given as goal
 
 abbrev pub invariant-constrs : goal.invariant-constrs

@@ -1,6 +1,6 @@
 use Rattle.std.proofs.Common.{◌≡◌, ◌++◌, drop}
 use Rattle.hm_names.specs.Cores.{declared_schemes}
-use Rattle.hm_expressions.specs.Kept.{schemes_of}
+use Rattle.hm_assumptions.specs.Kept.{schemes_of}
 use Rattle.hm_infer.proofs.declaring.add_declared.Given as goal
 
 abbrev pub invariant-decls : goal.invariant-decls

@@ -1,4 +1,4 @@
-use Rattle.hm_expressions.specs.Kept.{schemes_of}
+use Rattle.hm_assumptions.specs.Kept.{schemes_of}
 use Rattle.hm_infer.proofs.CoreTables.{pushed_step, schemes_pushed}
 use Rattle.hm_infer.proofs.declaring.add_exported.Invariants.{of_entry}
 use Rattle.hm_infer.proofs.declaring.add_exported.Goals as goal

@@ -1,7 +1,7 @@
 use Rattle.std.proofs.Common.{◌≡◌, ◌++◌, map, drop}
 use Rattle.hm_types.specs.declared.entries.ConstructorEntry.{ConstructorEntry}
 use Rattle.hm_names.specs.Cores.{ConstructorScheme}
-use Rattle.hm_expressions.specs.Kept.{schemes_of}
+use Rattle.hm_assumptions.specs.Kept.{schemes_of}
 use Rattle.hm_infer.proofs.declaring.add_exported.Given as goal
 
 abbrev pub of_entry : ConstructorEntry → ConstructorScheme

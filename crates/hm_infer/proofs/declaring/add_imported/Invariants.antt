@@ -1,7 +1,7 @@
 use Rattle.std.proofs.Common.{◌≡◌, ◌++◌, map, drop}
 use Rattle.std.specs.Arc.{arc_value}
 use Rattle.hm_names.specs.Cores.{imported_schemes}
-use Rattle.hm_expressions.specs.Kept.{schemes_of}
+use Rattle.hm_assumptions.specs.Kept.{schemes_of}
 use Rattle.hm_infer.proofs.declaring.add_imported.Given as goal
 
 abbrev pub invariant-interfaces : goal.invariant-interfaces

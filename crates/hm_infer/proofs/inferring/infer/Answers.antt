@@ -7,7 +7,7 @@ use Rattle.hm_names.specs.SchemeTables.{scheme_of}
 use Rattle.hm_expressions.specs.OwnSchemes.{HaveCanonical}
 use Rattle.hm_expressions.specs.PrincipalLists.{IsInferred}
 use Rattle.hm_expressions.specs.Stages.{list_of}
-use Rattle.hm_expressions.specs.Constructors.{known_of}
+use Rattle.hm_assumptions.specs.Constructors.{known_of}
 use Rattle.hm_infer.proofs.NoTyping.{no_typing}
 use Rattle.hm_infer.proofs.OwnSchemes.{are_principal}
 use Rattle.hm_infer.proofs.inferring.infer.Goals as goal

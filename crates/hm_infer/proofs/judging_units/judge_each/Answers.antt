@@ -4,13 +4,13 @@ use Rattle.hm_graph.specs.Digraph.{lists}
 use Rattle.hm_groups.specs.Groups.{node_name}
 use Rattle.hm_groups.specs.Nodes.{AllShown}
 use Rattle.hm_syntax.specs.Lists.{declarations}
-use Rattle.hm_expressions.specs.Constructors.{known_of}
-use Rattle.hm_expressions.specs.Environments.{AreAssumed}
+use Rattle.hm_assumptions.specs.Constructors.{known_of}
+use Rattle.hm_assumptions.specs.Environments.{AreAssumed}
 use Rattle.hm_expressions.specs.Stages.{list_of}
-use Rattle.hm_expressions.proofs.Closing.{assumed_part}
+use Rattle.hm_assumptions.proofs.Closing.{assumed_part}
 use Rattle.hm_expressions.proofs.GroupEnds.{all_one}
 use Rattle.hm_expressions.proofs.ListSteps.{group_at, group_below, group_some, rows_long}
-use Rattle.hm_expressions.proofs.Naming.{extended}
+use Rattle.hm_assumptions.proofs.Extended.{extended}
 use Rattle.hm_infer.proofs.UnitStages.{unit_step, units_end}
 use Rattle.hm_infer.proofs.judging_units.judge_each.Goals as goal
 

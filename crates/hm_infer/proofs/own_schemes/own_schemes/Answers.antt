@@ -1,7 +1,7 @@
 use Rattle.std.proofs.Common.{sym, subst}
 use Rattle.hm_names.specs.SchemeTables.{scheme_of}
-use Rattle.hm_expressions.specs.Environments.{AreAssumed}
-use Rattle.hm_expressions.proofs.Closing.{assumed_at}
+use Rattle.hm_assumptions.specs.Environments.{AreAssumed}
+use Rattle.hm_assumptions.proofs.Closing.{assumed_at}
 use Rattle.hm_infer.proofs.OwnSchemes.{step_put, all_put}
 use Rattle.hm_infer.proofs.own_schemes.own_schemes.Goals as goal
 

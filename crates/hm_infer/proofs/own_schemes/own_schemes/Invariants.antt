@@ -1,6 +1,6 @@
 use Rattle.std.proofs.Common.{take}
 use Rattle.hm_names.specs.SchemeTables.{scheme_of}
-use Rattle.hm_expressions.specs.Kept.{entries_of}
+use Rattle.hm_assumptions.specs.Kept.{entries_of}
 use Rattle.hm_expressions.specs.OwnSchemes.{HaveCanonical}
 use Rattle.hm_infer.proofs.own_schemes.own_schemes.Given as goal
 

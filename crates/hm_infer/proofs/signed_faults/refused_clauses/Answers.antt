@@ -1,7 +1,7 @@
 use Rattle.std.proofs.Common.{◌<◌, ◌≤◌, length, get_or, false, subst, ◌∙◌, arith}
 use Rattle.hm_syntax.specs.Trees.{Declarations}
-use Rattle.hm_expressions.specs.Constructors.{known_of}
-use Rattle.hm_expressions.specs.Environments.{assumptions}
+use Rattle.hm_assumptions.specs.Constructors.{known_of}
+use Rattle.hm_assumptions.specs.Environments.{assumptions}
 use Rattle.hm_expressions.specs.SignedLists.{AreSignatures}
 use Rattle.hm_infer.specs.SignedFaults.{Refuses}
 use Rattle.hm_infer.proofs.SignedFaults.{flagged_step, flagged_all}

@@ -1,6 +1,6 @@
 use Rattle.std.proofs.Common.{◌∙◌, ◌++◌, length, sym, subst, ap}
 use Rattle.hm_graph.specs.Digraph.{lists}
-use Rattle.hm_expressions.specs.Constructors.{known_of}
+use Rattle.hm_assumptions.specs.Constructors.{known_of}
 use Rattle.hm_infer.specs.JudgedUnits.{UnitsJudged}
 use Rattle.hm_infer.specs.UnitFaults.{ArePlainGroups}
 use Rattle.hm_infer.specs.UnitStarts.{AreUnsignedStarts}

@@ -1,9 +1,12 @@
 use Rattle.std.proofs.Common.{◌≡◌, Some, sym, ◌∙◌, ap, length, ◌++◌, ◌∷◌, [], ◌-◌, cond, subst, arith, List, Option, vec_len}
 use Rattle.std.specs.Map.{lookup}
 use Rattle.std.proofs.lemmas.List.{length-map}
-use Rattle.hm_groups.specs.Variables.{Variable, variable_of}
-use Rattle.hm_groups.specs.Keys.{number_of, nodes_of, same_variable, variable_of_key, IsNode, IsNumbering}
-use Rattle.hm_groups.proofs.Numberings.{updated, IsNumbering-more, IsNumbering-same, nodes_of-push, take_all_but}
+use Rattle.hm_variables.specs.Variables.{Variable, variable_of}
+use Rattle.hm_variables.specs.Keys.{number_of, same_variable, variable_of_key}
+use Rattle.hm_groups.specs.Numberings.{nodes_of, IsNode, IsNumbering}
+use Rattle.hm_variables.proofs.SameVariables.{updated}
+use Rattle.hm_groups.proofs.Numberings.{IsNumbering-more, IsNumbering-same, nodes_of-push}
+use Rattle.hm_variables.proofs.Pushed.{take_all_but}
 use Rattle.hm_groups.proofs.numbers.Numbers.add.Goals as goal
 
 pub invariant_of-self-in-Ok : goal.invariant_of-self-in-Ok

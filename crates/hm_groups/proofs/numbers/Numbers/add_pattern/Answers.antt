@@ -1,5 +1,5 @@
 use Rattle.std.proofs.Common.{None, sym, ◌∙◌, ap, subst}
-use Rattle.hm_groups.specs.Keys.{nodes_of, IsNumbering}
+use Rattle.hm_groups.specs.Numberings.{nodes_of, IsNumbering}
 use Rattle.hm_groups.proofs.Numberings.{IsNumbering-pattern, nodes_of-push}
 use Rattle.hm_groups.proofs.numbers.Numbers.add_pattern.Goals as goal
 

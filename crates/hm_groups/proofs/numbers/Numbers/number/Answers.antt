@@ -1,7 +1,7 @@
 use Rattle.std.proofs.Common.{◌≡◌, Some, None, sym, ◌∙◌}
-use Rattle.hm_groups.specs.Variables.{variable_of}
-use Rattle.hm_groups.specs.Keys.{number_of}
-use Rattle.hm_groups.proofs.Numberings.{look_up}
+use Rattle.hm_variables.specs.Variables.{variable_of}
+use Rattle.hm_variables.specs.Keys.{number_of}
+use Rattle.hm_variables.proofs.SameVariables.{look_up}
 use Rattle.hm_groups.proofs.numbers.Numbers.number.Goals as goal
 
 pub returns-in-Some-clause-some : goal.returns-in-Some-clause-some

@@ -1,0 +1,154 @@
+//! The types that constructors are declared with.
+
+ghost use Rattle.std.specs.Prelude.{◌≡◌, IfOk, option_map, option_copied};
+ghost use Rattle.hm_variables.specs.Keys.{variable_of_key};
+ghost use Rattle.hm_names.specs.Described.{first_of};
+ghost use Rattle.hm_names.specs.Types.{entity_of};
+ghost use Rattle.hm_assumptions.specs.Constructors.{known_of};
+ghost use Rattle.hm_assumptions.specs.ConstructorPlaces.{AreFirstPlaces, key_of_entity};
+ghost use Rattle.hm_assumptions.specs.FoundSchemes.{scheme_in};
+ghost use Rattle.hm_assumptions.specs.Kept.{schemes_of};
+
+use crate::environment::place_of;
+use crate::special::{special_scheme, unit_scheme};
+use hm_syntax::Name;
+use hm_types::{Scheme, Text};
+use hm_variables::LentName;
+use indexmap::IndexMap;
+use std::alloc::{AllocError, Global};
+use std::marker::Model;
+
+/// A constructor, by the module that declares it and its name there, with its scheme.
+#[derive(Drop)]
+pub struct Entry<'a> {
+    pub module: &'a str,
+    pub name: &'a str,
+    pub scheme: Scheme,
+}
+
+/// The constructors that a module uses, with their schemes. Of the entries of one constructor the
+/// first counts, whose place a table has. The special ones, as those of tuples, have theirs without
+/// an entry.
+#[derive(Drop)]
+pub struct Constructors<'a> {
+    home: Text,
+    entries: Vec<Entry<'a>>,
+    places: IndexMap<LentName<'a>, usize>,
+}
+
+impl<'a> Model for Constructors<'a> {
+    ghost use Rattle.hm_assumptions.specs.Constructors.{Table, coded_table};
+
+    ghost Value = { Table };
+
+    ghost coded = { coded_table };
+
+    ghost use Rattle.hm_assumptions.specs.Kept.{schemes_of};
+
+    ghost view = { λ s. record { home = s.home; schemes = schemes_of s.entries.items } };
+
+    ghost use Rattle.hm_assumptions.specs.ConstructorPlaces.{AreFirstPlaces};
+
+    ghost invariant = { λ s. AreFirstPlaces s.entries.items s.entries.items s.places };
+}
+
+impl<'a> Constructors<'a> {
+    ghost use Rattle.hm_assumptions.specs.Kept.{schemes_of};
+
+    /// The constructors of a module of this name.
+    pub fn new(
+        alloc: Global,
+        home: Text,
+        entries: Vec<Entry<'a>>,
+    ) -> Result<Constructors<'a>, AllocError>
+        ensures { IfOk result (λ constructors. constructors ≡ record { home = home; schemes = schemes_of entries.entry.items }) }
+    {
+        let places = places_of(alloc, &entries)?;
+        Ok(Constructors {
+            home,
+            entries,
+            places,
+        })
+    }
+
+    /// The scheme of a constructor.
+    pub(crate) fn find(&self, alloc: Global, name: &Name) -> Result<FoundScheme<'_>, AllocError>
+        ensures { IfOk result (λ found. scheme_in found ≡ (known_of self.now).scheme name.now) }
+    {
+        match special_scheme(alloc, name)? {
+            Some(scheme) => Ok(FoundScheme::Made(scheme)),
+            None => match entered(&self.entries, &self.places, name) {
+                Some(scheme) => Ok(FoundScheme::Lent(scheme)),
+                None => Ok(FoundScheme::Made(unit_scheme(alloc)?)),
+            },
+        }
+    }
+}
+
+/// The scheme of a constructor: that of a special one is made, any other one is lent.
+#[derive(Drop)]
+pub(crate) enum FoundScheme<'a> {
+    Made(Scheme),
+    Lent(&'a Scheme),
+}
+
+impl<'a> FoundScheme<'a> {
+    /// The scheme, lent.
+    pub(crate) fn as_scheme(&self) -> &Scheme
+        ensures { result.now ≡ scheme_in self.now }
+    {
+        match self {
+            FoundScheme::Made(scheme) => scheme,
+            FoundScheme::Lent(scheme) => scheme,
+        }
+    }
+}
+
+/// The place of the first entry of each constructor.
+fn places_of<'a>(
+    alloc: Global,
+    entries: &[Entry<'a>],
+) -> Result<IndexMap<LentName<'a>, usize>, AllocError>
+    ensures { IfOk result (AreFirstPlaces entries.now entries.now) }
+{
+    let mut places = IndexMap::new(alloc);
+    'entries: for behind in 0..entries.len() {
+        let place = entries.len() - 1 - behind;
+        let entry = &entries[place];
+        let key = LentName {
+            qualifier: Some(entry.module),
+            text: entry.name,
+        };
+        places.insert(key, place)?;
+    }
+    Ok(places)
+}
+
+/// A resolved name as the key of a constructor.
+fn entity_key(name: &Name) -> LentName<'_>
+    ensures { variable_of_key result ≡ key_of_entity (entity_of name.now) }
+{
+    let module = match &name.qualifier {
+        Some(text) => text.as_str(),
+        None => "",
+    };
+    LentName {
+        qualifier: Some(module),
+        text: name.text.as_str(),
+    }
+}
+
+/// The scheme of the first entry of a constructor.
+fn entered<'b>(
+    entries: &'b [Entry<'_>],
+    places: &IndexMap<LentName<'_>, usize>,
+    name: &Name,
+) -> Option<&'b Scheme>
+    requires { AreFirstPlaces entries.now entries.now places.now }
+    ensures { option_copied result ≡ option_map (λ d. d.scheme) (first_of (λ d. d.entity) (entity_of name.now) (schemes_of entries.now)) }
+{
+    match place_of(places, &entity_key(name)) {
+        Some(place) => Some(&entries[place].scheme),
+        None => None,
+    }
+}

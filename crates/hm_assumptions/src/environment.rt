@@ -1,0 +1,207 @@
+//! What is assumed of names.
+
+ghost use Rattle.std.specs.Prelude.{◌≡◌, ℕ, ◌≤◌, ◌-◌, ◌∷◌, ◌++◌, [], List, None, cond, length, take, IfOk, MatchOption, OnErr, OnOk};
+ghost use Rattle.hm_types.specs.Shape.{type_of};
+ghost use Rattle.hm_typing.specs.Names.{IsOneOf};
+ghost use Rattle.hm_assumptions.specs.Environments.{Extends, Assumed, IsSchemeOf, assumed_names, monomorphic_entries};
+ghost use Rattle.hm_assumptions.specs.Kept.{entries_of};
+ghost use Rattle.hm_assumptions.specs.Places.{IsPlaced};
+ghost use Rattle.hm_variables.specs.Keys.{number_of, same_variable, variable_of_key};
+ghost use Rattle.hm_variables.specs.Variables.{Variable, identifier};
+ghost use Rattle.hm_names.specs.Syntax.{name_of};
+
+use crate::variables::Variables;
+use hm_syntax::Name;
+use hm_types::Ty;
+use hm_variables::{LentName, key_of};
+use indexmap::IndexMap;
+use std::alloc::{AllocError, Global};
+use std::marker::Model;
+
+/// A scheme that is lent: the variables of `body` below `quantified` are quantified, and each
+/// other one stands for the variable whose number is less by as much.
+#[derive(Clone, Copy)]
+pub(crate) struct Scheme<'a> {
+    pub quantified: usize,
+    pub body: &'a Ty,
+}
+
+/// A name with its scheme, and the place of the assumption of this name that it hides.
+#[derive(Drop)]
+pub struct Binding<'a> {
+    pub name: LentName<'a>,
+    pub quantified: usize,
+    pub body: Ty,
+    hidden: Option<usize>,
+}
+
+/// What is assumed of names, which are lent by the trees and interfaces of a core. Contracts see a
+/// list, the innermost first. A table has the place of the innermost assumption of each name.
+#[derive(Drop)]
+pub struct Environment<'a> {
+    items: Vec<Binding<'a>>,
+    innermost: IndexMap<LentName<'a>, usize>,
+}
+
+impl<'a> Model for Environment<'a> {
+    ghost use Rattle.std.specs.Prelude.{List};
+    ghost use Rattle.hm_assumptions.specs.Environments.{Assumed, coded_assumed};
+    ghost use Rattle.std.specs.Coded.{coded_list};
+
+    ghost Value = { List Assumed };
+
+    ghost coded = { coded_list coded_assumed };
+
+    ghost use Rattle.hm_assumptions.specs.Kept.{entries_of};
+
+    ghost view = { λ s. entries_of s.items.items };
+
+    ghost use Rattle.hm_assumptions.specs.Places.{IsPlaced};
+
+    ghost invariant = { λ s. IsPlaced s.items.items s.innermost };
+}
+
+impl<'a> Environment<'a> {
+    /// No assumptions.
+    pub fn new(alloc: Global) -> Environment<'a>
+        ensures { result ≡ [] }
+    {
+        Environment {
+            items: Vec::new(alloc),
+            innermost: IndexMap::new(alloc),
+        }
+    }
+
+    /// How many assumptions there are.
+    pub fn len(&self) -> usize
+        ensures { result ≡ length self.now }
+    {
+        self.items.len()
+    }
+
+    /// The assumptions, the outermost first.
+    pub fn as_slice(&self) -> &[Binding<'a>]
+        ensures { entries_of result.now ≡ self.now }
+    {
+        &self.items
+    }
+
+    /// Assumes a scheme of a name, inside all others.
+    pub fn bind(
+        &mut self,
+        name: LentName<'a>,
+        quantified: usize,
+        body: Ty,
+    ) -> Result<(), AllocError>
+        ensures bound { OnOk result (self.new ≡ (record { name = identifier (variable_of_key name.entry); scheme = record { quantified = quantified; body = type_of body } } ∷ self.old)) }
+        ensures same { OnErr result (self.new ≡ self.old) }
+    {
+        let place = self.items.len();
+        let key = name;
+        let hidden = place_of(&self.innermost, &key);
+        self.items.push(Binding {
+            name,
+            quantified,
+            body,
+            hidden,
+        })?;
+        match self.innermost.insert(name, place) {
+            Ok(_) => Ok(()),
+            Err(_) => {
+                self.items.pop();
+                Err(AllocError)
+            }
+        }
+    }
+
+    /// Forgets all but the outermost `depth` assumptions.
+    pub fn truncate(&mut self, depth: usize)
+        ensures { (added base : List Assumed) → self.old ≡ added ++ base → length base ≡ depth → self.new ≡ base }
+    {
+        forget_from(&mut self.items, &mut self.innermost, depth);
+    }
+
+    /// The scheme of the innermost assumption of a name, if there is one.
+    pub(crate) fn find(&self, name: &Name) -> Option<Scheme<'_>>
+        ensures { MatchOption result (¬ (IsOneOf (name_of name.now) (assumed_names self.now))) (λ s. IsSchemeOf (name_of name.now) (record { quantified = s.quantified; body = type_of s.body.now }) self.now) }
+    {
+        let Some(place) = place_of(&self.innermost, &key_of(name)) else {
+            return None;
+        };
+        let item = &self.items[place];
+        Some(Scheme {
+            quantified: item.quantified,
+            body: &item.body,
+        })
+    }
+
+    /// Assumes its type of each variable, the last inside all others.
+    pub(crate) fn bind_variables(
+        &mut self,
+        alloc: Global,
+        variables: &Variables<'a>,
+    ) -> Result<(), AllocError>
+        ensures bound { OnOk result (self.new ≡ monomorphic_entries variables.now ++ self.old) }
+        ensures kept { Extends self.old self.new }
+    {
+        for item in variables.as_slice() {
+            let body = item.ty.copy(alloc)?;
+            self.bind(item.name, 0, body)?;
+        }
+        Ok(())
+    }
+}
+
+/// The place that a table has for a name.
+pub(crate) fn place_of(places: &IndexMap<LentName<'_>, usize>, name: &LentName<'_>) -> Option<usize>
+    ensures { result ≡ number_of places.now (variable_of_key name.now) }
+{
+    match places.get(name) {
+        Some(place) => Some(*place),
+        None => None,
+    }
+}
+
+/// Gives a name that has a place the place that was hidden, or none.
+fn restore<'a>(
+    places: &mut IndexMap<LentName<'a>, usize>,
+    name: LentName<'a>,
+    hidden: Option<usize>,
+)
+    ensures { ¬ (number_of places.old (variable_of_key name.entry) ≡ None) → (x : Variable) → number_of places.new x ≡ cond (same_variable (variable_of_key name.entry) x) hidden (number_of places.old x) }
+{
+    let Some(place) = hidden else {
+        let key = name;
+        places.swap_remove(&key);
+        return;
+    };
+    match places.insert(name, place) {
+        Ok(_) => {}
+        Err(_) => {}
+    }
+}
+
+/// Forgets the last assumption: what it hid is seen again.
+fn forget_last<'a>(items: &mut Vec<Binding<'a>>, innermost: &mut IndexMap<LentName<'a>, usize>)
+    ensures items { items.new.items ≡ take (length items.old.items - 1) items.old.items }
+    ensures placed { IsPlaced items.old.items innermost.old → IsPlaced items.new.items innermost.new }
+{
+    let Some(last) = items.pop() else {
+        return;
+    };
+    restore(innermost, last.name, last.hidden);
+}
+
+/// Forgets all but the outermost `depth` assumptions.
+fn forget_from<'a>(
+    items: &mut Vec<Binding<'a>>,
+    innermost: &mut IndexMap<LentName<'a>, usize>,
+    depth: usize,
+)
+    ensures items { depth ≤ length items.old.items → items.new.items ≡ take depth items.old.items }
+    ensures placed { IsPlaced items.old.items innermost.old → IsPlaced items.new.items innermost.new }
+{
+    'items: while items.len() > depth {
+        forget_last(items, innermost);
+    }
+}

@@ -1,0 +1,112 @@
+//! Instances of schemes.
+
+ghost use Rattle.std.specs.Prelude.{◌≡◌, ◌+◌, ◌<◌, ◌^◌, IfOk};
+ghost use Rattle.hm_types.specs.Shape.{type_of};
+ghost use Rattle.hm_types.specs.Types.{put, Var as leaf};
+ghost use Rattle.hm_typing.specs.Patterns.{Instantiates};
+ghost use Rattle.hm_typing.specs.Programs.{monotype_of};
+ghost use Rattle.hm_unify.specs.WellFormed.{IsWellFormed};
+ghost use Rattle.hm_names.specs.Syntax.{constructor_type_of};
+ghost use Rattle.hm_assumptions.specs.Constructors.{known_of};
+ghost use Rattle.hm_assumptions.specs.Problems.{monotype, Answers};
+ghost use Rattle.hm_assumptions.specs.Environments.{opened, quantified_leaf, IsInstanceUnder};
+
+use crate::constructors::Constructors;
+use crate::unifying::{equate, new_variables};
+use hm_syntax::Name;
+use hm_types::{Scheme, Ty, Types};
+use hm_unify::{Solver, UnifyFault};
+use std::alloc::{AllocError, Global};
+
+/// The type of a scheme in which the quantified variables are those from `base` on, or the rigid
+/// ones from there on.
+pub fn instantiate(
+    alloc: Global,
+    rigid: bool,
+    quantified: usize,
+    base: usize,
+    body: &Ty,
+) -> Result<Ty, AllocError>
+    requires { base + quantified < 2 ^ 64 }
+    ensures { IfOk result (λ t. type_of t ≡ put (opened rigid quantified base) (type_of body.now)) }
+{
+    match body {
+        Ty::Var(n) => {
+            if *n < quantified {
+                Ok(quantified_variable(rigid, base + *n))
+            } else {
+                Ok(Ty::Var(*n - quantified))
+            }
+        }
+        Ty::Rigid(n) => {
+            if *n < quantified {
+                Ok(quantified_variable(rigid, base + *n))
+            } else {
+                Ok(Ty::Rigid(*n - quantified))
+            }
+        }
+        Ty::App(head, arguments) => {
+            let mut made = Vec::new(alloc);
+            for argument in arguments.as_slice() {
+                made.push(instantiate(alloc, rigid, quantified, base, argument)?)?;
+            }
+            Ok(Ty::App(head.copy()?, Types::new(made)))
+        }
+    }
+}
+
+/// A variable, or a rigid one.
+fn quantified_variable(rigid: bool, number: usize) -> Ty
+    ensures { type_of result ≡ leaf (quantified_leaf rigid number 0) }
+{
+    if rigid {
+        Ty::Rigid(number)
+    } else {
+        Ty::Var(number)
+    }
+}
+
+/// Makes a type equal to an instance of a scheme.
+pub(crate) fn check_scheme(
+    alloc: Global,
+    solver: &mut Solver,
+    quantified: usize,
+    body: &Ty,
+    t: &Ty,
+) -> Result<(), UnifyFault>
+    requires scheme { IsWellFormed (quantified + solver.old.given) (type_of body.now) }
+    requires given { IsWellFormed solver.old.given (type_of t.now) }
+    ensures { Answers (λ r. IsInstanceUnder (record { quantified = quantified; body = type_of body.now }) r (put r (monotype (type_of t.now)))) solver.old solver.new result }
+{
+    let base = new_variables(solver, quantified)?;
+    let instance = instantiate(alloc, false, quantified, base, body)?;
+    equate(solver, t, instance)
+}
+
+/// Makes a type equal to an instance of a declared scheme.
+pub(crate) fn check_declared(
+    alloc: Global,
+    solver: &mut Solver,
+    scheme: &Scheme,
+    t: &Ty,
+) -> Result<(), UnifyFault>
+    requires { IsWellFormed solver.old.given (type_of t.now) }
+    ensures { Answers (λ r. Instantiates (monotype_of scheme.now.body) (put r (monotype (type_of t.now)))) solver.old solver.new result }
+{
+    check_scheme(alloc, solver, scheme.vars(), scheme.body(), t)
+}
+
+/// Makes a type equal to an instance of a constructor's scheme.
+pub fn check_constructor(
+    alloc: Global,
+    solver: &mut Solver,
+    constructors: &Constructors,
+    name: &Name,
+    t: &Ty,
+) -> Result<(), UnifyFault>
+    requires { IsWellFormed solver.old.given (type_of t.now) }
+    ensures { Answers (λ r. Instantiates (constructor_type_of (known_of constructors.now) name.now) (put r (monotype (type_of t.now)))) solver.old solver.new result }
+{
+    let scheme = constructors.find(alloc, name)?;
+    check_declared(alloc, solver, scheme.as_scheme(), t)
+}

@@ -1,0 +1,145 @@
+//! Patterns are matched against types.
+
+ghost use Rattle.std.specs.Prelude.{◌≡◌, ℕ, ◌+◌, ◌<◌, ◌^◌, [], ◌∷◌, length, cond, false};
+ghost use Rattle.hm_types.specs.Shape.{type_of};
+ghost use Rattle.hm_types.specs.Types.{put, Var as leaf};
+ghost use Rattle.hm_types.specs.Monotypes.{var};
+ghost use Rattle.hm_syntax.specs.Lists.{patterns};
+ghost use Rattle.hm_typing.specs.Syntax.{pattern_names, patterns_names};
+ghost use Rattle.hm_typing.specs.Patterns.{Matches, MatchesAll, Instantiates};
+ghost use Rattle.hm_typing.specs.Programs.{monotype_of};
+ghost use Rattle.hm_unify.specs.WellFormed.{IsWellFormed};
+ghost use Rattle.hm_assumptions.specs.Problems.{monotype, Answers};
+ghost use Rattle.hm_typing.specs.Names.{Identifier};
+ghost use Rattle.hm_typing.specs.Schemes.{Monotype};
+ghost use Rattle.hm_assumptions.specs.Patterns.{Matched, AreGiven, HaveTypes, from_number};
+ghost use Rattle.hm_names.specs.Syntax.{name_of, pattern_of, patterns_of};
+ghost use Rattle.hm_assumptions.specs.Constructors.{known_of};
+
+use crate::constructors::Constructors;
+use crate::parts::{constructor_parts, list_part, tuple_parts};
+use crate::shapes::literal_type;
+use crate::unifying::equate;
+use crate::variables::Variables;
+use hm_syntax::{Name, Pat, PatKind};
+use hm_types::Ty;
+use hm_unify::{Solver, UnifyFault};
+use hm_variables::key_of;
+use std::alloc::Global;
+
+/// Adds a variable of a pattern. One of its name that is there has its type.
+fn add_variable<'a>(
+    alloc: Global,
+    solver: &mut Solver,
+    variables: &mut Variables<'a>,
+    name: &'a Name,
+    t: &Ty,
+) -> Result<(), UnifyFault>
+    requires given { IsWellFormed solver.old.given (type_of t.now) }
+    requires variables { AreGiven solver.old.given variables.old }
+    ensures { Matched (λ ρ r. put r (monotype (type_of t.now)) ≡ ρ (name_of name.now)) (name_of name.now ∷ []) solver.old variables.old solver.new variables.new result }
+{
+    solver.well_formed();
+    match variables.find(name) {
+        None => {
+            variables.add(key_of(name), t.copy(alloc)?)?;
+            Ok(())
+        }
+        Some(u) => {
+            let known = u.copy(alloc)?;
+            let own = u.copy(alloc)?;
+            equate(solver, t, own)?;
+            variables.add(key_of(name), known)?;
+            Ok(())
+        }
+    }
+}
+
+/// Matches a pattern against a type, and adds its variables.
+#[cycle(matching)]
+pub fn match_pattern<'a>(
+    alloc: Global,
+    solver: &mut Solver,
+    constructors: &Constructors,
+    variables: &mut Variables<'a>,
+    pattern: &'a Pat,
+    t: &Ty,
+) -> Result<(), UnifyFault>
+    requires given { IsWellFormed solver.old.given (type_of t.now) }
+    requires variables { AreGiven solver.old.given variables.old }
+    requires typed { (τ : Identifier → Monotype) × HaveTypes τ variables.old }
+    ensures { let p = pattern_of (known_of constructors.now) pattern.now in
+        Matched (λ ρ r. Matches ρ p (put r (monotype (type_of t.now)))) (pattern_names p) solver.old variables.old solver.new variables.new result }
+{
+    solver.well_formed();
+    match &pattern.kind {
+        PatKind::Var(name) => add_variable(alloc, solver, variables, name, t),
+        PatKind::Bound(name, inner) => {
+            match_pattern(alloc, solver, constructors, variables, inner, t)?;
+            add_variable(alloc, solver, variables, name, t)
+        }
+        PatKind::Con(name, parts) => {
+            let scheme = constructors.find(alloc, name)?;
+            let first = constructor_parts(alloc, solver, scheme.as_scheme(), parts.len(), t)?;
+            match_patterns(alloc, solver, constructors, variables, parts, first, false)
+        }
+        PatKind::Literal(literal) => {
+            let own = literal_type(alloc, literal)?;
+            equate(solver, t, own)
+        }
+        PatKind::Wild => Ok(()),
+        PatKind::Tuple(parts) => {
+            let first = tuple_parts(alloc, solver, parts.len(), t)?;
+            match_patterns(alloc, solver, constructors, variables, parts, first, false)
+        }
+        PatKind::List(parts) => {
+            let first = list_part(alloc, solver, t)?;
+            match_patterns(alloc, solver, constructors, variables, parts, first, true)
+        }
+        PatKind::Lazy(inner) => match_pattern(alloc, solver, constructors, variables, inner, t),
+    }
+}
+
+/// Matches patterns, the last first: against the variables from `first` on, or each against that
+/// one.
+#[cycle(matching)]
+pub(crate) fn match_patterns<'a>(
+    alloc: Global,
+    solver: &mut Solver,
+    constructors: &Constructors,
+    variables: &mut Variables<'a>,
+    parts: &'a [Pat],
+    first: usize,
+    same: bool,
+) -> Result<(), UnifyFault>
+    requires given { (j : ℕ) → j < length parts.now → cond same first (first + j) < solver.old.given }
+    requires fits { cond same first (first + length parts.now) < 2 ^ 64 }
+    requires variables { AreGiven solver.old.given variables.old }
+    requires typed { (τ : Identifier → Monotype) × HaveTypes τ variables.old }
+    ensures { let ps = patterns_of (known_of constructors.now) (patterns parts.now) in
+        Matched (λ ρ r. MatchesAll ρ ps (λ j. put r (from_number same first j)) 0) (patterns_names ps) solver.old variables.old solver.new variables.new result }
+{
+    solver.well_formed();
+    let mut j = parts.len();
+    'parts: while j > 0 {
+        j -= 1;
+        let number = element(first, j, same);
+        match_pattern(
+            alloc,
+            solver,
+            constructors,
+            variables,
+            &parts[j],
+            &Ty::Var(number),
+        )?;
+    }
+    Ok(())
+}
+
+/// The number of the j-th of some variables, or of the one that stands for each.
+pub fn element(first: usize, j: usize, same: bool) -> usize
+    requires { cond same first (first + j) < 2 ^ 64 }
+    ensures { result ≡ cond same first (first + j) }
+{
+    if same { first } else { first + j }
+}

@@ -1,0 +1,95 @@
+//! The variables of patterns, with their types.
+
+ghost use Rattle.std.specs.Prelude.{◌≡◌, ◌∷◌, [], List, MatchOption, OnOk};
+ghost use Rattle.hm_types.specs.Shape.{type_of};
+ghost use Rattle.hm_typing.specs.Names.{IsOneOf};
+ghost use Rattle.hm_assumptions.specs.Patterns.{IsTypeOf, names_of};
+ghost use Rattle.hm_variables.specs.Keys.{variable_of_key};
+ghost use Rattle.hm_variables.specs.Variables.{identifier};
+ghost use Rattle.hm_names.specs.Syntax.{name_of};
+
+use hm_syntax::Name;
+use hm_types::Ty;
+use hm_variables::{LentName, key_of};
+use indexmap::IndexMap;
+use std::alloc::{AllocError, Global};
+use std::marker::Model;
+
+/// A variable with its type.
+#[derive(Drop)]
+pub struct Variable<'a> {
+    pub name: LentName<'a>,
+    pub ty: Ty,
+}
+
+/// The variables of patterns, with their types. Contracts see them as a list, the last first. A
+/// table has a place of each name.
+#[derive(Drop)]
+pub struct Variables<'a> {
+    items: Vec<Variable<'a>>,
+    places: IndexMap<LentName<'a>, usize>,
+}
+
+impl<'a> Model for Variables<'a> {
+    ghost use Rattle.std.specs.Prelude.{List};
+    ghost use Rattle.hm_assumptions.specs.Patterns.{Variable, coded_variable};
+    ghost use Rattle.std.specs.Coded.{coded_list};
+
+    ghost Value = { List Variable };
+
+    ghost coded = { coded_list coded_variable };
+
+    ghost use Rattle.hm_assumptions.specs.Kept.{variables_of};
+
+    ghost view = { λ s. variables_of s.items.items };
+
+    ghost use Rattle.hm_assumptions.specs.Places.{AreNoted};
+
+    ghost invariant = { λ s. AreNoted s.items.items s.places };
+}
+
+impl<'a> Variables<'a> {
+    ghost use Rattle.hm_assumptions.specs.Kept.{variables_of};
+
+    /// No variables.
+    pub fn new(alloc: Global) -> Variables<'a>
+        ensures { result ≡ [] }
+    {
+        Variables {
+            items: Vec::new(alloc),
+            places: IndexMap::new(alloc),
+        }
+    }
+
+    /// Adds a variable.
+    pub(crate) fn add(&mut self, name: LentName<'a>, ty: Ty) -> Result<(), AllocError>
+        ensures { OnOk result (self.new ≡ (record { name = identifier (variable_of_key name.entry); ty = type_of ty } ∷ self.old)) }
+    {
+        let place = self.items.len();
+        self.items.push(Variable { name, ty })?;
+        match self.places.insert(name, place) {
+            Ok(_) => Ok(()),
+            Err(_) => {
+                self.items.pop();
+                Err(AllocError)
+            }
+        }
+    }
+
+    /// The type of a variable of this name, if there is one.
+    pub(crate) fn find(&self, name: &Name) -> Option<&Ty>
+        ensures { MatchOption result (¬ (IsOneOf (name_of name.now) (names_of self.now))) (λ t. IsTypeOf (name_of name.now) (type_of t.now) self.now) }
+    {
+        match self.places.get(&key_of(name)) {
+            Some(place) => Some(&self.items[*place].ty),
+            None => None,
+        }
+    }
+
+    /// The variables in the order in which they were added.
+    pub fn as_slice(&self) -> &[Variable<'a>]
+        ensures { variables_of result.now ≡ self.now }
+    {
+        &self.items
+    }
+}

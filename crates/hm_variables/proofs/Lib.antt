@@ -1,0 +1,3 @@
+pub mod SameVariables
+pub mod Pushed
+pub mod Identifiers
