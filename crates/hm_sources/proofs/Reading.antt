@@ -7,7 +7,7 @@ use Rattle.hm_sources.specs.Names.{module_outline, module_outlines}
 use Rattle.hm_graph.specs.Imports.{IsImportPlan, IsLawful}
 use Rattle.hm_graph.specs.Outline.{Outline}
 use Rattle.hm_sources.specs.Plans.{IsPlanText}
-use Rattle.hm_sources.specs.Refusals.{Refusal, IsLasting, refusal_of}
+use Rattle.hm_sources.specs.Refusals.{Refusal, IsLasting}
 use Rattle.hm_sources.specs.Runs.{AreOutlinesOf, IsSourceFault, IsSetPlanFault, IsPlanned, IsRefusalOf}
 use Rattle.hm_sources.specs.SourceModules.{AreModulesOf, HasModules}
 use Rattle.hm_sources.specs.Errors.{IsSourceError, IsSetError}
@@ -46,7 +46,6 @@ pub first_fault : (sources before : List (List ℕ)) (source : List ℕ) (after 
     → sources ≡ before ++ source ∷ after → AreModulesOf before modules → n ≡ length before + 1 → IsSourceError n source e → IsSetError sources e
 first_fault sources before source after modules n Memory whole read number h = tt
 first_fault sources before source after modules n (Refused f) whole read number h = (
-  h.0,
   record {
     before = before;
     source = source;
@@ -54,8 +53,9 @@ first_fault sources before source after modules n (Refused f) whole read number 
     whole = whole;
     modules = module_outlines modules;
     read = outlines_there before modules read;
-    fault = subst (λ k. IsSourceFault k source (refusal_of f)) number h.1;
+    fault = subst (λ k. IsSourceFault k source f) number h.0;
   },
+  h.1,
 )
 
 -- where the plan is refused, the sources are

@@ -3,14 +3,12 @@ use Rattle.std.proofs.Common.{◌≡◌, ℕ, ◌+◌, ◌<◌, ◌≤◌, List,
 use Rattle.std.proofs.lemmas.List.{take_more, map-append, take_all, length-take, length-map, get_or-set_other, get_or-set_same, length-set}
 use Rattle.std.proofs.lemmas.Bool.{cases_order}
 use Rattle.std.proofs.Math.ListN.{set}
-use Rattle.std.proofs.lemmas.List.Elements.{All-set}
-use Rattle.std.specs.Prelude.{All}
+use Rattle.std.proofs.lemmas.List.Elements.{All-append, All-cons, All-nil, All-set}
+use Rattle.std.specs.Prelude.{All, Result, Ok, Err, OnErr}
 use Rattle.hm_lex.specs.declared.token.LexFault.TheVariants as lexing
 use Rattle.hm_lex.specs.Faults.{AreTokensOf, IsRefusal}
 use Rattle.hm_graph.specs.Outline.{Outline}
-use Rattle.hm_sources.specs.Sources.{IsReadUp, StopsAtFault, Tell, held_of}
-use Rattle.hm_sources.specs.Watching.{HasReadFault}
-use Rattle.hm_sources.specs.declared.watched.Watched.{Watched}
+use Rattle.hm_sources.specs.Sources.{IsReadUp, Stops, StopsAt, Tell, held_of}
 use Rattle.hm_sources.specs.Refusals.{Refusal, lex, parse, plan}
 use Rattle.hm_sources.specs.Runs.{HasOutlines, AreOutlinesOf, IsSourceFault, FailsAtSource, FailsAtPlan, IsRefusalOf, IsPlanRun}
 use Rattle.hm_sources.specs.declared.status.Status.{Status}
@@ -124,16 +122,34 @@ read_up_more f olds news i y within before last k d less = elim (cases_order k i
   | inr (inr above) ↦ absurd (omega arith)
 ]
 
--- reading stops at a reader with a fault
-pub stops_at : {R : Type 0} (f : Watched R → Option (List ℕ)) (olds news : List (Watched R)) (i : ℕ) (y : Watched R) → length news ≡ length olds → i < length olds
-    → ((k : ℕ) (d : Watched R) → k < i → IsReadUp (f (get_or olds k d)) (f (get_or news k d)))
-    → ((k : ℕ) (d : Watched R) → i ≤ k → k < length news → get_or news k d ≡ get_or olds k d)
-    → HasReadFault y → StopsAtFault f olds (set news i y)
-stops_at f olds news i y long within before past fault = record {
+-- reading stops at a reader
+pub stops_at : {R : Type 0} (f : R → Option (List ℕ)) (olds news : List R) (i : ℕ) (y : R) → length news ≡ length olds → i < length olds
+    → ((k : ℕ) (d : R) → k < i → IsReadUp (f (get_or olds k d)) (f (get_or news k d)))
+    → ((k : ℕ) (d : R) → i ≤ k → k < length news → get_or news k d ≡ get_or olds k d)
+    → StopsAt f olds (set news i y) i
+stops_at f olds news i y long within before past = record {
   as_many = length-set news i y ∙ long;
-  place = i;
   inside = within;
   before = λ k d less. subst (λ z. IsReadUp (f (get_or olds k d)) (f z)) (sym (get_or-set_other news i k y d (λ e. omega arith))) (before k d less);
-  fault = λ d. subst HasReadFault (sym (get_or-set_same news i y d (omega (arith, long, within)))) fault;
   behind = λ k d more inside. get_or-set_other news i k y d (λ e. omega arith) ∙ past k d (omega arith) (omega (arith, long, inside));
 }
+
+-- so it stops at some reader
+pub stops : {R : Type 0} (f : R → Option (List ℕ)) (olds news : List R) (i : ℕ) (y : R) → length news ≡ length olds → i < length olds
+    → ((k : ℕ) (d : R) → k < i → IsReadUp (f (get_or olds k d)) (f (get_or news k d)))
+    → ((k : ℕ) (d : R) → i ≤ k → k < length news → get_or news k d ≡ get_or olds k d)
+    → Stops f olds (set news i y)
+stops f olds news i y long within before past = record { place = i; stops = stops_at f olds news i y long within before past }
+
+-- what was written at a place is found there
+pub found_set : {X : Type 0} (P : X → Type 0) (olds news : List X) (i : ℕ) (y : X) → length news ≡ length olds → i < length olds → P y → (d : X) → P (get_or (set news i y) i d)
+found_set P olds news i y long within h d = subst P (sym (get_or-set_same news i y d (omega (arith, long, within)))) h
+
+-- one more element of which P holds
+pub all_more : {X : Type 0} (P : X → Type 0) (old new : List X) (y : X) → new ≡ old ++ y ∷ [] → All P old → P y → All P new
+all_more P old new y e h p = subst (All P) (sym e) (All-append P old (y ∷ []) h (All-cons P y [] p (All-nil P)))
+
+-- what holds anyhow holds after an error
+pub answered : {T E P : Type 0} (r : Result T E) → P → OnErr r P
+answered (Ok x) p = tt
+answered (Err e) p = p

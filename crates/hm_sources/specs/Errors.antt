@@ -1,18 +1,18 @@
 -- Why there is no plan, as the crate's own functions say it.
 use Rattle.std.specs.Prelude.{ℕ, List}
-use Rattle.hm_sources.specs.Refusals.{IsLasting, refusal_of}
+use Rattle.hm_sources.specs.Refusals.{IsLasting}
 use Rattle.hm_sources.specs.Runs.{IsSourceFault, FailsAtSource, IsRefusalOf}
 use Rattle.hm_sources.specs.declared.sets.SetError.{SetError}
 use Rattle.hm_sources.specs.declared.sets.SetError.TheVariants.{Refused, Memory}
 
 abbrev pub IsSourceError : ℕ → List ℕ → SetError → Type 0
-IsSourceError n source (Refused fault) = IsLasting (refusal_of fault) × IsSourceFault n source (refusal_of fault)
+IsSourceError n source (Refused fault) = IsSourceFault n source fault × IsLasting fault
 IsSourceError n source Memory = Unit {0}
 
 abbrev pub IsSetError : List (List ℕ) → SetError → Type 0
-IsSetError sources (Refused fault) = IsLasting (refusal_of fault) × FailsAtSource sources (refusal_of fault)
+IsSetError sources (Refused fault) = FailsAtSource sources fault × IsLasting fault
 IsSetError sources Memory = Unit {0}
 
 abbrev pub IsPlanError : List (List ℕ) → SetError → Type 0
-IsPlanError sources (Refused fault) = IsRefusalOf sources (refusal_of fault)
+IsPlanError sources (Refused fault) = IsRefusalOf sources fault
 IsPlanError sources Memory = Unit {0}

@@ -8,8 +8,8 @@ use Rattle.hm_parse.specs.declared.fault.ParseFault.{ParseFault}
 use Rattle.hm_parse.specs.declared.fault.ParseFault.TheVariants as parsing
 use Rattle.hm_graph.specs.declared.faults.PlanFault.{PlanFault}
 use Rattle.hm_graph.specs.declared.faults.PlanFault.TheVariants as planning
-use Rattle.hm_sources.specs.declared.faults.SetFault.{SetFault}
-use Rattle.hm_sources.specs.declared.faults.SetFault.TheVariants.{Lex, Parse, Plan}
+use Rattle.hm_sources.specs.declared.faults.SetFaultKind.{SetFaultKind}
+use Rattle.hm_sources.specs.declared.faults.SetFaultKind.TheVariants.{Lex, Parse, Plan}
 
 -- why a set is refused: by the number of a source, or by the names of a module and an import
 pub data Refusal : Type 0 where
@@ -17,7 +17,7 @@ pub data Refusal : Type 0 where
   parse : ℕ → ParseFault → Refusal
   plan : PlanFault → List ℕ → List ℕ → Refusal
 
-abbrev pub refusal_of : SetFault → Refusal
+abbrev pub refusal_of : SetFaultKind → Refusal
 refusal_of (Lex source fault) = lex source fault
 refusal_of (Parse source fault) = parse source fault
 refusal_of (Plan fault m i) = plan fault (string_bytes m) (string_bytes i)

@@ -21,14 +21,23 @@ pub record AreReadUp {R : Type 0} (remaining : R → Option (List ℕ)) (olds ne
   pub as_many : length news ≡ length olds
   pub each : (k : ℕ) (d : R) → k < length olds → IsReadUp (remaining (get_or olds k d)) (remaining (get_or news k d))
 
--- reading stopped at a reader with a fault: those before it were read up, and those behind it were not touched
-pub record StopsAtFault {R : Type 0} (remaining : Watched R → Option (List ℕ)) (olds news : List (Watched R)) : Type 0 where
+-- reading stopped at this reader: those before it were read up, and those behind it were not touched
+pub record StopsAt {R : Type 0} (remaining : R → Option (List ℕ)) (olds news : List R) (place : ℕ) : Type 0 where
   pub as_many : length news ≡ length olds
-  pub place : ℕ
   pub inside : place < length olds
-  pub before : (k : ℕ) (d : Watched R) → k < place → IsReadUp (remaining (get_or olds k d)) (remaining (get_or news k d))
+  pub before : (k : ℕ) (d : R) → k < place → IsReadUp (remaining (get_or olds k d)) (remaining (get_or news k d))
+  pub behind : (k : ℕ) (d : R) → place < k → k < length olds → get_or news k d ≡ get_or olds k d
+
+-- reading stopped at some reader
+pub record Stops {R : Type 0} (remaining : R → Option (List ℕ)) (olds news : List R) : Type 0 where
+  pub place : ℕ
+  pub stops : StopsAt remaining olds news place
+
+-- reading stopped at a reader with a fault
+pub record StopsAtFault {R : Type 0} (remaining : Watched R → Option (List ℕ)) (olds news : List (Watched R)) : Type 0 where
+  pub place : ℕ
+  pub stops : StopsAt remaining olds news place
   pub fault : (d : Watched R) → HasReadFault (get_or news place d)
-  pub behind : (k : ℕ) (d : Watched R) → place < k → k < length olds → get_or news k d ≡ get_or olds k d
 
 -- each reader tells its bytes, and these are they
 abbrev pub Tell : {R : Type 0} → (R → Option (List ℕ)) → List R → List (List ℕ) → Type 0

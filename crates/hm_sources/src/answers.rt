@@ -1,6 +1,6 @@
 //! What a run writes, and its status.
 ghost use Rattle.std.specs.Prelude.{◌≡◌, IfOk, IfErr, map, string_bytes};
-ghost use Rattle.hm_sources.specs.Refusals.{IsLasting, refusal_of, refusal_text as refusal_bytes};
+ghost use Rattle.hm_sources.specs.Refusals.{refusal_text as refusal_bytes};
 ghost use Rattle.hm_sources.specs.Runs.{IsPlanRun};
 
 use crate::plans::plan_text;
@@ -18,9 +18,8 @@ pub struct Answer {
 
 /// The answer to a set that is refused.
 pub fn refusal_answer(alloc: Global, fault: &SetFault) -> Result<Answer, AllocError>
-    requires { IsLasting (refusal_of fault.now) }
     ensures status { IfOk result (λ a. a.status ≡ Status.Refused) }
-    ensures text { IfOk result (λ a. string_bytes a.text ≡ refusal_bytes (refusal_of fault.now)) }
+    ensures text { IfOk result (λ a. string_bytes a.text ≡ refusal_bytes fault.now) }
 {
     Ok(Answer {
         status: Status::Refused,

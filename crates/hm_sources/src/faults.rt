@@ -3,6 +3,7 @@ use hm_graph::PlanFault;
 use hm_lex::LexFault;
 use hm_parse::ParseFault;
 use std::alloc::{AllocError, AllocFailed};
+use std::marker::Model;
 use thiserror::Error;
 
 /// Why a run gives no status. A run of the plan answers the first three alone.
@@ -50,9 +51,25 @@ impl<T: Drop> From<AllocFailed<T>> for RunFault {
     }
 }
 
-/// Why a set of sources is refused. Sources are numbered from 1; a name that the fault hasn't is empty.
+/// Why a set of sources is refused, which is never want of memory.
 #[derive(Debug, Drop)]
-pub enum SetFault {
+pub struct SetFault {
+    pub kind: SetFaultKind,
+}
+
+impl Model for SetFault {
+    ghost use Rattle.hm_sources.specs.Refusals.{IsLasting, Refusal, refusal_of};
+
+    ghost Value = { Refusal };
+
+    ghost view = { λ f. refusal_of f.kind };
+
+    ghost invariant = { λ f. IsLasting (refusal_of f.kind) };
+}
+
+/// The kinds of refusals. Sources are numbered from 1; a name that the fault hasn't is empty.
+#[derive(Debug, Drop)]
+pub enum SetFaultKind {
     Lex {
         source: usize,
         fault: LexFault,

@@ -16,7 +16,7 @@ mod status;
 mod watched;
 
 pub use answers::{Answer, refusal_answer};
-pub use faults::{RunFault, SetFault};
+pub use faults::{RunFault, SetFault, SetFaultKind};
 pub use output::write_text;
 pub use plans::plan_text;
 pub use refusals::refusal_text;

@@ -1,8 +1,8 @@
 //! Writing the text.
-ghost use Rattle.std.specs.Prelude.{◌≡◌, ◌<◌, IfErr, OnErr, OnOk};
+ghost use Rattle.std.specs.Prelude.{◌≡◌, IfErr, OnErr, OnOk};
 ghost use Rattle.std.specs.Io.KnownBytes.{Appends};
 ghost use Rattle.hm_sources.specs.Sources.{WritesPrefix};
-ghost use Rattle.hm_sources.specs.Watching.{device_of, interrupts_of, failures_of, flushes_of, HasWriteFault, IsFresh};
+ghost use Rattle.hm_sources.specs.Watching.{device_of, HasWriteFault, IsFlushedBehind, IsFresh, IsWritten, IsWrittenOnce};
 
 use crate::{RunFault, Watched};
 use std::io::{ErrorKind, Write};
@@ -14,8 +14,9 @@ const MOST_INTERRUPTS: u64 = 2_097_152;
 pub fn write_text<W: Write>(writer: &mut Watched<W>, text: &[u8]) -> Result<(), RunFault>
     requires { IsFresh writer.old }
     ensures bytes { OnOk result (Appends (W.contents (device_of writer.old)) (W.contents (device_of writer.new)) text.now) }
-    ensures ok { OnOk result ((failures_of writer.new ≡ 0) × (interrupts_of writer.new < 2097152)) }
-    ensures flushed { OnOk result (flushes_of writer.new ≡ 1) }
+    ensures written { OnOk result (IsWritten writer.new) }
+    ensures flushed { OnOk result (IsFlushedBehind writer.new) }
+    ensures once { IsWrittenOnce writer.new }
     ensures prefix { OnErr result (WritesPrefix (W.contents (device_of writer.old)) (W.contents (device_of writer.new)) text.now) }
     ensures cause { OnErr result (HasWriteFault writer.new) }
     ensures others { IfErr result (λ e. e ≡ RunFault.Write) }

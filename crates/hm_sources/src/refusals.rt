@@ -1,8 +1,8 @@
 //! The text of a refusal.
 ghost use Rattle.std.specs.Prelude.{◌≡◌, IfOk, string_bytes};
-ghost use Rattle.hm_sources.specs.Refusals.{IsLasting, at_place as line_at, lex, plan, refusal_of, refusal_text as refusal_bytes};
+ghost use Rattle.hm_sources.specs.Refusals.{IsLasting, at_place as line_at, lex, plan, refusal_text as refusal_bytes};
 
-use crate::SetFault;
+use crate::{SetFault, SetFaultKind};
 use hm_graph::PlanFault;
 use hm_lex::{LexFault, Place};
 use hm_parse::ParseFault;
@@ -51,16 +51,15 @@ fn plan_text(
 
 /// The line that says why a set is refused.
 pub fn refusal_text(alloc: Global, fault: &SetFault) -> Result<String, AllocError>
-    requires { IsLasting (refusal_of fault.now) }
-    ensures { IfOk result (λ text. string_bytes text ≡ refusal_bytes (refusal_of fault.now)) }
+    ensures { IfOk result (λ text. string_bytes text ≡ refusal_bytes fault.now) }
 {
-    match fault {
-        SetFault::Lex { source, fault } => lex_text(alloc, *source, *fault),
-        SetFault::Parse { source, fault } => match fault {
+    match &fault.kind {
+        SetFaultKind::Lex { source, fault } => lex_text(alloc, *source, *fault),
+        SetFaultKind::Parse { source, fault } => match fault {
             ParseFault::Syntax(place) => at_place(alloc, *source, *place, "syntax"),
             ParseFault::Memory => unreachable!(),
         },
-        SetFault::Plan {
+        SetFaultKind::Plan {
             fault,
             module,
             import,

@@ -1,10 +1,10 @@
 //! From readers to a writer: the plan of their modules.
-ghost use Rattle.std.specs.Prelude.{◌≡◌, ◌≤◌, ◌⊎◌, ℕ, List, All, Any, IfOk, IfErr, IsErrOf, OnErr, OnOk};
+ghost use Rattle.std.specs.Prelude.{◌≡◌, ◌⊎◌, ℕ, List, All, Any, IfOk, IfErr, IsErrOf, OnErr, OnOk};
 ghost use Rattle.std.specs.Io.KnownBytes.{Appends};
 ghost use Rattle.hm_sources.specs.Runs.{IsPlanRun};
-ghost use Rattle.hm_sources.specs.Sources.{AreReadUp, StopsAtFault, Tell, WritesPrefix};
+ghost use Rattle.hm_sources.specs.Sources.{AreReadUp, Stops, StopsAtFault, Tell, WritesPrefix};
 ghost use Rattle.hm_sources.specs.declared.status.Status.{Status};
-ghost use Rattle.hm_sources.specs.Watching.{device_of, HasReadFault, HasWriteFault, IsFresh, failures_of, flushes_of, reads_of};
+ghost use Rattle.hm_sources.specs.Watching.{device_of, failures_of, HasReadFault, HasWriteFault, IsFlushedBehind, IsFresh, IsReadWithin, IsWritten, IsWrittenOnce};
 
 use crate::answers::Answer;
 use crate::output::write_text;
@@ -28,8 +28,8 @@ pub fn run_plan<T: Threads, R: Read, W: Write>(
     // Where the readers and the writer tell their bytes, the plan's text or the refusal is written, and nothing else.
     ensures ok { IfOk result (λ status. (sources : List (List ℕ)) → Tell (λ r. R.remaining (device_of r)) readers.old sources
         → (text : List ℕ) × IsPlanRun sources status text × Appends (W.contents (device_of writer.old)) (W.contents (device_of writer.new)) text) }
-    // The writer was flushed behind it.
-    ensures flushed { OnOk result (flushes_of writer.new ≡ 1) }
+    // The writer was flushed once, behind it.
+    ensures flushed { OnOk result (IsFlushedBehind writer.new) }
     // After a fault of the writer a prefix of that text was written.
     ensures prefix { IsErrOf result RunFault.Write → (sources : List (List ℕ)) → Tell (λ r. R.remaining (device_of r)) readers.old sources
         → (status : Status) × (text : List ℕ) × IsPlanRun sources status text × WritesPrefix (W.contents (device_of writer.old)) (W.contents (device_of writer.new)) text }
@@ -41,10 +41,16 @@ pub fn run_plan<T: Threads, R: Read, W: Write>(
     ensures read_up_before_a_write { IsErrOf result RunFault.Write → AreReadUp (λ r. R.remaining (device_of r)) readers.old readers.new }
     // After a fault of a reader those before it were read so, and those behind it not at all.
     ensures stops { IsErrOf result RunFault.Read → StopsAtFault (λ r. R.remaining (device_of r)) readers.old readers.new }
+    // Where memory ran out, all readers were read so, or reading stopped at one of them in the same way.
+    ensures in_order { IsErrOf result RunFault.Memory → AreReadUp (λ r. R.remaining (device_of r)) readers.old readers.new ⊎ Stops (λ r. R.remaining (device_of r)) readers.old readers.new }
 
-    // Each reader is read at most so often, and a failed read is answered.
-    ensures reads { All (λ r. reads_of r ≤ 2097152) readers.new }
+    // Each reader is read at most so often, and no more after it failed; a failed read is answered.
+    ensures within { All IsReadWithin readers.new }
     ensures failed { IsErrOf result RunFault.Read ⊎ All (λ r. failures_of r ≡ 0) readers.new }
+
+    // The writer is offered nothing after it failed, and flushed at most once; a failed write and a failed flush are answered.
+    ensures once { IsWrittenOnce writer.new }
+    ensures written { IsErrOf result RunFault.Write ⊎ IsWritten writer.new }
 
     // Each fault comes only for its cause.
     ensures read { IsErrOf result RunFault.Read → Any HasReadFault readers.new }

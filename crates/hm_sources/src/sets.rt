@@ -10,7 +10,7 @@ ghost use Rattle.hm_sources.specs.Refusals.{IsLasting, plan, refusal_of};
 ghost use Rattle.hm_sources.specs.Runs.{IsSetPlanFault};
 ghost use Rattle.hm_sources.specs.SourceModules.{AreModulesOf, HasModules};
 
-use crate::SetFault;
+use crate::{SetFault, SetFaultKind};
 use hm_graph::{Plan, PlanFault};
 use hm_lex::LexFault;
 use hm_parse::ParseFault;
@@ -22,6 +22,14 @@ use std::alloc::{AllocError, Global};
 pub enum SetError {
     Refused(SetFault),
     Memory,
+}
+
+/// The error that refuses a set.
+fn refused(kind: SetFaultKind) -> SetError
+    requires { IsLasting (refusal_of kind) }
+    ensures { result ≡ SetError.Refused (refusal_of kind) }
+{
+    SetError::Refused(SetFault { kind })
 }
 
 /// Appends one source's modules.
@@ -38,12 +46,12 @@ fn add_modules(
     let tokens = match hm_lex::lex(alloc, text) {
         Ok(tokens) => tokens,
         Err(LexFault::Memory) => return Err(SetError::Memory),
-        Err(fault) => return Err(SetError::Refused(SetFault::Lex { source, fault })),
+        Err(fault) => return Err(refused(SetFaultKind::Lex { source, fault })),
     };
     let parsed = match hm_parse::parse(alloc, text, tokens.as_slice()) {
         Ok(parsed) => parsed,
         Err(ParseFault::Memory) => return Err(SetError::Memory),
-        Err(fault) => return Err(SetError::Refused(SetFault::Parse { source, fault })),
+        Err(fault) => return Err(refused(SetFaultKind::Parse { source, fault })),
     };
     for module in parsed {
         modules.push(module).map_err(|_| SetError::Memory)?;
@@ -93,8 +101,7 @@ fn import_name(
 fn plan_fault(alloc: Global, modules: &[Module], fault: PlanFault) -> Result<SetFault, AllocError>
     requires fault { IsPlanRefusal (module_outlines modules.now) fault }
     requires lasting { IsLasting (plan fault [] []) }
-    ensures fault { IfOk result (λ f. IsSetPlanFault (module_outlines modules.now) (refusal_of f)) }
-    ensures lasting { IfOk result (λ f. IsLasting (refusal_of f)) }
+    ensures fault { IfOk result (λ f. IsSetPlanFault (module_outlines modules.now) f × IsLasting f) }
 {
     let none = String::new(alloc);
     let (name, import) = match fault {
@@ -106,11 +113,12 @@ fn plan_fault(alloc: Global, modules: &[Module], fault: PlanFault) -> Result<Set
         PlanFault::Cycle { module } => (module_name(alloc, modules, module)?, none),
         PlanFault::TooMany | PlanFault::Memory => (String::new(alloc), none),
     };
-    Ok(SetFault::Plan {
+    let kind = SetFaultKind::Plan {
         fault,
         module: name,
         import,
-    })
+    };
+    Ok(SetFault { kind })
 }
 
 /// The plan of these modules.

@@ -1,9 +1,9 @@
 //! Reading the sources.
-ghost use Rattle.std.specs.Prelude.{All, Any, map, ◌≡◌, ℕ, List, ◌⊎◌, ◌+◌, ◌++◌, ◌<◌, ◌≤◌, Some, Ok, IfErr, IfOk, IfSome, IsErrOf, OnOk, vec_len};
+ghost use Rattle.std.specs.Prelude.{All, Any, map, ◌≡◌, ℕ, List, ◌⊎◌, ◌+◌, ◌++◌, ◌<◌, ◌≤◌, Some, Ok, IfErr, IfOk, IfSome, IsErrOf, OnErr, OnOk, vec_len};
 ghost use Rattle.std.specs.Io.KnownBytes.{Consumes, IsAtEnd};
 ghost use Rattle.hm_sources.specs.Counting.{one_more};
-ghost use Rattle.hm_sources.specs.Sources.{held_of, AreReadUp, IsReadUp, StopsAtFault, Tell};
-ghost use Rattle.hm_sources.specs.Watching.{device_of, reads_of, failures_of, HasReadFault, IsFresh};
+ghost use Rattle.hm_sources.specs.Sources.{held_of, AreReadUp, IsReadUp, Stops, StopsAtFault, Tell};
+ghost use Rattle.hm_sources.specs.Watching.{device_of, reads_of, bytes_of, failures_of, HasReadFault, IsFresh, IsReadWithin};
 
 use crate::{RunFault, Watched};
 use std::alloc::Global;
@@ -23,11 +23,14 @@ fn read_once<R: Read>(
     reader: &mut Watched<R>,
     held: &mut Vec<u8>,
 ) -> Result<Option<usize>, RunFault>
-    requires { vec_len held.old < 1048577 }
+    requires room { vec_len held.old < 1048577 }
+    requires held { bytes_of reader.old ≡ vec_len held.old }
     ensures bytes { OnOk result ((came : List ℕ) × (held.new.items ≡ held.old.items ++ came)
         × Consumes (R.remaining (device_of reader.old)) (R.remaining (device_of reader.new)) came) }
     ensures end { result ≡ Ok (Some 0) → IsAtEnd (R.remaining (device_of reader.new)) }
     ensures most { vec_len held.new ≤ 1048577 }
+    ensures held { OnOk result (bytes_of reader.new ≡ vec_len held.new) }
+    ensures count { bytes_of reader.new ≤ 1048577 }
     ensures reads { reads_of reader.new ≡ one_more (reads_of reader.old) }
     ensures ok { OnOk result (failures_of reader.new ≡ failures_of reader.old) }
     ensures read { IsErrOf result RunFault.Read → failures_of reader.new ≡ one_more (failures_of reader.old) }
@@ -62,7 +65,7 @@ pub(crate) fn read_source<R: Read>(
     ensures bytes { IfOk result (λ source. IfSome (R.remaining (device_of reader.old)) (λ all. source.items ≡ held_of all)) }
     ensures len { IfOk result (λ source. vec_len source ≤ 1048577) }
     ensures read_up { OnOk result (IsReadUp (R.remaining (device_of reader.old)) (R.remaining (device_of reader.new))) }
-    ensures reads { reads_of reader.new ≤ 2097152 }
+    ensures within { IsReadWithin reader.new }
     ensures ok { OnOk result (failures_of reader.new ≡ 0) }
     ensures read { IsErrOf result RunFault.Read → HasReadFault reader.new }
     ensures memory { IsErrOf result RunFault.Memory → failures_of reader.new ≡ 0 }
@@ -86,11 +89,13 @@ pub fn read_all<R: Read>(
     readers: &mut [Watched<R>],
 ) -> Result<Vec<Vec<u8>>, RunFault>
     requires { All IsFresh readers.old }
+    ensures len { IfOk result (λ sources. All (λ s. vec_len s ≤ 1048577) sources.items) }
     ensures bytes { IfOk result (λ sources. (told : List (List ℕ)) → Tell (λ r. R.remaining (device_of r)) readers.old told
         → map (λ s. s.items) sources.items ≡ map held_of told) }
     ensures read_up { OnOk result (AreReadUp (λ r. R.remaining (device_of r)) readers.old readers.new) }
-    ensures stops { IsErrOf result RunFault.Read → StopsAtFault (λ r. R.remaining (device_of r)) readers.old readers.new }
-    ensures reads { All (λ r. reads_of r ≤ 2097152) readers.new }
+    ensures stops { OnErr result (Stops (λ r. R.remaining (device_of r)) readers.old readers.new) }
+    ensures stops_at_fault { IsErrOf result RunFault.Read → StopsAtFault (λ r. R.remaining (device_of r)) readers.old readers.new }
+    ensures within { All IsReadWithin readers.new }
     ensures failed { IsErrOf result RunFault.Read ⊎ All (λ r. failures_of r ≡ 0) readers.new }
     ensures read { IsErrOf result RunFault.Read → Any HasReadFault readers.new }
     ensures others { IfErr result (λ e. (e ≡ RunFault.Read) ⊎ (e ≡ RunFault.Memory)) }
@@ -98,7 +103,7 @@ pub fn read_all<R: Read>(
     let mut sources = Vec::new(alloc);
     for index in 0..readers.len() {
         let source = read_source(alloc, &mut readers[index])?;
-        sources.push(source).map_err(|_| RunFault::Memory)?;
+        sources.push(source)?;
     }
     Ok(sources)
 }

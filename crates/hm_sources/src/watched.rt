@@ -1,9 +1,9 @@
 //! A reader or a writer that counts how its device answers.
-ghost use Rattle.std.specs.Prelude.{◌≡◌, ◌<◌, IfErr, IfOk, OnOk, OnErr};
+ghost use Rattle.std.specs.Prelude.{◌≡◌, ◌<◌, false, IfErr, IfOk, IsTrue, OnOk, OnErr};
 ghost use Rattle.std.specs.Io.{ReadsAtMost, WritesAtMost};
 ghost use Rattle.std.specs.Io.KnownBytes.{Keeps, ReadConsumes, WriteAppends};
-ghost use Rattle.hm_sources.specs.Counting.{one_more, CountsError};
-ghost use Rattle.hm_sources.specs.Watching.{device_of, reads_of, interrupts_of, failures_of, flushes_of, IsFresh};
+ghost use Rattle.hm_sources.specs.Counting.{more, one_more, CountsError};
+ghost use Rattle.hm_sources.specs.Watching.{device_of, reads_of, bytes_of, interrupts_of, failures_of, flushes_of, is_flushed_of, IsFresh};
 
 use std::io;
 use std::io::{ErrorKind, Read, Write};
@@ -13,9 +13,11 @@ use std::io::{ErrorKind, Read, Write};
 pub struct Watched<D> {
     device: D,
     reads: u64,
+    bytes: u64,
     interrupts: u64,
     failures: u64,
     flushes: u64,
+    is_flushed: bool,
 }
 
 impl<D> Watched<D> {
@@ -27,9 +29,11 @@ impl<D> Watched<D> {
         Watched {
             device,
             reads: 0,
+            bytes: 0,
             interrupts: 0,
             failures: 0,
             flushes: 0,
+            is_flushed: false,
         }
     }
 
@@ -38,6 +42,13 @@ impl<D> Watched<D> {
         ensures { result ≡ reads_of self.now }
     {
         self.reads
+    }
+
+    /// How many bytes its reads gave.
+    pub fn bytes(&self) -> u64
+        ensures { result ≡ bytes_of self.now }
+    {
+        self.bytes
     }
 
     /// How many reads and writes were answered `Interrupted`.
@@ -61,13 +72,22 @@ impl<D> Watched<D> {
         self.flushes
     }
 
+    /// Whether a flush went well, and nothing was written or flushed since.
+    pub fn is_flushed(&self) -> bool
+        ensures { result ≡ is_flushed_of self.now }
+    {
+        self.is_flushed
+    }
+
     /// Counts a failure.
     fn count_failure(&mut self)
         ensures device { device_of self.new ≡ device_of self.old }
         ensures reads { reads_of self.new ≡ reads_of self.old }
+        ensures count { bytes_of self.new ≡ bytes_of self.old }
         ensures interrupts { interrupts_of self.new ≡ interrupts_of self.old }
         ensures failures { failures_of self.new ≡ one_more (failures_of self.old) }
         ensures flushes { flushes_of self.new ≡ flushes_of self.old }
+        ensures flushed { is_flushed_of self.new ≡ is_flushed_of self.old }
     {
         self.failures = self.failures.saturating_add(1);
     }
@@ -76,7 +96,9 @@ impl<D> Watched<D> {
     fn count_error(&mut self, error: &io::Error)
         ensures device { device_of self.new ≡ device_of self.old }
         ensures reads { reads_of self.new ≡ reads_of self.old }
+        ensures count { bytes_of self.new ≡ bytes_of self.old }
         ensures flushes { flushes_of self.new ≡ flushes_of self.old }
+        ensures flushed { is_flushed_of self.new ≡ is_flushed_of self.old }
         ensures counts { CountsError error.now (interrupts_of self.old) (interrupts_of self.new) (failures_of self.old) (failures_of self.new) }
     {
         if error.kind() == ErrorKind::Interrupted {
@@ -94,14 +116,18 @@ impl<R: Read> Read for Watched<R> {
         ensures bound { ReadsAtMost result buf.new }
         ensures bytes { ReadConsumes (R.remaining (device_of self.old)) (R.remaining (device_of self.new)) result buf.new }
         ensures reads { reads_of self.new ≡ one_more (reads_of self.old) }
+        ensures count { IfOk result (λ n. bytes_of self.new ≡ more (bytes_of self.old) n) }
+        ensures none { OnErr result (bytes_of self.new ≡ bytes_of self.old) }
         ensures flushes { flushes_of self.new ≡ flushes_of self.old }
+        ensures flushed { is_flushed_of self.new ≡ is_flushed_of self.old }
         ensures ok { OnOk result ((interrupts_of self.new ≡ interrupts_of self.old) × (failures_of self.new ≡ failures_of self.old)) }
         ensures err { IfErr result (λ e. CountsError e (interrupts_of self.old) (interrupts_of self.new) (failures_of self.old) (failures_of self.new)) }
     {
         self.reads = self.reads.saturating_add(1);
         let answer = self.device.read(buf);
-        if let Err(error) = &answer {
-            self.count_error(error);
+        match &answer {
+            Ok(count) => self.bytes = self.bytes.saturating_add(*count as u64),
+            Err(error) => self.count_error(error),
         }
         answer
     }
@@ -114,12 +140,15 @@ impl<W: Write> Write for Watched<W> {
         ensures bound { WritesAtMost result buf.now }
         ensures bytes { WriteAppends (W.contents (device_of self.old)) (W.contents (device_of self.new)) result buf.now }
         ensures reads { reads_of self.new ≡ reads_of self.old }
+        ensures count { bytes_of self.new ≡ bytes_of self.old }
         ensures flushes { flushes_of self.new ≡ flushes_of self.old }
+        ensures unflushed { is_flushed_of self.new ≡ false }
         ensures none { IfOk result (λ n. n ≡ 0 → failures_of self.new ≡ one_more (failures_of self.old)) }
         ensures some { IfOk result (λ n. 0 < n → failures_of self.new ≡ failures_of self.old) }
         ensures ok { OnOk result (interrupts_of self.new ≡ interrupts_of self.old) }
         ensures err { IfErr result (λ e. CountsError e (interrupts_of self.old) (interrupts_of self.new) (failures_of self.old) (failures_of self.new)) }
     {
+        self.is_flushed = false;
         let answer = self.device.write(buf);
         match &answer {
             Ok(0) => self.count_failure(),
@@ -132,13 +161,17 @@ impl<W: Write> Write for Watched<W> {
     fn flush(&mut self) -> io::Result<()>
         ensures bytes { Keeps (W.contents (device_of self.old)) (W.contents (device_of self.new)) }
         ensures reads { reads_of self.new ≡ reads_of self.old }
+        ensures count { bytes_of self.new ≡ bytes_of self.old }
         ensures interrupts { interrupts_of self.new ≡ interrupts_of self.old }
         ensures flushes { flushes_of self.new ≡ one_more (flushes_of self.old) }
         ensures ok { OnOk result (failures_of self.new ≡ failures_of self.old) }
         ensures err { OnErr result (failures_of self.new ≡ one_more (failures_of self.old)) }
+        ensures flushed { OnOk result (IsTrue (is_flushed_of self.new)) }
+        ensures unflushed { OnErr result (is_flushed_of self.new ≡ false) }
     {
         self.flushes = self.flushes.saturating_add(1);
         let answer = self.device.flush();
+        self.is_flushed = answer.is_ok();
         if answer.is_err() {
             self.count_failure();
         }

@@ -7,7 +7,7 @@ ghost use Rattle.hm_sources.specs.Refusals.{IsLasting, refusal_of};
 use hm_graph::{Plan, PlanFault};
 use hm_lex::{LexFault, Place, lex};
 use hm_parse::{ParseFault, parse};
-use hm_sources::{SetFault, plan_text, refusal_text};
+use hm_sources::{SetFault, SetFaultKind, plan_text, refusal_text};
 use hm_syntax::{Header, Module};
 use std::alloc::{AllocError, Global};
 use std::process::Abort;
@@ -79,15 +79,15 @@ fn plans(rt: HostRuntime) -> Result<(), Fail> {
     Ok(())
 }
 
-/// Checks the line that refuses a set.
+/// Checks the line that refuses a set for such a fault.
 fn check_line(
     rt: &(impl Abort + AllocGlobal),
-    fault: &SetFault,
+    kind: SetFaultKind,
     want: &str,
 ) -> Result<(), AllocError>
-    requires { IsLasting (refusal_of fault.now) }
+    requires { IsLasting (refusal_of kind) }
 {
-    let text = refusal_text(rt.alloc(), fault)?;
+    let text = refusal_text(rt.alloc(), &SetFault { kind })?;
     assert_eq!(rt; text.as_str(), want);
     Ok(())
 }
@@ -99,9 +99,9 @@ fn check_lexical(
     fault: LexFault,
     want: &str,
 ) -> Result<(), AllocError>
-    requires { IsLasting (refusal_of (SetFault.Lex source fault)) }
+    requires { IsLasting (refusal_of (SetFaultKind.Lex source fault)) }
 {
-    check_line(rt, &SetFault::Lex { source, fault }, want)
+    check_line(rt, SetFaultKind::Lex { source, fault }, want)
 }
 
 #[test]
@@ -129,30 +129,30 @@ fn refusals_of_sources(rt: HostRuntime) -> Result<(), Fail> {
         LexFault::TooDeep(place),
         "refused: source 123 at 3:18: too deep\n",
     )?;
-    let fault = SetFault::Parse {
+    let fault = SetFaultKind::Parse {
         source: 1,
         fault: ParseFault::Syntax(place),
     };
-    check_line(&rt, &fault, "refused: source 1 at 3:18: syntax\n")?;
+    check_line(&rt, fault, "refused: source 1 at 3:18: syntax\n")?;
     Ok(())
 }
 
 #[test]
 fn refusals_of_plans(rt: HostRuntime) -> Result<(), Fail> {
     let alloc = rt.alloc();
-    let fault = SetFault::Plan {
+    let fault = SetFaultKind::Plan {
         fault: PlanFault::TooMany,
         module: String::new(alloc),
         import: String::new(alloc),
     };
-    check_line(&rt, &fault, "refused: too many modules\n")?;
-    let fault = SetFault::Plan {
+    check_line(&rt, fault, "refused: too many modules\n")?;
+    let fault = SetFaultKind::Plan {
         fault: PlanFault::Duplicate { module: 4 },
         module: String::from_str(alloc, "A.B")?,
         import: String::new(alloc),
     };
-    check_line(&rt, &fault, "refused: module A.B twice\n")?;
-    let fault = SetFault::Plan {
+    check_line(&rt, fault, "refused: module A.B twice\n")?;
+    let fault = SetFaultKind::Plan {
         fault: PlanFault::Missing {
             module: 0,
             import: 1,
@@ -160,12 +160,12 @@ fn refusals_of_plans(rt: HostRuntime) -> Result<(), Fail> {
         module: String::from_str(alloc, "A")?,
         import: String::from_str(alloc, "Z")?,
     };
-    check_line(&rt, &fault, "refused: module A imports missing Z\n")?;
-    let fault = SetFault::Plan {
+    check_line(&rt, fault, "refused: module A imports missing Z\n")?;
+    let fault = SetFaultKind::Plan {
         fault: PlanFault::Cycle { module: 2 },
         module: String::from_str(alloc, "C")?,
         import: String::new(alloc),
     };
-    check_line(&rt, &fault, "refused: module C in a cycle\n")?;
+    check_line(&rt, fault, "refused: module C in a cycle\n")?;
     Ok(())
 }
