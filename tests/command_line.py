@@ -11,6 +11,7 @@ import tempfile
 
 TOP = os.path.dirname(os.path.dirname(os.path.abspath(__file__)))
 PROGRAM = os.path.abspath(sys.argv[1]) if len(sys.argv) > 1 else os.path.join(TOP, "hmc")
+VERSION = "hmc 0.1\n"
 SMALL = 2_000_000 << 10
 TINY = 200_000 << 10
 
@@ -263,6 +264,40 @@ ROWS = {
     "workers that are no number": (["--jobs", "many", "a.hs"], "", 2, "", None),
     "an unknown word": (["--plan", "--nothing"], "", 2, "", None),
     "help": (["--help"], "", 0, None, ""),
+    "help by a letter": (["-h"], "", 0, None, ""),
+    "help behind what is refused otherwise": (["--jobs", "2", "a.hs", "--help"], "", 0, None, ""),
+    "the version": (["--version"], "", 0, VERSION, ""),
+    "the version by a letter": (["-V"], "", 0, VERSION, ""),
+    "the version before what is read": (["--version", "none.hs"], "", 0, VERSION, ""),
+    # words that are refused
+    "workers below zero": (["--jobs", "-1", "a.hs"], "", 2, "", None),
+    "workers beyond any number": (["--jobs", "99999999999999999999999999", "a.hs"], "", 2, "", None),
+    "workers that aren't given": (["a.hs", "--jobs"], "", 2, "", None),
+    "workers of no text": (["--jobs=", "a.hs"], "", 2, "", None),
+    "workers twice": (["--jobs", "1", "--jobs", "2", "a.hs"], "", 2, "", None),
+    "a plan twice": (["--plan", "--plan"], "", 2, "", None),
+    "a plan of some value": (["--plan=1"], "", 2, "", None),
+    "an unknown letter": (["-x"], "", 2, "", None),
+    "a word that is cut": (["--jo", "1"], "", 2, "", None),
+    "an unknown word before no such file": (["--nothing", "none.hs"], "", 2, "", None),
+    # files
+    "a file of no name": ([""], "", 4, "", "hmc: cannot open \n"),
+    "a file behind the end of the words": (["--plan", "--", "--plan.hs"], "", 0, "module B\n1 modules\n", ""),
+    "no such file behind the end of the words": (["--", "--plan"], "", 4, "", "hmc: cannot open --plan\n"),
+    "a file twice": (["--plan", "b.hs", "b.hs"], "", 2, "refused: module B twice\n", ""),
+    "an empty file": (["--plan", "empty.hs", "b.hs"], "", 0, "module B\n1 modules\n", ""),
+    "no such folder": (["none/a.hs"], "", 4, "", "hmc: cannot open none/a.hs\n"),
+    "a file as a folder": (["a.hs/b.hs"], "", 4, "", "hmc: cannot open a.hs/b.hs\n"),
+    "a link to nothing": (["nowhere.hs"], "", 4, "", "hmc: cannot open nowhere.hs\n"),
+    "a link to itself": (["round.hs"], "", 4, "", "hmc: cannot open round.hs\n"),
+    "a link to a file": (["--plan", "link.hs"], "", 0, "module B\n1 modules\n", ""),
+    "a name that is too long": (["a" * 5000], "", 4, "", "hmc: cannot open " + "a" * 5000 + "\n"),
+    "a fault before what can't be opened": (["bad.hs", "none.hs"], "", 4, "", "hmc: cannot open none.hs\n"),
+    "a folder behind a fault": (["bad.hs", "folder"], "", 4, "", "hmc: read fault\n"),
+    "a device of no bytes": (["--plan", "/dev/null"], "", 0, "0 modules\n", ""),
+    "a device without an end": (["--plan", "/dev/zero"], "", 2, "refused: source 1 too long\n", ""),
+    "a device without an end behind a file": (["a.hs", "/dev/zero"], "", 2, "refused: source 2 too long\n", ""),
+    "memory of another process": (["/proc/1/mem"], "", 4, "", None),
 }
 
 
@@ -286,28 +321,97 @@ def run(folder, words, given, stdout=subprocess.PIPE, before=None):
     )
 
 
+def run_of(folder, name):
+    """A plan of a folder as standard input."""
+    given = os.open(os.path.join(folder, name), os.O_RDONLY)
+    try:
+        return subprocess.run([PROGRAM, "--plan"], stdin=given, stdout=subprocess.PIPE, stderr=subprocess.PIPE)
+    finally:
+        os.close(given)
+
+
+def broken_pipe():
+    """A pipe that nobody reads."""
+    reading, writing = os.pipe()
+    os.close(reading)
+    return writing
+
+
+def unreadable(folder):
+    """A file that may not be read, by a user who isn't the root."""
+    path = os.path.join(folder, "locked.hs")
+    with open(path, "w", encoding="utf-8") as it:
+        it.write(B)
+    os.chmod(path, 0)
+    if os.access(path, os.R_OK) and os.geteuid() == 0:
+        os.chmod(folder, 0o755)
+        yield "a file that may not be read", run(folder, ["locked.hs"], "", before=lambda: os.setuid(65534)), (4, "", "hmc: cannot open locked.hs\n")
+    else:
+        yield "a file that may not be read", run(folder, ["locked.hs"], ""), (4, "", "hmc: cannot open locked.hs\n")
+
+
+def vanishing(folder):
+    """A named pipe that is gone, and has other bytes, as soon as it is open; its bytes come by and by."""
+    path = os.path.join(folder, "pipe.hs")
+    os.mkfifo(path)
+    child = subprocess.Popen([PROGRAM, "--plan", "pipe.hs"], cwd=folder, stdout=subprocess.PIPE, stderr=subprocess.PIPE)
+    with open(path, "wb", buffering=0) as it:
+        os.remove(path)
+        for byte in B.encode():
+            it.write(bytes([byte]))
+    out, err = child.communicate()
+    yield "a pipe that is removed while it is read", subprocess.CompletedProcess([], child.returncode, out, err), (0, "module B\n1 modules\n", "")
+    path = os.path.join(folder, "late.hs")
+    os.mkfifo(os.path.join(folder, "wait.hs"))
+    with open(path, "w", encoding="utf-8") as it:
+        it.write(A)
+    child = subprocess.Popen([PROGRAM, "--plan", "wait.hs", "late.hs"], cwd=folder, stdout=subprocess.PIPE, stderr=subprocess.PIPE)
+    with open(os.path.join(folder, "wait.hs"), "wb", buffering=0) as it:
+        os.remove(path)
+        it.write(B.encode())
+    out, err = child.communicate()
+    ran = subprocess.CompletedProcess([], child.returncode, out, err)
+    # the second file was open before it was removed, or it was not
+    yield "a file that is removed before it is read", ran, (0, PLAN, "") if ran.returncode == 0 else (4, "", "hmc: cannot open late.hs\n")
+
+
 def told(output, wanted):
+    """Whether this is the text, or, where none is wanted, help or a line of the parser of the words or of a file."""
     text = (output or b"").decode(errors="replace")
-    return text == wanted if wanted is not None else "--plan" in text and "Usage" in text or "--nothing" in text or "--jobs <N>" in text
+    return text == wanted if wanted is not None else "Usage" in text or text.startswith(("error: ", "hmc: cannot open ", "hmc: read fault"))
 
 
 def main():
     failed = 0
     with tempfile.TemporaryDirectory() as folder:
-        sources = {"a.hs": A, "b.hs": B, "bad.hs": "module C where { = }", "pair.hs": PAIR, "twice.hs": TWICE, "user.hs": USER}
+        sources = {"a.hs": A, "b.hs": B, "bad.hs": "module C where { = }", "pair.hs": PAIR, "twice.hs": TWICE, "user.hs": USER, "empty.hs": "", "--plan.hs": B}
         for name, text in sources.items():
             with open(os.path.join(folder, name), "w", encoding="utf-8") as it:
                 it.write(text)
         os.mkdir(os.path.join(folder, "folder"))
+        os.symlink("none.hs", os.path.join(folder, "nowhere.hs"))
+        os.symlink("round.hs", os.path.join(folder, "round.hs"))
+        os.symlink("b.hs", os.path.join(folder, "link.hs"))
         rows = [*ROWS.items(), *checks()]
         runs = [(name, run(folder, row[0], row[1]), row[2:]) for name, row in rows]
         with open("/dev/full", "wb") as full:
             runs.append(("a full device", run(folder, ["--plan"], A + B, stdout=full), (4, "", "hmc: write fault\n")))
             runs.append(("a check on a full device", run(folder, [], "", stdout=full), (4, "", "hmc: write fault\n")))
             runs.append(("help on a full device", run(folder, ["--help"], "", stdout=full), (4, "", "hmc: write fault\n")))
+            runs.append(("the version on a full device", run(folder, ["--version"], "", stdout=full), (4, "", "hmc: write fault\n")))
+            runs.append(("a refusal on a full device", run(folder, ["bad.hs"], "", stdout=full), (4, "", "hmc: write fault\n")))
+            runs.append(("a journal on a full device", run(folder, ["--journal", "a.hs", "b.hs"], "", stdout=full), (4, "", "hmc: write fault\n")))
+            runs.append(("words that are refused, on a full device", run(folder, ["--nothing"], "", stdout=full), (2, "", None)))
         closed = lambda: os.close(1)
-        for name, words in (("a plan", ["--plan"]), ("help", ["--help"]), ("a plan of a file", ["--plan", "b.hs"])):
+        for name, words in (("a plan", ["--plan"]), ("help", ["--help"]), ("a plan of a file", ["--plan", "b.hs"]), ("a check", ["--jobs", "2"]), ("the version", ["--version"])):
             runs.append((name + " on a closed output", run(folder, words, B, before=closed), (4, "", "hmc: write fault\n")))
+        input_closed = lambda: os.close(0)
+        runs.append(("a plan of a closed input", run(folder, ["--plan"], "", before=input_closed), (4, "", "hmc: read fault\n")))
+        runs.append(("a plan of files on a closed input", run(folder, ["--plan", "b.hs"], "", before=input_closed), (0, "module B\n1 modules\n", "")))
+        runs.append(("a folder as input", run_of(folder, "folder"), (4, "", "hmc: read fault\n")))
+        runs.append(("a check whose reader is gone", run(folder, ["a.hs", "b.hs"], "", stdout=broken_pipe()), (4, "", "hmc: write fault\n")))
+        runs.extend(unreadable(folder))
+        runs.extend(vanishing(folder))
         runs.append(("a word that is no text", run(folder, [b"--plan", b"\xff"], ""), (2, "", "hmc: invalid data\n")))
         limit = lambda size: lambda: resource.setrlimit(resource.RLIMIT_AS, (size, size))
         runs.append(("a small set in little memory", run(folder, ["--plan"], A + B, before=limit(SMALL)), (0, PLAN, "")))
