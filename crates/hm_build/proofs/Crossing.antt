@@ -26,7 +26,7 @@ use Rattle.hm_store.specs.contracts.shared.Shared as Shared
 use Rattle.hm_store.specs.contracts.shared.Locked as Locked
 use Rattle.hm_store.proofs.object.Entry.TheSendSync as Entry
 use Rattle.hm_store.proofs.object.Status.TheSendSync as Status
-use Rattle.hm_build.specs.contracts.building.Finished as Finished
+use Rattle.hm_build.specs.contracts.finished_build.Finished as Finished
 use Rattle.hm_build.specs.contracts.workers.Work as Work
 use Rattle.core.specs.declared.ledger.Ledger.{Ghosts}
 use Rattle.core.proofs.ledger.Share.TheSendSync as Share

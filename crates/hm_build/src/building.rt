@@ -1,21 +1,22 @@
 //! A build: workers check the modules of sources, each for the published interfaces of its imports.
-ghost use Rattle.std.specs.Prelude.{◌≡◌, ◌⊎◌, ◌↔◌, ◌<◌, ◌≤◌, ◌^◌, ℕ, List, [], IfErr, IfOk, IsErrOf, map};
+ghost use Rattle.std.specs.Prelude.{◌≡◌, ◌⊎◌, ◌↔◌, ◌<◌, ◌≤◌, ◌^◌, ℕ, List, [], IfErr, IfOk, IsErrOf, map, min};
 ghost use Rattle.std.specs.Arc.{arc_value};
 ghost use Rattle.hm_graph.specs.Imports.{IsImportPlan, IsLawful};
 ghost use Rattle.hm_build.specs.Errors.{IsBuildError, IsBuildFault};
 ghost use Rattle.hm_build.specs.FinishedBuilds.{IsFinished};
 ghost use Rattle.hm_build.specs.Headline.{HasVerdicts};
+ghost use Rattle.hm_build.specs.Rooms.{room_of};
 ghost use Rattle.hm_sources.specs.Names.{module_outlines};
 ghost use Rattle.hm_sources.specs.SourceModules.{AreModulesOf};
 
 use crate::finishing::{finished, records_of};
 use crate::workers::{Work, run_workers};
-use crate::{BuildFault, Gate};
+use crate::{BuildFault, Finished, Gate};
 use core::thread::Stack;
 use hm_graph::Plan;
 use hm_sources::{SetError, set_modules, stack_size};
 use hm_store::laws::settled_builds_are_settled_sets;
-use hm_store::{Record, Shared, Store};
+use hm_store::{Shared, Store};
 use hm_syntax::Module;
 use hm_verdicts::settled_modules_have_their_verdicts;
 use std::alloc::{AllocError, Global};
@@ -28,16 +29,6 @@ use std::thread::{Promise, Threads};
 
 /// The most workers of a build.
 pub(crate) const MOST_WORKERS: usize = 16;
-
-/// A build that came to its end.
-#[derive(Drop)]
-pub struct Finished {
-    /// The modules of the sources, in order of appearance.
-    pub modules: Vec<Arc<Module>>,
-    pub store: Store,
-    /// What each worker wrote down of its calls.
-    pub records: Vec<Record>,
-}
 
 /// A set of modules that no worker has touched.
 #[derive(Drop)]
@@ -108,9 +99,9 @@ fn read(alloc: Global, sources: &[Vec<u8>]) -> Result<Fresh, BuildFault>
     }
 }
 
-/// The calls that a worker may make: two for each module, a look at each import, the last claim and a stop.
+/// The calls that a worker may make, and no more than fit into memory.
 fn room_for(imports: &[Vec<usize>]) -> usize
-    ensures { result < 2 ^ 62 }
+    ensures { result ≡ min (room_of (map (λ row. row.items) imports.now)) (2 ^ 40) }
 {
     let mut room = 2usize;
     for row in imports {
@@ -133,7 +124,6 @@ fn worked<L: Ledger + Send + Sync, G: Gate + Sync, R: Threads + Wait + Sync>(
     requires workers { (0 < workers) × (workers ≤ 16) }
     requires empty { fresh.store.journal ≡ [] }
     ensures finished { IfOk result (λ f. (sources : List (List ℕ)) → AreModulesOf sources (map arc_value fresh.modules.items) → IsFinished sources workers f.store f.records.items) }
-    ensures modules { IfOk result (λ f. map arc_value f.modules.items ≡ f.store.modules) }
     ensures err { IfErr result (λ e. (e ≡ BuildFault.NoWorker) ⊎ ((e ≡ BuildFault.Memory) ⊎ (e ≡ BuildFault.Mixed))) }
 {
     let Fresh {
@@ -166,7 +156,6 @@ pub(crate) fn build_here<T: Threads + Wait + Sync, G: Gate + Sync>(
 ) -> Result<Finished, BuildFault>
     requires { (0 < workers) × (workers ≤ 16) }
     ensures finished { IfOk result (λ f. IsFinished (map (λ s. s.items) sources.now) workers f.store f.records.items) }
-    ensures modules { IfOk result (λ f. map arc_value f.modules.items ≡ f.store.modules) }
     ensures verdicts { IfOk result (λ f. HasVerdicts f.store) }
     ensures err { IfErr result (IsBuildError (map (λ s. s.items) sources.now)) }
 {
@@ -185,13 +174,12 @@ struct BuildOf {
 }
 
 impl Promise<Result<Finished, BuildFault>> for BuildOf {
-    ghost use Rattle.std.specs.Prelude.{◌≡◌, IfErr, IfOk, map};
-    ghost use Rattle.std.specs.Arc.{arc_value};
+    ghost use Rattle.std.specs.Prelude.{IfErr, IfOk, map};
     ghost use Rattle.hm_build.specs.Errors.{IsBuildError};
     ghost use Rattle.hm_build.specs.FinishedBuilds.{IsFinished};
     ghost use Rattle.hm_build.specs.Headline.{HasVerdicts};
 
-    ghost kept_by = { λ p r. IfOk r (λ f. IsFinished (map (λ s. s.items) p.sources.value.items) p.workers f.store f.records.items) × (IfOk r (λ f. map arc_value f.modules.items ≡ f.store.modules) × (IfOk r (λ f. HasVerdicts f.store) × IfErr r (IsBuildError (map (λ s. s.items) p.sources.value.items)))) };
+    ghost kept_by = { λ p r. IfOk r (λ f. IsFinished (map (λ s. s.items) p.sources.value.items) p.workers f.store f.records.items) × (IfOk r (λ f. HasVerdicts f.store) × IfErr r (IsBuildError (map (λ s. s.items) p.sources.value.items))) };
 }
 
 /// Builds the modules of sources on a thread of its own.
@@ -204,7 +192,6 @@ fn build_on_thread<T: Threads + Wait + Sync, G: Gate + Sync>(
 ) -> Result<Finished, BuildFault>
     requires { (0 < workers) × (workers ≤ 16) }
     ensures finished { IfOk result (λ f. IsFinished (map (λ s. s.items) sources.items) workers f.store f.records.items) }
-    ensures modules { IfOk result (λ f. map arc_value f.modules.items ≡ f.store.modules) }
     ensures verdicts { IfOk result (λ f. HasVerdicts f.store) }
     ensures err { IfErr result (IsBuildError (map (λ s. s.items) sources.items)) }
 {
@@ -214,7 +201,6 @@ fn build_on_thread<T: Threads + Wait + Sync, G: Gate + Sync>(
         move |scope| -> Result<Finished, BuildFault>
             requires { (0 < workers) × (workers ≤ 16) }
             ensures finished { IfOk result (λ f. IsFinished (map (λ s. s.items) sources.items) workers f.store f.records.items) }
-            ensures modules { IfOk result (λ f. map arc_value f.modules.items ≡ f.store.modules) }
             ensures verdicts { IfOk result (λ f. HasVerdicts f.store) }
             ensures err { IfErr result (IsBuildError (map (λ s. s.items) sources.items)) }
         {
@@ -244,7 +230,6 @@ pub fn build<T: Threads + Wait + Sync, G: Gate + Sync>(
 ) -> Result<Finished, BuildFault>
     // The journal is legal, each module is settled, and each worker's record agrees with the journal.
     ensures finished { IfOk result (λ f. IsFinished (map (λ s. s.items) sources.items) workers f.store f.records.items) }
-    ensures modules { IfOk result (λ f. map arc_value f.modules.items ≡ f.store.modules) }
     // Each module has the verdict of the declarative rules in its set.
     ensures verdicts { IfOk result (λ f. HasVerdicts f.store) }
     // The workers are counted before a source is read.

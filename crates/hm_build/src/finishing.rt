@@ -76,10 +76,9 @@ pub(crate) fn finished(
     workers: usize,
 ) -> Result<Finished, BuildFault>
     ensures finished { IfOk result (λ f. (sources : List (List ℕ)) → AreModulesOf sources (map arc_value modules.items) → IsFinished sources workers f.store f.records.items) }
-    ensures modules { IfOk result (λ f. map arc_value f.modules.items ≡ f.store.modules) }
     ensures err { IfErr result (λ e. (e ≡ BuildFault.Memory) ⊎ (e ≡ BuildFault.Mixed)) }
 {
-    let _journal = store.journal();
+    store.legal();
     if !are_same_modules(modules.as_slice(), store.modules()) {
         return Err(BuildFault::Mixed);
     }
@@ -95,9 +94,5 @@ pub(crate) fn finished(
     if !store.audit(alloc, records.as_slice())? {
         return Err(BuildFault::Mixed);
     }
-    Ok(Finished {
-        modules,
-        store,
-        records,
-    })
+    Ok(Finished { store, records })
 }

@@ -4,6 +4,7 @@ ghost use Rattle.std.specs.Arc.{arc_value};
 ghost use Rattle.std.specs.Fmt.{decimal};
 ghost use Rattle.hm_verdicts.specs.Sets.{no_module};
 ghost use Rattle.hm_store.specs.Builds.{set_of};
+ghost use Rattle.hm_store.specs.Objects.{is_publication};
 ghost use Rattle.hm_build.specs.Journals.{entry_line, journal_text as journal_bytes};
 
 use crate::Finished;
@@ -55,16 +56,32 @@ fn add_entry(
     }
 }
 
+/// Whether an entry is a publication.
+fn is_publication(entry: Entry) -> bool
+    ensures { result ≡ is_publication entry }
+{
+    matches!(
+        entry,
+        Entry::Publish {
+            worker: _,
+            module: _,
+        }
+    )
+}
+
 /// The text of the journal of a build: a line for each entry, in order.
-#[tactic(auto, using(crate::proofs::JournalLines::next_line))]
 pub fn journal_text(alloc: Global, finished: &Finished) -> Result<String, AllocError>
     ensures { IfOk result (λ text. string_bytes text ≡ journal_bytes finished.now.store) }
 {
     let store = &finished.store;
     let journal = store.journal();
     let mut text = String::new(alloc);
-    for place in 0..journal.len() {
-        add_entry(&mut text, store, store.publications(place), journal[place])?;
+    let mut publications: usize = 0;
+    for entry in journal {
+        add_entry(&mut text, store, publications, *entry)?;
+        if is_publication(*entry) {
+            publications += 1;
+        }
     }
     Ok(text)
 }

@@ -4,6 +4,7 @@
 mod answers;
 mod building;
 mod faults;
+mod finished_build;
 mod finishing;
 mod gate;
 mod journals;
@@ -15,8 +16,9 @@ mod stacks;
 mod statuses;
 mod workers;
 
-pub use building::{Finished, build};
+pub use building::build;
 pub use faults::BuildFault;
+pub use finished_build::Finished;
 pub use gate::{Gate, Open};
 pub use journals::journal_text;
 pub use options::Options;

@@ -263,7 +263,7 @@ pub fn report(alloc: Global, finished: &Finished) -> Result<String, AllocError>
 {
     let store = &finished.store;
     // The journal is legal, so the modules are a lawful set.
-    let _journal = store.journal();
+    store.legal();
     let modules = store.modules();
     let plan = store.plan();
     let settled = settled_in(alloc, store)?;

@@ -1,10 +1,10 @@
 //! From readers to a writer: the report of the verdicts.
-ghost use Rattle.std.specs.Prelude.{◌≡◌, ◌≤◌, ◌<◌, ◌⊎◌, ◌↔◌, ℕ, List, All, Any, IfOk, IfErr, IsErrOf, OnErr, OnOk};
+ghost use Rattle.std.specs.Prelude.{◌≡◌, ◌<◌, ◌⊎◌, ◌↔◌, ℕ, List, All, Any, IfOk, IfErr, IsErrOf, OnErr, OnOk};
 ghost use Rattle.std.specs.Io.KnownBytes.{Appends};
 ghost use Rattle.hm_build.specs.JournalledRuns.{IsRun};
-ghost use Rattle.hm_sources.specs.Sources.{AreReadUp, StopsAtFault, Tell, WritesPrefix};
+ghost use Rattle.hm_sources.specs.Sources.{AreReadUp, Stops, StopsAtFault, Tell, WritesPrefix};
 ghost use Rattle.hm_sources.specs.declared.status.Status.{Status};
-ghost use Rattle.hm_sources.specs.Watching.{device_of, HasReadFault, HasWriteFault, IsFresh, failures_of, flushes_of, reads_of};
+ghost use Rattle.hm_sources.specs.Watching.{device_of, failures_of, HasReadFault, HasWriteFault, IsFlushedBehind, IsFresh, IsReadWithin, IsWritten, IsWrittenOnce};
 
 use crate::Options;
 use crate::building::MOST_WORKERS;
@@ -30,8 +30,8 @@ pub fn run<T: Threads + Wait + Sync, R: Read, W: Write>(
     // Where the readers and the writer tell their bytes, the report of the verdicts or the refusal is written, and nothing else.
     ensures ok { IfOk result (λ status. (sources : List (List ℕ)) → Tell (λ r. R.remaining (device_of r)) readers.old sources
         → (text : List ℕ) × IsRun options.workers options.journal sources status text × Appends (W.contents (device_of writer.old)) (W.contents (device_of writer.new)) text) }
-    // The writer was flushed behind it.
-    ensures flushed { OnOk result (flushes_of writer.new ≡ 1) }
+    // The writer was flushed once, behind it.
+    ensures flushed { OnOk result (IsFlushedBehind writer.new) }
     // After a fault of the writer a prefix of that text was written.
     ensures prefix { IsErrOf result RunFault.Write → (sources : List (List ℕ)) → Tell (λ r. R.remaining (device_of r)) readers.old sources
         → (status : Status) × (text : List ℕ) × IsRun options.workers options.journal sources status text × WritesPrefix (W.contents (device_of writer.old)) (W.contents (device_of writer.new)) text }
@@ -43,12 +43,20 @@ pub fn run<T: Threads + Wait + Sync, R: Read, W: Write>(
     // Where the text was made, each reader was read to its end, or so far that its source is too long, and no further.
     ensures read_up { OnOk result (AreReadUp (λ r. R.remaining (device_of r)) readers.old readers.new) }
     ensures read_up_before_a_write { IsErrOf result RunFault.Write → AreReadUp (λ r. R.remaining (device_of r)) readers.old readers.new }
+    // And where a build was begun.
+    ensures read_up_before_a_build { (IsErrOf result RunFault.NoWorker ⊎ IsErrOf result RunFault.Mixed) → AreReadUp (λ r. R.remaining (device_of r)) readers.old readers.new }
     // After a fault of a reader those before it were read so, and those behind it not at all.
     ensures stops { IsErrOf result RunFault.Read → StopsAtFault (λ r. R.remaining (device_of r)) readers.old readers.new }
+    // Where memory ran out, all readers were read so, or reading stopped at one of them in the same way.
+    ensures in_order { IsErrOf result RunFault.Memory → AreReadUp (λ r. R.remaining (device_of r)) readers.old readers.new ⊎ Stops (λ r. R.remaining (device_of r)) readers.old readers.new }
 
-    // Each reader is read at most so often, and a failed read is answered.
-    ensures reads { All (λ r. reads_of r ≤ 2097152) readers.new }
+    // Each reader is read at most so often, and no more after it failed; a failed read is answered.
+    ensures within { All IsReadWithin readers.new }
     ensures failed { IsErrOf result RunFault.Read ⊎ All (λ r. failures_of r ≡ 0) readers.new }
+
+    // The writer is offered nothing after it failed, and flushed at most once; a failed write and a failed flush are answered.
+    ensures once { IsWrittenOnce writer.new }
+    ensures written { IsErrOf result RunFault.Write ⊎ IsWritten writer.new }
 
     // Each fault comes only for its cause.
     ensures workers { IsErrOf result RunFault.Workers ↔ ((options.workers ≡ 0) ⊎ (16 < options.workers)) }

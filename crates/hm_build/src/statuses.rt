@@ -39,7 +39,7 @@ pub(crate) fn settled_in(alloc: Global, store: &Store) -> Result<Vec<Settled<'_>
     ensures settled { IfOk result (λ settled. statuses_of settled.items ≡ settlement store.now) }
 {
     // The journal is legal, so nothing is kept of a number that no module has.
-    let _journal = store.journal();
+    store.legal();
     let mut settled = Vec::new(alloc);
     for number in 0..store.modules().len() {
         settled.push(settled_at(store, number))?;

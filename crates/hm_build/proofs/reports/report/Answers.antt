@@ -6,7 +6,7 @@ use Rattle.hm_build.proofs.Reporting.{report_of, lawful_of}
 use Rattle.hm_build.proofs.reports.report.Goals as goal
 
 pub settled_report-requires-clause-lawful : goal.settled_report-requires-clause-lawful
-settled_report-requires-clause-lawful c = lawful_of c.args.finished.now.store c.modules-modules.result.now c.plan-plan.result.now c.modules-modules.ensures c.plan-plan.ensures c.journal-journal.ensures.legal.lawful
+settled_report-requires-clause-lawful c = lawful_of c.args.finished.now.store c.modules-modules.result.now c.plan-plan.result.now c.modules-modules.ensures c.plan-plan.ensures c.legal.ensures.lawful
 
 pub settled_report-requires-clause-len : goal.settled_report-requires-clause-len
 settled_report-requires-clause-len c = ap length c.as_slice.ensures.value ∙ (c.in_ok-settled.ensures.len ∙ (sym (ap length c.modules-modules.ensures) ∙ length-map c.modules-modules.result.now arc_value))

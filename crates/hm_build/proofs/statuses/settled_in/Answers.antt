@@ -14,6 +14,6 @@ loop-number-preserved c = (
 pub returns-clause-settled : goal.returns-clause-settled
 returns-clause-settled c =
     let modules = c.modules-number-end.result.now in
-    table_whole c.args.store.now c.loop-number.settled.items c.loop-number.number c.journal-journal.ensures.legal
+    table_whole c.args.store.now c.loop-number.settled.items c.loop-number.number c.legal.ensures
     (subst (λ n. n ≤ c.loop-number.number) (sym (length-map modules arc_value) ∙ ap length c.modules-number-end.ensures) c.loop-number-test.false)
     c.loop-number.invariant.0 c.loop-number.invariant.1

@@ -1,0 +1,63 @@
+-- Worked runs and builds, and what is said of them.
+use Rattle.std.specs.Prelude.{◌≡◌, ℕ, Bool, List, [], ◌∷◌, length, sum_by, codes}
+use Rattle.hm_verdicts.specs.Sets.{ModuleSet}
+use Rattle.hm_verdicts.specs.Verdicts.{IsGoodIn}
+use Rattle.hm_verdicts.specs.Worked.{three_modules}
+use Rattle.hm_store.specs.Builds.{Build, IsAllSettled, IsLegal, set_of}
+use Rattle.hm_store.specs.declared.object.Entry.{Entry}
+use Rattle.hm_store.specs.declared.object.Entry.TheVariants.{Claim, Publish, Fail, Stop}
+use Rattle.hm_build.specs.Headline.{HasVerdicts}
+use Rattle.hm_build.specs.JournalledRuns.{IsRun}
+use Rattle.hm_build.specs.Journals.{MayEnd, entry_line, journal_text}
+use Rattle.hm_build.specs.Rooms.{room_of}
+use Rattle.hm_sources.specs.declared.status.Status.TheVariants.{Good, Faulty, Refused}
+
+-- The worked set: A is good, B is faulty, C imports B
+
+-- one worker claims and publishes A, and then claims B and fails it
+abbrev pub one_worker : List Entry
+one_worker = Claim 0 0 ∷ Publish 0 0 ∷ Claim 0 1 ∷ Fail 0 1 ∷ []
+
+-- a build of the worked set with this journal
+pub record IsOneWorkers (b : Build) : Type 0 where
+  pub set : set_of b ≡ three_modules
+  pub entries : b.journal ≡ one_worker
+
+-- its journal's text; and no run without workers ends with it
+pub record JournalRow : Type 0 where
+  pub text : (b : Build) → IsOneWorkers b → journal_text b ≡ codes "claim 0 A\npublish 0 A 0\nclaim 0 B\nfail 0 B\n"
+  pub stop : (p : ModuleSet) (n : ℕ) → entry_line p n (Stop 2) ≡ codes "stop 2\n"
+  pub numbers : (sources : List (List ℕ)) (b : Build) → IsOneWorkers b → ¬ (MayEnd sources 0 b)
+
+-- there is such a build, legal and settled, and it has its verdicts: A is good in its set, and B and C aren't
+pub record VerdictsRow : Type 0 where
+  pub build : Build
+  pub is : IsOneWorkers build
+  pub legal : IsLegal build
+  pub settled : IsAllSettled build
+  pub verdicts : HasVerdicts build
+  pub good : IsGoodIn three_modules 0
+  pub faulty : ¬ (IsGoodIn three_modules 1)
+  pub skipped : ¬ (IsGoodIn three_modules 2)
+
+-- No sources
+
+abbrev pub nothing : Build
+nothing = record { modules = []; given = record { imports = []; dependents = [] }; journal = []; kept = [] }
+
+abbrev pub no_text : List ℕ
+no_text = codes "0 modules: 0 good, 0 faulty, 0 skipped\n"
+
+-- a run on no sources may end with an empty journal; whether it is asked for or not, the text is this, and the status that all is good
+pub record NothingRow : Type 0 where
+  pub may_end : MayEnd [] 1 nothing
+  pub good : (journal : Bool) → IsRun 4 journal [] Good no_text
+  pub not_faulty : (journal : Bool) (text : List ℕ) → ¬ (IsRun 4 journal [] Faulty text)
+  pub not_refused : (journal : Bool) (text : List ℕ) → ¬ (IsRun 4 journal [] Refused text)
+
+-- Room
+
+-- of two modules of which one imports the other, and of a chain of so many modules as a set may have
+pub record RoomRow : Type 0 where
+  pub two : room_of ((1 ∷ []) ∷ [] ∷ []) ≡ 7
+  pub chain : (imports : List (List ℕ)) → length imports ≡ 4096 → sum_by length imports ≡ 4095 → room_of imports ≡ 12289
