@@ -116,33 +116,46 @@ fn the_least_module_that_is_ready_comes_first(rt: HostRuntime) -> Result<(), Fai
     Ok(())
 }
 
-/// The most modules of a set, each of which imports the next.
-fn chain(alloc: Global) -> Result<String, AllocError> {
+/// So many modules, each of which imports the next.
+pub(crate) fn chain(alloc: Global, count: usize) -> Result<String, AllocError> {
     let mut text = String::new(alloc);
-    for number in 1..4096usize {
+    for number in 1..count {
         let importer = number - 1;
         write!(text, "module M{importer} where {{ import M{number} }}\n")?;
     }
-    text.push_str("module M4095 where { }\n")?;
+    let last = count.saturating_sub(1);
+    write!(text, "module M{last} where {{ }}\n")?;
     Ok(text)
 }
 
+/// The number of entries of the journal of a chain by one worker, and its text.
+fn chain_journal(
+    rt: &(impl AllocGlobal + Threads + Wait + Sync),
+    count: usize,
+) -> Result<(usize, String), Fail> {
+    let source = chain(rt.alloc(), count)?;
+    let finished = built(rt, source.as_bytes(), 1, &Open)?;
+    let entries = finished.store.journal().len();
+    Ok((entries, journal_text(rt.alloc(), &finished)?))
+}
+
 #[test]
-fn the_journal_of_a_chain(rt: HostRuntime) -> Result<(), Fail> {
-    let source = chain(rt.alloc())?;
-    let finished = built(&rt, source.as_bytes(), 1, &Open)?;
-    assert!(rt; finished.store.journal().len() == 8192);
-    let journal = journal_text(rt.alloc(), &finished)?;
-    assert!(rt;
-        journal
-            .as_bytes()
-            .starts_with(b"claim 0 M4095\npublish 0 M4095 0\nclaim 0 M4094\n")
-    );
-    assert!(rt;
-        journal
-            .as_bytes()
-            .ends_with(b"claim 0 M0\npublish 0 M0 4095\n")
-    );
+fn the_journal_of_a_short_chain(rt: HostRuntime) -> Result<(), Fail> {
+    let (entries, journal) = chain_journal(&rt, 256)?;
+    let text = journal.as_bytes();
+    assert_eq!(rt; entries, 512);
+    assert!(rt; text.starts_with(b"claim 0 M255\npublish 0 M255 0\nclaim 0 M254\n"));
+    assert!(rt; text.ends_with(b"claim 0 M0\npublish 0 M0 255\n"));
+    Ok(())
+}
+
+#[test]
+fn the_journal_of_the_longest_chain(rt: HostRuntime) -> Result<(), Fail> {
+    let (entries, journal) = chain_journal(&rt, 4096)?;
+    let text = journal.as_bytes();
+    assert_eq!(rt; entries, 8192);
+    assert!(rt; text.starts_with(b"claim 0 M4095\npublish 0 M4095 0\nclaim 0 M4094\n"));
+    assert!(rt; text.ends_with(b"claim 0 M0\npublish 0 M0 4095\n"));
     Ok(())
 }
 
@@ -169,18 +182,10 @@ fn shorten(records: &mut Vec<Record>) -> Result<(), Fail> {
 
 #[test]
 fn records_are_compared_with_the_journal(rt: HostRuntime) -> Result<(), Fail> {
-    let mut finished = built(&rt, TWO, 1, &Open)?;
-    assert!(rt;
-        finished
-            .store
-            .audit(rt.alloc(), finished.records.as_slice())?
-    );
-    shorten(&mut finished.records)?;
-    assert!(rt;
-        !finished
-            .store
-            .audit(rt.alloc(), finished.records.as_slice())?
-    );
+    let Finished { store, mut records } = built(&rt, TWO, 1, &Open)?;
+    assert!(rt; store.audit(rt.alloc(), records.as_slice())?);
+    shorten(&mut records)?;
+    assert!(rt; !store.audit(rt.alloc(), records.as_slice())?);
     Ok(())
 }
 

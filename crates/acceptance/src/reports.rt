@@ -1,9 +1,13 @@
 //! How `run` ends at its bounds, and where its devices fail.
+use crate::builds::chain;
 use crate::check::{check_run, check_run_of};
 use crate::devices::{Short, Slow, Then};
 use hm_build::{Options, run};
 use hm_sources::{RunFault, Status, Watched};
+use std::alloc::{AllocError, Global};
+use std::sync::Wait;
 use std::test::Fail;
+use std::thread::Threads;
 
 const OPTIONS: Options = Options {
     workers: 4,
@@ -22,31 +26,45 @@ fn reports_a_source_of_the_greatest_length(rt: HostRuntime) -> Result<(), Fail> 
     Ok(())
 }
 
-#[test]
-fn reports_the_most_modules(rt: HostRuntime) -> Result<(), Fail> {
-    let mut source = String::new(rt.alloc());
+/// The most modules of a set, none of which imports another.
+fn apart(alloc: Global) -> Result<String, AllocError> {
+    let mut text = String::new(alloc);
     for number in 0..4096usize {
-        write!(source, "module M{number} where {{ }}\n")?;
+        write!(text, "module M{number} where {{ }}\n")?;
     }
+    Ok(text)
+}
+
+/// Whether so many workers report the most modules of a set, all of them good.
+fn reports_most(
+    rt: &(impl AllocGlobal + Threads + Wait + Sync),
+    source: &str,
+    workers: usize,
+) -> Result<bool, Fail> {
     let mut readers = [Watched::new(source.as_bytes())];
     let mut printed = Vec::new(rt.alloc());
     let mut writer = Watched::new(&mut printed);
-    let ended = run(
-        &rt,
-        rt.alloc(),
-        readers.as_mut_slice(),
-        &mut writer,
-        OPTIONS,
-    );
-    assert_eq!(rt; ended, Ok(Status::Good));
-    assert!(rt;
-        printed
-            .as_slice()
-            .starts_with(b"module M0\nmodule M1\nmodule M10\n")
-    );
-    assert!(rt;
-        printed.as_slice().ends_with(b"module M999\n4096 modules: 4096 good, 0 faulty, 0 skipped\n")
-    );
+    let options = Options {
+        workers,
+        journal: false,
+    };
+    let ended = run(rt, rt.alloc(), readers.as_mut_slice(), &mut writer, options);
+    let text = printed.as_slice();
+    Ok(
+        ended == Ok(Status::Good)
+            && text.starts_with(b"module M0\nmodule M1\nmodule M10\n")
+            && text.ends_with(b"module M999\n4096 modules: 4096 good, 0 faulty, 0 skipped\n"),
+    )
+}
+
+#[test]
+fn reports_the_most_modules(rt: HostRuntime) -> Result<(), Fail> {
+    let apart = apart(rt.alloc())?;
+    let chain = chain(rt.alloc(), 4096)?;
+    for workers in [1usize, 4, 16] {
+        assert!(rt; reports_most(&rt, apart.as_str(), workers)?);
+        assert!(rt; reports_most(&rt, chain.as_str(), workers)?);
+    }
     Ok(())
 }
 
