@@ -130,7 +130,7 @@ fn a_variable_in_an_older_one_is_not_deeper(rt: HostRuntime) -> Result<(), Fail>
     };
     let both = Ty::function(alloc, Ty::Var(1), Ty::Var(2))?;
     let found = solver.deeper(&both)?;
-    assert!(rt; found.as_slice() == [2]);
+    assert!(rt; found.as_slice() == [2].as_slice());
     solver.leave();
     Ok(())
 }
@@ -144,7 +144,7 @@ fn a_clash_puts_levels_back(rt: HostRuntime) -> Result<(), Fail> {
     let right = pair(alloc, Ty::Var(0), constant(alloc, "Char")?)?;
     if let Err(UnifyFault::Clash) = solver.unify(&left, right) {
         let found = solver.deeper(&Ty::Var(2))?;
-        assert!(rt; found.as_slice() == [2]);
+        assert!(rt; found.as_slice() == [2].as_slice());
         return Ok(());
     }
     assert!(rt; false, "no clash");
