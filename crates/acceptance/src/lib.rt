@@ -12,6 +12,8 @@ mod devices;
 #[cfg(test)]
 mod equal;
 #[cfg(test)]
+mod hostile;
+#[cfg(test)]
 mod modules;
 #[cfg(test)]
 mod passes;
