@@ -108,8 +108,10 @@ fn applied(
                     kind: TypeKind::Unit,
                 });
             }
-            let from = Box::new(alloc, copy_type(alloc, &parts[0])?)?;
-            let to = Box::new(alloc, copy_type(alloc, &parts[1])?)?;
+            let mut parts = parts;
+            let result = parts.remove(1);
+            let from = Box::new(alloc, parts.remove(0))?;
+            let to = Box::new(alloc, result)?;
             Ok(TypeExpr {
                 kind: TypeKind::Arrow(from, to),
             })
@@ -120,7 +122,8 @@ fn applied(
                     kind: TypeKind::Unit,
                 });
             }
-            let element = Box::new(alloc, copy_type(alloc, &parts[0])?)?;
+            let mut parts = parts;
+            let element = Box::new(alloc, parts.remove(0))?;
             Ok(TypeExpr {
                 kind: TypeKind::List(element),
             })
