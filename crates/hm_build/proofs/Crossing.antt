@@ -24,11 +24,26 @@ use Rattle.hm_store.specs.contracts.record.Record as Record
 use Rattle.hm_store.specs.contracts.store.Store as Store
 use Rattle.hm_store.specs.contracts.shared.Shared as Shared
 use Rattle.hm_store.specs.contracts.shared.Locked as Locked
+use Rattle.hm_store.specs.contracts.listed.Listed as Listed
+use Rattle.hm_published.specs.contracts.history.Front as Front
+use Rattle.hm_published.specs.contracts.history.History as History
+use Rattle.hm_published.specs.contracts.published.Published as Published
+use Rattle.hm_published.specs.contracts.published.Step as Step
+use Rattle.hm_published.specs.contracts.reading.Reader as Reader
+use Rattle.hm_published.specs.declared.history.Naming.{Ghosts as Names}
 use Rattle.hm_store.proofs.object.Entry.TheSendSync as Entry
 use Rattle.hm_store.proofs.object.Status.TheSendSync as Status
 use Rattle.hm_build.specs.contracts.finished_build.Finished as Finished
 use Rattle.hm_build.specs.contracts.workers.Work as Work
 use Rattle.core.specs.declared.ledger.Ledger.{Ghosts}
+use Rattle.hm_published.proofs.history.Front.TheSendSync as FrontFacts
+use Rattle.hm_published.proofs.history.History.TheSendSync as HistoryFacts
+use Rattle.logbook.proofs.tokens.Seen.TheSendSync as Seen
+use Rattle.logbook.proofs.word.Word.TheSendSync as Word
+use Rattle.atomic_table.proofs.shared.Seat.TheSendSync as Seat
+use Rattle.atomic_table.proofs.shared.Shared.TheSendSync as Table
+use Rattle.left_right.proofs.part.Part.TheSendSync as Part
+use Rattle.left_right.proofs.part.Deed.TheSendSync as Deed
 use Rattle.core.proofs.ledger.Share.TheSendSync as Share
 use Rattle.core.proofs.ledger.Book.TheSendSync as Book
 use Rattle.hm_types.proofs.Text.TheSendSync as Text
@@ -90,29 +105,51 @@ record_field_send = search (call_field_send, crosses, sendable) depth 30 fits 50
 pub finished_send : IsSend Finished.the_row
 finished_send = search (store_send, module_send, module_sync, record_field_send, crosses, sendable) depth 30 fits 5000
 
-module _ (L : RattleType) (l : Ghosts L.Denot) where
-  pub pass_send : IsSend (Pass.the_row L l)
-  pass_send = search (call_field_send, Share.the_send, crosses, sendable) depth 30 fits 5000
+module _ (L : RattleType) (l : Ghosts L.Denot) (j : Names L.Denot) (send : IsSend L) (sync : IsSync L) where
+  front_send : IsSend (Front.the_row L j)
+  front_send = search (FrontFacts.the_send, FrontFacts.the_sync, Seen.the_send, Seen.the_sync, send, sync, crosses, sendable) depth 30 fits 5000
 
-  pub locked_send : IsSend (Locked.the_row L l)
-  locked_send = search (store_send, Book.the_send, crosses, sendable) depth 30 fits 5000
+  front_sync : IsSync (Front.the_row L j)
+  front_sync = search (FrontFacts.the_send, FrontFacts.the_sync, Seen.the_send, Seen.the_sync, send, sync, crosses, sendable) depth 30 fits 5000
 
-  pub shared_sync : IsSync (Shared.the_row L l)
-  shared_sync = search (locked_send, crosses, sendable) depth 30 fits 5000
+  published_send : IsSend (Published.the_row L j)
+  published_send = search (front_send, interface_send, interface_sync, crosses, sendable) depth 30 fits 5000
 
-  module _ (κ : NamedLft) (G : RattleType) where
-    pub work_sync : IsSync G → IsSync (Work.the_row κ L G l)
-    work_sync gate =
-        declared_sync (Work.the_type κ L G l) (
-          search (crosses, sendable) depth 30,
-          (
-            search (shared_sync, sendable) depth 30,
+  published_sync : IsSync (Published.the_row L j)
+  published_sync = search (front_sync, interface_send, interface_sync, crosses, sendable) depth 30 fits 5000
+
+  step_send : IsSend (Step.the_row L j)
+  step_send = search (front_send, interface_send, interface_sync, crosses, sendable) depth 30 fits 5000
+
+  reader_send : IsSend (Reader.the_row L j)
+  reader_send = search (front_send, published_send, published_sync, Seat.the_send, Table.the_send, Table.the_sync, Part.the_send, Part.the_sync, Deed.the_send, crosses, sendable) depth 30 fits 5000
+
+  pub pass_send : IsSend (Pass.the_row L j l)
+  pass_send = search (call_field_send, reader_send, Share.the_send, crosses, sendable) depth 30 fits 5000
+
+  listed_send : IsSend (Listed.the_row L j)
+  listed_send = search (store_send, front_send, crosses, sendable) depth 30 fits 5000
+
+  module _ (W : RattleType) (held : IsSend W) where
+    pub locked_send : IsSend (Locked.the_row L W _ j _ l)
+    locked_send = search (listed_send, published_send, published_sync, step_send, Word.the_send, HistoryFacts.the_send, Seat.the_send, Table.the_send, Table.the_sync, Part.the_send, Part.the_sync, Deed.the_send, send, sync, held, Book.the_send, crosses, sendable) depth 30 fits 5000
+
+    pub shared_sync : IsSync (Shared.the_row L W _ j _ l)
+    shared_sync = search (locked_send, crosses, sendable) depth 30 fits 5000
+
+    module _ (κ : NamedLft) (G : RattleType) where
+      pub work_sync : IsSync G → IsSync (Work.the_row κ L G W _ j _ l)
+      work_sync gate =
+          declared_sync (Work.the_type κ L G W _ j _ l) (
+            search (crosses, sendable) depth 30,
             (
-              search (module_send, module_sync, crosses, sendable) depth 30 fits 5000,
+              search (shared_sync, sendable) depth 30,
               (
-                search (crosses, sendable) depth 30,
-                (search (gate, sendable) depth 30, tt),
+                search (module_send, module_sync, crosses, sendable) depth 30 fits 5000,
+                (
+                  search (crosses, sendable) depth 30,
+                  (search (gate, sendable) depth 30, tt),
+                ),
               ),
             ),
-          ),
-        )
+          )

@@ -7,6 +7,7 @@ ghost use Rattle.hm_sources.specs.SourceModules.{AreModulesOf};
 
 use crate::{BuildFault, Finished};
 use hm_equal::is_same_module;
+use hm_published::Naming;
 use hm_store::{Pass, Record, Store};
 use hm_syntax::Module;
 use std::alloc::{AllocError, Global};
@@ -14,7 +15,7 @@ use std::sync::Arc;
 use std::sync::ledger::{Book, Ledger};
 
 /// The records of the workers, in the order of their passes.
-pub(crate) fn records_of<L: Ledger>(
+pub(crate) fn records_of<L: Ledger + Naming>(
     alloc: Global,
     mut book: Book<L>,
     passes: Vec<Pass<L>>,
