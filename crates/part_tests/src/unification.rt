@@ -135,11 +135,17 @@ fn a_variable_in_an_older_one_is_not_deeper(rt: HostRuntime) -> Result<(), Fail>
     Ok(())
 }
 
-/// The equation of variables 0 and 2 is taken back, and the level of variable 2 put back.
+/// Behind the same equation, that of variables 2 and 0 is taken back, and the level of variable 2
+/// put back.
 #[test]
 fn a_clash_puts_levels_back(rt: HostRuntime) -> Result<(), Fail> {
     let alloc = rt.alloc();
     let mut solver = solver_inside_a_level(alloc)?;
+    let value = Ty::function(alloc, Ty::Var(1), constant(alloc, "Int")?)?;
+    let Ok(()) = solver.unify(&Ty::Var(0), value) else {
+        assert!(rt; false, "refused");
+        return Ok(());
+    };
     let left = pair(alloc, Ty::Var(2), constant(alloc, "Int")?)?;
     let right = pair(alloc, Ty::Var(0), constant(alloc, "Char")?)?;
     if let Err(UnifyFault::Clash) = solver.unify(&left, right) {
