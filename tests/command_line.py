@@ -13,7 +13,8 @@ TOP = os.path.dirname(os.path.dirname(os.path.abspath(__file__)))
 PROGRAM = os.path.abspath(sys.argv[1]) if len(sys.argv) > 1 else os.path.join(TOP, "hmc")
 VERSION = "hmc 0.1\n"
 SMALL = 2_000_000 << 10
-TINY = 200_000 << 10
+LITTLE = 200_000_000
+TINY = 50_000 << 10
 
 A = "module A where { import B ; x = y }"
 B = "module B where { y = 1 }"
@@ -330,6 +331,19 @@ def run_of(folder, name):
         os.close(given)
 
 
+def doubling(folder):
+    """Levels of types that double: the last report has this many brackets, or there is no memory."""
+    for count, good in ((3, True), (15, True), (16, False), (19, False), (30, False)):
+        more = range(1, count + 1)
+        values = " ; ".join(["c f g = \\x -> f (g x) ; f0 x = [x]"] + [f"f{n} = c f{n - 1} f{n - 1}" for n in more])
+        synonyms = " ; ".join(["type Nest0 a = [a]"] + [f"type Nest{n} a = Nest{n - 1} (Nest{n - 1} a)" for n in more] + [f"f :: Nest{count} a -> Int ; f x = 1"])
+        for kind, text, brackets in (("values", values, 2 ** (count + 1) - 1), ("synonyms", synonyms, 2 ** (count + 1) - 1 + 2**count)):
+            ran = run(folder, ["--jobs", "1"], "module A where { " + text + " }")
+            ran.stdout = f"{ran.stdout.count(b'[')} brackets".encode()
+            wanted = (0, f"{brackets} brackets", "") if good else (3, "0 brackets", "hmc: no memory\n")
+            yield f"{kind} whose levels double {count} times", ran, wanted
+
+
 def broken_pipe():
     """A pipe that nobody reads."""
     reading, writing = os.pipe()
@@ -416,6 +430,8 @@ def main():
         limit = lambda size: lambda: resource.setrlimit(resource.RLIMIT_AS, (size, size))
         runs.append(("a small set in little memory", run(folder, ["--plan"], A + B, before=limit(SMALL)), (0, PLAN, "")))
         runs.append(("a small check in little memory", run(folder, [], "", before=limit(SMALL)), (0, "0 modules: 0 good, 0 faulty, 0 skipped\n", "")))
+        runs.append(("one worker in 200 MB", run(folder, ["--jobs", "1"], A + B, before=limit(LITTLE)), (0, REPORT, "")))
+        runs.extend(doubling(folder))
         runs.append(("no room for the stack", run(folder, ["--plan"], A + B, before=limit(TINY)), (3, "", "hmc: no memory\n")))
         runs.append(("no room for a worker", run(folder, [], A + B, before=limit(TINY)), (6, "", "hmc: no worker\n")))
         for name, ran, (status, out, err) in runs:

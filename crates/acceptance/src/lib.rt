@@ -18,6 +18,8 @@ mod modules;
 #[cfg(test)]
 mod passes;
 #[cfg(test)]
+mod refused;
+#[cfg(test)]
 mod reports;
 #[cfg(test)]
 mod sources;

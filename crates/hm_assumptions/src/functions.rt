@@ -15,72 +15,68 @@ ghost use Rattle.hm_names.specs.Syntax.{pattern_of, patterns_of};
 ghost use Rattle.hm_assumptions.specs.Constructors.{known_of};
 
 use crate::constructors::Constructors;
-use crate::environment::Environment;
+use crate::inference::Inference;
 use crate::parts::function_parts;
-use crate::patterns::{match_pattern, match_patterns};
+use crate::patterns::{PartTypes, match_pattern, match_patterns};
 use crate::variables::Variables;
 use hm_syntax::Pat;
 use hm_types::Ty;
-use hm_unify::{Solver, UnifyFault};
-use std::alloc::Global;
+use hm_unify::UnifyFault;
 
 /// Takes the type of a function apart, matches its patterns, and assumes their variables. Answers
 /// the number of the variable that is the type of the body.
 pub fn open_function<'a>(
-    alloc: Global,
-    solver: &mut Solver,
-    environment: &mut Environment<'a>,
+    inference: &mut Inference<'a>,
     constructors: &Constructors,
     pats: &'a [Pat],
     t: &Ty,
 ) -> Result<usize, UnifyFault>
-    requires given { IsWellFormed solver.old.given (type_of t.now) }
-    requires assumed { AreAssumed solver.old.given environment.old }
-    ensures opened { Opened (patterns_of (known_of constructors.now) (patterns pats.now)) (monotype (type_of t.now)) solver.old environment.old solver.new environment.new result }
-    ensures kept { Extends environment.old environment.new }
+    requires given { IsWellFormed inference.old.solver.given (type_of t.now) }
+    requires assumed { AreAssumed inference.old.solver.given inference.old.environment }
+    ensures opened { Opened (patterns_of (known_of constructors.now) (patterns pats.now)) (monotype (type_of t.now)) inference.old.solver inference.old.environment inference.new.solver inference.new.environment result }
+    ensures kept { Extends inference.old.environment inference.new.environment }
 {
     let count = pats.len();
-    let first = function_parts(alloc, solver, count, t)?;
-    let mut variables = Variables::new(alloc);
+    let first = function_parts(inference.alloc, &mut inference.solver, count, t)?;
+    let mut variables = Variables::new(inference.alloc);
     match_patterns(
-        alloc,
-        solver,
+        &mut inference.solver,
         constructors,
         &mut variables,
         pats,
-        first,
-        false,
+        PartTypes { first, same: false },
     )?;
-    environment.bind_variables(alloc, &variables)?;
+    inference
+        .environment
+        .bind_variables(inference.alloc, &variables)?;
     Ok(first + count)
 }
 
 /// Matches the pattern of an alternative against the variable `first`, and assumes its variables.
 /// The body of the alternative has the type `t`.
 pub fn open_alternative<'a>(
-    alloc: Global,
-    solver: &mut Solver,
-    environment: &mut Environment<'a>,
+    inference: &mut Inference<'a>,
     constructors: &Constructors,
     pat: &'a Pat,
     first: usize,
     t: &Ty,
 ) -> Result<(), UnifyFault>
-    requires first { first < solver.old.given }
-    requires given { IsWellFormed solver.old.given (type_of t.now) }
-    requires assumed { AreAssumed solver.old.given environment.old }
-    ensures opened { Entered (pattern (pattern_of (known_of constructors.now) pat.now) no_pattern) (arrow (monotype (Var (var first))) (monotype (type_of t.now))) (type_of t.now) solver.old environment.old solver.new environment.new result }
-    ensures kept { Extends environment.old environment.new }
+    requires first { first < inference.old.solver.given }
+    requires given { IsWellFormed inference.old.solver.given (type_of t.now) }
+    requires assumed { AreAssumed inference.old.solver.given inference.old.environment }
+    ensures opened { Entered (pattern (pattern_of (known_of constructors.now) pat.now) no_pattern) (arrow (monotype (Var (var first))) (monotype (type_of t.now))) (type_of t.now) inference.old.solver inference.old.environment inference.new.solver inference.new.environment result }
+    ensures kept { Extends inference.old.environment inference.new.environment }
 {
-    let mut variables = Variables::new(alloc);
+    let mut variables = Variables::new(inference.alloc);
     match_pattern(
-        alloc,
-        solver,
+        &mut inference.solver,
         constructors,
         &mut variables,
         pat,
         &Ty::Var(first),
     )?;
-    environment.bind_variables(alloc, &variables)?;
+    inference
+        .environment
+        .bind_variables(inference.alloc, &variables)?;
     Ok(())
 }

@@ -38,35 +38,37 @@ fn rigid_slot(slots: &Collected, n: usize) -> Result<usize, AllocError>
     sum(place_of(&slots.rigid, n), slots.plain.len())
 }
 
-/// A type as the body of a scheme that quantifies the variables that have slots, but those that
-/// are in the values of the first `older`.
-fn close(
-    alloc: Global,
-    solver: &Solver,
+/// What is quantified in the body of a scheme: so many variables, those that have slots, but for
+/// those that are in the values of the first `older`.
+#[derive(Clone, Copy)]
+struct Quantified<'q> {
+    solver: &'q Solver,
     older: usize,
-    slots: &Collected,
-    quantified: usize,
-    t: &Ty,
-) -> Result<Ty, AllocError>
-    ensures { IfOk result (λ u. (xs ys : List ℕ) → Numbers slots.now.plain xs → Numbers slots.now.rigid ys → type_of u ≡ put (λ l. leaf (closing (is_outer solver.now.equations older) quantified xs ys l)) (type_of t.now)) }
+    slots: &'q Collected,
+    count: usize,
+}
+
+/// A type as the body of a scheme that quantifies these variables.
+fn close(alloc: Global, quantified: &Quantified<'_>, t: &Ty) -> Result<Ty, AllocError>
+    ensures { IfOk result (λ u. (xs ys : List ℕ) → Numbers quantified.now.slots.now.plain xs → Numbers quantified.now.slots.now.rigid ys → type_of u ≡ put (λ l. leaf (closing (is_outer quantified.now.solver.now.equations quantified.now.older) quantified.now.count xs ys l)) (type_of t.now)) }
 {
     match t {
         Ty::Var(n) => {
-            if solver.is_outer_variable(older, *n) {
-                return Ok(Ty::Var(sum(*n, quantified)?));
+            if quantified.solver.is_outer_variable(quantified.older, *n) {
+                return Ok(Ty::Var(sum(*n, quantified.count)?));
             }
-            Ok(Ty::Var(place_of(&slots.plain, *n)))
+            Ok(Ty::Var(place_of(&quantified.slots.plain, *n)))
         }
         Ty::Rigid(n) => {
-            if solver.is_outer_rigid(older, *n) {
-                return Ok(Ty::Rigid(sum(*n, quantified)?));
+            if quantified.solver.is_outer_rigid(quantified.older, *n) {
+                return Ok(Ty::Rigid(sum(*n, quantified.count)?));
             }
-            Ok(Ty::Var(rigid_slot(slots, *n)?))
+            Ok(Ty::Var(rigid_slot(quantified.slots, *n)?))
         }
         Ty::App(head, arguments) => {
             let mut made = Vec::new(alloc);
             for argument in arguments.as_slice() {
-                made.push(close(alloc, solver, older, slots, quantified, argument)?)?;
+                made.push(close(alloc, quantified, argument)?)?;
             }
             Ok(Ty::App(head.copy()?, Types::new(made)))
         }
@@ -97,7 +99,16 @@ pub fn generalise(
     let value = solver.value(t)?;
     let mut slots = none_collected(alloc);
     collect(&mut slots, &value)?;
-    let quantified = sum(slots.plain.len(), slots.rigid.len())?;
-    let body = close(alloc, solver, older, &slots, quantified, &value)?;
-    Ok(Generalised { quantified, body })
+    let count = sum(slots.plain.len(), slots.rigid.len())?;
+    let quantified = Quantified {
+        solver,
+        older,
+        slots: &slots,
+        count,
+    };
+    let body = close(alloc, &quantified, &value)?;
+    Ok(Generalised {
+        quantified: count,
+        body,
+    })
 }

@@ -25,11 +25,30 @@ use hm_syntax::{Name, Pat, PatKind};
 use hm_types::Ty;
 use hm_unify::{Solver, UnifyFault};
 use hm_variables::key_of;
-use std::alloc::Global;
+
+/// The types of parts, which are variables: those from `first` on, or each that one.
+#[derive(Clone, Copy)]
+pub struct PartTypes {
+    pub first: usize,
+    pub same: bool,
+}
+
+impl PartTypes {
+    /// The number of the variable that is the type of a part.
+    pub fn at(self, part: usize) -> usize
+        requires { cond self.same self.first (self.first + part) < 2 ^ 64 }
+        ensures { result ≡ cond self.same self.first (self.first + part) }
+    {
+        if self.same {
+            self.first
+        } else {
+            self.first + part
+        }
+    }
+}
 
 /// Adds a variable of a pattern. One of its name that is there has its type.
 fn add_variable<'a>(
-    alloc: Global,
     solver: &mut Solver,
     variables: &mut Variables<'a>,
     name: &'a Name,
@@ -42,12 +61,13 @@ fn add_variable<'a>(
     solver.well_formed();
     match variables.find(name) {
         None => {
-            variables.add(key_of(name), t.copy(alloc)?)?;
+            let own = t.copy(variables.allocator())?;
+            variables.add(key_of(name), own)?;
             Ok(())
         }
         Some(u) => {
-            let known = u.copy(alloc)?;
-            let own = u.copy(alloc)?;
+            let known = u.copy(variables.allocator())?;
+            let own = u.copy(variables.allocator())?;
             equate(solver, t, own)?;
             variables.add(key_of(name), known)?;
             Ok(())
@@ -58,7 +78,6 @@ fn add_variable<'a>(
 /// Matches a pattern against a type, and adds its variables.
 #[cycle(matching)]
 pub fn match_pattern<'a>(
-    alloc: Global,
     solver: &mut Solver,
     constructors: &Constructors,
     variables: &mut Variables<'a>,
@@ -72,16 +91,18 @@ pub fn match_pattern<'a>(
         Matched (λ ρ r. Matches ρ p (put r (monotype (type_of t.now)))) (pattern_names p) solver.old variables.old solver.new variables.new result }
 {
     solver.well_formed();
+    let alloc = variables.allocator();
     match &pattern.kind {
-        PatKind::Var(name) => add_variable(alloc, solver, variables, name, t),
+        PatKind::Var(name) => add_variable(solver, variables, name, t),
         PatKind::Bound(name, inner) => {
-            match_pattern(alloc, solver, constructors, variables, inner, t)?;
-            add_variable(alloc, solver, variables, name, t)
+            match_pattern(solver, constructors, variables, inner, t)?;
+            add_variable(solver, variables, name, t)
         }
         PatKind::Con(name, parts) => {
             let scheme = constructors.find(alloc, name)?;
             let first = constructor_parts(alloc, solver, scheme.as_scheme(), parts.len(), t)?;
-            match_patterns(alloc, solver, constructors, variables, parts, first, false)
+            let types = PartTypes { first, same: false };
+            match_patterns(solver, constructors, variables, parts, types)
         }
         PatKind::Literal(literal) => {
             let own = literal_type(alloc, literal)?;
@@ -90,56 +111,40 @@ pub fn match_pattern<'a>(
         PatKind::Wild => Ok(()),
         PatKind::Tuple(parts) => {
             let first = tuple_parts(alloc, solver, parts.len(), t)?;
-            match_patterns(alloc, solver, constructors, variables, parts, first, false)
+            let types = PartTypes { first, same: false };
+            match_patterns(solver, constructors, variables, parts, types)
         }
         PatKind::List(parts) => {
             let first = list_part(alloc, solver, t)?;
-            match_patterns(alloc, solver, constructors, variables, parts, first, true)
+            let types = PartTypes { first, same: true };
+            match_patterns(solver, constructors, variables, parts, types)
         }
-        PatKind::Lazy(inner) => match_pattern(alloc, solver, constructors, variables, inner, t),
+        PatKind::Lazy(inner) => match_pattern(solver, constructors, variables, inner, t),
     }
 }
 
-/// Matches patterns, the last first: against the variables from `first` on, or each against that
-/// one.
+/// Matches patterns, the last first, against their types.
 #[cycle(matching)]
 pub(crate) fn match_patterns<'a>(
-    alloc: Global,
     solver: &mut Solver,
     constructors: &Constructors,
     variables: &mut Variables<'a>,
     parts: &'a [Pat],
-    first: usize,
-    same: bool,
+    types: PartTypes,
 ) -> Result<(), UnifyFault>
-    requires given { (j : ℕ) → j < length parts.now → cond same first (first + j) < solver.old.given }
-    requires fits { cond same first (first + length parts.now) < 2 ^ 64 }
+    requires given { (j : ℕ) → j < length parts.now → cond types.same types.first (types.first + j) < solver.old.given }
+    requires fits { cond types.same types.first (types.first + length parts.now) < 2 ^ 64 }
     requires variables { AreGiven solver.old.given variables.old }
     requires typed { (τ : Identifier → Monotype) × HaveTypes τ variables.old }
     ensures { let ps = patterns_of (known_of constructors.now) (patterns parts.now) in
-        Matched (λ ρ r. MatchesAll ρ ps (λ j. put r (from_number same first j)) 0) (patterns_names ps) solver.old variables.old solver.new variables.new result }
+        Matched (λ ρ r. MatchesAll ρ ps (λ j. put r (from_number types.same types.first j)) 0) (patterns_names ps) solver.old variables.old solver.new variables.new result }
 {
     solver.well_formed();
     let mut j = parts.len();
     'parts: while j > 0 {
         j -= 1;
-        let number = element(first, j, same);
-        match_pattern(
-            alloc,
-            solver,
-            constructors,
-            variables,
-            &parts[j],
-            &Ty::Var(number),
-        )?;
+        let number = types.at(j);
+        match_pattern(solver, constructors, variables, &parts[j], &Ty::Var(number))?;
     }
     Ok(())
-}
-
-/// The number of the j-th of some variables, or of the one that stands for each.
-pub fn element(first: usize, j: usize, same: bool) -> usize
-    requires { cond same first (first + j) < 2 ^ 64 }
-    ensures { result ≡ cond same first (first + j) }
-{
-    if same { first } else { first + j }
 }

@@ -26,6 +26,7 @@ pub struct Variable<'a> {
 /// table has a place of each name.
 #[derive(Drop)]
 pub struct Variables<'a> {
+    alloc: Global,
     items: Vec<Variable<'a>>,
     places: IndexMap<LentName<'a>, usize>,
 }
@@ -56,9 +57,15 @@ impl<'a> Variables<'a> {
         ensures { result ≡ [] }
     {
         Variables {
+            alloc,
             items: Vec::new(alloc),
             places: IndexMap::new(alloc),
         }
+    }
+
+    /// Where their memory comes from.
+    pub(crate) fn allocator(&self) -> Global {
+        self.alloc
     }
 
     /// Adds a variable.

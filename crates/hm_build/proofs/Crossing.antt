@@ -7,8 +7,16 @@ use denote.Struct.Declared.{shape}
 use denote.Struct.Struct.{Struct}
 use denote.Struct.Tuple.{TupleAt, type_at}
 use denote.Param.Send.{AllSend, IsSend, IsSync, recorded_send, sendable, struct_send}
-use denote.Param.SendFields.{as_row_sync, declared_sync}
+use denote.Param.SendFields.{declared_sync}
 use Rattle.std.proofs.Crossing.{crosses}
+use Rattle.std.proofs.Crossing as heap
+use Rattle.std.specs.contracts.alloc.Global as Heap
+use Rattle.std.specs.contracts.impls.GlobalAllocator.TheImpl.{ghosts}
+use Rattle.left_right.specs.contracts.handles.ReadHandle as ReadHandle
+use Rattle.left_right.specs.contracts.handles.WriteHandle as WriteHandle
+use Rattle.left_right.specs.declared.Absorb.{Ghosts as Absorbs}
+use Rattle.left_right.proofs.handles.ReadHandle.TheSendSync as ReadHandleFacts
+use Rattle.left_right.proofs.handles.WriteHandle.TheSendSync as WriteHandleFacts
 use Rattle.hm_types.specs.contracts.interfaces.Interface as Interface
 use Rattle.hm_types.proofs.monotypes.Types.TheLaws.TheKnot.{crosses as types}
 use Rattle.hm_syntax.specs.contracts.ast.Module as Module
@@ -24,11 +32,19 @@ use Rattle.hm_store.specs.contracts.record.Record as Record
 use Rattle.hm_store.specs.contracts.store.Store as Store
 use Rattle.hm_store.specs.contracts.shared.Shared as Shared
 use Rattle.hm_store.specs.contracts.shared.Locked as Locked
+use Rattle.hm_store.specs.contracts.listed.Listed as Listed
+use Rattle.hm_published.specs.contracts.history.Front as Front
+use Rattle.hm_published.specs.contracts.published.Published as Published
+use Rattle.hm_published.specs.contracts.published.Step as Step
+use Rattle.hm_published.specs.contracts.reading.Reader as Reader
+use Rattle.hm_published.specs.declared.history.Naming.{Ghosts as Names}
 use Rattle.hm_store.proofs.object.Entry.TheSendSync as Entry
 use Rattle.hm_store.proofs.object.Status.TheSendSync as Status
 use Rattle.hm_build.specs.contracts.finished_build.Finished as Finished
 use Rattle.hm_build.specs.contracts.workers.Work as Work
 use Rattle.core.specs.declared.ledger.Ledger.{Ghosts}
+use Rattle.hm_published.proofs.history.Front.TheSendSync as FrontFacts
+use Rattle.logbook.proofs.word.Word.TheSendSync as Word
 use Rattle.core.proofs.ledger.Share.TheSendSync as Share
 use Rattle.core.proofs.ledger.Book.TheSendSync as Book
 use Rattle.hm_types.proofs.Text.TheSendSync as Text
@@ -90,29 +106,57 @@ record_field_send = search (call_field_send, crosses, sendable) depth 30 fits 50
 pub finished_send : IsSend Finished.the_row
 finished_send = search (store_send, module_send, module_sync, record_field_send, crosses, sendable) depth 30 fits 5000
 
-module _ (L : RattleType) (l : Ghosts L.Denot) where
-  pub pass_send : IsSend (Pass.the_row L l)
-  pass_send = search (call_field_send, Share.the_send, crosses, sendable) depth 30 fits 5000
+module _ (L : RattleType) (l : Ghosts L.Denot) (j : Names L.Denot) (send : IsSend L) (sync : IsSync L) where
+  front_send : IsSend (Front.the_row L j)
+  front_send = search (FrontFacts.the_send, crosses, sendable) depth 30 fits 5000
 
-  pub locked_send : IsSend (Locked.the_row L l)
-  locked_send = search (store_send, Book.the_send, crosses, sendable) depth 30 fits 5000
+  front_sync : IsSync (Front.the_row L j)
+  front_sync = search (FrontFacts.the_sync, crosses, sendable) depth 30 fits 5000
 
-  pub shared_sync : IsSync (Shared.the_row L l)
-  shared_sync = search (locked_send, crosses, sendable) depth 30 fits 5000
+  published_send : IsSend (Published.the_row L j)
+  published_send = search (front_send, interface_send, interface_sync, crosses, sendable) depth 30 fits 5000
 
-  module _ (κ : NamedLft) (G : RattleType) where
-    pub work_sync : IsSync G → IsSync (Work.the_row κ L G l)
-    work_sync gate =
-        declared_sync (Work.the_type κ L G l) (
-          search (crosses, sendable) depth 30,
-          (
-            search (shared_sync, sendable) depth 30,
+  published_sync : IsSync (Published.the_row L j)
+  published_sync = search (front_sync, interface_send, interface_sync, crosses, sendable) depth 30 fits 5000
+
+  step_send : IsSend (Step.the_row L j)
+  step_send = search (front_send, interface_send, interface_sync, crosses, sendable) depth 30 fits 5000
+
+  entrance_send : IsSend (ReadHandle.the_field (Published.the_row L j) Heap.the_row ghosts).row
+  entrance_send = ReadHandleFacts.the_field_send (Published.the_row L j) Heap.the_row ghosts heap.send published_sync heap.sync heap.frees
+
+  reader_send : IsSend (Reader.the_row L j)
+  reader_send = search (entrance_send, front_send, crosses, sendable) depth 30 fits 5000
+
+  pub pass_send : IsSend (Pass.the_row L j l)
+  pass_send = search (call_field_send, reader_send, Share.the_send, crosses, sendable) depth 30 fits 5000
+
+  listed_send : IsSend (Listed.the_row L j)
+  listed_send = search (store_send, front_send, crosses, sendable) depth 30 fits 5000
+
+  module _ (W S : RattleType) (absorbs : Absorbs (Published.the_row L j).Denot (Step.the_row L j).Denot S.Denot) (held : IsSend W) where
+    pages_send : IsSend (WriteHandle.the_field (Published.the_row L j) (Step.the_row L j) W Heap.the_row S absorbs ghosts).row
+    pages_send = WriteHandleFacts.the_field_send (Published.the_row L j) (Step.the_row L j) W Heap.the_row S absorbs ghosts published_send step_send held heap.send published_sync heap.sync heap.frees
+
+    locked_send : IsSend (Locked.the_row L W S j absorbs l)
+    locked_send = search (listed_send, pages_send, Word.the_send, Book.the_send, crosses, sendable) depth 30 fits 5000
+
+    shared_sync : IsSync (Shared.the_row L W S j absorbs l)
+    shared_sync = search (locked_send, crosses, sendable) depth 30 fits 5000
+
+    module _ (κ : NamedLft) (G : RattleType) where
+      pub work_sync : IsSync G → IsSync (Work.the_row κ L G W S j absorbs l)
+      work_sync gate =
+          declared_sync (Work.the_type κ L G W S j absorbs l) (
+            search (crosses, sendable) depth 30,
             (
-              search (module_send, module_sync, crosses, sendable) depth 30 fits 5000,
+              search (shared_sync, sendable) depth 30,
               (
-                search (crosses, sendable) depth 30,
-                (search (gate, sendable) depth 30, tt),
+                search (module_send, module_sync, crosses, sendable) depth 30 fits 5000,
+                (
+                  search (crosses, sendable) depth 30,
+                  (search (gate, sendable) depth 30, (search (crosses, sendable) depth 30, tt)),
+                ),
               ),
             ),
-          ),
-        )
+          )

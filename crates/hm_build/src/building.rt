@@ -14,7 +14,8 @@ use crate::workers::{Work, run_workers};
 use crate::{BuildFault, Finished, Gate};
 use core::thread::Stack;
 use hm_graph::Plan;
-use hm_sources::{SetError, set_modules, stack_size};
+use hm_published::{Naming, Opened};
+use hm_sources::{SetError, depth_limit, set_modules, stack_size};
 use hm_store::laws::settled_builds_are_settled_sets;
 use hm_store::{Shared, Store};
 use hm_syntax::Module;
@@ -110,17 +111,21 @@ fn room_for(imports: &[Vec<usize>]) -> usize
     room.min(1 << 40)
 }
 
-/// Runs the workers on a store, and looks at what came of it.
-fn worked<L: Ledger + Send + Sync, G: Gate + Sync, R: Threads + Wait + Sync>(
+/// Runs the workers on a store, and looks at what came of it. Stacks and types have room for these texts.
+fn worked<L: Ledger + Naming + Send + Sync, G: Gate + Sync, R: Threads + Wait + Sync>(
     rt: &R,
     alloc: Global,
     fresh: Fresh,
     workers: usize,
     gate: &G,
-    stack: usize,
+    texts: &[Vec<u8>],
     blank: Blank,
+    opened: Opened,
 ) -> Result<Finished, BuildFault>
     requires brand { (blank.name ≡ L.name) × (blank.parts ≡ L.parts) × (blank.parts ≡ workers) }
+    requires list { opened.seen.book ≡ L.book }
+    requires subjects { fresh.store.modules ≡ L.modules }
+    requires plan { fresh.store.given.imports ≡ L.plan }
     requires workers { (0 < workers) × (workers ≤ 16) }
     requires empty { fresh.store.journal ≡ [] }
     ensures finished { IfOk result (λ f. (sources : List (List ℕ)) → AreModulesOf sources (map arc_value fresh.modules.items) → IsFinished sources workers f.store f.records.items) }
@@ -132,15 +137,18 @@ fn worked<L: Ledger + Send + Sync, G: Gate + Sync, R: Threads + Wait + Sync>(
         store,
     } = fresh;
     let room = room_for(imports.as_slice());
-    let (shared, mut passes) = Shared::<L>::new(alloc, store, workers, room, blank)?;
+    let (shared, mut passes) = Shared::<L, &R>::new(
+        alloc, rt, store, workers, room, blank, opened,
+    )?;
     let work = Work {
         alloc,
         shared: &shared,
         modules: modules.as_slice(),
         imports: imports.as_slice(),
         gate,
+        depth: depth_limit(texts),
     };
-    run_workers(rt, &work, passes.as_mut_slice(), stack)?;
+    run_workers(rt, &work, passes.as_mut_slice(), stack_size(texts))?;
     let (store, book) = shared.into_store();
     let records = records_of(alloc, book, passes)?;
     finished(alloc, modules, store, records, workers)
@@ -163,7 +171,8 @@ pub(crate) fn build_here<T: Threads + Wait + Sync, G: Gate + Sync>(
     settled_modules_have_their_verdicts();
     let fresh = read(alloc, sources)?;
     let blank = Blank::new(workers as u64);
-    worked::<Brand, G, T>(rt, alloc, fresh, workers, gate, stack_size(sources), blank)
+    let opened = Opened::new();
+    worked::<Brand, G, T>(rt, alloc, fresh, workers, gate, sources, blank, opened)
 }
 
 /// The promise of a thread: its answer is a build of these sources by so many workers.

@@ -5,8 +5,10 @@ ghost use Rattle.hm_store.specs.Builds.{IsAllSettled, IsLegal};
 ghost use Rattle.hm_build.specs.FinishedBuilds.{AreNumbered, IsFinished};
 ghost use Rattle.hm_sources.specs.SourceModules.{AreModulesOf};
 
+use crate::rounds::are_in_rounds;
 use crate::{BuildFault, Finished};
 use hm_equal::is_same_module;
+use hm_published::Naming;
 use hm_store::{Pass, Record, Store};
 use hm_syntax::Module;
 use std::alloc::{AllocError, Global};
@@ -14,7 +16,7 @@ use std::sync::Arc;
 use std::sync::ledger::{Book, Ledger};
 
 /// The records of the workers, in the order of their passes.
-pub(crate) fn records_of<L: Ledger>(
+pub(crate) fn records_of<L: Ledger + Naming>(
     alloc: Global,
     mut book: Book<L>,
     passes: Vec<Pass<L>>,
@@ -67,7 +69,8 @@ fn are_numbered(records: &[Record], workers: usize) -> bool
     records.len() == workers
 }
 
-/// The build, where its store is that of the modules and was not stopped, each module is settled, and the records agree with the journal.
+/// The build, where its store is that of the modules and was not stopped, each module is settled, and the records agree with the journal
+/// and are in rounds.
 pub(crate) fn finished(
     alloc: Global,
     modules: Vec<Arc<Module>>,
@@ -89,6 +92,9 @@ pub(crate) fn finished(
         return Err(BuildFault::Mixed);
     }
     if !are_numbered(records.as_slice(), workers) {
+        return Err(BuildFault::Mixed);
+    }
+    if !are_in_rounds(store.plan(), records.as_slice()) {
         return Err(BuildFault::Mixed);
     }
     if !store.audit(alloc, records.as_slice())? {

@@ -11,6 +11,7 @@ mod journals;
 pub mod laws;
 mod options;
 mod reports;
+mod rounds;
 mod running;
 mod stacks;
 mod statuses;

@@ -1,11 +1,13 @@
 //! What the workers of a build do.
 
 use crate::{BuildFault, Gate};
-use hm_check::{CheckFault, check_module};
+use hm_check::{CheckFault, check_module_within};
 use hm_outcomes::Outcome;
-use hm_store::{LookFault, Pass, Shared, Turn};
+use hm_published::{LookFault, Naming, Published, Step};
+use hm_store::{Pass, Refusal, Shared, Turn};
 use hm_syntax::Module;
 use hm_types::Interface;
+use left_right::Absorb;
 use std::alloc::Global;
 use std::sync::ledger::Ledger;
 use std::sync::{Arc, Wait};
@@ -17,7 +19,7 @@ use std::thread::{Builder, JoinHandle, Threads};
 pub(crate) enum WorkFault {
     /// No thread could be started for them.
     NoWorker,
-    /// There was no memory for a look or for a check.
+    /// There was no memory for a look, for a check or for a publication.
     Memory,
     /// The store or the checker refused what a worker does.
     Mixed,
@@ -39,21 +41,25 @@ impl From<WorkFault> for BuildFault {
 }
 
 /// What the workers share.
-#[derive(Clone, Copy)]
-pub(crate) struct Work<'a, L: Ledger, G: Gate> {
+#[derive(Drop)]
+pub(crate) struct Work<'a, L: Ledger + Naming, G: Gate, W: Wait + Drop>
+where
+    Published<L>: Absorb<Step<L>>,
+{
     pub alloc: Global,
-    pub shared: &'a Shared<L>,
+    pub shared: &'a Shared<L, W>,
     /// The modules of the store.
     pub modules: &'a [Arc<Module>],
     /// The numbers of the modules that each imports, in order of first import.
     pub imports: &'a [Vec<usize>],
     pub gate: &'a G,
+    /// How many levels a type may have.
+    pub depth: usize,
 }
 
-/// The published interfaces of these modules.
-fn look_up<L: Ledger, G: Gate, R: Wait>(
-    rt: &R,
-    work: &Work<'_, L, G>,
+/// The published interfaces of these modules. No lock is taken.
+fn look_up<L: Ledger + Naming, G: Gate, W: Wait + Drop>(
+    work: &Work<'_, L, G, W>,
     pass: &mut Pass<L>,
     numbers: &[usize],
 ) -> Result<Vec<Arc<Interface>>, WorkFault> {
@@ -62,9 +68,9 @@ fn look_up<L: Ledger, G: Gate, R: Wait>(
         if pass.room() == 0 {
             return Err(WorkFault::Mixed);
         }
-        match work.shared.look(rt, pass, *number) {
+        match work.shared.look(pass, *number) {
             Ok(Some(interface)) => interfaces.push(interface).map_err(|_| WorkFault::Memory)?,
-            Ok(None) => return Err(WorkFault::Mixed),
+            Ok(None) | Err(LookFault::NoEntry) => return Err(WorkFault::Mixed),
             Err(LookFault::Memory) => return Err(WorkFault::Memory),
         }
     }
@@ -72,9 +78,9 @@ fn look_up<L: Ledger, G: Gate, R: Wait>(
 }
 
 /// Tells the store what a module came to.
-fn settle<L: Ledger, G: Gate, R: Wait>(
+fn settle<L: Ledger + Naming, G: Gate, W: Wait + Drop, R: Wait>(
     rt: &R,
-    work: &Work<'_, L, G>,
+    work: &Work<'_, L, G, W>,
     pass: &mut Pass<L>,
     number: usize,
     outcome: Outcome,
@@ -89,23 +95,29 @@ fn settle<L: Ledger, G: Gate, R: Wait>(
     };
     match reply {
         Ok(()) => Ok(()),
-        Err(_) => Err(WorkFault::Mixed),
+        Err((Refusal::Memory, _)) => Err(WorkFault::Memory),
+        Err((Refusal::NotYours | Refusal::Stranger, _)) => Err(WorkFault::Mixed),
     }
 }
 
 /// Checks a module that was claimed.
-fn check_one<L: Ledger, G: Gate, R: Wait>(
+fn check_one<L: Ledger + Naming, G: Gate, W: Wait + Drop, R: Wait>(
     rt: &R,
-    work: &Work<'_, L, G>,
+    work: &Work<'_, L, G, W>,
     pass: &mut Pass<L>,
     number: usize,
 ) -> Result<(), WorkFault> {
     if number >= work.modules.len() || number >= work.imports.len() {
         return Err(WorkFault::Mixed);
     }
-    let interfaces = look_up(rt, work, pass, work.imports[number].as_slice())?;
+    let interfaces = look_up(work, pass, work.imports[number].as_slice())?;
     work.gate.enter(pass.worker(), number);
-    match check_module(work.alloc, &work.modules[number], interfaces.as_slice()) {
+    match check_module_within(
+        work.alloc,
+        &work.modules[number],
+        interfaces.as_slice(),
+        work.depth,
+    ) {
         Ok(outcome) => settle(rt, work, pass, number, outcome),
         Err(CheckFault::Memory) => Err(WorkFault::Memory),
         Err(CheckFault::Imports) => Err(WorkFault::Mixed),
@@ -113,9 +125,9 @@ fn check_one<L: Ledger, G: Gate, R: Wait>(
 }
 
 /// Claims and checks modules until there is none left.
-fn check_all<L: Ledger, G: Gate, R: Wait>(
+fn check_all<L: Ledger + Naming, G: Gate, W: Wait + Drop, R: Wait>(
     rt: &R,
-    work: &Work<'_, L, G>,
+    work: &Work<'_, L, G, W>,
     pass: &mut Pass<L>,
 ) -> Result<(), WorkFault> {
     for _ in rt.forever() {
@@ -131,9 +143,9 @@ fn check_all<L: Ledger, G: Gate, R: Wait>(
 }
 
 /// Does what a worker does, and stops the build where it ends before it.
-fn run_worker<L: Ledger, G: Gate, R: Wait>(
+fn run_worker<L: Ledger + Naming, G: Gate, W: Wait + Drop, R: Wait>(
     rt: &R,
-    work: &Work<'_, L, G>,
+    work: &Work<'_, L, G, W>,
     pass: &mut Pass<L>,
 ) -> Result<(), WorkFault> {
     let ended = check_all(rt, work, pass);
@@ -163,12 +175,12 @@ fn join_all<R: Threads>(
 }
 
 /// Runs a worker with each pass, on threads with stacks of this size: as many as can be started.
-pub(crate) fn run_workers<L: Ledger + Send + Sync, G: Gate + Sync, R: Threads + Wait + Sync>(
-    rt: &R,
-    work: &Work<'_, L, G>,
-    passes: &mut [Pass<L>],
-    stack: usize,
-) -> Result<(), WorkFault> {
+pub(crate) fn run_workers<
+    L: Ledger + Naming + Send + Sync,
+    G: Gate + Sync,
+    W: Wait + Drop + Send,
+    R: Threads + Wait + Sync,
+>(rt: &R, work: &Work<'_, L, G, W>, passes: &mut [Pass<L>], stack: usize) -> Result<(), WorkFault> {
     let count = passes.len();
     thread::scope(thread::scope_env(), rt, move |scope| {
         let Ok(mut workers) = Vec::with_capacity(work.alloc, count) else {

@@ -14,12 +14,13 @@ ghost use Rattle.hm_check.specs.Refusals.{IsRefused};
 
 use hm_exports::export;
 use hm_imports::are_imports_of;
-use hm_infer::{InferFault, infer};
+use hm_infer::{InferFault, infer_within};
 use hm_names::{Core, Schemes, ScopeFault};
 use hm_outcomes::{Outcome, Verdict};
-use hm_scope::scope;
+use hm_scope::scope_within;
 use hm_syntax::{Module, Row};
 use hm_types::Interface;
+use hm_unify::MOST_LEVELS;
 use std::alloc::{AllocError, AllocFailed, Global};
 use std::sync::Arc;
 use thiserror::Error;
@@ -57,11 +58,11 @@ fn good(alloc: Global, core: &Core, schemes: &Schemes) -> Result<Verdict, AllocE
 }
 
 /// The verdict of a well-formed module, by its core.
-fn core_verdict(alloc: Global, core: &Core) -> Result<Verdict, AllocError>
+fn core_verdict(alloc: Global, core: &Core, depth: usize) -> Result<Verdict, AllocError>
     requires { IsSomeCore core.now }
     ensures { IfOk result (λ v. (m : ModuleTree) (fs : List Exports) → IsCore m fs core.now → IsVerdict m fs (verdict_of v)) }
 {
-    match infer(alloc, core) {
+    match infer_within(alloc, core, depth) {
         Ok(schemes) => Ok(good(alloc, core, &schemes)?),
         Err(InferFault::Untypable(found)) => Ok(Verdict::Faulty(found)),
         Err(InferFault::Memory) => Err(AllocError),
@@ -73,12 +74,13 @@ fn module_verdict(
     alloc: Global,
     module: &Module,
     imports: &[Arc<Interface>],
+    depth: usize,
 ) -> Result<Verdict, AllocError>
     requires { AreImportsOf «module».now (map arc_value imports.now) }
     ensures { IfOk result (λ v. IsVerdict «module».now (prelude_interface ∷ map arc_value imports.now) (verdict_of v)) }
 {
-    match scope(alloc, module, imports) {
-        Ok(core) => Ok(core_verdict(alloc, &core)?),
+    match scope_within(alloc, module, imports, depth) {
+        Ok(core) => Ok(core_verdict(alloc, &core, depth)?),
         Err(ScopeFault::Faults(found)) => Ok(Verdict::Faulty(found)),
         Err(ScopeFault::Memory) => Err(AllocError),
     }
@@ -108,10 +110,26 @@ pub fn check_module(
     ensures imports { IfOk result (λ o. o.imports ≡ map arc_value imports.now) }
     ensures right { IfOk result (λ o. IsVerdict (arc_value «module».now) (prelude_interface ∷ map arc_value imports.now) o.verdict) }
 {
+    check_module_within(alloc, module, imports, MOST_LEVELS)
+}
+
+/// The same, where no type has more than `depth` levels. What would need one is refused for want of memory.
+pub fn check_module_within(
+    alloc: Global,
+    module: &Arc<Module>,
+    imports: &[Arc<Interface>],
+    depth: usize,
+) -> Result<Outcome, CheckFault>
+    ensures asked { IfOk result (λ _. AreImportsOf (arc_value «module».now) (map arc_value imports.now)) }
+    ensures refused { IfErr result (IsRefused (arc_value «module».now) (map arc_value imports.now)) }
+    ensures module { IfOk result (λ o. o.«module» ≡ arc_value «module».now) }
+    ensures imports { IfOk result (λ o. o.imports ≡ map arc_value imports.now) }
+    ensures right { IfOk result (λ o. IsVerdict (arc_value «module».now) (prelude_interface ∷ map arc_value imports.now) o.verdict) }
+{
     if !are_imports_of(alloc, module, imports)? {
         return Err(CheckFault::Imports);
     }
-    let verdict = module_verdict(alloc, module, imports)?;
+    let verdict = module_verdict(alloc, module, imports, depth)?;
     let imports = shared(alloc, imports)?;
     Ok(Outcome::new(module.clone()?, imports, verdict))
 }

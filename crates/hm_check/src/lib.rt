@@ -3,4 +3,4 @@
 
 mod checking;
 
-pub use crate::checking::{CheckFault, check_module};
+pub use crate::checking::{CheckFault, check_module, check_module_within};

@@ -19,6 +19,13 @@ use hm_types::Ty;
 use hm_unify::{Solver, UnifyFault};
 use std::alloc::Global;
 
+/// A node of a list, with the variables that are the types of all nodes.
+#[derive(Clone, Copy)]
+pub(crate) struct TypedNode<'t> {
+    pub types: &'t [usize],
+    pub own: usize,
+}
+
 /// Gives variables the types of their nodes, which stand before the node `own`, that of the first
 /// variable next to it.
 fn equate_types(
@@ -50,26 +57,18 @@ pub(crate) fn match_binding(
     solver: &mut Solver,
     constructors: &Constructors,
     pat: &Pat,
-    types: &[usize],
-    own: usize,
+    node: &TypedNode<'_>,
 ) -> Result<(), UnifyFault>
-    requires own { own < length types.now }
-    requires before { length (pattern_names (pattern_of (known_of constructors.now) pat.now)) ≤ own }
-    requires given { AreGivenTypes solver.old.given types.now }
+    requires own { node.now.own < length node.now.types.now }
+    requires before { length (pattern_names (pattern_of (known_of constructors.now) pat.now)) ≤ node.now.own }
+    requires given { AreGivenTypes solver.old.given node.now.types.now }
     ensures answers { let p = pattern_of (known_of constructors.now) pat.now in
-        (τ : Identifier → Monotype) → HaveTypesBefore τ (pattern_names p) types.now own → Answers (λ r. Matches (put_each r τ) p (put r (type_at types.now own))) solver.old solver.new result }
+        (τ : Identifier → Monotype) → HaveTypesBefore τ (pattern_names p) node.now.types.now node.now.own → Answers (λ r. Matches (put_each r τ) p (put r (type_at node.now.types.now node.now.own))) solver.old solver.new result }
     ensures grows { OnOk result (solver.old.given ≤ solver.new.given) }
 {
     let mut variables = Variables::new(alloc);
-    let number = types[own];
-    match_pattern(
-        alloc,
-        solver,
-        constructors,
-        &mut variables,
-        pat,
-        &Ty::Var(number),
-    )?;
-    equate_types(solver, variables.as_slice(), types, own)?;
+    let number = node.types[node.own];
+    match_pattern(solver, constructors, &mut variables, pat, &Ty::Var(number))?;
+    equate_types(solver, variables.as_slice(), node.types, node.own)?;
     Ok(())
 }

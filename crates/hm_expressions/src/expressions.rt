@@ -27,114 +27,116 @@ ghost use Rattle.hm_assumptions.specs.Patterns.{from_number, put_each};
 ghost use Rattle.hm_names.specs.Syntax.{expression_of, expressions_of, bodies_of, right_sides_of, where_of, pattern_of, patterns_of, alternatives_of};
 ghost use Rattle.hm_assumptions.specs.Constructors.{known_of};
 
-use crate::bindings::match_binding;
-use crate::grouping::{close_group, open_group};
+use crate::bindings::{TypedNode, match_binding};
+use crate::grouping::{TypedGroup, close_group, open_group};
 use crate::signed::{bind_signed, declared_for, signatures_of};
 use hm_assumptions::{
-    Constructors, Environment, check_constructor, check_instance, check_name, declare, element,
+    Constructors, Inference, PartTypes, check_constructor, check_instance, check_name, declare,
     equate, forbid_escape, function_from, list_part, literal_type, new_variables, open_alternative,
     open_function, prelude_type, tuple_parts, with_rigid_variables,
 };
 use hm_groups::{BindingGroups, Member, binding_groups};
 use hm_syntax::{Alt, Decl, DeclKind, Expr, ExprKind, Pat, Rhs, TypeExpr};
 use hm_types::Ty;
-use hm_unify::{Solver, UnifyFault};
+use hm_unify::UnifyFault;
 use indexmap::IndexMap;
-use std::alloc::Global;
+
+/// A binding list that is checked: the constructors that are known, its declarations, what is found
+/// of its groups, and the declared types of its variables, by their texts.
+#[derive(Clone, Copy)]
+pub struct CheckedList<'l, 'a, 'c> {
+    pub constructors: &'l Constructors<'c>,
+    pub decls: &'a [Decl],
+    pub found: &'l BindingGroups<'a>,
+    pub signatures: &'l IndexMap<&'a str, &'a TypeExpr>,
+}
+
+/// The types of a `case`: the variable that is the type of what is examined, and the type of the
+/// whole.
+#[derive(Clone, Copy)]
+struct CaseTypes<'t> {
+    inner: usize,
+    outcome: &'t Ty,
+}
 
 /// Checks an expression against a type.
 #[cycle(checking)]
 pub(crate) fn check_expression<'a>(
-    alloc: Global,
-    solver: &mut Solver,
-    environment: &mut Environment<'a>,
+    inference: &mut Inference<'a>,
     constructors: &Constructors,
     e: &'a Expr,
     t: &Ty,
 ) -> Result<(), UnifyFault>
-    requires given { IsWellFormed solver.old.given (type_of t.now) }
-    requires assumed { AreAssumed solver.old.given environment.old }
-    ensures answers { Answers (λ r. Derives (assumptions_put r (assumptions environment.old)) (expression_of (known_of constructors.now) e.now) (put r (monotype (type_of t.now)))) solver.old solver.new result }
-    ensures same { OnOk result (environment.new ≡ environment.old) }
-    ensures kept { Extends environment.old environment.new }
+    requires given { IsWellFormed inference.old.solver.given (type_of t.now) }
+    requires assumed { AreAssumed inference.old.solver.given inference.old.environment }
+    ensures answers { Answers (λ r. Derives (assumptions_put r (assumptions inference.old.environment)) (expression_of (known_of constructors.now) e.now) (put r (monotype (type_of t.now)))) inference.old.solver inference.new.solver result }
+    ensures same { OnOk result (inference.new.environment ≡ inference.old.environment) }
+    ensures kept { Extends inference.old.environment inference.new.environment }
 {
     match &e.kind {
-        ExprKind::Var(name) => check_name(alloc, solver, environment, name, t),
-        ExprKind::Con(name) => check_constructor(alloc, solver, constructors, name, t),
+        ExprKind::Var(name) => check_name(
+            inference.alloc,
+            &mut inference.solver,
+            &inference.environment,
+            name,
+            t,
+        ),
+        ExprKind::Con(name) => check_constructor(
+            inference.alloc,
+            &mut inference.solver,
+            constructors,
+            name,
+            t,
+        ),
         ExprKind::Literal(literal) => {
-            let own = literal_type(alloc, literal)?;
-            equate(solver, t, own)
+            let own = literal_type(inference.alloc, literal)?;
+            equate(&mut inference.solver, t, own)
         }
         ExprKind::Apply(function, argument) => {
-            let first = new_variables(solver, 1)?;
-            check_function(alloc, solver, environment, constructors, function, first, t)?;
-            check_expression(
-                alloc,
-                solver,
-                environment,
-                constructors,
-                argument,
-                &Ty::Var(first),
-            )
+            let first = new_variables(&mut inference.solver, 1)?;
+            check_function(inference, constructors, function, first, t)?;
+            check_expression(inference, constructors, argument, &Ty::Var(first))
         }
         ExprKind::If(condition, one, other) => {
-            let truth = prelude_type(alloc, "Bool")?;
-            check_expression(alloc, solver, environment, constructors, condition, &truth)?;
-            check_expression(alloc, solver, environment, constructors, one, t)?;
-            check_expression(alloc, solver, environment, constructors, other, t)
+            let truth = prelude_type(inference.alloc, "Bool")?;
+            check_expression(inference, constructors, condition, &truth)?;
+            check_expression(inference, constructors, one, t)?;
+            check_expression(inference, constructors, other, t)
         }
         ExprKind::Tuple(parts) => {
-            let first = tuple_parts(alloc, solver, parts.len(), t)?;
-            check_expressions(
-                alloc,
-                solver,
-                environment,
-                constructors,
-                parts,
-                first,
-                false,
-            )
+            let first = tuple_parts(inference.alloc, &mut inference.solver, parts.len(), t)?;
+            let types = PartTypes { first, same: false };
+            check_expressions(inference, constructors, parts, types)
         }
         ExprKind::List(parts) => {
-            let first = list_part(alloc, solver, t)?;
-            check_expressions(alloc, solver, environment, constructors, parts, first, true)
+            let first = list_part(inference.alloc, &mut inference.solver, t)?;
+            let types = PartTypes { first, same: true };
+            check_expressions(inference, constructors, parts, types)
         }
         ExprKind::Lambda(pats, body) => {
-            let depth = environment.len();
-            let outcome = open_function(alloc, solver, environment, constructors, pats, t)?;
-            check_expression(
-                alloc,
-                solver,
-                environment,
-                constructors,
-                body,
-                &Ty::Var(outcome),
-            )?;
-            environment.truncate(depth);
+            let depth = inference.environment.len();
+            let outcome = open_function(inference, constructors, pats, t)?;
+            check_expression(inference, constructors, body, &Ty::Var(outcome))?;
+            inference.environment.truncate(depth);
             Ok(())
         }
         ExprKind::Let(list, body) => {
-            let depth = environment.len();
-            check_bindings(alloc, solver, environment, constructors, list)?;
-            check_expression(alloc, solver, environment, constructors, body, t)?;
-            environment.truncate(depth);
+            let depth = inference.environment.len();
+            check_bindings(inference, constructors, list)?;
+            check_expression(inference, constructors, body, t)?;
+            inference.environment.truncate(depth);
             Ok(())
         }
         ExprKind::Case(inner, choices) => {
-            let first = new_variables(solver, 1)?;
-            check_expression(
-                alloc,
-                solver,
-                environment,
-                constructors,
-                inner,
-                &Ty::Var(first),
-            )?;
-            check_alternatives(alloc, solver, environment, constructors, choices, first, t)
+            let first = new_variables(&mut inference.solver, 1)?;
+            check_expression(inference, constructors, inner, &Ty::Var(first))?;
+            let types = CaseTypes {
+                inner: first,
+                outcome: t,
+            };
+            check_alternatives(inference, constructors, choices, &types)
         }
-        ExprKind::Typed(inner, ty) => {
-            check_typed(alloc, solver, environment, constructors, inner, ty, t)
-        }
+        ExprKind::Typed(inner, ty) => check_typed(inference, constructors, inner, ty, t),
     }
 }
 
@@ -143,25 +145,23 @@ pub(crate) fn check_expression<'a>(
 /// Report, section 3.16).
 #[cycle(checking)]
 fn check_typed<'a>(
-    alloc: Global,
-    solver: &mut Solver,
-    environment: &mut Environment<'a>,
+    inference: &mut Inference<'a>,
     constructors: &Constructors,
     inner: &'a Expr,
     ty: &TypeExpr,
     t: &Ty,
 ) -> Result<(), UnifyFault>
-    requires given { IsWellFormed solver.old.given (type_of t.now) }
-    requires assumed { AreAssumed solver.old.given environment.old }
-    ensures answers { Answers (λ r. Derives (assumptions_put r (assumptions environment.old)) (expression_of (known_of constructors.now) (typed_expression inner.now ty.now)) (put r (monotype (type_of t.now)))) solver.old solver.new result }
-    ensures same { OnOk result (environment.new ≡ environment.old) }
-    ensures kept { Extends environment.old environment.new }
+    requires given { IsWellFormed inference.old.solver.given (type_of t.now) }
+    requires assumed { AreAssumed inference.old.solver.given inference.old.environment }
+    ensures answers { Answers (λ r. Derives (assumptions_put r (assumptions inference.old.environment)) (expression_of (known_of constructors.now) (typed_expression inner.now ty.now)) (put r (monotype (type_of t.now)))) inference.old.solver inference.new.solver result }
+    ensures same { OnOk result (inference.new.environment ≡ inference.old.environment) }
+    ensures kept { Extends inference.old.environment inference.new.environment }
 {
-    let declared = declare(alloc, ty)?;
-    let own = with_rigid_variables(alloc, solver, &declared)?;
-    check_expression(alloc, solver, environment, constructors, inner, &own.body)?;
-    forbid_escape(solver, own.first, declared.count)?;
-    check_instance(alloc, solver, &declared, t)
+    let declared = declare(inference.alloc, ty)?;
+    let own = with_rigid_variables(inference.alloc, &mut inference.solver, &declared)?;
+    check_expression(inference, constructors, inner, &own.body)?;
+    forbid_escape(&inference.solver, own.first, declared.count)?;
+    check_instance(inference.alloc, &mut inference.solver, &declared, t)
 }
 
 /// Checks an expression against the type of functions from the variable `argument` to a type. It
@@ -169,63 +169,44 @@ fn check_typed<'a>(
 /// doesn't have its type built again for each of them.
 #[cycle(checking)]
 fn check_function<'a>(
-    alloc: Global,
-    solver: &mut Solver,
-    environment: &mut Environment<'a>,
+    inference: &mut Inference<'a>,
     constructors: &Constructors,
     function: &'a Expr,
     argument: usize,
     t: &Ty,
 ) -> Result<(), UnifyFault>
-    requires argument { argument < solver.old.given }
-    requires given { IsWellFormed solver.old.given (type_of t.now) }
-    requires assumed { AreAssumed solver.old.given environment.old }
-    ensures answers { Answers (λ r. Derives (assumptions_put r (assumptions environment.old)) (expression_of (known_of constructors.now) function.now) (put r (arrow (monotype (Var (var argument))) (monotype (type_of t.now))))) solver.old solver.new result }
-    ensures same { OnOk result (environment.new ≡ environment.old) }
-    ensures kept { Extends environment.old environment.new }
+    requires argument { argument < inference.old.solver.given }
+    requires given { IsWellFormed inference.old.solver.given (type_of t.now) }
+    requires assumed { AreAssumed inference.old.solver.given inference.old.environment }
+    ensures answers { Answers (λ r. Derives (assumptions_put r (assumptions inference.old.environment)) (expression_of (known_of constructors.now) function.now) (put r (arrow (monotype (Var (var argument))) (monotype (type_of t.now))))) inference.old.solver inference.new.solver result }
+    ensures same { OnOk result (inference.new.environment ≡ inference.old.environment) }
+    ensures kept { Extends inference.old.environment inference.new.environment }
 {
-    let own = new_variables(solver, 1)?;
-    let whole = function_from(alloc, argument, t)?;
-    check_expression(
-        alloc,
-        solver,
-        environment,
-        constructors,
-        function,
-        &Ty::Var(own),
-    )?;
-    equate(solver, &Ty::Var(own), whole)
+    let own = new_variables(&mut inference.solver, 1)?;
+    let whole = function_from(inference.alloc, argument, t)?;
+    check_expression(inference, constructors, function, &Ty::Var(own))?;
+    equate(&mut inference.solver, &Ty::Var(own), whole)
 }
 
-/// Checks expressions against the variables from `first` on, or each against that one.
+/// Checks expressions against their types.
 #[cycle(checking)]
 pub(crate) fn check_expressions<'a>(
-    alloc: Global,
-    solver: &mut Solver,
-    environment: &mut Environment<'a>,
+    inference: &mut Inference<'a>,
     constructors: &Constructors,
     parts: &'a [Expr],
-    first: usize,
-    same: bool,
+    types: PartTypes,
 ) -> Result<(), UnifyFault>
-    requires given { (j : ℕ) → j < length parts.now → cond same first (first + j) < solver.old.given }
-    requires fits { cond same first (first + length parts.now) < 2 ^ 64 }
-    requires assumed { AreAssumed solver.old.given environment.old }
-    ensures answers { Answers (λ r. DeriveAll (assumptions_put r (assumptions environment.old)) (expressions_of (known_of constructors.now) (expressions parts.now)) (λ j. put r (from_number same first j)) 0) solver.old solver.new result }
-    ensures same { OnOk result (environment.new ≡ environment.old) }
-    ensures kept { Extends environment.old environment.new }
+    requires given { (j : ℕ) → j < length parts.now → cond types.same types.first (types.first + j) < inference.old.solver.given }
+    requires fits { cond types.same types.first (types.first + length parts.now) < 2 ^ 64 }
+    requires assumed { AreAssumed inference.old.solver.given inference.old.environment }
+    ensures answers { Answers (λ r. DeriveAll (assumptions_put r (assumptions inference.old.environment)) (expressions_of (known_of constructors.now) (expressions parts.now)) (λ j. put r (from_number types.same types.first j)) 0) inference.old.solver inference.new.solver result }
+    ensures same { OnOk result (inference.new.environment ≡ inference.old.environment) }
+    ensures kept { Extends inference.old.environment inference.new.environment }
 {
-    solver.well_formed();
+    inference.solver.well_formed();
     'parts: for j in 0..parts.len() {
-        let number = element(first, j, same);
-        check_expression(
-            alloc,
-            solver,
-            environment,
-            constructors,
-            &parts[j],
-            &Ty::Var(number),
-        )?;
+        let number = types.at(j);
+        check_expression(inference, constructors, &parts[j], &Ty::Var(number))?;
     }
     Ok(())
 }
@@ -233,26 +214,24 @@ pub(crate) fn check_expressions<'a>(
 /// Checks an expression, behind its guard, if it has one, against a type.
 #[cycle(checking)]
 pub(crate) fn check_body<'a>(
-    alloc: Global,
-    solver: &mut Solver,
-    environment: &mut Environment<'a>,
+    inference: &mut Inference<'a>,
     constructors: &Constructors,
     guard: &'a Option<Expr>,
     e: &'a Expr,
     t: &Ty,
 ) -> Result<(), UnifyFault>
-    requires given { IsWellFormed solver.old.given (type_of t.now) }
-    requires assumed { AreAssumed solver.old.given environment.old }
-    ensures answers { Answers (λ r. DeriveRightSides (assumptions_put r (assumptions environment.old)) (bodies_of (known_of constructors.now) (body guard.now e.now no_bodies)) (put r (monotype (type_of t.now)))) solver.old solver.new result }
-    ensures same { OnOk result (environment.new ≡ environment.old) }
-    ensures kept { Extends environment.old environment.new }
+    requires given { IsWellFormed inference.old.solver.given (type_of t.now) }
+    requires assumed { AreAssumed inference.old.solver.given inference.old.environment }
+    ensures answers { Answers (λ r. DeriveRightSides (assumptions_put r (assumptions inference.old.environment)) (bodies_of (known_of constructors.now) (body guard.now e.now no_bodies)) (put r (monotype (type_of t.now)))) inference.old.solver inference.new.solver result }
+    ensures same { OnOk result (inference.new.environment ≡ inference.old.environment) }
+    ensures kept { Extends inference.old.environment inference.new.environment }
 {
     match guard {
-        None => check_expression(alloc, solver, environment, constructors, e, t),
+        None => check_expression(inference, constructors, e, t),
         Some(condition) => {
-            let truth = prelude_type(alloc, "Bool")?;
-            check_expression(alloc, solver, environment, constructors, condition, &truth)?;
-            check_expression(alloc, solver, environment, constructors, e, t)
+            let truth = prelude_type(inference.alloc, "Bool")?;
+            check_expression(inference, constructors, condition, &truth)?;
+            check_expression(inference, constructors, e, t)
         }
     }
 }
@@ -260,31 +239,21 @@ pub(crate) fn check_body<'a>(
 /// Checks the expressions of a right side, each behind its guard, against a type.
 #[cycle(checking)]
 pub(crate) fn check_bodies<'a>(
-    alloc: Global,
-    solver: &mut Solver,
-    environment: &mut Environment<'a>,
+    inference: &mut Inference<'a>,
     constructors: &Constructors,
     parts: &'a [(Option<Expr>, Expr)],
     t: &Ty,
 ) -> Result<(), UnifyFault>
-    requires given { IsWellFormed solver.old.given (type_of t.now) }
-    requires assumed { AreAssumed solver.old.given environment.old }
-    ensures answers { Answers (λ r. DeriveRightSides (assumptions_put r (assumptions environment.old)) (bodies_of (known_of constructors.now) (bodies parts.now)) (put r (monotype (type_of t.now)))) solver.old solver.new result }
-    ensures same { OnOk result (environment.new ≡ environment.old) }
-    ensures kept { Extends environment.old environment.new }
+    requires given { IsWellFormed inference.old.solver.given (type_of t.now) }
+    requires assumed { AreAssumed inference.old.solver.given inference.old.environment }
+    ensures answers { Answers (λ r. DeriveRightSides (assumptions_put r (assumptions inference.old.environment)) (bodies_of (known_of constructors.now) (bodies parts.now)) (put r (monotype (type_of t.now)))) inference.old.solver inference.new.solver result }
+    ensures same { OnOk result (inference.new.environment ≡ inference.old.environment) }
+    ensures kept { Extends inference.old.environment inference.new.environment }
 {
-    solver.well_formed();
+    inference.solver.well_formed();
     'parts: for j in 0..parts.len() {
         let part = &parts[j];
-        check_body(
-            alloc,
-            solver,
-            environment,
-            constructors,
-            &part.0,
-            &part.1,
-            t,
-        )?;
+        check_body(inference, constructors, &part.0, &part.1, t)?;
     }
     Ok(())
 }
@@ -292,87 +261,68 @@ pub(crate) fn check_bodies<'a>(
 /// Checks a right side, with what is bound by its `where`, against a type.
 #[cycle(checking)]
 pub(crate) fn check_right_side<'a>(
-    alloc: Global,
-    solver: &mut Solver,
-    environment: &mut Environment<'a>,
+    inference: &mut Inference<'a>,
     constructors: &Constructors,
     rhs: &'a Rhs,
     t: &Ty,
 ) -> Result<(), UnifyFault>
-    requires given { IsWellFormed solver.old.given (type_of t.now) }
-    requires assumed { AreAssumed solver.old.given environment.old }
+    requires given { IsWellFormed inference.old.solver.given (type_of t.now) }
+    requires assumed { AreAssumed inference.old.solver.given inference.old.environment }
     ensures answers { let k = known_of constructors.now in
-        Answers (λ r. HasLocal (assumptions_put r (assumptions environment.old)) (where_of k rhs.now) (λ B. DerivedSchemes (assumptions_put r (assumptions environment.old)) (where_of k rhs.now) B) (λ C. DeriveRightSides C (right_sides_of k rhs.now) (put r (monotype (type_of t.now))))) solver.old solver.new result }
-    ensures same { OnOk result (environment.new ≡ environment.old) }
-    ensures kept { Extends environment.old environment.new }
+        Answers (λ r. HasLocal (assumptions_put r (assumptions inference.old.environment)) (where_of k rhs.now) (λ B. DerivedSchemes (assumptions_put r (assumptions inference.old.environment)) (where_of k rhs.now) B) (λ C. DeriveRightSides C (right_sides_of k rhs.now) (put r (monotype (type_of t.now))))) inference.old.solver inference.new.solver result }
+    ensures same { OnOk result (inference.new.environment ≡ inference.old.environment) }
+    ensures kept { Extends inference.old.environment inference.new.environment }
 {
-    let depth = environment.len();
-    check_bindings(alloc, solver, environment, constructors, &rhs.local)?;
-    check_bodies(alloc, solver, environment, constructors, &rhs.parts, t)?;
-    environment.truncate(depth);
+    let depth = inference.environment.len();
+    check_bindings(inference, constructors, &rhs.local)?;
+    check_bodies(inference, constructors, &rhs.parts, t)?;
+    inference.environment.truncate(depth);
     Ok(())
 }
 
-/// Checks an alternative against types: its pattern against the variable `first`, its right side
-/// against `t`.
+/// Checks an alternative, given by its pattern and its right side, against the types of its `case`.
 #[cycle(checking)]
-pub(crate) fn check_alternative<'a>(
-    alloc: Global,
-    solver: &mut Solver,
-    environment: &mut Environment<'a>,
+fn check_alternative<'a>(
+    inference: &mut Inference<'a>,
     constructors: &Constructors,
     pat: &'a Pat,
     rhs: &'a Rhs,
-    first: usize,
-    t: &Ty,
+    types: &CaseTypes<'_>,
 ) -> Result<(), UnifyFault>
-    requires first { first < solver.old.given }
-    requires given { IsWellFormed solver.old.given (type_of t.now) }
-    requires assumed { AreAssumed solver.old.given environment.old }
+    requires inner { types.now.inner < inference.old.solver.given }
+    requires given { IsWellFormed inference.old.solver.given (type_of types.now.outcome.now) }
+    requires assumed { AreAssumed inference.old.solver.given inference.old.environment }
     ensures answers { let k = known_of constructors.now in
-        Answers (λ r. HasFunction (assumptions_put r (assumptions environment.old)) (pattern (pattern_of k pat.now) no_pattern) (put r (arrow (monotype (Var (var first))) (monotype (type_of t.now)))) (λ A u. HasLocal A (where_of k rhs.now) (λ B. DerivedSchemes A (where_of k rhs.now) B) (λ C. DeriveRightSides C (right_sides_of k rhs.now) u))) solver.old solver.new result }
-    ensures same { OnOk result (environment.new ≡ environment.old) }
-    ensures kept { Extends environment.old environment.new }
+        Answers (λ r. HasFunction (assumptions_put r (assumptions inference.old.environment)) (pattern (pattern_of k pat.now) no_pattern) (put r (arrow (monotype (Var (var types.now.inner))) (monotype (type_of types.now.outcome.now)))) (λ A u. HasLocal A (where_of k rhs.now) (λ B. DerivedSchemes A (where_of k rhs.now) B) (λ C. DeriveRightSides C (right_sides_of k rhs.now) u))) inference.old.solver inference.new.solver result }
+    ensures same { OnOk result (inference.new.environment ≡ inference.old.environment) }
+    ensures kept { Extends inference.old.environment inference.new.environment }
 {
-    let depth = environment.len();
-    open_alternative(alloc, solver, environment, constructors, pat, first, t)?;
-    check_right_side(alloc, solver, environment, constructors, rhs, t)?;
-    environment.truncate(depth);
+    let depth = inference.environment.len();
+    open_alternative(inference, constructors, pat, types.inner, types.outcome)?;
+    check_right_side(inference, constructors, rhs, types.outcome)?;
+    inference.environment.truncate(depth);
     Ok(())
 }
 
-/// Checks alternatives against types: their patterns against the variable `first`, their right
-/// sides against `t`.
+/// Checks alternatives against the types of their `case`.
 #[cycle(checking)]
-pub(crate) fn check_alternatives<'a>(
-    alloc: Global,
-    solver: &mut Solver,
-    environment: &mut Environment<'a>,
+fn check_alternatives<'a>(
+    inference: &mut Inference<'a>,
     constructors: &Constructors,
     choices: &'a [Alt],
-    first: usize,
-    t: &Ty,
+    types: &CaseTypes<'_>,
 ) -> Result<(), UnifyFault>
-    requires first { first < solver.old.given }
-    requires given { IsWellFormed solver.old.given (type_of t.now) }
-    requires assumed { AreAssumed solver.old.given environment.old }
-    ensures answers { Answers (λ r. DeriveClauses (assumptions_put r (assumptions environment.old)) (alternatives_of (known_of constructors.now) (alternatives choices.now)) (put r (arrow (monotype (Var (var first))) (monotype (type_of t.now))))) solver.old solver.new result }
-    ensures same { OnOk result (environment.new ≡ environment.old) }
-    ensures kept { Extends environment.old environment.new }
+    requires inner { types.now.inner < inference.old.solver.given }
+    requires given { IsWellFormed inference.old.solver.given (type_of types.now.outcome.now) }
+    requires assumed { AreAssumed inference.old.solver.given inference.old.environment }
+    ensures answers { Answers (λ r. DeriveClauses (assumptions_put r (assumptions inference.old.environment)) (alternatives_of (known_of constructors.now) (alternatives choices.now)) (put r (arrow (monotype (Var (var types.now.inner))) (monotype (type_of types.now.outcome.now))))) inference.old.solver inference.new.solver result }
+    ensures same { OnOk result (inference.new.environment ≡ inference.old.environment) }
+    ensures kept { Extends inference.old.environment inference.new.environment }
 {
-    solver.well_formed();
+    inference.solver.well_formed();
     'choices: for j in 0..choices.len() {
         let choice = &choices[j];
-        check_alternative(
-            alloc,
-            solver,
-            environment,
-            constructors,
-            &choice.pat,
-            &choice.rhs,
-            first,
-            t,
-        )?;
+        check_alternative(inference, constructors, &choice.pat, &choice.rhs, types)?;
     }
     Ok(())
 }
@@ -380,32 +330,23 @@ pub(crate) fn check_alternatives<'a>(
 /// Checks a clause, given by its patterns and its right side, against a type.
 #[cycle(checking)]
 pub(crate) fn check_clause<'a>(
-    alloc: Global,
-    solver: &mut Solver,
-    environment: &mut Environment<'a>,
+    inference: &mut Inference<'a>,
     constructors: &Constructors,
     pats: &'a [Pat],
     rhs: &'a Rhs,
     t: &Ty,
 ) -> Result<(), UnifyFault>
-    requires given { IsWellFormed solver.old.given (type_of t.now) }
-    requires assumed { AreAssumed solver.old.given environment.old }
+    requires given { IsWellFormed inference.old.solver.given (type_of t.now) }
+    requires assumed { AreAssumed inference.old.solver.given inference.old.environment }
     ensures answers { let k = known_of constructors.now in
-        Answers (λ r. HasFunction (assumptions_put r (assumptions environment.old)) (patterns_of k (patterns pats.now)) (put r (monotype (type_of t.now))) (λ A u. HasLocal A (where_of k rhs.now) (λ B. DerivedSchemes A (where_of k rhs.now) B) (λ C. DeriveRightSides C (right_sides_of k rhs.now) u))) solver.old solver.new result }
-    ensures same { OnOk result (environment.new ≡ environment.old) }
-    ensures kept { Extends environment.old environment.new }
+        Answers (λ r. HasFunction (assumptions_put r (assumptions inference.old.environment)) (patterns_of k (patterns pats.now)) (put r (monotype (type_of t.now))) (λ A u. HasLocal A (where_of k rhs.now) (λ B. DerivedSchemes A (where_of k rhs.now) B) (λ C. DeriveRightSides C (right_sides_of k rhs.now) u))) inference.old.solver inference.new.solver result }
+    ensures same { OnOk result (inference.new.environment ≡ inference.old.environment) }
+    ensures kept { Extends inference.old.environment inference.new.environment }
 {
-    let depth = environment.len();
-    let outcome = open_function(alloc, solver, environment, constructors, pats, t)?;
-    check_right_side(
-        alloc,
-        solver,
-        environment,
-        constructors,
-        rhs,
-        &Ty::Var(outcome),
-    )?;
-    environment.truncate(depth);
+    let depth = inference.environment.len();
+    let outcome = open_function(inference, constructors, pats, t)?;
+    check_right_side(inference, constructors, rhs, &Ty::Var(outcome))?;
+    inference.environment.truncate(depth);
     Ok(())
 }
 
@@ -413,47 +354,40 @@ pub(crate) fn check_clause<'a>(
 /// side have that of theirs.
 #[cycle(checking)]
 fn check_member<'a>(
-    alloc: Global,
-    solver: &mut Solver,
-    environment: &mut Environment<'a>,
+    inference: &mut Inference<'a>,
     constructors: &Constructors,
     decl: &'a Decl,
-    types: &[usize],
-    own: usize,
+    node: &TypedNode<'_>,
 ) -> Result<(), UnifyFault>
-    requires own { own < length types.now }
-    requires before { StandBefore (known_of constructors.now) own decl.now }
-    requires given { AreGivenTypes solver.old.given types.now }
-    requires assumed { AreAssumed solver.old.given environment.old }
+    requires own { node.now.own < length node.now.types.now }
+    requires before { StandBefore (known_of constructors.now) node.now.own decl.now }
+    requires given { AreGivenTypes inference.old.solver.given node.now.types.now }
+    requires assumed { AreAssumed inference.old.solver.given inference.old.environment }
     ensures answers { let k = known_of constructors.now in
-        (τ : Identifier → Monotype) → HaveTypesOf k τ types.now own decl.now → Answers (λ r. MemberHas k (assumptions_put r (assumptions environment.old)) (put_each r τ) (put r (type_at types.now own)) decl.now) solver.old solver.new result }
-    ensures same { OnOk result (environment.new ≡ environment.old) }
-    ensures kept { Extends environment.old environment.new }
-    ensures grows { OnOk result (solver.old.given ≤ solver.new.given) }
+        (τ : Identifier → Monotype) → HaveTypesOf k τ node.now.types.now node.now.own decl.now → Answers (λ r. MemberHas k (assumptions_put r (assumptions inference.old.environment)) (put_each r τ) (put r (type_at node.now.types.now node.now.own)) decl.now) inference.old.solver inference.new.solver result }
+    ensures same { OnOk result (inference.new.environment ≡ inference.old.environment) }
+    ensures kept { Extends inference.old.environment inference.new.environment }
+    ensures grows { OnOk result (inference.old.solver.given ≤ inference.new.solver.given) }
 {
-    solver.well_formed();
-    let number = types[own];
+    inference.solver.well_formed();
+    let number = node.types[node.own];
     match &decl.kind {
         DeclKind::Clause { name: _, pats, rhs } => check_clause(
-            alloc,
-            solver,
-            environment,
+            inference,
             constructors,
             pats,
             rhs,
             &Ty::Var(number),
         ),
         DeclKind::Pattern { place: _, pat, rhs } => {
-            match_binding(alloc, solver, constructors, pat, types, own)?;
-            check_clause(
-                alloc,
-                solver,
-                environment,
+            match_binding(
+                inference.alloc,
+                &mut inference.solver,
                 constructors,
-                &[],
-                rhs,
-                &Ty::Var(number),
-            )
+                pat,
+                node,
+            )?;
+            check_clause(inference, constructors, &[], rhs, &Ty::Var(number))
         }
         DeclKind::DataType {
             name: _,
@@ -477,35 +411,29 @@ fn check_member<'a>(
 /// Checks the declarations of a group.
 #[cycle(checking)]
 fn check_members<'a>(
-    alloc: Global,
-    solver: &mut Solver,
-    environment: &mut Environment<'a>,
+    inference: &mut Inference<'a>,
     constructors: &Constructors,
     decls: &'a [Decl],
     members: &[Member],
     types: &[usize],
 ) -> Result<(), UnifyFault>
     requires members { AreMembers (known_of constructors.now) decls.now (length types.now) members.now }
-    requires given { AreGivenTypes solver.old.given types.now }
-    requires assumed { AreAssumed solver.old.given environment.old }
+    requires given { AreGivenTypes inference.old.solver.given types.now }
+    requires assumed { AreAssumed inference.old.solver.given inference.old.environment }
     ensures answers { let k = known_of constructors.now in
-        (τ : Identifier → Monotype) → HaveTypesOfAll k decls.now τ types.now members.now → Answers (MembersHave k decls.now types.now τ members.now (assumptions environment.old)) solver.old solver.new result }
-    ensures same { OnOk result (environment.new ≡ environment.old) }
-    ensures kept { Extends environment.old environment.new }
-    ensures grows { OnOk result (solver.old.given ≤ solver.new.given) }
+        (τ : Identifier → Monotype) → HaveTypesOfAll k decls.now τ types.now members.now → Answers (MembersHave k decls.now types.now τ members.now (assumptions inference.old.environment)) inference.old.solver inference.new.solver result }
+    ensures same { OnOk result (inference.new.environment ≡ inference.old.environment) }
+    ensures kept { Extends inference.old.environment inference.new.environment }
+    ensures grows { OnOk result (inference.old.solver.given ≤ inference.new.solver.given) }
 {
-    solver.well_formed();
+    inference.solver.well_formed();
     'members: for j in 0..members.len() {
         let member = &members[j];
-        check_member(
-            alloc,
-            solver,
-            environment,
-            constructors,
-            &decls[member.place],
+        let node = TypedNode {
             types,
-            member.node,
-        )?;
+            own: member.node,
+        };
+        check_member(inference, constructors, &decls[member.place], &node)?;
     }
     Ok(())
 }
@@ -514,44 +442,43 @@ fn check_members<'a>(
 /// are in the value of one older than the group aren't quantified.
 #[cycle(checking)]
 pub fn infer_group<'a>(
-    alloc: Global,
-    solver: &mut Solver,
-    environment: &mut Environment<'a>,
-    constructors: &Constructors,
-    decls: &'a [Decl],
-    found: &BindingGroups<'a>,
+    inference: &mut Inference<'a>,
+    list: &CheckedList<'_, 'a, '_>,
     group: &[usize],
     types: &mut [usize],
 ) -> Result<(), UnifyFault>
-    requires list { IsListFound (known_of constructors.now) decls.now found.now.numbers (lists found.now.rows.items) }
-    requires nodes { All (λ j. j < length found.now.numbers) group.now }
-    requires types { length types.old ≡ length found.now.numbers }
+    requires list { IsListFound (known_of list.now.constructors.now) list.now.decls.now list.now.found.now.numbers (lists list.now.found.now.rows.items) }
+    requires nodes { All (λ j. j < length list.now.found.now.numbers) group.now }
+    requires types { length types.old ≡ length list.now.found.now.numbers }
     requires some { 0 < length group.now }
-    requires numbers { AreUpTo solver.old.given types.old }
-    requires assumed { AreAssumed solver.old.given environment.old }
-    ensures inferred { (added base : List Assumed) → environment.old ≡ added ++ base → InfersGroup (known_of constructors.now) decls.now group.now base solver.old environment.old solver.new environment.new result }
-    ensures assumed { OnOk result (AreAssumed solver.new.given environment.new) }
-    ensures judged { (added base : List Assumed) → environment.old ≡ added ++ base → JudgesGroup (known_of constructors.now) decls.now group.now base solver.old environment.old environment.new result }
-    ensures closed { OnOk result ((added base : List Assumed) → environment.old ≡ added ++ base → ClosesGroup (known_of constructors.now) decls.now group.now base solver.old environment.old environment.new) }
-    ensures closed_first { OnOk result (solver.old.given ≡ 0 → AreAssumed 0 environment.old → AreAssumed 0 environment.new) }
-    ensures numbers { OnOk result (AreUpTo solver.new.given types.new) }
-    ensures kept { Extends environment.old environment.new }
+    requires numbers { AreUpTo inference.old.solver.given types.old }
+    requires assumed { AreAssumed inference.old.solver.given inference.old.environment }
+    ensures inferred { (added base : List Assumed) → inference.old.environment ≡ added ++ base → InfersGroup (known_of list.now.constructors.now) list.now.decls.now group.now base inference.old.solver inference.old.environment inference.new.solver inference.new.environment result }
+    ensures assumed { OnOk result (AreAssumed inference.new.solver.given inference.new.environment) }
+    ensures judged { (added base : List Assumed) → inference.old.environment ≡ added ++ base → JudgesGroup (known_of list.now.constructors.now) list.now.decls.now group.now base inference.old.solver inference.old.environment inference.new.environment result }
+    ensures closed { OnOk result ((added base : List Assumed) → inference.old.environment ≡ added ++ base → ClosesGroup (known_of list.now.constructors.now) list.now.decls.now group.now base inference.old.solver inference.old.environment inference.new.environment) }
+    ensures closed_first { OnOk result (inference.old.solver.given ≡ 0 → AreAssumed 0 inference.old.environment → AreAssumed 0 inference.new.environment) }
+    ensures numbers { OnOk result (AreUpTo inference.new.solver.given types.new) }
+    ensures kept { Extends inference.old.environment inference.new.environment }
     ensures changed { ChangesOnly group.now types.old types.new }
 {
-    let older = solver.given();
-    let inner = environment.len();
-    let members = open_group(alloc, solver, environment, found, group, types)?;
-    check_members(
-        alloc,
-        solver,
-        environment,
-        constructors,
-        decls,
-        &members,
+    let older = inference.solver.given();
+    let inner = inference.environment.len();
+    let members = open_group(inference, list.found, group, types)?;
+    check_members(inference, list.constructors, list.decls, &members, types)?;
+    inference.environment.truncate(inner);
+    let typed = TypedGroup {
+        numbers: &list.found.numbers,
+        nodes: group,
         types,
+        older,
+    };
+    close_group(
+        inference.alloc,
+        &inference.solver,
+        &mut inference.environment,
+        &typed,
     )?;
-    environment.truncate(inner);
-    close_group(alloc, solver, environment, found, group, types, older)?;
     Ok(())
 }
 
@@ -559,67 +486,47 @@ pub fn infer_group<'a>(
 /// variables for those of the type. Nothing is asked of other declarations.
 #[cycle(checking)]
 pub fn check_signed<'a>(
-    alloc: Global,
-    solver: &mut Solver,
-    environment: &mut Environment<'a>,
+    inference: &mut Inference<'a>,
     constructors: &Constructors,
     signatures: &IndexMap<&str, &TypeExpr>,
     decl: &'a Decl,
 ) -> Result<(), UnifyFault>
-    requires assumed { AreAssumed solver.old.given environment.old }
-    ensures answers { (all : Declarations) → AreSignatures all signatures.now → Answers (λ r. SignedClauseHas (known_of constructors.now) all (assumptions_put r (assumptions environment.old)) decl.now) solver.old solver.new result }
-    ensures same { OnOk result (environment.new ≡ environment.old) }
-    ensures kept { Extends environment.old environment.new }
-    ensures grows { OnOk result (solver.old.given ≤ solver.new.given) }
+    requires assumed { AreAssumed inference.old.solver.given inference.old.environment }
+    ensures answers { (all : Declarations) → AreSignatures all signatures.now → Answers (λ r. SignedClauseHas (known_of constructors.now) all (assumptions_put r (assumptions inference.old.environment)) decl.now) inference.old.solver inference.new.solver result }
+    ensures same { OnOk result (inference.new.environment ≡ inference.old.environment) }
+    ensures kept { Extends inference.old.environment inference.new.environment }
+    ensures grows { OnOk result (inference.old.solver.given ≤ inference.new.solver.given) }
 {
-    solver.well_formed();
+    inference.solver.well_formed();
     let DeclKind::Clause { name, pats, rhs } = &decl.kind else {
         return Ok(());
     };
     let Some(ty) = declared_for(signatures, name) else {
         return Ok(());
     };
-    let declared = declare(alloc, ty)?;
-    let own = with_rigid_variables(alloc, solver, &declared)?;
-    check_clause(
-        alloc,
-        solver,
-        environment,
-        constructors,
-        pats,
-        rhs,
-        &own.body,
-    )?;
-    forbid_escape(solver, own.first, declared.count)?;
+    let declared = declare(inference.alloc, ty)?;
+    let own = with_rigid_variables(inference.alloc, &mut inference.solver, &declared)?;
+    check_clause(inference, constructors, pats, rhs, &own.body)?;
+    forbid_escape(&inference.solver, own.first, declared.count)?;
     Ok(())
 }
 
 /// Checks the clauses of a list whose variables have signatures.
 #[cycle(checking)]
 fn check_all_signed<'a>(
-    alloc: Global,
-    solver: &mut Solver,
-    environment: &mut Environment<'a>,
-    constructors: &Constructors,
-    signatures: &IndexMap<&str, &TypeExpr>,
-    decls: &'a [Decl],
+    inference: &mut Inference<'a>,
+    list: &CheckedList<'_, 'a, '_>,
 ) -> Result<(), UnifyFault>
-    requires signatures { AreSignatures (declarations decls.now) signatures.now }
-    requires assumed { AreAssumed solver.old.given environment.old }
-    ensures answers { Answers (λ r. SignedClausesHave (known_of constructors.now) (declarations decls.now) (assumptions_put r (assumptions environment.old)) decls.now) solver.old solver.new result }
-    ensures same { OnOk result (environment.new ≡ environment.old) }
-    ensures kept { Extends environment.old environment.new }
+    requires signatures { AreSignatures (declarations list.now.decls.now) list.now.signatures.now }
+    requires assumed { AreAssumed inference.old.solver.given inference.old.environment }
+    ensures answers { Answers (λ r. SignedClausesHave (known_of list.now.constructors.now) (declarations list.now.decls.now) (assumptions_put r (assumptions inference.old.environment)) list.now.decls.now) inference.old.solver inference.new.solver result }
+    ensures same { OnOk result (inference.new.environment ≡ inference.old.environment) }
+    ensures kept { Extends inference.old.environment inference.new.environment }
 {
-    solver.well_formed();
+    inference.solver.well_formed();
+    let decls = list.decls;
     'decls: for j in 0..decls.len() {
-        check_signed(
-            alloc,
-            solver,
-            environment,
-            constructors,
-            signatures,
-            &decls[j],
-        )?;
+        check_signed(inference, list.constructors, list.signatures, &decls[j])?;
     }
     Ok(())
 }
@@ -628,38 +535,38 @@ fn check_all_signed<'a>(
 /// are declared, then group after group, and at last the bindings with signatures are checked.
 #[cycle(checking)]
 pub fn check_bindings<'a>(
-    alloc: Global,
-    solver: &mut Solver,
-    environment: &mut Environment<'a>,
+    inference: &mut Inference<'a>,
     constructors: &Constructors,
     list: &'a [Decl],
 ) -> Result<(), UnifyFault>
-    requires { AreAssumed solver.old.given environment.old }
-    ensures listed { Listed (list_of (known_of constructors.now) list.now) solver.old environment.old solver.new environment.new result }
-    ensures closed { OnOk result (AreAssumed 0 environment.old → AreAssumed 0 environment.new) }
-    ensures kept { Extends environment.old environment.new }
+    requires { AreAssumed inference.old.solver.given inference.old.environment }
+    ensures listed { Listed (list_of (known_of constructors.now) list.now) inference.old.solver inference.old.environment inference.new.solver inference.new.environment result }
+    ensures closed { OnOk result (AreAssumed 0 inference.old.environment → AreAssumed 0 inference.new.environment) }
+    ensures kept { Extends inference.old.environment inference.new.environment }
 {
-    solver.well_formed();
+    inference.solver.well_formed();
     if list.is_empty() {
         return Ok(());
     }
-    let found = binding_groups(alloc, list)?;
-    let signatures = signatures_of(alloc, list)?;
-    bind_signed(alloc, environment, &signatures, list)?;
+    let found = binding_groups(inference.alloc, list)?;
+    let signatures = signatures_of(inference.alloc, list)?;
+    bind_signed(
+        inference.alloc,
+        &mut inference.environment,
+        &signatures,
+        list,
+    )?;
     let count = found.numbers.len();
-    let mut types = vec![in alloc; 0; count]?;
+    let mut types = vec![in inference.alloc; 0; count]?;
+    let checked = CheckedList {
+        constructors,
+        decls: list,
+        found: &found,
+        signatures: &signatures,
+    };
     'groups: for i in 0..found.groups.len() {
-        infer_group(
-            alloc,
-            solver,
-            environment,
-            constructors,
-            list,
-            &found,
-            &found.groups[i],
-            &mut types,
-        )?;
+        infer_group(inference, &checked, &found.groups[i], &mut types)?;
     }
-    check_all_signed(alloc, solver, environment, constructors, &signatures, list)?;
+    check_all_signed(inference, &checked)?;
     Ok(())
 }

@@ -19,11 +19,21 @@ ghost use Rattle.hm_syntax.specs.Trees.{Declarations};
 ghost use Rattle.hm_typing.specs.Assumptions.{Assumptions, assumptions_put};
 ghost use Rattle.hm_typing.specs.Schemes.{Monotype};
 
-use hm_assumptions::{Environment, Generalised, generalise, new_variables};
+use hm_assumptions::{Environment, Generalised, Inference, generalise, new_variables};
 use hm_groups::{BindingGroups, Member, Numbers, group_members};
 use hm_types::Ty;
 use hm_unify::{Solver, UnifyFault};
 use std::alloc::{AllocError, Global};
+
+/// A group of a list whose nodes have types. Variables that are in the values of the first `older`
+/// stay free in its schemes.
+#[derive(Clone, Copy)]
+pub(crate) struct TypedGroup<'g, 'a> {
+    pub numbers: &'g Numbers<'a>,
+    pub nodes: &'g [usize],
+    pub types: &'g [usize],
+    pub older: usize,
+}
 
 /// Gives the nodes of a group the variables from `first` on.
 pub(crate) fn place_types(types: &mut [usize], group: &[usize], first: usize)
@@ -81,31 +91,27 @@ pub(crate) fn bind_types<'a>(
 }
 
 /// Binds the variables among the nodes of a group to the closures of their types, with what the
-/// solver knows put for their variables. Those that are in the values of the first `older` stay
-/// free.
+/// solver knows put for their variables.
 pub(crate) fn bind_schemes<'a>(
     alloc: Global,
     solver: &Solver,
     environment: &mut Environment<'a>,
-    numbers: &Numbers<'a>,
-    group: &[usize],
-    types: &[usize],
-    older: usize,
+    group: &TypedGroup<'_, 'a>,
 ) -> Result<(), AllocError>
-    requires nodes { All (λ j. j < length numbers.now) group.now }
-    requires types { length types.now ≡ length numbers.now }
-    requires numbers { AreGivenTypes solver.now.given types.now }
-    ensures bound { OnOk result ((k : Known) (all : Declarations) → numbers.now ≡ list_nodes all all → (A : Assumptions) (m : ℕ → Monotype) → IsSolution solver.now.equations m → KeepsEach (is_outer solver.now.equations older) solver.now.equations types.now group.now (assumptions_put m A) → BindsSchemes k all types.now m A group.now environment.old environment.new) }
+    requires nodes { All (λ j. j < length group.now.numbers.now) group.now.nodes.now }
+    requires types { length group.now.types.now ≡ length group.now.numbers.now }
+    requires numbers { AreGivenTypes solver.now.given group.now.types.now }
+    ensures bound { OnOk result ((k : Known) (all : Declarations) → group.now.numbers.now ≡ list_nodes all all → (A : Assumptions) (m : ℕ → Monotype) → IsSolution solver.now.equations m → KeepsEach (is_outer solver.now.equations group.now.older) solver.now.equations group.now.types.now group.now.nodes.now (assumptions_put m A) → BindsSchemes k all group.now.types.now m A group.now.nodes.now environment.old environment.new) }
     ensures given { OnOk result (AreAssumed solver.now.given environment.old → AreAssumed solver.now.given environment.new) }
-    ensures closed { OnOk result (KeepsNone (is_outer solver.now.equations older) solver.now.equations types.now group.now → AreAssumed 0 environment.old → AreAssumed 0 environment.new) }
+    ensures closed { OnOk result (KeepsNone (is_outer solver.now.equations group.now.older) solver.now.equations group.now.types.now group.now.nodes.now → AreAssumed 0 environment.old → AreAssumed 0 environment.new) }
     ensures kept { Extends environment.old environment.new }
 {
-    'nodes: for place in 0..group.len() {
-        let node = group[place];
-        let number = types[node];
-        let scheme = generalise(alloc, solver, older, &Ty::Var(number))?;
+    'nodes: for place in 0..group.nodes.len() {
+        let node = group.nodes[place];
+        let number = group.types[node];
+        let scheme = generalise(alloc, solver, group.older, &Ty::Var(number))?;
         let Generalised { quantified, body } = scheme;
-        bind_node(environment, numbers, node, quantified, body)?;
+        bind_node(environment, group.numbers, node, quantified, body)?;
     }
     Ok(())
 }
@@ -113,9 +119,7 @@ pub(crate) fn bind_schemes<'a>(
 /// Gives the nodes of a group new variables for their types, and binds its names to these. Answers
 /// the declarations of the group.
 pub(crate) fn open_group<'a>(
-    alloc: Global,
-    solver: &mut Solver,
-    environment: &mut Environment<'a>,
+    inference: &mut Inference<'a>,
     found: &BindingGroups<'a>,
     group: &[usize],
     types: &mut [usize],
@@ -124,48 +128,42 @@ pub(crate) fn open_group<'a>(
     requires rows { length found.now.rows.items ≡ length found.now.numbers }
     requires types { length types.old ≡ length found.now.numbers }
     requires some { 0 < length group.now }
-    requires numbers { AreUpTo solver.old.given types.old }
-    requires assumed { AreAssumed solver.old.given environment.old }
-    ensures opened { IfOk result (λ members. IsOpenGroup found.now.numbers (lists found.now.rows.items) group.now solver.old environment.old solver.new environment.new types.new members.items) }
+    requires numbers { AreUpTo inference.old.solver.given types.old }
+    requires assumed { AreAssumed inference.old.solver.given inference.old.environment }
+    ensures opened { IfOk result (λ members. IsOpenGroup found.now.numbers (lists found.now.rows.items) group.now inference.old.solver inference.old.environment inference.new.solver inference.new.environment types.new members.items) }
     ensures refused { IfErr result (λ e. e ≡ Memory) }
-    ensures kept { Extends environment.old environment.new }
+    ensures kept { Extends inference.old.environment inference.new.environment }
     ensures changed { ChangesOnly group.now types.old types.new }
 {
-    let first = new_variables(solver, group.len())?;
+    let first = new_variables(&mut inference.solver, group.len())?;
     place_types(types, group, first);
-    bind_types(alloc, environment, &found.numbers, group, types)?;
-    Ok(group_members(alloc, &found.rows, group)?)
+    bind_types(
+        inference.alloc,
+        &mut inference.environment,
+        &found.numbers,
+        group,
+        types,
+    )?;
+    Ok(group_members(inference.alloc, &found.rows, group)?)
 }
 
-/// Binds the names of a group to the closures of their types: variables that are in the values of
-/// the first `older` stay free.
+/// Binds the names of a group to the closures of their types.
 pub(crate) fn close_group<'a>(
     alloc: Global,
     solver: &Solver,
     environment: &mut Environment<'a>,
-    found: &BindingGroups<'a>,
-    group: &[usize],
-    types: &[usize],
-    older: usize,
+    group: &TypedGroup<'_, 'a>,
 ) -> Result<(), UnifyFault>
-    requires nodes { All (λ j. j < length found.now.numbers) group.now }
-    requires types { length types.now ≡ length found.now.numbers }
-    requires numbers { AreGivenTypes solver.now.given types.now }
+    requires nodes { All (λ j. j < length group.now.numbers.now) group.now.nodes.now }
+    requires types { length group.now.types.now ≡ length group.now.numbers.now }
+    requires numbers { AreGivenTypes solver.now.given group.now.types.now }
     requires assumed { AreAssumed solver.now.given environment.old }
-    ensures closed { OnOk result (IsClosedGroup found.now.numbers group.now types.now older solver.now environment.old environment.new) }
+    ensures closed { OnOk result (IsClosedGroup group.now.numbers.now group.now.nodes.now group.now.types.now group.now.older solver.now environment.old environment.new) }
     ensures assumed { OnOk result (AreAssumed solver.now.given environment.new) }
-    ensures closed_alone { OnOk result (KeepsNone (is_outer solver.now.equations older) solver.now.equations types.now group.now → AreAssumed 0 environment.old → AreAssumed 0 environment.new) }
+    ensures closed_alone { OnOk result (KeepsNone (is_outer solver.now.equations group.now.older) solver.now.equations group.now.types.now group.now.nodes.now → AreAssumed 0 environment.old → AreAssumed 0 environment.new) }
     ensures kept { Extends environment.old environment.new }
     ensures refused { IfErr result (λ e. e ≡ Memory) }
 {
     solver.has_solution();
-    Ok(bind_schemes(
-        alloc,
-        solver,
-        environment,
-        &found.numbers,
-        group,
-        types,
-        older,
-    )?)
+    Ok(bind_schemes(alloc, solver, environment, group)?)
 }

@@ -7,5 +7,5 @@ mod expressions;
 mod grouping;
 mod signed;
 
-pub use crate::expressions::{check_bindings, check_signed, infer_group};
+pub use crate::expressions::{CheckedList, check_bindings, check_signed, infer_group};
 pub use crate::signed::{bind_signed, signatures_of};

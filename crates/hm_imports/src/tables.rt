@@ -20,13 +20,15 @@ use indexmap::IndexMap;
 use std::alloc::{AllocError, Global};
 use std::marker::Model;
 
-/// What is known of type constructors, synonyms and constructors.
+/// What is known of type constructors, synonyms and constructors. A type that a synonym stands for has at most `depth` levels, which
+/// may grow exponentially with the synonyms: what would need more is refused for want of memory.
 #[derive(Drop)]
 pub struct Tables<'a> {
     types: IndexMap<EntityKey<'a>, usize>,
     constructors: IndexMap<EntityKey<'a>, usize>,
     imported: IndexMap<EntityKey<'a>, &'a Synonym>,
     own: IndexMap<EntityKey<'a>, Synonym>,
+    depth: usize,
 }
 
 impl<'a> Model for Tables<'a> {
@@ -298,6 +300,7 @@ impl<'a> Tables<'a> {
         alloc: Global,
         program: &'a Module,
         interfaces: &[&'a Interface],
+        depth: usize,
     ) -> Result<Tables<'a>, AllocError>
         ensures { IfOk result (λ tables. AreTablesOf program.now (map (λ f. f.now) interfaces.now) tables) }
     {
@@ -313,7 +316,13 @@ impl<'a> Tables<'a> {
             constructors,
             imported,
             own: IndexMap::new(alloc),
+            depth,
         })
+    }
+
+    /// How many levels a type may have that a synonym stands for.
+    pub fn depth(&self) -> usize {
+        self.depth
     }
 
     /// Adds a synonym of the module, whose right side is finished.

@@ -16,21 +16,27 @@ use hm_types::{ConstructorEntry, Interface};
 use std::alloc::{AllocError, Global};
 use std::sync::Arc;
 
+/// A type that a module declares: the module's name, its own, and its parameters.
+#[derive(Clone, Copy)]
+struct Owner<'d, 'a> {
+    home: &'a str,
+    name: &'d Name,
+    params: &'d [Name],
+}
+
 /// Adds a constructor of a type that is declared.
 fn add_constructor<'a>(
     alloc: Global,
     entries: &mut Vec<Entry<'a>>,
-    home: &'a str,
-    owner: &Name,
-    params: &[Name],
+    owner: &Owner<'_, 'a>,
     constr: &'a Constr,
 ) -> Result<(), AllocError>
-    requires { (n : Identifier) → ¬ (Repeats params.now n) }
-    ensures { OnOk result (schemes_of entries.new.items ≡ schemes_of entries.old.items ++ scheme_in home.now owner.now params.now constr.now ∷ []) }
+    requires { (n : Identifier) → ¬ (Repeats owner.now.params.now n) }
+    ensures { OnOk result (schemes_of entries.new.items ≡ schemes_of entries.old.items ++ scheme_in owner.now.home.now owner.now.name.now owner.now.params.now constr.now ∷ []) }
 {
-    let scheme = declared_scheme(alloc, home, owner, params, constr)?;
+    let scheme = declared_scheme(alloc, owner.home, owner.name, owner.params, constr)?;
     entries.push(Entry {
-        module: home,
+        module: owner.home,
         name: constr.name.as_str(),
         scheme,
     })?;
@@ -41,16 +47,14 @@ fn add_constructor<'a>(
 fn add_constructors<'a>(
     alloc: Global,
     entries: &mut Vec<Entry<'a>>,
-    home: &'a str,
-    owner: &Name,
-    params: &[Name],
+    owner: &Owner<'_, 'a>,
     constrs: &'a [Constr],
 ) -> Result<(), AllocError>
-    requires { (n : Identifier) → ¬ (Repeats params.now n) }
-    ensures { OnOk result (schemes_of entries.new.items ≡ schemes_of entries.old.items ++ map (scheme_in home.now owner.now params.now) constrs.now) }
+    requires { (n : Identifier) → ¬ (Repeats owner.now.params.now n) }
+    ensures { OnOk result (schemes_of entries.new.items ≡ schemes_of entries.old.items ++ map (scheme_in owner.now.home.now owner.now.name.now owner.now.params.now) constrs.now) }
 {
     'constrs: for constr in constrs {
-        add_constructor(alloc, entries, home, owner, params, constr)?;
+        add_constructor(alloc, entries, owner, constr)?;
     }
     Ok(())
 }
@@ -70,12 +74,18 @@ fn add_declaration<'a>(
             name,
             params,
             constrs,
-        } => Ok(add_constructors(alloc, entries, home, name, params, constrs)?),
+        } => {
+            let owner = Owner { home, name, params };
+            Ok(add_constructors(alloc, entries, &owner, constrs)?)
+        }
         DeclKind::Newtype {
             name,
             params,
             constr,
-        } => Ok(add_constructor(alloc, entries, home, name, params, constr)?),
+        } => {
+            let owner = Owner { home, name, params };
+            Ok(add_constructor(alloc, entries, &owner, constr)?)
+        }
         DeclKind::Synonym { .. } => Ok(()),
         DeclKind::Signature { .. } => Ok(()),
         DeclKind::Clause { .. } => Ok(()),

@@ -6,6 +6,7 @@ ghost use Rattle.hm_expressions.specs.Dependences.{IsMarked, IsReferred, TellsMe
 ghost use Rattle.hm_groups.specs.declared.members.Member.{Member};
 ghost use Rattle.hm_typing.specs.Names.{IsOneOf};
 
+use hm_expressions::CheckedList;
 use hm_groups::{Member, Numbers, referred_nodes};
 use hm_syntax::Decl;
 use std::alloc::{AllocError, Global};
@@ -53,21 +54,27 @@ pub(crate) fn refers_to_typed(
 /// Whether each node to which the declarations of a group refer is typed.
 pub(crate) fn members_refer_to_typed(
     alloc: Global,
-    numbers: &Numbers,
+    list: &CheckedList<'_, '_, '_>,
     shown: &mut [bool],
     typed: &[bool],
-    decls: &[Decl],
     members: &[Member],
 ) -> Result<bool, AllocError>
-    requires shown { AllShown shown.old (length numbers.now) }
-    requires typed { length typed.now ≡ length numbers.now }
-    requires members { (m : Member) → IsOneOf m members.now → m.place < length decls.now }
+    requires shown { AllShown shown.old (length list.now.found.now.numbers) }
+    requires typed { length typed.now ≡ length list.now.found.now.numbers }
+    requires members { (m : Member) → IsOneOf m members.now → m.place < length list.now.decls.now }
     ensures shown { OnOk result (shown.new ≡ shown.old) }
-    ensures told { IfOk result (λ b. TellsMembers b numbers.now typed.now decls.now members.now) }
+    ensures told { IfOk result (λ b. TellsMembers b list.now.found.now.numbers typed.now list.now.decls.now members.now) }
 {
+    let decls = list.decls;
     'members: for j in 0..members.len() {
         let member = &members[j];
-        if !refers_to_typed(alloc, numbers, shown, typed, &decls[member.place])? {
+        if !refers_to_typed(
+            alloc,
+            &list.found.numbers,
+            shown,
+            typed,
+            &decls[member.place],
+        )? {
             return Ok(false);
         }
     }

@@ -9,35 +9,34 @@ ghost use Rattle.hm_groups.specs.Nodes.{AllShown};
 ghost use Rattle.hm_infer.specs.UnitFaults.{AreAlike, IsFirstPlace, AreGroupsTold, ArePlainGroups, GroupTold, IsSameTable};
 
 use crate::dependences::{mark, members_refer_to_typed};
-use hm_groups::{BindingGroups, Member, group_members};
-use hm_syntax::Decl;
+use hm_expressions::CheckedList;
+use hm_groups::{Member, group_members};
 use std::alloc::{AllocError, Global};
 
 /// Whether a group has no types, though all that it refers to outside has.
 fn is_faulty(
     alloc: Global,
-    decls: &[Decl],
-    found: &BindingGroups,
+    list: &CheckedList<'_, '_, '_>,
     group: &[usize],
     shown: &mut [bool],
     typed: &mut [bool],
 ) -> Result<bool, AllocError>
-    requires rows { AreRows decls.now (length found.now.numbers) (lists found.now.rows.items) }
-    requires nodes { All (λ j. j < length found.now.numbers) group.now }
+    requires rows { AreRows list.now.decls.now (length list.now.found.now.numbers) (lists list.now.found.now.rows.items) }
+    requires nodes { All (λ j. j < length list.now.found.now.numbers) group.now }
     requires some { 0 < length group.now }
-    requires shown { AllShown shown.old (length found.now.numbers) }
-    requires typed { length typed.old ≡ length found.now.numbers }
+    requires shown { AllShown shown.old (length list.now.found.now.numbers) }
+    requires typed { length typed.old ≡ length list.now.found.now.numbers }
     requires alike { AreAlike group.now typed.old }
     ensures shown { OnOk result (shown.new ≡ shown.old) }
     ensures table { OnOk result (IsSameTable typed.old typed.new) }
-    ensures told { IfOk result (λ b. GroupTold decls.now found.now.numbers (lists found.now.rows.items) group.now typed.old b) }
+    ensures told { IfOk result (λ b. GroupTold list.now.decls.now list.now.found.now.numbers (lists list.now.found.now.rows.items) group.now typed.old b) }
 {
     if typed[group[0]] {
         return Ok(false);
     }
     mark(typed, group, true);
-    let members = group_members(alloc, &found.rows, group)?;
-    let is_free = members_refer_to_typed(alloc, &found.numbers, shown, typed, decls, &members)?;
+    let members = group_members(alloc, &list.found.rows, group)?;
+    let is_free = members_refer_to_typed(alloc, list, shown, typed, &members)?;
     mark(typed, group, false);
     Ok(is_free)
 }
@@ -45,21 +44,21 @@ fn is_faulty(
 /// For each group of a list whether its unit is a fault, by a table of the nodes that have types.
 pub(crate) fn faulty_groups(
     alloc: Global,
-    decls: &[Decl],
-    found: &BindingGroups,
+    list: &CheckedList<'_, '_, '_>,
     typed: &mut [bool],
 ) -> Result<Vec<bool>, AllocError>
-    requires rows { AreRows decls.now (length found.now.numbers) (lists found.now.rows.items) }
-    requires typed { length typed.old ≡ length found.now.numbers }
-    requires groups { ArePlainGroups (lists found.now.groups.items) (length found.now.numbers) typed.old }
+    requires rows { AreRows list.now.decls.now (length list.now.found.now.numbers) (lists list.now.found.now.rows.items) }
+    requires typed { length typed.old ≡ length list.now.found.now.numbers }
+    requires groups { ArePlainGroups (lists list.now.found.now.groups.items) (length list.now.found.now.numbers) typed.old }
     ensures table { OnOk result (IsSameTable typed.old typed.new) }
-    ensures told { IfOk result (λ faulty. AreGroupsTold decls.now found.now.numbers (lists found.now.rows.items) (lists found.now.groups.items) typed.old faulty.items) }
+    ensures told { IfOk result (λ faulty. AreGroupsTold list.now.decls.now list.now.found.now.numbers (lists list.now.found.now.rows.items) (lists list.now.found.now.groups.items) typed.old faulty.items) }
 {
+    let found = list.found;
     let count = found.numbers.len();
     let mut shown = vec![in alloc; true; count]?;
     let mut faulty = Vec::new(alloc);
     'groups: for i in 0..found.groups.len() {
-        let is_fault = is_faulty(alloc, decls, found, &found.groups[i], &mut shown, typed)?;
+        let is_fault = is_faulty(alloc, list, &found.groups[i], &mut shown, typed)?;
         faulty.push(is_fault)?;
     }
     Ok(faulty)

@@ -17,11 +17,11 @@ use crate::assuming::imported_environment;
 use crate::declaring::known_constructors;
 use crate::own_schemes::own_schemes;
 use crate::untyped_units::untyped_units;
-use hm_assumptions::{Constructors, Environment};
+use hm_assumptions::{Constructors, Inference};
 use hm_expressions::check_bindings;
 use hm_names::{Core, Fault, Schemes};
 use hm_syntax::{Decl, Row};
-use hm_unify::{Solver, UnifyFault};
+use hm_unify::{MOST_LEVELS, Solver, UnifyFault};
 use std::alloc::{AllocError, Global};
 
 /// Why a core has no schemes.
@@ -47,29 +47,28 @@ impl From<AllocError> for InferFault {
 /// Infers the principal schemes of a binding list under closed assumptions, with a solver of its
 /// own, and binds its names to them. Where the list has no typing the answer is `Clash`.
 pub(crate) fn infer_list<'a>(
-    alloc: Global,
-    environment: &mut Environment<'a>,
+    inference: &mut Inference<'a>,
     constructors: &Constructors,
     list: &'a [Decl],
 ) -> Result<(), UnifyFault>
-    requires closed { AreAssumed 0 environment.old }
-    ensures inferred { Inferred (list_of (known_of constructors.now) list.now) environment.old environment.new result }
-    ensures closed { OnOk result (AreAssumed 0 environment.new) }
+    requires closed { AreAssumed 0 inference.old.environment }
+    ensures inferred { Inferred (list_of (known_of constructors.now) list.now) inference.old.environment inference.new.environment result }
+    ensures closed { OnOk result (AreAssumed 0 inference.new.environment) }
 {
-    let mut solver = Solver::new(alloc);
-    check_bindings(alloc, &mut solver, environment, constructors, list)?;
-    solver.has_solution();
+    inference.solver = inference.solver.renewed();
+    check_bindings(inference, constructors, list)?;
+    inference.solver.has_solution();
     Ok(())
 }
 
 /// The fault of a core whose list has no typing.
-fn untypable(alloc: Global, core: &Core, constructors: &Constructors) -> InferFault
+fn untypable(alloc: Global, core: &Core, constructors: &Constructors, depth: usize) -> InferFault
     requires core { IsSomeCore core.now }
     requires known { known_of constructors.now ≡ known core.now }
     requires untyped { (B : Name → Scheme) → HasSchemes (assumptions_of core.now) (syntax_of core.now) B → ⊥ }
     ensures { IsUntypable core.now result }
 {
-    match untyped_units(alloc, core, constructors) {
+    match untyped_units(alloc, core, constructors, depth) {
         Ok(found) => InferFault::Untypable(found),
         Err(_) => InferFault::Memory,
     }
@@ -81,12 +80,27 @@ pub fn infer(alloc: Global, core: &Core) -> Result<Schemes, InferFault>
     ensures schemes { IfOk result (λ schemes. ArePrincipal core.now (scheme_of schemes)) }
     ensures faults { IfErr result (IsUntypable core.now) }
 {
+    infer_within(alloc, core, MOST_LEVELS)
+}
+
+/// The same, where no type has more than `depth` levels. What would need one is refused for want
+/// of memory.
+pub fn infer_within(alloc: Global, core: &Core, depth: usize) -> Result<Schemes, InferFault>
+    requires core { IsSomeCore core.now }
+    ensures schemes { IfOk result (λ schemes. ArePrincipal core.now (scheme_of schemes)) }
+    ensures faults { IfErr result (IsUntypable core.now) }
+{
     let constructors = known_constructors(alloc, core)?;
-    let mut environment = imported_environment(alloc, core.interfaces.as_slice())?;
+    let environment = imported_environment(alloc, core.interfaces.as_slice())?;
+    let mut inference = Inference {
+        alloc,
+        solver: Solver::with_depth(alloc, depth),
+        environment,
+    };
     let list = core.decls.as_slice();
-    match infer_list(alloc, &mut environment, &constructors, list) {
-        Ok(()) => Ok(own_schemes(alloc, core.name.as_str(), &environment)?),
-        Err(UnifyFault::Clash) => Err(untypable(alloc, core, &constructors)),
+    match infer_list(&mut inference, &constructors, list) {
+        Ok(()) => Ok(own_schemes(alloc, core.name.as_str(), &inference.environment)?),
+        Err(UnifyFault::Clash) => Err(untypable(alloc, core, &constructors, depth)),
         Err(UnifyFault::Memory) => Err(InferFault::Memory),
     }
 }

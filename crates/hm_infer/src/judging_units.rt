@@ -19,12 +19,10 @@ ghost use Rattle.hm_expressions.specs.SignedLists.{BindsSigned};
 ghost use Rattle.hm_expressions.specs.Stages.{IsListFound, list_of};
 
 use crate::dependences::{mark, members_refer_to_typed};
-use hm_assumptions::{Constructors, Environment};
-use hm_expressions::infer_group;
-use hm_groups::{BindingGroups, group_members};
-use hm_syntax::Decl;
-use hm_unify::{Solver, UnifyFault};
-use std::alloc::Global;
+use hm_assumptions::Inference;
+use hm_expressions::{CheckedList, infer_group};
+use hm_groups::group_members;
+use hm_unify::UnifyFault;
 
 /// Takes the variables of the nodes of a group back.
 fn clear(types: &mut [usize], group: &[usize])
@@ -37,60 +35,55 @@ fn clear(types: &mut [usize], group: &[usize])
     }
 }
 
+/// A group of a list that is checked.
+#[derive(Clone, Copy)]
+struct CheckedGroup<'l, 'a, 'c> {
+    list: CheckedList<'l, 'a, 'c>,
+    nodes: &'l [usize],
+}
+
 /// Judges a group. Its nodes are typed afterwards, and its names bound, if all that it refers to
 /// outside is typed and it has types itself; if not the environment is what it was. The table of
 /// variables is lent, and empty before and after.
 fn judge_group<'a>(
-    alloc: Global,
-    environment: &mut Environment<'a>,
-    constructors: &Constructors,
-    decls: &'a [Decl],
-    found: &BindingGroups<'a>,
-    group: &[usize],
+    inference: &mut Inference<'a>,
+    group: &CheckedGroup<'_, 'a, '_>,
     types: &mut [usize],
     shown: &mut [bool],
     typed: &mut [bool],
 ) -> Result<(), UnifyFault>
-    requires list { IsListFound (known_of constructors.now) decls.now found.now.numbers (lists found.now.rows.items) }
-    requires nodes { All (λ j. j < length found.now.numbers) group.now }
-    requires some { 0 < length group.now }
-    requires closed { AreAssumed 0 environment.old }
-    requires types { length types.old ≡ length found.now.numbers }
+    requires list { IsListFound (known_of group.now.list.constructors.now) group.now.list.decls.now group.now.list.found.now.numbers (lists group.now.list.found.now.rows.items) }
+    requires nodes { All (λ j. j < length group.now.list.found.now.numbers) group.now.nodes.now }
+    requires some { 0 < length group.now.nodes.now }
+    requires closed { AreAssumed 0 inference.old.environment }
+    requires types { length types.old ≡ length group.now.list.found.now.numbers }
     requires numbers { AreUpTo 0 types.old }
-    requires shown { AllShown shown.old (length found.now.numbers) }
-    requires typed { length typed.old ≡ length found.now.numbers }
-    ensures judged { OnOk result ((added base : List Assumed) → environment.old ≡ added ++ base → UnitJudged (known_of constructors.now) decls.now found.now.numbers (lists found.now.rows.items) group.now base environment.old environment.new typed.old typed.new) }
-    ensures closed { OnOk result (AreAssumed 0 environment.new) }
-    ensures kept { OnOk result (Extends environment.old environment.new) }
+    requires shown { AllShown shown.old (length group.now.list.found.now.numbers) }
+    requires typed { length typed.old ≡ length group.now.list.found.now.numbers }
+    ensures judged { OnOk result ((added base : List Assumed) → inference.old.environment ≡ added ++ base → UnitJudged (known_of group.now.list.constructors.now) group.now.list.decls.now group.now.list.found.now.numbers (lists group.now.list.found.now.rows.items) group.now.nodes.now base inference.old.environment inference.new.environment typed.old typed.new) }
+    ensures closed { OnOk result (AreAssumed 0 inference.new.environment) }
+    ensures kept { OnOk result (Extends inference.old.environment inference.new.environment) }
     ensures numbers { OnOk result (AreUpTo 0 types.new) }
     ensures shown { OnOk result (shown.new ≡ shown.old) }
 {
-    mark(typed, group, true);
-    let members = group_members(alloc, &found.rows, group)?;
-    if !members_refer_to_typed(alloc, &found.numbers, shown, typed, decls, &members)? {
-        mark(typed, group, false);
+    mark(typed, group.nodes, true);
+    let list = &group.list;
+    let members = group_members(inference.alloc, &list.found.rows, group.nodes)?;
+    if !members_refer_to_typed(inference.alloc, list, shown, typed, &members)? {
+        mark(typed, group.nodes, false);
         return Ok(());
     }
-    let outside = environment.len();
-    let mut solver = Solver::new(alloc);
-    match infer_group(
-        alloc,
-        &mut solver,
-        environment,
-        constructors,
-        decls,
-        found,
-        group,
-        types,
-    ) {
+    let outside = inference.environment.len();
+    inference.solver = inference.solver.renewed();
+    match infer_group(inference, list, group.nodes, types) {
         Ok(()) => {
-            clear(types, group);
+            clear(types, group.nodes);
             Ok(())
         }
         Err(UnifyFault::Clash) => {
-            clear(types, group);
-            environment.truncate(outside);
-            mark(typed, group, false);
+            clear(types, group.nodes);
+            inference.environment.truncate(outside);
+            mark(typed, group.nodes, false);
             Ok(())
         }
         Err(UnifyFault::Memory) => Err(UnifyFault::Memory),
@@ -99,37 +92,29 @@ fn judge_group<'a>(
 
 /// Judges the groups of a list in order. The table of variables is lent, and empty before.
 fn judge_each<'a>(
-    alloc: Global,
-    environment: &mut Environment<'a>,
-    constructors: &Constructors,
-    decls: &'a [Decl],
-    found: &BindingGroups<'a>,
+    inference: &mut Inference<'a>,
+    list: &CheckedList<'_, 'a, '_>,
     types: &mut [usize],
     shown: &mut [bool],
     typed: &mut [bool],
 ) -> Result<(), UnifyFault>
-    requires list { IsListFound (known_of constructors.now) decls.now found.now.numbers (lists found.now.rows.items) }
-    requires groups { AreNumberedGroups (list_of (known_of constructors.now) decls.now) (node_name (known_of constructors.now) (declarations decls.now)) (length found.now.numbers) (lists found.now.groups.items) }
-    requires closed { AreAssumed 0 environment.old }
-    requires types { length types.old ≡ length found.now.numbers }
+    requires list { IsListFound (known_of list.now.constructors.now) list.now.decls.now list.now.found.now.numbers (lists list.now.found.now.rows.items) }
+    requires groups { AreNumberedGroups (list_of (known_of list.now.constructors.now) list.now.decls.now) (node_name (known_of list.now.constructors.now) (declarations list.now.decls.now)) (length list.now.found.now.numbers) (lists list.now.found.now.groups.items) }
+    requires closed { AreAssumed 0 inference.old.environment }
+    requires types { length types.old ≡ length list.now.found.now.numbers }
     requires numbers { AreUpTo 0 types.old }
-    requires shown { AllShown shown.old (length found.now.numbers) }
-    requires typed { length typed.old ≡ length found.now.numbers }
-    ensures judged { OnOk result ((added base : List Assumed) → environment.old ≡ added ++ base → UnitsJudged (known_of constructors.now) decls.now (lists found.now.groups.items) (length found.now.numbers) 0 base environment.old typed.old → UnitsJudged (known_of constructors.now) decls.now (lists found.now.groups.items) (length found.now.numbers) (length (lists found.now.groups.items)) base environment.new typed.new) }
-    ensures closed { OnOk result (AreAssumed 0 environment.new) }
+    requires shown { AllShown shown.old (length list.now.found.now.numbers) }
+    requires typed { length typed.old ≡ length list.now.found.now.numbers }
+    ensures judged { OnOk result ((added base : List Assumed) → inference.old.environment ≡ added ++ base → UnitsJudged (known_of list.now.constructors.now) list.now.decls.now (lists list.now.found.now.groups.items) (length list.now.found.now.numbers) 0 base inference.old.environment typed.old → UnitsJudged (known_of list.now.constructors.now) list.now.decls.now (lists list.now.found.now.groups.items) (length list.now.found.now.numbers) (length (lists list.now.found.now.groups.items)) base inference.new.environment typed.new) }
+    ensures closed { OnOk result (AreAssumed 0 inference.new.environment) }
 {
+    let found = list.found;
     'groups: for i in 0..found.groups.len() {
-        judge_group(
-            alloc,
-            environment,
-            constructors,
-            decls,
-            found,
-            &found.groups[i],
-            types,
-            shown,
-            typed,
-        )?;
+        let group = CheckedGroup {
+            list: *list,
+            nodes: &found.groups[i],
+        };
+        judge_group(inference, &group, types, shown, typed)?;
     }
     Ok(())
 }
@@ -137,33 +122,22 @@ fn judge_each<'a>(
 /// Judges the groups of a list in order, where the variables with signatures are bound. Answers
 /// which nodes are typed, and binds their names.
 pub(crate) fn judge_groups<'a>(
-    alloc: Global,
-    environment: &mut Environment<'a>,
-    constructors: &Constructors,
-    decls: &'a [Decl],
-    found: &BindingGroups<'a>,
+    inference: &mut Inference<'a>,
+    list: &CheckedList<'_, 'a, '_>,
 ) -> Result<Vec<bool>, UnifyFault>
-    requires list { IsListFound (known_of constructors.now) decls.now found.now.numbers (lists found.now.rows.items) }
-    requires groups { AreNumberedGroups (list_of (known_of constructors.now) decls.now) (node_name (known_of constructors.now) (declarations decls.now)) (length found.now.numbers) (lists found.now.groups.items) }
-    requires distinct { IsDistinct (names (list_of (known_of constructors.now) decls.now)) }
-    requires closed { AreAssumed 0 environment.old }
-    ensures judged { IfOk result (λ typed. (added base : List Assumed) → environment.old ≡ added ++ base → BindsSigned (list_of (known_of constructors.now) decls.now) base environment.old → UnitsJudged (known_of constructors.now) decls.now (lists found.now.groups.items) (length found.now.numbers) (length (lists found.now.groups.items)) base environment.new typed.items) }
-    ensures sized { IfOk result (λ typed. length typed.items ≡ length found.now.numbers) }
-    ensures closed { OnOk result (AreAssumed 0 environment.new) }
+    requires list { IsListFound (known_of list.now.constructors.now) list.now.decls.now list.now.found.now.numbers (lists list.now.found.now.rows.items) }
+    requires groups { AreNumberedGroups (list_of (known_of list.now.constructors.now) list.now.decls.now) (node_name (known_of list.now.constructors.now) (declarations list.now.decls.now)) (length list.now.found.now.numbers) (lists list.now.found.now.groups.items) }
+    requires distinct { IsDistinct (names (list_of (known_of list.now.constructors.now) list.now.decls.now)) }
+    requires closed { AreAssumed 0 inference.old.environment }
+    ensures judged { IfOk result (λ typed. (added base : List Assumed) → inference.old.environment ≡ added ++ base → BindsSigned (list_of (known_of list.now.constructors.now) list.now.decls.now) base inference.old.environment → UnitsJudged (known_of list.now.constructors.now) list.now.decls.now (lists list.now.found.now.groups.items) (length list.now.found.now.numbers) (length (lists list.now.found.now.groups.items)) base inference.new.environment typed.items) }
+    ensures sized { IfOk result (λ typed. length typed.items ≡ length list.now.found.now.numbers) }
+    ensures closed { OnOk result (AreAssumed 0 inference.new.environment) }
 {
-    let count = found.numbers.len();
+    let alloc = inference.alloc;
+    let count = list.found.numbers.len();
     let mut typed = vec![in alloc; false; count]?;
     let mut shown = vec![in alloc; true; count]?;
     let mut types = vec![in alloc; 0; count]?;
-    judge_each(
-        alloc,
-        environment,
-        constructors,
-        decls,
-        found,
-        &mut types,
-        &mut shown,
-        &mut typed,
-    )?;
+    judge_each(inference, list, &mut types, &mut shown, &mut typed)?;
     Ok(typed)
 }

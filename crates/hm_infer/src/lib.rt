@@ -14,4 +14,4 @@ mod telling;
 mod unit_starts;
 mod untyped_units;
 
-pub use crate::inferring::{InferFault, infer};
+pub use crate::inferring::{InferFault, infer, infer_within};

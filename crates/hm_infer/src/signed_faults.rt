@@ -12,12 +12,11 @@ ghost use Rattle.hm_infer.specs.SignedFaults.{AreRefused, AreSignedFaults, AreWa
 ghost use Rattle.hm_expressions.specs.SignedLists.{AreSignatures};
 
 use crate::dependences::refers_to_typed;
-use hm_assumptions::{Constructors, Environment};
-use hm_expressions::check_signed;
+use hm_assumptions::Inference;
+use hm_expressions::{CheckedList, check_signed};
 use hm_groups::{Numbers, is_continued};
-use hm_syntax::{Decl, DeclKind, TypeExpr};
-use hm_unify::{Solver, UnifyFault};
-use indexmap::IndexMap;
+use hm_syntax::{Decl, DeclKind};
+use hm_unify::UnifyFault;
 use std::alloc::{AllocError, Global};
 
 /// Whether a declaration refers to a node without a type.
@@ -62,36 +61,27 @@ fn waiting_clauses(
 /// Whether a clause hasn't the declared type of its variable, under closed assumptions, which are
 /// the same afterwards.
 fn is_refused<'a>(
-    alloc: Global,
-    environment: &mut Environment<'a>,
-    constructors: &Constructors,
-    signatures: &IndexMap<&str, &TypeExpr>,
+    inference: &mut Inference<'a>,
+    list: &CheckedList<'_, 'a, '_>,
     decl: &'a Decl,
     is_waiting: bool,
 ) -> Result<bool, UnifyFault>
-    requires closed { AreAssumed 0 environment.old }
-    ensures told { IfOk result (λ b. (all : Declarations) → AreSignatures all signatures.now → Refuses is_waiting b (known_of constructors.now) all (assumptions environment.old) decl.now) }
-    ensures same { OnOk result (environment.new ≡ environment.old) }
+    requires closed { AreAssumed 0 inference.old.environment }
+    ensures told { IfOk result (λ b. (all : Declarations) → AreSignatures all list.now.signatures.now → Refuses is_waiting b (known_of list.now.constructors.now) all (assumptions inference.old.environment) decl.now) }
+    ensures same { OnOk result (inference.new.environment ≡ inference.old.environment) }
 {
     if is_waiting {
         return Ok(false);
     }
-    let outside = environment.len();
-    let mut solver = Solver::new(alloc);
-    match check_signed(
-        alloc,
-        &mut solver,
-        environment,
-        constructors,
-        signatures,
-        decl,
-    ) {
+    let outside = inference.environment.len();
+    inference.solver = inference.solver.renewed();
+    match check_signed(inference, list.constructors, list.signatures, decl) {
         Ok(()) => {
-            solver.has_solution();
+            inference.solver.has_solution();
             Ok(false)
         }
         Err(UnifyFault::Clash) => {
-            environment.truncate(outside);
+            inference.environment.truncate(outside);
             Ok(true)
         }
         Err(UnifyFault::Memory) => Err(UnifyFault::Memory),
@@ -101,28 +91,19 @@ fn is_refused<'a>(
 /// For each declaration of a list whether it is a clause that hasn't the declared type; those that
 /// wait aren't checked. The assumptions are the same afterwards.
 fn refused_clauses<'a>(
-    alloc: Global,
-    environment: &mut Environment<'a>,
-    constructors: &Constructors,
-    signatures: &IndexMap<&str, &TypeExpr>,
-    decls: &'a [Decl],
+    inference: &mut Inference<'a>,
+    list: &CheckedList<'_, 'a, '_>,
     waiting: &[bool],
 ) -> Result<Vec<bool>, UnifyFault>
-    requires closed { AreAssumed 0 environment.old }
-    requires sized { length waiting.now ≡ length decls.now }
-    ensures told { IfOk result (λ refused. (all : Declarations) → AreSignatures all signatures.now → AreRefused (known_of constructors.now) all (assumptions environment.old) decls.now waiting.now refused.items) }
-    ensures sized { IfOk result (λ refused. length refused.items ≡ length decls.now) }
+    requires closed { AreAssumed 0 inference.old.environment }
+    requires sized { length waiting.now ≡ length list.now.decls.now }
+    ensures told { IfOk result (λ refused. (all : Declarations) → AreSignatures all list.now.signatures.now → AreRefused (known_of list.now.constructors.now) all (assumptions inference.old.environment) list.now.decls.now waiting.now refused.items) }
+    ensures sized { IfOk result (λ refused. length refused.items ≡ length list.now.decls.now) }
 {
-    let mut refused = Vec::new(alloc);
+    let decls = list.decls;
+    let mut refused = Vec::new(inference.alloc);
     'decls: for i in 0..decls.len() {
-        let is_refused = is_refused(
-            alloc,
-            environment,
-            constructors,
-            signatures,
-            &decls[i],
-            waiting[i],
-        )?;
+        let is_refused = is_refused(inference, list, &decls[i], waiting[i])?;
         refused.push(is_refused)?;
     }
     Ok(refused)
@@ -187,27 +168,18 @@ fn is_fault_at(decls: &[Decl], waiting: &[bool], refused: &[bool], place: usize)
 /// The places of the first clauses of those bindings with signatures that are type faults, under
 /// closed assumptions of all that has types.
 pub(crate) fn signed_faults<'a>(
-    alloc: Global,
-    environment: &mut Environment<'a>,
-    constructors: &Constructors,
-    signatures: &IndexMap<&str, &TypeExpr>,
-    decls: &'a [Decl],
-    numbers: &Numbers,
+    inference: &mut Inference<'a>,
+    list: &CheckedList<'_, 'a, '_>,
     typed: &[bool],
 ) -> Result<Vec<usize>, UnifyFault>
-    requires closed { AreAssumed 0 environment.old }
-    requires typed { length typed.now ≡ length numbers.now }
-    ensures told { IfOk result (λ places. (all : Declarations) → AreSignatures all signatures.now → AreSignedFaults (known_of constructors.now) all (assumptions environment.old) numbers.now typed.now decls.now places.items) }
+    requires closed { AreAssumed 0 inference.old.environment }
+    requires typed { length typed.now ≡ length list.now.found.now.numbers }
+    ensures told { IfOk result (λ places. (all : Declarations) → AreSignatures all list.now.signatures.now → AreSignedFaults (known_of list.now.constructors.now) all (assumptions inference.old.environment) list.now.found.now.numbers typed.now list.now.decls.now places.items) }
 {
-    let waiting = waiting_clauses(alloc, decls, numbers, typed)?;
-    let refused = refused_clauses(
-        alloc,
-        environment,
-        constructors,
-        signatures,
-        decls,
-        &waiting,
-    )?;
+    let alloc = inference.alloc;
+    let decls = list.decls;
+    let waiting = waiting_clauses(alloc, decls, &list.found.numbers, typed)?;
+    let refused = refused_clauses(inference, list, &waiting)?;
     let mut places = Vec::new(alloc);
     'decls: for place in 0..decls.len() {
         if is_fault_at(decls, &waiting, &refused, place) {

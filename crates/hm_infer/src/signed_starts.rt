@@ -10,36 +10,21 @@ ghost use Rattle.hm_expressions.specs.SignedLists.{AreSignatures};
 ghost use Rattle.hm_infer.specs.UnitStarts.{TellsSigned};
 
 use crate::signed_faults::signed_faults;
-use hm_assumptions::{Constructors, Environment};
-use hm_groups::BindingGroups;
-use hm_syntax::{Decl, TypeExpr};
+use hm_assumptions::Inference;
+use hm_expressions::CheckedList;
 use hm_unify::UnifyFault;
-use indexmap::IndexMap;
-use std::alloc::Global;
 
 /// The places of the first clauses of those bindings with signatures that are type faults, where
 /// all units without signatures were judged.
 pub(crate) fn signed_starts<'a>(
-    alloc: Global,
-    environment: &mut Environment<'a>,
-    constructors: &Constructors,
-    signatures: &IndexMap<&str, &TypeExpr>,
-    decls: &'a [Decl],
-    found: &BindingGroups,
+    inference: &mut Inference<'a>,
+    list: &CheckedList<'_, 'a, '_>,
     typed: &[bool],
 ) -> Result<Vec<usize>, UnifyFault>
-    requires signatures { AreSignatures (declarations decls.now) signatures.now }
-    requires closed { AreAssumed 0 environment.old }
-    requires sized { length typed.now ≡ length found.now.numbers }
-    ensures { IfOk result (λ places. TellsSigned (known_of constructors.now) decls.now found.now.numbers (lists found.now.rows.items) (lists found.now.groups.items) environment.old typed.now places.items) }
+    requires signatures { AreSignatures (declarations list.now.decls.now) list.now.signatures.now }
+    requires closed { AreAssumed 0 inference.old.environment }
+    requires sized { length typed.now ≡ length list.now.found.now.numbers }
+    ensures { IfOk result (λ places. TellsSigned (known_of list.now.constructors.now) list.now.decls.now list.now.found.now.numbers (lists list.now.found.now.rows.items) (lists list.now.found.now.groups.items) inference.old.environment typed.now places.items) }
 {
-    Ok(signed_faults(
-        alloc,
-        environment,
-        constructors,
-        signatures,
-        decls,
-        &found.numbers,
-        typed,
-    )?)
+    Ok(signed_faults(inference, list, typed)?)
 }

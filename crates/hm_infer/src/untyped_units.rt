@@ -25,63 +25,55 @@ use crate::judging_units::judge_groups;
 use crate::signed_starts::signed_starts;
 use crate::telling::told_faults;
 use crate::unit_starts::unsigned_starts;
-use hm_assumptions::{Constructors, Environment};
-use hm_expressions::{bind_signed, signatures_of};
-use hm_groups::{BindingGroups, binding_groups};
+use hm_assumptions::{Constructors, Inference};
+use hm_expressions::{CheckedList, bind_signed, signatures_of};
+use hm_groups::binding_groups;
 use hm_names::{Core, Fault};
-use hm_syntax::{Decl, Row, TypeExpr};
-use hm_unify::UnifyFault;
-use indexmap::IndexMap;
+use hm_syntax::{Decl, Row};
+use hm_unify::{Solver, UnifyFault};
 use std::alloc::{AllocError, Global};
 
 /// The places of the first declarations of those units of a list without signatures that are type
 /// faults, by a table of the nodes that have types.
 fn unsigned_fault_starts(
     alloc: Global,
-    decls: &[Decl],
-    found: &BindingGroups,
+    list: &CheckedList<'_, '_, '_>,
     typed: &mut [bool],
 ) -> Result<Vec<usize>, AllocError>
-    requires rows { AreRows decls.now (length found.now.numbers) (lists found.now.rows.items) }
-    requires typed { length typed.old ≡ length found.now.numbers }
-    requires groups { ArePlainGroups (lists found.now.groups.items) (length found.now.numbers) typed.old }
-    requires members { (g : List ℕ) → IsOneOf g (lists found.now.groups.items) → HasMember (lists found.now.rows.items) g }
-    ensures { IfOk result (λ starts. AreUnsignedStarts decls.now found.now.numbers (lists found.now.rows.items) (lists found.now.groups.items) typed.old starts.items) }
+    requires rows { AreRows list.now.decls.now (length list.now.found.now.numbers) (lists list.now.found.now.rows.items) }
+    requires typed { length typed.old ≡ length list.now.found.now.numbers }
+    requires groups { ArePlainGroups (lists list.now.found.now.groups.items) (length list.now.found.now.numbers) typed.old }
+    requires members { (g : List ℕ) → IsOneOf g (lists list.now.found.now.groups.items) → HasMember (lists list.now.found.now.rows.items) g }
+    ensures { IfOk result (λ starts. AreUnsignedStarts list.now.decls.now list.now.found.now.numbers (lists list.now.found.now.rows.items) (lists list.now.found.now.groups.items) typed.old starts.items) }
 {
-    let faulty = faulty_groups(alloc, decls, found, typed)?;
-    Ok(unsigned_starts(alloc, found, &faulty)?)
+    let faulty = faulty_groups(alloc, list, typed)?;
+    Ok(unsigned_starts(alloc, list.found, &faulty)?)
 }
 
 /// The places of the first declarations of those units of a core's list that are type faults
 /// under closed assumptions, by its groups and its signatures.
 fn starts_of_groups<'a>(
-    alloc: Global,
-    environment: &mut Environment<'a>,
-    constructors: &Constructors,
-    decls: &'a [Decl],
-    found: &BindingGroups<'a>,
-    signatures: &IndexMap<&str, &TypeExpr>,
+    inference: &mut Inference<'a>,
+    list: &CheckedList<'_, 'a, '_>,
 ) -> Result<Vec<usize>, UnifyFault>
-    requires core { IsCoreList (known_of constructors.now) decls.now }
-    requires closed { AreAssumed 0 environment.old }
-    requires list { IsListFound (known_of constructors.now) decls.now found.now.numbers (lists found.now.rows.items) }
-    requires groups { AreNumberedGroups (list_of (known_of constructors.now) decls.now) (node_name (known_of constructors.now) (declarations decls.now)) (length found.now.numbers) (lists found.now.groups.items) }
-    requires distinct { IsDistinct (names (list_of (known_of constructors.now) decls.now)) }
-    requires signatures { AreSignatures (declarations decls.now) signatures.now }
-    ensures { IfOk result (λ starts. (o : IsCoreList (known_of constructors.now) decls.now) → AreFaultStarts o.core (assumptions environment.old) starts.items) }
+    requires core { IsCoreList (known_of list.now.constructors.now) list.now.decls.now }
+    requires closed { AreAssumed 0 inference.old.environment }
+    requires list { IsListFound (known_of list.now.constructors.now) list.now.decls.now list.now.found.now.numbers (lists list.now.found.now.rows.items) }
+    requires groups { AreNumberedGroups (list_of (known_of list.now.constructors.now) list.now.decls.now) (node_name (known_of list.now.constructors.now) (declarations list.now.decls.now)) (length list.now.found.now.numbers) (lists list.now.found.now.groups.items) }
+    requires distinct { IsDistinct (names (list_of (known_of list.now.constructors.now) list.now.decls.now)) }
+    requires signatures { AreSignatures (declarations list.now.decls.now) list.now.signatures.now }
+    ensures { IfOk result (λ starts. (o : IsCoreList (known_of list.now.constructors.now) list.now.decls.now) → AreFaultStarts o.core (assumptions inference.old.environment) starts.items) }
 {
-    bind_signed(alloc, environment, signatures, decls)?;
-    let mut typed = judge_groups(alloc, environment, constructors, decls, found)?;
-    let signed = signed_starts(
+    let alloc = inference.alloc;
+    bind_signed(
         alloc,
-        environment,
-        constructors,
-        signatures,
-        decls,
-        found,
-        &typed,
+        &mut inference.environment,
+        list.signatures,
+        list.decls,
     )?;
-    let mut starts = unsigned_fault_starts(alloc, decls, found, &mut typed)?;
+    let mut typed = judge_groups(inference, list)?;
+    let signed = signed_starts(inference, list, &typed)?;
+    let mut starts = unsigned_fault_starts(alloc, list, &mut typed)?;
     starts.extend_from_slice(&signed)?;
     Ok(starts)
 }
@@ -89,18 +81,23 @@ fn starts_of_groups<'a>(
 /// The places of the first declarations of those units of a core's list that are type faults
 /// under closed assumptions.
 fn fault_starts<'a>(
-    alloc: Global,
-    environment: &mut Environment<'a>,
+    inference: &mut Inference<'a>,
     constructors: &Constructors,
     decls: &'a [Decl],
 ) -> Result<Vec<usize>, UnifyFault>
     requires core { IsCoreList (known_of constructors.now) decls.now }
-    requires closed { AreAssumed 0 environment.old }
-    ensures { IfOk result (λ starts. (o : IsCoreList (known_of constructors.now) decls.now) → AreFaultStarts o.core (assumptions environment.old) starts.items) }
+    requires closed { AreAssumed 0 inference.old.environment }
+    ensures { IfOk result (λ starts. (o : IsCoreList (known_of constructors.now) decls.now) → AreFaultStarts o.core (assumptions inference.old.environment) starts.items) }
 {
-    let found = binding_groups(alloc, decls)?;
-    let signatures = signatures_of(alloc, decls)?;
-    Ok(starts_of_groups(alloc, environment, constructors, decls, &found, &signatures)?)
+    let found = binding_groups(inference.alloc, decls)?;
+    let signatures = signatures_of(inference.alloc, decls)?;
+    let list = CheckedList {
+        constructors,
+        decls,
+        found: &found,
+        signatures: &signatures,
+    };
+    Ok(starts_of_groups(inference, &list)?)
 }
 
 /// The type faults of a core that has no typing.
@@ -108,14 +105,20 @@ pub(crate) fn untyped_units(
     alloc: Global,
     core: &Core,
     constructors: &Constructors,
+    depth: usize,
 ) -> Result<Row<Fault>, UnifyFault>
     requires core { IsSomeCore core.now }
     requires known { known_of constructors.now ≡ known core.now }
     requires untyped { (B : UnitName → Scheme) → HasSchemes (assumptions_of core.now) (syntax_of core.now) B → ⊥ }
     ensures { IfOk result (λ found. AreUntyped core.now found) }
 {
-    let mut environment = imported_environment(alloc, core.interfaces.as_slice())?;
+    let environment = imported_environment(alloc, core.interfaces.as_slice())?;
+    let mut inference = Inference {
+        alloc,
+        solver: Solver::with_depth(alloc, depth),
+        environment,
+    };
     let decls = core.decls.as_slice();
-    let starts = fault_starts(alloc, &mut environment, constructors, decls)?;
+    let starts = fault_starts(&mut inference, constructors, decls)?;
     Ok(told_faults(alloc, decls, &starts)?)
 }

@@ -10,38 +10,42 @@ use hm_syntax::{Name, TypeExpr, TypeKind};
 use hm_types::{Entity, Head, Ty};
 use std::alloc::{AllocError, Global};
 
-/// A copy of a type.
+/// A copy of a type, if it has at most `depth` levels.
 #[cycle(copies)]
 #[tactic(auto, using(hm_names::proofs::Rows::type_falls))]
-fn copy_type(alloc: Global, ty: &TypeExpr) -> Result<TypeExpr, AllocError>
+fn copy_type(alloc: Global, depth: usize, ty: &TypeExpr) -> Result<TypeExpr, AllocError>
     ensures { IfOk result (λ copy. copy ≡ ty.now) }
 {
+    if depth == 0 {
+        return Err(AllocError);
+    }
+    let deeper = depth - 1;
     match &ty.kind {
         TypeKind::Var(name) => Ok(TypeExpr {
             kind: TypeKind::Var(copy_name(name)?),
         }),
         TypeKind::Con(name, args) => {
             let name = copy_name(name)?;
-            let args = copy_types(alloc, args)?;
+            let args = copy_types(alloc, deeper, args)?;
             Ok(TypeExpr {
                 kind: TypeKind::Con(name, args),
             })
         }
         TypeKind::Arrow(from, to) => {
-            let from = Box::new(alloc, copy_type(alloc, from)?)?;
-            let to = Box::new(alloc, copy_type(alloc, to)?)?;
+            let from = Box::new(alloc, copy_type(alloc, deeper, from)?)?;
+            let to = Box::new(alloc, copy_type(alloc, deeper, to)?)?;
             Ok(TypeExpr {
                 kind: TypeKind::Arrow(from, to),
             })
         }
         TypeKind::Tuple(parts) => {
-            let parts = copy_types(alloc, parts)?;
+            let parts = copy_types(alloc, deeper, parts)?;
             Ok(TypeExpr {
                 kind: TypeKind::Tuple(parts),
             })
         }
         TypeKind::List(element) => {
-            let element = Box::new(alloc, copy_type(alloc, element)?)?;
+            let element = Box::new(alloc, copy_type(alloc, deeper, element)?)?;
             Ok(TypeExpr {
                 kind: TypeKind::List(element),
             })
@@ -52,26 +56,31 @@ fn copy_type(alloc: Global, ty: &TypeExpr) -> Result<TypeExpr, AllocError>
     }
 }
 
-/// Copies of types in a row.
+/// Copies of types in a row, if each has at most `depth` levels.
 #[cycle(copies)]
 #[tactic(auto, using(hm_names::proofs::Rows::type_falls))]
-fn copy_types(alloc: Global, row: &[TypeExpr]) -> Result<Vec<TypeExpr>, AllocError>
+fn copy_types(alloc: Global, depth: usize, row: &[TypeExpr]) -> Result<Vec<TypeExpr>, AllocError>
     ensures { IfOk result (λ copies. copies.items ≡ row.now) }
 {
     let mut copies = Vec::new(alloc);
     'row: for ty in row {
-        copies.push(copy_type(alloc, ty)?)?;
+        copies.push(copy_type(alloc, depth, ty)?)?;
     }
     Ok(copies)
 }
 
-/// An argument by its number. A synonym that is used rightly has one for each parameter.
+/// An argument by its number, if it has at most `depth` levels. A synonym that is used rightly has one for each parameter.
 #[tactic(auto, using(crate::proofs::Expanded::argument_at, crate::proofs::Expanded::argument_past))]
-fn argument(alloc: Global, args: &[TypeExpr], number: usize) -> Result<TypeExpr, AllocError>
+fn argument(
+    alloc: Global,
+    depth: usize,
+    args: &[TypeExpr],
+    number: usize,
+) -> Result<TypeExpr, AllocError>
     ensures { IfOk result (λ t. t ≡ argument number (types args.now)) }
 {
     if number < args.len() {
-        return Ok(copy_type(alloc, &args[number])?);
+        return Ok(copy_type(alloc, depth, &args[number])?);
     }
     Ok(TypeExpr {
         kind: TypeKind::Unit,
@@ -137,25 +146,29 @@ fn applied(
     }
 }
 
-/// The right side of a synonym, with the arguments in the place of its parameters.
+/// The right side of a synonym, with the arguments in the place of its parameters, if it has at most `depth` levels.
 #[tactic(auto, using(crate::proofs::Expanded::all_filled))]
 pub(crate) fn filled(
     alloc: Global,
+    depth: usize,
     name: &Name,
     args: &[TypeExpr],
     body: &Ty,
 ) -> Result<TypeExpr, AllocError>
     ensures { IfOk result (λ t. t ≡ filled_at name.now (types args.now) (type_of body.now)) }
 {
+    if depth == 0 {
+        return Err(AllocError);
+    }
     match body {
-        Ty::Var(number) => Ok(argument(alloc, args, *number)?),
+        Ty::Var(number) => Ok(argument(alloc, depth, args, *number)?),
         Ty::Rigid(_) => Ok(TypeExpr {
             kind: TypeKind::Unit,
         }),
         Ty::App(head, parts) => {
             let mut resolved = Vec::new(alloc);
             'parts: for part in parts.as_slice() {
-                resolved.push(filled(alloc, name, args, part)?)?;
+                resolved.push(filled(alloc, depth - 1, name, args, part)?)?;
             }
             Ok(applied(alloc, name, head, resolved)?)
         }

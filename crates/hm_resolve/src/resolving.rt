@@ -191,7 +191,10 @@ impl Resolving<'_> {
             None => Ok(TypeExpr {
                 kind: TypeKind::Con(name, args),
             }),
-            Some(synonym) => Ok(filled(alloc, &name, &args, synonym.body())?),
+            Some(synonym) => {
+                let depth = self.tables.depth();
+                Ok(filled(alloc, depth, &name, &args, synonym.body())?)
+            }
         }
     }
 

@@ -10,4 +10,4 @@ mod scoping;
 mod synonym_graph;
 mod type_names;
 
-pub use crate::scoping::scope;
+pub use crate::scoping::{scope, scope_within};

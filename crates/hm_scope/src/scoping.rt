@@ -31,6 +31,9 @@ use hm_types::{Interface, Text, prelude};
 use std::alloc::{AllocError, Global};
 use std::sync::Arc;
 
+/// How many levels a type may have that a synonym stands for, where no other limit is told.
+const MOST_LEVELS: usize = 1 << 20;
+
 /// The resolved declarations of a module, and the faults of its trees by phases: of declaration lists, of names, of numbers of arguments
 /// and of synonyms that are recursive.
 #[derive(Drop)]
@@ -67,6 +70,7 @@ fn walked_trees<'a>(
     scope: &Scope<'a>,
     synonyms: &OwnSynonyms<'a>,
     graph: &SynonymGraph,
+    depth: usize,
 ) -> Result<Walked, AllocError>
     requires scope { IsScopeOf «module».now (map (λ f. f.now) interfaces.now) scope.now }
     requires synonyms { AreOwnSynonyms «module».now.decls synonyms.now }
@@ -74,7 +78,7 @@ fn walked_trees<'a>(
     requires edges { IsReferenceGraph «module».now (map (λ f. f.now) interfaces.now) synonyms.now.names graph.now }
     ensures { IfOk result (λ walked. AreWalked «module».now (map (λ f. f.now) interfaces.now) walked.decls.items walked.faults.items) }
 {
-    let mut tables = Tables::of(alloc, module, interfaces)?;
+    let mut tables = Tables::of(alloc, module, interfaces, depth)?;
     add_synonyms(alloc, &mut tables, scope, module, synonyms, graph)?;
     Ok(walk(alloc, scope, &tables, module)?)
 }
@@ -100,6 +104,7 @@ fn resolved_trees<'a>(
     module: &'a Module,
     interfaces: &[&'a Interface],
     scope: &Scope<'a>,
+    depth: usize,
 ) -> Result<Trees, AllocError>
     requires { IsScopeOf «module».now (map (λ f. f.now) interfaces.now) scope.now }
     ensures { IfOk result (AreTrees «module».now (map (λ f. f.now) interfaces.now)) }
@@ -107,7 +112,7 @@ fn resolved_trees<'a>(
     let synonyms = own_synonyms(alloc, module.decls.as_slice())?;
     let graph = reference_graph(alloc, scope, module, &synonyms.names)?;
     let recursive = synonym_faults(alloc, module, &synonyms.names, &graph)?;
-    let walked = walked_trees(alloc, module, interfaces, scope, &synonyms, &graph)?;
+    let walked = walked_trees(alloc, module, interfaces, scope, &synonyms, &graph, depth)?;
     Ok(trees_of(alloc, walked, recursive)?)
 }
 
@@ -141,6 +146,7 @@ fn behind_imports<'a>(
     module: &'a Module,
     interfaces: &[&'a Interface],
     scope: &Scope<'a>,
+    depth: usize,
 ) -> Result<Answer<'a>, AllocError>
     requires { IsScopeOf «module».now (map (λ f. f.now) interfaces.now) scope.now }
     ensures { IfOk result (λ answer. IsAnswerBehind «module».now (map (λ f. f.now) interfaces.now) answer) }
@@ -150,7 +156,7 @@ fn behind_imports<'a>(
         lists,
         names,
         numbers,
-    } = resolved_trees(alloc, module, interfaces, scope)?;
+    } = resolved_trees(alloc, module, interfaces, scope, depth)?;
     let ModuleExports { given, faults } = module_exports(alloc, module, interfaces, scope)?;
     match first_faults(lists, faults, names, numbers)? {
         Some(found) => Ok(Answer::Faulty(found)),
@@ -203,6 +209,7 @@ fn core_or_faults(
     alloc: Global,
     module: &Module,
     imports: &[Arc<Interface>],
+    depth: usize,
 ) -> Result<Result<Core, Row<Fault>>, AllocError>
     ensures { IfOk result (IsOutcome «module».now (prelude_interface ∷ map arc_value imports.now)) }
 {
@@ -213,7 +220,7 @@ fn core_or_faults(
         None => {}
     }
     let scope = scope_of(alloc, module, &prelude, imports)?;
-    match behind_imports(alloc, module, &interfaces, &scope)? {
+    match behind_imports(alloc, module, &interfaces, &scope, depth)? {
         Answer::Faulty(found) => Ok(Err(found)),
         Answer::Resolved(decls, given) => {
             let shared = shared(alloc, &prelude, imports)?;
@@ -229,7 +236,21 @@ pub fn scope(alloc: Global, module: &Module, imports: &[Arc<Interface>]) -> Resu
     ensures core { IfOk result (λ c. IsCore «module».now (prelude_interface ∷ map arc_value imports.now) c) }
     ensures faults { IfErr result (λ e. IsFaulty «module».now (prelude_interface ∷ map arc_value imports.now) e) }
 {
-    match core_or_faults(alloc, module, imports) {
+    scope_within(alloc, module, imports, MOST_LEVELS)
+}
+
+/// The same, where no synonym stands for a type of more than `depth` levels. What would need one is refused for want of memory.
+pub fn scope_within(
+    alloc: Global,
+    module: &Module,
+    imports: &[Arc<Interface>],
+    depth: usize,
+) -> Result<Core, ScopeFault>
+    requires imports { AreImportsOf «module».now (map arc_value imports.now) }
+    ensures core { IfOk result (λ c. IsCore «module».now (prelude_interface ∷ map arc_value imports.now) c) }
+    ensures faults { IfErr result (λ e. IsFaulty «module».now (prelude_interface ∷ map arc_value imports.now) e) }
+{
+    match core_or_faults(alloc, module, imports, depth) {
         Err(AllocError) => Err(ScopeFault::Memory),
         Ok(Err(found)) => Err(ScopeFault::Faults(found)),
         Ok(Ok(core)) => Ok(core),

@@ -9,21 +9,37 @@ use std::snapshot::Snapshot;
 use std::thread::{Builder, Promise, Threads};
 
 /// How many bytes of stack work has on sources of any length.
-const LEAST_STACK: usize = 1 << 28;
+const LEAST_STACK: usize = 5 << 24;
 
 /// How many bytes of stack work has for each byte of the longest source. Recursion follows the source, which may
 /// nest as deep as its length allows; docs/DECISIONS.md says how this was found.
 const STACK_PER_BYTE: usize = 1 << 12;
 
-/// How many bytes of stack work on these sources has.
-pub fn stack_size(sources: &[Vec<u8>]) -> usize {
+/// How many levels a type may have, whatever the sources are.
+const LEAST_DEPTH: usize = 9 << 12;
+
+/// How many bytes of the longest source there are for each further level of a type: no source writes a level in fewer.
+const BYTES_PER_LEVEL: usize = 2;
+
+/// The length of the longest source.
+fn longest(sources: &[Vec<u8>]) -> usize {
     let mut longest = 0;
     for source in sources {
         longest = source.len().max(longest);
     }
     longest
+}
+
+/// How many bytes of stack work on these sources has.
+pub fn stack_size(sources: &[Vec<u8>]) -> usize {
+    longest(sources)
         .saturating_mul(STACK_PER_BYTE)
         .saturating_add(LEAST_STACK)
+}
+
+/// How many levels a type may have in the work on these sources, for which `stack_size` suffices.
+pub fn depth_limit(sources: &[Vec<u8>]) -> usize {
+    (longest(sources) / BYTES_PER_LEVEL).saturating_add(LEAST_DEPTH)
 }
 
 /// The promise of a thread: its answer is the plan of these sources.

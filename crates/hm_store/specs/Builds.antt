@@ -16,7 +16,8 @@ use Rattle.hm_store.specs.declared.object.Entry.TheVariants.{Claim, Stop}
 use Rattle.hm_store.specs.declared.object.Claimed.{Claimed as Reply}
 use Rattle.hm_store.specs.declared.object.Claimed.TheVariants.{Job, Later, Done}
 use Rattle.hm_store.specs.declared.object.Refusal.{Refusal}
-use Rattle.hm_store.specs.declared.object.Refusal.TheVariants.{NotYours, Stranger}
+use Rattle.hm_store.specs.declared.object.Refusal.TheVariants.{NotYours, Stranger, Memory}
+use Rattle.hm_published.specs.Publications as publications
 
 -- the modules, the plan, the journal, and for each module its outcome, where it was published or failed
 pub record Build : Type 0 where
@@ -34,8 +35,7 @@ abbrev pub state_of : Build → State
 state_of b = state_after b.given b.journal
 
 abbrev pub interface_of : Verdict → Option Interface
-interface_of (Good f) = Some f
-interface_of (Faulty found) = None
+interface_of v = publications.interface_of v
 
 abbrev pub kept_at : List (Option Checked) → ℕ → Option Checked
 kept_at kept m = slice_index_or kept m None
@@ -109,10 +109,12 @@ with_kept b m c e = record { modules = b.modules; given = b.given; journal = b.j
 abbrev pub after_stop : Build → ℕ → Bool → Build
 after_stop b w first = cond first (with_entry b (Stop w)) b
 
--- why an outcome is refused, if it is: the module isn't claimed by this worker; or the outcome is of another module, or for other interfaces
+-- why an outcome is refused, if it is: the module isn't claimed by this worker; or the outcome is of another module, or for other interfaces. A
+-- build without look-ups beside it never lacks memory
 abbrev pub Refuses : Build → ℕ → ℕ → Checked → Option Refusal → Type 0
 Refuses b w m c (Some NotYours) = status_at (state_of b).statuses m ≢ Claimed w
 Refuses b w m c (Some Stranger) = (status_at (state_of b).statuses m ≡ Claimed w) × ¬ IsOf b m c
+Refuses b w m c (Some Memory) = ⊥
 Refuses b w m c None = (status_at (state_of b).statuses m ≡ Claimed w) × IsOf b m c
 
 -- a publication or a failure is a step of the build object, or nothing changes and the outcome comes back

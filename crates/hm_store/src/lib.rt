@@ -3,12 +3,15 @@
 #![tactic(auto)]
 
 pub mod laws;
+mod listed;
 mod object;
 mod record;
 mod shared;
 mod store;
 
+pub use crate::listed::Listed;
 pub use crate::object::{Claimed, Entry, Refusal, Status, Turn};
 pub use crate::record::{Act, Call, Pass, Record};
-pub use crate::shared::{LookFault, Shared};
+pub use crate::shared::{Locked, Shared, SharedFault, meet};
 pub use crate::store::Store;
+pub use hm_published::LookFault;

@@ -103,4 +103,7 @@ pub enum Refusal {
     /// The outcome is of another module, or its interfaces aren't the published ones of the module's imports.
     #[error("the outcome isn't that of the module with the published interfaces of its imports")]
     Stranger,
+    /// Memory was refused to what look-ups see. Only a store that is shared answers it.
+    #[error("no memory")]
+    Memory,
 }

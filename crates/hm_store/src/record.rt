@@ -1,7 +1,14 @@
 //! What a worker writes down of its calls.
 ghost use Rattle.std.specs.Prelude.{◌≡◌, ◌≤◌, ◌<◌, ◌+◌, true, [], ◌∷◌, ◌++◌, ◌^◌, max, IfOk, vec_len, vec_capacity};
+ghost use Rattle.std.specs.Prelude.{IfErr, Err, option_map};
+ghost use Rattle.std.specs.Arc.{arc_value};
+ghost use mathlib.Core.List.{IsPrefix};
+ghost use Rattle.hm_published.specs.Publications.{IsLawful, entries_of, interface_in};
+ghost use Rattle.hm_published.specs.declared.published.LookFault.TheVariants.{NoEntry};
 ghost use Rattle.hm_store.specs.Records.{AddsAt, knows, rises, wrote, wrote_in};
+ghost use Rattle.hm_store.specs.declared.record.Act.TheVariants.{Look};
 
+use hm_published::{Found, Front, LookFault, Naming, Reader};
 use hm_types::Interface;
 use std::alloc::{AllocError, Global};
 use std::sync::Arc;
@@ -40,12 +47,13 @@ pub struct Record {
 
 /// What a worker makes its calls with: its number, its record so far, and the room for calls that it has left.
 #[derive(Drop)]
-pub struct Pass<L: Ledger> {
+pub struct Pass<L: Ledger + Naming> {
     worker: usize,
     calls: Vec<Call>,
     room: usize,
     known: usize,
     share: Share<L>,
+    reader: Reader<L>,
     ghost reserved: { vec_len calls + room ≤ vec_capacity calls },
     ghost ordered: { rises 0 calls.items ≡ true },
     ghost knowing: { known ≡ knows 0 calls.items },
@@ -55,8 +63,8 @@ pub struct Pass<L: Ledger> {
     ghost small: { room < 2 ^ 62 },
 }
 
-impl<L: Ledger> Pass<L> {
-    ghost use Rattle.hm_store.specs.Passes.{calls_of, room_of, share_of, worker_of};
+impl<L: Ledger + Naming> Pass<L> {
+    ghost use Rattle.hm_store.specs.Passes.{calls_of, room_of, seen_of, share_of, worker_of};
 
     /// A pass with an empty record.
     pub(crate) fn new(
@@ -64,6 +72,7 @@ impl<L: Ledger> Pass<L> {
         worker: usize,
         room: usize,
         share: Share<L>,
+        reader: Reader<L>,
     ) -> Result<Pass<L>, AllocError>
         requires share { (share.amount ≡ 0) × (0 < share.parts) }
         requires room { room < 2 ^ 62 }
@@ -71,6 +80,7 @@ impl<L: Ledger> Pass<L> {
         ensures room { IfOk result (λ p. room_of p ≡ room) }
         ensures empty { IfOk result (λ p. calls_of p ≡ []) }
         ensures parts { IfOk result (λ p. (share_of p).parts ≡ share.parts) }
+        ensures seen { IfOk result (λ p. seen_of p ≡ reader) }
     {
         let calls = Vec::with_capacity(alloc, room)?;
         Ok(Pass {
@@ -79,6 +89,7 @@ impl<L: Ledger> Pass<L> {
             room,
             known: 0,
             share,
+            reader,
         })
     }
 
@@ -93,6 +104,7 @@ impl<L: Ledger> Pass<L> {
         ensures worker { worker_of self.new ≡ worker_of self.old }
         ensures room { room_of self.new + 1 ≡ room_of self.old }
         ensures parts { (share_of self.new).parts ≡ (share_of self.old).parts }
+        ensures seen { seen_of self.new ≡ seen_of self.old }
     {
         let at = entries.max(self.known);
         book.add(&mut self.share, 1);
@@ -111,11 +123,46 @@ impl<L: Ledger> Pass<L> {
         ensures worker { worker_of self.new ≡ worker_of self.old }
         ensures room { room_of self.new + 1 ≡ room_of self.old }
         ensures parts { (share_of self.new).parts ≡ (share_of self.old).parts }
+        ensures seen { seen_of self.new ≡ seen_of self.old }
     {
         let at = entries.max(self.known);
         self.calls.push_reserved(Call { at, act });
         self.known = at;
         self.room -= 1;
+    }
+
+    /// Is told of these publications, too. Nothing is written down.
+    pub(crate) fn learn(&mut self, front: &Front<L>)
+        ensures kept { IsPrefix (seen_of self.old) (seen_of self.new) }
+        ensures told { IsPrefix front.now (seen_of self.new) }
+        ensures lawful { IsLawful (seen_of self.new) }
+        ensures record { (worker_of self.new ≡ worker_of self.old) × (calls_of self.new ≡ calls_of self.old) × (room_of self.new ≡ room_of self.old) × (share_of self.new ≡ share_of self.old) }
+    {
+        self.reader.learn(front);
+    }
+
+    /// Looks for a published interface and writes down what is found. It waits for nobody.
+    pub(crate) fn look(&mut self, number: usize) -> Result<Option<Arc<Interface>>, LookFault>
+        requires { 0 < room_of self.old }
+        ensures list { IfOk result (λ _. IsPrefix (seen_of self.old) (seen_of self.new) × IsLawful (seen_of self.new)) }
+        ensures reply { IfOk result (λ r. option_map arc_value r ≡ interface_in (seen_of self.new) number) }
+        ensures ok { IfOk result (λ r. (o : _) × (option_map arc_value o ≡ option_map arc_value r) × AddsAt (entries_of (seen_of self.new)) (calls_of self.old) (Look number o) (calls_of self.new)) }
+        ensures worker { IfOk result (λ _. worker_of self.new ≡ worker_of self.old) }
+        ensures room { IfOk result (λ _. room_of self.new + 1 ≡ room_of self.old) }
+        ensures parts { IfOk result (λ _. (share_of self.new).parts ≡ (share_of self.old).parts) }
+        ensures err { IfErr result (λ _. (worker_of self.new ≡ worker_of self.old) × (calls_of self.new ≡ calls_of self.old) × (room_of self.new ≡ room_of self.old) × (share_of self.new ≡ share_of self.old) × IsPrefix (seen_of self.old) (seen_of self.new)) }
+        ensures no_entry { result ≡ Err NoEntry → seen_of self.new ≡ seen_of self.old }
+    {
+        let Found { interface, entries } = match self.reader.look(number) {
+            Ok(found) => found,
+            Err(fault) => return Err(fault),
+        };
+        let noted = match again(&interface) {
+            Ok(noted) => noted,
+            Err(AllocError) => return Err(LookFault::Memory),
+        };
+        self.read(entries, Act::Look(number, noted));
+        Ok(interface)
     }
 
     /// The worker's number.
@@ -146,7 +193,18 @@ impl<L: Ledger> Pass<L> {
             room: _,
             known: _,
             share,
+            reader: _reader,
         } = self;
         (Record { worker, calls }, share)
+    }
+}
+
+/// A second owner of an interface that was found.
+fn again(found: &Option<Arc<Interface>>) -> Result<Option<Arc<Interface>>, AllocError>
+    ensures { IfOk result (λ o. option_map arc_value o ≡ option_map arc_value found.now) }
+{
+    match found {
+        Some(interface) => Ok(Some(Arc::try_clone(interface)?)),
+        None => Ok(None),
     }
 }

@@ -1,73 +1,95 @@
 //! The store behind a lock, for workers that have a pass each.
-ghost use Rattle.std.specs.Prelude.{◌≡◌, ◌≤◌, ◌<◌, ◌+◌, ◌^◌, [], All, length, not, vec_len, IfOk, IfErr, IfSome, IfNone, ℕ, slice_index_or, option_map};
+ghost use Rattle.std.specs.Prelude.{◌≡◌, ◌≤◌, ◌<◌, ◌+◌, ◌^◌, [], ◌∷◌, ◌++◌, All, Err, max, length, not, vec_len, IfOk, IfErr, IfSome, IfNone, ℕ, slice_index_or, option_map};
 ghost use Rattle.std.specs.Arc.{arc_value};
+ghost use mathlib.Core.List.{IsPrefix};
 ghost use Rattle.hm_outcomes.specs.Outcomes.{IsGood};
-ghost use Rattle.hm_store.specs.Builds.{Settles, after_claim, after_stop, interface_at, state_of};
+ghost use Rattle.hm_published.specs.Publications.{IsLawful, entries_of, interface_in, interface_of};
+ghost use Rattle.hm_published.specs.declared.published.LookFault.TheVariants.{NoEntry};
+ghost use Rattle.left_right.specs.Handles.{published};
+ghost use Rattle.hm_store.specs.Builds.{after_claim, after_stop, state_of};
+ghost use Rattle.hm_store.specs.Listings.{FailsIn, HasImports, Settled, one_way};
 ghost use Rattle.hm_store.specs.Objects.{reply_of};
-ghost use Rattle.hm_store.specs.Passes.{calls_of, room_of, share_of, worker_of};
+ghost use Rattle.hm_store.specs.Passes.{calls_of, room_of, seen_of, share_of, worker_of};
 ghost use Rattle.hm_store.specs.Records.{Adds, AddsAt, act_of, replied};
-ghost use Rattle.hm_store.specs.declared.object.Entry.TheVariants.{Publish as Published, Fail as Failed};
 ghost use Rattle.hm_store.specs.declared.record.Act.TheVariants.{Publish, Fail, Stop, Look};
 
+use crate::listed::Listed;
 use crate::object::{Claimed, Refusal, Turn};
 use crate::record::{Act, Pass};
 use crate::store::Store;
 use hm_outcomes::Outcome;
+use hm_published::{Front, History, LookFault, Naming, Opened, Published, Step, pages};
 use hm_types::Interface;
+use left_right::{Absorb, WriteHandle};
 use std::alloc::{AllocError, Global};
 use std::sync::ledger::{Blank, Book, Ledger, Share};
 use std::sync::{Arc, Condvar, Mutex, Wait};
 use thiserror::Error;
 
-/// What the lock keeps: the store, and the book whose total is the number of its entries.
+/// What the lock keeps: the store with the list of its publications, the book whose total is the number of its entries, and what look-ups read,
+/// in which that list is published.
 #[derive(Drop)]
-pub struct Locked<L: Ledger> {
-    store: Store,
+pub struct Locked<L: Ledger + Naming, R: Wait + Drop>
+where
+    Published<L>: Absorb<Step<L>>,
+{
+    pub listed: Listed<L>,
     book: Book<L>,
-    ghost counted: { book.total ≡ length store.journal },
+    history: History<L>,
+    pages: WriteHandle<Published<L>, Step<L>, R>,
+    ghost counted: { book.total ≡ length listed.build.journal },
+    ghost same: { published pages ≡ listed.published } by { one_way (published pages) listed.published },
 }
 
-/// Why a look-up wasn't answered.
+/// Why a store can't be shared.
 #[derive(Clone, Copy, Debug, Error, PartialEq, Eq)]
-pub enum LookFault {
+pub enum SharedFault {
     /// Memory ran out.
     #[error("no memory")]
     Memory,
+    /// No reader was made of what is published.
+    #[error("no reader")]
+    NoReader,
 }
 
-impl From<AllocError> for LookFault {
+impl From<AllocError> for SharedFault {
     ghost use Rattle.std.specs.Prelude.{◌≡◌};
-    ghost use Rattle.hm_store.specs.declared.shared.LookFault.TheVariants.{Memory};
+    ghost use Rattle.hm_store.specs.declared.shared.SharedFault.TheVariants.{Memory};
 
     ghost from_gives = { λ _ fault. fault ≡ Memory };
 
-    fn from(_error: AllocError) -> LookFault {
-        LookFault::Memory
+    fn from(_error: AllocError) -> SharedFault {
+        SharedFault::Memory
     }
 }
 
 /// The store behind a lock, shared by the workers of a build. Each call takes the lock, and is written down in the worker's pass.
 #[derive(Drop)]
-pub struct Shared<L: Ledger> {
-    locked: Mutex<Locked<L>>,
+pub struct Shared<L: Ledger + Naming, R: Wait + Drop>
+where
+    Published<L>: Absorb<Step<L>>,
+{
+    locked: Mutex<Locked<L, R>>,
     moved: Condvar,
 }
 
-impl<L: Ledger> Locked<L> {
+impl<L: Ledger + Naming, R: Wait + Drop> Locked<L, R> {
     /// Claims a module and writes it down; None where the worker has to wait.
-    fn claim(&mut self, pass: &mut Pass<L>) -> Option<Turn>
+    fn claim_next(&mut self, pass: &mut Pass<L>) -> Option<Turn>
         requires { 0 < room_of pass.old }
-        ensures reply { replied result ≡ reply_of self.old.store.given (state_of self.old.store) }
-        ensures step { self.new.store ≡ after_claim self.old.store (worker_of pass.old) (replied result) }
+        ensures reply { replied result ≡ reply_of self.old.listed.build.given (state_of self.old.listed.build) }
+        ensures step { self.new.listed ≡ record { build = after_claim self.old.listed.build (worker_of pass.old) (replied result); published = self.old.listed.published } }
+        ensures imports { IfSome result (λ t. HasImports L.plan t self.new.listed.published) }
         ensures none { IfNone result (pass.new ≡ pass.old) }
-        ensures some { IfSome result (λ t. AddsAt (length self.old.store.journal) (calls_of pass.old) (act_of t) (calls_of pass.new)) }
+        ensures some { IfSome result (λ t. AddsAt (length self.old.listed.build.journal) (calls_of pass.old) (act_of t) (calls_of pass.new)) }
         ensures worker { IfSome result (λ _. worker_of pass.new ≡ worker_of pass.old) }
         ensures room { IfSome result (λ _. room_of pass.new + 1 ≡ room_of pass.old) }
         ensures parts { IfSome result (λ _. (share_of pass.new).parts ≡ (share_of pass.old).parts) }
+        ensures seen { seen_of pass.new ≡ seen_of pass.old }
     {
-        let Locked { store, book } = self;
-        let entries = store.entries();
-        match store.claim(pass.worker()) {
+        let Locked { listed, book, .. } = self;
+        let entries = listed.store().entries();
+        match listed.claim(pass.worker()) {
             Claimed::Job(number) => {
                 pass.wrote(book, entries, Act::Job(number));
                 Some(Turn::Job(number))
@@ -81,7 +103,7 @@ impl<L: Ledger> Locked<L> {
     }
 
     /// Publishes and writes it down.
-    fn publish(
+    fn publish_one(
         &mut self,
         pass: &mut Pass<L>,
         number: usize,
@@ -89,23 +111,30 @@ impl<L: Ledger> Locked<L> {
     ) -> Result<(), (Refusal, Outcome)>
         requires room { 0 < room_of pass.old }
         requires good { IsGood outcome.verdict }
-        ensures settles { Settles self.old.store (worker_of pass.old) number outcome (Published (worker_of pass.old) number) self.new.store result }
-        ensures ok { IfOk result (λ _. AddsAt (length self.old.store.journal) (calls_of pass.old) (Publish number) (calls_of pass.new)) }
+        ensures settles { Settled self.old.listed (worker_of pass.old) number outcome self.new.listed result }
+        ensures ok { IfOk result (λ _. AddsAt (length self.old.listed.build.journal) (calls_of pass.old) (Publish number) (calls_of pass.new)) }
         ensures worker { IfOk result (λ _. worker_of pass.new ≡ worker_of pass.old) }
         ensures room { IfOk result (λ _. room_of pass.new + 1 ≡ room_of pass.old) }
         ensures parts { IfOk result (λ _. (share_of pass.new).parts ≡ (share_of pass.old).parts) }
         ensures err { IfErr result (λ _. pass.new ≡ pass.old) }
         ensures returned { IfErr result (λ r. r.1 ≡ outcome) }
+        ensures seen { seen_of pass.new ≡ seen_of pass.old }
+        ensures published { IfOk result (λ _. interface_in self.new.listed.published number ≡ interface_of outcome.verdict) }
     {
-        let Locked { store, book } = self;
-        let entries = store.entries();
-        store.publish(pass.worker(), number, outcome)?;
+        let Locked {
+            listed,
+            book,
+            history,
+            pages,
+        } = self;
+        let entries = listed.store().entries();
+        listed.publish(pages, history, pass.worker(), number, outcome)?;
         pass.wrote(book, entries, Act::Publish(number));
         Ok(())
     }
 
     /// Tells of a failure and writes it down.
-    fn fail(
+    fn fail_one(
         &mut self,
         pass: &mut Pass<L>,
         number: usize,
@@ -113,34 +142,36 @@ impl<L: Ledger> Locked<L> {
     ) -> Result<(), (Refusal, Outcome)>
         requires room { 0 < room_of pass.old }
         requires faulty { ¬ IsGood outcome.verdict }
-        ensures settles { Settles self.old.store (worker_of pass.old) number outcome (Failed (worker_of pass.old) number) self.new.store result }
-        ensures ok { IfOk result (λ _. AddsAt (length self.old.store.journal) (calls_of pass.old) (Fail number) (calls_of pass.new)) }
+        ensures settles { FailsIn self.old.listed (worker_of pass.old) number outcome self.new.listed result }
+        ensures ok { IfOk result (λ _. AddsAt (length self.old.listed.build.journal) (calls_of pass.old) (Fail number) (calls_of pass.new)) }
         ensures worker { IfOk result (λ _. worker_of pass.new ≡ worker_of pass.old) }
         ensures room { IfOk result (λ _. room_of pass.new + 1 ≡ room_of pass.old) }
         ensures parts { IfOk result (λ _. (share_of pass.new).parts ≡ (share_of pass.old).parts) }
         ensures err { IfErr result (λ _. pass.new ≡ pass.old) }
         ensures returned { IfErr result (λ r. r.1 ≡ outcome) }
+        ensures seen { seen_of pass.new ≡ seen_of pass.old }
     {
-        let Locked { store, book } = self;
-        let entries = store.entries();
-        store.fail(pass.worker(), number, outcome)?;
+        let Locked { listed, book, .. } = self;
+        let entries = listed.store().entries();
+        listed.fail(pass.worker(), number, outcome)?;
         pass.wrote(book, entries, Act::Fail(number));
         Ok(())
     }
 
     /// Stops the build and writes it down.
-    fn stop(&mut self, pass: &mut Pass<L>) -> bool
+    fn stop_all(&mut self, pass: &mut Pass<L>) -> bool
         requires { 0 < room_of pass.old }
-        ensures reply { result ≡ not (state_of self.old.store).stopped }
-        ensures step { self.new.store ≡ after_stop self.old.store (worker_of pass.old) result }
-        ensures adds { AddsAt (length self.old.store.journal) (calls_of pass.old) (Stop result) (calls_of pass.new) }
+        ensures reply { result ≡ not (state_of self.old.listed.build).stopped }
+        ensures step { self.new.listed ≡ record { build = after_stop self.old.listed.build (worker_of pass.old) result; published = self.old.listed.published } }
+        ensures adds { AddsAt (length self.old.listed.build.journal) (calls_of pass.old) (Stop result) (calls_of pass.new) }
         ensures worker { worker_of pass.new ≡ worker_of pass.old }
         ensures room { room_of pass.new + 1 ≡ room_of pass.old }
         ensures parts { (share_of pass.new).parts ≡ (share_of pass.old).parts }
+        ensures seen { seen_of pass.new ≡ seen_of pass.old }
     {
-        let Locked { store, book } = self;
-        let entries = store.entries();
-        let first = store.stop(pass.worker());
+        let Locked { listed, book, .. } = self;
+        let entries = listed.store().entries();
+        let first = listed.stop(pass.worker());
         if first {
             pass.wrote(book, entries, Act::Stop(true));
         } else {
@@ -149,41 +180,126 @@ impl<L: Ledger> Locked<L> {
         first
     }
 
-    /// Looks for a published interface and writes down what is found.
-    fn look(&self, pass: &mut Pass<L>, number: usize) -> Result<Option<Arc<Interface>>, LookFault>
+    /// Claims a module, writes it down, and meets; None where the worker has to wait.
+    fn claim(&mut self, pass: &mut Pass<L>) -> Option<Turn>
         requires { 0 < room_of pass.old }
-        ensures reply { IfOk result (λ r. option_map arc_value r ≡ interface_at self.now.store.kept number) }
-        ensures ok { IfOk result (λ r. (o : _) × AddsAt (length self.now.store.journal) (calls_of pass.old) (Look number o) (calls_of pass.new) × (option_map arc_value o ≡ option_map arc_value r)) }
+        ensures reply { replied result ≡ reply_of self.old.listed.build.given (state_of self.old.listed.build) }
+        ensures step { self.new.listed ≡ record { build = after_claim self.old.listed.build (worker_of pass.old) (replied result); published = self.old.listed.published } }
+        ensures imports { IfSome result (λ t. HasImports L.plan t (seen_of pass.new)) }
+        ensures none { IfNone result (pass.new ≡ pass.old) }
+        ensures some { IfSome result (λ t. AddsAt (length self.old.listed.build.journal) (calls_of pass.old) (act_of t) (calls_of pass.new)) }
+        ensures worker { IfSome result (λ _. worker_of pass.new ≡ worker_of pass.old) }
+        ensures room { IfSome result (λ _. room_of pass.new + 1 ≡ room_of pass.old) }
+        ensures parts { IfSome result (λ _. (share_of pass.new).parts ≡ (share_of pass.old).parts) }
+        ensures kept { IfSome result (λ _. IsPrefix (seen_of pass.old) (seen_of pass.new)) }
+        ensures told { IfSome result (λ _. IsPrefix self.new.listed.published (seen_of pass.new)) }
+    {
+        let turn = self.claim_next(pass)?;
+        meet(self, pass);
+        Some(turn)
+    }
+
+    /// Publishes, writes it down, and meets.
+    fn publish(
+        &mut self,
+        pass: &mut Pass<L>,
+        number: usize,
+        outcome: Outcome,
+    ) -> Result<(), (Refusal, Outcome)>
+        requires room { 0 < room_of pass.old }
+        requires good { IsGood outcome.verdict }
+        ensures settles { Settled self.old.listed (worker_of pass.old) number outcome self.new.listed result }
+        ensures ok { IfOk result (λ _. AddsAt (length self.old.listed.build.journal) (calls_of pass.old) (Publish number) (calls_of pass.new)) }
         ensures worker { IfOk result (λ _. worker_of pass.new ≡ worker_of pass.old) }
         ensures room { IfOk result (λ _. room_of pass.new + 1 ≡ room_of pass.old) }
         ensures parts { IfOk result (λ _. (share_of pass.new).parts ≡ (share_of pass.old).parts) }
         ensures err { IfErr result (λ _. pass.new ≡ pass.old) }
+        ensures returned { IfErr result (λ r. r.1 ≡ outcome) }
+        ensures kept { IfOk result (λ _. IsPrefix (seen_of pass.old) (seen_of pass.new)) }
+        ensures told { IfOk result (λ _. IsPrefix self.new.listed.published (seen_of pass.new)) }
+        ensures seen { IfOk result (λ _. interface_in (seen_of pass.new) number ≡ interface_of outcome.verdict) }
     {
-        match self.store.look(number) {
-            Some(interface) => {
-                let noted = Arc::try_clone(interface)?;
-                let given = Arc::try_clone(interface)?;
-                pass.read(self.store.entries(), Act::Look(number, Some(noted)));
-                Ok(Some(given))
+        match self.publish_one(pass, number, outcome) {
+            Ok(()) => {
+                meet(self, pass);
+                Ok(())
             }
-            None => {
-                pass.read(self.store.entries(), Act::Look(number, None));
-                Ok(None)
-            }
+            Err(refused) => Err(refused),
         }
+    }
+
+    /// Tells of a failure, writes it down, and meets.
+    fn fail(
+        &mut self,
+        pass: &mut Pass<L>,
+        number: usize,
+        outcome: Outcome,
+    ) -> Result<(), (Refusal, Outcome)>
+        requires room { 0 < room_of pass.old }
+        requires faulty { ¬ IsGood outcome.verdict }
+        ensures settles { FailsIn self.old.listed (worker_of pass.old) number outcome self.new.listed result }
+        ensures ok { IfOk result (λ _. AddsAt (length self.old.listed.build.journal) (calls_of pass.old) (Fail number) (calls_of pass.new)) }
+        ensures worker { IfOk result (λ _. worker_of pass.new ≡ worker_of pass.old) }
+        ensures room { IfOk result (λ _. room_of pass.new + 1 ≡ room_of pass.old) }
+        ensures parts { IfOk result (λ _. (share_of pass.new).parts ≡ (share_of pass.old).parts) }
+        ensures err { IfErr result (λ _. pass.new ≡ pass.old) }
+        ensures returned { IfErr result (λ r. r.1 ≡ outcome) }
+        ensures kept { IfOk result (λ _. IsPrefix (seen_of pass.old) (seen_of pass.new)) }
+        ensures told { IfOk result (λ _. IsPrefix self.new.listed.published (seen_of pass.new)) }
+    {
+        match self.fail_one(pass, number, outcome) {
+            Ok(()) => {
+                meet(self, pass);
+                Ok(())
+            }
+            Err(refused) => Err(refused),
+        }
+    }
+
+    /// Stops the build, writes it down, and meets.
+    fn stop(&mut self, pass: &mut Pass<L>) -> bool
+        requires { 0 < room_of pass.old }
+        ensures reply { result ≡ not (state_of self.old.listed.build).stopped }
+        ensures step { self.new.listed ≡ record { build = after_stop self.old.listed.build (worker_of pass.old) result; published = self.old.listed.published } }
+        ensures adds { AddsAt (length self.old.listed.build.journal) (calls_of pass.old) (Stop result) (calls_of pass.new) }
+        ensures worker { worker_of pass.new ≡ worker_of pass.old }
+        ensures room { room_of pass.new + 1 ≡ room_of pass.old }
+        ensures parts { (share_of pass.new).parts ≡ (share_of pass.old).parts }
+        ensures kept { IsPrefix (seen_of pass.old) (seen_of pass.new) }
+        ensures told { IsPrefix self.new.listed.published (seen_of pass.new) }
+    {
+        let first = self.stop_all(pass);
+        meet(self, pass);
+        first
     }
 }
 
-impl<L: Ledger> Shared<L> {
+/// What ends each hold of the lock: the pass sees all publications that the store's journal has. Nothing is written down.
+pub fn meet<L: Ledger + Naming, R: Wait + Drop>(locked: &mut Locked<L, R>, pass: &mut Pass<L>)
+    ensures kept { IsPrefix (seen_of pass.old) (seen_of pass.new) }
+    ensures told { IsPrefix locked.old.listed.published (seen_of pass.new) }
+    ensures lawful { IsLawful (seen_of pass.new) }
+    ensures record { (worker_of pass.new ≡ worker_of pass.old) × (calls_of pass.new ≡ calls_of pass.old) × (room_of pass.new ≡ room_of pass.old) × (share_of pass.new ≡ share_of pass.old) }
+    ensures same { locked.new ≡ locked.old }
+{
+    pass.learn(locked.listed.front());
+}
+
+impl<L: Ledger + Naming, R: Wait + Drop> Shared<L, R> {
     /// The store behind a lock, and a pass for each worker.
     pub fn new(
         alloc: Global,
+        rt: R,
         store: Store,
         workers: usize,
         room: usize,
         blank: Blank,
-    ) -> Result<(Shared<L>, Vec<Pass<L>>), AllocError>
+        opened: Opened,
+    ) -> Result<(Shared<L, R>, Vec<Pass<L>>), SharedFault>
         requires brand { (blank.name ≡ L.name) × (blank.parts ≡ L.parts) × (blank.parts ≡ workers) }
+        requires list { opened.seen.book ≡ L.book }
+        requires modules { store.modules ≡ L.modules }
+        requires plan { store.given.imports ≡ L.plan }
         requires workers { (0 < workers) × (workers ≤ 16) }
         requires empty { store.journal ≡ [] }
         requires room { room < 2 ^ 62 }
@@ -192,10 +308,19 @@ impl<L: Ledger> Shared<L> {
         ensures room { IfOk result (λ r. All (λ p. room_of p ≡ room) r.1.items) }
         ensures empty { IfOk result (λ r. All (λ p. calls_of p ≡ []) r.1.items) }
         ensures parts { IfOk result (λ r. All (λ p. (share_of p).parts ≡ 1) r.1.items) }
+        ensures seen { IfOk result (λ r. All (λ p. seen_of p ≡ []) r.1.items) }
     {
+        let _entries = store.entries();
         let (book, rest) = blank.open::<L>();
-        let passes = deal(alloc, workers, room, rest)?;
-        let locked = Mutex::new(Locked { store, book });
+        let (history, front) = opened.named::<L>();
+        let pages = pages::opened(alloc, rt, &front, store.modules().len(), workers)?;
+        let passes = deal(alloc, workers, room, rest, &pages, &front)?;
+        let locked = Mutex::new(Locked {
+            listed: Listed::new(store, front),
+            book,
+            history,
+            pages,
+        });
         let shared = Shared {
             locked,
             moved: Condvar::new(),
@@ -204,12 +329,14 @@ impl<L: Ledger> Shared<L> {
     }
 
     /// Claims a module to check, and waits while none is ready but one that is being checked may make one so.
-    pub fn claim<R: Wait>(&self, rt: &R, pass: &mut Pass<L>) -> Turn
+    pub fn claim<W: Wait>(&self, rt: &W, pass: &mut Pass<L>) -> Turn
         requires { 0 < room_of pass.old }
         ensures adds { Adds (calls_of pass.old) (act_of result) (calls_of pass.new) }
         ensures worker { worker_of pass.new ≡ worker_of pass.old }
         ensures room { room_of pass.new + 1 ≡ room_of pass.old }
         ensures parts { (share_of pass.new).parts ≡ (share_of pass.old).parts }
+        ensures imports { HasImports L.plan result (seen_of pass.new) }
+        ensures kept { IsPrefix (seen_of pass.old) (seen_of pass.new) }
     {
         let mut locked = self.locked.lock(rt);
         for _ in rt.forever() {
@@ -222,9 +349,9 @@ impl<L: Ledger> Shared<L> {
     }
 
     /// Publishes the interface of a module that this worker has claimed. Workers that wait look again.
-    pub fn publish<R: Wait>(
+    pub fn publish<W: Wait>(
         &self,
-        rt: &R,
+        rt: &W,
         pass: &mut Pass<L>,
         number: usize,
         outcome: Outcome,
@@ -237,6 +364,8 @@ impl<L: Ledger> Shared<L> {
         ensures parts { IfOk result (λ _. (share_of pass.new).parts ≡ (share_of pass.old).parts) }
         ensures err { IfErr result (λ _. pass.new ≡ pass.old) }
         ensures returned { IfErr result (λ r. r.1 ≡ outcome) }
+        ensures kept { IfOk result (λ _. IsPrefix (seen_of pass.old) (seen_of pass.new)) }
+        ensures seen { IfOk result (λ _. interface_in (seen_of pass.new) number ≡ interface_of outcome.verdict) }
     {
         let reply = self.locked.lock(rt).publish(pass, number, outcome);
         self.moved.notify_all();
@@ -244,12 +373,13 @@ impl<L: Ledger> Shared<L> {
     }
 
     /// Stops the build: each claim from now on is told that there is nothing left. True the first time.
-    pub fn stop<R: Wait>(&self, rt: &R, pass: &mut Pass<L>) -> bool
+    pub fn stop<W: Wait>(&self, rt: &W, pass: &mut Pass<L>) -> bool
         requires { 0 < room_of pass.old }
         ensures adds { Adds (calls_of pass.old) (Stop result) (calls_of pass.new) }
         ensures worker { worker_of pass.new ≡ worker_of pass.old }
         ensures room { room_of pass.new + 1 ≡ room_of pass.old }
         ensures parts { (share_of pass.new).parts ≡ (share_of pass.old).parts }
+        ensures kept { IsPrefix (seen_of pass.old) (seen_of pass.new) }
     {
         let first = self.locked.lock(rt).stop(pass);
         self.moved.notify_all();
@@ -257,9 +387,9 @@ impl<L: Ledger> Shared<L> {
     }
 
     /// Tells that a module that this worker has claimed is faulty. Workers that wait look again.
-    pub fn fail<R: Wait>(
+    pub fn fail<W: Wait>(
         &self,
-        rt: &R,
+        rt: &W,
         pass: &mut Pass<L>,
         number: usize,
         outcome: Outcome,
@@ -272,46 +402,54 @@ impl<L: Ledger> Shared<L> {
         ensures parts { IfOk result (λ _. (share_of pass.new).parts ≡ (share_of pass.old).parts) }
         ensures err { IfErr result (λ _. pass.new ≡ pass.old) }
         ensures returned { IfErr result (λ r. r.1 ≡ outcome) }
+        ensures kept { IfOk result (λ _. IsPrefix (seen_of pass.old) (seen_of pass.new)) }
     {
         let reply = self.locked.lock(rt).fail(pass, number, outcome);
         self.moved.notify_all();
         reply
     }
 
-    /// The published interface of a module; None where it isn't published.
-    pub fn look<R: Wait>(
+    /// The published interface of a module, as far as publications are seen: all that the pass has seen or was told of, and perhaps more. None
+    /// where it isn't among them. It takes no lock and waits for nobody.
+    pub fn look(
         &self,
-        rt: &R,
         pass: &mut Pass<L>,
         number: usize,
     ) -> Result<Option<Arc<Interface>>, LookFault>
         requires { 0 < room_of pass.old }
-        ensures ok { IfOk result (λ r. (o : _) × Adds (calls_of pass.old) (Look number o) (calls_of pass.new) × (option_map arc_value o ≡ option_map arc_value r)) }
+        ensures list { IfOk result (λ _. IsPrefix (seen_of pass.old) (seen_of pass.new) × IsLawful (seen_of pass.new)) }
+        ensures reply { IfOk result (λ r. option_map arc_value r ≡ interface_in (seen_of pass.new) number) }
+        ensures ok { IfOk result (λ r. (o : _) × (option_map arc_value o ≡ option_map arc_value r) × AddsAt (entries_of (seen_of pass.new)) (calls_of pass.old) (Look number o) (calls_of pass.new)) }
         ensures worker { IfOk result (λ _. worker_of pass.new ≡ worker_of pass.old) }
         ensures room { IfOk result (λ _. room_of pass.new + 1 ≡ room_of pass.old) }
         ensures parts { IfOk result (λ _. (share_of pass.new).parts ≡ (share_of pass.old).parts) }
-        ensures err { IfErr result (λ _. pass.new ≡ pass.old) }
+        ensures err { IfErr result (λ _. (worker_of pass.new ≡ worker_of pass.old) × (calls_of pass.new ≡ calls_of pass.old) × (room_of pass.new ≡ room_of pass.old) × (share_of pass.new ≡ share_of pass.old) × IsPrefix (seen_of pass.old) (seen_of pass.new)) }
+        ensures no_entry { result ≡ Err NoEntry → seen_of pass.new ≡ seen_of pass.old }
     {
-        self.locked.lock(rt).look(pass, number)
+        pass.look(number)
     }
 
     /// The store, and the book whose total is the number of its entries.
     pub fn into_store(self) -> (Store, Book<L>)
-        ensures { result.1.total ≡ length result.0.journal }
+        ensures total { result.1.total ≡ length result.0.journal }
+        ensures modules { result.0.modules ≡ L.modules }
+        ensures plan { result.0.given.imports ≡ L.plan }
     {
         let Shared { locked, moved: _ } = self;
-        let Locked { store, book } = locked.into_inner();
-        (store, book)
+        let Locked { listed, book, .. } = locked.into_inner();
+        (listed.into_store(), book)
     }
 }
 
 /// A pass for each worker, with one part of the ledger each.
-fn deal<L: Ledger>(
+fn deal<L: Ledger + Naming, R: Wait + Drop>(
     alloc: Global,
     workers: usize,
     room: usize,
     mut rest: Share<L>,
-) -> Result<Vec<Pass<L>>, AllocError>
+    pages: &WriteHandle<Published<L>, Step<L>, R>,
+    front: &Front<L>,
+) -> Result<Vec<Pass<L>>, SharedFault>
     requires share { (rest.parts ≡ workers) × (rest.amount ≡ 0) }
     requires room { room < 2 ^ 62 }
     ensures count { IfOk result (λ v. vec_len v ≡ workers) }
@@ -319,11 +457,20 @@ fn deal<L: Ledger>(
     ensures room { IfOk result (λ v. All (λ p. room_of p ≡ room) v.items) }
     ensures empty { IfOk result (λ v. All (λ p. calls_of p ≡ []) v.items) }
     ensures parts { IfOk result (λ v. All (λ p. (share_of p).parts ≡ 1) v.items) }
+    ensures seen { IfOk result (λ v. All (λ p. seen_of p ≡ front.now) v.items) }
 {
     let mut passes = Vec::new(alloc);
     for worker in 0..workers {
         let share = rest.split_off(1, 0);
-        passes.push(Pass::new(alloc, worker, room, share)?)?;
+        let reader = match pages::reader(pages, front) {
+            Ok(reader) => reader,
+            Err(AllocError) => return Err(SharedFault::NoReader),
+        };
+        let pass = Pass::new(alloc, worker, room, share, reader)?;
+        match passes.push(pass) {
+            Ok(()) => {}
+            Err(failed) => return Err(AllocError::from(failed).into()),
+        }
     }
     Ok(passes)
 }

@@ -133,6 +133,7 @@ impl Store {
     pub(crate) fn entries(&self) -> usize
         ensures is { result ≡ length self.now.journal }
         ensures few { result < 2 ^ 62 }
+        ensures legal { IsLegal self.now }
     {
         self.journal.len()
     }

@@ -1,13 +1,15 @@
 -- Which variables occur in the values of older ones, and what one more binding changes.
 use Rattle.std.proofs.Common.{◌≡◌, ℕ, zero, suc, ◌+◌, ◌≤◌, ◌<◌, true, false, ◌||◌, ◌==◌, List, [], ◌∷◌, ◌++◌, length, take, get_or, Some, refl, sym, ap, ◌∙◌, ◌⊎◌, inl, inr, ◌↔◌, subst, arith}
-use Rattle.std.specs.List.{slice_get, list_any}
-use Rattle.std.specs.Prelude.{nat_lt}
+use Rattle.std.specs.List.{slice_get}
+use Rattle.std.specs.Prelude.{nat_eq, nat_lt, None, is_some}
+use Rattle.std.specs.HashMap.{HashMap, get}
 use Rattle.std.proofs.lemmas.List.{take_all, length-map}
 use Rattle.hm_types.specs.declared.Head.{Head}
 use Rattle.hm_types.specs.declared.monotypes.Ty.{Ty}
-use Rattle.hm_types.specs.Schemes.{is_among}
+use Rattle.hm_types.specs.Numbers.{Numbers}
+use Rattle.hm_types.specs.Schemes.{is_among, place}
 use Rattle.hm_types.proofs.Rows.{types_of_more}
-use Rattle.std.proofs.lemmas.Bool.{eqb-true, eqb-false, eq-eqb, ne_eqb, lt-ltb, le-ltb}
+use Rattle.std.proofs.lemmas.Bool.{eqb-true, eqb-false, eq-eqb, lt-ltb, le-ltb}
 use Rattle.hm_types.specs.Types.{App as app, done as none, more, Var as leaf, In, InArgs}
 use Rattle.hm_types.specs.Monotypes.{Leaf, Mono, Monos, var, rigid, arguments_of}
 use Rattle.hm_types.specs.Shape.{type_of, types_of}
@@ -289,19 +291,13 @@ tested_outer es l x k level levelled u is =
 
 -- ---- numbers seen
 
-pub seen_among : (n : ℕ) (xs ys : List ℕ) → ys ≡ xs → is_among n xs ≡ list_any (λ y. y == n) ys
-seen_among n xs ys e = rw e (among xs)
-  where
-    other_way : (m : ℕ) → (n == m) ≡ (m == n)
-    other_way m =
-        elim (bool_cases (n == m)) [
-          | inl same ↦ same ∙ sym (eq-eqb m n (sym (eqb-true n m same)))
-          | inr other ↦ other ∙ sym (ne_eqb m n (λ e. eqb-false n m other (sym e)))
-        ]
-
-    among : (zs : List ℕ) → is_among n zs ≡ list_any (λ y. y == n) zs
-    among [] = refl
-    among (z ∷ zs) = rw (other_way z, among zs) refl
+-- a number has a place where it is among them
+pub seen_among : {S : Type 0} (table : HashMap ℕ ℕ S) (xs : List ℕ) (n : ℕ) → Numbers table xs → is_some (get nat_eq table n) ≡ is_among n xs
+seen_among table xs n numbers =
+    elim (bool_cases (is_among n xs)) [
+      | inl here ↦ let told : get nat_eq table n ≡ Some (place n xs) = numbers.at n ∙ rw here refl in ap is_some told ∙ sym here
+      | inr absent ↦ let told : get nat_eq table n ≡ None = numbers.at n ∙ rw absent refl in ap is_some told ∙ sym absent
+    ]
 
 -- ---- rows of arguments
 

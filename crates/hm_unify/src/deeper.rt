@@ -2,6 +2,7 @@
 
 ghost use Rattle.std.specs.Prelude.{◌≡◌, ◌||◌, ◌++◌, ◌∷◌, [], if◌then◌else◌, OnOk};
 ghost use Rattle.hm_types.specs.Monotypes.{var, rigid};
+ghost use Rattle.hm_types.specs.Numbers.{Numbers};
 ghost use Rattle.hm_types.specs.Schemes.{is_among};
 ghost use Rattle.hm_types.specs.Shape.{type_of};
 ghost use Rattle.hm_unify.specs.Levels.{is_outer, deeper_after};
@@ -11,7 +12,8 @@ ghost use Rattle.hm_unify.specs.Steps.{equations_in, IsSound};
 use crate::bindings::Bindings;
 use crate::levels::Levels;
 use hm_types::Ty;
-use std::alloc::AllocError;
+use std::alloc::{AllocError, Global};
+use std::collections::HashMap;
 
 /// Whether a variable occurs in the value of one of the first `count`.
 pub(crate) fn is_outer_variable(
@@ -44,17 +46,39 @@ pub(crate) fn is_outer_rigid(
     levels.of_rigid(number) < count
 }
 
+/// Numbers in the order in which they were seen. A table has the place of each.
+#[derive(Drop)]
+pub(crate) struct Seen {
+    pub numbers: Vec<usize>,
+    pub places: HashMap<usize, usize>,
+}
+
+/// No numbers.
+pub(crate) fn none_seen(alloc: Global) -> Seen
+    ensures numbers { result.numbers.items ≡ [] }
+    ensures placed { Numbers result.places result.numbers.items }
+{
+    Seen {
+        numbers: Vec::new(alloc),
+        places: HashMap::new(alloc),
+    }
+}
+
 /// Adds a number to those seen, unless it is there or is that of an outer variable.
-fn see(seen: &mut Vec<usize>, is_outer: bool, number: usize) -> Result<(), AllocError>
-    ensures { OnOk result (seen.new.items ≡ (if is_outer || is_among number seen.old.items then seen.old.items else (seen.old.items ++ number ∷ []))) }
+fn see(seen: &mut Seen, is_outer: bool, number: usize) -> Result<(), AllocError>
+    requires { Numbers seen.old.places seen.old.numbers.items }
+    ensures numbers { OnOk result (seen.new.numbers.items ≡ (if is_outer || is_among number seen.old.numbers.items then seen.old.numbers.items else (seen.old.numbers.items ++ number ∷ []))) }
+    ensures placed { OnOk result (Numbers seen.new.places seen.new.numbers.items) }
 {
     if is_outer {
         return Ok(());
     }
-    if seen.contains(&number) {
+    if seen.places.contains_key(&number) {
         return Ok(());
     }
-    seen.push(number)?;
+    let place = seen.places.len();
+    seen.places.insert(number, place)?;
+    seen.numbers.push(number)?;
     Ok(())
 }
 
@@ -64,12 +88,14 @@ pub(crate) fn collect_deeper(
     bindings: &Bindings,
     levels: &Levels,
     count: usize,
-    seen: &mut Vec<usize>,
+    seen: &mut Seen,
     t: &Ty,
 ) -> Result<(), AllocError>
     requires sound { IsSound bindings.now }
     requires levelled { IsLevelled (equations_in bindings.now) levels.now }
-    ensures { OnOk result (seen.new.items ≡ deeper_after (equations_in bindings.now) count seen.old.items (type_of t.now)) }
+    requires placed { Numbers seen.old.places seen.old.numbers.items }
+    ensures numbers { OnOk result (seen.new.numbers.items ≡ deeper_after (equations_in bindings.now) count seen.old.numbers.items (type_of t.now)) }
+    ensures placed { OnOk result (Numbers seen.new.places seen.new.numbers.items) }
 {
     match t {
         Ty::Var(n) => {

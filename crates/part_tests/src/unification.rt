@@ -135,11 +135,17 @@ fn a_variable_in_an_older_one_is_not_deeper(rt: HostRuntime) -> Result<(), Fail>
     Ok(())
 }
 
-/// The equation of variables 0 and 2 is taken back, and the level of variable 2 put back.
+/// Behind the same equation, that of variables 2 and 0 is taken back, and the level of variable 2
+/// put back.
 #[test]
 fn a_clash_puts_levels_back(rt: HostRuntime) -> Result<(), Fail> {
     let alloc = rt.alloc();
     let mut solver = solver_inside_a_level(alloc)?;
+    let value = Ty::function(alloc, Ty::Var(1), constant(alloc, "Int")?)?;
+    let Ok(()) = solver.unify(&Ty::Var(0), value) else {
+        assert!(rt; false, "refused");
+        return Ok(());
+    };
     let left = pair(alloc, Ty::Var(2), constant(alloc, "Int")?)?;
     let right = pair(alloc, Ty::Var(0), constant(alloc, "Char")?)?;
     if let Err(UnifyFault::Clash) = solver.unify(&left, right) {
@@ -148,5 +154,54 @@ fn a_clash_puts_levels_back(rt: HostRuntime) -> Result<(), Fail> {
         return Ok(());
     }
     assert!(rt; false, "no clash");
+    Ok(())
+}
+
+/// A solver whose types have at most `depth` levels, and which has given the variables 0 to 2.
+fn solver_within(alloc: Global, depth: usize) -> Result<Solver, AllocError>
+    ensures { IfOk result (λ solver. solver.given ≡ 3) }
+{
+    let mut solver = Solver::with_depth(alloc, depth);
+    let _first = solver.fresh()?;
+    let _second = solver.fresh()?;
+    let _third = solver.fresh()?;
+    Ok(solver)
+}
+
+/// Variable 0 is a function of variable 1, and that one of variable 2: the value of variable 0 has
+/// three levels, of which a constant is the third.
+#[test]
+fn no_value_has_more_levels_than_the_limit(rt: HostRuntime) -> Result<(), Fail> {
+    let alloc = rt.alloc();
+    for depth in 0..5 {
+        let mut solver = solver_within(alloc, depth)?;
+        let outer = Ty::function(alloc, Ty::Var(1), constant(alloc, "Int")?)?;
+        let bound = solver.unify(&Ty::Var(0), outer);
+        assert!(rt; bound.is_ok());
+        let inner = Ty::function(alloc, Ty::Var(2), constant(alloc, "Int")?)?;
+        let bound = solver.unify(&Ty::Var(1), inner);
+        assert!(rt; bound.is_ok());
+        let found = solver.value(&Ty::Var(0));
+        assert!(rt; found.is_ok() == (depth >= 3), "{depth}");
+    }
+    Ok(())
+}
+
+/// The same equations the other way round: the second binds a variable to the type of three levels.
+#[test]
+fn no_binding_has_more_levels_than_the_limit(rt: HostRuntime) -> Result<(), Fail> {
+    let alloc = rt.alloc();
+    for depth in 2..5 {
+        let mut solver = solver_within(alloc, depth)?;
+        let inner = Ty::function(alloc, Ty::Var(2), constant(alloc, "Int")?)?;
+        let bound = solver.unify(&Ty::Var(1), inner);
+        assert!(rt; bound.is_ok());
+        let outer = Ty::function(alloc, Ty::Var(1), constant(alloc, "Int")?)?;
+        let bound = solver.unify(&Ty::Var(0), outer);
+        assert!(rt; bound.is_ok() == (depth >= 3), "{depth}");
+        let mut again = solver.renewed();
+        assert!(rt; solver.fresh().is_ok() == (depth >= 3), "{depth}");
+        assert!(rt; again.fresh().is_ok());
+    }
     Ok(())
 }

@@ -1,4 +1,7 @@
 use Rattle.acceptance.proofs.passes.one_of_four_workers_stops_a_build.Given as goal
 
-abbrev pub ghosts-called : goal.ghosts-called
-ghosts-called g a = record { name = a.blank.name; parts = a.blank.parts }
+abbrev pub ghosts-called-L-Ledger : goal.ghosts-called-L-Ledger
+ghosts-called-L-Ledger g a = record { name = a.blank.name; parts = a.blank.parts }
+
+abbrev pub ghosts-called-L-Naming : goal.ghosts-called-L-Naming
+ghosts-called-L-Naming g a = record { book = a.opened.seen.book; modules = a.store.modules; plan = a.store.given.imports }

@@ -24,6 +24,6 @@ abbrev pub invariant-match_patterns-parts : goal.invariant-match_patterns-parts
 invariant-match_patterns-parts l = record {
   in_range : l.j ≤ length l.parts;
   matched : (τ : Identifier → Monotype) → HaveTypes τ l.initial.variables → (τ' : Identifier → Monotype)
-      × IsMatched (λ ρ r. MatchesAll ρ (patterns_of (known_of l.constructors) (patterns (drop l.j l.parts))) (λ i. put r (from_number l.same l.first i)) l.j) (patterns_names (patterns_of (known_of l.constructors) (patterns (drop l.j l.parts))))
+      × IsMatched (λ ρ r. MatchesAll ρ (patterns_of (known_of l.constructors) (patterns (drop l.j l.parts))) (λ i. put r (from_number l.types.same l.types.first i)) l.j) (patterns_names (patterns_of (known_of l.constructors) (patterns (drop l.j l.parts))))
       l.initial.solver l.initial.variables τ l.solver l.variables τ';
 }

@@ -20,7 +20,7 @@ returns-in_err-equate-in-Some c =
 
 pub returns-in_ok-add-in-None : goal.returns-in_ok-add-in-None
 returns-in_ok-add-in-None c =
-    new_answers {X = Unit {0}} c.args.solver.now c.args.variables.now c.add.new.self (name_of c.args.name.now) (identifier (variable_of_key c.key_of.result)) (type_of c.args.t.now) (type_of c.in_ok-copy-in-None.field-0) tt c.in_ok-add-in-None.ensures (ap identifier c.key_of.ensures) c.in_ok-copy-in-None.ensures
+    new_answers {X = Unit {0}} c.args.solver.now c.args.variables.now c.add.new.self (name_of c.args.name.now) (identifier (variable_of_key c.key_of.result)) (type_of c.args.t.now) (type_of c.in_ok-own-in-None.own) tt c.in_ok-add-in-None.ensures (ap identifier c.key_of.ensures) c.in_ok-own-in-None.ensures
     c.well_formed-2.ensures c.in-None.ensures c.requires.given c.requires.variables
 
 pub returns-in_ok-add-in-Some : goal.returns-in_ok-add-in-Some

@@ -30,8 +30,8 @@ decreases-check_expressions l = 8 * expressions_size (expressions l.parts.now)
 
 abbrev pub invariant-check_expressions-parts : goal.invariant-check_expressions-parts
 invariant-check_expressions-parts l = record {
-  same : l.environment ≡ l.initial.environment;
-  checked : SolvedBy (ChecksAll (known_of l.constructors) (take l.j l.parts) l.same l.first l.initial.environment) l.initial.solver l.solver;
+  same : l.inference.environment ≡ l.initial.inference.environment;
+  checked : SolvedBy (ChecksAll (known_of l.constructors) (take l.j l.parts) l.types.same l.types.first l.initial.inference.environment) l.initial.inference.solver l.inference.solver;
 }
 
 abbrev pub decreases-check_body : goal.decreases-check_body
@@ -51,14 +51,14 @@ decreases-check_alternatives l = 8 * alternatives_size (alternatives l.choices.n
 
 abbrev pub invariant-check_bodies-parts : goal.invariant-check_bodies-parts
 invariant-check_bodies-parts l = record {
-  same : l.environment ≡ l.initial.environment;
-  checked : SolvedBy (ChecksBodies (known_of l.constructors) (take l.j l.parts) (type_of l.t) l.initial.environment) l.initial.solver l.solver;
+  same : l.inference.environment ≡ l.initial.inference.environment;
+  checked : SolvedBy (ChecksBodies (known_of l.constructors) (take l.j l.parts) (type_of l.t) l.initial.inference.environment) l.initial.inference.solver l.inference.solver;
 }
 
 abbrev pub invariant-check_alternatives-choices : goal.invariant-check_alternatives-choices
 invariant-check_alternatives-choices l = record {
-  same : l.environment ≡ l.initial.environment;
-  checked : SolvedBy (ChecksChoices (known_of l.constructors) (take l.j l.choices) l.first (type_of l.t) l.initial.environment) l.initial.solver l.solver;
+  same : l.inference.environment ≡ l.initial.inference.environment;
+  checked : SolvedBy (ChecksChoices (known_of l.constructors) (take l.j l.choices) l.types.inner (type_of l.types.outcome.now) l.initial.inference.environment) l.initial.inference.solver l.inference.solver;
 }
 
 abbrev pub decreases-check_clause : goal.decreases-check_clause
@@ -71,29 +71,29 @@ abbrev pub decreases-check_members : goal.decreases-check_members
 decreases-check_members l = 8 * declarations_size (declarations l.decls.now) + 1
 
 abbrev pub decreases-infer_group : goal.decreases-infer_group
-decreases-infer_group l = 8 * declarations_size (declarations l.decls.now) + 2
+decreases-infer_group l = 8 * declarations_size (declarations l.list.now.decls.now) + 2
 
 abbrev pub decreases-check_bindings : goal.decreases-check_bindings
 decreases-check_bindings l = 8 * declarations_size (declarations l.list.now) + 3
 
 abbrev pub invariant-check_members-members : goal.invariant-check_members-members
 invariant-check_members-members l = record {
-  same : l.environment ≡ l.initial.environment;
-  grows : l.initial.solver.given ≤ l.solver.given;
-  checked : (τ : Identifier → Monotype) → HaveTypesOfAll (known_of l.constructors) l.decls τ l.types l.members → SolvedBy (MembersHave (known_of l.constructors) l.decls l.types τ (take l.j l.members) (assumptions l.initial.environment)) l.initial.solver l.solver;
+  same : l.inference.environment ≡ l.initial.inference.environment;
+  grows : l.initial.inference.solver.given ≤ l.inference.solver.given;
+  checked : (τ : Identifier → Monotype) → HaveTypesOfAll (known_of l.constructors) l.decls τ l.types l.members → SolvedBy (MembersHave (known_of l.constructors) l.decls l.types τ (take l.j l.members) (assumptions l.initial.inference.environment)) l.initial.inference.solver l.inference.solver;
 }
 
 abbrev pub invariant-check_bindings-groups : goal.invariant-check_bindings-groups
-invariant-check_bindings-groups l = GroupsInferred (known_of l.constructors) l.list (lists l.found.groups.items) (length l.found.numbers) l.types.items l.i l.fn.solver l.fn.environment l.solver l.environment
+invariant-check_bindings-groups l = GroupsInferred (known_of l.constructors) l.list (lists l.checked.found.now.groups.items) (length l.checked.found.now.numbers) l.types.items l.i l.fn.inference.solver l.fn.inference.environment l.inference.solver l.inference.environment
 
 abbrev pub decreases-check_signed : goal.decreases-check_signed
 decreases-check_signed l = 8 * declaration_size l.decl.now
 
 abbrev pub decreases-check_all_signed : goal.decreases-check_all_signed
-decreases-check_all_signed l = 8 * declarations_size (declarations l.decls.now) + 1
+decreases-check_all_signed l = 8 * declarations_size (declarations l.list.now.decls.now) + 1
 
 abbrev pub invariant-check_all_signed-decls : goal.invariant-check_all_signed-decls
 invariant-check_all_signed-decls l = record {
-  same : l.environment ≡ l.initial.environment;
-  checked : SolvedBy (SignedAll (known_of l.constructors) (declarations l.decls) (take l.j l.decls) l.initial.environment) l.initial.solver l.solver;
+  same : l.inference.environment ≡ l.initial.inference.environment;
+  checked : SolvedBy (SignedAll (known_of l.list.constructors.now) (declarations l.list.decls.now) (take l.j l.list.decls.now) l.initial.inference.environment) l.initial.inference.solver l.inference.solver;
 }

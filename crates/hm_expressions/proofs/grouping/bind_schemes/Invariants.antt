@@ -12,8 +12,8 @@ use Rattle.hm_expressions.proofs.grouping.bind_schemes.Given as goal
 
 abbrev pub invariant-nodes : goal.invariant-nodes
 invariant-nodes l = record {
-  bound : (k : Known) (all : Declarations) → l.numbers ≡ list_nodes all all → (A : Assumptions) (m : ℕ → Monotype) → IsSolution l.solver.equations m → KeepsEach (is_outer l.solver.equations l.older) l.solver.equations l.types l.group (assumptions_put m A) → BindsSchemes k all l.types m A (take l.place l.group) l.initial.environment l.environment;
+  bound : (k : Known) (all : Declarations) → l.group.numbers.now ≡ list_nodes all all → (A : Assumptions) (m : ℕ → Monotype) → IsSolution l.solver.equations m → KeepsEach (is_outer l.solver.equations l.group.older) l.solver.equations l.group.types.now l.group.nodes.now (assumptions_put m A) → BindsSchemes k all l.group.types.now m A (take l.place l.group.nodes.now) l.initial.environment l.environment;
   given : AreAssumed l.solver.given l.initial.environment → AreAssumed l.solver.given l.environment;
-  closed : KeepsNone (is_outer l.solver.equations l.older) l.solver.equations l.types l.group → AreAssumed 0 l.initial.environment → AreAssumed 0 l.environment;
+  closed : KeepsNone (is_outer l.solver.equations l.group.older) l.solver.equations l.group.types.now l.group.nodes.now → AreAssumed 0 l.initial.environment → AreAssumed 0 l.environment;
   kept : Extends l.initial.environment l.environment;
 }

@@ -14,7 +14,7 @@ returns-clause-opened c =
     let more = ap (λ s. s.given) next in
     let some = c.requires.some in
     let numbers : AreGivenTypes c.new_variables.new.solver.given c.place_types.new.types =
-    c.place_types.ensures.given c.new_variables.new.solver.given (omega (arith, first, more)) (strictly_below c.args.solver.now.given c.new_variables.new.solver.given c.args.types.now (omega (arith, more, some)) c.requires.numbers) in
+    c.place_types.ensures.given c.new_variables.new.solver.given (omega (arith, first, more)) (strictly_below c.args.inference.now.solver.given c.new_variables.new.solver.given c.args.types.now (omega (arith, more, some)) c.requires.numbers) in
     record {
       given = next;
       placed = subst (λ f. ArePlaced f c.args.group.now c.place_types.new.types) first c.place_types.ensures.placed;
@@ -22,5 +22,5 @@ returns-clause-opened c =
       members = subst (λ rs. AreMembersOf (lists rs) c.args.group.now c.in_ok-group_members.field-0.items) c.deref.ensures.value c.in_ok-group_members.ensures;
       added = c.bind_types.ensures.kept;
       numbers = numbers;
-      assumed = c.in_ok-bind_types.ensures.given c.new_variables.new.solver.given numbers (assumed_later c.args.solver.now.given c.new_variables.new.solver.given c.args.environment.now (omega (arith, more)) c.requires.assumed);
+      assumed = c.in_ok-bind_types.ensures.given c.new_variables.new.solver.given numbers (assumed_later c.args.inference.now.solver.given c.new_variables.new.solver.given c.args.inference.now.environment (omega (arith, more)) c.requires.assumed);
     }

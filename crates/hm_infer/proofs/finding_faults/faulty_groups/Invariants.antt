@@ -6,8 +6,8 @@ use Rattle.hm_infer.proofs.finding_faults.faulty_groups.Given as goal
 
 abbrev pub invariant-groups : goal.invariant-groups
 invariant-groups l = record {
-  told : AreGroupsTold l.decls l.found.numbers (lists l.found.rows.items) (take l.i (lists l.found.groups.items)) l.initial.typed l.faulty.items;
+  told : AreGroupsTold l.list.decls.now l.list.found.now.numbers (lists l.list.found.now.rows.items) (take l.i (lists l.list.found.now.groups.items)) l.initial.typed l.faulty.items;
   same : IsSameTable l.initial.typed l.typed;
-  sized : length l.typed ≡ length l.found.numbers;
-  shown : AllShown l.shown.items (length l.found.numbers);
+  sized : length l.typed ≡ length l.list.found.now.numbers;
+  shown : AllShown l.shown.items (length l.list.found.now.numbers);
 }

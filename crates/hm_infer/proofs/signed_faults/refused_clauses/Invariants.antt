@@ -9,7 +9,7 @@ use Rattle.hm_infer.proofs.signed_faults.refused_clauses.Given as goal
 
 abbrev pub invariant-decls : goal.invariant-decls
 invariant-decls l = record {
-  told : Flagged (λ p d b. (all : Declarations) → AreSignatures all l.signatures → Refuses (get_or l.waiting p false) b (known_of l.constructors) all (assumptions l.initial.environment) d) l.decls l.i l.refused.items;
-  inside : l.i ≤ length l.decls;
-  same : l.environment ≡ l.initial.environment;
+  told : Flagged (λ p d b. (all : Declarations) → AreSignatures all l.list.signatures.now → Refuses (get_or l.waiting p false) b (known_of l.list.constructors.now) all (assumptions l.initial.inference.environment) d) l.list.decls.now l.i l.refused.items;
+  inside : l.i ≤ length l.list.decls.now;
+  same : l.inference.environment ≡ l.initial.inference.environment;
 }

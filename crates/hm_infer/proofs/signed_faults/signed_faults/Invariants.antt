@@ -3,5 +3,5 @@ use Rattle.hm_infer.proofs.signed_faults.signed_faults.Given as goal
 
 abbrev pub invariant-decls : goal.invariant-decls
 invariant-decls l = record {
-  told : PlacesBefore l.decls l.waiting.items l.refused.items l.place l.places.items;
+  told : PlacesBefore l.list.decls.now l.waiting.items l.refused.items l.place l.places.items;
 }

@@ -1,6 +1,6 @@
 use Rattle.std.proofs.Common.{◌≡◌, ℕ, ◌<◌, ◌+◌, [], All, vec_len}
 use Rattle.std.specs.Prelude.{slice_index_or}
-use Rattle.hm_store.specs.Passes.{calls_of, room_of, share_of, worker_of}
+use Rattle.hm_store.specs.Passes.{calls_of, room_of, seen_of, share_of, worker_of}
 use Rattle.hm_store.proofs.shared.deal.Given as goal
 
 abbrev pub invariant-loop-worker : goal.invariant-loop-worker
@@ -12,4 +12,5 @@ invariant-loop-worker g l = record {
   room : All (λ p. room_of p ≡ l.room) l.passes.items;
   empty : All (λ p. calls_of p ≡ []) l.passes.items;
   parts : All (λ p. (share_of p).parts ≡ 1) l.passes.items;
+  seen : All (λ p. seen_of p ≡ l.front) l.passes.items;
 }

@@ -13,8 +13,9 @@ collect_deeper-requires t c =
 pub loop-argument-preserved : goal.loop-argument-preserved
 loop-argument-preserved t c = record {
   whole = c.loop-argument.invariant.whole;
-  done = deeper_more (equations_in c.args.bindings.now) _ _ _ c.argument-item.result _ _ _ c.loop-argument-test.true c.argument-item.is c.loop-argument.invariant.done c.in_ok-collect_deeper-in-App.ensures;
+  placed = c.in_ok-collect_deeper-in-App.ensures.placed;
+  done = deeper_more (equations_in c.args.bindings.now) _ _ _ c.argument-item.result _ _ _ c.loop-argument-test.true c.argument-item.is c.loop-argument.invariant.done c.in_ok-collect_deeper-in-App.ensures.numbers;
 }
 
-pub returns-after-loop-argument : goal.returns-after-loop-argument
-returns-after-loop-argument t c = deeper_all (equations_in c.args.bindings.now) _ (type_of c.args.t.now) c.loop-argument.invariant.whole.0 _ _ _ _ c.loop-argument.invariant.whole.1 c.loop-argument-test.false c.loop-argument.invariant.done
+pub returns-after-loop-argument-clause-numbers : goal.returns-after-loop-argument-clause-numbers
+returns-after-loop-argument-clause-numbers t c = deeper_all (equations_in c.args.bindings.now) _ (type_of c.args.t.now) c.loop-argument.invariant.whole.0 _ _ _ _ c.loop-argument.invariant.whole.1 c.loop-argument-test.false c.loop-argument.invariant.done

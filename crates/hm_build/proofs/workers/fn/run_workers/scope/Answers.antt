@@ -1,28 +1,34 @@
 use Rattle.std.proofs.Common.{codes}
 use mir.Syntax.{named}
 use denote.Exit.{no}
+use denote.Array.{Array}
 use denote.Param.{param}
 use denote.Param.Send.{arg_send, mut_send, param_send, param_sync, shr_send}
 use denote.Ref.{MutRef, NamedLft, ShrRef}
 use Rattle.hm_store.specs.contracts.record.Pass as Pass
 use Rattle.hm_build.specs.contracts.workers.Work as Work
+use Rattle.hm_published.specs.contracts.publication.Publication as Publication
+use Rattle.hm_published.specs.contracts.published.PublishedAbsorbStep.TheImpl as Absorbs
 use Rattle.hm_build.proofs.Crossing.{captures_send, pass_send, work_sync}
 use Rattle.hm_build.proofs.workers.fn.run_workers.scope.Goals as goal
 
 -- a worker's closure has the handle, the work and a pass
 pub spawn_scoped-requires-send-F : goal.spawn_scoped-requires-send-F
 spawn_scoped-requires-send-F g c κs within =
-    let rt = param_sync 2 g.row.R c.requires.1.1.1.3 in
-    let gate = param_sync 1 g.row.G c.requires.1.1.1.2 in
+    let send = param_send 0 g.row.L c.requires.1.1.1.1.0 in
+    let held = param_send 2 g.row.W c.requires.1.1.1.1.1 in
+    let sync = param_sync 0 g.row.L c.requires.1.1.1.1.2 in
+    let gate = param_sync 1 g.row.G c.requires.1.1.1.1.3 in
+    let rt = param_sync 3 g.row.R c.requires.1.1.1.1.4 in
     let inner : NamedLft = record { mir = named 7; lft = κs.1.1.1.1.1.1.1.0 } in
-    let work = work_sync (param 0 g.row.L) g.L.Ledger inner (param 1 g.row.G) gate in
-    let pass = pass_send (param 0 g.row.L) g.L.Ledger in
+    let S = Array Publication.the_row 0 in
+    let absorbs = Absorbs.ghosts (param 0 g.row.L) g.L.Naming g.L.Naming-dict in
+    let work = work_sync (param 0 g.row.L) g.L.Ledger g.L.Naming send sync (param 2 g.row.W) S absorbs held inner (param 1 g.row.G) gate in
+    let pass = pass_send (param 0 g.row.L) g.L.Ledger g.L.Naming send sync in
     param_send 1 _
     (arg_send _ no _
     (captures_send (codes "hm_build::workers::fn::run_workers::fn::scope::spawn_scoped+Self")
-    (ShrRef (named 5) κs.1.1.1.1.1.0 (param 2 g.row.R))
-    (ShrRef (named 6) κs.1.1.1.1.1.1.0 (Work.the_row inner (param 0 g.row.L) (param 1 g.row.G) g.L.Ledger))
-    (MutRef (named 8) κs.1.1.1.1.1.1.1.1.0 (Pass.the_row (param 0 g.row.L) g.L.Ledger))
+    _ _ _
     (shr_send _ _ _ rt)
     (shr_send _ _ _ work)
     (mut_send _ _ _ pass)))

@@ -1,0 +1,145 @@
+#!/usr/bin/env python3
+"""Runs the program, and tests of single calls, with each of their allocations refused in turn.
+
+`refuse_allocations.py [--program PROGRAM] [--tests TESTS]`: without words, the proved program beside this folder; with TESTS, the tests
+of the crate `acceptance` too whose names are `refused::..` (`crates/acceptance/out/acceptance_tests`, after `rt ci`). A run of the program, with 1 and with 4 workers, must print the right text and end with
+the right status, or print nothing, say `hmc: no memory` and end with 3, or, where a thread could not be started, say `hmc: no worker` and
+end with 6. A test must pass, or end for want of memory. Of a set whose types grow, the first, second, fourth, eighth .. allocation is
+refused. Ends with 1 where anything else came of a refusal.
+"""
+import argparse
+import collections
+import os
+import subprocess
+import sys
+import tempfile
+
+TOP = os.path.dirname(os.path.dirname(os.path.abspath(__file__)))
+SKIPPED = b"""module A where { x = y }
+module B where { import A ; import C }
+module C where { f x = x x }
+module D where { import B }
+"""
+SKIPPED_REPORT = b"""faulty A
+  1:22 unbound y
+skipped B
+  by A
+  by C
+faulty C
+  3:18 type f
+skipped D
+  by B
+4 modules: 0 good, 2 faulty, 2 skipped
+"""
+IMPORTED = b"module A where { import B ; x = y }\nmodule B where { y = 'c' }\n"
+IMPORTED_REPORT = b"module A\n  val x = A.x :: Char\nmodule B\n  val y = B.y :: Char\n2 modules: 2 good, 0 faulty, 0 skipped\n"
+DOUBLING = b"module A where { a x = (x, x) ; b x = a (a x) ; c x = b (b x) ; d x = c (c x) ; e x = d (d x) }"
+
+
+def pairs(levels):
+    return "a" if levels == 0 else "({0}, {0})".format(pairs(levels - 1))
+
+
+def doubling_report():
+    values = "".join(f"  val {name} = A.{name} :: a -> {pairs(2 ** place)}\n" for place, name in enumerate("abcde"))
+    return f"module A\n{values}1 modules: 1 good, 0 faulty, 0 skipped\n".encode()
+
+
+class Refusing:
+    """Runs a command with one allocation refused."""
+
+    def __init__(self, work):
+        self.library, self.count = os.path.join(work, "refuse.so"), os.path.join(work, "count")
+        source = os.path.join(TOP, "bench", "refuse_allocations.c")
+        subprocess.run(["gcc", "-shared", "-fPIC", "-O1", "-o", self.library, source], check=True)
+
+    def run(self, words, given, number):
+        """How the command ends with this allocation refused, or with none for 0."""
+        environment = dict(os.environ, LD_PRELOAD=self.library, REFUSED_ALLOCATION=str(number), ALLOCATION_COUNT=self.count)
+        return subprocess.run(words, input=given, capture_output=True, env=environment)
+
+    def total(self):
+        with open(self.count) as told:
+            return int(told.read())
+
+
+def numbers(total, doubles):
+    """The allocations to refuse: all, or the first, second, fourth and so on."""
+    return [2**k for k in range(total.bit_length()) if 2**k <= total] if doubles else range(1, total + 1)
+
+
+def ending(ran, status, report):
+    """What came of a run of the program; none where it may not end so."""
+    found = ran.returncode, ran.stdout, ran.stderr
+    endings = {
+        (status, report, b""): "right",
+        (3, b"", b"hmc: no memory\n"): "no memory",
+        (6, b"", b"hmc: no worker\n"): "no worker",
+    }
+    return endings.get(found)
+
+
+def refuse_in_program(refusing, program):
+    sets = [
+        ("imported", IMPORTED, 0, IMPORTED_REPORT, False),
+        ("skipped", SKIPPED, 1, SKIPPED_REPORT, False),
+        ("doubling", DOUBLING, 0, doubling_report(), True),
+    ]
+    well = True
+    for name, source, status, report, doubles in sets:
+        for workers in ("1", "4"):
+            words = [program, "--jobs", workers]
+            first = ending(refusing.run(words, source, 0), status, report)
+            total = refusing.total()
+            found = collections.Counter()
+            for number in numbers(total, doubles):
+                ran = refusing.run(words, source, number)
+                end = ending(ran, status, report)
+                found[end or "WRONG"] += 1
+                if end is None:
+                    print(f"{name}, {workers} workers, allocation {number}: status {ran.returncode}: {ran.stderr[:200]!r}")
+            well &= first == "right" and not found["WRONG"]
+            print(f"{name}, {workers} workers: {total} allocations: {dict(found)}", flush=True)
+    return well
+
+
+def refuse_in_tests(refusing, tests):
+    listed = subprocess.run([tests, "--list"], capture_output=True, text=True).stdout
+    names = [line.split(": test")[0] for line in listed.splitlines() if line.startswith("refused::") and line.endswith(": test")]
+    well = bool(names)
+    for name in names:
+        passes = refusing.run([tests, name], b"", 0).returncode == 0
+        total = refusing.total()
+        found = collections.Counter()
+        for number in range(1, total + 1):
+            ran = refusing.run([tests, name], b"", number)
+            said = (ran.stderr.decode(errors="replace").strip().splitlines() or [""])[0]
+            end = "right" if ran.returncode == 0 else "no memory" if is_for_memory(ran.returncode, said) else "WRONG"
+            found[end] += 1
+            if end == "WRONG":
+                print(f"{name}, allocation {number}: status {ran.returncode}: {said[:200]}")
+        well &= passes and not found["WRONG"]
+        print(f"{name}: {total} allocations: {dict(found)}", flush=True)
+    return well
+
+
+def is_for_memory(status, said):
+    """Whether a test ended by its own error, and that error is want of memory."""
+    return status > 0 and any(word in said for word in ("no memory", "AllocError", "Memory", "NoReader"))
+
+
+def main():
+    words = argparse.ArgumentParser(description=__doc__, formatter_class=argparse.RawDescriptionHelpFormatter)
+    words.add_argument("--program", default=os.path.join(TOP, "crates", "hmc", "out", "hmc"))
+    words.add_argument("--tests")
+    given = words.parse_args()
+    with tempfile.TemporaryDirectory() as work:
+        refusing = Refusing(work)
+        well = refuse_in_program(refusing, os.path.abspath(given.program))
+        well &= given.tests is None or refuse_in_tests(refusing, os.path.abspath(given.tests))
+    print("as they must be" if well else "NOT as they must be")
+    return 0 if well else 1
+
+
+if __name__ == "__main__":
+    sys.exit(main())

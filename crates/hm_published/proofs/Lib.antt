@@ -1,0 +1,4 @@
+pub mod Beginnings
+pub mod Lawful
+pub mod Adding
+pub mod Showing

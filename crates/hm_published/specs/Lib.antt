@@ -1,0 +1,2 @@
+pub mod Publications
+pub mod Rules

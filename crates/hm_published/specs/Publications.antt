@@ -1,0 +1,42 @@
+-- What is published during a build: a list that only grows. Readers see beginnings of it.
+use Rattle.std.specs.Prelude.{◌≡◌, ◌==◌, ◌+◌, ◌≤◌, ℕ, cond, List, [], ◌∷◌, map, take, fold, Option, Some, None, All, Contains, slice_get}
+use Rattle.hm_types.specs.Interfaces.{Exports as Interface}
+use Rattle.hm_types.specs.StandardPrelude.{prelude_interface}
+use Rattle.hm_names.specs.Imports.{AreImportsOf}
+use Rattle.hm_verdicts.specs.ModuleVerdicts.{Verdict, Good, Faulty, IsVerdict}
+use Rattle.hm_published.specs.declared.publication.Publication.{Publication}
+
+-- the interface of a good module
+abbrev pub interface_of : Verdict → Option Interface
+interface_of (Good f) = Some f
+interface_of (Faulty found) = None
+
+abbrev pub published_interface : Publication → Option Interface
+published_interface p = interface_of p.outcome.verdict
+
+-- the interface that was published of a module
+abbrev pub interface_in : List Publication → ℕ → Option Interface
+interface_in [] m = None
+interface_in (p ∷ ps) m = cond (p.number == m) (published_interface p) (interface_in ps m)
+
+-- an interface was published of the module
+abbrev pub IsPublishedIn : List Publication → ℕ → Type 0
+IsPublishedIn ps m = (f : Interface) × (interface_in ps m ≡ Some f)
+
+-- how many entries the journal has up to that of the last publication
+abbrev pub entries_of : List Publication → ℕ
+entries_of ps = fold (λ n p. p.place + 1) 0 ps
+
+-- The next publication: of a module that none before is of, and later in the journal. Its interface is the verdict of the module for the
+-- interfaces that it asks for, each of which was published before (Haskell 98 Report, section 5)
+pub record MayFollow (before : List Publication) (p : Publication) : Type 0 where
+  pub distinct : ¬ (Contains (map (λ q. q.number) before) p.number)
+  pub later : entries_of before ≤ p.place
+  pub good : (f : Interface) × (p.outcome.verdict ≡ Good f)
+  pub asked : AreImportsOf p.outcome.«module» p.outcome.imports
+  pub right : IsVerdict p.outcome.«module» (prelude_interface ∷ p.outcome.imports) p.outcome.verdict
+  pub imports : All (λ f. Contains (map published_interface before) (Some f)) p.outcome.imports
+
+-- each publication may follow those before it
+pub record IsLawful (ps : List Publication) : Type 0 where
+  pub each : (k : ℕ) (p : Publication) → slice_get ps k ≡ Some p → MayFollow (take k ps) p

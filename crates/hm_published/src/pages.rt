@@ -1,0 +1,73 @@
+//! The two copies of what readers take. One is read while the other is written.
+ghost use Rattle.std.specs.Prelude.{◌≡◌, ◌<◌, ◌^◌, ◌++◌, ◌∷◌, [], IfOk, IfErr};
+ghost use Rattle.hm_published.specs.Publications.{MayFollow};
+ghost use Rattle.left_right.specs.Handles.{published};
+
+use crate::history::{Front, History, Naming};
+use crate::publication::Publication;
+use crate::published::{Published, Step};
+use crate::reading::Reader;
+use left_right::WriteHandle;
+use std::alloc::{AllocError, Global};
+use std::sync::Wait;
+
+/// So many publications are never made.
+const MOST: u64 = 1 << 61;
+
+/// Copies in which nothing is published yet of so many modules, for so many readers.
+pub fn opened<J: Naming, R: Wait + Drop>(
+    alloc: Global,
+    rt: R,
+    front: &Front<J>,
+    modules: usize,
+    readers: usize,
+) -> Result<WriteHandle<Published<J>, Step<J>, R>, AllocError>
+    requires empty { front.now ≡ [] }
+    requires readers { (0 < readers) × (readers < 2 ^ 32) }
+    ensures { IfOk result (λ w. published w ≡ []) }
+{
+    let first = Published::new(alloc, front.again(), modules)?;
+    let second = Published::new(alloc, front.again(), modules)?;
+    Ok(WriteHandle::new(alloc, rt, first, second, readers)?)
+}
+
+/// Publishes behind all that was published, and waits for readers that still see what was published before the last. Answers the list that ends
+/// with the publication. Where memory is refused nothing changes, and where it was refused once the list was made, each later publication is
+/// refused too.
+pub fn publish<J: Naming, R: Wait + Drop>(
+    pages: &mut WriteHandle<Published<J>, Step<J>, R>,
+    history: &History<J>,
+    front: &Front<J>,
+    publication: &Publication,
+) -> Result<Front<J>, AllocError>
+    requires all { published pages.old ≡ front.now }
+    requires lawful { MayFollow front.now publication.now }
+    requires place { publication.now.place < 2 ^ 62 }
+    ensures ok { IfOk result (λ f. f ≡ front.now ++ publication.now ∷ []) }
+    ensures all { IfOk result (λ f. published pages.new ≡ f) }
+    ensures err { IfErr result (λ _. published pages.new ≡ published pages.old) }
+{
+    if pages.has_pending_operations() || front.len() >= MOST {
+        return Err(AllocError);
+    }
+    let step = Step::next(history, front, publication)?;
+    let longer = step.front();
+    if pages.append(step).is_err() {
+        return Err(AllocError);
+    }
+    match pages.publish() {
+        Ok(()) => Ok(longer),
+        Err(AllocError) => Err(AllocError),
+    }
+}
+
+/// A reader that has seen this front.
+pub fn reader<J: Naming, R: Wait + Drop>(
+    pages: &WriteHandle<Published<J>, Step<J>, R>,
+    front: &Front<J>,
+) -> Result<Reader<J>, AllocError>
+    ensures { IfOk result (λ r. r ≡ front.now) }
+{
+    let entrance = pages.handle()?;
+    Ok(Reader::new(entrance, front.again()))
+}

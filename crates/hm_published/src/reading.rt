@@ -1,0 +1,96 @@
+//! The readers of what is published.
+ghost use Rattle.std.specs.Prelude.{◌≡◌, ◌≤◌, ◌^◌, IfOk, IfErr, option_map};
+ghost use Rattle.std.specs.Arc.{arc_value};
+ghost use mathlib.Core.List.{IsPrefix};
+ghost use Rattle.hm_published.specs.Publications.{IsLawful, entries_of, interface_in};
+
+use crate::history::{Front, Naming};
+use crate::published::{LookFault, Published, Sight};
+use hm_types::Interface;
+use left_right::ReadHandle;
+use std::marker::Model;
+use std::sync::Arc;
+
+/// What looks for interfaces. Contracts see the list of publications that it has seen.
+#[derive(Drop)]
+pub struct Reader<J: Naming> {
+    entrance: ReadHandle<Published<J>>,
+    seen: Front<J>,
+}
+
+impl<J: Naming> Model for Reader<J> {
+    ghost use Rattle.std.specs.Prelude.{List};
+    ghost use Rattle.std.specs.Coded.{codes};
+    ghost use Rattle.hm_syntax.specs.Codes.{coded_declaration};
+    ghost use Rattle.hm_types.specs.Interfaces.{coded_exports};
+    ghost use Rattle.hm_published.specs.declared.publication.Publication.{Publication};
+
+    ghost Value = { List Publication };
+
+    ghost coded = { Prim.hlevel (codes, coded_declaration, coded_exports) };
+
+    ghost view = { λ r. r.seen };
+}
+
+/// What a look-up found, and how many entries the journal has up to the last publication that was seen.
+#[derive(Drop)]
+pub struct Found {
+    pub interface: Option<Arc<Interface>>,
+    pub entries: usize,
+}
+
+impl<J: Naming> Reader<J> {
+    pub(crate) fn new(entrance: ReadHandle<Published<J>>, seen: Front<J>) -> Reader<J>
+        ensures { result ≡ seen }
+    {
+        Reader { entrance, seen }
+    }
+
+    /// Is told of the publications of this front, too.
+    pub fn learn(&mut self, front: &Front<J>)
+        ensures kept { IsPrefix self.old self.new }
+        ensures told { IsPrefix front.now self.new }
+        ensures lawful { IsLawful self.new }
+    {
+        self.seen = self.seen.longer(front);
+    }
+
+    /// Looks for the interface of a module, and waits for nobody.
+    pub fn look(&mut self, number: usize) -> Result<Found, LookFault>
+        ensures list { IfOk result (λ _. IsPrefix self.old self.new × IsLawful self.new) }
+        ensures interface { IfOk result (λ f. option_map arc_value f.interface ≡ interface_in self.new number) }
+        ensures entries { IfOk result (λ f. f.entries ≡ entries_of self.new) }
+        ensures few { IfOk result (λ f. f.entries ≤ 2 ^ 62) }
+        ensures err { IfErr result (λ _. self.new ≡ self.old) }
+    {
+        match enter(&mut self.entrance, &self.seen, number) {
+            Ok(sight) => {
+                let Sight {
+                    front,
+                    interface,
+                    entries,
+                } = sight;
+                self.seen = front;
+                Ok(Found { interface, entries })
+            }
+            Err(fault) => Err(fault),
+        }
+    }
+}
+
+/// Enters, and finds the interface of a module.
+fn enter<J: Naming>(
+    entrance: &mut ReadHandle<Published<J>>,
+    seen: &Front<J>,
+    number: usize,
+) -> Result<Sight<J>, LookFault>
+    ensures list { IfOk result (λ s. IsPrefix seen.now s.front × IsLawful s.front) }
+    ensures interface { IfOk result (λ s. option_map arc_value s.interface ≡ interface_in s.front number) }
+    ensures entries { IfOk result (λ s. s.entries ≡ entries_of s.front) }
+    ensures few { IfOk result (λ s. s.entries ≤ 2 ^ 62) }
+{
+    match entrance.enter() {
+        Some(guard) => guard.found(seen, number),
+        None => Err(LookFault::NoEntry),
+    }
+}
