@@ -15,7 +15,7 @@ use crate::{BuildFault, Finished, Gate};
 use core::thread::Stack;
 use hm_graph::Plan;
 use hm_published::{Naming, Opened};
-use hm_sources::{SetError, depth_limit, set_modules, stack_size};
+use hm_sources::{SetError, depth_limit, set_modules, stack_size, worker_stack_size};
 use hm_store::laws::settled_builds_are_settled_sets;
 use hm_store::{Shared, Store};
 use hm_syntax::Module;
@@ -148,7 +148,7 @@ fn worked<L: Ledger + Naming + Send + Sync, G: Gate + Sync, R: Threads + Wait + 
         gate,
         depth: depth_limit(texts),
     };
-    run_workers(rt, &work, passes.as_mut_slice(), stack_size(texts))?;
+    run_workers(rt, &work, passes.as_mut_slice(), worker_stack_size(texts))?;
     let (store, book) = shared.into_store();
     let records = records_of(alloc, book, passes)?;
     finished(alloc, modules, store, records, workers)

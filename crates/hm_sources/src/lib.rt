@@ -23,6 +23,6 @@ pub use refusals::refusal_text;
 pub use running::run_plan;
 pub use sets::{SetError, set_modules};
 pub use source::read_all;
-pub use stacks::{depth_limit, stack_size};
+pub use stacks::{depth_limit, stack_size, worker_stack_size};
 pub use status::Status;
 pub use watched::Watched;

@@ -9,14 +9,17 @@ use std::snapshot::Snapshot;
 use std::thread::{Builder, Promise, Threads};
 
 /// How many bytes of stack work has on sources of any length.
-const LEAST_STACK: usize = 5 << 24;
+const LEAST_STACK: usize = 7 << 22;
+
+/// How many more bytes of stack a worker has, which unifies types of as many levels as they may have.
+const MORE_OF_WORKERS: usize = 11 << 22;
 
 /// How many bytes of stack work has for each byte of the longest source. Recursion follows the source, which may
 /// nest as deep as its length allows; docs/DECISIONS.md says how this was found.
 const STACK_PER_BYTE: usize = 1 << 12;
 
 /// How many levels a type may have, whatever the sources are.
-const LEAST_DEPTH: usize = 9 << 12;
+const LEAST_DEPTH: usize = 33 << 10;
 
 /// How many bytes of the longest source there are for each further level of a type: no source writes a level in fewer.
 const BYTES_PER_LEVEL: usize = 2;
@@ -37,7 +40,12 @@ pub fn stack_size(sources: &[Vec<u8>]) -> usize {
         .saturating_add(LEAST_STACK)
 }
 
-/// How many levels a type may have in the work on these sources, for which `stack_size` suffices.
+/// How many bytes of stack a worker has that checks modules of these sources.
+pub fn worker_stack_size(sources: &[Vec<u8>]) -> usize {
+    stack_size(sources).saturating_add(MORE_OF_WORKERS)
+}
+
+/// How many levels a type may have in the work on these sources, for which `stack_size` and `worker_stack_size` suffice.
 pub fn depth_limit(sources: &[Vec<u8>]) -> usize {
     (longest(sources) / BYTES_PER_LEVEL).saturating_add(LEAST_DEPTH)
 }

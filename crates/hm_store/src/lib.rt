@@ -12,6 +12,6 @@ mod store;
 pub use crate::listed::Listed;
 pub use crate::object::{Claimed, Entry, Refusal, Status, Turn};
 pub use crate::record::{Act, Call, Pass, Record};
-pub use crate::shared::{Locked, Shared, SharedFault, meet};
+pub use crate::shared::{Locked, Shared, SharedFault};
 pub use crate::store::Store;
 pub use hm_published::LookFault;
