@@ -14,7 +14,7 @@ PROGRAM = os.path.abspath(sys.argv[1]) if len(sys.argv) > 1 else os.path.join(TO
 VERSION = "hmc 0.1\n"
 SMALL = 2_000_000 << 10
 LITTLE = 200_000_000
-TINY = 50_000 << 10
+TINY = 30_000 << 10
 
 A = "module A where { import B ; x = y }"
 B = "module B where { y = 1 }"
