@@ -8,6 +8,7 @@ ghost use Rattle.hm_parse.specs.Reading.Answers.{Gives};
 
 use crate::cursor::{Context, Parser};
 use crate::fault::ParseFault;
+use crate::owned::{boxed, only};
 use crate::symbol::Symbol;
 use crate::types::MAX_COMPONENTS;
 use hm_lex::Place;
@@ -38,7 +39,7 @@ impl Parser<'_> {
     fn typed(&mut self, alloc: Global, e: Expr) -> Result<Expr, ParseFault>
         ensures { Gives (λ whole. (whole, self.new)) result (typed_behind e self.old) }
     {
-        let e = Box::new(alloc, e)?;
+        let e = boxed(alloc, e)?;
         let ty = self.type_expr(alloc)?;
         Ok(Expr {
             kind: ExprKind::Typed(e, ty),
@@ -81,11 +82,13 @@ impl Parser<'_> {
             operands.push((last, colon))?;
             if self.symbol().begins_open() {
                 let e = self.open_exp(alloc, context)?;
-                return Ok((cons_all(alloc, operands, e)?, true));
+                let whole = cons_all(alloc, operands, e)?;
+                return Ok((whole, true));
             }
             last = self.operand(alloc)?;
         }
-        Ok((cons_all(alloc, operands, last)?, false))
+        let whole = cons_all(alloc, operands, last)?;
+        Ok((whole, false))
     }
 
     /// A lambda, a `let` or an `if`.
@@ -98,15 +101,15 @@ impl Parser<'_> {
         match self.symbol() {
             Symbol::Backslash => {
                 self.skip();
-                Ok(self.lambda(alloc, context)?)
+                self.lambda(alloc, context)
             }
             Symbol::Let => {
                 self.skip();
-                Ok(self.let_in(alloc, context)?)
+                self.let_in(alloc, context)
             }
             Symbol::If => {
                 self.skip();
-                Ok(self.if_then_else(alloc, context)?)
+                self.if_then_else(alloc, context)
             }
             _ => Err(ParseFault::Syntax(self.place())),
         }
@@ -123,8 +126,9 @@ impl Parser<'_> {
         params.insert(0, first)?;
         self.expect(Symbol::Arrow)?;
         let body = self.exp(alloc, context)?;
+        let body = boxed(alloc, body)?;
         Ok(Expr {
-            kind: ExprKind::Lambda(params, Box::new(alloc, body)?),
+            kind: ExprKind::Lambda(params, body),
         })
     }
 
@@ -137,8 +141,9 @@ impl Parser<'_> {
         let local = self.decls(alloc)?;
         self.expect(Symbol::In)?;
         let body = self.exp(alloc, context)?;
+        let body = boxed(alloc, body)?;
         Ok(Expr {
-            kind: ExprKind::Let(local, Box::new(alloc, body)?),
+            kind: ExprKind::Let(local, body),
         })
     }
 
@@ -149,13 +154,13 @@ impl Parser<'_> {
         ensures { Gives (λ e. (e, self.new)) result (if_with all_expressions self.old) }
     {
         let test = self.exp(alloc, Context::Elsewhere)?;
-        let test = Box::new(alloc, test)?;
+        let test = boxed(alloc, test)?;
         self.expect(Symbol::Then)?;
         let consequence = self.exp(alloc, Context::Elsewhere)?;
-        let consequence = Box::new(alloc, consequence)?;
+        let consequence = boxed(alloc, consequence)?;
         self.expect(Symbol::Else)?;
         let alternative = self.exp(alloc, context)?;
-        let alternative = Box::new(alloc, alternative)?;
+        let alternative = boxed(alloc, alternative)?;
         Ok(Expr {
             kind: ExprKind::If(test, consequence, alternative),
         })
@@ -170,12 +175,13 @@ impl Parser<'_> {
     {
         if self.at(Symbol::Case) {
             self.skip();
-            return Ok(self.case_of(alloc)?);
+            return self.case_of(alloc);
         }
         let mut head = self.aexp(alloc)?;
         'apply: while self.symbol().begins_aexp() {
-            let arg = self.aexp(alloc)?;
-            head = apply(alloc, head, arg)?;
+            let function = boxed(alloc, head)?;
+            let argument = self.aexp(alloc)?;
+            head = apply(alloc, function, argument)?;
         }
         Ok(head)
     }
@@ -187,7 +193,7 @@ impl Parser<'_> {
         ensures { Gives (λ e. (e, self.new)) result (case_with all_expressions self.old) }
     {
         let subject = self.exp(alloc, Context::Elsewhere)?;
-        let subject = Box::new(alloc, subject)?;
+        let subject = boxed(alloc, subject)?;
         self.expect(Symbol::Of)?;
         self.expect(Symbol::LeftBrace)?;
         let alts = self.alts(alloc)?;
@@ -227,8 +233,8 @@ impl Parser<'_> {
         }
         let pat = self.pat(alloc)?;
         let rhs = self.rhs(alloc, Symbol::Arrow)?;
-        self.item_end(Symbol::Semicolon, Symbol::RightBrace)?;
-        Ok(Some(Alt { pat, rhs }))
+        let alt = Alt { pat, rhs };
+        Ok(Some(self.ended(alt, Symbol::Semicolon, Symbol::RightBrace)?))
     }
 
     /// A right side, behind this mark or behind guards and this mark, with its local declarations.
@@ -250,7 +256,7 @@ impl Parser<'_> {
 
     /// The expressions of a right side, each behind its guard, if it has one.
     #[cycle(exprs)]
-    #[tactic(auto, using(crate::proofs::ExpressionLoops::symbol_shorter, crate::proofs::ExpressionLoops::bar_shorter, crate::proofs::ExpressionLoops::guards_go_on, crate::proofs::ExpressionLoops::guards_end, crate::proofs::ExpressionLoops::guards_fail, crate::proofs::ExpressionLoops::next_guarded_shorter), unfolding(crate::specs::Reading::Expressions::bodies_with))]
+    #[tactic(auto, using(crate::proofs::ExpressionLoops::symbol_shorter, crate::proofs::ExpressionLoops::bar_shorter), unfolding(crate::specs::Reading::Expressions::bodies_with))]
     fn bodies(
         &mut self,
         alloc: Global,
@@ -262,16 +268,29 @@ impl Parser<'_> {
         if self.at(mark) {
             self.skip();
             let body = self.exp(alloc, Context::Elsewhere)?;
-            let mut only = Vec::with_capacity(alloc, 1)?;
-            only.push((None, body))?;
-            return Ok(only);
+            return Ok(only(alloc, (None, body))?);
         }
         if !self.at(Symbol::Bar) {
             return Err(ParseFault::Syntax(self.place()));
         }
         self.skip();
+        let first = self.guarded(alloc, mark)?;
+        self.guards(alloc, mark, first)
+    }
+
+    /// What follows the first guard with its expression.
+    #[cycle(exprs)]
+    #[tactic(auto, using(crate::proofs::ExpressionLoops::guards_go_on, crate::proofs::ExpressionLoops::guards_end, crate::proofs::ExpressionLoops::guards_fail, crate::proofs::ExpressionLoops::next_guarded_shorter))]
+    fn guards(
+        &mut self,
+        alloc: Global,
+        mark: Symbol,
+        first: (Option<Expr>, Expr),
+    ) -> Result<Vec<(Option<Expr>, Expr)>, ParseFault>
+        ensures { Gives (λ v. (v.items, self.new)) result (behind (first ∷ []) (loop (next_guarded all_expressions mark) self.old)) }
+    {
         let mut found = Vec::new(alloc);
-        found.push(self.guarded(alloc, mark)?)?;
+        found.push(first)?;
         'guards: while let Some(next) = self.next_guarded(alloc, mark)? {
             found.push(next)?;
         }
@@ -284,8 +303,8 @@ impl Parser<'_> {
     fn guarded(&mut self, alloc: Global, mark: Symbol) -> Result<(Option<Expr>, Expr), ParseFault>
         ensures { Gives (λ x. (x, self.new)) result (guarded_in all_expressions mark self.old) }
     {
-        let (guard, _) = self.chain(alloc, Context::of_guard(mark))?;
-        self.expect(mark)?;
+        let (test, _) = self.chain(alloc, Context::of_guard(mark))?;
+        let guard = self.before(test, mark)?;
         let body = self.exp(alloc, Context::Elsewhere)?;
         Ok((Some(guard), body))
     }
@@ -335,26 +354,34 @@ impl Parser<'_> {
             Symbol::Open => {
                 self.skip();
                 let first = self.exp(alloc, Context::Elsewhere)?;
-                Ok(self.exp_closing(alloc, first)?)
+                self.exp_closing(alloc, first)
             }
             Symbol::OpenSquare => {
                 self.skip();
-                Ok(self.exp_list(alloc)?)
+                self.exp_list(alloc)
             }
             _ => Err(ParseFault::Syntax(self.place())),
         }
     }
 
-    /// What follows `(` and an expression. A comma behind the last component that is allowed is a fault.
+    /// What follows `(` and an expression.
     #[cycle(exprs)]
     #[tactic(auto, using(crate::proofs::TypeLoops::comma_shorter, crate::proofs::ExpressionLoops::exp_shorter, crate::proofs::ExpressionLoops::components_go_on, crate::proofs::ExpressionLoops::components_end, crate::proofs::ExpressionLoops::components_open, crate::proofs::ExpressionLoops::components_fail, crate::proofs::ExpressionLoops::components_many), unfolding(crate::specs::Reading::Basics::closing))]
     fn exp_closing(&mut self, alloc: Global, first: Expr) -> Result<Expr, ParseFault>
         ensures { Gives (λ e. (e, self.new)) result (closing (exp_with all_expressions) tuple_of_expressions first self.old) }
     {
         if !self.at(Symbol::Comma) {
-            self.expect(Symbol::Close)?;
-            return Ok(first);
+            return Ok(self.before(first, Symbol::Close)?);
         }
+        self.exp_tuple(alloc, first)
+    }
+
+    /// What follows the first component of a tuple. A comma behind the last that is allowed is a fault.
+    #[cycle(exprs)]
+    #[tactic(auto, using(crate::proofs::TypeLoops::comma_shorter, crate::proofs::ExpressionLoops::exp_shorter, crate::proofs::ExpressionLoops::components_go_on, crate::proofs::ExpressionLoops::components_end, crate::proofs::ExpressionLoops::components_open, crate::proofs::ExpressionLoops::components_fail, crate::proofs::ExpressionLoops::components_many))]
+    fn exp_tuple(&mut self, alloc: Global, first: Expr) -> Result<Expr, ParseFault>
+        ensures { Gives (λ e. (e, self.new)) result (tuple_behind (exp_with all_expressions) tuple_of_expressions first self.old) }
+    {
         let mut found = Vec::new(alloc);
         found.push(first)?;
         'components: while self.at(Symbol::Comma) {
@@ -415,8 +442,7 @@ impl Parser<'_> {
             return Ok(None);
         }
         let decl = self.decl(alloc)?;
-        self.item_end(Symbol::Semicolon, Symbol::RightBrace)?;
-        Ok(Some(decl))
+        Ok(Some(self.ended(decl, Symbol::Semicolon, Symbol::RightBrace)?))
     }
 
     /// A signature, a clause or a pattern binding.
@@ -426,11 +452,11 @@ impl Parser<'_> {
         ensures { Gives (λ d. (d, self.new)) result (decl_with all_expressions self.old) }
     {
         if self.begins_binding() {
-            return Ok(self.binding(alloc)?);
+            return self.binding(alloc);
         }
         let name = self.var(alloc)?;
         if self.symbol().begins_signature() {
-            return Ok(self.signature(alloc, name)?);
+            return self.signature(alloc, name);
         }
         let pats = self.apats(alloc)?;
         let rhs = self.rhs(alloc, Symbol::Equals)?;
@@ -470,7 +496,7 @@ impl Parser<'_> {
         ensures { Gives (λ n. (n, self.new)) result (var_at self.old) }
     {
         if self.at(Symbol::Var) {
-            Ok(self.name(alloc)?)
+            self.name(alloc)
         } else {
             Err(ParseFault::Syntax(self.place()))
         }
@@ -556,16 +582,17 @@ fn cons(alloc: Global, operand: Expr, colon: Name, rest: Expr) -> Result<Expr, A
     let colon = Expr {
         kind: ExprKind::Con(colon),
     };
+    let colon = boxed(alloc, colon)?;
     let half = apply(alloc, colon, operand)?;
+    let half = boxed(alloc, half)?;
     apply(alloc, half, rest)
 }
 
 /// A function applied to an argument.
-fn apply(alloc: Global, function: Expr, argument: Expr) -> Result<Expr, AllocError>
-    ensures { IfOk result (λ e. e ≡ application function argument) }
+fn apply(alloc: Global, function: Box<Expr>, argument: Expr) -> Result<Expr, AllocError>
+    ensures { IfOk result (λ e. e ≡ application function.value argument) }
 {
-    let function = Box::new(alloc, function)?;
-    let argument = Box::new(alloc, argument)?;
+    let argument = boxed(alloc, argument)?;
     Ok(Expr {
         kind: ExprKind::Apply(function, argument),
     })

@@ -6,6 +6,7 @@ ghost use Rattle.hm_parse.specs.Reading.Answers.{Gives};
 
 use crate::cursor::Parser;
 use crate::fault::ParseFault;
+use crate::owned::only;
 use crate::symbol::Symbol;
 use hm_syntax::{Constr, Decl, DeclKind, Name};
 use std::alloc::Global;
@@ -97,8 +98,7 @@ impl Parser<'_> {
         self.expect(Symbol::Equals)?;
         let constr_name = self.con(alloc)?;
         let arg = self.atype(alloc)?;
-        let mut args = Vec::with_capacity(alloc, 1)?;
-        args.push(arg)?;
+        let args = only(alloc, arg)?;
         let constr = Constr {
             name: constr_name,
             args,

@@ -3,18 +3,21 @@ use Rattle.hm_syntax.specs.Trees.{Expression}
 use Rattle.hm_parse.specs.declared.symbol.Symbol.TheVariants.{Colon}
 use Rattle.hm_parse.specs.Reading.Basics.{peek, is_at, tail, loop, behind, next_of}
 use Rattle.hm_parse.specs.Reading.Expressions.{begins_open, exp_with, guarded_in, all_expressions}
-use Rattle.hm_parse.proofs.ExpressionLoops.{elements_end, binding_is, chain_shorter, opd_shorter, colon_shorter, expect_shorter, first_guard_shorter}
+use Rattle.hm_parse.proofs.ExpressionLoops.{components_end, elements_end, binding_is, chain_shorter, opd_shorter, colon_shorter, expect_shorter, first_guard_shorter}
 use Rattle.hm_parse.proofs.ColonLoops.{colons_go_on}
 use Rattle.hm_parse.proofs.cursor.Parser.+exprs.Goals as goal
 
-pub bodies-guards-init : goal.bodies-guards-init
-bodies-guards-init t c =
-    let read : guarded_in all_expressions c.args.mark (tail c.args.self.now) ≡ Some (c.in_ok-guarded.field-0, c.guarded.new.self) =
-    ap (guarded_in all_expressions c.args.mark) (sym c.skip-2.ensures) ∙ c.in_ok-guarded.ensures in
-    record {
-      read = refl;
-      left = first_guard_shorter c.args.mark c.args.self.now c.guarded.new.self c.in_ok-guarded.field-0 (search rules) read;
-    }
+pub bodies-guards-requires : goal.bodies-guards-requires
+bodies-guards-requires t c =
+    let read : guarded_in all_expressions c.args.mark (tail c.args.self.now) ≡ Some (c.in_ok-first.first, c.guarded.new.self) =
+    ap (guarded_in all_expressions c.args.mark) (sym c.skip-2.ensures) ∙ c.in_ok-first.ensures in
+    let shorter : length c.guarded.new.self < length c.args.self.now = first_guard_shorter c.args.mark c.args.self.now c.guarded.new.self c.in_ok-first.first (search rules) read in
+    (omega (arith, c.decreases, shorter), tt)
+
+pub exp_tuple-returns : goal.exp_tuple-returns
+exp_tuple-returns t c =
+    components_end c.args.first c.components.found.items c.args.self.now c.components.self c.expect.new.self
+    c.components.invariant.read (search rules) c.in_ok-expect.ensures c.components.invariant.few
 
 pub exp_list-returns : goal.exp_list-returns
 exp_list-returns t c =
@@ -24,8 +27,8 @@ exp_list-returns t c =
 
 pub guarded-exp-requires : goal.guarded-exp-requires
 guarded-exp-requires t c =
-    let guard_read : length c.chain.new.self < length c.args.self.now = chain_shorter c.args.self.now c.chain.new.self (c.in_ok-guard.guard, c.in_ok-guard.field-0-1) c.in_ok-guard.ensures in
-    let mark_read : length c.expect.new.self < length c.chain.new.self = expect_shorter c.args.mark c.chain.new.self c.expect.new.self c.in_ok-expect.ensures in
+    let guard_read : length c.chain.new.self < length c.args.self.now = chain_shorter c.args.self.now c.chain.new.self (c.in_ok-test.test, c.in_ok-test.field-0-1) c.in_ok-test.ensures in
+    let mark_read : length c.before.new.self < length c.chain.new.self = expect_shorter c.args.mark c.chain.new.self c.before.new.self c.in_ok-guard.ensures.read in
     (omega (arith, c.decreases, guard_read, mark_read), tt)
 
 pub colons-colons-preserved : goal.colons-colons-preserved
