@@ -11,7 +11,7 @@ use crate::quotes::{character, string};
 use crate::symbols::symbols;
 
 /// What stands at the front of a text.
-#[derive(Clone, Copy, Debug, PartialEq, Eq)]
+#[derive(Clone, Copy)]
 pub(crate) enum Next {
     /// An item of so many bytes.
     Item(Item, usize),
