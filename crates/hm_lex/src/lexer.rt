@@ -5,6 +5,7 @@ ghost use Rattle.hm_lex.specs.Faults.{max_depth, max_source_len, AreTokensOf, Is
 ghost use Rattle.hm_lex.specs.Texts.{LiesIn};
 ghost use Rattle.hm_lex.specs.Scan.{IsScanned, place_step, tokens_at};
 
+use crate::byte_class::is_white;
 use crate::item::Item;
 use crate::next::{Next, next_item};
 use crate::token::{LexFault, Place, Token};
@@ -106,7 +107,21 @@ struct Lexer<'a> {
 }
 
 impl Lexer<'_> {
-    /// Reads the next item.
+    /// Passes white space.
+    fn pass_white(&mut self)
+        requires scanned { IsScanned self.old.source.now self.old.start self.old.place self.old.depth self.old.tokens.items }
+        requires short { length self.old.source.now ≤ max_source_len }
+        ensures scanned { IsScanned self.new.source.now self.new.start self.new.place self.new.depth self.new.tokens.items }
+        ensures on { self.old.start ≤ self.new.start }
+        ensures source { self.new.source.now ≡ self.old.source.now }
+    {
+        while self.start < self.source.len() && is_white(self.source[self.start]) {
+            self.place = self.place.past(self.source[self.start]);
+            self.start += 1;
+        }
+    }
+
+    /// Reads the next item, and passes the white space behind it.
     fn step(&mut self) -> Result<(), LexFault>
         requires scanned { IsScanned self.old.source.now self.old.start self.old.place self.old.depth self.old.tokens.items }
         requires more { self.old.start < length self.old.source.now }
@@ -131,6 +146,7 @@ impl Lexer<'_> {
         self.place = self.place.after(text);
         self.start = end;
         self.depth = depth;
+        self.pass_white();
         Ok(())
     }
 }
