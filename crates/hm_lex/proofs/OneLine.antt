@@ -9,8 +9,7 @@ use Rattle.hm_lex.specs.declared.byte_class.ByteClass.TheVariants.{White, Small,
 use Rattle.hm_lex.specs.declared.token.Kind.{Kind}
 use Rattle.hm_lex.specs.declared.token.Kind.TheVariants as kind
 use Rattle.hm_lex.specs.declared.token.Place.{Place}
-use Rattle.hm_lex.specs.Bytes.{class_of, is_white_class, is_of_name, is_name_byte, is_symbol, is_symbol_class}
-use Rattle.hm_lex.specs.Runs.{IsRunOf}
+use Rattle.hm_lex.specs.Bytes.{class_of, is_of_name, is_name_byte, is_symbol, is_symbol_class}
 use Rattle.hm_lex.specs.Names.{IsNameFrom}
 use Rattle.hm_lex.specs.Cut.{is_line_end, place_after}
 use Rattle.hm_lex.specs.Scan.{has_one_line}

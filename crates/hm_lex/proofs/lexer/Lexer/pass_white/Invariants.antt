@@ -1,6 +1,5 @@
 use Rattle.std.proofs.Common.{◌≡◌, ◌-◌, ◌≤◌, length}
 use Rattle.hm_lex.specs.Scan.{IsScanned}
-use Rattle.hm_lex.specs.Faults.{max_source_len}
 use Rattle.hm_lex.proofs.lexer.Lexer.pass_white.Given as goal
 
 abbrev pub invariant-loop-self : goal.invariant-loop-self

@@ -1,4 +1,4 @@
-use Rattle.std.proofs.Common.{sym, ap, ◌∙◌, subst}
+use Rattle.std.proofs.Common.{sym, ◌∙◌, subst}
 use Rattle.hm_lex.specs.declared.item.Item.{Item}
 use Rattle.hm_lex.specs.Cut.{shape_of}
 use Rattle.hm_lex.specs.Shapes.{HasShape}
