@@ -36,11 +36,6 @@ decimal_bound bytes t d p = run_bound is_digit t bytes (all_of is_digit t d) p
 
 -- ---- numbers with a mark
 
--- a marked number at the front has digits that the code counts
-record Marks (bytes : List ℕ) (n : ℕ) : Type 0 where
-  pub digits : n ≤ marked_digits bytes
-  pub some : 0 < n
-
 no_hexadecimal_mark : (m : ℕ) → IsTrue (is_one_of (codes "oO") m) → is_one_of (codes "xX") m ≡ false
 no_hexadecimal_mark m e = elim (one_of_two 111 79 m e) [ inl h ↦ rw h refl | inr h ↦ rw h refl ]
 

@@ -5,6 +5,7 @@ pub mod FirstFault
 pub mod WhiteSpace
 pub mod Scanning
 pub mod Places
+pub mod OneLine
 pub mod ByFirst
 pub mod NameRuns
 pub mod NestedComments

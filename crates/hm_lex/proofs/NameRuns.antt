@@ -1,5 +1,5 @@
 -- Names and their qualifiers, at the front of some bytes.
-use Rattle.std.proofs.Common.{◌≡◌, ◌⊎◌, ℕ, zero, suc, ◌+◌, ◌<◌, ◌≤◌, Bool, true, false, List, [], ◌∷◌, ◌++◌, length, get_or, take, drop, refl, sym, ap, ◌∙◌, subst, inl, inr, arith, append_assoc, length-append, length-take-le, length-drop, take-append-drop, add-zero, add_assoc, zero-add, suc-add, ltb}
+use Rattle.std.proofs.Common.{◌≡◌, ◌≢◌, ◌⊎◌, ℕ, zero, suc, ◌+◌, ◌<◌, ◌≤◌, Bool, true, false, List, [], ◌∷◌, ◌++◌, length, get_or, take, drop, refl, sym, ap, ◌∙◌, subst, inl, inr, arith, append_assoc, length-append, length-take-le, length-drop, take-append-drop, add-zero, add_assoc, zero-add, suc-add, ltb}
 use Rattle.std.specs.List.{AllByRecursion, prefix_len, flat_map}
 use Rattle.std.proofs.lemmas.List.{take_more, drop_more, get_or_at, drop-drop, append-nil, get_or-drop, drop_at, take_all}
 use Rattle.std.proofs.lemmas.Bool.{le-leb}
@@ -7,9 +7,10 @@ use Rattle.hm_lex.specs.declared.byte_class.ByteClass.{ByteClass}
 use Rattle.hm_lex.specs.declared.byte_class.ByteClass.TheVariants.{White, Small, Capital, Digit, Symbol, Special, Quote, DoubleQuote, Other}
 use Rattle.hm_lex.specs.Bytes.{class_of, is_of_name, is_name_byte, is_capital, is_capital_class}
 use Rattle.hm_lex.specs.Names.{IsNameFrom, IsCapitalName, is_reserved, dotted, qualified}
-use Rattle.hm_lex.specs.Shapes.{Shape, HasShape}
+use Rattle.hm_lex.specs.declared.token.Kind.TheVariants.{Word, VarId, ConId, QVarId, QConId}
+use Rattle.hm_lex.specs.Shapes.{Shape, HasShape, lexeme, malformed}
 use Rattle.hm_lex.specs.Cut.{Begins, IsLongest}
-use Rattle.hm_lex.specs.Next.{begins_name, is_name_class, StartsName, IsQualifierOf, NoQualifier, name_shape}
+use Rattle.hm_lex.specs.Next.{begins_name, is_name_class, StartsName, StartsWith, IsQualifierOf, NoQualifier, name_shape}
 use Rattle.hm_lex.proofs.Prefix.{IsPrefix, prefix_of_append, prefix_from, begins_from, begins_take, run_passes, run_bound, run_whole, run_le, run_more, prefix_after}
 use Rattle.hm_lex.proofs.ByFirst.{AreNameBytes, dot_not_of_name, qualified_cons, name_bytes, is_capital_is, CapitalForm, FromFirst, first}
 use Rattle.std.proofs.lemmas.Bool.{false≢true}
@@ -235,7 +236,7 @@ qualified_bool ([] ∷ qs) start e = le-leb 1 start (omega arith)
 qualified_bool ((b ∷ bs) ∷ qs) start e = le-leb 1 start (omega arith)
 
 -- where the scan ends, the longest text is a name, or malformed
-pub scan_end : (bytes : List ℕ) (start len : ℕ) (s : Shape) → IsNameScan bytes start → NoQualifier (drop start bytes) → len ≡ prefix_len is_name_byte (drop start bytes)
+scan_end : (bytes : List ℕ) (start len : ℕ) (s : Shape) → IsNameScan bytes start → NoQualifier (drop start bytes) → len ≡ prefix_len is_name_byte (drop start bytes)
     → s ≡ name_shape (ltb 0 start) (is_capital (get_or (drop start bytes) 0 0)) (is_reserved (take len (drop start bytes))) → IsLongest s (take (start + len) bytes) bytes
 scan_end bytes start len s scan none len_is s_is =
     let tail : List ℕ = drop start bytes in
@@ -262,14 +263,91 @@ scan_end bytes start len s scan none len_is s_is =
       longest = λ o t h b. omega (arith, size, name_candidate (start + len) bytes o t (starts_whole bytes start scan) bound h b);
     }
 
--- the same, from what the code knows
-pub scan_answer : (bytes : List ℕ) (start len : ℕ) (s : Shape) (tail : List ℕ) (capital reserved : Bool) → tail ≡ drop start bytes → IsNameScan bytes start → NoQualifier tail
-    → len ≡ prefix_len is_name_byte tail → capital ≡ is_capital (get_or tail 0 0) → reserved ≡ is_reserved (take len tail) → s ≡ name_shape (ltb 0 start) capital reserved
-    → IsLongest s (take (start + len) bytes) bytes
-scan_answer bytes start len s tail capital reserved e scan none len_is capital_is reserved_is s_is =
-    scan_end bytes start len s scan (subst (λ (t : List ℕ). NoQualifier t) e none) (len_is ∙ ap (prefix_len is_name_byte) e)
-    (s_is ∙ ap (λ (b : Bool). name_shape (ltb 0 start) b reserved) (capital_is ∙ ap (λ (t : List ℕ). is_capital (get_or t 0 0)) e)
-    ∙ ap (λ (b : Bool). name_shape (ltb 0 start) (is_capital (get_or (drop start bytes) 0 0)) b) (reserved_is ∙ ap (λ (t : List ℕ). is_reserved (take len t)) e))
+-- ---- what the code knows where the scan ends
+
+pub record IsNameEnd (bytes : List ℕ) (start len : ℕ) : Type 0 where
+  pub scan : IsNameScan bytes start
+  pub none : NoQualifier (drop start bytes)
+  pub run : len ≡ prefix_len is_name_byte (drop start bytes)
+
+pub name_end : (bytes tail : List ℕ) (start len : ℕ) → tail ≡ drop start bytes → IsNameScan bytes start → NoQualifier tail → len ≡ prefix_len is_name_byte (drop start bytes) → IsNameEnd bytes start len
+name_end bytes tail start len e s none run = record { scan = s; none = subst (λ (t : List ℕ). NoQualifier t) e none; run = run }
+
+pub end_within : (bytes : List ℕ) (start len : ℕ) → IsNameEnd bytes start len → start + len ≤ length bytes
+end_within bytes start len n = omega (arith, n.run, run_le is_name_byte (drop start bytes), length-drop start bytes, n.scan.within)
+
+-- the shape of the name, by three tests
+end_shape : (bytes : List ℕ) (start len : ℕ) (many capital reserved : Bool) → IsNameEnd bytes start len → ltb 0 start ≡ many → is_capital (get_or (drop start bytes) 0 0) ≡ capital → is_reserved (take len (drop start bytes)) ≡ reserved
+    → IsLongest (name_shape many capital reserved) (take (start + len) bytes) bytes
+end_shape bytes start len many capital reserved n m c r =
+    let head : ℕ = get_or (drop start bytes) 0 0 in
+    let text : List ℕ = take len (drop start bytes) in
+    scan_end bytes start len (name_shape many capital reserved) n.scan n.none n.run
+    (sym (ap (λ (b : Bool). name_shape b (is_capital head) (is_reserved text)) m ∙ ap (λ (b : Bool). name_shape many b (is_reserved text)) c ∙ ap (λ (b : Bool). name_shape many capital b) r))
+
+pub starts_capital : (bytes : List ℕ) → StartsWith Capital bytes → StartsName bytes
+starts_capital [] s = s
+starts_capital (b ∷ bs) s = ap is_name_class s
+
+pub starts_small : (bytes : List ℕ) → StartsWith Small bytes → StartsName bytes
+starts_small [] s = s
+starts_small (b ∷ bs) s = ap is_name_class s
+
+pub alone : (bytes : List ℕ) (start len : ℕ) → IsNameEnd bytes start len → is_capital (get_or (drop start bytes) 0 0) ≡ true → start ≡ 0 → IsLongest (lexeme ConId) (take (start + len) bytes) bytes
+alone bytes start len n c e = end_shape bytes start len false true (is_reserved (take len (drop start bytes))) n (ap (ltb 0) e) c refl
+
+pub qualified_capital : (bytes : List ℕ) (start len : ℕ) → IsNameEnd bytes start len → is_capital (get_or (drop start bytes) 0 0) ≡ true → start ≢ 0 → IsLongest (lexeme QConId) (take (start + len) bytes) bytes
+qualified_capital bytes start len n c e = end_shape bytes start len true true (is_reserved (take len (drop start bytes))) n (le-leb 1 start (omega arith)) c refl
+
+-- a last part that begins with no capital isn't the first part
+behind_capital : (bytes : List ℕ) (start : ℕ) → StartsWith Capital bytes → is_capital (get_or (drop start bytes) 0 0) ≡ false → ltb 0 start ≡ true
+behind_capital [] start s c = absurd s
+behind_capital (b ∷ bs) zero s c = absurd (false≢true (sym c ∙ ap is_capital_class s))
+behind_capital (b ∷ bs) (suc n) s c = le-leb 1 (suc n) (omega arith)
+
+pub qualified_word : (bytes : List ℕ) (start len : ℕ) → StartsWith Capital bytes → IsNameEnd bytes start len → is_capital (get_or (drop start bytes) 0 0) ≡ false → is_reserved (take len (drop start bytes)) ≡ true → IsLongest malformed (take (start + len) bytes) bytes
+qualified_word bytes start len s n c r = end_shape bytes start len true false true n (behind_capital bytes start s c) c r
+
+pub qualified_variable : (bytes : List ℕ) (start len : ℕ) → StartsWith Capital bytes → IsNameEnd bytes start len → is_capital (get_or (drop start bytes) 0 0) ≡ false → is_reserved (take len (drop start bytes)) ≡ false → IsLongest (lexeme QVarId) (take (start + len) bytes) bytes
+qualified_variable bytes start len s n c r = end_shape bytes start len true false false n (behind_capital bytes start s c) c r
+
+-- ---- names with a small first letter
+
+none_at_small : (bytes : List ℕ) → StartsWith Small bytes → NoQualifier bytes
+none_at_small [] s = absurd s
+none_at_small (b ∷ bs) s = go
+  where
+    go : NoQualifier (b ∷ bs)
+    go [] rest c starts e = c
+    go (x ∷ xs) rest c starts e =
+        let heads : x ≡ b = cc in
+        let classes : Capital ≡ Small = sym c.0 ∙ ap class_of heads ∙ s in
+        cc
+
+scan_start : (bytes : List ℕ) → StartsName bytes → IsNameScan bytes 0
+scan_start bytes s = record {
+  within = omega arith;
+  qualifiers = [];
+  capitals = tt;
+  front = refl;
+  follows = s;
+  bound = λ k b. subst (λ (n : ℕ). NameBound n bytes) (sym (zero-add k)) b;
+}
+
+small_not_capital : (bytes : List ℕ) → StartsWith Small bytes → is_capital (get_or bytes 0 0) ≡ false
+small_not_capital [] s = absurd s
+small_not_capital (b ∷ bs) s = ap is_capital_class s
+
+small_longest : (bytes : List ℕ) (len : ℕ) (reserved : Bool) → StartsWith Small bytes → len ≡ prefix_len is_name_byte bytes → is_reserved (take len bytes) ≡ reserved → IsLongest (name_shape false false reserved) (take len bytes) bytes
+small_longest bytes len reserved s run r =
+    let n : IsNameEnd bytes 0 len = record { scan = scan_start bytes (starts_small bytes s); none = none_at_small bytes s; run = run } in
+    subst (λ (k : ℕ). IsLongest (name_shape false false reserved) (take k bytes) bytes) (zero-add len) (end_shape bytes 0 len false false reserved n refl (small_not_capital bytes s) r)
+
+pub word_longest : (bytes : List ℕ) (len : ℕ) → StartsWith Small bytes → len ≡ prefix_len is_name_byte bytes → is_reserved (take len bytes) ≡ true → IsLongest (lexeme Word) (take len bytes) bytes
+word_longest bytes len s run r = small_longest bytes len true s run r
+
+pub variable_longest : (bytes : List ℕ) (len : ℕ) → StartsWith Small bytes → len ≡ prefix_len is_name_byte bytes → is_reserved (take len bytes) ≡ false → IsLongest (lexeme VarId) (take len bytes) bytes
+variable_longest bytes len s run r = small_longest bytes len false s run r
 
 pub no_open_at_name : (bytes : List ℕ) → StartsName bytes → OpenCommentBegins bytes → ⊥
 no_open_at_name [] s o = s

@@ -1,13 +1,15 @@
 //! The loop over the items of a source.
 ghost use Rattle.std.specs.Prelude.{◌≡◌, ◌≢◌, ◌+◌, ◌^◌, ◌<◌, ◌≤◌, ◌++◌, ℕ, List, length, All, IsTrue, OnOk, IfOk, IfErr, IfSome, IfNone, OnSome, Err};
-ghost use Rattle.hm_lex.specs.Cut.{Piece, IsCut, tokens_of, place_after, is_opening, text_depth};
+ghost use Rattle.hm_lex.specs.Cut.{Piece, IsCut, tokens_of, place_after, shape_of, is_opening, text_depth};
 ghost use Rattle.hm_lex.specs.Faults.{max_depth, max_source_len, AreTokensOf, IsRefusal};
 ghost use Rattle.hm_lex.specs.Texts.{LiesIn};
-ghost use Rattle.hm_lex.specs.Scan.{IsScanned, place_step, tokens_at};
+ghost use Rattle.hm_lex.specs.Scan.{IsScanned, place_step, tokens_at, has_one_line};
+ghost use Rattle.hm_lex.specs.Shapes.{HasShape};
 
+use crate::byte_class::is_white;
 use crate::item::Item;
 use crate::next::{Next, next_item};
-use crate::token::{LexFault, Place, Token};
+use crate::token::{Kind, LexFault, Place, Token};
 use crate::words::{is_closing, is_opening};
 use std::alloc::Global;
 
@@ -47,6 +49,32 @@ impl Place {
         }
         place
     }
+
+    /// The place after an item that begins here, and has this text.
+    fn behind(self, item: Item, text: &[u8]) -> Place
+        requires shape { HasShape (shape_of item) text.now }
+        requires line { self.line + length text.now < 2 ^ 64 }
+        requires column { self.column + length text.now < 2 ^ 64 }
+        ensures { (before : List ℕ) → self ≡ place_after before → result ≡ place_after (before ++ text.now) }
+    {
+        match item {
+            Item::Lexeme(kind) if has_one_line(kind) => Place {
+                line: self.line,
+                column: self.column + text.len(),
+            },
+            _ => self.after(text),
+        }
+    }
+}
+
+/// Whether the lexemes of a kind are known to have no line end.
+fn has_one_line(kind: Kind) -> bool
+    ensures { result ≡ has_one_line kind }
+{
+    matches!(
+        kind,
+        Kind::Word | Kind::VarId | Kind::ConId | Kind::Op | Kind::Special
+    )
 }
 
 /// The depth after a text, unless it would be too great.
@@ -106,7 +134,21 @@ struct Lexer<'a> {
 }
 
 impl Lexer<'_> {
-    /// Reads the next item.
+    /// Passes white space.
+    fn pass_white(&mut self)
+        requires scanned { IsScanned self.old.source.now self.old.start self.old.place self.old.depth self.old.tokens.items }
+        requires short { length self.old.source.now ≤ max_source_len }
+        ensures scanned { IsScanned self.new.source.now self.new.start self.new.place self.new.depth self.new.tokens.items }
+        ensures on { self.old.start ≤ self.new.start }
+        ensures source { self.new.source.now ≡ self.old.source.now }
+    {
+        while self.start < self.source.len() && is_white(self.source[self.start]) {
+            self.place = self.place.past(self.source[self.start]);
+            self.start += 1;
+        }
+    }
+
+    /// Reads the next item, and passes the white space behind it.
     fn step(&mut self) -> Result<(), LexFault>
         requires scanned { IsScanned self.old.source.now self.old.start self.old.place self.old.depth self.old.tokens.items }
         requires more { self.old.start < length self.old.source.now }
@@ -128,9 +170,10 @@ impl Lexer<'_> {
         };
         let end = self.start + len;
         add_token(&mut self.tokens, item, self.start, len, self.place)?;
-        self.place = self.place.after(text);
+        self.place = self.place.behind(item, text);
         self.start = end;
         self.depth = depth;
+        self.pass_white();
         Ok(())
     }
 }

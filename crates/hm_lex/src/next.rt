@@ -6,12 +6,12 @@ use crate::byte_class::ByteClass;
 use crate::comments::special;
 use crate::integers::integer;
 use crate::item::Item;
-use crate::names::name;
+use crate::names::{name, variable};
 use crate::quotes::{character, string};
 use crate::symbols::symbols;
 
 /// What stands at the front of a text.
-#[derive(Clone, Copy, Debug, PartialEq, Eq)]
+#[derive(Clone, Copy)]
 pub(crate) enum Next {
     /// An item of so many bytes.
     Item(Item, usize),
@@ -26,7 +26,8 @@ pub(crate) fn next_item(bytes: &[u8]) -> Next
 {
     match ByteClass::of(bytes[0]) {
         ByteClass::White => Next::Item(Item::White, 1),
-        ByteClass::Small | ByteClass::Capital => name(bytes),
+        ByteClass::Small => variable(bytes),
+        ByteClass::Capital => name(bytes),
         ByteClass::Digit => integer(bytes),
         ByteClass::Symbol => symbols(bytes),
         ByteClass::Special => special(bytes),

@@ -1,0 +1,113 @@
+#!/usr/bin/env python3
+"""Runs `hmc` on inputs whose time once grew too fast, each at a size and at twice that size, and prints seconds, printed bytes and both ratios.
+
+`growth.py [PROGRAM]`: without a word, the script `hmc` beside this folder is run. Ends with 1 where a run fails or takes too long,
+and where the time grows by more than 3 and what is printed doesn't.
+"""
+import os
+import subprocess
+import sys
+import tempfile
+import time
+
+from checks import PROGRAM, declared_below_lambdas, lets_below_lambdas, module
+
+RUNS = 2
+GREATEST_RATIO = 3
+SECONDS = 120
+# Shorter times than this say nothing about growth.
+LEAST_SECONDS = 0.02
+
+
+def arrows(count):
+    return "Int" + " -> Int" * count
+
+
+def names_of_a_signature(count):
+    names = [f"f{n}" for n in range(count)]
+    return module([f"{', '.join(names)} :: {arrows(count)}"] + [f"{name} = {name}" for name in names])
+
+
+def uses_of_a_type(count):
+    return module([f"f :: {arrows(count)}", "f = f", "g = [" + ", ".join(["f"] * count) + "]"])
+
+
+def large_module(count):
+    return module(f"f{n} = True" for n in range(count))
+
+
+def repeated_imports(count, names):
+    """A module of so many names, and one that imports from it in as many lines."""
+    return large_module(count) + "\nmodule B where { " + " ; ".join([f"import A {names}"] * count + ["x = True"]) + " }"
+
+
+def importers(count):
+    return "\n".join([large_module(10_000)] + [f"module M{n} where {{ import A (f0) ; x = f0 }}" for n in range(count)])
+
+
+def exported_again(count):
+    modules = []
+    for n in range(count):
+        again, line = (f", module M{n - 1}", f"import M{n - 1} ; ") if n else ("", "")
+        modules.append(f"module M{n} (module M{n}{again}) where {{ {line}" + " ; ".join(f"f{n}_{k} = True" for k in range(40)) + " }")
+    return "\n".join(modules)
+
+
+def doubling_synonyms(count):
+    return module(["type T0 = Int"] + [f"type T{n} = (T{n - 1}, T{n - 1})" for n in range(1, count)] + ["x = True"])
+
+
+# the kind, what makes an input of a size, and the smaller size
+KINDS = [
+    ("names of one signature, with a type of as many arrows", names_of_a_signature, 500),
+    ("uses of a type of as many arrows", uses_of_a_type, 400),
+    ("lines `import A ()`, where A has as many names", lambda count: repeated_imports(count, "()"), 2_000),
+    ("lines `import A (f0)`, where A has as many names", lambda count: repeated_imports(count, "(f0)"), 2_000),
+    ("importers of one name of a module of 10,000", importers, 32),
+    ("names of one let below as many variables of a lambda", lets_below_lambdas, 2_000),
+    ("declared types below as many variables of a lambda", declared_below_lambdas, 1_000),
+    ("modules of 40 names, each exporting again what the one before exports", exported_again, 64),
+    ("synonyms that nothing uses, each of twice the one before", doubling_synonyms, 9),
+]
+
+
+def run(path):
+    """The seconds and the printed bytes of the quickest run, or None where one fails."""
+    answers = []
+    for _ in range(RUNS):
+        with tempfile.TemporaryFile() as printed:
+            start = time.time()
+            try:
+                status = subprocess.run([PROGRAM, "--jobs", "1", path], stdout=printed, stderr=subprocess.DEVNULL, timeout=SECONDS).returncode
+            except subprocess.TimeoutExpired:
+                return None
+            if status:
+                return None
+            answers.append((time.time() - start, printed.seek(0, 2)))
+    return min(answers)
+
+
+def main():
+    failed = False
+    with tempfile.TemporaryDirectory() as folder:
+        path = os.path.join(folder, "modules.hs")
+        for kind, make, size in KINDS:
+            answers = []
+            for count in (size, 2 * size):
+                with open(path, "w", encoding="utf-8") as file:
+                    file.write(make(count))
+                answers.append(run(path))
+            if None in answers:
+                failed = True
+                print(f"{size} and {2 * size} {kind}: a run fails, or takes more than {SECONDS} s", flush=True)
+                continue
+            (short, little), (long, much) = answers
+            growth, output = max(long, LEAST_SECONDS) / max(short, LEAST_SECONDS), much / little
+            is_fast = growth > GREATEST_RATIO >= output
+            failed |= is_fast
+            print(f"{size} and {2 * size} {kind}: {short:.2f} and {long:.2f} s, {growth:.1f} times; {output:.1f} times the output{': TOO FAST' if is_fast else ''}", flush=True)
+    sys.exit(failed)
+
+
+if __name__ == "__main__":
+    main()
