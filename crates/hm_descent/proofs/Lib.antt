@@ -1,0 +1,7 @@
+pub mod Loops
+pub mod TypeLoops
+pub mod MarkLoops
+pub mod PatternLoops
+pub mod TypeDeclarationLoops
+pub mod ExpressionLoops
+pub mod ColonLoops

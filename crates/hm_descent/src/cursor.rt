@@ -1,0 +1,254 @@
+//! The tokens that are left of a source, and the steps that every part of the parser takes on them.
+ghost use Rattle.std.specs.Prelude.{◌≡◌};
+ghost use Rattle.hm_grammar.specs.Reading.Basics.{peek, is_at, is_done, is_at_word, tail, expect, name_at, module_name_at, modid_at, item_end, past_semicolons};
+ghost use Rattle.hm_grammar.specs.Reading.Constructors.{IsPlaceAt};
+ghost use Rattle.hm_grammar.specs.Reading.Answers.{Gives};
+ghost use Rattle.hm_grammar.specs.Places.{AllLieIn};
+ghost use Rattle.hm_grammar.specs.Tokens.{terminals};
+
+use hm_grammar::{ParseFault, Symbol, name_in, string_of, symbol_of, text_of};
+use hm_lex::{Place, Token};
+use hm_syntax::Name;
+use std::alloc::Global;
+use std::marker::Model;
+
+/// What the first token is to the grammar.
+fn first_symbol(source: &[u8], tokens: &[Token]) -> Symbol
+    requires { AllLieIn source.now tokens.now }
+    ensures { result ≡ peek (terminals source.now tokens.now) }
+{
+    match tokens.split_first() {
+        Some((token, _)) => symbol_of(token.kind, text_of(source, token)),
+        None => Symbol::End,
+    }
+}
+
+/// Where an expression stands.
+#[derive(Clone, Copy)]
+pub(crate) enum Context {
+    /// At the right end of an alternative's guard, before its arrow.
+    AlternativeGuard,
+    Elsewhere,
+}
+
+impl Context {
+    /// Where a guard stands that this mark follows.
+    pub(crate) fn of_guard(mark: Symbol) -> Context {
+        if mark.is(Symbol::Arrow) {
+            Context::AlternativeGuard
+        } else {
+            Context::Elsewhere
+        }
+    }
+}
+
+/// The tokens that are left of a source. The parser goes down the grammar, with one token of look-ahead.
+#[derive(Drop)]
+pub struct Parser<'a> {
+    source: &'a [u8],
+    tokens: &'a [Token],
+    /// What the first of the tokens is to the grammar.
+    next: Symbol,
+    /// The place just past the last byte of the source.
+    end: Place,
+    /// The first `::` whose type would end an alternative's guard. The arrow behind the guard would belong to the type,
+    /// so no source goes on from that `::`.
+    guard_type: Option<Place>,
+}
+
+impl<'a> Model for Parser<'a> {
+    ghost use Rattle.std.specs.Prelude.{◌≡◌, List};
+    ghost use Rattle.hm_grammar.specs.Tokens.{Terminal, terminals};
+    ghost use Rattle.hm_grammar.specs.Places.{AllLieIn};
+    ghost use Rattle.hm_grammar.specs.Reading.Basics.{peek};
+
+    ghost Value = { List Terminal };
+
+    ghost view = { λ p. terminals p.source.now p.tokens.now };
+
+    ghost invariant = { λ p. record { lie : AllLieIn p.source.now p.tokens.now; next : p.next ≡ peek (terminals p.source.now p.tokens.now) } };
+}
+
+impl<'a> Parser<'a> {
+    /// A parser before all of these tokens of a source, whose last byte stands just before `end`.
+    pub fn new(source: &'a [u8], tokens: &'a [Token], end: Place) -> Parser<'a>
+        requires { AllLieIn source.now tokens.now }
+        ensures { result ≡ terminals source.now tokens.now }
+    {
+        Parser {
+            source,
+            tokens,
+            next: first_symbol(source, tokens),
+            end,
+            guard_type: None,
+        }
+    }
+}
+
+impl Parser<'_> {
+    /// What stands next.
+    pub(crate) fn symbol(&self) -> Symbol
+        ensures { result ≡ peek self.now }
+    {
+        self.next
+    }
+
+    /// What stands behind what stands next.
+    pub(crate) fn second(&self) -> Symbol
+        ensures { result ≡ peek (tail self.now) }
+    {
+        match self.tokens.split_first() {
+            Some((_, rest)) => first_symbol(self.source, rest),
+            None => Symbol::End,
+        }
+    }
+
+    pub fn at(&self, symbol: Symbol) -> bool
+        ensures { result ≡ is_at symbol self.now }
+    {
+        self.symbol().is(symbol)
+    }
+
+    pub fn is_done(&self) -> bool
+        ensures { result ≡ is_done self.now }
+    {
+        self.tokens.is_empty()
+    }
+
+    /// Whether a variable with this text stands next.
+    pub(crate) fn is_at_word(&self, word: &[u8]) -> bool
+        ensures { result ≡ is_at_word word.now self.now }
+    {
+        match self.tokens.split_first() {
+            Some((token, _)) => { self.next.is(Symbol::Var) && text_of(self.source, token) == word }
+            None => false,
+        }
+    }
+
+    /// The place of what stands next.
+    pub(crate) fn place(&self) -> Place
+        ensures { IsPlaceAt self.now result }
+    {
+        match self.tokens.first() {
+            Some(token) => token.place,
+            None => self.end,
+        }
+    }
+
+    pub fn skip(&mut self)
+        ensures { self.new ≡ tail self.old }
+    {
+        if let Some((_, rest)) = self.tokens.split_first() {
+            let next = first_symbol(self.source, rest);
+            self.tokens = rest;
+            self.next = next;
+        }
+    }
+
+    /// Notes what stands next, which is `::`, where its type would end an alternative's guard.
+    pub(crate) fn note_type(&mut self, context: Context)
+        ensures { self.new ≡ self.old }
+    {
+        match context {
+            Context::AlternativeGuard => {
+                if self.guard_type.is_none() {
+                    self.guard_type = Some(self.place());
+                }
+            }
+            Context::Elsewhere => {}
+        }
+    }
+
+    /// The first token from which no source goes on, where reading stopped at this place.
+    pub fn first_fault(&self, stopped: Place) -> Place {
+        match self.guard_type {
+            Some(place) => place,
+            None => stopped,
+        }
+    }
+
+    /// Goes past this symbol.
+    pub fn expect(&mut self, symbol: Symbol) -> Result<(), ParseFault>
+        ensures { Gives (λ _. self.new) result (expect symbol self.old) }
+    {
+        if self.at(symbol) && !self.is_done() {
+            self.skip();
+            Ok(())
+        } else {
+            Err(ParseFault::Syntax(self.place()))
+        }
+    }
+
+    /// Goes past a token, which is a name.
+    pub(crate) fn name(&mut self, alloc: Global) -> Result<Name, ParseFault>
+        ensures { Gives (λ n. (n, self.new)) result (name_at self.old) }
+    {
+        match self.tokens.split_first() {
+            Some((token, rest)) => {
+                let name = name_in(alloc, text_of(self.source, token), token.place)?;
+                let next = first_symbol(self.source, rest);
+                self.tokens = rest;
+                self.next = next;
+                Ok(name)
+            }
+            None => Err(ParseFault::Syntax(self.end)),
+        }
+    }
+
+    /// Goes past a token, whose whole text is a name.
+    pub(crate) fn module_name(&mut self, alloc: Global) -> Result<Name, ParseFault>
+        ensures { Gives (λ n. (n, self.new)) result (module_name_at self.old) }
+    {
+        match self.tokens.split_first() {
+            Some((token, rest)) => {
+                let text = string_of(alloc, text_of(self.source, token))?;
+                let next = first_symbol(self.source, rest);
+                self.tokens = rest;
+                self.next = next;
+                Ok(Name {
+                    qualifier: None,
+                    text,
+                    place: token.place,
+                })
+            }
+            None => Err(ParseFault::Syntax(self.end)),
+        }
+    }
+
+    /// The name of a module.
+    #[tactic(auto, unfolding(hm_grammar::specs::Reading::Basics::modid_at))]
+    pub fn modid(&mut self, alloc: Global) -> Result<Name, ParseFault>
+        ensures { Gives (λ n. (n, self.new)) result (modid_at self.old) }
+    {
+        if self.symbol().is_qcon() {
+            self.module_name(alloc)
+        } else {
+            Err(ParseFault::Syntax(self.place()))
+        }
+    }
+
+    /// Goes past the separator behind an item, or stays before the end of the items.
+    #[tactic(auto, unfolding(hm_grammar::specs::Reading::Basics::item_end))]
+    pub fn item_end(&mut self, separator: Symbol, end: Symbol) -> Result<(), ParseFault>
+        ensures { Gives (λ _. self.new) result (item_end separator end self.old) }
+    {
+        if self.at(separator) {
+            self.skip();
+            Ok(())
+        } else if self.at(end) {
+            Ok(())
+        } else {
+            Err(ParseFault::Syntax(self.place()))
+        }
+    }
+
+    /// Goes past the semicolons that stand next.
+    #[tactic(auto, using(crate::proofs::Loops::semicolons_go_on, crate::proofs::Loops::semicolons_end, crate::proofs::Loops::semicolon_shorter))]
+    pub fn past_semicolons(&mut self)
+        ensures { self.new ≡ past_semicolons self.old }
+    {
+        'semicolons: while self.at(Symbol::Semicolon) {
+            self.skip();
+        }
+    }
+}

@@ -1,0 +1,571 @@
+//! Expressions and declarations (Haskell 98 Report, sections 3 and 4.4).
+ghost use Rattle.std.specs.Prelude.{◌≡◌, ◌≤◌, length, [], ◌∷◌, false, IfOk};
+ghost use Rattle.hm_syntax.specs.Lists.{bodies};
+ghost use Rattle.hm_syntax.specs.Trees.{application};
+ghost use Rattle.hm_grammar.specs.Reading.Basics.{peek, tail, is_at, loop, behind, next_of, closing, tuple_behind, list_in};
+ghost use Rattle.hm_grammar.specs.Reading.Expressions.{tuple_of_expressions, list_of_expressions, next_item_of, var_at, exp_with, aexp_step, args_from, guarded_in, next_guarded, bodies_with, where_with, rhs_with, alt_with, alts_with, case_with, opd_with, link, typed_behind, consed, cons_expression, open_by, lambda_with, let_with, if_with, signature_with, begins_binding, binding_of, binding_with, decl_with, all_expressions};
+ghost use Rattle.hm_grammar.specs.Reading.Answers.{Gives};
+
+use crate::cursor::{Context, Parser};
+use crate::types::MAX_COMPONENTS;
+use hm_grammar::{ParseFault, Symbol};
+use hm_lex::Place;
+use hm_syntax::{Alt, Decl, DeclKind, Expr, ExprKind, Name, Pat, PatKind, Rhs};
+use std::alloc::{AllocError, Global};
+
+impl Parser<'_> {
+    /// An expression. A type may stand behind it, where it is closed.
+    #[cycle(exprs)]
+    #[tactic(auto, using(crate::proofs::ExpressionLoops::chain_shorter, crate::proofs::ColonLoops::exp_open, crate::proofs::ColonLoops::exp_open_none), unfolding(hm_grammar::specs::Reading::Expressions::exp_with))]
+    pub(crate) fn exp(&mut self, alloc: Global, context: Context) -> Result<Expr, ParseFault>
+        ensures { Gives (λ e. (e, self.new)) result (exp_with all_expressions self.old) }
+    {
+        if self.symbol().begins_open() {
+            return Ok(self.open_exp(alloc, context)?);
+        }
+        let (e, is_open) = self.chain(alloc, context)?;
+        if is_open || !self.at(Symbol::OfType) {
+            return Ok(e);
+        }
+        self.note_type(context);
+        self.skip();
+        Ok(self.typed(alloc, e)?)
+    }
+
+    /// What follows `::` behind an expression.
+    #[inline(never)]
+    fn typed(&mut self, alloc: Global, e: Expr) -> Result<Expr, ParseFault>
+        ensures { Gives (λ whole. (whole, self.new)) result (typed_behind e self.old) }
+    {
+        let e = Box::new(alloc, e)?;
+        let ty = self.type_expr(alloc)?;
+        Ok(Expr {
+            kind: ExprKind::Typed(e, ty),
+        })
+    }
+
+    /// Operands with colons between, or what extends as far right as it can; true where it is open.
+    #[cycle(exprs)]
+    #[tactic(auto, using(crate::proofs::ColonLoops::chain_open, crate::proofs::ColonLoops::chain_open_none, crate::proofs::ColonLoops::chain_closed, crate::proofs::ColonLoops::chain_closed_none, crate::proofs::ColonLoops::chain_alone, crate::proofs::ExpressionLoops::opd_shorter))]
+    fn chain(&mut self, alloc: Global, context: Context) -> Result<(Expr, bool), ParseFault>
+        ensures { Gives (λ x. (x, self.new)) result (all_expressions.chain self.old) }
+    {
+        if self.symbol().begins_open() {
+            let e = self.open_exp(alloc, context)?;
+            return Ok((e, true));
+        }
+        let first = self.operand(alloc)?;
+        if !self.at(Symbol::Colon) {
+            return Ok((first, false));
+        }
+        Ok(self.colons(alloc, context, first)?)
+    }
+
+    /// What follows the first operand of a chain. The operands are kept, and put together from the last.
+    #[cycle(exprs)]
+    #[tactic(auto, using(crate::proofs::ColonLoops::behind_nothing, crate::proofs::ColonLoops::colons_open, crate::proofs::ColonLoops::colons_open_none, crate::proofs::ColonLoops::colons_go_on, crate::proofs::ColonLoops::colons_none, crate::proofs::ColonLoops::colons_end, crate::proofs::ExpressionLoops::opd_shorter, crate::proofs::ExpressionLoops::colon_shorter))]
+    #[inline(never)]
+    fn colons(
+        &mut self,
+        alloc: Global,
+        context: Context,
+        first: Expr,
+    ) -> Result<(Expr, bool), ParseFault>
+        ensures { Gives (λ x. (x, self.new)) result (link all_expressions first self.old) }
+    {
+        let mut last = first;
+        let mut operands = Vec::new(alloc);
+        'colons: while self.at(Symbol::Colon) {
+            let colon = self.colon(alloc)?;
+            operands.push((last, colon))?;
+            if self.symbol().begins_open() {
+                let e = self.open_exp(alloc, context)?;
+                return Ok((cons_all(alloc, operands, e)?, true));
+            }
+            last = self.operand(alloc)?;
+        }
+        Ok((cons_all(alloc, operands, last)?, false))
+    }
+
+    /// A lambda, a `let` or an `if`.
+    #[cycle(exprs)]
+    #[tactic(auto, using(crate::proofs::ExpressionLoops::backslash_shorter, crate::proofs::ExpressionLoops::let_shorter, crate::proofs::ExpressionLoops::if_shorter))]
+    #[inline(never)]
+    fn open_exp(&mut self, alloc: Global, context: Context) -> Result<Expr, ParseFault>
+        ensures { Gives (λ e. (e, self.new)) result (open_by all_expressions (peek self.old) self.old) }
+    {
+        match self.symbol() {
+            Symbol::Backslash => {
+                self.skip();
+                Ok(self.lambda(alloc, context)?)
+            }
+            Symbol::Let => {
+                self.skip();
+                Ok(self.let_in(alloc, context)?)
+            }
+            Symbol::If => {
+                self.skip();
+                Ok(self.if_then_else(alloc, context)?)
+            }
+            _ => Err(ParseFault::Syntax(self.place())),
+        }
+    }
+
+    /// What follows a backslash.
+    #[cycle(exprs)]
+    #[tactic(auto, using(crate::proofs::ExpressionLoops::apat_shorter, crate::proofs::ExpressionLoops::apats_shorter, crate::proofs::ExpressionLoops::expect_shorter), unfolding(hm_grammar::specs::Reading::Expressions::lambda_with))]
+    fn lambda(&mut self, alloc: Global, context: Context) -> Result<Expr, ParseFault>
+        ensures { Gives (λ e. (e, self.new)) result (lambda_with all_expressions self.old) }
+    {
+        let first = self.apat(alloc)?;
+        let mut params = self.apats(alloc)?;
+        params.insert(0, first)?;
+        self.expect(Symbol::Arrow)?;
+        let body = self.exp(alloc, context)?;
+        Ok(Expr {
+            kind: ExprKind::Lambda(params, Box::new(alloc, body)?),
+        })
+    }
+
+    /// What follows `let`.
+    #[cycle(exprs)]
+    #[tactic(auto, using(crate::proofs::ExpressionLoops::decls_shorter, crate::proofs::ExpressionLoops::expect_shorter), unfolding(hm_grammar::specs::Reading::Expressions::let_with))]
+    fn let_in(&mut self, alloc: Global, context: Context) -> Result<Expr, ParseFault>
+        ensures { Gives (λ e. (e, self.new)) result (let_with all_expressions self.old) }
+    {
+        let local = self.decls(alloc)?;
+        self.expect(Symbol::In)?;
+        let body = self.exp(alloc, context)?;
+        Ok(Expr {
+            kind: ExprKind::Let(local, Box::new(alloc, body)?),
+        })
+    }
+
+    /// What follows `if`.
+    #[cycle(exprs)]
+    #[tactic(auto, using(crate::proofs::ExpressionLoops::exp_shorter, crate::proofs::ExpressionLoops::expect_shorter), unfolding(hm_grammar::specs::Reading::Expressions::if_with))]
+    fn if_then_else(&mut self, alloc: Global, context: Context) -> Result<Expr, ParseFault>
+        ensures { Gives (λ e. (e, self.new)) result (if_with all_expressions self.old) }
+    {
+        let test = self.exp(alloc, Context::Elsewhere)?;
+        let test = Box::new(alloc, test)?;
+        self.expect(Symbol::Then)?;
+        let consequence = self.exp(alloc, Context::Elsewhere)?;
+        let consequence = Box::new(alloc, consequence)?;
+        self.expect(Symbol::Else)?;
+        let alternative = self.exp(alloc, context)?;
+        let alternative = Box::new(alloc, alternative)?;
+        Ok(Expr {
+            kind: ExprKind::If(test, consequence, alternative),
+        })
+    }
+
+    /// An application, or a `case`.
+    #[cycle(exprs)]
+    #[tactic(auto, using(crate::proofs::ExpressionLoops::aexp_shorter, crate::proofs::ExpressionLoops::case_shorter, crate::proofs::ExpressionLoops::args_go_on, crate::proofs::ExpressionLoops::args_end, crate::proofs::ExpressionLoops::args_fail), unfolding(hm_grammar::specs::Reading::Expressions::opd_with))]
+    #[inline(never)]
+    fn operand(&mut self, alloc: Global) -> Result<Expr, ParseFault>
+        ensures { Gives (λ e. (e, self.new)) result (opd_with all_expressions self.old) }
+    {
+        if self.at(Symbol::Case) {
+            self.skip();
+            return Ok(self.case_of(alloc)?);
+        }
+        let mut head = self.aexp(alloc)?;
+        'apply: while self.symbol().begins_aexp() {
+            let arg = self.aexp(alloc)?;
+            head = apply(alloc, head, arg)?;
+        }
+        Ok(head)
+    }
+
+    /// What follows `case`.
+    #[cycle(exprs)]
+    #[tactic(auto, using(crate::proofs::ExpressionLoops::exp_shorter, crate::proofs::ExpressionLoops::expect_shorter), unfolding(hm_grammar::specs::Reading::Expressions::case_with))]
+    fn case_of(&mut self, alloc: Global) -> Result<Expr, ParseFault>
+        ensures { Gives (λ e. (e, self.new)) result (case_with all_expressions self.old) }
+    {
+        let subject = self.exp(alloc, Context::Elsewhere)?;
+        let subject = Box::new(alloc, subject)?;
+        self.expect(Symbol::Of)?;
+        self.expect(Symbol::LeftBrace)?;
+        let alts = self.alts(alloc)?;
+        Ok(Expr {
+            kind: ExprKind::Case(subject, alts),
+        })
+    }
+
+    /// The alternatives of a `case`, at least one, through the brace that ends them.
+    #[cycle(exprs)]
+    #[tactic(auto, using(crate::proofs::ExpressionLoops::past_shorter, crate::proofs::ExpressionLoops::alts_go_on, crate::proofs::ExpressionLoops::alts_end, crate::proofs::ExpressionLoops::alts_fail, crate::proofs::ExpressionLoops::alts_start, crate::proofs::ExpressionLoops::next_alts_shorter), unfolding(hm_grammar::specs::Reading::Expressions::alts_with))]
+    fn alts(&mut self, alloc: Global) -> Result<Vec<Alt>, ParseFault>
+        ensures { Gives (λ v. (v.items, self.new)) result (alts_with all_expressions self.old) }
+    {
+        self.past_semicolons();
+        let is_empty = self.at(Symbol::RightBrace);
+        if is_empty {
+            return Err(ParseFault::Syntax(self.place()));
+        }
+        let mut found = Vec::new(alloc);
+        'alts: while let Some(alt) = self.next_alt(alloc)? {
+            found.push(alt)?;
+        }
+        Ok(found)
+    }
+
+    /// One more alternative, or none at the brace that ends them.
+    #[cycle(exprs)]
+    #[tactic(auto, using(crate::proofs::ExpressionLoops::past_shorter, crate::proofs::ExpressionLoops::pattern_shorter), unfolding(hm_grammar::specs::Reading::Expressions::next_item_of, hm_grammar::specs::Reading::Expressions::alt_with))]
+    fn next_alt(&mut self, alloc: Global) -> Result<Option<Alt>, ParseFault>
+        ensures { Gives (λ a. (a, self.new)) result (next_item_of (alt_with all_expressions) self.old) }
+    {
+        self.past_semicolons();
+        if self.at(Symbol::RightBrace) {
+            self.skip();
+            return Ok(None);
+        }
+        let pat = self.pat(alloc)?;
+        let rhs = self.rhs(alloc, Symbol::Arrow)?;
+        self.item_end(Symbol::Semicolon, Symbol::RightBrace)?;
+        Ok(Some(Alt { pat, rhs }))
+    }
+
+    /// A right side, behind this mark or behind guards and this mark, with its local declarations.
+    #[cycle(exprs)]
+    #[tactic(auto, using(crate::proofs::ExpressionLoops::bodies_shorter, crate::proofs::ExpressionLoops::where_shorter), unfolding(hm_grammar::specs::Reading::Expressions::rhs_with, hm_grammar::specs::Reading::Expressions::where_with))]
+    fn rhs(&mut self, alloc: Global, mark: Symbol) -> Result<Rhs, ParseFault>
+        requires { is_at mark [] ≡ false }
+        ensures { Gives (λ b. (b, self.new)) result (rhs_with all_expressions mark self.old) }
+    {
+        let parts = self.bodies(alloc, mark)?;
+        let local = if self.at(Symbol::Where) {
+            self.skip();
+            self.decls(alloc)?
+        } else {
+            Vec::new(alloc)
+        };
+        Ok(Rhs { parts, local })
+    }
+
+    /// The expressions of a right side, each behind its guard, if it has one.
+    #[cycle(exprs)]
+    #[tactic(auto, using(crate::proofs::ExpressionLoops::symbol_shorter, crate::proofs::ExpressionLoops::bar_shorter, crate::proofs::ExpressionLoops::guards_go_on, crate::proofs::ExpressionLoops::guards_end, crate::proofs::ExpressionLoops::guards_fail, crate::proofs::ExpressionLoops::next_guarded_shorter), unfolding(hm_grammar::specs::Reading::Expressions::bodies_with))]
+    fn bodies(
+        &mut self,
+        alloc: Global,
+        mark: Symbol,
+    ) -> Result<Vec<(Option<Expr>, Expr)>, ParseFault>
+        requires { is_at mark [] ≡ false }
+        ensures { Gives (λ v. (v.items, self.new)) result (bodies_with all_expressions mark self.old) }
+    {
+        if self.at(mark) {
+            self.skip();
+            let body = self.exp(alloc, Context::Elsewhere)?;
+            let mut only = Vec::with_capacity(alloc, 1)?;
+            only.push((None, body))?;
+            return Ok(only);
+        }
+        if !self.at(Symbol::Bar) {
+            return Err(ParseFault::Syntax(self.place()));
+        }
+        self.skip();
+        let mut found = Vec::new(alloc);
+        found.push(self.guarded(alloc, mark)?)?;
+        'guards: while let Some(next) = self.next_guarded(alloc, mark)? {
+            found.push(next)?;
+        }
+        Ok(found)
+    }
+
+    /// What follows a bar: a guard, the mark and an expression.
+    #[cycle(exprs)]
+    #[tactic(auto, using(crate::proofs::ExpressionLoops::chain_shorter, crate::proofs::ExpressionLoops::expect_shorter), unfolding(hm_grammar::specs::Reading::Expressions::guarded_in))]
+    fn guarded(&mut self, alloc: Global, mark: Symbol) -> Result<(Option<Expr>, Expr), ParseFault>
+        ensures { Gives (λ x. (x, self.new)) result (guarded_in all_expressions mark self.old) }
+    {
+        let (guard, _) = self.chain(alloc, Context::of_guard(mark))?;
+        self.expect(mark)?;
+        let body = self.exp(alloc, Context::Elsewhere)?;
+        Ok((Some(guard), body))
+    }
+
+    #[cycle(exprs)]
+    #[tactic(auto, using(crate::proofs::ExpressionLoops::bar_shorter), unfolding(hm_grammar::specs::Reading::Expressions::next_guarded))]
+    fn next_guarded(
+        &mut self,
+        alloc: Global,
+        mark: Symbol,
+    ) -> Result<Option<(Option<Expr>, Expr)>, ParseFault>
+        ensures { Gives (λ x. (x, self.new)) result (next_guarded all_expressions mark self.old) }
+    {
+        if self.at(Symbol::Bar) {
+            self.skip();
+            Ok(Some(self.guarded(alloc, mark)?))
+        } else {
+            Ok(None)
+        }
+    }
+
+    /// An expression that needs no parentheses.
+    #[cycle(exprs)]
+    #[tactic(auto, using(crate::proofs::Loops::open_shorter, crate::proofs::TypeLoops::square_shorter, crate::proofs::ExpressionLoops::exp_shorter), unfolding(hm_grammar::specs::Reading::Expressions::aexp_step))]
+    pub(crate) fn aexp(&mut self, alloc: Global) -> Result<Expr, ParseFault>
+        ensures { Gives (λ e. (e, self.new)) result (aexp_step all_expressions self.old) }
+    {
+        if self.begins_gcon() {
+            let name = self.gcon(alloc)?;
+            return Ok(Expr {
+                kind: ExprKind::Con(name),
+            });
+        }
+        match self.symbol() {
+            Symbol::Var | Symbol::QVar => {
+                let name = self.name(alloc)?;
+                Ok(Expr {
+                    kind: ExprKind::Var(name),
+                })
+            }
+            Symbol::Integer | Symbol::Character | Symbol::Text => {
+                let literal = self.literal(alloc)?;
+                Ok(Expr {
+                    kind: ExprKind::Literal(literal),
+                })
+            }
+            Symbol::Open => {
+                self.skip();
+                let first = self.exp(alloc, Context::Elsewhere)?;
+                Ok(self.exp_closing(alloc, first)?)
+            }
+            Symbol::OpenSquare => {
+                self.skip();
+                Ok(self.exp_list(alloc)?)
+            }
+            _ => Err(ParseFault::Syntax(self.place())),
+        }
+    }
+
+    /// What follows `(` and an expression. A comma behind the last component that is allowed is a fault.
+    #[cycle(exprs)]
+    #[tactic(auto, using(crate::proofs::TypeLoops::comma_shorter, crate::proofs::ExpressionLoops::exp_shorter, crate::proofs::ExpressionLoops::components_go_on, crate::proofs::ExpressionLoops::components_end, crate::proofs::ExpressionLoops::components_open, crate::proofs::ExpressionLoops::components_fail, crate::proofs::ExpressionLoops::components_many), unfolding(hm_grammar::specs::Reading::Basics::closing))]
+    fn exp_closing(&mut self, alloc: Global, first: Expr) -> Result<Expr, ParseFault>
+        ensures { Gives (λ e. (e, self.new)) result (closing (exp_with all_expressions) tuple_of_expressions first self.old) }
+    {
+        if !self.at(Symbol::Comma) {
+            self.expect(Symbol::Close)?;
+            return Ok(first);
+        }
+        let mut found = Vec::new(alloc);
+        found.push(first)?;
+        'components: while self.at(Symbol::Comma) {
+            if found.len() == MAX_COMPONENTS {
+                return Err(ParseFault::Syntax(self.place()));
+            }
+            self.skip();
+            found.push(self.exp(alloc, Context::Elsewhere)?)?;
+        }
+        self.expect(Symbol::Close)?;
+        Ok(Expr {
+            kind: ExprKind::Tuple(found),
+        })
+    }
+
+    /// What follows `[`.
+    #[cycle(exprs)]
+    #[tactic(auto, using(crate::proofs::TypeLoops::comma_shorter, crate::proofs::ExpressionLoops::exp_shorter, crate::proofs::ExpressionLoops::components_go_on, crate::proofs::ExpressionLoops::elements_none, crate::proofs::ExpressionLoops::elements_open, crate::proofs::ExpressionLoops::elements_fail))]
+    fn exp_list(&mut self, alloc: Global) -> Result<Expr, ParseFault>
+        ensures { Gives (λ e. (e, self.new)) result (list_in (exp_with all_expressions) list_of_expressions self.old) }
+    {
+        let first = self.exp(alloc, Context::Elsewhere)?;
+        let mut found = Vec::new(alloc);
+        found.push(first)?;
+        'elements: while self.at(Symbol::Comma) {
+            self.skip();
+            found.push(self.exp(alloc, Context::Elsewhere)?)?;
+        }
+        self.expect(Symbol::CloseSquare)?;
+        Ok(Expr {
+            kind: ExprKind::List(found),
+        })
+    }
+
+    /// Declarations between braces.
+    #[cycle(exprs)]
+    #[tactic(auto, using(crate::proofs::ExpressionLoops::decls_is, crate::proofs::ExpressionLoops::expect_shorter, crate::proofs::ExpressionLoops::decls_go_on, crate::proofs::ExpressionLoops::decls_end, crate::proofs::ExpressionLoops::decls_fail, crate::proofs::ExpressionLoops::decls_start, crate::proofs::ExpressionLoops::next_decls_shorter), unfolding(hm_grammar::specs::Reading::Expressions::decls_step))]
+    fn decls(&mut self, alloc: Global) -> Result<Vec<Decl>, ParseFault>
+        ensures { Gives (λ v. (v.items, self.new)) result (all_expressions.decls self.old) }
+    {
+        self.expect(Symbol::LeftBrace)?;
+        let mut found = Vec::new(alloc);
+        'decls: while let Some(decl) = self.next_decl(alloc)? {
+            found.push(decl)?;
+        }
+        Ok(found)
+    }
+
+    /// One more declaration, or none at the brace that ends them.
+    #[cycle(exprs)]
+    #[tactic(auto, using(crate::proofs::ExpressionLoops::past_shorter), unfolding(hm_grammar::specs::Reading::Expressions::next_item_of))]
+    fn next_decl(&mut self, alloc: Global) -> Result<Option<Decl>, ParseFault>
+        ensures { Gives (λ d. (d, self.new)) result (next_item_of (decl_with all_expressions) self.old) }
+    {
+        self.past_semicolons();
+        if self.at(Symbol::RightBrace) {
+            self.skip();
+            return Ok(None);
+        }
+        let decl = self.decl(alloc)?;
+        self.item_end(Symbol::Semicolon, Symbol::RightBrace)?;
+        Ok(Some(decl))
+    }
+
+    /// A signature, a clause or a pattern binding.
+    #[cycle(exprs)]
+    #[tactic(auto, using(crate::proofs::ExpressionLoops::variable_shorter, crate::proofs::ExpressionLoops::apats_shorter), unfolding(hm_grammar::specs::Reading::Expressions::decl_with, hm_grammar::specs::Reading::Expressions::named_with, hm_grammar::specs::Reading::Expressions::clause_with))]
+    pub(crate) fn decl(&mut self, alloc: Global) -> Result<Decl, ParseFault>
+        ensures { Gives (λ d. (d, self.new)) result (decl_with all_expressions self.old) }
+    {
+        if self.begins_binding() {
+            return Ok(self.binding(alloc)?);
+        }
+        let name = self.var(alloc)?;
+        if self.symbol().begins_signature() {
+            return Ok(self.signature(alloc, name)?);
+        }
+        let pats = self.apats(alloc)?;
+        let rhs = self.rhs(alloc, Symbol::Equals)?;
+        Ok(Decl {
+            kind: DeclKind::Clause { name, pats, rhs },
+        })
+    }
+
+    /// Whether a declaration that stands here is a pattern binding, by its first two tokens.
+    #[tactic(auto, unfolding(hm_grammar::specs::Reading::Expressions::begins_binding))]
+    fn begins_binding(&self) -> bool
+        ensures { result ≡ begins_binding self.now }
+    {
+        let second = self.second();
+        match self.symbol() {
+            Symbol::Var => second.continues_pattern(),
+            _ => true,
+        }
+    }
+
+    /// A pattern binding. One of a lone variable is a clause.
+    #[cycle(exprs)]
+    #[tactic(auto, using(crate::proofs::ExpressionLoops::pattern_shorter, crate::proofs::ExpressionLoops::binding_is), unfolding(hm_grammar::specs::Reading::Expressions::binding_with))]
+    #[inline(never)]
+    fn binding(&mut self, alloc: Global) -> Result<Decl, ParseFault>
+        ensures { Gives (λ d. (d, self.new)) result (binding_with all_expressions self.old) }
+    {
+        let place = self.place();
+        let pat = self.pat(alloc)?;
+        let rhs = self.rhs(alloc, Symbol::Equals)?;
+        Ok(binding_of(alloc, place, pat, rhs))
+    }
+
+    /// The name of a variable.
+    #[tactic(auto, unfolding(hm_grammar::specs::Reading::Expressions::var_at))]
+    fn var(&mut self, alloc: Global) -> Result<Name, ParseFault>
+        ensures { Gives (λ n. (n, self.new)) result (var_at self.old) }
+    {
+        if self.at(Symbol::Var) {
+            Ok(self.name(alloc)?)
+        } else {
+            Err(ParseFault::Syntax(self.place()))
+        }
+    }
+
+    /// A comma and a variable.
+    #[tactic(auto, unfolding(hm_grammar::specs::Reading::Basics::next_of))]
+    fn next_var(&mut self, alloc: Global) -> Result<Option<Name>, ParseFault>
+        ensures { Gives (λ n. (n, self.new)) result (next_of var_at self.old) }
+    {
+        if self.at(Symbol::Comma) {
+            self.skip();
+            Ok(Some(self.var(alloc)?))
+        } else {
+            Ok(None)
+        }
+    }
+
+    /// A variable that was read, and those behind it.
+    #[tactic(auto, using(crate::proofs::ExpressionLoops::vars_go_on, crate::proofs::ExpressionLoops::vars_end, crate::proofs::ExpressionLoops::vars_fail, crate::proofs::ExpressionLoops::next_vars_shorter))]
+    fn vars(&mut self, alloc: Global, first: Name) -> Result<Vec<Name>, ParseFault>
+        ensures { Gives (λ v. (v.items, self.new)) result (behind (first ∷ []) (loop (next_of var_at) self.old)) }
+    {
+        let mut found = Vec::new(alloc);
+        found.push(first)?;
+        'vars: while let Some(var) = self.next_var(alloc)? {
+            found.push(var)?;
+        }
+        Ok(found)
+    }
+
+    /// What follows the first variable of a signature.
+    #[tactic(auto, unfolding(hm_grammar::specs::Reading::Expressions::signature_with))]
+    fn signature(&mut self, alloc: Global, first: Name) -> Result<Decl, ParseFault>
+        ensures { Gives (λ d. (d, self.new)) result (signature_with all_expressions first self.old) }
+    {
+        let names = self.vars(alloc, first)?;
+        self.expect(Symbol::OfType)?;
+        let ty = self.type_expr(alloc)?;
+        Ok(Decl {
+            kind: DeclKind::Signature { names, ty },
+        })
+    }
+}
+
+/// A pattern binding whose first token has this place; of a lone variable, its clause.
+fn binding_of(alloc: Global, place: Place, pat: Pat, rhs: Rhs) -> Decl
+    ensures { result ≡ binding_of place.line place.column pat rhs }
+{
+    let kind = match pat.kind {
+        PatKind::Var(name) => DeclKind::Clause {
+            name,
+            pats: Vec::new(alloc),
+            rhs,
+        },
+        kind => DeclKind::Pattern {
+            place,
+            pat: Pat { kind },
+            rhs,
+        },
+    };
+    Decl { kind }
+}
+
+/// The operands, each with the colon behind it, before the last: colons group to the right.
+#[tactic(auto, using(crate::proofs::ColonLoops::consed_on))]
+#[inline(never)]
+fn cons_all(alloc: Global, operands: Vec<(Expr, Name)>, last: Expr) -> Result<Expr, AllocError>
+    ensures { IfOk result (λ e. e ≡ consed operands.items last) }
+{
+    let mut operands = operands;
+    let mut whole = last;
+    'operands: while let Some((operand, colon)) = operands.pop() {
+        whole = cons(alloc, operand, colon, whole)?;
+    }
+    Ok(whole)
+}
+
+/// An operand, a colon and what stands behind it.
+fn cons(alloc: Global, operand: Expr, colon: Name, rest: Expr) -> Result<Expr, AllocError>
+    ensures { IfOk result (λ e. e ≡ cons_expression colon operand rest) }
+{
+    let colon = Expr {
+        kind: ExprKind::Con(colon),
+    };
+    let half = apply(alloc, colon, operand)?;
+    apply(alloc, half, rest)
+}
+
+/// A function applied to an argument.
+fn apply(alloc: Global, function: Expr, argument: Expr) -> Result<Expr, AllocError>
+    ensures { IfOk result (λ e. e ≡ application function argument) }
+{
+    let function = Box::new(alloc, function)?;
+    let argument = Box::new(alloc, argument)?;
+    Ok(Expr {
+        kind: ExprKind::Apply(function, argument),
+    })
+}

@@ -1,0 +1,258 @@
+//! What stands before a module's declarations: its export list and its imports (Haskell 98 Report, sections 5.2 and 5.3).
+ghost use Rattle.std.specs.Prelude.{◌≡◌, codes, option_map};
+ghost use Rattle.hm_grammar.specs.Reading.Basics.{tail, is_at_word, loop};
+ghost use Rattle.hm_grammar.specs.Reading.Headers.{con_at, next_con, con_row, subs_in, subs_at, export_at, item_at, next_export, next_item, exports_in, items_in, exports_at, qualified_at, alias_at, list_at, import_in, import_at, import_from, next_import};
+ghost use Rattle.hm_grammar.specs.Reading.Answers.{Gives};
+
+use crate::cursor::Parser;
+use hm_grammar::{ParseFault, Symbol};
+use hm_syntax::{Export, Import, Item, List, Name, Row, Subs};
+use std::alloc::Global;
+
+impl Parser<'_> {
+    #[tactic(auto, unfolding(hm_grammar::specs::Reading::Headers::con_at))]
+    pub(crate) fn con(&mut self, alloc: Global) -> Result<Name, ParseFault>
+        ensures { Gives (λ n. (n, self.new)) result (con_at self.old) }
+    {
+        if self.at(Symbol::Con) {
+            self.name(alloc)
+        } else {
+            Err(ParseFault::Syntax(self.place()))
+        }
+    }
+
+    /// A comma and a constructor.
+    #[tactic(auto, unfolding(hm_grammar::specs::Reading::Headers::next_con))]
+    pub(crate) fn next_con(&mut self, alloc: Global) -> Result<Option<Name>, ParseFault>
+        ensures { Gives (λ n. (n, self.new)) result (next_con self.old) }
+    {
+        if self.at(Symbol::Comma) {
+            self.skip();
+            Ok(Some(self.con(alloc)?))
+        } else {
+            Ok(None)
+        }
+    }
+
+    /// Constructors with commas between, at least one.
+    #[tactic(auto, using(crate::proofs::Loops::cons_go_on, crate::proofs::Loops::cons_end, crate::proofs::Loops::cons_fail, crate::proofs::Loops::cons_shorter), unfolding(hm_grammar::specs::Reading::Headers::con_row))]
+    pub(crate) fn con_row(&mut self, alloc: Global) -> Result<Row<Name>, ParseFault>
+        ensures { Gives (λ s. (s, self.new)) result (con_row self.old) }
+    {
+        let mut items = Vec::new(alloc);
+        items.push(self.con(alloc)?)?;
+        'cons: while let Some(con) = self.next_con(alloc)? {
+            items.push(con)?;
+        }
+        Ok(Row { items })
+    }
+
+    /// What follows `(` behind a type.
+    #[tactic(auto, unfolding(hm_grammar::specs::Reading::Headers::subs_in))]
+    pub(crate) fn subs_in(&mut self, alloc: Global) -> Result<Subs, ParseFault>
+        ensures { Gives (λ s. (s, self.new)) result (subs_in self.old) }
+    {
+        if self.at(Symbol::Dots) {
+            self.skip();
+            self.expect(Symbol::Close)?;
+            return Ok(Subs::All);
+        }
+        if self.at(Symbol::Close) {
+            self.skip();
+            let items = Vec::new(alloc);
+            return Ok(Subs::Some(Row { items }));
+        }
+        let cons = self.con_row(alloc)?;
+        self.expect(Symbol::Close)?;
+        Ok(Subs::Some(cons))
+    }
+
+    #[tactic(auto, unfolding(hm_grammar::specs::Reading::Headers::subs_at))]
+    pub(crate) fn subs(&mut self, alloc: Global) -> Result<Subs, ParseFault>
+        ensures { Gives (λ s. (s, self.new)) result (subs_at self.old) }
+    {
+        if self.at(Symbol::Open) {
+            self.skip();
+            self.subs_in(alloc)
+        } else {
+            Ok(Subs::None)
+        }
+    }
+
+    #[tactic(auto, unfolding(hm_grammar::specs::Reading::Headers::export_at))]
+    pub(crate) fn export(&mut self, alloc: Global) -> Result<Export, ParseFault>
+        ensures { Gives (λ e. (e, self.new)) result (export_at self.old) }
+    {
+        match self.symbol() {
+            Symbol::Var | Symbol::QVar => Ok(Export::Var(self.name(alloc)?)),
+            Symbol::Con | Symbol::QCon => {
+                let name = self.name(alloc)?;
+                Ok(Export::Con(name, self.subs(alloc)?))
+            }
+            Symbol::Module => {
+                self.skip();
+                Ok(Export::Whole(self.modid(alloc)?))
+            }
+            _ => Err(ParseFault::Syntax(self.place())),
+        }
+    }
+
+    #[tactic(auto, unfolding(hm_grammar::specs::Reading::Headers::item_at))]
+    pub(crate) fn item(&mut self, alloc: Global) -> Result<Item, ParseFault>
+        ensures { Gives (λ e. (e, self.new)) result (item_at self.old) }
+    {
+        match self.symbol() {
+            Symbol::Var => Ok(Item::Var(self.name(alloc)?)),
+            Symbol::Con => {
+                let name = self.name(alloc)?;
+                Ok(Item::Con(name, self.subs(alloc)?))
+            }
+            _ => Err(ParseFault::Syntax(self.place())),
+        }
+    }
+
+    /// One more export with the comma behind it, or the end of the list.
+    #[tactic(auto, unfolding(hm_grammar::specs::Reading::Headers::next_export))]
+    pub(crate) fn next_export(&mut self, alloc: Global) -> Result<Option<Export>, ParseFault>
+        ensures { Gives (λ e. (e, self.new)) result (next_export self.old) }
+    {
+        if self.at(Symbol::Close) {
+            self.skip();
+            return Ok(None);
+        }
+        let export = self.export(alloc)?;
+        self.item_end(Symbol::Comma, Symbol::Close)?;
+        Ok(Some(export))
+    }
+
+    /// One more item with the comma behind it, or the end of the list.
+    #[tactic(auto, unfolding(hm_grammar::specs::Reading::Headers::next_item))]
+    pub(crate) fn next_item(&mut self, alloc: Global) -> Result<Option<Item>, ParseFault>
+        ensures { Gives (λ e. (e, self.new)) result (next_item self.old) }
+    {
+        if self.at(Symbol::Close) {
+            self.skip();
+            return Ok(None);
+        }
+        let item = self.item(alloc)?;
+        self.item_end(Symbol::Comma, Symbol::Close)?;
+        Ok(Some(item))
+    }
+
+    /// What follows `(` of an export list.
+    #[tactic(auto, using(crate::proofs::Loops::exports_go_on, crate::proofs::Loops::exports_end, crate::proofs::Loops::exports_fail, crate::proofs::Loops::exports_start, crate::proofs::Loops::exports_shorter), unfolding(hm_grammar::specs::Reading::Headers::exports_in))]
+    pub(crate) fn exports_in(&mut self, alloc: Global) -> Result<Row<Export>, ParseFault>
+        ensures { Gives (λ e. (e, self.new)) result (exports_in self.old) }
+    {
+        let mut items = Vec::new(alloc);
+        if self.at(Symbol::Comma) {
+            self.skip();
+            self.expect(Symbol::Close)?;
+            return Ok(Row { items });
+        }
+        'exports: while let Some(export) = self.next_export(alloc)? {
+            items.push(export)?;
+        }
+        Ok(Row { items })
+    }
+
+    /// What follows `(` of an import list.
+    #[tactic(auto, using(crate::proofs::Loops::items_go_on, crate::proofs::Loops::items_end, crate::proofs::Loops::items_fail, crate::proofs::Loops::items_start, crate::proofs::Loops::items_shorter), unfolding(hm_grammar::specs::Reading::Headers::items_in))]
+    pub(crate) fn items_in(&mut self, alloc: Global) -> Result<Row<Item>, ParseFault>
+        ensures { Gives (λ e. (e, self.new)) result (items_in self.old) }
+    {
+        let mut items = Vec::new(alloc);
+        if self.at(Symbol::Comma) {
+            self.skip();
+            self.expect(Symbol::Close)?;
+            return Ok(Row { items });
+        }
+        'items: while let Some(item) = self.next_item(alloc)? {
+            items.push(item)?;
+        }
+        Ok(Row { items })
+    }
+
+    #[tactic(auto, unfolding(hm_grammar::specs::Reading::Headers::exports_at))]
+    pub fn exports(&mut self, alloc: Global) -> Result<Option<Row<Export>>, ParseFault>
+        ensures { Gives (λ e. (e, self.new)) result (exports_at self.old) }
+    {
+        if self.at(Symbol::Open) {
+            self.skip();
+            Ok(Some(self.exports_in(alloc)?))
+        } else {
+            Ok(None)
+        }
+    }
+
+    /// Whether the import is qualified; goes past that word.
+    pub(crate) fn qualified(&mut self) -> bool
+        ensures { (result, self.new) ≡ qualified_at self.old }
+    {
+        let qualified = self.is_at_word(b"qualified");
+        if qualified {
+            self.skip();
+        }
+        qualified
+    }
+
+    #[tactic(auto, unfolding(hm_grammar::specs::Reading::Headers::alias_at))]
+    pub(crate) fn alias(&mut self, alloc: Global) -> Result<Option<Name>, ParseFault>
+        ensures { Gives (λ e. (e, self.new)) result (alias_at self.old) }
+    {
+        if self.is_at_word(b"as") {
+            self.skip();
+            Ok(Some(self.modid(alloc)?))
+        } else {
+            Ok(None)
+        }
+    }
+
+    #[tactic(auto, unfolding(hm_grammar::specs::Reading::Headers::list_at))]
+    pub(crate) fn list(&mut self, alloc: Global) -> Result<List, ParseFault>
+        ensures { Gives (λ e. (e, self.new)) result (list_at self.old) }
+    {
+        if self.is_at_word(b"hiding") {
+            self.skip();
+            self.expect(Symbol::Open)?;
+            Ok(List::Hiding(self.items_in(alloc)?))
+        } else if self.at(Symbol::Open) {
+            self.skip();
+            Ok(List::Only(self.items_in(alloc)?))
+        } else {
+            Ok(List::Every)
+        }
+    }
+
+    /// What follows `import`.
+    #[tactic(auto, unfolding(hm_grammar::specs::Reading::Headers::import_at, hm_grammar::specs::Reading::Headers::import_in))]
+    pub(crate) fn import(&mut self, alloc: Global) -> Result<Import, ParseFault>
+        ensures { Gives (λ e. (e, self.new)) result (import_at self.old) }
+    {
+        let qualified = self.qualified();
+        let name = self.modid(alloc)?;
+        let alias = self.alias(alloc)?;
+        let list = self.list(alloc)?;
+        Ok(Import {
+            qualified,
+            name,
+            alias,
+            list,
+        })
+    }
+
+    /// One more import, or none where something else stands next.
+    #[tactic(auto, unfolding(hm_grammar::specs::Reading::Headers::next_import, hm_grammar::specs::Reading::Headers::import_from))]
+    pub fn next_import(&mut self, alloc: Global) -> Result<Option<Import>, ParseFault>
+        ensures { Gives (λ e. (e, self.new)) result (next_import self.old) }
+    {
+        self.past_semicolons();
+        if !self.at(Symbol::Import) {
+            return Ok(None);
+        }
+        self.skip();
+        let import = self.import(alloc)?;
+        self.item_end(Symbol::Semicolon, Symbol::RightBrace)?;
+        Ok(Some(import))
+    }
+}

@@ -1,0 +1,127 @@
+//! Declarations of types (Haskell 98 Report, section 4.2).
+ghost use Rattle.std.specs.Prelude.{◌≡◌, length, [], ◌∷◌};
+ghost use Rattle.hm_grammar.specs.Reading.Basics.{tail, loop, behind};
+ghost use Rattle.hm_grammar.specs.Reading.TypeDeclarations.{next_tyvar, constr_at, next_constr, constrs_at, data_in, newtype_in, synonym_in};
+ghost use Rattle.hm_grammar.specs.Reading.Answers.{Gives};
+
+use crate::cursor::Parser;
+use hm_grammar::{ParseFault, Symbol};
+use hm_syntax::{Constr, Decl, DeclKind, Name};
+use std::alloc::Global;
+
+impl Parser<'_> {
+    #[tactic(auto, unfolding(hm_grammar::specs::Reading::TypeDeclarations::next_tyvar))]
+    fn next_tyvar(&mut self, alloc: Global) -> Result<Option<Name>, ParseFault>
+        ensures { Gives (λ n. (n, self.new)) result (next_tyvar self.old) }
+    {
+        if self.at(Symbol::Var) {
+            Ok(Some(self.name(alloc)?))
+        } else {
+            Ok(None)
+        }
+    }
+
+    /// The parameters of a type.
+    #[tactic(auto, using(crate::proofs::TypeDeclarationLoops::tyvars_go_on, crate::proofs::TypeDeclarationLoops::tyvars_end, crate::proofs::TypeDeclarationLoops::tyvars_fail, crate::proofs::TypeDeclarationLoops::tyvars_start, crate::proofs::TypeDeclarationLoops::tyvars_shorter))]
+    fn tyvars(&mut self, alloc: Global) -> Result<Vec<Name>, ParseFault>
+        ensures { Gives (λ v. (v.items, self.new)) result (loop next_tyvar self.old) }
+    {
+        let mut found = Vec::new(alloc);
+        'tyvars: while let Some(tyvar) = self.next_tyvar(alloc)? {
+            found.push(tyvar)?;
+        }
+        Ok(found)
+    }
+
+    /// A constructor with the types of its arguments.
+    #[tactic(auto, unfolding(hm_grammar::specs::Reading::TypeDeclarations::constr_at))]
+    fn constr(&mut self, alloc: Global) -> Result<Constr, ParseFault>
+        ensures { Gives (λ c. (c, self.new)) result (constr_at self.old) }
+    {
+        let name = self.con(alloc)?;
+        let args = self.atypes(alloc)?;
+        Ok(Constr { name, args })
+    }
+
+    #[tactic(auto, unfolding(hm_grammar::specs::Reading::TypeDeclarations::next_constr))]
+    fn next_constr(&mut self, alloc: Global) -> Result<Option<Constr>, ParseFault>
+        ensures { Gives (λ c. (c, self.new)) result (next_constr self.old) }
+    {
+        if self.at(Symbol::Bar) {
+            self.skip();
+            Ok(Some(self.constr(alloc)?))
+        } else {
+            Ok(None)
+        }
+    }
+
+    /// Constructors with bars between, at least one.
+    #[tactic(auto, using(crate::proofs::TypeDeclarationLoops::constrs_go_on, crate::proofs::TypeDeclarationLoops::constrs_end, crate::proofs::TypeDeclarationLoops::constrs_fail, crate::proofs::TypeDeclarationLoops::constrs_shorter), unfolding(hm_grammar::specs::Reading::TypeDeclarations::constrs_at))]
+    fn constrs(&mut self, alloc: Global) -> Result<Vec<Constr>, ParseFault>
+        ensures { Gives (λ v. (v.items, self.new)) result (constrs_at self.old) }
+    {
+        let mut found = Vec::new(alloc);
+        found.push(self.constr(alloc)?)?;
+        'constrs: while let Some(constr) = self.next_constr(alloc)? {
+            found.push(constr)?;
+        }
+        Ok(found)
+    }
+
+    /// What follows `data`.
+    #[tactic(auto, unfolding(hm_grammar::specs::Reading::TypeDeclarations::data_in))]
+    pub(crate) fn data(&mut self, alloc: Global) -> Result<Decl, ParseFault>
+        ensures { Gives (λ d. (d, self.new)) result (data_in self.old) }
+    {
+        let name = self.con(alloc)?;
+        let params = self.tyvars(alloc)?;
+        self.expect(Symbol::Equals)?;
+        let constrs = self.constrs(alloc)?;
+        Ok(Decl {
+            kind: DeclKind::DataType {
+                name,
+                params,
+                constrs,
+            },
+        })
+    }
+
+    /// What follows `newtype`.
+    #[tactic(auto, unfolding(hm_grammar::specs::Reading::TypeDeclarations::newtype_in))]
+    pub(crate) fn newtype(&mut self, alloc: Global) -> Result<Decl, ParseFault>
+        ensures { Gives (λ d. (d, self.new)) result (newtype_in self.old) }
+    {
+        let name = self.con(alloc)?;
+        let params = self.tyvars(alloc)?;
+        self.expect(Symbol::Equals)?;
+        let constr_name = self.con(alloc)?;
+        let arg = self.atype(alloc)?;
+        let mut args = Vec::with_capacity(alloc, 1)?;
+        args.push(arg)?;
+        let constr = Constr {
+            name: constr_name,
+            args,
+        };
+        Ok(Decl {
+            kind: DeclKind::Newtype {
+                name,
+                params,
+                constr,
+            },
+        })
+    }
+
+    /// What follows `type`.
+    #[tactic(auto, unfolding(hm_grammar::specs::Reading::TypeDeclarations::synonym_in))]
+    pub(crate) fn synonym(&mut self, alloc: Global) -> Result<Decl, ParseFault>
+        ensures { Gives (λ d. (d, self.new)) result (synonym_in self.old) }
+    {
+        let name = self.con(alloc)?;
+        let params = self.tyvars(alloc)?;
+        self.expect(Symbol::Equals)?;
+        let ty = self.type_expr(alloc)?;
+        Ok(Decl {
+            kind: DeclKind::Synonym { name, params, ty },
+        })
+    }
+}

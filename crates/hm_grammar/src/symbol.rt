@@ -1,0 +1,225 @@
+//! What a token is to the grammar.
+ghost use Rattle.std.specs.Prelude.{◌≡◌, map};
+ghost use Rattle.hm_grammar.specs.Reading.Types.{begins_atype};
+ghost use Rattle.hm_grammar.specs.Reading.Constructors.{is_mark};
+ghost use Rattle.hm_grammar.specs.Reading.Patterns.{begins_apat};
+ghost use Rattle.hm_grammar.specs.Reading.Expressions.{begins_aexp, begins_open, begins_signature, continues_pattern};
+ghost use Rattle.hm_grammar.specs.Symbols.{same, find_symbol, symbol_of, is_qvar, is_qcon};
+
+use hm_lex::Kind;
+
+#[derive(Clone, Copy, PartialEq, Eq)]
+pub enum Symbol {
+    Case,
+    Data,
+    Else,
+    If,
+    Import,
+    In,
+    Let,
+    Module,
+    Newtype,
+    Of,
+    Then,
+    /// `type`
+    TypeWord,
+    Where,
+    Wild,
+    Dots,
+    Colon,
+    OfType,
+    Equals,
+    Backslash,
+    Bar,
+    Arrow,
+    At,
+    Tilde,
+    Open,
+    Close,
+    OpenSquare,
+    CloseSquare,
+    LeftBrace,
+    RightBrace,
+    Comma,
+    Semicolon,
+    Var,
+    Con,
+    QVar,
+    QCon,
+    Integer,
+    Character,
+    Text,
+    Other,
+    End,
+}
+
+impl Symbol {
+    pub fn is(self, other: Symbol) -> bool
+        ensures { result ≡ same self other }
+    {
+        self == other
+    }
+
+    pub fn begins_atype(self) -> bool
+        ensures { result ≡ begins_atype self }
+    {
+        match self {
+            Symbol::Var | Symbol::Con | Symbol::QCon | Symbol::Open | Symbol::OpenSquare => true,
+            _ => false,
+        }
+    }
+
+    pub fn begins_aexp(self) -> bool
+        ensures { result ≡ begins_aexp self }
+    {
+        match self {
+            Symbol::Var
+            | Symbol::QVar
+            | Symbol::Con
+            | Symbol::QCon
+            | Symbol::Integer
+            | Symbol::Character
+            | Symbol::Text
+            | Symbol::Open
+            | Symbol::OpenSquare => true,
+            _ => false,
+        }
+    }
+
+    /// Whether this begins what extends as far right as it can.
+    pub fn begins_open(self) -> bool
+        ensures { result ≡ begins_open self }
+    {
+        match self {
+            Symbol::Backslash | Symbol::Let | Symbol::If => true,
+            _ => false,
+        }
+    }
+
+    /// Whether this stands behind the first variable of a signature.
+    pub fn begins_signature(self) -> bool
+        ensures { result ≡ begins_signature self }
+    {
+        match self {
+            Symbol::Comma | Symbol::OfType => true,
+            _ => false,
+        }
+    }
+
+    /// Whether this behind a variable shows that a pattern began.
+    pub fn continues_pattern(self) -> bool
+        ensures { result ≡ continues_pattern self }
+    {
+        match self {
+            Symbol::At | Symbol::Colon => true,
+            _ => false,
+        }
+    }
+
+    pub fn begins_apat(self) -> bool
+        ensures { result ≡ begins_apat self }
+    {
+        match self {
+            Symbol::Var
+            | Symbol::Con
+            | Symbol::QCon
+            | Symbol::Integer
+            | Symbol::Character
+            | Symbol::Text
+            | Symbol::Wild
+            | Symbol::Open
+            | Symbol::OpenSquare
+            | Symbol::Tilde => true,
+            _ => false,
+        }
+    }
+
+    /// Whether this behind `(` shows a special constructor.
+    pub fn is_mark(self) -> bool
+        ensures { result ≡ is_mark self }
+    {
+        match self {
+            Symbol::Close | Symbol::Comma | Symbol::Colon => true,
+            _ => false,
+        }
+    }
+
+    pub fn is_qcon(self) -> bool
+        ensures { result ≡ is_qcon self }
+    {
+        match self {
+            Symbol::Con | Symbol::QCon => true,
+            _ => false,
+        }
+    }
+}
+
+const WORDS: [(&[u8], Symbol); 14] = [
+    (b"case", Symbol::Case),
+    (b"data", Symbol::Data),
+    (b"else", Symbol::Else),
+    (b"if", Symbol::If),
+    (b"import", Symbol::Import),
+    (b"in", Symbol::In),
+    (b"let", Symbol::Let),
+    (b"module", Symbol::Module),
+    (b"newtype", Symbol::Newtype),
+    (b"of", Symbol::Of),
+    (b"then", Symbol::Then),
+    (b"type", Symbol::TypeWord),
+    (b"where", Symbol::Where),
+    (b"_", Symbol::Wild),
+];
+
+const OPERATORS: [(&[u8], Symbol); 9] = [
+    (b"..", Symbol::Dots),
+    (b":", Symbol::Colon),
+    (b"::", Symbol::OfType),
+    (b"=", Symbol::Equals),
+    (b"\\", Symbol::Backslash),
+    (b"|", Symbol::Bar),
+    (b"->", Symbol::Arrow),
+    (b"@", Symbol::At),
+    (b"~", Symbol::Tilde),
+];
+
+const SPECIALS: [(&[u8], Symbol); 8] = [
+    (b"(", Symbol::Open),
+    (b")", Symbol::Close),
+    (b"[", Symbol::OpenSquare),
+    (b"]", Symbol::CloseSquare),
+    (b"{", Symbol::LeftBrace),
+    (b"}", Symbol::RightBrace),
+    (b",", Symbol::Comma),
+    (b";", Symbol::Semicolon),
+];
+
+/// The symbol of a text in a table.
+fn find(table: &[(&[u8], Symbol)], text: &[u8]) -> Symbol
+    ensures { result ≡ find_symbol text.now (map (λ entry. (entry.0.now, entry.1)) table.now) }
+{
+    for (word, symbol) in table {
+        if *word == text {
+            return *symbol;
+        }
+    }
+    Symbol::Other
+}
+
+/// The symbol of a token with this kind and text.
+pub fn symbol_of(kind: Kind, text: &[u8]) -> Symbol
+    ensures { result ≡ symbol_of kind text.now }
+{
+    match kind {
+        Kind::Word => find(&WORDS, text),
+        Kind::Op => find(&OPERATORS, text),
+        Kind::Special => find(&SPECIALS, text),
+        Kind::VarId => Symbol::Var,
+        Kind::ConId => Symbol::Con,
+        Kind::QVarId => Symbol::QVar,
+        Kind::QConId => Symbol::QCon,
+        Kind::Integer => Symbol::Integer,
+        Kind::Character => Symbol::Character,
+        Kind::Str => Symbol::Text,
+    }
+}
