@@ -11,11 +11,6 @@ pub mod MatchedForms
 pub mod FoundNames
 pub mod OpenedFunctions
 pub mod Entered
-pub mod Gather
-pub mod Closing
-pub mod Quantifying
-pub mod MostGeneral
-pub mod DeclaredTypes
 pub mod SpecialTypes
 pub mod Extended
 pub mod Suffixes

@@ -2,13 +2,9 @@ pub mod Problems
 pub mod Keys
 pub mod Patterns
 pub mod Environments
-pub mod Escapes
 pub mod Functions
 pub mod Constructors
 pub mod FoundSchemes
 pub mod ConstructorPlaces
 pub mod Kept
-pub mod Collected
-pub mod Generalised
-pub mod Generalisations
 pub mod Places

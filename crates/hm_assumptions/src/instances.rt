@@ -67,7 +67,7 @@ fn quantified_variable(rigid: bool, number: usize) -> Ty
 }
 
 /// Makes a type equal to an instance of a scheme.
-pub(crate) fn check_scheme(
+pub fn check_scheme(
     alloc: Global,
     solver: &mut Solver,
     quantified: usize,

@@ -7,7 +7,7 @@ use Rattle.hm_types.specs.Schemes.{is_among, place}
 use Rattle.hm_types.proofs.Substitution.{bool_cases}
 use Rattle.hm_typing.proofs.Types.{In-put}
 use Rattle.hm_unify.specs.WellFormed.{IsWellFormed, AreWellFormed}
-use Rattle.hm_assumptions.specs.Generalised.{IsClosing, closing}
+use Rattle.hm_schemes.specs.Generalised.{IsClosing, closing}
 use Rattle.hm_expressions.proofs.CanonicalSchemes.{index}
 
 -- A type whose variables are below a number

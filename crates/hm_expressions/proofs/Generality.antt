@@ -6,7 +6,7 @@ use Rattle.hm_typing.specs.Assumptions.{Assumptions, FreeIn}
 use Rattle.hm_typing.specs.Decisions.{is_free_in}
 use Rattle.hm_typing.specs.Generalisation.{quantified_unless, quantify}
 use Rattle.hm_typing.proofs.Types.{put-agree, put-put, In-put}
-use Rattle.hm_assumptions.specs.Generalisations.{IsGeneralisation, renumbered}
+use Rattle.hm_schemes.specs.Generalisations.{IsGeneralisation, renumbered}
 
 pub no_more_general : (A : Assumptions) (t : Monotype) (σ : Scheme) → IsGeneralisation A t σ → IsAtMostAsGeneral σ (quantify A t)
 no_more_general A t σ g u (us, e) =

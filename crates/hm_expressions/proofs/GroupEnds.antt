@@ -12,7 +12,7 @@ use Rattle.hm_unify.specs.Solving.{Solving}
 use Rattle.hm_unify.specs.declared.faults.UnifyFault.{UnifyFault}
 use Rattle.hm_assumptions.specs.Problems.{Refuses}
 use Rattle.hm_assumptions.specs.Environments.{Assumed, assumptions, AreAssumed}
-use Rattle.hm_assumptions.specs.Generalisations.{KeepsNone}
+use Rattle.hm_schemes.specs.Generalisations.{KeepsNone}
 use Rattle.hm_unify.specs.Levels.{is_outer}
 use Rattle.hm_expressions.specs.GroupQuestions.{AreMembers, AreGivenTypes, MembersHave, HaveTypesOfAll}
 use Rattle.hm_expressions.specs.OpenGroups.{AreUpTo, IsOpenGroup, IsClosedGroup}

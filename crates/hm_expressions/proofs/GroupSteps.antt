@@ -31,7 +31,7 @@ use Rattle.hm_assumptions.specs.Environments.{Assumed, assumptions, AreAssumed}
 use Rattle.hm_expressions.specs.Lists.{IsWritten, RefusesList}
 use Rattle.hm_expressions.specs.GroupQuestions.{type_at, MembersHave, HaveTypesOfAll}
 use Rattle.hm_expressions.specs.BoundNames.{Binds, BindsTypes, BindsSchemes, Sees, names_at, ArePlaced}
-use Rattle.hm_assumptions.specs.Generalisations.{IsSolution, KeepsEach, KeepsNone}
+use Rattle.hm_schemes.specs.Generalisations.{IsSolution, KeepsEach, KeepsNone}
 use Rattle.hm_expressions.specs.Stages.{IsStage, list_of, AreApart}
 use Rattle.hm_assumptions.proofs.Outcomes.{SolvedBy, solved_same, pass_on}
 use Rattle.hm_assumptions.proofs.FoundNames.{assumed_below}

@@ -32,7 +32,7 @@ use Rattle.hm_unify.specs.declared.faults.UnifyFault.TheVariants.{Clash, Memory}
 use Rattle.hm_assumptions.specs.Problems.{number, problem, bound, equal_facts, Refuses, given_more}
 use Rattle.hm_assumptions.specs.Environments.{Assumed, AreAssumed, assumptions}
 use Rattle.hm_expressions.specs.BoundNames.{Binds, BindsSchemes, Sees, names_at}
-use Rattle.hm_assumptions.specs.Generalisations.{IsSolution, KeepsEach}
+use Rattle.hm_schemes.specs.Generalisations.{IsSolution, KeepsEach}
 use Rattle.hm_expressions.specs.GroupQuestions.{type_at, MembersHave, HaveTypesOfAll}
 use Rattle.hm_expressions.specs.JudgedGroups.{AfterJudged, JudgesGroup}
 use Rattle.hm_expressions.specs.OpenGroups.{IsOpenGroup, IsClosedGroup}

@@ -19,7 +19,7 @@ use Rattle.hm_variables.specs.Variables.{Variable, identifier}
 use Rattle.hm_groups.proofs.Named.{IsOwnName, AllFit, names_fit, fit_variable}
 use Rattle.std.proofs.lemmas.Option.{get_or_from_slice_get}
 use Rattle.hm_assumptions.specs.Environments.{Assumed, OpenScheme, assumptions, scheme_in}
-use Rattle.hm_assumptions.specs.Generalisations.{IsGeneralisation, renumbered}
+use Rattle.hm_schemes.specs.Generalisations.{IsGeneralisation, renumbered}
 use Rattle.hm_expressions.specs.Lists.{IsWritten}
 use Rattle.hm_expressions.specs.GroupQuestions.{type_at}
 use Rattle.hm_expressions.specs.BoundNames.{SameInstances, Binds, BindsNode, BindsTypes, BindsSchemes, names_at}

@@ -21,10 +21,10 @@ use Rattle.hm_unify.specs.Levels.{number_of, value_of, IsOuter, is_outer}
 use Rattle.hm_unify.specs.Solving.{Solving}
 use Rattle.hm_unify.proofs.Outer.{has_in, in_has, outer_is_tested}
 use Rattle.hm_assumptions.specs.Problems.{number, monotype, problem, bound, given_more}
-use Rattle.hm_assumptions.specs.Generalisations.{IsSolution, Keeps}
+use Rattle.hm_schemes.specs.Generalisations.{IsSolution, Keeps}
 use Rattle.hm_assumptions.proofs.Leaves.{leaf_at, number-leaf_at, map_at}
 use Rattle.hm_assumptions.proofs.Outcomes.{SolvedBy}
-use Rattle.hm_assumptions.proofs.Quantifying.{here_at, in_monotype, of_monotype}
+use Rattle.hm_schemes.proofs.Quantifying.{here_at, in_monotype, of_monotype}
 use Rattle.hm_assumptions.proofs.States.{guess, guess_below, guess_new, guess_unifies, more_rest}
 use Rattle.hm_expressions.proofs.Steps.{variable_at}
 

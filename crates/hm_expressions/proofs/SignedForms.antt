@@ -20,9 +20,9 @@ use Rattle.hm_unify.specs.declared.faults.UnifyFault.TheVariants.{Clash, Memory}
 use Rattle.hm_names.specs.Syntax.{Known, patterns_of, right_sides_of, signature_of, where_of}
 use Rattle.hm_assumptions.specs.Problems.{number, problem, bound, Refuses, given_more}
 use Rattle.hm_assumptions.specs.Environments.{Assumed, AreAssumed, assumptions}
-use Rattle.hm_assumptions.specs.Escapes.{TellsEscape}
+use Rattle.hm_schemes.specs.Escapes.{TellsEscape}
 use Rattle.hm_expressions.specs.SignedLists.{AtDeclared, SignedClauseHas}
-use Rattle.hm_assumptions.proofs.DeclaredTypes.{declared_below}
+use Rattle.hm_schemes.proofs.DeclaredTypes.{declared_below}
 use Rattle.hm_assumptions.proofs.FoundNames.{assumed_below}
 use Rattle.hm_assumptions.proofs.Outcomes.{SolvedBy, solved_same, solved_nothing, pass_on}
 use Rattle.hm_expressions.proofs.OuterVariables.{free_is_outer, outer_inside}

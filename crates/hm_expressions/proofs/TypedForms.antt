@@ -20,8 +20,8 @@ use Rattle.hm_names.specs.Syntax.{Known, expression_of}
 use Rattle.hm_names.specs.Types.{declared_type}
 use Rattle.hm_assumptions.specs.Problems.{number, monotype, problem, bound, Answers, Refuses, given_more}
 use Rattle.hm_assumptions.specs.Environments.{Assumed, AreAssumed, assumptions}
-use Rattle.hm_assumptions.specs.Escapes.{TellsEscape}
-use Rattle.hm_assumptions.proofs.DeclaredTypes.{declared_below}
+use Rattle.hm_schemes.specs.Escapes.{TellsEscape}
+use Rattle.hm_schemes.proofs.DeclaredTypes.{declared_below}
 use Rattle.hm_expressions.proofs.Derived.{Checks, AnswersExpression}
 use Rattle.hm_assumptions.proofs.FoundNames.{assumed_below}
 use Rattle.hm_assumptions.proofs.Leaves.{monotype-below}

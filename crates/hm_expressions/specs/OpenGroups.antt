@@ -13,7 +13,7 @@ use Rattle.hm_unify.specs.Levels.{is_outer}
 use Rattle.hm_typing.specs.Assumptions.{Assumptions, assumptions_put}
 use Rattle.hm_assumptions.specs.Problems.{problem, given_more}
 use Rattle.hm_assumptions.specs.Environments.{Assumed, AreAssumed, Extends}
-use Rattle.hm_assumptions.specs.Generalisations.{IsSolution, KeepsEach}
+use Rattle.hm_schemes.specs.Generalisations.{IsSolution, KeepsEach}
 use Rattle.hm_expressions.specs.GroupQuestions.{AreGivenTypes}
 use Rattle.hm_expressions.specs.BoundNames.{ArePlaced, BindsTypes, BindsSchemes}
 

@@ -10,7 +10,8 @@ ghost use Rattle.hm_graph.specs.Digraph.{lists};
 ghost use Rattle.hm_syntax.specs.Trees.{no_bodies, typed_expression, Declarations};
 ghost use Rattle.hm_typing.specs.Assumptions.{assumptions_put};
 ghost use Rattle.hm_typing.specs.Schemes.{arrow, Monotype};
-ghost use Rattle.hm_typing.specs.Syntax.{pattern, no_pattern};
+ghost use Rattle.hm_typing.specs.Syntax.{names, pattern, no_pattern};
+ghost use Rattle.hm_typing.specs.Orders.{AreNumberedGroups};
 ghost use Rattle.hm_typing.specs.Typing.{HasFunction, HasLocal};
 ghost use Rattle.hm_typing.specs.SecondForm.{Derives, DeriveAll, DeriveRightSides, DeriveClauses, DerivedSchemes};
 ghost use Rattle.hm_unify.specs.WellFormed.{IsWellFormed};
@@ -22,20 +23,25 @@ ghost use Rattle.hm_expressions.specs.Lists.{Listed};
 ghost use Rattle.hm_expressions.specs.OpenGroups.{AreUpTo, ChangesOnly};
 ghost use Rattle.hm_expressions.specs.SignedLists.{AreSignatures, SignedClauseHas, SignedClausesHave};
 ghost use Rattle.hm_expressions.specs.Stages.{ClosesGroup, InfersGroup, IsListFound, list_of};
-ghost use Rattle.hm_typing.specs.Names.{Identifier};
+ghost use Rattle.hm_typing.specs.Names.{Identifier, IsDistinct};
+ghost use Rattle.hm_groups.specs.Groups.{node_name};
+ghost use Rattle.hm_groups.specs.Members.{AreRows};
+ghost use Rattle.hm_groups.specs.Nodes.{list_nodes};
 ghost use Rattle.hm_assumptions.specs.Patterns.{from_number, put_each};
-ghost use Rattle.hm_names.specs.Syntax.{expression_of, expressions_of, bodies_of, right_sides_of, where_of, pattern_of, patterns_of, alternatives_of};
+ghost use Rattle.hm_names.specs.Syntax.{Known, bindings_of, expression_of, expressions_of, bodies_of, right_sides_of, where_of, pattern_of, patterns_of, alternatives_of};
 ghost use Rattle.hm_assumptions.specs.Constructors.{known_of};
 
 use crate::bindings::{TypedNode, match_binding};
 use crate::grouping::{TypedGroup, close_group, open_group};
 use crate::signed::{bind_signed, declared_for, signatures_of};
 use hm_assumptions::{
-    Constructors, Inference, PartTypes, check_constructor, check_instance, check_name, declare,
-    equate, forbid_escape, function_from, list_part, literal_type, new_variables, open_alternative,
-    open_function, prelude_type, tuple_parts, with_rigid_variables,
+    Constructors, Inference, PartTypes, check_constructor, check_name, equate, function_from,
+    list_part, literal_type, new_variables, open_alternative, open_function, prelude_type,
+    tuple_parts,
 };
-use hm_groups::{BindingGroups, Member, binding_groups};
+use hm_dependency::{BindingGroups, binding_groups};
+use hm_groups::Member;
+use hm_schemes::{check_instance, declare, forbid_escape, with_rigid_variables};
 use hm_syntax::{Alt, Decl, DeclKind, Expr, ExprKind, Pat, Rhs, TypeExpr};
 use hm_types::Ty;
 use hm_unify::UnifyFault;
@@ -550,23 +556,43 @@ pub fn check_bindings<'a>(
     }
     let found = binding_groups(inference.alloc, list)?;
     let signatures = signatures_of(inference.alloc, list)?;
-    bind_signed(
-        inference.alloc,
-        &mut inference.environment,
-        &signatures,
-        list,
-    )?;
-    let count = found.numbers.len();
-    let mut types = vec![in inference.alloc; 0; count]?;
     let checked = CheckedList {
         constructors,
         decls: list,
         found: &found,
         signatures: &signatures,
     };
-    'groups: for i in 0..found.groups.len() {
-        infer_group(inference, &checked, &found.groups[i], &mut types)?;
+    check_list(inference, &checked)
+}
+
+/// The same for a list of which the groups and signatures are found.
+#[cycle(checking)]
+fn check_list<'a>(
+    inference: &mut Inference<'a>,
+    list: &CheckedList<'_, 'a, '_>,
+) -> Result<(), UnifyFault>
+    requires assumed { AreAssumed inference.old.solver.given inference.old.environment }
+    requires nodes { list.now.found.now.numbers ≡ list_nodes (declarations list.now.decls.now) (declarations list.now.decls.now) }
+    requires rows { AreRows list.now.decls.now (length list.now.found.now.numbers) (lists list.now.found.now.rows.items) }
+    requires distinct { (k : Known) → IsDistinct (names (bindings_of k (declarations list.now.decls.now) (declarations list.now.decls.now))) }
+    requires groups { (k : Known) → AreNumberedGroups (bindings_of k (declarations list.now.decls.now) (declarations list.now.decls.now)) (node_name k (declarations list.now.decls.now)) (length list.now.found.now.numbers) (lists list.now.found.now.groups.items) }
+    requires signatures { AreSignatures (declarations list.now.decls.now) list.now.signatures.now }
+    ensures listed { Listed (list_of (known_of list.now.constructors.now) list.now.decls.now) inference.old.solver inference.old.environment inference.new.solver inference.new.environment result }
+    ensures closed { OnOk result (AreAssumed 0 inference.old.environment → AreAssumed 0 inference.new.environment) }
+    ensures kept { Extends inference.old.environment inference.new.environment }
+{
+    inference.solver.well_formed();
+    bind_signed(
+        inference.alloc,
+        &mut inference.environment,
+        list.signatures,
+        list.decls,
+    )?;
+    let count = list.found.numbers.len();
+    let mut types = vec![in inference.alloc; 0; count]?;
+    'groups: for i in 0..list.found.groups.len() {
+        infer_group(inference, list, &list.found.groups[i], &mut types)?;
     }
-    check_all_signed(inference, &checked)?;
+    check_all_signed(inference, list)?;
     Ok(())
 }

@@ -9,8 +9,9 @@ ghost use Rattle.hm_assumptions.specs.Environments.{Extends, AreAssumed};
 ghost use Rattle.hm_expressions.specs.SignedLists.{AreSignatures, BindsDeclaration, BindsSigned, declared_in};
 ghost use Rattle.hm_expressions.specs.Stages.{list_of};
 
-use hm_assumptions::{Environment, declare};
+use hm_assumptions::Environment;
 use hm_groups::is_continued;
+use hm_schemes::declare;
 use hm_syntax::{Decl, DeclKind, Name, TypeExpr};
 use hm_variables::key_of;
 use indexmap::IndexMap;

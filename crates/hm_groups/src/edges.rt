@@ -140,11 +140,7 @@ fn add_all(
 }
 
 /// The graph of a list, whose nodes are given.
-pub(crate) fn graph_of(
-    alloc: Global,
-    list: &NodeList,
-    decls: &[Decl],
-) -> Result<Digraph, AllocError>
+pub fn graph_of(alloc: Global, list: &NodeList, decls: &[Decl]) -> Result<Digraph, AllocError>
     requires nodes { list.now.numbers ≡ list_nodes (declarations decls.now) (declarations decls.now) }
     requires owners { list.now.owners.items ≡ owners (declarations decls.now) (declarations decls.now) }
     ensures { IfOk result (IsGraphOf (declarations decls.now)) }

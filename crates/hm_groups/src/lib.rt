@@ -1,8 +1,7 @@
-//! The binding groups of a declaration list (Haskell 98 Report, section 4.5.1).
+//! The graph of a declaration list: its nodes, what they refer to, and the declarations of each (Haskell 98 Report, section 4.5.1).
 #![tactic(auto)]
 
 mod edges;
-mod groups;
 mod hiding;
 pub mod laws;
 mod members;
@@ -12,8 +11,11 @@ mod places;
 mod references;
 mod signed;
 
-pub use crate::groups::{BindingGroups, binding_groups};
+pub use crate::edges::graph_of;
 pub use crate::hiding::is_continued;
 pub use crate::members::{Member, group_members};
+pub use crate::nodes::{NodeList, node_list};
 pub use crate::numbers::Numbers;
+pub use crate::places::rows_of;
 pub use crate::references::referred_nodes;
+pub use crate::signed::signed_texts;

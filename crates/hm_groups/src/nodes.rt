@@ -94,13 +94,13 @@ fn add_declaration<'a>(
 
 /// The nodes of a list, and for each declaration, the last one first, the node whose binding it belongs to.
 #[derive(Drop)]
-pub(crate) struct NodeList<'a> {
-    pub(crate) numbers: Numbers<'a>,
-    pub(crate) owners: Vec<Option<usize>>,
+pub struct NodeList<'a> {
+    pub numbers: Numbers<'a>,
+    pub owners: Vec<Option<usize>>,
 }
 
 /// The nodes of a list. Where a variable is bound twice the list has no typing.
-pub(crate) fn node_list<'a>(
+pub fn node_list<'a>(
     alloc: Global,
     signed: &IndexMap<&str, bool>,
     decls: &'a [Decl],

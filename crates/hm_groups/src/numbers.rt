@@ -52,7 +52,7 @@ impl<'a> Numbers<'a> {
     }
 
     /// Each variable is a node once. It does nothing: its clause is what a caller knows from then on.
-    pub(crate) fn has_each_once(&self)
+    pub fn has_each_once(&self)
         ensures { (x : Variable) (j k : ℕ) → slice_get self.now j ≡ Some (Some x) → slice_get self.now k ≡ Some (Some x) → j ≡ k }
     {
         let _count = self.nodes.len();

@@ -39,7 +39,7 @@ fn add_place(
 }
 
 /// For each node the places of the declarations of its binding. `nodes` has the node of each declaration, the last one first.
-pub(crate) fn rows_of(
+pub fn rows_of(
     alloc: Global,
     nodes: &[Option<usize>],
     count: usize,

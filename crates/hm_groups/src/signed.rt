@@ -31,7 +31,7 @@ fn add_signature<'a>(texts: &mut IndexMap<&'a str, bool>, decl: &'a Decl) -> Res
 }
 
 /// The texts of the variables that have signatures in a list.
-pub(crate) fn signed_texts<'a>(
+pub fn signed_texts<'a>(
     alloc: Global,
     decls: &'a [Decl],
 ) -> Result<IndexMap<&'a str, bool>, AllocError>

@@ -28,7 +28,7 @@ use Rattle.hm_infer.specs.UnitStarts.{HasMember}
 use Rattle.hm_infer.proofs.FirstTold.{AreByText, IsAside, core_by_text, names-add_clause, names-bound_by, names_of_pattern, own_number}
 use Rattle.hm_infer.proofs.GroupFirst.{is_aside}
 use Rattle.hm_infer.proofs.UnitFaults.{last_next, tests}
-use Rattle.hm_infer.proofs.UnitSteps.{is_in}
+use Rattle.hm_answers.proofs.FaultyGroups.{is_in}
 
 -- Where no declaration begins a binding of the unit, no name of the list is of it
 

@@ -22,7 +22,7 @@ use Rattle.hm_groups.specs.declared.members.Member.{Member}
 use Rattle.hm_assumptions.specs.Environments.{Assumed, AreAssumed, assumptions}
 use Rattle.hm_infer.specs.JudgedUnits.{UnitsJudged}
 use Rattle.hm_expressions.specs.Stages.{IsListFound, list_of}
-use Rattle.hm_infer.specs.UnitFaults.{GroupTold}
+use Rattle.hm_answers.specs.UnitFaults.{GroupTold}
 use Rattle.hm_infer.proofs.FirstTold.{FirstTold, core_by_text, first_member, is_first_in, told_by}
 use Rattle.hm_infer.proofs.GroupFirst.{unit_told}
 use Rattle.hm_infer.proofs.UnitFaults.{group_fault, last_next, tests}

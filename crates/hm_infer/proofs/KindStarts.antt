@@ -19,7 +19,7 @@ use Rattle.hm_assumptions.specs.Environments.{Assumed, AreAssumed, assumptions}
 use Rattle.hm_infer.specs.JudgedUnits.{UnitsJudged}
 use Rattle.hm_expressions.specs.Stages.{IsListFound, list_of}
 use Rattle.hm_infer.specs.Told.{IsStart, declaration_at, told_name}
-use Rattle.hm_infer.specs.UnitFaults.{AreGroupsTold, GroupTold}
+use Rattle.hm_answers.specs.UnitFaults.{AreGroupsTold, GroupTold}
 use Rattle.hm_infer.specs.UnitStarts.{AreGroupStarts, AreStartsOfKind, IsFaultStart}
 use Rattle.hm_infer.proofs.FirstTold.{told_by}
 use Rattle.hm_infer.proofs.GroupTelling.{UnitTold, group_tells}

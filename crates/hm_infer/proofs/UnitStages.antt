@@ -22,7 +22,8 @@ use Rattle.hm_expressions.specs.Stages.{IsListFound, list_of}
 use Rattle.hm_expressions.proofs.GroupAnswers.{in_names}
 use Rattle.hm_infer.proofs.JudgedLists.{next_to_typed, state_of}
 use Rattle.hm_assumptions.proofs.Suffixes.{drop_more}
-use Rattle.hm_infer.proofs.UnitSteps.{blocked, free, is_in, named_in}
+use Rattle.hm_infer.proofs.UnitSteps.{blocked, free, named_in}
+use Rattle.hm_answers.proofs.FaultyGroups.{is_in}
 
 nothing_typed : (n j : ℕ) → get_or (replicate n false) j false ≡ false
 nothing_typed zero j = refl

@@ -5,7 +5,7 @@ use Rattle.hm_typing.specs.Names.{IsOneOf}
 use Rattle.hm_groups.proofs.MemberLists.{one_pushed}
 use Rattle.hm_groups.specs.GroupMembers.{AreMembersOf}
 use Rattle.hm_groups.specs.declared.members.Member.{Member}
-use Rattle.hm_infer.specs.UnitFaults.{IsFirstPlace}
+use Rattle.hm_answers.specs.UnitFaults.{IsFirstPlace}
 use Rattle.hm_assumptions.proofs.States.{less_or}
 use Rattle.hm_infer.specs.UnitStarts.{AddsStart, AreGroupStarts, HasMember, IsFaultStart, IsStartOf}
 

@@ -3,7 +3,6 @@ use Rattle.std.proofs.Common.{◌≡◌, ℕ, zero, suc, ◌<◌, List, [], ◌�
 use Rattle.std.specs.List.{slice_get}
 use Rattle.std.specs.Bool.{Decides}
 use Rattle.std.proofs.lemmas.Option.{get_or_from_slice_get, slice_get_within, slice_get-get_or}
-use native.Mathlib.Decide.{ℕ_discrete}
 use Rattle.hm_graph.specs.Closure.{Closure, one, more}
 use Rattle.hm_typing.specs.Names.{Identifier, local, IsOneOf}
 use Rattle.hm_typing.specs.Units.{BindingMentions, IsUnsigned, RefersTo, directly, SameUnit}
@@ -29,6 +28,7 @@ use Rattle.hm_infer.specs.JudgedUnits.{IsBlocked, IsFreeToJudge}
 use Rattle.hm_expressions.specs.Stages.{IsListFound, list_of}
 use Rattle.hm_expressions.proofs.GroupAnswers.{in_names}
 use Rattle.hm_expressions.proofs.Naming.{node_variable}
+use Rattle.hm_answers.proofs.FaultyGroups.{is_in}
 
 -- Edges, by the places of declarations
 
@@ -64,10 +64,6 @@ star_back V (signature ns t) own i j s = s
 star_back V (clause n ps r) own i j s = s
 star_back V (pattern_binding l c p r) own i j (inl s) = inr s
 star_back V (pattern_binding l c p r) own i j (inr s) = inl s
-
-pub is_in : (k : ℕ) (ks : List ℕ) → Dec (IsOneOf k ks)
-is_in k [] = no (λ o. o)
-is_in k (j ∷ ks) = Rattle.hm_typing.specs.Decisions.either (ℕ_discrete k j) (is_in k ks)
 
 pub named_in : (k : Known) (all : Declarations) (group : List ℕ) (x : Identifier) → IsOneOf x (names_at k all group) → (j : ℕ) × (IsOneOf j group × (node_name k all j ≡ x))
 named_in k all [] x o = absurd o

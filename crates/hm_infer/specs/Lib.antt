@@ -1,7 +1,6 @@
 pub mod Imported
 pub mod Faults
 pub mod JudgedUnits
-pub mod UnitFaults
 pub mod SignedFaults
 pub mod Told
 pub mod UnitStarts

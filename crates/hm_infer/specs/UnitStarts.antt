@@ -20,7 +20,7 @@ use Rattle.hm_infer.specs.JudgedUnits.{UnitsJudged}
 use Rattle.hm_expressions.specs.Stages.{IsListFound, list_of}
 use Rattle.hm_names.specs.ModuleCores.{ModuleCore}
 use Rattle.hm_infer.specs.Told.{IsStart}
-use Rattle.hm_infer.specs.UnitFaults.{AreGroupsTold, IsFirstPlace}
+use Rattle.hm_answers.specs.UnitFaults.{AreGroupsTold, IsFirstPlace}
 
 -- the first place of a group's declarations
 pub record IsStartOf (rows : List (List ℕ)) (group : List ℕ) (p : ℕ) : Type 0 where

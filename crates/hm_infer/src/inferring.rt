@@ -15,8 +15,8 @@ ghost use Rattle.hm_expressions.specs.Stages.{list_of};
 
 use crate::assuming::imported_environment;
 use crate::declaring::known_constructors;
-use crate::own_schemes::own_schemes;
 use crate::untyped_units::untyped_units;
+use hm_answers::own_schemes;
 use hm_assumptions::{Constructors, Inference};
 use hm_expressions::check_bindings;
 use hm_names::{Core, Fault, Schemes};
@@ -91,6 +91,21 @@ pub fn infer_within(alloc: Global, core: &Core, depth: usize) -> Result<Schemes,
     ensures faults { IfErr result (IsUntypable core.now) }
 {
     let constructors = known_constructors(alloc, core)?;
+    infer_with(alloc, core, &constructors, depth)
+}
+
+/// The same, by the constructors that are known in the core.
+fn infer_with(
+    alloc: Global,
+    core: &Core,
+    constructors: &Constructors,
+    depth: usize,
+) -> Result<Schemes, InferFault>
+    requires core { IsSomeCore core.now }
+    requires known { known_of constructors.now ≡ known core.now }
+    ensures schemes { IfOk result (λ schemes. ArePrincipal core.now (scheme_of schemes)) }
+    ensures faults { IfErr result (IsUntypable core.now) }
+{
     let environment = imported_environment(alloc, core.interfaces.as_slice())?;
     let mut inference = Inference {
         alloc,
@@ -98,9 +113,9 @@ pub fn infer_within(alloc: Global, core: &Core, depth: usize) -> Result<Schemes,
         environment,
     };
     let list = core.decls.as_slice();
-    match infer_list(&mut inference, &constructors, list) {
+    match infer_list(&mut inference, constructors, list) {
         Ok(()) => Ok(own_schemes(alloc, core.name.as_str(), &inference.environment)?),
-        Err(UnifyFault::Clash) => Err(untypable(alloc, core, &constructors, depth)),
+        Err(UnifyFault::Clash) => Err(untypable(alloc, core, constructors, depth)),
         Err(UnifyFault::Memory) => Err(InferFault::Memory),
     }
 }

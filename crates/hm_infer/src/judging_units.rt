@@ -18,7 +18,7 @@ ghost use Rattle.hm_infer.specs.JudgedUnits.{UnitsJudged};
 ghost use Rattle.hm_expressions.specs.SignedLists.{BindsSigned};
 ghost use Rattle.hm_expressions.specs.Stages.{IsListFound, list_of};
 
-use crate::dependences::{mark, members_refer_to_typed};
+use hm_answers::{mark, members_refer_to_typed};
 use hm_assumptions::Inference;
 use hm_expressions::{CheckedList, infer_group};
 use hm_groups::group_members;

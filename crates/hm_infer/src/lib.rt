@@ -3,11 +3,8 @@
 
 mod assuming;
 mod declaring;
-mod dependences;
-mod finding_faults;
 mod inferring;
 mod judging_units;
-mod own_schemes;
 mod signed_faults;
 mod signed_starts;
 mod telling;

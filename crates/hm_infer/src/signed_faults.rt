@@ -11,7 +11,7 @@ ghost use Rattle.hm_assumptions.specs.Environments.{AreAssumed, assumptions};
 ghost use Rattle.hm_infer.specs.SignedFaults.{AreRefused, AreSignedFaults, AreWaiting, BeginsRun, HasFlag, IsFaultAt, Refuses, Waits, goes_on};
 ghost use Rattle.hm_expressions.specs.SignedLists.{AreSignatures};
 
-use crate::dependences::refers_to_typed;
+use hm_answers::refers_to_typed;
 use hm_assumptions::Inference;
 use hm_expressions::{CheckedList, check_signed};
 use hm_groups::{Numbers, is_continued};

@@ -6,8 +6,9 @@ ghost use Rattle.hm_graph.specs.Digraph.{lists};
 ghost use Rattle.hm_typing.specs.Names.{IsOneOf};
 ghost use Rattle.hm_infer.specs.UnitStarts.{AddsStart, AreGroupStarts, HasMember};
 
-use crate::finding_faults::first_place;
-use hm_groups::{BindingGroups, group_members};
+use hm_answers::first_place;
+use hm_dependency::BindingGroups;
+use hm_groups::group_members;
 use std::alloc::{AllocError, Global};
 
 /// Adds the first place of a group's declarations, if the group is a fault.

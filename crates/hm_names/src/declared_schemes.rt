@@ -1,15 +1,17 @@
 //! The schemes of constructors and the synonyms that a core declares (Report, sections 4.2.1 to 4.2.3).
 
-ghost use Rattle.std.specs.Prelude.{◌≡◌, IfOk};
+ghost use Rattle.std.specs.Prelude.{◌≡◌, IfOk, map};
 ghost use Rattle.hm_types.specs.Monotypes.{arguments_of};
 ghost use Rattle.hm_types.specs.Shape.{type_of, types_of};
+ghost use Rattle.hm_types.specs.Types.{App};
+ghost use Rattle.hm_types.specs.declared.Head.TheVariants.{Named};
 ghost use Rattle.hm_syntax.specs.Names.{Identifier};
 ghost use Rattle.hm_names.specs.DeclaredSchemes.{functions_to, numbered};
 ghost use Rattle.hm_names.specs.Entities.{named};
 ghost use Rattle.hm_names.specs.Faults.Lists.{Repeats};
 ghost use Rattle.hm_names.specs.DeclaredSchemes.{fact_in};
 ghost use Rattle.hm_names.specs.DeclaredSynonyms.{IsSound};
-ghost use Rattle.hm_names.specs.Types.{synonym_of};
+ghost use Rattle.hm_names.specs.Types.{program_of, synonym_of, type_in};
 ghost use Rattle.hm_names.specs.Variables.{texts};
 
 use crate::monotypes::{monotype, monotypes};
@@ -79,6 +81,28 @@ fn function_from(alloc: Global, arguments: Vec<Ty>, outcome: Ty) -> Result<Ty, A
     Ok(ty)
 }
 
+/// The type to which a constructor belongs, over so many parameters.
+fn owner_type(alloc: Global, home: &str, owner: &Name, count: usize) -> Result<Ty, AllocError>
+    ensures { IfOk result (λ t. type_of t ≡ App (Named (named home.now owner.now.text)) (arguments_of (numbered 0 count))) }
+{
+    let head = Head::Named(own_entity(alloc, home, owner)?);
+    let parameters = variables_below(alloc, count)?;
+    Ok(Ty::App(head, parameters))
+}
+
+/// The type of a constructor, by the written types of its arguments.
+fn constructor_type(
+    alloc: Global,
+    variables: &TypeVariables<'_>,
+    arguments: &[TypeExpr],
+    outcome: Ty,
+) -> Result<Ty, AllocError>
+    ensures { IfOk result (λ t. type_of t ≡ functions_to (map (λ u. program_of (type_in variables.now u)) arguments.now) (type_of outcome)) }
+{
+    let arguments = monotypes(alloc, variables, arguments)?;
+    Ok(function_from(alloc, arguments, outcome)?)
+}
+
 /// The scheme of a constructor of a type of the core.
 pub fn declared_scheme(
     alloc: Global,
@@ -90,9 +114,7 @@ pub fn declared_scheme(
     ensures { IfOk result (λ s. ((n : Identifier) → ¬ (Repeats params.now n)) → s ≡ (fact_in home.now owner.now params.now constr.now).scheme) }
 {
     let variables = parameters_of(alloc, params)?;
-    let owner = own_entity(alloc, home, owner)?;
-    let outcome = Ty::App(Head::Named(owner), variables_below(alloc, params.len())?);
-    let arguments = monotypes(alloc, &variables, &constr.args)?;
-    let ty = function_from(alloc, arguments, outcome)?;
+    let outcome = owner_type(alloc, home, owner, params.len())?;
+    let ty = constructor_type(alloc, &variables, &constr.args, outcome)?;
     Ok(canonical(alloc, &ty)?)
 }

@@ -91,8 +91,9 @@ impl Ty {
             Ty::Var(n) => Ok(Ty::Var(*n)),
             Ty::Rigid(n) => Ok(Ty::Rigid(*n)),
             Ty::App(head, arguments) => {
-                let mut copies = Vec::new(alloc);
-                for argument in arguments.as_slice() {
+                let row = arguments.as_slice();
+                let mut copies = Vec::with_capacity(alloc, row.len())?;
+                for argument in row {
                     copies.push(argument.copy(alloc)?)?;
                 }
                 Ok(Ty::App(head.copy()?, Types::new(copies)))
@@ -115,8 +116,9 @@ impl Ty {
             }
             Ty::Rigid(n) => Ok(Ty::Rigid(*n)),
             Ty::App(head, arguments) => {
-                let mut replaced = Vec::new(alloc);
-                for argument in arguments.as_slice() {
+                let row = arguments.as_slice();
+                let mut replaced = Vec::with_capacity(alloc, row.len())?;
+                for argument in row {
                     replaced.push(argument.replace_all(alloc, types)?)?;
                 }
                 Ok(Ty::App(head.copy()?, Types::new(replaced)))

@@ -31,7 +31,7 @@ use Rattle.hm_groups.specs.Groups.{node_name}
 use Rattle.hm_expressions.specs.Stages.{list_of}
 use Rattle.hm_unify.proofs.WellFormed.{well_formed_more}
 use Rattle.hm_unify.specs.Levels.{is_outer}
-use Rattle.hm_assumptions.specs.Generalisations.{KeepsNone}
+use Rattle.hm_schemes.specs.Generalisations.{KeepsNone}
 use Rattle.hm_expressions.proofs.GroupEnds.{closes_group, none_older, group_members_are, infers_refused, infers_solved, infers_passed, given_up_to}
 use Rattle.hm_expressions.proofs.NodeTypes.{types_later}
 use Rattle.hm_expressions.proofs.MemberForms.{answers_grow, later_grow, same_member, is_member, declaration_at, AsksMember, clause_member, pattern_member, members_none, members_more, members_refused, members_all}
@@ -514,39 +514,39 @@ pub check_bindings-returns-then-is_empty-clause-listed : goal.check_bindings-ret
 check_bindings-returns-then-is_empty-clause-listed t c =
     empty_listed {X = Unit {0}} (known_of c.args.constructors.now) c.args.list.now c.args.inference.now.solver c.args.inference.now.environment tt (none_of c.args.list.now (is_zero _ (sym c.is_empty.ensures ∙ c.if-is_empty.true))) (problem_below c.args.inference.now.solver c.well_formed-2.ensures) c.requires
 
-pub check_bindings-groups-init : goal.check_bindings-groups-init
-check_bindings-groups-init t c =
-    let k = (known_of c.args.constructors.now) in
+pub check_list-groups-init : goal.check_list-groups-init
+check_list-groups-init t c =
+    let k = (known_of c.args.list.now.constructors.now) in
     record {
       sized = (let l = c.in_ok-types.ensures.len in omega (arith, l, c.in_ok-types.types.ok.0));
-      numbers = zeroes_up_to c.args.inference.now.solver.given (length c.in_ok-found.found.numbers) c.in_ok-types.types.items (search rules);
-      assumed = c.in_ok-bind_signed.ensures.given c.args.inference.now.solver.given c.requires;
+      numbers = zeroes_up_to c.args.inference.now.solver.given (length c.args.list.now.found.now.numbers) c.in_ok-types.types.items (search rules);
+      assumed = c.in_ok-bind_signed.ensures.given c.args.inference.now.solver.given c.requires.assumed;
       added = c.bind_signed.ensures.kept;
       closed = c.in_ok-bind_signed.ensures.given 0;
-      stage = signed_start k c.args.list.now (lists c.in_ok-found.found.groups.items) (length c.in_ok-found.found.numbers) (c.in_ok-found.ensures.distinct k) (c.in_ok-found.ensures.groups k) c.args.inference.now.solver c.args.inference.now.environment c.bind_signed.new.environment (c.in_ok-bind_signed.ensures.bound k) (problem_below c.args.inference.now.solver c.well_formed-2.ensures);
+      stage = signed_start k c.args.list.now.decls.now (lists c.args.list.now.found.now.groups.items) (length c.args.list.now.found.now.numbers) (c.requires.distinct k) (c.requires.groups k) c.args.inference.now.solver c.args.inference.now.environment c.bind_signed.new.environment (c.in_ok-bind_signed.ensures.bound k) (problem_below c.args.inference.now.solver c.well_formed-2.ensures);
     }
 
-pub check_bindings-infer_group-requires : goal.check_bindings-infer_group-requires
-check_bindings-infer_group-requires t c =
-    let k = (known_of c.args.constructors.now) in
-    let gs = lists c.in_ok-found.found.groups.items in
-    let n = length c.in_ok-found.found.numbers in
-    let name = node_name k (declarations c.args.list.now) in
-    let low : c.groups.i < length c.in_ok-found.found.groups.items = (let h = c.groups-test.true in omega (arith, h, c.len-i-end.ensures, c.in_ok-found.found.groups.ok.0)) in
-    let within : c.groups.i < length gs = rows_long c.in_ok-found.found.groups.items c.groups.i low in
-    let here : c.deref.result.now ≡ get_or gs c.groups.i c.deref.result.now = group_at c.in_ok-found.found.groups.items c.groups.i c.index.result.now c.deref.result.now low c.index.ensures c.deref.ensures.value in
-    let are = c.in_ok-found.ensures.groups k in
+pub check_list-infer_group-requires : goal.check_list-infer_group-requires
+check_list-infer_group-requires t c =
+    let k = (known_of c.args.list.now.constructors.now) in
+    let gs = lists c.args.list.now.found.now.groups.items in
+    let n = length c.args.list.now.found.now.numbers in
+    let name = node_name k (declarations c.args.list.now.decls.now) in
+    let low : c.groups.i < length c.args.list.now.found.now.groups.items = (let h = c.groups-test.true in omega (arith, h, c.len-i-end.ensures, c.args.list.now.found.now.groups.ok.0)) in
+    let within : c.groups.i < length gs = rows_long c.args.list.now.found.now.groups.items c.groups.i low in
+    let here : c.deref.result.now ≡ get_or gs c.groups.i c.deref.result.now = group_at c.args.list.now.found.now.groups.items c.groups.i c.index.result.now c.deref.result.now low c.index.ensures c.deref.ensures.value in
+    let are = c.requires.groups k in
     let v = c.groups.invariant in
     let same = c.deref_mut.ensures.value in (
       omega arith,
       (
-        record { nodes_are = c.in_ok-found.ensures.nodes; rows_are = c.in_ok-found.ensures.rows; apart = are.one_number },
+        record { nodes_are = c.requires.nodes; rows_are = c.requires.rows; apart = are.one_number },
         (
-          group_below (list_of k c.args.list.now) name n gs c.groups.i c.deref.result.now are within here,
+          group_below (list_of k c.args.list.now.decls.now) name n gs c.groups.i c.deref.result.now are within here,
           (
             ap length same ∙ v.sized,
             (
-              group_some (list_of k c.args.list.now) name n gs c.groups.i c.deref.result.now are within here,
+              group_some (list_of k c.args.list.now.decls.now) name n gs c.groups.i c.deref.result.now are within here,
               (
                 subst (AreUpTo c.groups.inference.solver.given) (sym same) v.numbers,
                 v.assumed,
@@ -557,45 +557,45 @@ check_bindings-infer_group-requires t c =
       ),
     )
 
-pub check_bindings-returns-in_err-infer_group-clause-listed : goal.check_bindings-returns-in_err-infer_group-clause-listed
-check_bindings-returns-in_err-infer_group-clause-listed t c =
-    let k = (known_of c.args.constructors.now) in
-    let gs = lists c.in_ok-found.found.groups.items in
-    let n = length c.in_ok-found.found.numbers in
-    let name = node_name k (declarations c.args.list.now) in
-    let low : c.groups.i < length c.in_ok-found.found.groups.items = (let h = c.groups-test.true in omega (arith, h, c.len-i-end.ensures, c.in_ok-found.found.groups.ok.0)) in
-    let within : c.groups.i < length gs = rows_long c.in_ok-found.found.groups.items c.groups.i low in
-    let here : c.deref.result.now ≡ get_or gs c.groups.i c.deref.result.now = group_at c.in_ok-found.found.groups.items c.groups.i c.index.result.now c.deref.result.now low c.index.ensures c.deref.ensures.value in
-    let are = c.in_ok-found.ensures.groups k in
+pub check_list-returns-in_err-infer_group-clause-listed : goal.check_list-returns-in_err-infer_group-clause-listed
+check_list-returns-in_err-infer_group-clause-listed t c =
+    let k = (known_of c.args.list.now.constructors.now) in
+    let gs = lists c.args.list.now.found.now.groups.items in
+    let n = length c.args.list.now.found.now.numbers in
+    let name = node_name k (declarations c.args.list.now.decls.now) in
+    let low : c.groups.i < length c.args.list.now.found.now.groups.items = (let h = c.groups-test.true in omega (arith, h, c.len-i-end.ensures, c.args.list.now.found.now.groups.ok.0)) in
+    let within : c.groups.i < length gs = rows_long c.args.list.now.found.now.groups.items c.groups.i low in
+    let here : c.deref.result.now ≡ get_or gs c.groups.i c.deref.result.now = group_at c.args.list.now.found.now.groups.items c.groups.i c.index.result.now c.deref.result.now low c.index.ensures c.deref.ensures.value in
+    let are = c.requires.groups k in
     let v = c.groups.invariant in
-    listed_passed (Unit {0}) (list_of k c.args.list.now) c.args.inference.now.solver c.args.inference.now.environment c.infer_group.new.inference.solver c.infer_group.new.inference.environment c.from_residual-in_err-infer_group.result c.in_err-infer_group.field-0.0 c.from_residual-in_err-infer_group.ensures.1
-    (list_refused (Unit {0}) k c.args.list.now gs c.groups.i c.deref.result.now c.args.inference.now.solver c.groups.inference.solver c.infer_group.new.inference.solver c.args.inference.now.environment c.groups.inference.environment c.infer_group.new.inference.environment c.in_err-infer_group.field-0.0 within here c.requires v.stage (c.in_err-infer_group.ensures.inferred v.added.0 c.args.inference.now.environment v.added.1))
+    listed_passed (Unit {0}) (list_of k c.args.list.now.decls.now) c.args.inference.now.solver c.args.inference.now.environment c.infer_group.new.inference.solver c.infer_group.new.inference.environment c.from_residual-in_err-infer_group.result c.in_err-infer_group.field-0.0 c.from_residual-in_err-infer_group.ensures.1
+    (list_refused (Unit {0}) k c.args.list.now.decls.now gs c.groups.i c.deref.result.now c.args.inference.now.solver c.groups.inference.solver c.infer_group.new.inference.solver c.args.inference.now.environment c.groups.inference.environment c.infer_group.new.inference.environment c.in_err-infer_group.field-0.0 within here c.requires.assumed v.stage (c.in_err-infer_group.ensures.inferred v.added.0 c.args.inference.now.environment v.added.1))
 
-pub check_bindings-groups-preserved : goal.check_bindings-groups-preserved
-check_bindings-groups-preserved t c =
-    let k = (known_of c.args.constructors.now) in
-    let gs = lists c.in_ok-found.found.groups.items in
-    let n = length c.in_ok-found.found.numbers in
-    let name = node_name k (declarations c.args.list.now) in
-    let low : c.groups.i < length c.in_ok-found.found.groups.items = (let h = c.groups-test.true in omega (arith, h, c.len-i-end.ensures, c.in_ok-found.found.groups.ok.0)) in
-    let within : c.groups.i < length gs = rows_long c.in_ok-found.found.groups.items c.groups.i low in
-    let here : c.deref.result.now ≡ get_or gs c.groups.i c.deref.result.now = group_at c.in_ok-found.found.groups.items c.groups.i c.index.result.now c.deref.result.now low c.index.ensures c.deref.ensures.value in
-    let are = c.in_ok-found.ensures.groups k in
+pub check_list-groups-preserved : goal.check_list-groups-preserved
+check_list-groups-preserved t c =
+    let k = (known_of c.args.list.now.constructors.now) in
+    let gs = lists c.args.list.now.found.now.groups.items in
+    let n = length c.args.list.now.found.now.numbers in
+    let name = node_name k (declarations c.args.list.now.decls.now) in
+    let low : c.groups.i < length c.args.list.now.found.now.groups.items = (let h = c.groups-test.true in omega (arith, h, c.len-i-end.ensures, c.args.list.now.found.now.groups.ok.0)) in
+    let within : c.groups.i < length gs = rows_long c.args.list.now.found.now.groups.items c.groups.i low in
+    let here : c.deref.result.now ≡ get_or gs c.groups.i c.deref.result.now = group_at c.args.list.now.found.now.groups.items c.groups.i c.index.result.now c.deref.result.now low c.index.ensures c.deref.ensures.value in
+    let are = c.requires.groups k in
     let v = c.groups.invariant in
     let kept : length c.infer_group.new.types ≡ length c.groups.types.items = c.infer_group.auto.types ∙ ap length c.deref_mut.ensures.value in
     let new = written_to c.infer_group.new.types c.groups.types.items c.groups.types.len (c.groups.types.ok.0) kept in
-    subst (λ z. GroupsInferred k c.args.list.now gs n z (c.groups.i + 1) c.args.inference.now.solver c.args.inference.now.environment c.infer_group.new.inference.solver c.infer_group.new.inference.environment) (sym new)
-    (next_stage k c.args.list.now gs n c.groups.i c.groups.types.items c.infer_group.new.types c.deref.result.now c.args.inference.now.solver c.groups.inference.solver c.infer_group.new.inference.solver c.args.inference.now.environment c.groups.inference.environment c.infer_group.new.inference.environment c.requires v within here (c.in_ok-infer_group.ensures.inferred v.added.0 c.args.inference.now.environment v.added.1) (kept ∙ v.sized) c.in_ok-infer_group.ensures.numbers c.in_ok-infer_group.ensures.assumed c.infer_group.ensures.kept (c.in_ok-infer_group.ensures.closed v.added.0 c.args.inference.now.environment v.added.1))
+    subst (λ z. GroupsInferred k c.args.list.now.decls.now gs n z (c.groups.i + 1) c.args.inference.now.solver c.args.inference.now.environment c.infer_group.new.inference.solver c.infer_group.new.inference.environment) (sym new)
+    (next_stage k c.args.list.now.decls.now gs n c.groups.i c.groups.types.items c.infer_group.new.types c.deref.result.now c.args.inference.now.solver c.groups.inference.solver c.infer_group.new.inference.solver c.args.inference.now.environment c.groups.inference.environment c.infer_group.new.inference.environment c.requires.assumed v within here (c.in_ok-infer_group.ensures.inferred v.added.0 c.args.inference.now.environment v.added.1) (kept ∙ v.sized) c.in_ok-infer_group.ensures.numbers c.in_ok-infer_group.ensures.assumed c.infer_group.ensures.kept (c.in_ok-infer_group.ensures.closed v.added.0 c.args.inference.now.environment v.added.1))
 
-pub check_bindings-returns-clause-listed : goal.check_bindings-returns-clause-listed
-check_bindings-returns-clause-listed t c =
-    let k = (known_of c.args.constructors.now) in
+pub check_list-returns-clause-listed : goal.check_list-returns-clause-listed
+check_list-returns-clause-listed t c =
+    let k = (known_of c.args.list.now.constructors.now) in
     let v = c.groups.invariant in
-    let last : length c.in_ok-found.found.groups.items ≤ c.groups.i = (let h = c.groups-test.false in omega (arith, h, c.len-i-end.ensures, c.in_ok-found.found.groups.ok.0)) in
-    signed_end k c.args.list.now (lists c.in_ok-found.found.groups.items) c.groups.i c.args.inference.now.solver c.groups.inference.solver c.args.inference.now.environment c.groups.inference.environment (subst (λ z. z ≤ c.groups.i) (sym (length-map c.in_ok-found.found.groups.items (λ r. r.items))) last) c.requires v.stage c.check_all_signed.new.inference.solver c.check_all_signed.new.inference.environment c.in_ok-check_all_signed.ensures.same v.assumed v.added c.in_ok-check_all_signed.ensures.answers
+    let last : length c.args.list.now.found.now.groups.items ≤ c.groups.i = (let h = c.groups-test.false in omega (arith, h, c.len-i-end.ensures, c.args.list.now.found.now.groups.ok.0)) in
+    signed_end k c.args.list.now.decls.now (lists c.args.list.now.found.now.groups.items) c.groups.i c.args.inference.now.solver c.groups.inference.solver c.args.inference.now.environment c.groups.inference.environment (subst (λ z. z ≤ c.groups.i) (sym (length-map c.args.list.now.found.now.groups.items (λ r. r.items))) last) c.requires.assumed v.stage c.check_all_signed.new.inference.solver c.check_all_signed.new.inference.environment c.in_ok-check_all_signed.ensures.same v.assumed v.added c.in_ok-check_all_signed.ensures.answers
 
-pub check_bindings-returns-clause-closed : goal.check_bindings-returns-clause-closed
-check_bindings-returns-clause-closed t c = λ a. subst (AreAssumed 0) (sym c.in_ok-check_all_signed.ensures.same) (c.groups.invariant.closed a)
+pub check_list-returns-clause-closed : goal.check_list-returns-clause-closed
+check_list-returns-clause-closed t c = λ a. subst (AreAssumed 0) (sym c.in_ok-check_all_signed.ensures.same) (c.groups.invariant.closed a)
 
 pub check_member-check_clause-requires-in-Pattern : goal.check_member-check_clause-requires-in-Pattern
 check_member-check_clause-requires-in-Pattern t c =
@@ -854,13 +854,13 @@ check_all_signed-decls-preserved t c =
 pub check_all_signed-returns-clause-answers : goal.check_all_signed-returns-clause-answers
 check_all_signed-returns-clause-answers t c = signed_done (known_of c.args.list.now.constructors.now) (declarations c.args.list.now.decls.now) c.args.list.now.decls.now c.decls.j c.args.inference.now.environment c.args.inference.now.solver c.decls.inference.solver c.decls-test.false c.decls.invariant.checked
 
-pub check_bindings-returns-in_err-check_all_signed-clause-listed : goal.check_bindings-returns-in_err-check_all_signed-clause-listed
-check_bindings-returns-in_err-check_all_signed-clause-listed t c =
-    let k = (known_of c.args.constructors.now) in
+pub check_list-returns-in_err-check_all_signed-clause-listed : goal.check_list-returns-in_err-check_all_signed-clause-listed
+check_list-returns-in_err-check_all_signed-clause-listed t c =
+    let k = (known_of c.args.list.now.constructors.now) in
     let v = c.groups.invariant in
-    let last : length c.in_ok-found.found.groups.items ≤ c.groups.i = (let h = c.groups-test.false in omega (arith, h, c.len-i-end.ensures, c.in_ok-found.found.groups.ok.0)) in
-    listed_passed (Unit {0}) (list_of k c.args.list.now) c.args.inference.now.solver c.args.inference.now.environment c.check_all_signed.new.inference.solver c.check_all_signed.new.inference.environment c.from_residual-in_err-check_all_signed.result c.in_err-check_all_signed.field-0.0 c.from_residual-in_err-check_all_signed.ensures.1
-    (signed_end_refused k c.args.list.now (lists c.in_ok-found.found.groups.items) c.groups.i c.args.inference.now.solver c.groups.inference.solver c.args.inference.now.environment c.groups.inference.environment (subst (λ z. z ≤ c.groups.i) (sym (length-map c.in_ok-found.found.groups.items (λ r. r.items))) last) c.requires v.stage c.in_err-check_all_signed.field-0.0 c.in_err-check_all_signed.ensures.answers)
+    let last : length c.args.list.now.found.now.groups.items ≤ c.groups.i = (let h = c.groups-test.false in omega (arith, h, c.len-i-end.ensures, c.args.list.now.found.now.groups.ok.0)) in
+    listed_passed (Unit {0}) (list_of k c.args.list.now.decls.now) c.args.inference.now.solver c.args.inference.now.environment c.check_all_signed.new.inference.solver c.check_all_signed.new.inference.environment c.from_residual-in_err-check_all_signed.result c.in_err-check_all_signed.field-0.0 c.from_residual-in_err-check_all_signed.ensures.1
+    (signed_end_refused k c.args.list.now.decls.now (lists c.args.list.now.found.now.groups.items) c.groups.i c.args.inference.now.solver c.groups.inference.solver c.args.inference.now.environment c.groups.inference.environment (subst (λ z. z ≤ c.groups.i) (sym (length-map c.args.list.now.found.now.groups.items (λ r. r.items))) last) c.requires.assumed v.stage c.in_err-check_all_signed.field-0.0 c.in_err-check_all_signed.ensures.answers)
 
 pub check_alternative-returns-in_err-check_right_side-clause-kept : goal.check_alternative-returns-in_err-check_right_side-clause-kept
 check_alternative-returns-in_err-check_right_side-clause-kept t c = extended c.args.inference.now.environment c.open_alternative.new.inference.environment c.check_right_side.new.inference.environment c.open_alternative.ensures.kept c.check_right_side.ensures.kept
@@ -880,8 +880,8 @@ check_expression-returns-in_err-check_expression-in-Let-clause-kept t c = extend
 pub infer_group-returns-in_err-check_members-clause-kept : goal.infer_group-returns-in_err-check_members-clause-kept
 infer_group-returns-in_err-check_members-clause-kept t c = extended c.args.inference.now.environment c.open_group.new.inference.environment c.check_members.new.inference.environment c.open_group.ensures.kept c.check_members.ensures.kept
 
-pub check_bindings-returns-in_err-infer_group-clause-kept : goal.check_bindings-returns-in_err-infer_group-clause-kept
-check_bindings-returns-in_err-infer_group-clause-kept t c = extended c.args.inference.now.environment c.groups.inference.environment c.infer_group.new.inference.environment c.groups.invariant.added c.infer_group.ensures.kept
+pub check_list-returns-in_err-infer_group-clause-kept : goal.check_list-returns-in_err-infer_group-clause-kept
+check_list-returns-in_err-infer_group-clause-kept t c = extended c.args.inference.now.environment c.groups.inference.environment c.infer_group.new.inference.environment c.groups.invariant.added c.infer_group.ensures.kept
 
-pub check_bindings-returns-in_err-check_all_signed-clause-kept : goal.check_bindings-returns-in_err-check_all_signed-clause-kept
-check_bindings-returns-in_err-check_all_signed-clause-kept t c = extended c.args.inference.now.environment c.groups.inference.environment c.check_all_signed.new.inference.environment c.groups.invariant.added c.check_all_signed.ensures.kept
+pub check_list-returns-in_err-check_all_signed-clause-kept : goal.check_list-returns-in_err-check_all_signed-clause-kept
+check_list-returns-in_err-check_all_signed-clause-kept t c = extended c.args.inference.now.environment c.groups.inference.environment c.check_all_signed.new.inference.environment c.groups.invariant.added c.check_all_signed.ensures.kept

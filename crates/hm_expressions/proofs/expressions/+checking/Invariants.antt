@@ -74,7 +74,10 @@ abbrev pub decreases-infer_group : goal.decreases-infer_group
 decreases-infer_group l = 8 * declarations_size (declarations l.list.now.decls.now) + 2
 
 abbrev pub decreases-check_bindings : goal.decreases-check_bindings
-decreases-check_bindings l = 8 * declarations_size (declarations l.list.now) + 3
+decreases-check_bindings l = 8 * declarations_size (declarations l.list.now) + 4
+
+abbrev pub decreases-check_list : goal.decreases-check_list
+decreases-check_list l = 8 * declarations_size (declarations l.list.now.decls.now) + 3
 
 abbrev pub invariant-check_members-members : goal.invariant-check_members-members
 invariant-check_members-members l = record {
@@ -83,8 +86,8 @@ invariant-check_members-members l = record {
   checked : (τ : Identifier → Monotype) → HaveTypesOfAll (known_of l.constructors) l.decls τ l.types l.members → SolvedBy (MembersHave (known_of l.constructors) l.decls l.types τ (take l.j l.members) (assumptions l.initial.inference.environment)) l.initial.inference.solver l.inference.solver;
 }
 
-abbrev pub invariant-check_bindings-groups : goal.invariant-check_bindings-groups
-invariant-check_bindings-groups l = GroupsInferred (known_of l.constructors) l.list (lists l.checked.found.now.groups.items) (length l.checked.found.now.numbers) l.types.items l.i l.fn.inference.solver l.fn.inference.environment l.inference.solver l.inference.environment
+abbrev pub invariant-check_list-groups : goal.invariant-check_list-groups
+invariant-check_list-groups l = GroupsInferred (known_of l.list.constructors.now) l.list.decls.now (lists l.list.found.now.groups.items) (length l.list.found.now.numbers) l.types.items l.i l.fn.inference.solver l.fn.inference.environment l.inference.solver l.inference.environment
 
 abbrev pub decreases-check_signed : goal.decreases-check_signed
 decreases-check_signed l = 8 * declaration_size l.decl.now

@@ -6,7 +6,7 @@ use Rattle.hm_typing.specs.Assumptions.{Assumptions, assumptions_put}
 use Rattle.hm_typing.specs.Schemes.{Monotype}
 use Rattle.hm_groups.specs.Nodes.{list_nodes}
 use Rattle.hm_assumptions.specs.Environments.{AreAssumed, Extends}
-use Rattle.hm_assumptions.specs.Generalisations.{IsSolution, KeepsEach, KeepsNone}
+use Rattle.hm_schemes.specs.Generalisations.{IsSolution, KeepsEach, KeepsNone}
 use Rattle.hm_expressions.specs.BoundNames.{BindsSchemes}
 use Rattle.hm_expressions.proofs.grouping.bind_schemes.Given as goal
 

@@ -1,4 +1,4 @@
-use Rattle.hm_assumptions.proofs.MostGeneral.{most_general, most_general_solves}
+use Rattle.hm_schemes.proofs.MostGeneral.{most_general, most_general_solves}
 use Rattle.hm_expressions.proofs.grouping.close_group.Goals as goal
 
 pub returns-clause-closed : goal.returns-clause-closed

@@ -7,7 +7,7 @@ use Rattle.hm_syntax.specs.Lists.{declarations}
 use Rattle.hm_assumptions.specs.Constructors.{known_of}
 use Rattle.hm_assumptions.specs.Environments.{AreAssumed}
 use Rattle.hm_expressions.specs.Stages.{list_of}
-use Rattle.hm_assumptions.proofs.Closing.{assumed_part}
+use Rattle.hm_schemes.proofs.Closing.{assumed_part}
 use Rattle.hm_expressions.proofs.GroupEnds.{all_one}
 use Rattle.hm_expressions.proofs.ListSteps.{group_at, group_below, group_some, rows_long}
 use Rattle.hm_assumptions.proofs.Extended.{extended}

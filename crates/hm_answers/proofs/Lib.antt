@@ -1,0 +1,2 @@
+pub mod FaultyGroups
+pub mod SchemesPut

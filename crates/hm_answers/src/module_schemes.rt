@@ -1,0 +1,48 @@
+//! The schemes of a module's own variables.
+
+ghost use Rattle.std.specs.Prelude.{List, ◌+◌, ◌∷◌, IfOk, OnOk};
+ghost use Rattle.hm_types.specs.Shape.{type_of};
+ghost use Rattle.hm_unify.specs.WellFormed.{IsWellFormed};
+ghost use Rattle.hm_names.specs.SchemeTables.{scheme_of};
+ghost use Rattle.hm_assumptions.specs.Environments.{AreAssumed, Assumed};
+ghost use Rattle.hm_assumptions.specs.Kept.{assumed_of};
+ghost use Rattle.hm_expressions.specs.OwnSchemes.{HaveCanonical};
+
+use hm_assumptions::{Binding, Environment, instantiate, own_text};
+use hm_names::Schemes;
+use hm_types::canonical;
+use std::alloc::{AllocError, Global};
+
+/// Gives a variable of the module `home` the canonical scheme that is assumed of it.
+fn put_scheme(
+    alloc: Global,
+    schemes: &mut Schemes,
+    home: &str,
+    binding: &Binding<'_>,
+) -> Result<(), AllocError>
+    requires { IsWellFormed (binding.now.quantified + 0) (type_of binding.now.body) }
+    ensures { OnOk result ((es : List Assumed) → HaveCanonical home.now es (scheme_of schemes.old) → HaveCanonical home.now (assumed_of binding.now ∷ es) (scheme_of schemes.new)) }
+{
+    let Some(text) = own_text(binding.name, home) else {
+        return Ok(());
+    };
+    let body = instantiate(alloc, false, binding.quantified, 0, &binding.body)?;
+    schemes.put(text, canonical(alloc, &body)?)?;
+    Ok(())
+}
+
+/// The canonical schemes of the variables of the module `home`, as they are assumed.
+pub fn own_schemes(
+    alloc: Global,
+    home: &str,
+    environment: &Environment<'_>,
+) -> Result<Schemes, AllocError>
+    requires { AreAssumed 0 environment.now }
+    ensures { IfOk result (λ schemes. HaveCanonical home.now environment.now (scheme_of schemes)) }
+{
+    let mut schemes = Schemes::new(alloc);
+    'bindings: for binding in environment.as_slice() {
+        put_scheme(alloc, &mut schemes, home, binding)?;
+    }
+    Ok(schemes)
+}

@@ -1,0 +1,6 @@
+//! Dependency analysis: the binding groups of a declaration list, each behind those that it depends on (Haskell 98 Report, section 4.5.1).
+#![tactic(auto)]
+
+mod groups;
+
+pub use crate::groups::{BindingGroups, binding_groups};

@@ -1,0 +1,5 @@
+pub mod Closing
+pub mod Gather
+pub mod DeclaredTypes
+pub mod MostGeneral
+pub mod Quantifying

@@ -1,0 +1,4 @@
+pub mod Generalisations
+pub mod Escapes
+pub mod Collected
+pub mod Generalised
