@@ -12,9 +12,9 @@ ghost use Rattle.hm_verdicts.specs.ModuleVerdicts.{ArePrincipal, IsVerdict};
 ghost use Rattle.hm_outcomes.specs.Outcomes.{verdict_of};
 ghost use Rattle.hm_check.specs.Refusals.{IsRefused};
 
-use hm_exports::export;
 use hm_imports::are_imports_of;
 use hm_infer::{InferFault, infer_within};
+use hm_interfaces::export;
 use hm_names::{Core, Schemes, ScopeFault};
 use hm_outcomes::{Outcome, Verdict};
 use hm_scope::scope_within;

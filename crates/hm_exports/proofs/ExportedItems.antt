@@ -11,9 +11,9 @@ use Rattle.hm_names.specs.declared.namespace.Namespace.{Namespace}
 use Rattle.hm_names.specs.declared.namespace.Namespace.TheVariants.{Types, Constructors, Values}
 use Rattle.hm_names.specs.declared.faults.Fault.{Fault}
 use Rattle.hm_names.specs.declared.faults.Kind.TheVariants.{Unbound, Ambiguous, NotImported}
-use Rattle.hm_exports.specs.declared.export_groups.Selector.{Selector}
+use Rattle.hm_export_groups.specs.declared.export_groups.Selector.{Selector}
 use Rattle.hm_names.specs.Bindings.{Pair, Adds}
-use Rattle.hm_exports.specs.ExportGroups.{Groups, group_of, IsBoth, IsOwned, IsSelected, AreGroupsOf}
+use Rattle.hm_export_groups.specs.ExportGroups.{Groups, group_of, IsBoth, IsOwned, IsSelected, AreGroupsOf}
 use Rattle.hm_exports.specs.ExportItems.{bare_pair, GivesBehind, GivesPair, NameFault, FaultBehind, ItemFault, IsExportMeaning}
 use Rattle.hm_names.specs.Exports.{HasConstructor, IsModuleName}
 use Rattle.hm_names.specs.Faults.Phases.{fault}

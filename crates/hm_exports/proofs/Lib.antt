@@ -1,12 +1,4 @@
-pub mod Selectors
-pub mod OwnerTables
-pub mod BareSets
-pub mod ExportSelections
 pub mod ExportedItems
 pub mod ExportClashes
 pub mod ListedExports
 pub mod NamesOnce
-pub mod FirstTables
-pub mod BoundNames
-pub mod EntriesMade
-pub mod SoundCores

@@ -24,7 +24,7 @@ use Rattle.hm_names.specs.Faults.Exports.{ExportFault, unbound_value, unbound_ty
 use Rattle.hm_names.specs.Faults.Phases.{HasFault, Exporting, fault}
 use Rattle.hm_exports.specs.ModuleExports.{AreListedExports, AreExportsSoFar, AreExportsOf}
 use Rattle.hm_names.specs.Scope.{Means}
-use Rattle.hm_imports.specs.Tables.{Table, IsTable, IsTold, same_key}
+use Rattle.hm_tables.specs.Tables.{Table, IsTable, IsTold, same_key}
 use Rattle.std.specs.Map.{lookup}
 use Rattle.hm_exports.proofs.ExportClashes.{gives, given, least_is_clash, clash_is_least}
 use Rattle.hm_names.proofs.Members.{none_in}

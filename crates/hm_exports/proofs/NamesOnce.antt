@@ -20,7 +20,7 @@ use Rattle.hm_names.specs.declared.namespace.Namespace.{Namespace}
 use Rattle.hm_names.specs.Bindings.{Pair}
 use Rattle.hm_exports.specs.ExportedRows.{HaveOneEntity, IsBound, AreOnePerName, exported_of}
 use Rattle.hm_names.specs.Texts.{is_text_among}
-use Rattle.hm_exports.proofs.BareSets.{same_space}
+use Rattle.hm_export_groups.proofs.BareSets.{same_space}
 use Rattle.hm_names.proofs.Standing.{among_decides}
 use Rattle.hm_names.proofs.Members.{none_in, mapped}
 

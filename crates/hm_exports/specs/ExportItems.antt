@@ -15,7 +15,7 @@ use Rattle.hm_names.specs.declared.faults.Kind.TheVariants.{Unbound, Ambiguous, 
 use Rattle.hm_exports.specs.declared.exports.Exporter.{Exporter}
 use Rattle.hm_names.specs.Bindings.{Pair, IsScopeOf, IsSeveral, Adds}
 use Rattle.hm_names.specs.Exports.{HasConstructor, IsModuleName}
-use Rattle.hm_exports.specs.ExportGroups.{IsBoth, IsOwned, AreGroupsOf}
+use Rattle.hm_export_groups.specs.ExportGroups.{IsBoth, IsOwned, AreGroupsOf}
 use Rattle.hm_names.specs.Faults.Exports.{item_name, bare_at, Clashes, IsAtMost}
 use Rattle.hm_names.specs.Faults.Phases.{fault}
 use Rattle.hm_names.specs.Scope.{IsUnbound, IsAmbiguous, Means}

@@ -1,8 +1,3 @@
-pub mod Owners
-pub mod ExportGroups
-pub mod BarePairs
 pub mod ExportItems
 pub mod ExportedRows
-pub mod KnownExports
-pub mod ExportedEntries
 pub mod ModuleExports

@@ -11,7 +11,7 @@ use Rattle.hm_names.specs.Bindings.{Pair}
 use Rattle.hm_names.specs.Exports.{IsExported}
 use Rattle.hm_exports.specs.ExportItems.{GivesPair, ItemFault, ClashFault}
 use Rattle.hm_names.specs.Faults.Phases.{HasFault, Exporting}
-use Rattle.hm_imports.specs.Tables.{Table, IsTable}
+use Rattle.hm_tables.specs.Tables.{Table, IsTable}
 
 -- the exported entities under their names, and the faults of the export list
 pub record AreExportsOf (m : Module) (fs : List Interface) (e : ModuleExports) : Type 0 where

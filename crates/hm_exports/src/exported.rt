@@ -6,10 +6,10 @@ ghost use Rattle.hm_types.specs.Interfaces.{AreOrdered};
 ghost use Rattle.hm_names.specs.Bindings.{Pair};
 ghost use Rattle.hm_exports.specs.ExportedRows.{AreOnePerName, HaveOneEntity, IsBound, exported_of};
 
-use crate::export_groups::copy_of;
-use hm_imports::{Binding, TextSet};
+use hm_export_groups::copy_of;
 use hm_names::{Exported, Namespace};
 use hm_syntax::Row;
+use hm_tables::{Binding, TextSet};
 use hm_types::{Entity, Text};
 use std::alloc::{AllocError, Global};
 

@@ -8,23 +8,21 @@ ghost use Rattle.hm_syntax.specs.declared.ast.Export.{Export};
 ghost use Rattle.hm_syntax.specs.declared.ast.Export.TheVariants as export;
 ghost use Rattle.hm_syntax.specs.declared.ast.Module.{Module};
 ghost use Rattle.hm_names.specs.Bindings.{Pair, Adds, IsOwnPair, IsScopeOf};
-ghost use Rattle.hm_exports.specs.ExportGroups.{IsOwned};
+ghost use Rattle.hm_export_groups.specs.ExportGroups.{IsOwned};
 ghost use Rattle.hm_exports.specs.ExportItems.{IsExporterOf, IsExportMeaning, GivesBehind, FaultBehind, GivesPair, ItemFault, IsLeastOf, LeastFault, bare_pair};
 ghost use Rattle.hm_names.specs.Exports.{HasConstructor};
 ghost use Rattle.hm_names.specs.Faults.Exports.{item_name};
 ghost use Rattle.hm_names.specs.Faults.Phases.{fault};
 ghost use Rattle.hm_exports.specs.ModuleExports.{AreExportsOf, AreListedExports, AreExportsSoFar};
-ghost use Rattle.hm_imports.specs.Tables.{IsTable};
+ghost use Rattle.hm_tables.specs.Tables.{IsTable};
 ghost use Rattle.hm_names.specs.declared.faults.Kind.TheVariants.{Unbound};
 
-use crate::export_groups::{Selector, add_group, copy_of, groups_of};
-use hm_imports::{
-    Binding, EntityRef, Key, Meaning, Scope, Slot, TextSet, add_declared, is_several, module_names,
-    note,
-};
+use hm_export_groups::{Selector, add_group, copy_of, groups_of};
+use hm_imports::{add_declared, module_names};
 use hm_lex::Place;
 use hm_names::{Fault, Kind, Namespace, fault_at};
 use hm_syntax::{Export, Module, Name, Row, Subs};
+use hm_tables::{Binding, EntityRef, Key, Meaning, Scope, Slot, TextSet, is_several, note};
 use hm_types::{Interface, Text};
 use indexmap::IndexMap;
 use std::alloc::{AllocError, Global};

@@ -15,13 +15,13 @@ use Rattle.hm_names.specs.Bindings.{Adds}
 use Rattle.hm_names.specs.Entities.{Belongs}
 use Rattle.hm_imports.specs.Gathered as gathered
 use Rattle.hm_imports.specs.Gathered.{bare, type_name, IsOwned, IsBehind, IsNamedBy, IsOpenedBy}
-use Rattle.hm_imports.specs.NameSets.{FullName}
+use Rattle.hm_tables.specs.NameSets.{FullName}
 use Rattle.hm_names.specs.Scope as listing
 use Rattle.hm_names.specs.Scope.{Lists, Hides}
 use Rattle.hm_imports.specs.Selections.{IsListed, ListsOrHides}
 use Rattle.hm_names.proofs.AddedPairs.{adds_then, adds_like, adds_none}
 use Rattle.hm_names.proofs.DeclaredPairs.{none_in}
-use Rattle.hm_imports.proofs.SortedNames.{one_by_name}
+use Rattle.hm_tables.proofs.SortedNames.{one_by_name}
 
 -- a constructor of a name that is another type's is not the type's own
 pub not_owned : (f : Interface) (owner : Entity) (x : List ℕ) (k : ConstructorEntry) → AreOrdered (map (λ (y : ConstructorEntry). y.name) f.constructors) → Contains f.constructors k → k.name ≡ x → ¬ (k.owner ≡ owner) → ¬ IsOwned f owner x

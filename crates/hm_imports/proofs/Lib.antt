@@ -1,17 +1,6 @@
-pub mod NameTables
-pub mod SortedNames
-pub mod NameMeanings
-pub mod NameSetLemmas
 pub mod SelectionLemmas
 pub mod SelectedPairs
 pub mod GatheredLemmas
-pub mod SeveralLemmas
-pub mod FaultyLemmas
-pub mod FaultyLists
-pub mod MeaningsTold
-pub mod TextSets
-pub mod EntityTables
-pub mod FirstDescriptions
 pub mod WholeNames
 pub mod ImportedNames
 pub mod SameNames

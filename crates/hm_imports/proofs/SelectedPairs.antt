@@ -19,7 +19,7 @@ use Rattle.hm_names.specs.Entities.{Exports, a_type, a_synonym, a_constructor, a
 use Rattle.hm_names.specs.Scope.{Lists, Hides, Brings, every, only, hiding, Imports, written, added, InScope, declared, imported, known_as, import_prelude, prelude_name}
 use Rattle.hm_imports.specs.Selections.{Selects, IsSelected, IsSelectionOf, IsSelectedPair, IsBroughtFrom, IsImportedPair, IsListed}
 use Rattle.hm_imports.specs.declared.selections.Selection.TheVariants as choose
-use Rattle.hm_imports.specs.NameSets.{FullName}
+use Rattle.hm_tables.specs.NameSets.{FullName}
 use Rattle.hm_imports.specs.Selections as select
 use Rattle.hm_names.proofs.AddedPairs.{adds_like, adds_then, ForEach}
 use Rattle.hm_names.proofs.DeclaredPairs.{contains_map}

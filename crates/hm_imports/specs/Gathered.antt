@@ -11,7 +11,7 @@ use Rattle.hm_syntax.specs.declared.ast.Subs.{Subs}
 use Rattle.hm_syntax.specs.declared.ast.Subs.TheVariants as subs
 use Rattle.hm_names.specs.declared.namespace.Namespace.{Namespace}
 use Rattle.hm_names.specs.declared.namespace.Namespace.TheVariants.{Types, Constructors, Values}
-use Rattle.hm_imports.specs.NameSets.{FullName}
+use Rattle.hm_tables.specs.NameSets.{FullName}
 
 abbrev pub bare : Namespace → List ℕ → FullName
 bare s x = record { space = s; qualifier = None; text = x }

@@ -12,7 +12,7 @@ use Rattle.hm_imports.specs.declared.selections.Selection.TheVariants.{Every, On
 use Rattle.hm_names.specs.Bindings.{Pair, IsPairOf, IsBroughtPair}
 use Rattle.hm_names.specs.Entities.{Exports}
 use Rattle.hm_imports.specs.Gathered.{bare}
-use Rattle.hm_imports.specs.NameSets.{FullName}
+use Rattle.hm_tables.specs.NameSets.{FullName}
 use Rattle.hm_names.specs.Scope.{Lists, Hides, Imports}
 
 -- the item names x, or hides it

@@ -4,8 +4,8 @@ ghost use Rattle.std.specs.Prelude.{◌≡◌, ◌↔◌, IfOk, IsTrue, map};
 ghost use Rattle.std.specs.Arc.{arc_value};
 ghost use Rattle.hm_names.specs.Imports.{AreImportsOf, imported};
 
-use crate::text_set::TextSet;
 use hm_syntax::Module;
+use hm_tables::TextSet;
 use hm_types::Interface;
 use std::alloc::{AllocError, Global};
 use std::sync::Arc;

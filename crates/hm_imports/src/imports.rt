@@ -14,12 +14,11 @@ ghost use Rattle.hm_types.specs.declared.entries.SynonymEntry.{SynonymEntry};
 ghost use Rattle.hm_types.specs.declared.entries.ConstructorEntry.{ConstructorEntry};
 ghost use Rattle.hm_types.specs.declared.entries.ValueEntry.{ValueEntry};
 
-use crate::bindings::{Binding, EntityRef};
 use crate::in_scope::{add, add_declared};
 use crate::selections::Selection;
-use crate::table::Scope;
 use hm_names::Namespace;
 use hm_syntax::{Import, Module};
+use hm_tables::{Binding, EntityRef, Scope};
 use hm_types::{ConstructorEntry, Entity, Interface, SynonymEntry, TypeEntry, ValueEntry};
 use std::alloc::{AllocError, Global};
 use std::sync::Arc;

@@ -9,9 +9,9 @@ ghost use Rattle.hm_names.specs.Entities.{named, constructor_name};
 ghost use Rattle.hm_names.specs.Variables.{pattern_variables};
 ghost use Rattle.hm_names.specs.declared.namespace.Namespace.TheVariants.{Types, Constructors, Values};
 
-use crate::bindings::{Binding, EntityRef};
 use hm_names::{LentNames, Namespace, add_pattern};
 use hm_syntax::{Constr, Decl, DeclKind, Module, Name, Pat};
+use hm_tables::{Binding, EntityRef};
 use std::alloc::{AllocError, Global};
 
 /// Adds an entity under its name, qualified, and bare unless a qualifier is asked for.

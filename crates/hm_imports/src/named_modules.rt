@@ -7,8 +7,8 @@ ghost use Rattle.hm_names.specs.Exports.{IsModuleName};
 ghost use Rattle.hm_names.specs.Scope.{known_as};
 
 use crate::imports::{import_name, names_prelude};
-use crate::text_set::TextSet;
 use hm_syntax::{Import, Module};
+use hm_tables::TextSet;
 use std::alloc::{AllocError, Global};
 
 /// Adds a name.

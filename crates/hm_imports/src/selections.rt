@@ -9,10 +9,9 @@ ghost use Rattle.hm_imports.specs.Selections.{IsListed, Selects, IsSelectionOf};
 ghost use Rattle.hm_imports.specs.Gathered.{bare, type_name, IsOwned, IsBehind, IsNamedBy, IsOpenedBy};
 ghost use Rattle.hm_names.specs.declared.namespace.Namespace.TheVariants.{Types, Constructors, Values};
 
-use crate::lookups::{constructor_named, type_named};
-use crate::name_set::NameSet;
 use hm_names::Namespace;
 use hm_syntax::{Item, List, Name, Subs};
+use hm_tables::{NameSet, constructor_named, type_named};
 use hm_types::{ConstructorEntry, Entity, Interface};
 use std::alloc::{AllocError, Global};
 

@@ -6,8 +6,8 @@ ghost use Rattle.hm_names.specs.Variables.{texts, bound_names};
 ghost use Rattle.hm_names.specs.Resolved.{expression_with, right_side_with, declaration_with, unchanged};
 ghost use Rattle.hm_names.specs.Found.{noting, entering, locals_of, resolver_of, binder_of, list_faults, expression_faults, expressions_faults, alternative_faults, alternatives_faults, right_side_faults, declaration_faults, declarations_faults, alternative_with, guard_with, part_with, guard_faults, part_faults, parts_faults};
 
-use crate::copies::{bound_name, bound_names, copy_literal, owned_names};
 use crate::resolving::Resolving;
+use hm_expansion::{bound_name, copy_literal, owned_names};
 use hm_lex::Place;
 use hm_names::{LentNames, add_all_bound};
 use hm_syntax::{Alt, Decl, DeclKind, Expr, ExprKind, Name, Pat, Rhs, TypeExpr};
@@ -266,15 +266,7 @@ impl Resolving<'_> {
             DeclKind::Synonym { name, params, ty } => Ok(self.synonym(
                 alloc, home, name, params, ty,
             )?),
-            DeclKind::Signature { names, ty } => {
-                let ty = self.type_expr(alloc, ty)?;
-                Ok(Decl {
-                    kind: DeclKind::Signature {
-                        names: bound_names(alloc, home, names)?,
-                        ty,
-                    },
-                })
-            }
+            DeclKind::Signature { names, ty } => Ok(self.signature(alloc, home, names, ty)?),
             DeclKind::Clause { name, pats, rhs } => Ok(self.clause(alloc, home, name, pats, rhs)?),
             DeclKind::Pattern { place, pat, rhs } => Ok(self.binding(
                 alloc, home, *place, pat, rhs,

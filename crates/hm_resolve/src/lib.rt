@@ -2,17 +2,9 @@
 //! declaration lists, names and numbers of arguments are noted.
 #![tactic(auto)]
 
-mod binding_lists;
-mod copies;
-mod expansion;
 mod expressions;
-mod list_faults;
-mod list_names;
-mod locals;
 mod noted_names;
-mod open_bindings;
 mod patterns;
-mod repeats;
 mod resolving;
 mod type_declarations;
 mod types;

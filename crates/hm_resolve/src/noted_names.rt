@@ -6,9 +6,8 @@ ghost use Rattle.hm_names.specs.Variables.{texts};
 ghost use Rattle.hm_names.specs.Faults.Phases.{fault};
 ghost use Rattle.hm_names.specs.Found.{noting, repeated, outside, list_faults};
 
-use crate::list_faults::add_list_faults;
-use crate::repeats::{add_outside, add_repeated};
 use crate::resolving::Resolving;
+use hm_lists::{add_list_faults, add_outside, add_repeated};
 use hm_names::{Kind, LentNames};
 use hm_syntax::Decl;
 use std::alloc::{AllocError, Global};

@@ -5,8 +5,8 @@ ghost use Rattle.hm_names.specs.Variables.{pattern_variables, patterns_variables
 ghost use Rattle.hm_names.specs.Resolved.{pattern_with, unchanged};
 ghost use Rattle.hm_names.specs.Found.{noting, resolver_of, binder_of, pattern_faults, patterns_faults, head_faults, alone, non_linear};
 
-use crate::copies::{bound_name, copy_literal, owned_names};
 use crate::resolving::Resolving;
+use hm_expansion::{bound_name, copy_literal, owned_names};
 use hm_names::{Kind, LentNames, add_pattern, add_patterns};
 use hm_syntax::{Name, Pat, PatKind};
 use hm_types::Text;
@@ -31,9 +31,9 @@ impl Resolving<'_> {
             }),
             PatKind::Bound(name, inner) => {
                 let name = bound_name(alloc, home, name)?;
-                let inner = self.pat(alloc, home, inner)?;
+                let inner = Box::new(alloc, self.pat(alloc, home, inner)?)?;
                 Ok(Pat {
-                    kind: PatKind::Bound(name, Box::new(alloc, inner)?),
+                    kind: PatKind::Bound(name, inner),
                 })
             }
             PatKind::Con(name, args) => {
@@ -62,9 +62,9 @@ impl Resolving<'_> {
                 })
             }
             PatKind::Lazy(inner) => {
-                let inner = self.pat(alloc, home, inner)?;
+                let inner = Box::new(alloc, self.pat(alloc, home, inner)?)?;
                 Ok(Pat {
-                    kind: PatKind::Lazy(Box::new(alloc, inner)?),
+                    kind: PatKind::Lazy(inner),
                 })
             }
         }

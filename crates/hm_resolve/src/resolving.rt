@@ -12,12 +12,12 @@ ghost use Rattle.hm_names.specs.Resolved.{expression_with};
 ghost use Rattle.hm_syntax.specs.Lists.{types, patterns};
 ghost use Rattle.hm_names.specs.Variables.{texts, type_count, pattern_count};
 
-use crate::copies::{copy_name, entity_name, is_special, is_unqualified, special_arity};
-use crate::expansion::filled;
-use crate::locals::Locals;
-use hm_imports::{Meaning, Scope, Tables};
+use hm_descriptions::Tables;
+use hm_expansion::{copy_name, entity_name, filled, is_special, is_unqualified, special_arity};
+use hm_lists::Locals;
 use hm_names::{Fault, Kind, Namespace, fault_at};
 use hm_syntax::{Expr, ExprKind, Name, Pat, TypeExpr, TypeKind};
+use hm_tables::{Meaning, Scope};
 use std::alloc::{AllocError, Global};
 use std::marker::Model;
 

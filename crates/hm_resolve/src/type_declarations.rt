@@ -1,13 +1,14 @@
 //! Declarations of types (Haskell 98 Report, section 4.2).
 ghost use Rattle.std.specs.Prelude.{◌≡◌, IfOk, OnOk, map};
 ghost use Rattle.hm_syntax.specs.Lists.{constructors};
-ghost use Rattle.hm_syntax.specs.Trees.{data_declaration, newtype_declaration, synonym_declaration, more_constructors, no_constructors};
+ghost use Rattle.hm_syntax.specs.Trees.{data_declaration, newtype_declaration, synonym_declaration, signature, more_constructors, no_constructors};
+ghost use Rattle.hm_names.specs.Variables.{type_variables, constructor_variables, constructors_variables};
 ghost use Rattle.hm_names.specs.Resolved.{constructor_with, declaration_with};
 ghost use Rattle.hm_names.specs.Found.{noting, locals_of, resolver_of, binder_of, constructor_faults, constructors_faults, declaration_faults, parameter_faults, duplicates, outside};
 
-use crate::copies::{bound_name, copy_names};
-use crate::list_names::add_names;
 use crate::resolving::Resolving;
+use hm_expansion::{bound_name, bound_names, copy_names};
+use hm_lists::add_names;
 use hm_names::{Kind, LentNames, add_constructor, add_constructors, add_type};
 use hm_syntax::{Constr, Decl, DeclKind, Name, TypeExpr};
 use hm_types::Text;
@@ -28,6 +29,48 @@ impl Resolving<'_> {
         add_names(&mut lent, params)?;
         self.repeated(alloc, Kind::Duplicate, &lent)?;
         Ok(self.outside(alloc, Kind::Unbound, &lent, variables)?)
+    }
+
+    /// Notes what is wrong with the parameters of a data type.
+    fn data_parameters(
+        &mut self,
+        alloc: Global,
+        params: &[Name],
+        constrs: &[Constr],
+    ) -> Result<(), AllocError>
+        ensures { OnOk result (self.new ≡ noting (parameter_faults params.now (constructors_variables (constructors constrs.now))) self.old) }
+    {
+        let mut variables = LentNames::new(alloc);
+        add_constructors(&mut variables, constrs)?;
+        Ok(self.parameters(alloc, params, &variables)?)
+    }
+
+    /// Notes what is wrong with the parameters of a newtype.
+    fn newtype_parameters(
+        &mut self,
+        alloc: Global,
+        params: &[Name],
+        constr: &Constr,
+    ) -> Result<(), AllocError>
+        ensures { OnOk result (self.new ≡ noting (parameter_faults params.now (constructor_variables constr.now)) self.old) }
+    {
+        let mut variables = LentNames::new(alloc);
+        add_constructor(&mut variables, constr)?;
+        Ok(self.parameters(alloc, params, &variables)?)
+    }
+
+    /// Notes what is wrong with the parameters of a synonym.
+    fn synonym_parameters(
+        &mut self,
+        alloc: Global,
+        params: &[Name],
+        ty: &TypeExpr,
+    ) -> Result<(), AllocError>
+        ensures { OnOk result (self.new ≡ noting (parameter_faults params.now (type_variables ty.now)) self.old) }
+    {
+        let mut variables = LentNames::new(alloc);
+        add_type(&mut variables, ty)?;
+        Ok(self.parameters(alloc, params, &variables)?)
     }
 
     /// A constructor with the names in its types resolved.
@@ -78,14 +121,14 @@ impl Resolving<'_> {
         ensures tree { IfOk result (λ d. d ≡ declaration_with (resolver_of self.old.known) (binder_of home.now) (locals_of self.old) (data_declaration name.now params.now (constructors constrs.now))) }
         ensures state { OnOk result (self.new ≡ noting (declaration_faults self.old.known (locals_of self.old) (data_declaration name.now params.now (constructors constrs.now))) self.old) }
     {
-        let mut variables = LentNames::new(alloc);
-        add_constructors(&mut variables, constrs)?;
-        self.parameters(alloc, params, &variables)?;
+        self.data_parameters(alloc, params, constrs)?;
+        let name = bound_name(alloc, home, name)?;
+        let params = copy_names(alloc, params)?;
         let constrs = self.constr_row(alloc, home, constrs)?;
         Ok(Decl {
             kind: DeclKind::DataType {
-                name: bound_name(alloc, home, name)?,
-                params: copy_names(alloc, params)?,
+                name,
+                params,
                 constrs,
             },
         })
@@ -105,14 +148,14 @@ impl Resolving<'_> {
         ensures tree { IfOk result (λ d. d ≡ declaration_with (resolver_of self.old.known) (binder_of home.now) (locals_of self.old) (newtype_declaration name.now params.now constr.now)) }
         ensures state { OnOk result (self.new ≡ noting (declaration_faults self.old.known (locals_of self.old) (newtype_declaration name.now params.now constr.now)) self.old) }
     {
-        let mut variables = LentNames::new(alloc);
-        add_constructor(&mut variables, constr)?;
-        self.parameters(alloc, params, &variables)?;
+        self.newtype_parameters(alloc, params, constr)?;
+        let name = bound_name(alloc, home, name)?;
+        let params = copy_names(alloc, params)?;
         let constr = self.constr(alloc, home, constr)?;
         Ok(Decl {
             kind: DeclKind::Newtype {
-                name: bound_name(alloc, home, name)?,
-                params: copy_names(alloc, params)?,
+                name,
+                params,
                 constr,
             },
         })
@@ -132,16 +175,31 @@ impl Resolving<'_> {
         ensures tree { IfOk result (λ d. d ≡ declaration_with (resolver_of self.old.known) (binder_of home.now) (locals_of self.old) (synonym_declaration name.now params.now ty.now)) }
         ensures state { OnOk result (self.new ≡ noting (declaration_faults self.old.known (locals_of self.old) (synonym_declaration name.now params.now ty.now)) self.old) }
     {
-        let mut variables = LentNames::new(alloc);
-        add_type(&mut variables, ty)?;
-        self.parameters(alloc, params, &variables)?;
+        self.synonym_parameters(alloc, params, ty)?;
+        let name = bound_name(alloc, home, name)?;
+        let params = copy_names(alloc, params)?;
         let ty = self.type_expr(alloc, ty)?;
         Ok(Decl {
-            kind: DeclKind::Synonym {
-                name: bound_name(alloc, home, name)?,
-                params: copy_names(alloc, params)?,
-                ty,
-            },
+            kind: DeclKind::Synonym { name, params, ty },
+        })
+    }
+
+    /// A signature.
+    #[inline(never)]
+    pub(crate) fn signature(
+        &mut self,
+        alloc: Global,
+        home: &Option<Text>,
+        names: &[Name],
+        ty: &TypeExpr,
+    ) -> Result<Decl, AllocError>
+        ensures tree { IfOk result (λ d. d ≡ declaration_with (resolver_of self.old.known) (binder_of home.now) (locals_of self.old) (signature names.now ty.now)) }
+        ensures state { OnOk result (self.new ≡ noting (declaration_faults self.old.known (locals_of self.old) (signature names.now ty.now)) self.old) }
+    {
+        let names = bound_names(alloc, home, names)?;
+        let ty = self.type_expr(alloc, ty)?;
+        Ok(Decl {
+            kind: DeclKind::Signature { names, ty },
         })
     }
 }

@@ -4,8 +4,8 @@ ghost use Rattle.hm_syntax.specs.Lists.{types};
 ghost use Rattle.hm_names.specs.Resolved.{type_with};
 ghost use Rattle.hm_names.specs.Found.{noting, resolver_of, type_faults, types_faults};
 
-use crate::copies::copy_name;
 use crate::resolving::Resolving;
+use hm_expansion::copy_name;
 use hm_syntax::{TypeExpr, TypeKind};
 use std::alloc::{AllocError, Global};
 

@@ -8,9 +8,10 @@ ghost use Rattle.hm_names.specs.Found.{lookups_in, resolver_of};
 ghost use Rattle.hm_names.specs.NodeFaults.{NodeFault, AreLookupsOf};
 
 use crate::resolving::Resolving;
-use hm_imports::{Scope, Tables};
+use hm_descriptions::Tables;
 use hm_names::Fault;
 use hm_syntax::{Decl, Module};
+use hm_tables::Scope;
 use hm_types::Text;
 use std::alloc::{AllocError, Global};
 

@@ -1,9 +1,5 @@
 pub mod Everywhere
 pub mod TreePhases
-pub mod PhasesAnswered
-pub mod References
-pub mod SynonymGroups
-pub mod SynonymReferences
 pub mod SettledSynonyms
 pub mod OneEntity
 pub mod ModuleAnswers

@@ -1,5 +1,5 @@
 -- The answers of the phases, one after another.
-use Rattle.std.proofs.Common.{◌≡◌, ℕ, ◌<◌, ◌++◌, ◌∷◌, [], Bool, true, false, cond, List, map, filter, Option, None, Some, inl, inr, ⊎_elim, ◌↔◌, refl, sym, ap, ◌∙◌, subst, Contains, arith}
+use Rattle.std.proofs.Common.{◌≡◌, ℕ, ◌++◌, ◌∷◌, [], Bool, true, false, cond, List, map, filter, inl, inr, ⊎_elim, ◌↔◌, refl, sym, ap, ◌∙◌, subst, Contains}
 use Rattle.std.proofs.lemmas.List.Elements.{Contains-append_left, Contains-append_right, Contains-append_cases}
 use Rattle.hm_types.specs.declared.Entity.{Entity}
 use Rattle.hm_types.specs.Interfaces.{Exports as Interface, AreOrdered}
@@ -18,12 +18,13 @@ use Rattle.hm_exports.specs.ExportedRows.{IsBound}
 use Rattle.hm_exports.specs.ModuleExports.{AreExportsOf}
 use Rattle.hm_names.specs.Walk.{Somewhere}
 use Rattle.hm_names.specs.Resolved.{top, declaration_with}
-use Rattle.hm_names.specs.Found.{Lookups, lookups_in, resolver_of}
-use Rattle.hm_imports.specs.KnownTables.{KnownTables, AreTablesOf, lookups_of}
+use Rattle.hm_names.specs.Found.{Lookups, resolver_of}
+use Rattle.hm_tables.specs.KnownTables.{KnownTables, AreTablesOf, lookups_of}
 use Rattle.hm_names.specs.NodeFaults.{NodeFault, AreLookupsOf}
-use Rattle.hm_scope.specs.Synonyms.{HasSynonymFault, AreResolved}
-use Rattle.hm_names.specs.Faults.Phases.{Phase, Importing, Declaring, Exporting, Naming, Counting, phase_number, HasFault, IsWellFormed}
-use Rattle.hm_scope.specs.Answers.{is_of_lists, is_of_names, is_of_numbers, AreTrees, AreWalked, AreFirstFaults, IsPhaseAnswer, IsResolvedModule, AreExportedRows}
+use Rattle.hm_synonyms.specs.Synonyms.{HasSynonymFault, AreResolved}
+use Rattle.hm_names.specs.Faults.Phases.{Exporting, IsWellFormed}
+use Rattle.hm_phases.specs.Answers.{is_of_lists, is_of_names, is_of_numbers}
+use Rattle.hm_scope.specs.Answers.{AreTrees, AreWalked, IsResolvedModule, AreExportedRows}
 use Rattle.hm_names.proofs.Members.{none_in, cases, first, rest}
 use Rattle.hm_scope.proofs.OneEntity.{one_entity, bound_is_exported}
 use Rattle.hm_names.proofs.Resolves.{resolves}
@@ -111,54 +112,6 @@ are_trees m fs trees walked recursive are lists names numbers cycles = record {
       λ c. let k = (filtered p walked f).0 (subst (λ z. Contains z f) is c) in says.0 ((are.faults f).0 k.0, k.1),
       λ h. let k = says.1 h in subst (λ z. Contains z f) (sym is) ((filtered p walked f).1 ((are.faults f).1 k.0, k.1)),
     )
-
--- The phases
-
-pub well_formed : (m : Module) (fs : List Interface) → ((f : Fault) → ¬ HasFault m fs Importing f) → ((f : Fault) → ¬ HasFault m fs Declaring f) → ((f : Fault) → ¬ HasFault m fs Exporting f) → ((f : Fault) → ¬ HasFault m fs Naming f) → ((f : Fault) → ¬ HasFault m fs Counting f) → IsWellFormed m fs
-well_formed m fs i d e n c Importing = i
-well_formed m fs i d e n c Declaring = d
-well_formed m fs i d e n c Exporting = e
-well_formed m fs i d e n c Naming = n
-well_formed m fs i d e n c Counting = c
-
-pub before_importing : (m : Module) (fs : List Interface) (q : Phase) → phase_number q < phase_number Importing → (f : Fault) → ¬ HasFault m fs q f
-before_importing m fs Importing h = absurd (omega (arith, h))
-before_importing m fs Declaring h = absurd (omega (arith, h))
-before_importing m fs Exporting h = absurd (omega (arith, h))
-before_importing m fs Naming h = absurd (omega (arith, h))
-before_importing m fs Counting h = absurd (omega (arith, h))
-
-pub before_declaring : (m : Module) (fs : List Interface) → ((f : Fault) → ¬ HasFault m fs Importing f) → (q : Phase) → phase_number q < phase_number Declaring → (f : Fault) → ¬ HasFault m fs q f
-before_declaring m fs i Importing h = i
-before_declaring m fs i Declaring h = absurd (omega (arith, h))
-before_declaring m fs i Exporting h = absurd (omega (arith, h))
-before_declaring m fs i Naming h = absurd (omega (arith, h))
-before_declaring m fs i Counting h = absurd (omega (arith, h))
-
-pub before_exporting : (m : Module) (fs : List Interface) → ((f : Fault) → ¬ HasFault m fs Importing f) → ((f : Fault) → ¬ HasFault m fs Declaring f) → (q : Phase) → phase_number q < phase_number Exporting → (f : Fault) → ¬ HasFault m fs q f
-before_exporting m fs i d Importing h = i
-before_exporting m fs i d Declaring h = d
-before_exporting m fs i d Exporting h = absurd (omega (arith, h))
-before_exporting m fs i d Naming h = absurd (omega (arith, h))
-before_exporting m fs i d Counting h = absurd (omega (arith, h))
-
-pub before_naming : (m : Module) (fs : List Interface) → ((f : Fault) → ¬ HasFault m fs Importing f) → ((f : Fault) → ¬ HasFault m fs Declaring f) → ((f : Fault) → ¬ HasFault m fs Exporting f) → (q : Phase) → phase_number q < phase_number Naming → (f : Fault) → ¬ HasFault m fs q f
-before_naming m fs i d e Importing h = i
-before_naming m fs i d e Declaring h = d
-before_naming m fs i d e Exporting h = e
-before_naming m fs i d e Naming h = absurd (omega (arith, h))
-before_naming m fs i d e Counting h = absurd (omega (arith, h))
-
-pub before_counting : (m : Module) (fs : List Interface) → ((f : Fault) → ¬ HasFault m fs Importing f) → ((f : Fault) → ¬ HasFault m fs Declaring f) → ((f : Fault) → ¬ HasFault m fs Exporting f) → ((f : Fault) → ¬ HasFault m fs Naming f) → (q : Phase) → phase_number q < phase_number Counting → (f : Fault) → ¬ HasFault m fs q f
-before_counting m fs i d e n Importing h = i
-before_counting m fs i d e n Declaring h = d
-before_counting m fs i d e n Exporting h = e
-before_counting m fs i d e n Naming h = n
-before_counting m fs i d e n Counting h = absurd (omega (arith, h))
-
-pub last_answer : (m : Module) (fs : List Interface) (o : Option (List Fault)) → ((f : Fault) → ¬ HasFault m fs Importing f) → ((f : Fault) → ¬ HasFault m fs Declaring f) → ((f : Fault) → ¬ HasFault m fs Exporting f) → ((f : Fault) → ¬ HasFault m fs Naming f) → IsPhaseAnswer m fs Counting o → AreFirstFaults m fs o
-last_answer m fs None i d e n answer = well_formed m fs i d e n answer
-last_answer m fs (Some found) i d e n answer = answer (before_counting m fs i d e n)
 
 pub resolved_module : (m : Module) (fs : List Interface) (trees : Trees) (exports : ModuleExports) → AreTrees m fs trees → AreExportsOf m fs exports → IsWellFormed m fs → IsResolvedModule m fs trees.decls.items exports.given.items
 resolved_module m fs trees exports are given w = record {

@@ -1,4 +1,2 @@
 pub mod Outcome
 pub mod Answers
-pub mod Synonyms
-pub mod SynonymGraphs

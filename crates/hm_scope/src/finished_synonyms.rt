@@ -5,26 +5,27 @@ ghost use Rattle.hm_types.specs.Interfaces.{Exports as Interface};
 ghost use Rattle.hm_types.specs.declared.Entity.{Entity};
 ghost use Rattle.hm_syntax.specs.declared.ast.Module.{Module};
 ghost use Rattle.hm_names.specs.Bindings.{IsScopeOf};
-ghost use Rattle.hm_scope.specs.declared.own_synonyms.OwnSynonym.{OwnSynonym};
+ghost use Rattle.hm_synonyms.specs.declared.declared_synonyms.OwnSynonym.{OwnSynonym};
 ghost use Rattle.hm_syntax.specs.Names.{Identifier};
 ghost use Rattle.hm_names.specs.Entities.{named};
 ghost use Rattle.hm_names.specs.Faults.Phases.{IsWellFormed};
 ghost use Rattle.hm_names.specs.Found.{resolver_of, synonym_among};
-ghost use Rattle.hm_imports.specs.KnownTables.{AreTablesOf, lookups_of};
+ghost use Rattle.hm_tables.specs.KnownTables.{AreTablesOf, lookups_of};
 ghost use Rattle.hm_names.specs.Resolved.{Resolver, type_with};
 ghost use Rattle.hm_names.specs.DeclaredSynonyms.{AreAmong, IsSound};
-ghost use Rattle.hm_scope.specs.Synonyms.{AreOwnSynonyms, IsReferenceGraph, IsExpandable, Finishes, AreResolved};
+ghost use Rattle.hm_synonyms.specs.Synonyms.{AreOwnSynonyms, IsReferenceGraph, IsExpandable, Finishes, AreResolved};
 ghost use Rattle.hm_names.specs.Texts.{same_entity};
-ghost use Rattle.hm_names.specs.Types.{synonym_of};
+ghost use Rattle.hm_names.specs.Types.{synonym_of, program_of, type_in};
 ghost use Rattle.hm_names.specs.Variables.{type_variables};
+ghost use Rattle.hm_types.specs.Shape.{type_of};
 
-use crate::own_synonyms::{OwnSynonym, OwnSynonyms};
-use crate::synonym_graph::SynonymGraph;
-use hm_imports::{Scope, Tables};
+use hm_descriptions::Tables;
 use hm_names::{LentNames, TypeVariables, add_type, monotype, parameters_of};
 use hm_resolve::Resolving;
+use hm_synonyms::{OwnSynonym, OwnSynonyms, SynonymGraph};
 use hm_syntax::{Module, Name, TypeExpr};
-use hm_types::Synonym;
+use hm_tables::Scope;
+use hm_types::{Synonym, Ty};
 use std::alloc::{AllocError, Global};
 
 /// Whether each variable of a type is one of these.
@@ -45,6 +46,33 @@ fn is_closed(
     Ok(true)
 }
 
+/// A type with its names resolved and its synonyms expanded.
+fn resolved_type(
+    alloc: Global,
+    scope: &Scope<'_>,
+    tables: &Tables<'_>,
+    ty: &TypeExpr,
+) -> Result<TypeExpr, AllocError>
+    ensures { IfOk result (λ resolved. resolved ≡ type_with (resolver_of (lookups_of scope.now tables.now)) ty.now) }
+{
+    let mut resolving = Resolving::new(alloc, scope, tables);
+    Ok(resolving.type_expr(alloc, ty)?)
+}
+
+/// The type over these variables that is written so.
+fn type_over(
+    alloc: Global,
+    scope: &Scope<'_>,
+    tables: &Tables<'_>,
+    variables: &TypeVariables<'_>,
+    ty: &TypeExpr,
+) -> Result<Ty, AllocError>
+    ensures { IfOk result (λ t. type_of t ≡ program_of (type_in variables.now (type_with (resolver_of (lookups_of scope.now tables.now)) ty.now))) }
+{
+    let resolved = resolved_type(alloc, scope, tables, ty)?;
+    Ok(monotype(alloc, variables, &resolved)?)
+}
+
 /// A synonym with its right side resolved and expanded, if all its variables are parameters.
 fn finished(
     alloc: Global,
@@ -59,9 +87,7 @@ fn finished(
     if !is_closed(alloc, &variables, ty)? {
         return Ok(None);
     }
-    let mut resolving = Resolving::new(alloc, scope, tables);
-    let resolved = resolving.type_expr(alloc, ty)?;
-    let body = monotype(alloc, &variables, &resolved)?;
+    let body = type_over(alloc, scope, tables, &variables, ty)?;
     Ok(Some(Synonym::new(variables.len(), body)))
 }
 

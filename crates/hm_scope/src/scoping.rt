@@ -1,33 +1,34 @@
 //! The core of a module, or its faults.
 
-ghost use Rattle.std.specs.Prelude.{◌≡◌, ◌↔◌, ◌++◌, ◌∷◌, [], List, length, map, IfOk, IfErr, Contains};
+ghost use Rattle.std.specs.Prelude.{◌≡◌, ◌↔◌, ◌++◌, ◌∷◌, List, length, map, IfOk, IfErr, Contains};
 ghost use Rattle.std.specs.Arc.{arc_value};
 ghost use Rattle.hm_syntax.specs.declared.ast.Module.{Module as ModuleTree};
-ghost use Rattle.hm_types.specs.Interfaces.{Exports as Interface, AreOrdered};
+ghost use Rattle.hm_types.specs.Interfaces.{Exports as Interface};
 ghost use Rattle.hm_types.specs.StandardPrelude.{prelude_interface};
 ghost use Rattle.hm_names.specs.declared.faults.Fault.{Fault};
 ghost use Rattle.hm_names.specs.declared.namespace.Namespace.{Namespace};
-ghost use Rattle.hm_scope.specs.Answers.{AreExact, AreFirstFaults, AreTrees, AreWalked, IsAnswerBehind, AreExportedRows};
-ghost use Rattle.hm_scope.specs.Synonyms.{AreOwnSynonyms, HasSynonymFault, IsReferenceGraph};
+ghost use Rattle.hm_scope.specs.Answers.{AreTrees, AreWalked, IsAnswerBehind, AreExportedRows};
+ghost use Rattle.hm_tables.specs.KnownTables.{AreTablesOf};
+ghost use Rattle.hm_synonyms.specs.Synonyms.{AreOwnSynonyms, HasSynonymFault, IsReferenceGraph};
 ghost use Rattle.hm_names.specs.Bindings.{IsScopeOf};
 ghost use Rattle.hm_names.specs.Cores.{IsCore};
-ghost use Rattle.hm_exports.specs.ExportedRows.{HaveOneEntity, IsBound};
-ghost use Rattle.hm_names.specs.Faults.Phases.{HasFault, Importing, Declaring, Exporting, Naming, Counting};
+ghost use Rattle.hm_exports.specs.ExportedRows.{HaveOneEntity};
 ghost use Rattle.hm_names.specs.Imports.{AreImportsOf};
 ghost use Rattle.hm_scope.specs.Outcome.{IsFaulty, IsOutcome};
 
-use crate::answering::phase_answer;
 use crate::finished_synonyms::add_synonyms;
-use crate::own_synonyms::{OwnSynonyms, own_synonyms, reference_graph};
-use crate::phases::by_phases;
-use crate::recursive_synonyms::synonym_faults;
-use crate::synonym_graph::SynonymGraph;
+use hm_descriptions::Tables;
 use hm_exports::{ModuleExports, exported_in, module_exports};
-use hm_imports::{Binding, Scope, Tables, import_faults, interfaces_of, scope_of};
-use hm_names::{Core, Exported, Fault, Namespace, ScopeFault};
+use hm_import_faults::import_faults;
+use hm_imports::{interfaces_of, scope_of};
+use hm_names::{Core, Fault, Namespace, ScopeFault};
+use hm_phases::{by_phases, first_faults, phase_answer};
+use hm_prelude::prelude;
 use hm_resolve::{Walked, walk};
+use hm_synonyms::{OwnSynonyms, SynonymGraph, own_synonyms, reference_graph, synonym_faults};
 use hm_syntax::{Decl, Module, Row};
-use hm_types::{Interface, Text, prelude};
+use hm_tables::{Binding, Scope};
+use hm_types::{Interface, Text};
 use std::alloc::{AllocError, Global};
 use std::sync::Arc;
 
@@ -62,6 +63,23 @@ fn joined(faults: Vec<Fault>, others: Vec<Fault>) -> Result<Vec<Fault>, AllocErr
     Ok(all)
 }
 
+/// What the walk finds in a module with these tables, to which its synonyms are added.
+fn walked_with<'a>(
+    alloc: Global,
+    module: &'a Module,
+    scope: &Scope<'a>,
+    tables: &mut Tables<'a>,
+    synonyms: &OwnSynonyms<'a>,
+    graph: &SynonymGraph,
+) -> Result<Walked, AllocError>
+    requires { length graph.now ≡ length synonyms.now.names }
+    ensures { IfOk result (λ walked. (fs : List Interface) → IsScopeOf «module».now fs scope.now → AreTablesOf «module».now fs tables.old → AreOwnSynonyms «module».now.decls synonyms.now
+        → IsReferenceGraph «module».now fs synonyms.now.names graph.now → AreWalked «module».now fs walked.decls.items walked.faults.items) }
+{
+    add_synonyms(alloc, tables, scope, module, synonyms, graph)?;
+    Ok(walk(alloc, scope, tables, module)?)
+}
+
 /// What the walk finds in a module whose synonyms are these.
 fn walked_trees<'a>(
     alloc: Global,
@@ -79,8 +97,7 @@ fn walked_trees<'a>(
     ensures { IfOk result (λ walked. AreWalked «module».now (map (λ f. f.now) interfaces.now) walked.decls.items walked.faults.items) }
 {
     let mut tables = Tables::of(alloc, module, interfaces, depth)?;
-    add_synonyms(alloc, &mut tables, scope, module, synonyms, graph)?;
-    Ok(walk(alloc, scope, &tables, module)?)
+    Ok(walked_with(alloc, module, scope, &mut tables, synonyms, graph)?)
 }
 
 /// The trees of a walk, its faults by phases, with those of synonyms that are recursive.
@@ -114,30 +131,6 @@ fn resolved_trees<'a>(
     let recursive = synonym_faults(alloc, module, &synonyms.names, &graph)?;
     let walked = walked_trees(alloc, module, interfaces, scope, &synonyms, &graph, depth)?;
     Ok(trees_of(alloc, walked, recursive)?)
-}
-
-/// The faults of the first of the phases behind that of the imports that has any, in order.
-fn first_faults(
-    lists: Vec<Fault>,
-    exports: Vec<Fault>,
-    names: Vec<Fault>,
-    numbers: Vec<Fault>,
-) -> Result<Option<Row<Fault>>, AllocError>
-    ensures { IfOk result (λ found. (m : ModuleTree) (fs : List Interface) → AreExact m fs Declaring lists.items → AreExact m fs Exporting exports.items → AreExact m fs Naming names.items → AreExact m fs Counting numbers.items → ((f : Fault) → ¬ (HasFault m fs Importing f)) → AreFirstFaults m fs found) }
-{
-    match phase_answer(lists)? {
-        Some(found) => return Ok(Some(found)),
-        None => {}
-    }
-    match phase_answer(exports)? {
-        Some(found) => return Ok(Some(found)),
-        None => {}
-    }
-    match phase_answer(names)? {
-        Some(found) => return Ok(Some(found)),
-        None => {}
-    }
-    Ok(phase_answer(numbers)?)
 }
 
 /// The answer of the phases behind that of the imports.

@@ -1,6 +1,6 @@
 use Rattle.std.proofs.Common.{◌≡◌, ◌∙◌, ◌++◌, ◌∷◌, [], sym, ap, subst}
 use Rattle.hm_names.specs.Bindings.{Pair}
-use Rattle.hm_imports.specs.Tables.{IsTable}
+use Rattle.hm_tables.specs.Tables.{IsTable}
 use Rattle.hm_exports.proofs.ListedExports.{more_of}
 use Rattle.hm_exports.proofs.exports.add_all.Goals as goal
 

@@ -1,5 +1,5 @@
 use Rattle.std.proofs.Common.{◌≡◌, ◌++◌, take}
-use Rattle.hm_imports.specs.Tables.{IsTable}
+use Rattle.hm_tables.specs.Tables.{IsTable}
 use Rattle.hm_exports.proofs.exports.add_all.Given as goal
 
 abbrev pub invariant-loop-pair : goal.invariant-loop-pair

@@ -1,7 +1,7 @@
 use Rattle.std.proofs.Common.{◌≡◌, ◌++◌, ◌∷◌, [], ◌∙◌, None, ap}
 use Rattle.hm_names.specs.Bindings.{Pair}
 use Rattle.hm_names.proofs.AddedPairs.{adds_where, adds_where_not, adds_push}
-use Rattle.hm_exports.proofs.BareSets.{qualified, unqualified}
+use Rattle.hm_export_groups.proofs.BareSets.{qualified, unqualified}
 use Rattle.hm_exports.proofs.exports.add_bare.Goals as goal
 
 pub returns : goal.returns

@@ -4,7 +4,7 @@ use Rattle.hm_syntax.specs.Names.{Identifier}
 use Rattle.hm_names.specs.declared.faults.Fault.{Fault}
 use Rattle.hm_names.specs.declared.faults.Kind.TheVariants.{Unbound}
 use Rattle.hm_names.specs.Bindings.{Pair}
-use Rattle.hm_exports.specs.ExportGroups.{IsOwned}
+use Rattle.hm_export_groups.specs.ExportGroups.{IsOwned}
 use Rattle.hm_names.specs.Exports.{HasConstructor}
 use Rattle.hm_names.specs.Faults.Phases.{fault}
 use Rattle.hm_names.proofs.AddedPairs.{for_none, for_more, for_all}

@@ -6,7 +6,7 @@ use Rattle.hm_syntax.specs.declared.ast.Module.{Module}
 use Rattle.hm_names.specs.declared.faults.Fault.{Fault}
 use Rattle.hm_names.specs.declared.faults.Kind.TheVariants.{Unbound}
 use Rattle.hm_names.specs.Bindings.{Pair, Adds}
-use Rattle.hm_exports.specs.ExportGroups.{IsOwned}
+use Rattle.hm_export_groups.specs.ExportGroups.{IsOwned}
 use Rattle.hm_exports.specs.ExportItems.{IsExporterOf}
 use Rattle.hm_names.specs.Exports.{HasConstructor}
 use Rattle.hm_names.specs.Faults.Phases.{fault}

@@ -1,7 +1,7 @@
 use Rattle.std.proofs.Common.{◌≡◌, None, ⊎_elim, inr}
 use Rattle.hm_names.specs.Bindings.{Pair}
 use Rattle.hm_names.proofs.AddedPairs.{for_more, for_all}
-use Rattle.hm_exports.proofs.BareSets.{bare_exact}
+use Rattle.hm_export_groups.proofs.BareSets.{bare_exact}
 use Rattle.hm_names.proofs.Members.{none_in}
 use Rattle.hm_exports.proofs.exports.declared_exports.Goals as goal
 

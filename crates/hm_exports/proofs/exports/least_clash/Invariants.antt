@@ -1,7 +1,7 @@
 use Rattle.std.proofs.Common.{List, option_map, take}
 use Rattle.hm_names.specs.Bindings.{Pair}
 use Rattle.hm_exports.specs.ExportItems.{IsLeastOf}
-use Rattle.hm_imports.specs.Tables.{IsTable}
+use Rattle.hm_tables.specs.Tables.{IsTable}
 use Rattle.hm_exports.proofs.exports.least_clash.Given as goal
 
 abbrev pub invariant-loop-pair : goal.invariant-loop-pair

@@ -1,4 +1,4 @@
-use Rattle.hm_imports.proofs.WholeNames.{text_added}
+use Rattle.hm_tables.proofs.AddedTexts.{text_added}
 use Rattle.hm_imports.proofs.named_modules.add_name.Goals as goal
 
 pub returns : goal.returns

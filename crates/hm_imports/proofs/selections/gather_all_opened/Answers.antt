@@ -1,5 +1,5 @@
 use Rattle.hm_syntax.specs.declared.ast.Item.{Item}
-use Rattle.hm_imports.specs.NameSets.{FullName}
+use Rattle.hm_tables.specs.NameSets.{FullName}
 use Rattle.hm_imports.specs.Gathered.{IsOpenedBy}
 use Rattle.hm_names.proofs.AddedPairs.{for_more, for_all}
 use Rattle.hm_imports.proofs.selections.gather_all_opened.Goals as goal

@@ -1,7 +1,7 @@
 use Rattle.std.proofs.Common.{take}
 use Rattle.hm_syntax.specs.declared.ast.Item.{Item}
 use Rattle.hm_names.specs.Bindings.{Adds}
-use Rattle.hm_imports.specs.NameSets.{FullName}
+use Rattle.hm_tables.specs.NameSets.{FullName}
 use Rattle.hm_imports.specs.Gathered.{IsOpenedBy}
 use Rattle.hm_names.proofs.AddedPairs.{ForEach}
 use Rattle.hm_imports.proofs.selections.gather_all_opened.Given as goal

@@ -1,7 +1,7 @@
 use Rattle.std.proofs.Common.{◌≡◌, take, Contains}
 use Rattle.hm_types.specs.declared.entries.ConstructorEntry.{ConstructorEntry}
 use Rattle.hm_names.specs.Bindings.{Adds}
-use Rattle.hm_imports.specs.NameSets.{FullName}
+use Rattle.hm_tables.specs.NameSets.{FullName}
 use Rattle.hm_imports.specs.Gathered.{bare, type_name}
 use Rattle.hm_names.specs.declared.namespace.Namespace.TheVariants.{Constructors}
 use Rattle.hm_names.proofs.AddedPairs.{ForEach}

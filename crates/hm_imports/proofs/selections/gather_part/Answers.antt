@@ -1,6 +1,6 @@
 use Rattle.std.proofs.Common.{◌≡◌}
 use Rattle.std.proofs.lemmas.Bool.{both_ways}
-use Rattle.hm_imports.specs.NameSets.{FullName}
+use Rattle.hm_tables.specs.NameSets.{FullName}
 use Rattle.hm_imports.specs.Gathered.{bare, IsOwned}
 use Rattle.hm_names.specs.declared.namespace.Namespace.TheVariants.{Constructors}
 use Rattle.hm_names.proofs.AddedPairs.{adds_where, adds_where_not}

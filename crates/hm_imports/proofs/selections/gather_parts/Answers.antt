@@ -1,6 +1,6 @@
 use Rattle.std.proofs.Common.{◌≡◌}
 use Rattle.hm_syntax.specs.Names.{Identifier}
-use Rattle.hm_imports.specs.NameSets.{FullName}
+use Rattle.hm_tables.specs.NameSets.{FullName}
 use Rattle.hm_imports.specs.Gathered.{bare, IsOwned}
 use Rattle.hm_names.specs.declared.namespace.Namespace.TheVariants.{Constructors}
 use Rattle.hm_names.proofs.AddedPairs.{for_more, for_all}

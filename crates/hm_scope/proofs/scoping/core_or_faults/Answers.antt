@@ -7,8 +7,10 @@ use Rattle.hm_scope.specs.declared.scoping.Answer.{Answer}
 use Rattle.hm_names.specs.Bindings.{Pair, IsScopeOf}
 use Rattle.hm_exports.specs.ExportedRows.{HaveOneEntity}
 use Rattle.hm_names.specs.Faults.Phases.{Importing}
-use Rattle.hm_scope.specs.Answers.{AreExact, IsPhaseAnswer, IsAnswer, IsAnswerBehind, AreExportedRows}
-use Rattle.hm_scope.proofs.ModuleAnswers.{before_importing, core_is}
+use Rattle.hm_phases.specs.Answers.{AreExact, IsPhaseAnswer}
+use Rattle.hm_scope.specs.Answers.{IsAnswer, IsAnswerBehind, AreExportedRows}
+use Rattle.hm_phases.proofs.PhasesInOrder.{before_importing}
+use Rattle.hm_scope.proofs.ModuleAnswers.{core_is}
 use Rattle.hm_scope.proofs.scoping.core_or_faults.Goals as goal
 
 pub returns-in-Some : goal.returns-in-Some

@@ -1,7 +1,7 @@
 use Rattle.std.proofs.Common.{List, map, Bor, subst}
 use Rattle.hm_types.specs.Interfaces.{Exports as Interface}
 use Rattle.hm_syntax.specs.Trees.{Declaration}
-use Rattle.hm_scope.specs.Synonyms.{AreOwnSynonyms}
+use Rattle.hm_synonyms.specs.Synonyms.{AreOwnSynonyms}
 use Rattle.hm_scope.proofs.scoping.resolved_trees.Goals as goal
 
 pub walked_trees-requires-clause-edges : goal.walked_trees-requires-clause-edges

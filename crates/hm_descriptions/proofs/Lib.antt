@@ -1,0 +1,2 @@
+pub mod EntityTables
+pub mod FirstDescriptions

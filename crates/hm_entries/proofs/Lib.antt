@@ -1,0 +1,4 @@
+pub mod FirstTables
+pub mod BoundNames
+pub mod EntriesMade
+pub mod SoundCores

@@ -1,0 +1,2 @@
+pub mod KnownExports
+pub mod ExportedEntries

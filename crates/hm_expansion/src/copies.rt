@@ -1,0 +1,148 @@
+//! Copies of names and literals.
+ghost use Rattle.std.specs.Prelude.{◌≡◌, map, IfOk, Some, None, option_map, string_bytes};
+ghost use Rattle.hm_names.specs.Special.{special_of, special_arity};
+ghost use Rattle.hm_names.specs.Expansion.{as_entity};
+ghost use Rattle.hm_names.specs.Found.{no_qualifier, is_special, binder_of};
+
+use hm_names::{LentNames, tuple_arity};
+use hm_syntax::{Literal, LiteralKind, Name};
+use hm_tables::EntityRef;
+use hm_types::Text;
+use std::alloc::{AllocError, Global};
+
+fn copy_qualifier(qualifier: &Option<String>) -> Result<Option<String>, AllocError>
+    ensures { IfOk result (λ q. option_map string_bytes q ≡ option_map string_bytes qualifier.now) }
+{
+    match qualifier {
+        None => Ok(None),
+        Some(text) => Ok(Some(text.clone()?)),
+    }
+}
+
+/// The same name at the same place.
+pub fn copy_name(name: &Name) -> Result<Name, AllocError>
+    ensures { IfOk result (λ copy. copy ≡ name.now) }
+{
+    Ok(Name {
+        qualifier: copy_qualifier(&name.qualifier)?,
+        text: name.text.clone()?,
+        place: name.place,
+    })
+}
+
+/// Names of its own for each that is lent.
+pub fn owned_names(alloc: Global, names: &LentNames<'_>) -> Result<Vec<Name>, AllocError>
+    ensures { IfOk result (λ copies. copies.items ≡ names.now) }
+{
+    let mut copies = Vec::new(alloc);
+    let row = names.as_slice();
+    'names: for name in row {
+        copies.push(copy_name(name)?)?;
+    }
+    Ok(copies)
+}
+
+/// The same names.
+pub fn copy_names(alloc: Global, names: &[Name]) -> Result<Vec<Name>, AllocError>
+    ensures { IfOk result (λ copies. copies.items ≡ names.now) }
+{
+    let mut copies = Vec::new(alloc);
+    'names: for name in names {
+        copies.push(copy_name(name)?)?;
+    }
+    Ok(copies)
+}
+
+/// The name of an entity, in the place of a name.
+pub fn entity_name(alloc: Global, name: &Name, entity: &EntityRef<'_>) -> Result<Name, AllocError>
+    ensures { IfOk result (λ copy. copy ≡ as_entity name.now entity.now) }
+{
+    Ok(Name {
+        qualifier: Some(String::from_str(alloc, entity.module())?),
+        text: String::from_str(alloc, entity.name())?,
+        place: name.place,
+    })
+}
+
+/// What a name becomes that is bound in the list of this module, or in another.
+pub fn bound_name(alloc: Global, home: &Option<Text>, name: &Name) -> Result<Name, AllocError>
+    ensures { IfOk result (λ copy. copy ≡ binder_of home.now name.now) }
+{
+    match home {
+        None => Ok(copy_name(name)?),
+        Some(module) => Ok(Name {
+            qualifier: Some(String::from_str(alloc, module.as_str())?),
+            text: name.text.clone()?,
+            place: name.place,
+        }),
+    }
+}
+
+/// The same of names in a row.
+pub fn bound_names(
+    alloc: Global,
+    home: &Option<Text>,
+    names: &[Name],
+) -> Result<Vec<Name>, AllocError>
+    ensures { IfOk result (λ copies. copies.items ≡ map (binder_of home.now) names.now) }
+{
+    let mut copies = Vec::new(alloc);
+    'names: for name in names {
+        copies.push(bound_name(alloc, home, name)?)?;
+    }
+    Ok(copies)
+}
+
+/// The same literal.
+pub fn copy_literal(literal: &Literal) -> Result<Literal, AllocError>
+    ensures { IfOk result (λ copy. copy ≡ literal.now) }
+{
+    match &literal.kind {
+        LiteralKind::Integer(text) => Ok(Literal {
+            kind: LiteralKind::Integer(text.clone()?),
+        }),
+        LiteralKind::Character(text) => Ok(Literal {
+            kind: LiteralKind::Character(text.clone()?),
+        }),
+        LiteralKind::Text(text) => Ok(Literal {
+            kind: LiteralKind::Text(text.clone()?),
+        }),
+    }
+}
+
+/// Whether a name is written without a qualifier.
+pub fn is_unqualified(name: &Name) -> bool
+    ensures { result ≡ no_qualifier name.now.qualifier }
+{
+    match &name.qualifier {
+        None => true,
+        Some(_) => false,
+    }
+}
+
+/// Whether a name is that of a special constructor.
+pub fn is_special(name: &Name) -> bool
+    ensures { result ≡ is_special name.now }
+{
+    match special_arity(name) {
+        None => false,
+        Some(_) => true,
+    }
+}
+
+/// How many arguments a special constructor takes.
+pub fn special_arity(name: &Name) -> Option<usize>
+    ensures { result ≡ option_map special_arity (special_of name.now) }
+{
+    if !is_unqualified(name) {
+        return None;
+    }
+    let text = name.as_str();
+    if text == "()" || text == "[]" {
+        return Some(0);
+    }
+    if text == ":" {
+        return Some(2);
+    }
+    tuple_arity(text.as_bytes())
+}

@@ -1,0 +1,176 @@
+//! The expansion of type synonyms (Haskell 98 Report, section 4.2.2).
+ghost use Rattle.std.specs.Prelude.{◌≡◌, IfOk, map};
+ghost use Rattle.hm_syntax.specs.Lists.{types};
+ghost use Rattle.hm_types.specs.Monotypes.{arguments_of};
+ghost use Rattle.hm_types.specs.Shape.{type_of};
+ghost use Rattle.hm_names.specs.Expansion.{argument, applied_at, filled_at, as_entity};
+
+use crate::copies::copy_name;
+use hm_syntax::{Name, TypeExpr, TypeKind};
+use hm_types::{Entity, Head, Ty};
+use std::alloc::{AllocError, Global};
+
+/// A copy of a type, if it has at most `depth` levels.
+#[cycle(copies)]
+#[tactic(auto, using(hm_names::proofs::Rows::type_falls))]
+fn copy_type(alloc: Global, depth: usize, ty: &TypeExpr) -> Result<TypeExpr, AllocError>
+    ensures { IfOk result (λ copy. copy ≡ ty.now) }
+{
+    if depth == 0 {
+        return Err(AllocError);
+    }
+    let deeper = depth - 1;
+    match &ty.kind {
+        TypeKind::Var(name) => Ok(TypeExpr {
+            kind: TypeKind::Var(copy_name(name)?),
+        }),
+        TypeKind::Con(name, args) => {
+            let name = copy_name(name)?;
+            let args = copy_types(alloc, deeper, args)?;
+            Ok(TypeExpr {
+                kind: TypeKind::Con(name, args),
+            })
+        }
+        TypeKind::Arrow(from, to) => {
+            let from = Box::new(alloc, copy_type(alloc, deeper, from)?)?;
+            let to = Box::new(alloc, copy_type(alloc, deeper, to)?)?;
+            Ok(TypeExpr {
+                kind: TypeKind::Arrow(from, to),
+            })
+        }
+        TypeKind::Tuple(parts) => {
+            let parts = copy_types(alloc, deeper, parts)?;
+            Ok(TypeExpr {
+                kind: TypeKind::Tuple(parts),
+            })
+        }
+        TypeKind::List(element) => {
+            let element = Box::new(alloc, copy_type(alloc, deeper, element)?)?;
+            Ok(TypeExpr {
+                kind: TypeKind::List(element),
+            })
+        }
+        TypeKind::Unit => Ok(TypeExpr {
+            kind: TypeKind::Unit,
+        }),
+    }
+}
+
+/// Copies of types in a row, if each has at most `depth` levels.
+#[cycle(copies)]
+#[tactic(auto, using(hm_names::proofs::Rows::type_falls))]
+fn copy_types(alloc: Global, depth: usize, row: &[TypeExpr]) -> Result<Vec<TypeExpr>, AllocError>
+    ensures { IfOk result (λ copies. copies.items ≡ row.now) }
+{
+    let mut copies = Vec::new(alloc);
+    'row: for ty in row {
+        copies.push(copy_type(alloc, depth, ty)?)?;
+    }
+    Ok(copies)
+}
+
+/// An argument by its number, if it has at most `depth` levels. A synonym that is used rightly has one for each parameter.
+#[tactic(auto, using(crate::proofs::Expanded::argument_at, crate::proofs::Expanded::argument_past))]
+fn argument(
+    alloc: Global,
+    depth: usize,
+    args: &[TypeExpr],
+    number: usize,
+) -> Result<TypeExpr, AllocError>
+    ensures { IfOk result (λ t. t ≡ argument number (types args.now)) }
+{
+    if number < args.len() {
+        return Ok(copy_type(alloc, depth, &args[number])?);
+    }
+    Ok(TypeExpr {
+        kind: TypeKind::Unit,
+    })
+}
+
+/// The name of an entity, in the place of a name.
+fn name_of_entity(alloc: Global, name: &Name, entity: &Entity) -> Result<Name, AllocError>
+    ensures { IfOk result (λ copy. copy ≡ as_entity name.now entity.now) }
+{
+    Ok(Name {
+        qualifier: Some(String::from_str(alloc, entity.module.as_str())?),
+        text: String::from_str(alloc, entity.name.as_str())?,
+        place: name.place,
+    })
+}
+
+/// A type constructor with its arguments, each named one at the place of a name.
+fn applied(
+    alloc: Global,
+    name: &Name,
+    head: &Head,
+    parts: Vec<TypeExpr>,
+) -> Result<TypeExpr, AllocError>
+    ensures { IfOk result (λ t. t ≡ applied_at name.now head.now (types parts.items)) }
+{
+    match head {
+        Head::Named(entity) => Ok(TypeExpr {
+            kind: TypeKind::Con(name_of_entity(alloc, name, entity)?, parts),
+        }),
+        Head::Arrow => {
+            if parts.len() < 2 {
+                return Ok(TypeExpr {
+                    kind: TypeKind::Unit,
+                });
+            }
+            let mut parts = parts;
+            let result = parts.remove(1);
+            let from = Box::new(alloc, parts.remove(0))?;
+            let to = Box::new(alloc, result)?;
+            Ok(TypeExpr {
+                kind: TypeKind::Arrow(from, to),
+            })
+        }
+        Head::List => {
+            if parts.is_empty() {
+                return Ok(TypeExpr {
+                    kind: TypeKind::Unit,
+                });
+            }
+            let mut parts = parts;
+            let element = Box::new(alloc, parts.remove(0))?;
+            Ok(TypeExpr {
+                kind: TypeKind::List(element),
+            })
+        }
+        Head::Unit => Ok(TypeExpr {
+            kind: TypeKind::Unit,
+        }),
+        Head::Tuple(_) => Ok(TypeExpr {
+            kind: TypeKind::Tuple(parts),
+        }),
+    }
+}
+
+/// The right side of a synonym, with the arguments in the place of its parameters, if it has at most `depth` levels.
+#[tactic(auto, using(crate::proofs::Expanded::all_filled))]
+pub fn filled(
+    alloc: Global,
+    depth: usize,
+    name: &Name,
+    args: &[TypeExpr],
+    body: &Ty,
+) -> Result<TypeExpr, AllocError>
+    ensures { IfOk result (λ t. t ≡ filled_at name.now (types args.now) (type_of body.now)) }
+{
+    if depth == 0 {
+        return Err(AllocError);
+    }
+    match body {
+        Ty::Var(number) => Ok(argument(alloc, depth, args, *number)?),
+        Ty::Rigid(_) => Ok(TypeExpr {
+            kind: TypeKind::Unit,
+        }),
+        Ty::App(head, parts) => {
+            let mut resolved = Vec::new(alloc);
+            'parts: for part in parts.as_slice() {
+                resolved.push(filled(alloc, depth - 1, name, args, part)?)?;
+            }
+            Ok(applied(alloc, name, head, resolved)?)
+        }
+    }
+}

@@ -1,0 +1,2 @@
+pub mod ExportGroups
+pub mod BarePairs

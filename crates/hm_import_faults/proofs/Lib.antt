@@ -1,0 +1,2 @@
+pub mod FaultyLemmas
+pub mod FaultyLists

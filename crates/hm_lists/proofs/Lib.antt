@@ -1,0 +1,5 @@
+pub mod NamesTwice
+pub mod Clauses
+pub mod FaultLists
+pub mod Leaves
+pub mod DepthTables

@@ -1,0 +1,2 @@
+pub mod OpenBindings
+pub mod Depths

@@ -1,0 +1,15 @@
+//! Names in lists (Haskell 98 Report, sections 4.2, 4.4.1 and 4.4.3): what a declaration list has twice or lacks, clauses of another length than
+//! their binding's first, and which names are local at a place of a tree.
+#![tactic(auto)]
+
+mod binding_lists;
+mod list_faults;
+mod list_names;
+mod locals;
+mod open_bindings;
+mod repeats;
+
+pub use crate::list_faults::add_list_faults;
+pub use crate::list_names::add_names;
+pub use crate::locals::Locals;
+pub use crate::repeats::{add_outside, add_repeated};

@@ -1,0 +1,52 @@
+//! The faults of a declaration list by itself (Report, sections 4.2, 4.4.1 and 4.4.3).
+
+ghost use Rattle.std.specs.Prelude.{◌≡◌, ◌++◌, OnOk, map};
+ghost use Rattle.hm_syntax.specs.Lists.{declarations};
+ghost use Rattle.hm_names.specs.Faults.Phases.{fault};
+ghost use Rattle.hm_names.specs.Found.{list_faults};
+
+use crate::binding_lists::{binding_names, other_lengths};
+use crate::list_names::{clause_names, constructor_names, signed_names, type_names};
+use crate::repeats::{add_outside, add_repeated};
+use hm_names::{Fault, Kind, LentNames, fault_at};
+use hm_syntax::Decl;
+use std::alloc::{AllocError, Global};
+
+/// Adds a fault of each name.
+fn add_faults(
+    alloc: Global,
+    faults: &mut Vec<Fault>,
+    kind: Kind,
+    names: &LentNames<'_>,
+) -> Result<(), AllocError>
+    ensures { OnOk result (faults.new.items ≡ faults.old.items ++ map (fault kind) names.now) }
+{
+    let row = names.as_slice();
+    'row: for name in row {
+        faults.push(fault_at(alloc, kind, name)?)?;
+    }
+    Ok(())
+}
+
+/// Adds what is declared twice in a list, signatures without a binding, and clauses of another length than their binding's first.
+pub fn add_list_faults(
+    alloc: Global,
+    faults: &mut Vec<Fault>,
+    decls: &[Decl],
+) -> Result<(), AllocError>
+    ensures { OnOk result (faults.new.items ≡ faults.old.items ++ list_faults (declarations decls.now)) }
+{
+    let types = type_names(alloc, decls)?;
+    add_repeated(alloc, faults, Kind::Duplicate, &types)?;
+    let constructors = constructor_names(alloc, decls)?;
+    add_repeated(alloc, faults, Kind::Duplicate, &constructors)?;
+    let bindings = binding_names(alloc, decls)?;
+    add_repeated(alloc, faults, Kind::Duplicate, &bindings)?;
+    let signed = signed_names(alloc, decls)?;
+    add_repeated(alloc, faults, Kind::Duplicate, &signed)?;
+    let clauses = clause_names(alloc, decls)?;
+    add_outside(alloc, faults, Kind::NoBinding, &clauses, &signed)?;
+    let lengths = other_lengths(alloc, decls)?;
+    add_faults(alloc, faults, Kind::ClauseLength, &lengths)?;
+    Ok(())
+}

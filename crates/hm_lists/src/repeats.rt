@@ -1,0 +1,81 @@
+//! Names that stand twice, and names that are missing from a list.
+
+ghost use Rattle.std.specs.Prelude.{◌≡◌, ◌++◌, ℕ, List, [], IfOk, OnOk, map};
+ghost use Rattle.hm_names.specs.Faults.Lists.{firsts};
+ghost use Rattle.hm_names.specs.Faults.Phases.{fault};
+ghost use Rattle.hm_names.specs.Found.{repeated, outside};
+ghost use Rattle.hm_names.specs.Texts.{is_text_among};
+ghost use Rattle.hm_names.specs.Variables.{texts};
+
+use hm_names::{Fault, Kind, LentNames, fault_at};
+use hm_syntax::Name;
+use hm_tables::TextSet;
+use std::alloc::{AllocError, Global};
+
+/// Adds a fault of each name behind another of its text.
+pub fn add_repeated(
+    alloc: Global,
+    faults: &mut Vec<Fault>,
+    kind: Kind,
+    names: &LentNames<'_>,
+) -> Result<(), AllocError>
+    ensures { OnOk result (faults.new.items ≡ faults.old.items ++ map (fault kind) (repeated [] names.now)) }
+{
+    let row = names.as_slice();
+    let mut seen = TextSet::new(alloc);
+    'row: for name in row {
+        if !seen.insert(name.as_str())? {
+            faults.push(fault_at(alloc, kind, name)?)?;
+        }
+    }
+    Ok(())
+}
+
+/// The texts of names.
+fn texts_of<'a>(alloc: Global, names: &[&'a Name]) -> Result<TextSet<'a>, AllocError>
+    ensures { IfOk result (λ set. (x : List ℕ) → is_text_among x set ≡ is_text_among x (texts (map (λ n. n.now) names.now))) }
+{
+    let mut set = TextSet::new(alloc);
+    'names: for name in names {
+        set.insert(name.as_str())?;
+    }
+    Ok(set)
+}
+
+/// Adds a fault of each name whose text isn't that of one of these.
+pub fn add_outside(
+    alloc: Global,
+    faults: &mut Vec<Fault>,
+    kind: Kind,
+    known: &LentNames<'_>,
+    names: &LentNames<'_>,
+) -> Result<(), AllocError>
+    ensures { OnOk result (faults.new.items ≡ faults.old.items ++ map (fault kind) (outside (texts known.now) names.now)) }
+{
+    let set = texts_of(alloc, known.as_slice())?;
+    let row = names.as_slice();
+    'row: for name in row {
+        if !set.contains(name.as_str()) {
+            faults.push(fault_at(alloc, kind, name)?)?;
+        }
+    }
+    Ok(())
+}
+
+/// Adds each name that is the first of its text.
+pub(crate) fn add_firsts<'a>(
+    alloc: Global,
+    out: &mut LentNames<'a>,
+    names: &LentNames<'a>,
+) -> Result<(), AllocError>
+    ensures { OnOk result (out.new ≡ out.old ++ firsts [] names.now) }
+{
+    let row = names.as_slice();
+    let mut seen = TextSet::new(alloc);
+    'row: for name in row {
+        if seen.insert(name.as_str())? {
+            out.push(name)?;
+        }
+    }
+    Ok(())
+}

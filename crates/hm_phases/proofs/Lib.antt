@@ -1,0 +1,2 @@
+pub mod PhasesAnswered
+pub mod PhasesInOrder

@@ -1,0 +1,2 @@
+pub mod Synonyms
+pub mod SynonymGraphs

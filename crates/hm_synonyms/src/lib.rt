@@ -1,0 +1,11 @@
+//! The synonyms that a module declares (Haskell 98 Report, section 4.2.2): the graph of their references, and those that reach themselves.
+#![tactic(auto)]
+
+mod declared_synonyms;
+mod recursive_synonyms;
+mod synonym_graph;
+mod type_names;
+
+pub use crate::declared_synonyms::{OwnSynonym, OwnSynonyms, own_synonyms, reference_graph};
+pub use crate::recursive_synonyms::synonym_faults;
+pub use crate::synonym_graph::SynonymGraph;

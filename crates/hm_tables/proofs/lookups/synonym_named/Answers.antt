@@ -1,0 +1,21 @@
+use Rattle.std.proofs.Common.{◌≡◌, List, sym, rules, Contains}
+use Rattle.std.specs.Ordering.{nat_cmp}
+use Rattle.std.specs.Cmp.Lexicographic.{slice_cmp}
+use Rattle.hm_types.specs.declared.entries.SynonymEntry.{SynonymEntry}
+use Rattle.std.proofs.lemmas.Fn.{always_returns_same}
+use Rattle.hm_tables.proofs.SortedNames.{searched_by_name}
+use Rattle.hm_tables.proofs.lookups.synonym_named.Goals as goal
+
+pub returns-in-Ok : goal.returns-in-Ok
+returns-in-Ok c =
+    let xs : List SynonymEntry = c.args.entries.now in
+    let found = c.in-Ok.ensures.position (λ y. slice_cmp nat_cmp y.name c.args.name.now) (always_returns_same _ _ _ (λ a r g q. (search rules, search rules))) in
+    let at = searched_by_name (λ (y : SynonymEntry). y.name) xs c.args.name.now (Rattle.std.proofs.Common.Ok c.in-Ok.place) c.requires c.in-Ok.ensures.bound found in
+    let entry = c.index-entries-place.result in
+    ((c.in-Ok.place, at.0, sym c.index-entries-place.is), rw (← c.index-entries-place.is) at (at.1 entry))
+
+pub returns-in-Err : goal.returns-in-Err
+returns-in-Err c =
+    let xs : List SynonymEntry = c.args.entries.now in
+    let found = c.in-Err.ensures.position (λ y. slice_cmp nat_cmp y.name c.args.name.now) (always_returns_same _ _ _ (λ a r g q. (search rules, search rules))) in
+    searched_by_name (λ (y : SynonymEntry). y.name) xs c.args.name.now (Rattle.std.proofs.Common.Err c.in-Err.field-0) c.requires c.in-Err.ensures.bound found

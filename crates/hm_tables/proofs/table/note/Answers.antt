@@ -1,0 +1,26 @@
+use Rattle.std.proofs.Common.{◌++◌, [], ◌∷◌, None, sym, ◌∙◌, ap, subst}
+use Rattle.hm_tables.specs.declared.keys.Key.{Key}
+use Rattle.hm_names.specs.Bindings.{Pair}
+use Rattle.hm_tables.specs.Tables.{IsTold, IsNamed, Tells}
+use Rattle.hm_tables.proofs.NameTables.{noted, tells_first, tells_more}
+use Rattle.hm_tables.proofs.table.note.Goals as goal
+use Rattle.hm_tables.proofs.table.note.Goals.{in-None, in-Some}
+
+pub returns : goal.returns
+returns c = λ pairs table.
+    let key : Key = record { space = c.space.result; qualifier = c.qualifier.result; text = c.text.result } in
+    let p : Pair = c.args.binding.now in
+    let slot = c.match-get.slot in
+    let named : IsNamed key p = record { space = sym c.space.ensures; qualifier = sym c.qualifier.ensures; text = sym c.text.ensures } in
+    let tells : Tells (pairs ++ p ∷ []) key slot = elim c.match-get.branch [
+      | in-None w ↦
+          let told : IsTold pairs key None = subst (λ o. IsTold pairs key o) (sym w.in-None.ensures.value) (table key) in
+          tells_first pairs p key slot named told (ap (λ x. x.entity) w.slot-is ∙ (w.copy.ensures ∙ w.entity.ensures)) (ap (λ x. x.several) w.slot-is)
+      | in-Some w ↦
+          let old = w.in-Some.slot.now in
+          let told : Tells pairs key old = subst (λ o. IsTold pairs key o) (sym w.in-Some.ensures.value) (table key) in
+          let is = w.entity-in-Some.ensures in
+          rw w.slot-is (tells_more pairs p key old w.with_entity-slot.result named told w.with_entity-slot.ensures.entity
+          (rw is at w.with_entity-slot.ensures.several) (rw is at w.with_entity-slot.ensures.one))
+    ] in
+    noted pairs p c.args.table.now c.insert.new.self key slot named table tells c.in_ok-insert.ensures.updates.0

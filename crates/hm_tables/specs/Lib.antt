@@ -1,0 +1,4 @@
+pub mod Tables
+pub mod Meanings
+pub mod NameSets
+pub mod KnownTables

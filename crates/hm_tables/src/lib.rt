@@ -1,0 +1,17 @@
+//! What a module's scope is looked up in (Haskell 98 Report, section 5.5): the table of a scope, with its bindings and keys; sets of texts and of
+//! names; the entries of an interface by their names.
+#![tactic(auto)]
+
+mod bindings;
+mod keys;
+mod lookups;
+mod name_set;
+mod table;
+mod text_set;
+
+pub use crate::bindings::{Binding, EntityRef};
+pub use crate::keys::{EntityKey, Key};
+pub use crate::lookups::{constructor_named, synonym_named, type_named, value_named};
+pub use crate::name_set::NameSet;
+pub use crate::table::{Meaning, Scope, Slot, is_several, note};
+pub use crate::text_set::TextSet;

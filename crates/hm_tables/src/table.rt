@@ -1,0 +1,154 @@
+//! The table of a scope: what each name means in it.
+
+ghost use Rattle.std.specs.Prelude.{◌≡◌, ◌↔◌, ◌⊎◌, ◌++◌, [], ◌∷◌, List, IfOk, OnOk, IsTrue, false, option_map};
+ghost use Rattle.hm_types.specs.Interfaces.{Exports as Interface};
+ghost use Rattle.hm_syntax.specs.declared.ast.Module.{Module};
+ghost use Rattle.hm_names.specs.Bindings.{Pair, IsScopeOf, IsSeveral, meaning_in};
+ghost use Rattle.hm_tables.specs.Meanings.{IsMeaning, meaning_is};
+ghost use Rattle.hm_tables.specs.Tables.{IsTable};
+
+use crate::bindings::{Binding, EntityRef};
+use crate::keys::Key;
+use hm_names::Namespace;
+use hm_syntax::Name;
+use indexmap::IndexMap;
+use std::alloc::{AllocError, Global};
+use std::marker::Model;
+
+/// What a name means in a scope (Report, section 5.5.2).
+#[derive(Drop)]
+pub enum Meaning<'a> {
+    /// No entity.
+    Unbound,
+    /// Two entities or more.
+    Ambiguous,
+    Entity(EntityRef<'a>),
+}
+
+/// What is known of a name: an entity that it means, and whether it means others too.
+#[derive(Drop)]
+pub struct Slot<'a> {
+    entity: EntityRef<'a>,
+    several: bool,
+}
+
+/// The scope of a module: its pairs of a name and an entity, and a table of what each name means.
+#[derive(Drop)]
+pub struct Scope<'a> {
+    pairs: Vec<Binding<'a>>,
+    table: IndexMap<Key<'a>, Slot<'a>>,
+}
+
+impl<'a> Model for Scope<'a> {
+    ghost use Rattle.std.specs.Prelude.{List};
+    ghost use Rattle.hm_names.specs.Bindings.{Pair};
+    ghost use Rattle.hm_tables.specs.Tables.{IsTable};
+
+    ghost Value = { List Pair };
+
+    ghost view = { λ s. s.pairs.items };
+
+    ghost invariant = { λ s. IsTable s.pairs.items s.table };
+}
+
+impl<'a> Scope<'a> {
+    /// The scope of these pairs.
+    pub fn of(alloc: Global, pairs: Vec<Binding<'a>>) -> Result<Scope<'a>, AllocError>
+        ensures { IfOk result (λ scope. scope ≡ pairs.entry.items) }
+    {
+        let mut table = IndexMap::new(alloc);
+        for binding in &pairs {
+            note(&mut table, binding)?;
+        }
+        Ok(Scope { pairs, table })
+    }
+
+    /// The pairs.
+    pub fn pairs(&self) -> &[Binding<'a>]
+        ensures { result.now ≡ self.now }
+    {
+        &self.pairs
+    }
+
+    /// What a name means that isn't bound locally.
+    pub fn meaning(&self, space: Namespace, name: &Name) -> Meaning<'a>
+        ensures means { (m : Module) (fs : List Interface) → IsScopeOf m fs self.now → IsMeaning m fs space name.now result }
+        ensures meaning { meaning_is result (meaning_in self.now space name.now) }
+    {
+        let key = Key {
+            space,
+            qualifier: qualifier_of(name),
+            text: name.as_str(),
+        };
+        match self.table.get(&key) {
+            None => Meaning::Unbound,
+            Some(slot) => {
+                if slot.several {
+                    Meaning::Ambiguous
+                } else {
+                    Meaning::Entity(slot.entity.copy())
+                }
+            }
+        }
+    }
+}
+
+/// The qualifier of a name, if it has one.
+fn qualifier_of(name: &Name) -> Option<&str>
+    ensures { option_map (λ q. q.now) result ≡ name.now.qualifier }
+{
+    match &name.qualifier {
+        None => None,
+        Some(qualifier) => Some(qualifier.as_str()),
+    }
+}
+
+/// What is known of a name that means one more entity.
+fn with_entity<'a>(slot: &Slot<'a>, entity: &EntityRef<'a>) -> Slot<'a>
+    ensures entity { result.entity ≡ slot.now.entity }
+    ensures several { IsTrue result.several → (IsTrue slot.now.several ⊎ ¬ (entity.now ≡ slot.now.entity)) }
+    ensures one { result.several ≡ false → (slot.now.several ≡ false) × (entity.now ≡ slot.now.entity) }
+{
+    Slot {
+        entity: slot.entity.copy(),
+        several: slot.several || !entity.is_same(&slot.entity),
+    }
+}
+
+/// Whether the name of a pair means several entities.
+pub fn is_several<'a>(table: &IndexMap<Key<'a>, Slot<'a>>, pair: &Binding<'a>) -> bool
+    ensures { (pairs : List Pair) → IsTable pairs table.now → (IsTrue result ↔ IsSeveral pairs pair.now) }
+{
+    let key = Key {
+        space: pair.space(),
+        qualifier: pair.qualifier(),
+        text: pair.text(),
+    };
+    match table.get(&key) {
+        None => false,
+        Some(slot) => slot.several,
+    }
+}
+
+/// Notes a pair in the table.
+pub fn note<'a>(
+    table: &mut IndexMap<Key<'a>, Slot<'a>>,
+    binding: &Binding<'a>,
+) -> Result<(), AllocError>
+    ensures { OnOk result ((pairs : List Pair) → IsTable pairs table.old → IsTable (pairs ++ binding.now ∷ []) table.new) }
+{
+    let key = Key {
+        space: binding.space(),
+        qualifier: binding.qualifier(),
+        text: binding.text(),
+    };
+    let slot = match table.get(&key) {
+        None => Slot {
+            entity: binding.entity().copy(),
+            several: false,
+        },
+        Some(slot) => with_entity(slot, binding.entity()),
+    };
+    table.insert(key, slot)?;
+    Ok(())
+}
