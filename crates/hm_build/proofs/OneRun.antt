@@ -1,7 +1,7 @@
 -- Sources have one status, and where they aren't refused one report.
 use Rattle.std.proofs.Common.{◌≡◌, ℕ, List, [], ◌∷◌, ◌++◌, ⊎_elim, refl, sym, ap, ap₂, ◌∙◌, subst}
-use Rattle.hm_parse.specs.Grammar.Modules.{Spells}
-use Rattle.hm_parse.proofs.Whole.{spelled_once}
+use Rattle.hm_grammar.specs.Grammar.Modules.{Spells}
+use Rattle.hm_grammar.proofs.Whole.{spelled_once}
 use Rattle.hm_syntax.specs.declared.ast.Module.{Module}
 use Rattle.hm_graph.specs.Imports.{IsLawful, IsImportPlan}
 use Rattle.hm_graph.proofs.OnePlan.{one_plan}

@@ -68,7 +68,7 @@ module _ (p : ModuleSet) (law : IsLawfulSet p) (status : ℕ → Status) (blocks
     whole = whole;
   }
 
-same_set : (modules : List (Arc Module Global)) (plan : List (List ℕ)) (b : Build) → map arc_value modules ≡ b.modules → plan ≡ b.given.imports → module_set modules plan ≡ set_of b
+pub same_set : (modules : List (Arc Module Global)) (plan : List (List ℕ)) (b : Build) → map arc_value modules ≡ b.modules → plan ≡ b.given.imports → module_set modules plan ≡ set_of b
 same_set modules plan b same planned = ap₂ (λ ms rows. made ms rows) same planned
   where
     made : List Module → List (List ℕ) → ModuleSet

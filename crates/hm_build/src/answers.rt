@@ -3,6 +3,7 @@ ghost use Rattle.std.specs.Prelude.{◌≡◌, ◌⊎◌, ◌<◌, ◌≤◌, �
 ghost use Rattle.hm_build.specs.FinishedBuilds.{IsFinished};
 ghost use Rattle.hm_build.specs.JournalledRuns.{IsRun};
 ghost use Rattle.hm_build.specs.BuildTexts.{HasReport};
+ghost use Rattle.hm_sources.specs.declared.status.Status.{Status};
 
 use crate::building::build_here;
 use crate::journals::journal_text;
@@ -26,9 +27,15 @@ fn build_text(alloc: Global, finished: &Finished, journal: bool) -> Result<Strin
 }
 
 /// What is written of a build.
-fn finished_answer(alloc: Global, finished: &Finished, journal: bool) -> Result<Answer, AllocError>
-    ensures { IfOk result (λ a. (sources : List (List ℕ)) (workers : ℕ) → IsFinished sources workers finished.now.store finished.now.records.items
+pub(crate) fn finished_answer(
+    alloc: Global,
+    finished: &Finished,
+    journal: bool,
+) -> Result<Answer, AllocError>
+    ensures run { IfOk result (λ a. (sources : List (List ℕ)) (workers : ℕ) → IsFinished sources workers finished.now.store finished.now.records.items
         → IsRun workers journal sources a.status (string_bytes a.text)) }
+    ensures report { IfOk result (λ a. HasReport finished.now.store journal (string_bytes a.text)) }
+    ensures status { IfOk result (λ a. (a.status ≡ Status.Good) ⊎ (a.status ≡ Status.Faulty)) }
 {
     let text = build_text(alloc, finished, journal)?;
     let settled = settled_in(alloc, &finished.store)?;

@@ -75,6 +75,7 @@ fn set_up(alloc: Global, modules: Vec<Module>, plan: Plan) -> Result<Fresh, Allo
     requires lawful { IsLawful (module_outlines modules.items) }
     requires planned { IsImportPlan (module_outlines modules.items) plan }
     ensures modules { IfOk result (λ f. map arc_value f.modules.items ≡ modules.items) }
+    ensures same { IfOk result (λ f. map arc_value f.modules.items ≡ f.store.modules) }
     ensures empty { IfOk result (λ f. f.store.journal ≡ []) }
 {
     let modules = shared_modules(alloc, modules)?;
@@ -90,6 +91,7 @@ fn set_up(alloc: Global, modules: Vec<Module>, plan: Plan) -> Result<Fresh, Allo
 /// A store for the modules of sources.
 fn read(alloc: Global, sources: &[Vec<u8>]) -> Result<Fresh, BuildFault>
     ensures read { IfOk result (λ f. AreModulesOf (map (λ s. s.items) sources.now) (map arc_value f.modules.items)) }
+    ensures same { IfOk result (λ f. map arc_value f.modules.items ≡ f.store.modules) }
     ensures empty { IfOk result (λ f. f.store.journal ≡ []) }
     ensures err { IfErr result (IsBuildError (map (λ s. s.items) sources.now)) }
 {
@@ -125,6 +127,7 @@ fn worked<L: Ledger + Naming + Send + Sync, G: Gate + Sync, R: Threads + Wait + 
     requires brand { (blank.name ≡ L.name) × (blank.parts ≡ L.parts) × (blank.parts ≡ workers) }
     requires list { opened.seen.book ≡ L.book }
     requires subjects { fresh.store.modules ≡ L.modules }
+    requires same { map arc_value fresh.modules.items ≡ fresh.store.modules }
     requires plan { fresh.store.given.imports ≡ L.plan }
     requires workers { (0 < workers) × (workers ≤ 16) }
     requires empty { fresh.store.journal ≡ [] }
@@ -151,7 +154,7 @@ fn worked<L: Ledger + Naming + Send + Sync, G: Gate + Sync, R: Threads + Wait + 
     run_workers(rt, &work, passes.as_mut_slice(), worker_stack_size(texts))?;
     let (store, book) = shared.into_store();
     let records = records_of(alloc, book, passes)?;
-    finished(alloc, modules, store, records, workers)
+    finished(alloc, store, records, workers)
 }
 
 /// Builds the modules of sources on a thread whose stack is large enough for them. `build` and `run` both stand on it.

@@ -1,18 +1,14 @@
 //! What came of a build, once its workers are done.
-ghost use Rattle.std.specs.Prelude.{◌≡◌, ◌⊎◌, ℕ, List, IfErr, IfOk, map, true};
-ghost use Rattle.std.specs.Arc.{arc_value};
+ghost use Rattle.std.specs.Prelude.{◌≡◌, ◌⊎◌, ℕ, List, IfErr, IfOk, true};
 ghost use Rattle.hm_store.specs.Builds.{IsAllSettled, IsLegal};
 ghost use Rattle.hm_build.specs.FinishedBuilds.{AreNumbered, IsFinished};
 ghost use Rattle.hm_sources.specs.SourceModules.{AreModulesOf};
 
 use crate::rounds::are_in_rounds;
 use crate::{BuildFault, Finished};
-use hm_equal::is_same_module;
 use hm_published::Naming;
 use hm_store::{Pass, Record, Store};
-use hm_syntax::Module;
 use std::alloc::{AllocError, Global};
-use std::sync::Arc;
 use std::sync::ledger::{Book, Ledger};
 
 /// The records of the workers, in the order of their passes.
@@ -28,21 +24,6 @@ pub(crate) fn records_of<L: Ledger + Naming>(
         records.push(record)?;
     }
     Ok(records)
-}
-
-/// Whether these are the same modules in the same order.
-fn are_same_modules(modules: &[Arc<Module>], others: &[Arc<Module>]) -> bool
-    ensures { result ≡ true → map arc_value modules.now ≡ map arc_value others.now }
-{
-    if modules.len() != others.len() {
-        return false;
-    }
-    for number in 0..modules.len() {
-        if !is_same_module(&modules[number], &others[number]) {
-            return false;
-        }
-    }
-    true
 }
 
 /// Whether each module is settled.
@@ -69,22 +50,18 @@ fn are_numbered(records: &[Record], workers: usize) -> bool
     records.len() == workers
 }
 
-/// The build, where its store is that of the modules and was not stopped, each module is settled, and the records agree with the journal
+/// The build, where its store was not stopped, each module is settled, and the records agree with the journal
 /// and are in rounds.
 pub(crate) fn finished(
     alloc: Global,
-    modules: Vec<Arc<Module>>,
     store: Store,
     records: Vec<Record>,
     workers: usize,
 ) -> Result<Finished, BuildFault>
-    ensures finished { IfOk result (λ f. (sources : List (List ℕ)) → AreModulesOf sources (map arc_value modules.items) → IsFinished sources workers f.store f.records.items) }
+    ensures finished { IfOk result (λ f. (sources : List (List ℕ)) → AreModulesOf sources store.modules → IsFinished sources workers f.store f.records.items) }
     ensures err { IfErr result (λ e. (e ≡ BuildFault.Memory) ⊎ (e ≡ BuildFault.Mixed)) }
 {
     store.legal();
-    if !are_same_modules(modules.as_slice(), store.modules()) {
-        return Err(BuildFault::Mixed);
-    }
     if store.is_stopped() {
         return Err(BuildFault::Mixed);
     }

@@ -3,6 +3,10 @@
 
 mod answers;
 mod building;
+mod explained_answers;
+mod explained_runs;
+mod explained_stacks;
+mod explaining;
 mod faults;
 mod finished_build;
 mod finishing;
@@ -18,6 +22,8 @@ mod statuses;
 mod workers;
 
 pub use building::build;
+pub use explained_answers::Explain;
+pub use explained_runs::run_explained;
 pub use faults::BuildFault;
 pub use finished_build::Finished;
 pub use gate::{Gate, Open};

@@ -3,7 +3,7 @@ ghost use Rattle.std.specs.Prelude.{◌≡◌, ◌≢◌, ◌<◌, ◌⊎◌, �
 ghost use Rattle.std.specs.Arc.{arc_value};
 ghost use Rattle.std.specs.List.{flat_map};
 ghost use Rattle.hm_verdicts.specs.Sets.{IsLawfulSet};
-ghost use Rattle.hm_verdicts.specs.Reports.{AreBlamed, IsBlockText, IsReport, blame_line, count_line, fault_line, is_failed, is_published, is_skipped, kind_word, tally};
+ghost use Rattle.hm_verdicts.specs.Reports.{AreBlamed, IsBlockText, IsReport, blame_line, count_line, fault_line, is_failed, is_published, is_skipped, tally};
 ghost use Rattle.hm_store.specs.Builds.{set_of};
 ghost use Rattle.hm_store.specs.Settlements.{settlement as settlement_in};
 ghost use Rattle.hm_build.specs.Settling.{module_set, status_of as settlement, statuses_of};
@@ -13,7 +13,8 @@ ghost use Rattle.hm_build.specs.ReportBlocks.{AreBlocksOf, all_blamed, blamed, r
 use crate::Finished;
 use crate::statuses::{Settled, settled_in};
 use hm_graph::Plan;
-use hm_names::{Fault, Kind};
+use hm_messages::kind_word;
+use hm_names::Fault;
 use hm_sources::Status;
 use hm_syntax::Module;
 use hm_types::interface_text;
@@ -27,33 +28,13 @@ struct ReportBlock<'a> {
     text: String,
 }
 
-/// The word for a kind of fault.
-fn word(kind: Kind) -> &'static str
-    ensures { result.now ≡ kind_word kind }
-{
-    match kind {
-        Kind::NotExported => "not-exported",
-        Kind::Duplicate => "duplicate",
-        Kind::NoBinding => "no-binding",
-        Kind::Unbound => "unbound",
-        Kind::Ambiguous => "ambiguous",
-        Kind::ExportClash => "export-clash",
-        Kind::NotImported => "not-imported",
-        Kind::NonLinear => "non-linear",
-        Kind::Arity => "arity",
-        Kind::ClauseLength => "clause-length",
-        Kind::Untyped => "type",
-        Kind::Recursive => "recursive",
-    }
-}
-
 /// Appends the line of a fault.
 fn add_fault(text: &mut String, fault: &Fault) -> Result<(), AllocError>
     ensures { OnOk result (string_bytes text.new ≡ string_bytes text.old ++ fault_line fault.now) }
 {
     let line = fault.place.line;
     let column = fault.place.column;
-    let word = word(fault.kind);
+    let word = kind_word(fault.kind);
     let name = fault.name.as_str();
     write!(text, "  {line}:{column} {word} {name}\n")
 }
@@ -205,6 +186,13 @@ fn counts_of(settled: &[Settled<'_>]) -> Counts
         faulty,
         skipped,
     }
+}
+
+/// How many modules of a settled set are skipped.
+pub(crate) fn skipped_in(settled: &[Settled<'_>]) -> usize
+    ensures { result ≡ tally is_skipped (statuses_of settled.now) (length settled.now) }
+{
+    counts_of(settled).skipped
 }
 
 /// Whether all modules of a settled set are good.

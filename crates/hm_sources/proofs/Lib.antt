@@ -1,6 +1,7 @@
 pub mod Ordering
 pub mod Outlines
 pub mod Reading
+pub mod Origins
 pub mod Telling
 pub mod Transferring
 pub mod OneOrder

@@ -7,9 +7,9 @@ use Rattle.hm_lex.specs.declared.token.LexFault.TheVariants as lexing
 use Rattle.hm_lex.specs.declared.token.Token.{Token}
 use Rattle.hm_lex.proofs.OneFault.{one_refusal}
 use Rattle.hm_lex.proofs.Scanning.{one_answer}
-use Rattle.hm_parse.specs.Grammar.Modules.{Spells}
+use Rattle.hm_grammar.specs.Grammar.Modules.{Spells}
 use Rattle.hm_syntax.specs.declared.ast.Module.{Module}
-use Rattle.hm_parse.specs.declared.fault.ParseFault.TheVariants.{Syntax, Memory}
+use Rattle.hm_grammar.specs.declared.fault.ParseFault.TheVariants.{Syntax, Memory}
 use Rattle.hm_graph.specs.Imports.{Modules, IsLawful, IsMissing}
 use Rattle.hm_graph.specs.Outline.{Outline}
 use Rattle.hm_graph.specs.Refusal.{IsFirstTaken, IsFirstMissing, IsFirstInCycle, IsRefusal as IsPlanRefusal}

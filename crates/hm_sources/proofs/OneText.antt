@@ -7,8 +7,8 @@ use Rattle.hm_lex.specs.declared.token.Token.{Token}
 use Rattle.hm_lex.specs.Cut.{tokens_of}
 use Rattle.hm_lex.specs.Faults.{AreTokensOf}
 use Rattle.hm_lex.proofs.Cuts.{one_cut}
-use Rattle.hm_parse.specs.Grammar.Modules.{Spells}
-use Rattle.hm_parse.proofs.Whole.{spelled_once}
+use Rattle.hm_grammar.specs.Grammar.Modules.{Spells}
+use Rattle.hm_grammar.proofs.Whole.{spelled_once}
 use Rattle.hm_graph.specs.Outline.{Outline}
 use Rattle.hm_graph.specs.Imports.{Modules, NoneTaken, name_at}
 use Rattle.hm_graph.proofs.OnePlan.{one_plan}

@@ -1,7 +1,7 @@
 -- The laws of runs of the plan, as statements.
 use Rattle.std.specs.Prelude.{◌≡◌, ℕ, List, ◌⊎◌}
 use Rattle.hm_lex.specs.declared.token.Place.{Place}
-use Rattle.hm_parse.specs.declared.fault.ParseFault.TheVariants.{Syntax}
+use Rattle.hm_grammar.specs.declared.fault.ParseFault.TheVariants.{Syntax}
 use Rattle.hm_sources.specs.declared.status.Status.{Status}
 use Rattle.hm_sources.specs.Refusals.{Refusal, parse}
 use Rattle.hm_sources.specs.Runs.{IsPlanned, IsPlanRun, IsRefusalOf}

@@ -2,6 +2,7 @@ pub mod Counting
 pub mod Errors
 pub mod Laws
 pub mod Names
+pub mod Origins
 pub mod Plans
 pub mod Refusals
 pub mod Runs

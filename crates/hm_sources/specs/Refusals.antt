@@ -4,8 +4,8 @@ use Rattle.std.specs.Fmt.{decimal}
 use Rattle.hm_lex.specs.declared.token.Place.{Place}
 use Rattle.hm_lex.specs.declared.token.LexFault.{LexFault}
 use Rattle.hm_lex.specs.declared.token.LexFault.TheVariants as lexing
-use Rattle.hm_parse.specs.declared.fault.ParseFault.{ParseFault}
-use Rattle.hm_parse.specs.declared.fault.ParseFault.TheVariants as parsing
+use Rattle.hm_grammar.specs.declared.fault.ParseFault.{ParseFault}
+use Rattle.hm_grammar.specs.declared.fault.ParseFault.TheVariants as parsing
 use Rattle.hm_graph.specs.declared.faults.PlanFault.{PlanFault}
 use Rattle.hm_graph.specs.declared.faults.PlanFault.TheVariants as planning
 use Rattle.hm_sources.specs.declared.faults.SetFaultKind.{SetFaultKind}

@@ -5,9 +5,9 @@ use Rattle.hm_lex.specs.declared.token.Token.{Token}
 use Rattle.hm_syntax.specs.declared.ast.Module.{Module}
 use Rattle.hm_graph.specs.Outline.{Outline}
 use Rattle.hm_sources.specs.Names.{import_at, module_outline}
-use Rattle.hm_parse.specs.declared.fault.ParseFault.{ParseFault}
-use Rattle.hm_parse.specs.declared.fault.ParseFault.TheVariants.{Syntax, Memory}
-use Rattle.hm_parse.specs.Grammar.Modules.{Spells}
+use Rattle.hm_grammar.specs.declared.fault.ParseFault.{ParseFault}
+use Rattle.hm_grammar.specs.declared.fault.ParseFault.TheVariants.{Syntax, Memory}
+use Rattle.hm_grammar.specs.Grammar.Modules.{Spells}
 use Rattle.hm_graph.specs.declared.faults.PlanFault.{PlanFault}
 use Rattle.hm_graph.specs.declared.faults.PlanFault.TheVariants.{Duplicate, Missing, Cycle}
 use Rattle.hm_graph.specs.Imports.{IsImportPlan, IsLawful, name_at}

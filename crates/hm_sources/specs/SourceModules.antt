@@ -2,7 +2,7 @@
 use Rattle.std.specs.Prelude.{◌≡◌, ℕ, List, [], ◌∷◌, ◌++◌}
 use Rattle.hm_lex.specs.Faults.{AreTokensOf}
 use Rattle.hm_lex.specs.declared.token.Token.{Token}
-use Rattle.hm_parse.specs.Grammar.Modules.{Spells}
+use Rattle.hm_grammar.specs.Grammar.Modules.{Spells}
 use Rattle.hm_syntax.specs.declared.ast.Module.{Module}
 
 -- the modules that a source spells

@@ -5,6 +5,7 @@
 mod answers;
 mod faults;
 pub mod laws;
+mod located;
 mod output;
 mod plans;
 mod refusals;
@@ -17,6 +18,7 @@ mod watched;
 
 pub use answers::{Answer, refusal_answer};
 pub use faults::{RunFault, SetFault, SetFaultKind};
+pub use located::{Located, located_headers};
 pub use output::write_text;
 pub use plans::plan_text;
 pub use refusals::refusal_text;

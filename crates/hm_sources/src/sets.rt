@@ -33,7 +33,7 @@ fn refused(kind: SetFaultKind) -> SetError
 }
 
 /// Appends one source's modules.
-fn add_modules(
+pub(crate) fn add_modules(
     alloc: Global,
     source: usize,
     text: &[u8],

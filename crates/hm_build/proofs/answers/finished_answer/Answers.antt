@@ -3,8 +3,8 @@ use Rattle.hm_build.specs.Settling.{statuses_of}
 use Rattle.hm_build.proofs.FinishedRuns.{finished_run}
 use Rattle.hm_build.proofs.answers.finished_answer.Goals as goal
 
-pub returns : goal.returns
-returns c sources workers finished =
+pub returns-clause-run : goal.returns-clause-run
+returns-clause-run c sources workers finished =
     let f = c.args.finished.now in
     let same = c.as_slice.ensures.value in
     let status = c.status_of-status.ensures in

@@ -1,0 +1,59 @@
+//! How much of a long line is shown.
+ghost use Rattle.std.specs.Prelude.{◌≡◌, ◌≤◌, ◌+◌, length, drop, take};
+ghost use Rattle.hm_excerpts.specs.Excerpts.{IsShownRound, continues, most_shown};
+
+use crate::excerpt::Excerpt;
+
+/// How many bytes are shown on each side of a place.
+const MOST_SHOWN: usize = 60;
+
+/// Whether a byte stands inside a character of UTF-8.
+pub(crate) fn continues(byte: u8) -> bool
+    ensures { result ≡ continues byte }
+{
+    matches!(byte, 0x80..=0xBF)
+}
+
+/// Where what is shown before a place begins: at a whole character.
+fn first_shown(front: &[u8]) -> usize
+    ensures within { result ≤ length front.now }
+    ensures short { length front.now ≤ result + most_shown }
+{
+    if front.len() <= MOST_SHOWN {
+        return 0;
+    }
+    let mut start = front.len() - MOST_SHOWN;
+    while start < front.len() && continues(front[start]) {
+        start += 1;
+    }
+    start
+}
+
+/// Where what is shown behind a place ends: at a whole character.
+fn shown_end(back: &[u8]) -> usize
+    ensures within { result ≤ length back.now }
+    ensures short { result ≤ most_shown }
+{
+    if back.len() <= MOST_SHOWN {
+        return back.len();
+    }
+    let mut end = MOST_SHOWN;
+    while end > 0 && continues(back[end]) {
+        end -= 1;
+    }
+    end
+}
+
+/// What is shown of a line that has these bytes before a place and behind it.
+pub(crate) fn shown_round<'a>(front: &'a [u8], back: &'a [u8]) -> Excerpt<'a>
+    ensures { IsShownRound front.now back.now result }
+{
+    let start = first_shown(front);
+    let end = shown_end(back);
+    Excerpt {
+        left: &front[start..],
+        right: &back[..end],
+        is_cut_left: start > 0,
+        is_cut_right: end < back.len(),
+    }
+}

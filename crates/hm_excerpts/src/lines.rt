@@ -1,0 +1,96 @@
+//! The lines of a source, by their numbers.
+ghost use Rattle.std.specs.Prelude.{◌≡◌, ◌≤◌, ◌<◌, ◌+◌, All, IfNone, IfOk, IfSome, length, slice_index, take};
+ghost use Rattle.hm_lex.specs.Cut.{is_line_end};
+ghost use Rattle.hm_excerpts.specs.Excerpts.{IsExcerptAt, IsPlaceIn};
+ghost use Rattle.hm_excerpts.specs.Lines.{AreLinesOf, IsWithout};
+
+use crate::cutting::shown_round;
+use crate::excerpt::Excerpt;
+use hm_lex::Place;
+use std::alloc::{AllocError, Global};
+use std::marker::Model;
+
+/// A line of a source, `source[start..end]`, without its end.
+#[derive(Clone, Copy)]
+struct Span {
+    start: usize,
+    end: usize,
+}
+
+/// A source with its lines, so that a place is found without reading the source once more.
+#[derive(Drop)]
+pub struct SourceLines<'a> {
+    source: &'a [u8],
+    spans: Vec<Span>,
+}
+
+impl<'a> Model for SourceLines<'a> {
+    ghost use Rattle.std.specs.Prelude.{List, ℕ};
+    ghost use Rattle.hm_excerpts.specs.Lines.{AreLinesOf};
+
+    ghost Value = { List ℕ };
+
+    ghost view = { λ s. s.source.now };
+
+    ghost invariant = { λ s. AreLinesOf s.source.now s.spans.items };
+}
+
+/// The length of the line at the front.
+fn line_len(bytes: &[u8]) -> usize
+    ensures within { result ≤ length bytes.now }
+    ensures plain { IsWithout is_line_end (take result bytes.now) }
+    ensures end { result < length bytes.now → slice_index bytes.now result ≡ 10 }
+{
+    let mut len = 0;
+    while len < bytes.len() && bytes[len] != b'\n' {
+        len += 1;
+    }
+    len
+}
+
+/// The lines of a source: one more than it has line ends.
+fn spans_of(alloc: Global, source: &[u8]) -> Result<Vec<Span>, AllocError>
+    ensures { IfOk result (λ spans. AreLinesOf source.now spans.items) }
+{
+    let mut spans = Vec::new(alloc);
+    let mut start = 0usize;
+    while start <= source.len() {
+        let end = start + line_len(&source[start..]);
+        spans.push(Span { start, end })?;
+        start = end + 1;
+    }
+    Ok(spans)
+}
+
+impl<'a> SourceLines<'a> {
+    /// Looks for the lines of a source.
+    pub fn of(alloc: Global, source: &'a [u8]) -> Result<SourceLines<'a>, AllocError>
+        ensures { IfOk result (λ lines. lines ≡ source.entry.now) }
+    {
+        let spans = spans_of(alloc, source)?;
+        Ok(SourceLines { source, spans })
+    }
+
+    /// What is shown at a place, if it lies in the source.
+    pub fn excerpt(&self, place: Place) -> Option<Excerpt<'a>>
+        ensures some { IfSome result (IsExcerptAt self.now place) }
+        ensures none { IfNone result (IsPlaceIn self.now place → ⊥) }
+    {
+        if place.line == 0 {
+            return None;
+        }
+        if place.line > self.spans.len() {
+            return None;
+        }
+        if place.column == 0 {
+            return None;
+        }
+        let Span { start, end } = self.spans[place.line - 1];
+        let column = place.column - 1;
+        if column > end - start {
+            return None;
+        }
+        let (front, back) = self.source[start..end].split_at(column);
+        Some(shown_round(front, back))
+    }
+}

@@ -1,0 +1,14 @@
+-- Messages in a row, one more at the end.
+use Rattle.std.proofs.Common.{◌≡◌, ℕ, ◌+◌, ◌<◌, List, [], ◌∷◌, ◌++◌, length, take, get_or, refl, sym, ap, subst, ◌∙◌, append_assoc, append-nil}
+use Rattle.std.proofs.lemmas.List.{take_more}
+use Rattle.hm_messages.specs.Messages.{AreEach}
+
+pub each_more : {X : Type 0} (tells : X → List ℕ → Type 0) (xs : List X) (x : X) (text message : List ℕ) → AreEach tells xs text → tells x message → AreEach tells (xs ++ x ∷ []) (text ++ message)
+each_more tells [] x text message none h = (message, [], h, refl, ap (λ (l : List ℕ). l ++ message) none ∙ sym (append-nil message))
+each_more tells (y ∷ ys) x text message each h =
+    (each.0, each.1 ++ message, each.2, each_more tells ys x each.1 message each.3 h, ap (λ (l : List ℕ). l ++ message) each.4 ∙ append_assoc each.0 each.1 message)
+
+-- the step of a loop
+pub taken_more : {X : Type 0} (tells : X → List ℕ → Type 0) (xs : List X) (i : ℕ) (d : X) (text next message : List ℕ) → i < length xs → AreEach tells (take i xs) text → tells (get_or xs i d) message → next ≡ text ++ message → AreEach tells (take (i + 1) xs) next
+taken_more tells xs i d text next message within each h e =
+    subst (AreEach tells (take (i + 1) xs)) (sym e) (subst (λ l. AreEach tells l (text ++ message)) (sym (take_more xs i d within)) (each_more tells (take i xs) (get_or xs i d) text message each h))

@@ -1,0 +1,3 @@
+pub mod AtPage
+pub mod InOrder
+pub mod Ways

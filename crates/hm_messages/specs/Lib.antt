@@ -1,0 +1,6 @@
+pub mod Headings
+pub mod Messages
+pub mod Pages
+pub mod Refused
+pub mod Sentences
+pub mod Subjects

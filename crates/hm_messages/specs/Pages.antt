@@ -1,0 +1,16 @@
+-- Sources with the names of their files.
+use Rattle.std.specs.Prelude.{◌≡◌, ℕ, ◌<◌, List, [], codes, length, map, slice_index_or}
+use Rattle.hm_messages.specs.declared.pages.Page.{Page}
+
+-- a source without a name is standard input
+abbrev pub file_at : List (List ℕ) → ℕ → List ℕ
+file_at names k = slice_index_or names k (codes "<stdin>")
+
+abbrev pub AreFilesOf : List (List ℕ) → List (List ℕ) → Type 0
+AreFilesOf names files = (k : ℕ) → k < length files → slice_index_or files k [] ≡ file_at names k
+
+abbrev pub files_in : List Page → List (List ℕ)
+files_in pages = map (λ p. p.file.now) pages
+
+abbrev pub texts_in : List Page → List (List ℕ)
+texts_in pages = map (λ p. p.lines) pages

@@ -1,0 +1,36 @@
+-- What a message tells, without where its names lie in memory.
+use Rattle.std.specs.Prelude.{ℕ, List}
+use Rattle.hm_names.specs.declared.faults.Kind.{Kind}
+use Rattle.hm_messages.specs.declared.topic.Topic.{Topic}
+use Rattle.hm_messages.specs.declared.topic.Topic.TheVariants as topic
+
+-- a fault of a module; a module is skipped for a faulty import, or for a skipped one; why a set is refused; a step of a cycle
+pub data Subject : Type 0 where
+  fault : Kind → List ℕ → Subject
+  faulty : List ℕ → Subject
+  skipped : List ℕ → Subject
+  too_long : Subject
+  lexeme : Subject
+  open_comment : Subject
+  too_deep : Subject
+  syntax_fault : Subject
+  too_many : Subject
+  twice : List ℕ → Subject
+  missing : List ℕ → Subject
+  cycle : List ℕ → Subject
+  step : List ℕ → List ℕ → Subject
+
+abbrev pub subject_of : Topic → Subject
+subject_of (topic.Fault k x) = fault k x.now
+subject_of (topic.Faulty x) = faulty x.now
+subject_of (topic.Skipped x) = skipped x.now
+subject_of topic.TooLong = too_long
+subject_of topic.Lexeme = lexeme
+subject_of topic.OpenComment = open_comment
+subject_of topic.TooDeep = too_deep
+subject_of topic.Syntax = syntax_fault
+subject_of topic.TooMany = too_many
+subject_of (topic.Twice x) = twice x.now
+subject_of (topic.Missing x) = missing x.now
+subject_of (topic.Cycle x) = cycle x.now
+subject_of (topic.Step x y) = step x.now y.now

@@ -1,0 +1,22 @@
+//! Messages that an editor can jump to: a file, a place in it, what is wrong there in plain words, and the line of the source.
+#![tactic(auto)]
+
+mod counts;
+mod cycles;
+mod faults;
+mod heading;
+mod kinds;
+mod messages;
+mod pages;
+mod refusals;
+mod sentences;
+mod topic;
+
+pub use crate::counts::count_text;
+pub use crate::faults::fault_messages;
+pub use crate::heading::Paint;
+pub use crate::kinds::kind_word;
+pub use crate::messages::{MessageFault, message};
+pub use crate::pages::{Page, Pages, pages_of};
+pub use crate::refusals::{headers_in, refusal_messages};
+pub use crate::topic::Topic;

@@ -1,0 +1,86 @@
+//! One message: a file, a place, what is wrong there, a sentence, and the line with a mark.
+ghost use Rattle.std.specs.Prelude.{◌≡◌, ◌⊎◌, IfErr, IfOk, string_bytes};
+ghost use Rattle.hm_messages.specs.Messages.{IsHeadingAt, IsMessage};
+ghost use Rattle.hm_messages.specs.Subjects.{subject_of};
+
+use crate::heading::{Paint, heading};
+use crate::pages::Page;
+use crate::sentences::sentence;
+use crate::topic::Topic;
+use hm_excerpts::add_excerpt;
+use hm_lex::Place;
+use hm_sources::RunFault;
+use std::alloc::{AllocError, Global};
+
+/// Why there is no message.
+#[derive(Clone, Copy, Debug, PartialEq, Eq, Drop)]
+pub enum MessageFault {
+    Memory,
+    /// What is to be told has no place in its source.
+    Place,
+}
+
+impl From<AllocError> for MessageFault {
+    ghost use Rattle.std.specs.Prelude.{◌≡◌};
+    ghost use Rattle.hm_messages.specs.declared.messages.MessageFault.TheVariants.{Memory};
+
+    ghost from_gives = { λ _ fault. fault ≡ Memory };
+
+    fn from(_error: AllocError) -> MessageFault {
+        MessageFault::Memory
+    }
+}
+
+impl From<MessageFault> for RunFault {
+    ghost use Rattle.std.specs.Prelude.{◌≡◌, ◌⊎◌};
+    ghost use Rattle.hm_sources.specs.declared.faults.RunFault.TheVariants.{Memory, Mixed};
+
+    ghost from_gives = { λ _ fault. (fault ≡ Memory) ⊎ (fault ≡ Mixed) };
+
+    fn from(fault: MessageFault) -> RunFault {
+        match fault {
+            MessageFault::Memory => RunFault::Memory,
+            MessageFault::Place => RunFault::Mixed,
+        }
+    }
+}
+
+/// The first line of a message at a place of a source.
+pub(crate) fn heading_at(
+    alloc: Global,
+    paint: Paint,
+    page: &Page<'_>,
+    place: Place,
+    topic: &Topic<'_>,
+) -> Result<Vec<u8>, MessageFault>
+    ensures { IfOk result (λ text. IsHeadingAt paint page.now.file.now page.now.lines place (subject_of topic.now) text.items) }
+{
+    if page.lines.excerpt(place).is_none() {
+        return Err(MessageFault::Place);
+    }
+    let heading = heading(alloc, paint, place, topic)?;
+    let mut text = Vec::from_slice(alloc, page.file)?;
+    text.extend_from_slice(heading.as_bytes())?;
+    Ok(text)
+}
+
+/// The message of a topic at a place of a source.
+pub fn message(
+    alloc: Global,
+    paint: Paint,
+    page: &Page<'_>,
+    place: Place,
+    topic: &Topic<'_>,
+) -> Result<Vec<u8>, MessageFault>
+    ensures { IfOk result (λ text. IsMessage paint page.now.file.now page.now.lines place (subject_of topic.now) text.items) }
+{
+    let Some(excerpt) = page.lines.excerpt(place) else {
+        return Err(MessageFault::Place);
+    };
+    let heading = heading(alloc, paint, place, topic)?;
+    let mut text = Vec::from_slice(alloc, page.file)?;
+    text.extend_from_slice(heading.as_bytes())?;
+    text.extend_from_slice(sentence(topic).as_bytes())?;
+    add_excerpt(&mut text, &excerpt)?;
+    Ok(text)
+}

@@ -1,0 +1,33 @@
+//! What a message tells.
+use hm_names::Kind;
+
+/// What a message tells. Names are as they are written.
+#[derive(Clone, Copy)]
+pub enum Topic<'a> {
+    /// A fault of a module.
+    Fault(Kind, &'a str),
+    /// A module is skipped, since it imports this one, which is faulty.
+    Faulty(&'a str),
+    /// A module is skipped, since it imports this one, which is skipped.
+    Skipped(&'a str),
+    /// A source is too long.
+    TooLong,
+    /// No lexeme can be completed.
+    Lexeme,
+    /// A comment isn't closed.
+    OpenComment,
+    /// Too many brackets are open.
+    TooDeep,
+    /// No modules are spelled.
+    Syntax,
+    /// A set has too many modules.
+    TooMany,
+    /// A module has a name that is taken.
+    Twice(&'a str),
+    /// An import names no module.
+    Missing(&'a str),
+    /// A module reaches itself by imports.
+    Cycle(&'a str),
+    /// A step of a cycle: the first module imports the second.
+    Step(&'a str, &'a str),
+}

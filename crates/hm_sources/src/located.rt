@@ -1,0 +1,47 @@
+//! Which source each module comes from.
+ghost use Rattle.std.specs.Prelude.{◌≡◌, ◌<◌, ◌++◌, ℕ, List, All, IfOk, OnOk, length, map, slice_index_or};
+ghost use Rattle.hm_sources.specs.Origins.{AreLocated};
+ghost use Rattle.hm_sources.specs.declared.located.Located.{Located as Row};
+
+use crate::SetError;
+use crate::sets::add_modules;
+use hm_syntax::{Header, Module};
+use std::alloc::{AllocError, Global};
+
+/// The header of a module, and the number of the source that spells it, counted from 0.
+#[derive(Drop)]
+pub struct Located {
+    pub header: Header,
+    pub source: usize,
+}
+
+/// Appends the headers of one source's modules.
+fn add_headers(
+    located: &mut Vec<Located>,
+    modules: Vec<Module>,
+    source: usize,
+) -> Result<(), AllocError>
+    ensures { OnOk result ((tail : List Row) × (located.new.items ≡ located.old.items ++ tail) × (length tail ≡ length modules.items) × All (λ l. l.source ≡ source) tail) }
+{
+    for module in modules {
+        let Module { header, .. } = module;
+        located.push(Located { header, source })?;
+    }
+    Ok(())
+}
+
+/// The headers of the modules of sources, in order of appearance, each with its source.
+pub fn located_headers(alloc: Global, sources: &[Vec<u8>]) -> Result<Vec<Located>, SetError>
+    ensures { IfOk result (λ located. AreLocated (map (λ s. s.items) sources.now) located.items) }
+{
+    let mut located = Vec::new(alloc);
+    for (source, text) in sources.iter().enumerate() {
+        let mut modules = Vec::new(alloc);
+        add_modules(alloc, source + 1, text.as_slice(), &mut modules)?;
+        match add_headers(&mut located, modules, source) {
+            Ok(()) => {}
+            Err(AllocError) => return Err(SetError::Memory),
+        }
+    }
+    Ok(located)
+}

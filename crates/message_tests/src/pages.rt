@@ -1,0 +1,76 @@
+//! Messages made one by one: names of files that aren't UTF-8, standard input, colours, and bytes of no character before a place.
+use hm_lex::Place;
+use hm_messages::{MessageFault, Paint, Topic, message, pages_of};
+use std::alloc::{AllocError, Global};
+use std::test::Fail;
+
+/// The message of an unknown name at a place of the first line of a source, where there is one.
+fn told(
+    alloc: Global,
+    paint: Paint,
+    names: &[Vec<u8>],
+    source: &[u8],
+    column: usize,
+) -> Result<Vec<u8>, AllocError> {
+    let mut sources = Vec::new(alloc);
+    sources.push(Vec::from_slice(alloc, source)?)?;
+    let pages = pages_of(alloc, paint, sources.as_slice(), names)?;
+    let place = Place { line: 1, column };
+    let topic = Topic::Missing("N");
+    match message(alloc, paint, &pages.items[0], place, &topic) {
+        Ok(text) => Ok(text),
+        Err(MessageFault::Memory) => Err(AllocError),
+        Err(MessageFault::Place) => Ok(Vec::new(alloc)),
+    }
+}
+
+#[test]
+fn names_of_files_come_out_as_they_are(rt: HostRuntime) -> Result<(), Fail> {
+    let alloc = rt.alloc();
+    let mut names = Vec::new(alloc);
+    names.push(Vec::from_slice(alloc, b"\xff\xc3.hs")?)?;
+    let text = told(alloc, Paint::Plain, names.as_slice(), b"ab", 2)?;
+    assert!(&rt;
+        text.as_slice()
+            == b"\xff\xc3.hs:1:2: error: missing N\nA module of this name was looked for, and the set has none.\nab\n ^\n".as_slice()
+    );
+    Ok(())
+}
+
+#[test]
+fn standard_input_has_a_name(rt: HostRuntime) -> Result<(), Fail> {
+    let names = Vec::new(rt.alloc());
+    let text = told(
+        rt.alloc(),
+        Paint::Plain,
+        names.as_slice(),
+        b"a\xff\x80\xc3b",
+        5,
+    )?;
+    assert!(&rt;
+        text.as_slice()
+            == b"<stdin>:1:5: error: missing N\nA module of this name was looked for, and the set has none.\na\xff\x80\xc3b\n    ^\n".as_slice()
+    );
+    Ok(())
+}
+
+#[test]
+fn labels_have_colours(rt: HostRuntime) -> Result<(), Fail> {
+    let names = Vec::new(rt.alloc());
+    let text = told(rt.alloc(), Paint::Coloured, names.as_slice(), b"", 1)?;
+    assert!(&rt;
+        text.as_slice()
+            == b"<stdin>:1:1: \x1b[1;31merror\x1b[0m: missing N\nA module of this name was looked for, and the set has none.\n\n^\n".as_slice()
+    );
+    Ok(())
+}
+
+#[test]
+fn a_place_outside_is_not_told(rt: HostRuntime) -> Result<(), Fail> {
+    let names = Vec::new(rt.alloc());
+    for column in [0usize, 4, 9] {
+        let text = told(rt.alloc(), Paint::Plain, names.as_slice(), b"ab", column)?;
+        assert!(&rt; text.is_empty());
+    }
+    Ok(())
+}
