@@ -1,7 +1,7 @@
 //! Builds by several workers: journals, records, and that checks run at the same time.
 use crate::check::check_run_by;
-use hm_build::{BuildFault, Finished, Gate, Open, Options, build, journal_text, report, run};
-use hm_sources::{RunFault, Status, Watched};
+use hm_build::{BuildFault, Finished, Gate, Open, Options, build, journal_text, report};
+use hm_sources::Status;
 use hm_store::{Act, Record};
 use std::alloc::{AllocError, Global};
 use std::process::Abort;
@@ -257,29 +257,6 @@ fn too_few_or_too_many_workers(rt: HostRuntime) -> Result<(), Fail> {
     for workers in [0, 17].iter() {
         assert!(rt; is_refused(&rt, TWO, *workers)?);
         assert!(rt; is_refused(&rt, b"x", *workers)?);
-    }
-    Ok(())
-}
-
-#[test]
-fn runs_by_too_few_or_too_many_workers(rt: HostRuntime) -> Result<(), Fail> {
-    for workers in [0, 17].iter() {
-        let options = Options {
-            workers: *workers,
-            journal: true,
-        };
-        let mut readers = [Watched::new(TWO)];
-        let mut printed = Vec::new(rt.alloc());
-        let mut writer = Watched::new(&mut printed);
-        let ended = run(
-            &rt,
-            rt.alloc(),
-            readers.as_mut_slice(),
-            &mut writer,
-            options,
-        );
-        assert_eq!(rt; ended, Err(RunFault::Workers));
-        assert!(rt; printed.is_empty());
     }
     Ok(())
 }

@@ -68,10 +68,17 @@ fn reports_the_most_modules(rt: HostRuntime) -> Result<(), Fail> {
     Ok(())
 }
 
+/// Sources of which one is syntax, each with a number of workers that no build has.
+const REFUSED: [(&[u8], usize); 4] = [
+    (b"module A where { x = }", 0),
+    (b"module A where { x = }", 17),
+    (b"module A where { x = 1 }", 0),
+    (b"module A where { x = 1 }", 17),
+];
+
 #[test]
 fn refuses_numbers_of_workers(rt: HostRuntime) -> Result<(), Fail> {
-    for workers in [0usize, 17] {
-        let source: &[u8] = b"module A where { x = }";
+    for (source, workers) in REFUSED {
         let mut readers = [Watched::new(source)];
         let mut printed = Vec::new(rt.alloc());
         let mut writer = Watched::new(&mut printed);
@@ -119,75 +126,6 @@ fn answers_failed_devices(rt: HostRuntime) -> Result<(), Fail> {
     );
     assert_eq!(rt; ended, Err(RunFault::Write));
     assert!(rt; device.taken.as_slice() == b"0 mod".as_slice());
-    Ok(())
-}
-
-/// One module of each kind of expression, and its report.
-const MIXED: &[u8] =
-    b"module A where { f x | x = y | otherwise = 2 where { y = 1 } ; g = \\x -> x :: Int ; h = case \"s\" of { c : _ -> c ; [] -> 'z' } }";
-
-const MIXED_REPORT: &[u8] =
-    b"module A\n  val f = A.f :: Bool -> Int\n  val g = A.g :: Int -> Int\n  val h = A.h :: Char\n1 modules: 1 good, 0 faulty, 0 skipped\n";
-
-#[test]
-fn reports_what_is_read_byte_by_byte(rt: HostRuntime) -> Result<(), Fail> {
-    let mut readers = [Watched::new(Slow::new(MIXED, 0))];
-    let mut printed = Vec::new(rt.alloc());
-    let mut writer = Watched::new(&mut printed);
-    let ended = run(
-        &rt,
-        rt.alloc(),
-        readers.as_mut_slice(),
-        &mut writer,
-        OPTIONS,
-    );
-    assert_eq!(rt; ended, Ok(Status::Good));
-    assert!(rt; printed.as_slice() == MIXED_REPORT);
-    Ok(())
-}
-
-/// Modules of which all are faulty or skipped, and their report.
-const UNTYPED: &[u8] =
-    b"module A where { x = y }\nmodule B where { import A ; import C }\nmodule C where { f x = x x }\nmodule D where { import B }";
-
-const UNTYPED_REPORT: &[u8] =
-    b"faulty A\n  1:22 unbound y\nskipped B\n  by A\n  by C\nfaulty C\n  3:18 type f\nskipped D\n  by B\n4 modules: 0 good, 2 faulty, 2 skipped\n";
-
-#[test]
-fn leaves_a_prefix_of_a_report(rt: HostRuntime) -> Result<(), Fail> {
-    for room in 0..UNTYPED_REPORT.len() {
-        let mut readers = [Watched::new(UNTYPED)];
-        let mut device = Short::new(rt.alloc(), room, Then::Fails);
-        let mut writer = Watched::new(&mut device);
-        let ended = run(
-            &rt,
-            rt.alloc(),
-            readers.as_mut_slice(),
-            &mut writer,
-            OPTIONS,
-        );
-        assert_eq!(rt; ended, Err(RunFault::Write), "at {room}");
-        assert!(rt; device.taken.as_slice() == &UNTYPED_REPORT[..room]);
-    }
-    Ok(())
-}
-
-/// Each proper prefix of a source is refused, but for that without a byte.
-#[test]
-fn refuses_each_prefix_of_a_source(rt: HostRuntime) -> Result<(), Fail> {
-    for len in 1..MIXED.len() {
-        let mut readers = [Watched::new(&MIXED[..len])];
-        let mut printed = Vec::new(rt.alloc());
-        let mut writer = Watched::new(&mut printed);
-        let ended = run(
-            &rt,
-            rt.alloc(),
-            readers.as_mut_slice(),
-            &mut writer,
-            OPTIONS,
-        );
-        assert_eq!(rt; ended, Ok(Status::Refused), "at {len}");
-    }
     Ok(())
 }
 

@@ -1,33 +1,78 @@
 //! The steps of a build store, one after the other.
-ghost use Rattle.std.specs.Prelude.{◌≡◌, [], IfOk};
+ghost use Rattle.std.specs.Prelude.{◌≡◌, [], IfOk, map};
+ghost use Rattle.std.specs.Arc.{arc_value};
+ghost use Rattle.hm_graph.specs.Imports.{IsImportPlan, IsLawful};
+ghost use Rattle.hm_sources.specs.Names.{module_outlines};
 
-use crate::sources::module_of;
-use hm_check::check_module;
-use hm_graph::import_plan;
+use crate::sources::{NO_MEMORY, module_of};
+use hm_check::{CheckFault, check_module};
+use hm_graph::Plan;
 use hm_outcomes::Outcome;
+use hm_sources::{SetError, set_modules};
 use hm_store::{Claimed, Refusal, Status, Store};
-use std::alloc::Global;
+use hm_syntax::Module;
+use std::alloc::{AllocError, Global};
 use std::process::Abort;
+use std::sync::Arc;
 use std::test::Fail;
 
 /// The outcome of the only module of a source, which imports none.
 pub(crate) fn outcome_of(alloc: Global, source: &[u8]) -> Result<Outcome, Fail> {
-    Ok(check_module(alloc, &module_of(alloc, source)?, &[]).map_err(|_| "refused")?)
+    match check_module(alloc, &module_of(alloc, source)?, &[]) {
+        Ok(outcome) => Ok(outcome),
+        Err(CheckFault::Memory) => Err(Fail::from(NO_MEMORY)),
+        Err(CheckFault::Imports) => Err(Fail::from("the imports are refused")),
+    }
 }
 
-/// A store for two modules, with the numbers 0 and 1.
-pub(crate) fn store_of(alloc: Global, first: &[u8], second: &[u8]) -> Result<Store, Fail>
+/// The modules of sources, and their plan.
+pub(crate) fn set_of(alloc: Global, texts: &[&[u8]]) -> Result<(Vec<Module>, Plan), Fail>
+    ensures lawful { IfOk result (λ set. IsLawful (module_outlines set.0.items)) }
+    ensures planned { IfOk result (λ set. IsImportPlan (module_outlines set.0.items) set.1) }
+{
+    let mut sources = Vec::new(alloc);
+    for text in texts {
+        sources.push(Vec::from_slice(alloc, text)?)?;
+    }
+    match set_modules(alloc, &sources) {
+        Ok(set) => Ok(set),
+        Err(SetError::Memory) => Err(Fail::from(NO_MEMORY)),
+        Err(SetError::Refused(_)) => Err(Fail::from("the sources are refused")),
+    }
+}
+
+/// Modules that a store can share.
+pub(crate) fn shared_modules(
+    alloc: Global,
+    modules: Vec<Module>,
+) -> Result<Vec<Arc<Module>>, AllocError>
+    ensures { IfOk result (λ shared. map arc_value shared.items ≡ modules.items) }
+{
+    let mut shared = Vec::new(alloc);
+    for module in modules {
+        shared.push(Arc::new(alloc, module)?)?;
+    }
+    Ok(shared)
+}
+
+/// A store for the modules of a lawful set.
+fn set_up(alloc: Global, modules: Vec<Module>, plan: Plan) -> Result<Store, AllocError>
+    requires lawful { IsLawful (module_outlines modules.items) }
+    requires planned { IsImportPlan (module_outlines modules.items) plan }
     ensures { IfOk result (λ s. s.journal ≡ []) }
 {
-    let first = module_of(alloc, first)?;
-    let second = module_of(alloc, second)?;
-    let Ok(plan) = import_plan(alloc, &[&first.header, &second.header]) else {
-        return Err(Fail::from("no plan"));
-    };
-    let mut modules = Vec::new(alloc);
-    modules.push(first)?;
-    modules.push(second)?;
+    let modules = shared_modules(alloc, modules)?;
     Ok(Store::new(alloc, modules, plan)?)
+}
+
+/// A store for the modules of sources, numbered in order.
+pub(crate) fn store_of(alloc: Global, texts: &[&[u8]]) -> Result<Store, Fail>
+    ensures { IfOk result (λ s. s.journal ≡ []) }
+{
+    match set_of(alloc, texts) {
+        Ok((modules, plan)) => Ok(set_up(alloc, modules, plan)?),
+        Err(fault) => Err(fault),
+    }
 }
 
 /// Publishes a good module, and tells why that is refused, if it is.
@@ -113,7 +158,7 @@ pub(crate) const IMPORTER: &[u8] = b"module A where { import B ; x = y }";
 pub(crate) const IMPORTED: &[u8] = b"module B where { y = 'c' }";
 
 /// Another module of that name.
-const OTHER: &[u8] = b"module B where { y = 1 }";
+pub(crate) const OTHER: &[u8] = b"module B where { y = 1 }";
 
 /// A faulty module of that name.
 const FAULTY: &[u8] = b"module B where { y = z }";
@@ -170,7 +215,7 @@ fn check_steps(
     steps: &[Step],
 ) -> Result<(), Fail> {
     let alloc: Global = rt.alloc();
-    let mut store = store_of(alloc, IMPORTER, imported)?;
+    let mut store = store_of(alloc, &[IMPORTER, imported])?;
     for step in steps {
         assert!(rt; answers(alloc, &mut store, step)?);
     }

@@ -2,9 +2,8 @@
 
 ghost use Rattle.std.specs.Prelude.{◌≡◌, IfOk};
 
-use hm_types::{
-    Entity, Head, Interface, Synonym, SynonymEntry, Text, Ty, Types, interface_text, prelude,
-};
+use hm_prelude::prelude;
+use hm_types::{Entity, Head, Interface, Synonym, SynonymEntry, Text, Ty, Types, interface_text};
 use std::alloc::{AllocError, Global};
 use std::test::Fail;
 
@@ -84,31 +83,48 @@ const PRELUDE: [&str; 72] = [
     "  val zipWith = Prelude.zipWith :: (a -> b -> c) -> [a] -> [b] -> [c]",
 ];
 
+/// These lines as one text.
+fn text_of_prelude(alloc: Global) -> Result<String, AllocError> {
+    let mut text = String::new(alloc);
+    for line in PRELUDE {
+        text.push_str(line)?;
+        text.push_str("\n")?;
+    }
+    Ok(text)
+}
+
+/// Whether an interface has this text.
+fn has_text(alloc: Global, interface: &Interface, wanted: &str) -> Result<bool, AllocError> {
+    Ok(interface_text(alloc, interface)?.as_str() == wanted)
+}
+
+/// Whether an interface is copied as it is.
+fn is_copied(alloc: Global, interface: &Interface) -> Result<bool, AllocError> {
+    let copied = interface.copy(alloc)?;
+    Ok(interface.is_same(&copied) && copied.name() == interface.name())
+}
+
+/// Whether the interface of Prelude has this text.
+fn prelude_has_text(alloc: Global, wanted: &str) -> Result<bool, AllocError> {
+    Ok(has_text(alloc, &prelude(alloc)?, wanted)?)
+}
+
 #[test]
 fn the_text_of_prelude(rt: HostRuntime) -> Result<(), Fail> {
-    let alloc = rt.alloc();
-    let mut wanted = String::new(alloc);
-    for line in PRELUDE {
-        wanted.push_str(line)?;
-        wanted.push_str("\n")?;
-    }
-    let interface = prelude(alloc)?;
-    let text = interface_text(alloc, &interface)?;
-    assert_eq!(rt; text.as_str(), wanted.as_str());
+    let wanted = text_of_prelude(rt.alloc())?;
+    assert!(rt; prelude_has_text(rt.alloc(), wanted.as_str())?);
     Ok(())
 }
 
 #[test]
 fn copies_are_the_same(rt: HostRuntime) -> Result<(), Fail> {
-    let alloc = rt.alloc();
-    let interface = prelude(alloc)?;
-    let copied = interface.copy(alloc)?;
-    assert!(rt; interface.is_same(&copied));
-    assert_eq!(rt; copied.name(), "Prelude");
-    assert_eq!(rt; copied.types().len(), 6);
-    assert_eq!(rt; copied.synonyms().len(), 1);
-    assert_eq!(rt; copied.constructors().len(), 9);
-    assert_eq!(rt; copied.values().len(), 55);
+    let interface = prelude(rt.alloc())?;
+    assert!(rt; is_copied(rt.alloc(), &interface)?);
+    assert_eq!(rt; interface.name(), "Prelude");
+    assert_eq!(rt; interface.types().len(), 6);
+    assert_eq!(rt; interface.synonyms().len(), 1);
+    assert_eq!(rt; interface.constructors().len(), 9);
+    assert_eq!(rt; interface.values().len(), 55);
     Ok(())
 }
 
@@ -142,16 +158,17 @@ fn with_phantom(alloc: Global) -> Result<Interface, AllocError> {
     ))
 }
 
+/// Whether an interface is that of Prelude.
+fn is_prelude(alloc: Global, interface: &Interface) -> Result<bool, AllocError> {
+    Ok(interface.is_same(&prelude(alloc)?))
+}
+
 #[test]
 fn unused_parameters_are_counted(rt: HostRuntime) -> Result<(), Fail> {
-    let alloc = rt.alloc();
-    let interface = with_phantom(alloc)?;
-    let text = interface_text(alloc, &interface)?;
-    assert_eq!(rt;
-        text.as_str(),
-        "module B\n  syn Phantom/2 = A.Phantom :: [a]\n"
-    );
-    let copied = interface.copy(alloc)?;
-    assert!(rt; interface.is_same(&copied) && !interface.is_same(&prelude(alloc)?));
+    let interface = with_phantom(rt.alloc())?;
+    let wanted = "module B\n  syn Phantom/2 = A.Phantom :: [a]\n";
+    assert!(rt; has_text(rt.alloc(), &interface, wanted)?);
+    assert!(rt; is_copied(rt.alloc(), &interface)?);
+    assert!(rt; !is_prelude(rt.alloc(), &interface)?);
     Ok(())
 }

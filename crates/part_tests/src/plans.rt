@@ -5,29 +5,47 @@ use hm_lex::Place;
 use hm_syntax::{Header, Import, List, Name, Row};
 use std::alloc::{AllocError, Global};
 
+/// A module's name, and the names of its imports.
+type Outline = (&'static str, &'static [&'static str]);
+
 fn name_of(alloc: Global, text: &str) -> Result<Name, AllocError> {
+    let text = String::from_str(alloc, text)?;
     Ok(Name {
         qualifier: None,
-        text: String::from_str(alloc, text)?,
+        text,
         place: Place { line: 1, column: 1 },
     })
 }
 
+fn import_of(alloc: Global, text: &str) -> Result<Import, AllocError> {
+    let name = name_of(alloc, text)?;
+    Ok(Import {
+        qualified: false,
+        name,
+        alias: None,
+        list: List::Every,
+    })
+}
+
 fn header_of(alloc: Global, text: &str, imported: &[&str]) -> Result<Header, AllocError> {
-    let mut imports = Vec::new(alloc);
+    let name = name_of(alloc, text)?;
+    let mut items = Vec::new(alloc);
     for other in imported {
-        imports.push(Import {
-            qualified: false,
-            name: name_of(alloc, other)?,
-            alias: None,
-            list: List::Every,
-        })?;
+        items.push(import_of(alloc, other)?)?;
     }
     Ok(Header {
-        name: name_of(alloc, text)?,
+        name,
         exports: None,
-        imports: Row { items: imports },
+        imports: Row { items },
     })
+}
+
+fn headers_of(alloc: Global, outlines: &[Outline]) -> Result<Vec<Header>, AllocError> {
+    let mut headers = Vec::new(alloc);
+    for (name, imported) in outlines {
+        headers.push(header_of(alloc, name, imported)?)?;
+    }
+    Ok(headers)
 }
 
 /// The plan of these headers.
@@ -55,64 +73,94 @@ fn a_graph_of_three(rt: HostRuntime) -> Result<(), AllocError> {
     Ok(())
 }
 
+/// Sets of modules, and why each has no plan.
+const REFUSED: [(&[Outline], PlanFault); 5] = [
+    (
+        &[("A", &["B"]), ("B", &["A"])],
+        PlanFault::Cycle { module: 0 },
+    ),
+    (&[("A", &["A"])], PlanFault::Cycle { module: 0 }),
+    (&[("Prelude", &[])], PlanFault::Duplicate { module: 0 }),
+    (
+        &[("A", &["Z"]), ("A", &[])],
+        PlanFault::Duplicate { module: 1 },
+    ),
+    (
+        &[("A", &["A", "Z"])],
+        PlanFault::Missing {
+            module: 0,
+            import: 1,
+        },
+    ),
+];
+
+/// Whether these headers have no plan for this reason.
+fn is_refused(alloc: Global, headers: &[Header], fault: &PlanFault) -> bool {
+    matches!(plan_of(alloc, headers), Err(found) if found == *fault)
+}
+
 #[test]
 fn refused_sets(rt: HostRuntime) -> Result<(), AllocError> {
-    let alloc = rt.alloc();
-    let ring = vec![in alloc;
-        header_of(alloc, "A", &["B"])?,
-        header_of(alloc, "B", &["A"])?,
-    ]?;
-    assert!(rt; plan_of(alloc, &ring).err() == Some(PlanFault::Cycle { module: 0 }));
-    let own = vec![in alloc; header_of(alloc, "A", &["A"])?]?;
-    assert!(rt; plan_of(alloc, &own).err() == Some(PlanFault::Cycle { module: 0 }));
-    let prelude = vec![in alloc; header_of(alloc, "Prelude", &[])?]?;
-    assert!(rt; plan_of(alloc, &prelude).err() == Some(PlanFault::Duplicate { module: 0 }));
-    let twice = vec![in alloc; header_of(alloc, "A", &["Z"])?, header_of(alloc, "A", &[])?]?;
-    assert!(rt; plan_of(alloc, &twice).err() == Some(PlanFault::Duplicate { module: 1 }));
-    let missing = vec![in alloc; header_of(alloc, "A", &["A", "Z"])?]?;
-    assert!(rt;
-        plan_of(alloc, &missing).err()
-            == Some(PlanFault::Missing {
-                module: 0,
-                import: 1
-            })
-    );
+    for (outlines, fault) in &REFUSED {
+        let headers = headers_of(rt.alloc(), outlines)?;
+        assert!(rt; is_refused(rt.alloc(), &headers, fault));
+    }
     Ok(())
+}
+
+/// The headers of so many modules, each of which imports Prelude.
+fn many_headers(alloc: Global, count: usize) -> Result<Vec<Header>, AllocError> {
+    let mut headers = Vec::new(alloc);
+    for number in 0..count {
+        let text = format!(in alloc; "M{number}")?;
+        headers.push(header_of(alloc, text.as_str(), &["Prelude"])?)?;
+    }
+    Ok(headers)
 }
 
 #[test]
 fn the_most_modules(rt: HostRuntime) -> Result<(), AllocError> {
-    let alloc = rt.alloc();
-    let mut headers = Vec::new(alloc);
-    for number in 0..4096 {
-        let text = format!(in alloc; "M{number}")?;
-        headers.push(header_of(alloc, text.as_str(), &["Prelude"])?)?;
-    }
-    assert!(rt; plan_of(alloc, &headers).is_ok_and(|plan| plan.len() == 4096));
-    headers.push(header_of(alloc, "M4096", &[])?)?;
-    assert!(rt; plan_of(alloc, &headers).err() == Some(PlanFault::TooMany));
+    let headers = many_headers(rt.alloc(), 4097)?;
+    assert!(rt; is_refused(rt.alloc(), &headers, &PlanFault::TooMany));
+    let most = &headers[..4096.min(headers.len())];
+    assert!(rt; plan_of(rt.alloc(), most).is_ok_and(|plan| plan.len() == 4096));
     Ok(())
+}
+
+/// A set of three modules.
+const THREE: [Outline; 3] = [
+    ("A", &["C", "Prelude", "B", "C"]),
+    ("B", &[]),
+    ("C", &["B"]),
+];
+
+/// Whether the plan of the three modules has their imports and importers.
+fn has_order(plan: &Plan) -> bool {
+    plan.len() == 3
+        && plan.imports(0) == [2, 1].as_slice()
+        && plan.imports(1).is_empty()
+        && plan.imports(2) == [1].as_slice()
+        && plan.importers(0).is_empty()
+        && plan.importers(1) == [0, 2].as_slice()
+}
+
+/// Whether of the three modules those are found that depend on the second, and then those that depend on the third.
+fn finds_dependents(alloc: Global, plan: &Plan) -> Result<bool, AllocError> {
+    if plan.len() != 3 {
+        return Ok(false);
+    }
+    let mut dependents = Dependents::new(alloc, 3)?;
+    dependents.find(plan, 1);
+    let of_second = dependents.marks() == [true, false, true].as_slice();
+    dependents.find(plan, 2);
+    Ok(of_second && dependents.marks() == [true, false, false].as_slice())
 }
 
 #[test]
 fn the_order_of_first_imports(rt: HostRuntime) -> Result<(), PlanFault> {
-    let alloc = rt.alloc();
-    let headers = vec![in alloc;
-        header_of(alloc, "A", &["C", "Prelude", "B", "C"])?,
-        header_of(alloc, "B", &[])?,
-        header_of(alloc, "C", &["B"])?,
-    ]?;
-    let plan = plan_of(alloc, &headers)?;
-    assert!(rt; plan.len() == 3);
-    assert!(rt; plan.imports(0) == [2, 1].as_slice());
-    assert!(rt; plan.imports(1).is_empty());
-    assert!(rt; plan.imports(2) == [1].as_slice());
-    assert!(rt; plan.importers(0).is_empty());
-    assert!(rt; plan.importers(1) == [0, 2].as_slice());
-    let mut dependents = Dependents::new(alloc, 3)?;
-    dependents.find(&plan, 1);
-    assert!(rt; dependents.marks() == [true, false, true].as_slice());
-    dependents.find(&plan, 2);
-    assert!(rt; dependents.marks() == [true, false, false].as_slice());
+    let headers = headers_of(rt.alloc(), &THREE)?;
+    let plan = plan_of(rt.alloc(), &headers)?;
+    assert!(rt; has_order(&plan));
+    assert!(rt; finds_dependents(rt.alloc(), &plan)?);
     Ok(())
 }

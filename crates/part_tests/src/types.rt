@@ -7,7 +7,9 @@ ghost use Rattle.hm_types.specs.Monotypes.{arguments_of};
 ghost use Rattle.hm_types.specs.Shape.{type_of, types_of};
 ghost use Rattle.hm_types.specs.Schemes.{AllHaveArities, AllHaveNoRigid, HasArities, HasNoRigid};
 
-use hm_types::{Entity, Head, Text, Ty, Types, canonical, instance_of, instantiate, scheme_text};
+use hm_types::{
+    Entity, Head, Scheme, Text, Ty, Types, canonical, instance_of, instantiate, scheme_text,
+};
 use std::alloc::{AllocError, Global};
 use std::test::Fail;
 
@@ -63,6 +65,26 @@ fn chain(alloc: Global, first: usize, last: usize) -> Result<Ty, AllocError>
     Ok(Ty::function(alloc, Ty::Var(first), rest)?)
 }
 
+/// A function from a module's type to another one of a variable.
+fn between_modules(alloc: Global) -> Result<Ty, AllocError>
+    ensures not_rigid { IfOk result (λ t. HasNoRigid (type_of t)) }
+    ensures arities { IfOk result (λ t. HasArities (type_of t)) }
+{
+    let argument = named(alloc, "A", "T", Vec::new(alloc))?;
+    let function = Ty::function(alloc, argument, Ty::Var(1))?;
+    Ok(named(alloc, "B", "U", one(alloc, function)?)?)
+}
+
+/// The function type of Prelude's integers.
+fn of_integers(alloc: Global) -> Result<Ty, AllocError>
+    ensures not_rigid { IfOk result (λ t. HasNoRigid (type_of t)) }
+    ensures arities { IfOk result (λ t. HasArities (type_of t)) }
+{
+    let argument = named(alloc, "Prelude", "Int", Vec::new(alloc))?;
+    let outcome = named(alloc, "Prelude", "Int", Vec::new(alloc))?;
+    Ok(Ty::function(alloc, argument, outcome)?)
+}
+
 /// The types of the worked rows, by number.
 fn example(alloc: Global, row: usize) -> Result<Ty, AllocError>
     ensures not_rigid { IfOk result (λ t. HasNoRigid (type_of t)) }
@@ -80,85 +102,102 @@ fn example(alloc: Global, row: usize) -> Result<Ty, AllocError>
         }
         3 => Ok(Ty::function(alloc, Ty::Var(7), Ty::Var(2))?),
         4 => {
-            let argument = named(alloc, "A", "T", Vec::new(alloc))?;
-            let outcome = named(
-                alloc,
-                "B",
-                "U",
-                one(alloc, Ty::function(alloc, argument, Ty::Var(1))?)?,
-            )?;
+            let outcome = between_modules(alloc)?;
             Ok(Ty::function(alloc, Ty::Var(1), outcome)?)
         }
-        _ => {
+        5 => {
             let list = list(alloc, Ty::Var(9))?;
             let unit = Ty::App(Head::Unit, Types::new(Vec::new(alloc)));
             Ok(pair(alloc, list, unit)?)
         }
+        6 => of_integers(alloc),
+        _ => Ok(Ty::function(alloc, Ty::Var(3), Ty::Var(3))?),
     }
 }
 
-const TEXTS: [&str; 6] = [
-    "a -> b -> c -> d -> e -> f -> g -> h -> i -> j -> k -> l -> m -> n -> o -> p -> q -> r -> s -> t -> u -> v -> w -> x -> y -> z -> a1",
-    "(a -> b) -> c",
-    "Maybe (Maybe a)",
-    "a -> b",
-    "a -> B.U (A.T -> a)",
-    "([a], ())",
+/// The canonical scheme of the type of a worked row.
+fn scheme_of(alloc: Global, row: usize) -> Result<Scheme, AllocError> {
+    Ok(canonical(alloc, &example(alloc, row)?)?)
+}
+
+/// The texts of the canonical schemes, and how many variables each has.
+const TEXTS: [(&str, usize); 8] = [
+    (
+        "a -> b -> c -> d -> e -> f -> g -> h -> i -> j -> k -> l -> m -> n -> o -> p -> q -> r -> s -> t -> u -> v -> w -> x -> y -> z -> a1",
+        27,
+    ),
+    ("(a -> b) -> c", 3),
+    ("Maybe (Maybe a)", 1),
+    ("a -> b", 2),
+    ("a -> B.U (A.T -> a)", 1),
+    ("([a], ())", 1),
+    ("Int -> Int", 0),
+    ("a -> a", 1),
 ];
+
+/// Whether a scheme has this text.
+fn has_text(alloc: Global, scheme: &Scheme, wanted: &str) -> Result<bool, AllocError> {
+    Ok(scheme_text(alloc, scheme)?.as_str() == wanted)
+}
+
+/// Whether a scheme is copied as it is.
+fn is_copied(alloc: Global, scheme: &Scheme) -> Result<bool, AllocError> {
+    let copied = scheme.copy(alloc)?;
+    Ok(scheme.body().is_same(copied.body()) && scheme.vars() == copied.vars())
+}
 
 #[test]
 fn texts_of_canonical_schemes(rt: HostRuntime) -> Result<(), Fail> {
-    let alloc = rt.alloc();
-    for row in 0..6 {
-        let t = example(alloc, row)?;
-        let scheme = canonical(alloc, &t)?;
-        let text = scheme_text(alloc, &scheme)?;
-        assert_eq!(rt; text.as_str(), TEXTS[row]);
-        let copied = scheme.copy(alloc)?;
-        assert!(rt; scheme.body().is_same(copied.body()) && scheme.vars() == copied.vars());
+    for (row, (text, vars)) in TEXTS.iter().enumerate() {
+        let scheme = scheme_of(rt.alloc(), row)?;
+        assert!(rt; scheme.vars() == *vars && has_text(rt.alloc(), &scheme, text)?);
+        assert!(rt; is_copied(rt.alloc(), &scheme)?);
     }
     Ok(())
 }
 
-#[test]
-fn canonical_numbers_from_zero(rt: HostRuntime) -> Result<(), Fail> {
-    let alloc = rt.alloc();
-    let scheme = canonical(alloc, &Ty::function(alloc, Ty::Var(7), Ty::Var(2))?)?;
-    assert_eq!(rt; scheme.vars(), 2);
-    assert!(rt;
-        scheme
-            .body()
-            .is_same(&Ty::function(alloc, Ty::Var(0), Ty::Var(1))?)
-    );
-    Ok(())
+/// Whether the scheme of the first row is an instance of that of the second.
+fn is_instance(alloc: Global, special: usize, general: usize) -> Result<bool, AllocError> {
+    let special = scheme_of(alloc, special)?;
+    let general = scheme_of(alloc, general)?;
+    Ok(instance_of(alloc, &special, &general)?)
 }
+
+/// Rows, and whether the scheme of the first is an instance of that of the second.
+const INSTANCES: [(usize, usize, bool); 5] = [
+    (6, 7, true),
+    (7, 6, false),
+    (7, 3, true),
+    (3, 7, false),
+    (3, 3, true),
+];
 
 #[test]
 fn instances(rt: HostRuntime) -> Result<(), Fail> {
-    let alloc = rt.alloc();
-    let argument = named(alloc, "Prelude", "Int", Vec::new(alloc))?;
-    let outcome = named(alloc, "Prelude", "Int", Vec::new(alloc))?;
-    let special = canonical(alloc, &Ty::function(alloc, argument, outcome)?)?;
-    let general = canonical(alloc, &Ty::function(alloc, Ty::Var(0), Ty::Var(0))?)?;
-    assert!(rt; instance_of(alloc, &special, &general)?);
-    assert!(rt; !instance_of(alloc, &general, &special)?);
+    for (special, general, wanted) in INSTANCES {
+        assert!(rt; is_instance(rt.alloc(), special, general)? == wanted);
+    }
     Ok(())
+}
+
+/// Whether a type is the function from the first rigid variable to the second.
+fn is_rigid(alloc: Global, t: &Ty) -> Result<bool, AllocError> {
+    let wanted = Ty::function(alloc, Ty::Rigid(0), Ty::Rigid(1))?;
+    Ok(t.is_same(&wanted))
+}
+
+/// Whether types are put for the variables of a scheme, by either call.
+fn puts_types(alloc: Global, scheme: &Scheme, types: &[Ty]) -> Result<bool, AllocError> {
+    if types.len() != scheme.vars() || !is_rigid(alloc, &instantiate(alloc, scheme, types)?)? {
+        return Ok(false);
+    }
+    Ok(is_rigid(alloc, &scheme.body().replace_all(alloc, types)?)?)
 }
 
 #[test]
 fn instances_by_types(rt: HostRuntime) -> Result<(), Fail> {
-    let alloc = rt.alloc();
-    let scheme = canonical(alloc, &Ty::function(alloc, Ty::Var(5), Ty::Var(3))?)?;
-    let mut types = Vec::new(alloc);
-    for n in 0..scheme.vars() {
-        types.push(Ty::Rigid(n))?;
-    }
-    let wanted = Ty::function(alloc, Ty::Rigid(0), Ty::Rigid(1))?;
-    let instance = scheme.body().replace_all(alloc, &types)?;
-    assert!(rt; instance.is_same(&wanted));
-    if types.len() == scheme.vars() {
-        assert!(rt; instantiate(alloc, &scheme, &types)?.is_same(&wanted));
-    }
+    let scheme = scheme_of(rt.alloc(), 3)?;
+    assert!(rt; puts_types(rt.alloc(), &scheme, &[Ty::Rigid(0), Ty::Rigid(1)])?);
     Ok(())
 }
 

@@ -31,7 +31,7 @@ fn pair(alloc: Global, left: Ty, right: Ty) -> Result<Ty, AllocError>
     Ok(Ty::App(Head::Tuple(2), Types::new(items)))
 }
 
-/// The types of the worked rows, by number. The variables are 0 and 1, the rigid one is 2.
+/// The types of the worked rows, by number. The variables are 0, 1 and 2; the last may be a rigid one.
 fn example(alloc: Global, number: usize) -> Result<Ty, AllocError>
     ensures { IfOk result (λ t. IsWellFormed 3 (type_of t)) }
 {
@@ -45,8 +45,37 @@ fn example(alloc: Global, number: usize) -> Result<Ty, AllocError>
         6 => Ok(pair(alloc, constant(alloc, "Char")?, constant(alloc, "Char")?)?),
         7 => Ok(pair(alloc, Ty::Var(0), Ty::Var(1))?),
         8 => Ok(pair(alloc, Ty::Var(1), constant(alloc, "Int")?)?),
-        _ => Ok(pair(alloc, Ty::Var(1), Ty::Rigid(2))?),
+        9 => Ok(pair(alloc, Ty::Var(1), Ty::Rigid(2))?),
+        10 => Ok(Ty::function(alloc, Ty::Var(1), constant(alloc, "Int")?)?),
+        11 => Ok(Ty::function(alloc, Ty::Var(1), Ty::Var(2))?),
+        12 => Ok(Ty::function(alloc, Ty::Var(2), constant(alloc, "Int")?)?),
+        13 => Ok(pair(alloc, Ty::Var(2), constant(alloc, "Int")?)?),
+        14 => Ok(pair(alloc, Ty::Var(0), constant(alloc, "Char")?)?),
+        _ => Ok(Ty::Var(2)),
     }
+}
+
+/// Unifies the types of two rows: whether they have a unifier.
+fn equate(alloc: Global, solver: &mut Solver, left: usize, right: usize) -> Result<bool, AllocError>
+    requires { solver.old.given ≡ 3 }
+    ensures given { solver.new.given ≡ 3 }
+    ensures opened { solver.new.opened ≡ solver.old.opened }
+{
+    let left = example(alloc, left)?;
+    let right = example(alloc, right)?;
+    match solver.unify(&left, right) {
+        Ok(()) => Ok(true),
+        Err(UnifyFault::Clash) => Ok(false),
+        Err(UnifyFault::Memory) => Err(AllocError),
+    }
+}
+
+/// Whether the value of the first row's type is the second row's.
+fn has_value(alloc: Global, solver: &Solver, row: usize, value: usize) -> Result<bool, AllocError>
+    requires { solver.now.given ≡ 3 }
+{
+    let found = solver.value(&example(alloc, row)?)?;
+    Ok(found.is_same(&example(alloc, value)?))
 }
 
 /// A solver that has given the variables 0 and 1, and the rigid one 2.
@@ -54,9 +83,9 @@ fn solver_of_three(alloc: Global) -> Result<Solver, AllocError>
     ensures { IfOk result (λ solver. solver.given ≡ 3) }
 {
     let mut solver = Solver::new(alloc);
-    let _first = solver.fresh()?;
-    let _second = solver.fresh()?;
-    let _third = solver.rigid()?;
+    solver.fresh()?;
+    solver.fresh()?;
+    solver.rigid()?;
     Ok(solver)
 }
 
@@ -75,14 +104,12 @@ const ROWS: [(usize, usize, bool, usize); 9] = [
 
 #[test]
 fn equations_of_the_rows(rt: HostRuntime) -> Result<(), Fail> {
-    let alloc = rt.alloc();
     for (left, right, unifies, value) in ROWS {
-        let mut solver = solver_of_three(alloc)?;
-        let answer = solver.unify(&example(alloc, left)?, example(alloc, right)?);
-        assert!(rt; answer.is_ok() == unifies, "{left} and {right}");
-        let found = solver.value(&example(alloc, 0)?)?;
+        let mut solver = solver_of_three(rt.alloc())?;
+        let found = equate(rt.alloc(), &mut solver, left, right)?;
+        assert!(rt; found == unifies, "{left} and {right}");
         assert!(rt;
-            found.is_same(&example(alloc, value)?),
+            has_value(rt.alloc(), &solver, 0, value)?,
             "{left} and {right}"
         );
     }
@@ -91,17 +118,10 @@ fn equations_of_the_rows(rt: HostRuntime) -> Result<(), Fail> {
 
 #[test]
 fn a_solver_goes_on_after_a_clash(rt: HostRuntime) -> Result<(), Fail> {
-    let alloc = rt.alloc();
-    let mut solver = solver_of_three(alloc)?;
-    let answer = solver.unify(&example(alloc, 0)?, example(alloc, 4)?);
-    if let Err(UnifyFault::Clash) = answer {
-        let again = solver.unify(&example(alloc, 0)?, example(alloc, 3)?);
-        assert!(rt; again.is_ok());
-        let found = solver.value(&example(alloc, 0)?)?;
-        assert!(rt; found.is_same(&example(alloc, 3)?));
-        return Ok(());
-    }
-    assert!(rt; false, "no clash");
+    let mut solver = solver_of_three(rt.alloc())?;
+    assert!(rt; !equate(rt.alloc(), &mut solver, 0, 4)?);
+    assert!(rt; equate(rt.alloc(), &mut solver, 0, 3)?);
+    assert!(rt; has_value(rt.alloc(), &solver, 0, 3)?);
     Ok(())
 }
 
@@ -111,26 +131,33 @@ fn solver_inside_a_level(alloc: Global) -> Result<Solver, AllocError>
     ensures opened { IfOk result (λ solver. solver.opened ≡ 1 ∷ []) }
 {
     let mut solver = Solver::new(alloc);
-    let _outer = solver.fresh()?;
+    solver.fresh()?;
     solver.enter()?;
-    let _first = solver.fresh()?;
-    let _second = solver.fresh()?;
+    solver.fresh()?;
+    solver.fresh()?;
     Ok(solver)
+}
+
+/// Whether these variables of a row's type are those inside the level.
+fn has_deeper(
+    alloc: Global,
+    solver: &Solver,
+    row: usize,
+    wanted: &[usize],
+) -> Result<bool, AllocError>
+    requires given { solver.now.given ≡ 3 }
+    requires opened { solver.now.opened ≡ 1 ∷ [] }
+{
+    let found = solver.deeper(&example(alloc, row)?)?;
+    Ok(found.as_slice() == wanted)
 }
 
 /// Variable 1 becomes part of the value of variable 0, which is older than the level.
 #[test]
 fn a_variable_in_an_older_one_is_not_deeper(rt: HostRuntime) -> Result<(), Fail> {
-    let alloc = rt.alloc();
-    let mut solver = solver_inside_a_level(alloc)?;
-    let value = Ty::function(alloc, Ty::Var(1), constant(alloc, "Int")?)?;
-    let Ok(()) = solver.unify(&Ty::Var(0), value) else {
-        assert!(rt; false, "refused");
-        return Ok(());
-    };
-    let both = Ty::function(alloc, Ty::Var(1), Ty::Var(2))?;
-    let found = solver.deeper(&both)?;
-    assert!(rt; found.as_slice() == [2].as_slice());
+    let mut solver = solver_inside_a_level(rt.alloc())?;
+    assert!(rt; equate(rt.alloc(), &mut solver, 0, 10)?);
+    assert!(rt; has_deeper(rt.alloc(), &solver, 11, &[2])?);
     solver.leave();
     Ok(())
 }
@@ -139,21 +166,10 @@ fn a_variable_in_an_older_one_is_not_deeper(rt: HostRuntime) -> Result<(), Fail>
 /// put back.
 #[test]
 fn a_clash_puts_levels_back(rt: HostRuntime) -> Result<(), Fail> {
-    let alloc = rt.alloc();
-    let mut solver = solver_inside_a_level(alloc)?;
-    let value = Ty::function(alloc, Ty::Var(1), constant(alloc, "Int")?)?;
-    let Ok(()) = solver.unify(&Ty::Var(0), value) else {
-        assert!(rt; false, "refused");
-        return Ok(());
-    };
-    let left = pair(alloc, Ty::Var(2), constant(alloc, "Int")?)?;
-    let right = pair(alloc, Ty::Var(0), constant(alloc, "Char")?)?;
-    if let Err(UnifyFault::Clash) = solver.unify(&left, right) {
-        let found = solver.deeper(&Ty::Var(2))?;
-        assert!(rt; found.as_slice() == [2].as_slice());
-        return Ok(());
-    }
-    assert!(rt; false, "no clash");
+    let mut solver = solver_inside_a_level(rt.alloc())?;
+    assert!(rt; equate(rt.alloc(), &mut solver, 0, 10)?);
+    assert!(rt; !equate(rt.alloc(), &mut solver, 13, 14)?);
+    assert!(rt; has_deeper(rt.alloc(), &solver, 15, &[2])?);
     Ok(())
 }
 
@@ -162,9 +178,9 @@ fn solver_within(alloc: Global, depth: usize) -> Result<Solver, AllocError>
     ensures { IfOk result (λ solver. solver.given ≡ 3) }
 {
     let mut solver = Solver::with_depth(alloc, depth);
-    let _first = solver.fresh()?;
-    let _second = solver.fresh()?;
-    let _third = solver.fresh()?;
+    solver.fresh()?;
+    solver.fresh()?;
+    solver.fresh()?;
     Ok(solver)
 }
 
@@ -172,17 +188,14 @@ fn solver_within(alloc: Global, depth: usize) -> Result<Solver, AllocError>
 /// three levels, of which a constant is the third.
 #[test]
 fn no_value_has_more_levels_than_the_limit(rt: HostRuntime) -> Result<(), Fail> {
-    let alloc = rt.alloc();
     for depth in 0..5 {
-        let mut solver = solver_within(alloc, depth)?;
-        let outer = Ty::function(alloc, Ty::Var(1), constant(alloc, "Int")?)?;
-        let bound = solver.unify(&Ty::Var(0), outer);
-        assert!(rt; bound.is_ok());
-        let inner = Ty::function(alloc, Ty::Var(2), constant(alloc, "Int")?)?;
-        let bound = solver.unify(&Ty::Var(1), inner);
-        assert!(rt; bound.is_ok());
-        let found = solver.value(&Ty::Var(0));
-        assert!(rt; found.is_ok() == (depth >= 3), "{depth}");
+        let mut solver = solver_within(rt.alloc(), depth)?;
+        assert!(rt; equate(rt.alloc(), &mut solver, 0, 10)?);
+        assert!(rt; equate(rt.alloc(), &mut solver, 1, 12)?);
+        assert!(rt;
+            solver.value(&Ty::Var(0)).is_ok() == (depth >= 3),
+            "{depth}"
+        );
     }
     Ok(())
 }
@@ -190,18 +203,15 @@ fn no_value_has_more_levels_than_the_limit(rt: HostRuntime) -> Result<(), Fail> 
 /// The same equations the other way round: the second binds a variable to the type of three levels.
 #[test]
 fn no_binding_has_more_levels_than_the_limit(rt: HostRuntime) -> Result<(), Fail> {
-    let alloc = rt.alloc();
     for depth in 2..5 {
-        let mut solver = solver_within(alloc, depth)?;
-        let inner = Ty::function(alloc, Ty::Var(2), constant(alloc, "Int")?)?;
-        let bound = solver.unify(&Ty::Var(1), inner);
-        assert!(rt; bound.is_ok());
-        let outer = Ty::function(alloc, Ty::Var(1), constant(alloc, "Int")?)?;
-        let bound = solver.unify(&Ty::Var(0), outer);
-        assert!(rt; bound.is_ok() == (depth >= 3), "{depth}");
-        let mut again = solver.renewed();
+        let mut solver = solver_within(rt.alloc(), depth)?;
+        assert!(rt; equate(rt.alloc(), &mut solver, 1, 12)?);
+        assert!(rt;
+            equate(rt.alloc(), &mut solver, 0, 10).is_ok() == (depth >= 3),
+            "{depth}"
+        );
+        assert!(rt; solver.renewed().fresh().is_ok());
         assert!(rt; solver.fresh().is_ok() == (depth >= 3), "{depth}");
-        assert!(rt; again.fresh().is_ok());
     }
     Ok(())
 }
