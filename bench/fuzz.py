@@ -2,8 +2,9 @@
 """Runs `hmc` on random sources that no friend would write, and looks for a run that doesn't end as docs/LANGUAGE.md says.
 
 `fuzz.py [--seed N] [--sources N] [--first N] [--kind KIND] [--processes N] [--keep FOLDER] [PROGRAM]`: without PROGRAM, the proved program
-beside this folder is run. Each source is checked by 1 and by 4 workers with `--journal`, and planned. Wanted of each run: a status of the
-table, nothing on standard error but the line of that status, one answer whatever the workers, a journal that is legal, an end within 10 s,
+beside this folder is run. Each source is checked by 1 and by 4 workers with `--journal`, by 4 with `--explain`, and planned. Wanted of each run: a status of the
+table, nothing on standard error but the line of that status and, with `--explain`, a message for each line of a fault and for each blamed import, in
+the report's order, one answer whatever the workers, a journal that is legal, an end within 10 s,
 and at most 1 GB; a source of more than 100,000 bytes may take 60 s and 2 GB. Each finding is printed, and its files are put into FOLDER.
 A source is a function of its seed and number. Ends with 1 where something was found.
 """
@@ -106,14 +107,35 @@ def report_fault(report, imports):
     return None
 
 
+def message_fault(explained, text):
+    """What is wrong with the messages of a run that prints this text, or nothing."""
+    if explained.out.decode() != text:
+        return "another text with messages"
+    lines = explained.err.split(b"\n")
+    if lines[-1] or not re.fullmatch(rb"errors: \d+, skipped modules: \d+", lines[-2]):
+        return "no counts of messages"
+    told = re.findall(rb"^[^:\n]*:(\d+:\d+): error: ([^\n]*)\n", explained.err, re.MULTILINE)
+    blamed = re.findall(rb"^[^:\n]*:\d+:\d+: note: skipped, since (\S*) is (?:faulty|skipped)\n", explained.err, re.MULTILINE)
+    if explained.status == 2:
+        return None if len(told) == 1 and not blamed and lines[-2] == b"errors: 1, skipped modules: 0" else "the message of a refusal"
+    wanted = re.findall(rb"^  (\d+:\d+) ([a-z-]+ [^\n]*)\n", explained.out, re.MULTILINE)
+    by = re.findall(rb"^  by (\S*)\n", explained.out, re.MULTILINE)
+    skipped = len(re.findall(rb"^skipped ", explained.out, re.MULTILINE))
+    if told != wanted or blamed != by or lines[-2] != b"errors: %d, skipped modules: %d" % (len(wanted), skipped):
+        return "the messages"
+    return None
+
+
 def finding(runs, wanted, large):
-    """What is wrong with the runs by one worker, by four and of the plan, or nothing."""
-    one, four, plan = runs
+    """What is wrong with the runs by one worker, by four, of the plan and with messages, or nothing."""
+    one, four, plan, explained = runs
     for each in runs:
-        if each.status not in MESSAGES or each.err != MESSAGES[each.status]:
+        if each.status not in MESSAGES or each is not explained and each.err != MESSAGES[each.status]:
             return f"status {each.status}, {each.err[:200]!r}"
         if each.seconds > (60 if large else 10) or each.megabytes > (2000 if large else 1000):
             return f"{each.seconds:.1f} s, {each.megabytes} MB"
+    if explained.status != one.status:
+        return f"status {explained.status} with messages"
     if one.status != four.status or (one.status == 2) != (plan.status == 2) or plan.status == 1:
         return f"statuses {one.status}, {four.status}, {plan.status}"
     if one.status == 2:
@@ -135,7 +157,7 @@ def finding(runs, wanted, large):
             return wrong
     if wanted is not None and wanted not in text[-300:]:
         return f"not {wanted!r}"
-    return None
+    return message_fault(explained, text)
 
 
 def fuzzed(task):
@@ -150,7 +172,7 @@ def fuzzed(task):
             paths.append(os.path.join(folder, f"{place}.hs"))
             with open(paths[-1], "wb") as it:
                 it.write(data)
-        runs = [run(options.program, folder, words, paths, 120) for words in (["--jobs", "1", "--journal"], ["--jobs", "4", "--journal"], ["--plan"])]
+        runs = [run(options.program, folder, words, paths, 120) for words in (["--jobs", "1", "--journal"], ["--jobs", "4", "--journal"], ["--plan"], ["--explain"])]
         try:
             found = finding(runs, wanted, large)
         except (ValueError, KeyError, AttributeError, IndexError, UnicodeDecodeError) as error:

@@ -2,10 +2,11 @@
 """Runs the program, and tests of single calls, with each of their allocations refused in turn.
 
 `refuse_allocations.py [--program PROGRAM] [--tests TESTS]`: without words, the proved program beside this folder; with TESTS, the tests
-of the crate `acceptance` too whose names are `refused::..` (`crates/acceptance/out/acceptance_tests`, after `rt ci`). A run of the program, with 1 and with 4 workers, must print the right text and end with
-the right status, or print nothing, say `hmc: no memory` and end with 3, or, where a thread could not be started, say `hmc: no worker` and
-end with 6. A test must pass, or end for want of memory. Of a set whose types grow, the first, second, fourth, eighth .. allocation is
-refused. Ends with 1 where anything else came of a refusal.
+of the crate `acceptance` too whose names are `refused::..` (`crates/acceptance/out/acceptance_tests`, after `rt ci`). A run of the
+program, with 1 and with 4 workers, must print the right text and end with the right status, or print nothing, say `hmc: no memory` and
+end with 3, or, where a thread could not be started, say `hmc: no worker` and end with 6. Of a set whose types grow, the first, second,
+fourth, eighth .. allocation is refused. A test must pass or end for want of memory, and the call that
+it is about must have been refused by some of the refusals. Ends with 1 where anything else came of a refusal.
 """
 import argparse
 import collections
@@ -33,6 +34,17 @@ skipped D
 """
 IMPORTED = b"module A where { import B ; x = y }\nmodule B where { y = 'c' }\n"
 IMPORTED_REPORT = b"module A\n  val x = A.x :: Char\nmodule B\n  val y = B.y :: Char\n2 modules: 2 good, 0 faulty, 0 skipped\n"
+# What a test prints first that ends for want of memory: before the call that it is about, or at that call.
+ERRORS = {
+    'error: "no memory"': "no memory",
+    "error: AllocError": "no memory",
+    "error: Memory": "no memory",
+    "error: NoReader": "no memory",
+    'error: "the call is refused"': "the call is refused",
+    'error: "no reader"': "no reader",
+}
+# The tests that must be there.
+TESTS = ["parse", "scope", "check_module", "new_store", "shared", "publish", "audit", "report", "journal_text"]
 DOUBLING = b"module A where { a x = (x, x) ; b x = a (a x) ; c x = b (b x) ; d x = c (c x) ; e x = d (d x) }"
 
 
@@ -106,26 +118,31 @@ def refuse_in_program(refusing, program):
 def refuse_in_tests(refusing, tests):
     listed = subprocess.run([tests, "--list"], capture_output=True, text=True).stdout
     names = [line.split(": test")[0] for line in listed.splitlines() if line.startswith("refused::") and line.endswith(": test")]
-    well = bool(names)
+    well = {f"refused::{each}_alone" for each in TESTS} <= set(names)
     for name in names:
-        passes = refusing.run([tests, name], b"", 0).returncode == 0
+        passes = ending_of_test(refusing.run([tests, name], b"", 0)) == "right"
         total = refusing.total()
         found = collections.Counter()
         for number in range(1, total + 1):
             ran = refusing.run([tests, name], b"", number)
-            said = (ran.stderr.decode(errors="replace").strip().splitlines() or [""])[0]
-            end = "right" if ran.returncode == 0 else "no memory" if is_for_memory(ran.returncode, said) else "WRONG"
-            found[end] += 1
-            if end == "WRONG":
-                print(f"{name}, allocation {number}: status {ran.returncode}: {said[:200]}")
-        well &= passes and not found["WRONG"]
-        print(f"{name}: {total} allocations: {dict(found)}", flush=True)
+            end = ending_of_test(ran)
+            found[end or "WRONG"] += 1
+            if end is None:
+                print(f"{name}, allocation {number}: status {ran.returncode}: {ran.stderr[:200]!r}")
+        wanted = ["the call is refused"] + ["no reader"] * (name == "refused::shared_alone")
+        met = all(found[end] for end in wanted)
+        well &= passes and met and not found["WRONG"]
+        faults = ", FAILS where nothing is refused" * (not passes) + ", its call was never refused" * (not met)
+        print(f"{name}: {total} allocations: {dict(found)}{faults}", flush=True)
     return well
 
 
-def is_for_memory(status, said):
-    """Whether a test ended by its own error, and that error is want of memory."""
-    return status > 0 and any(word in said for word in ("no memory", "AllocError", "Memory", "NoReader"))
+def ending_of_test(ran):
+    """What came of a run of a test: it passed, or ended by its own error, which is want of memory; none where it may not end so."""
+    if ran.returncode == 0:
+        return "right"
+    said = (ran.stderr.decode(errors="replace").splitlines() or [""])[0]
+    return ERRORS.get(said) if ran.returncode > 0 else None
 
 
 def main():

@@ -38,6 +38,22 @@ skipped C
 3 modules: 1 good, 1 faulty, 1 skipped
 """
 
+# its messages
+UNTYPED = """:1:18: error: type twice
+No type fits, though all that it refers to has one.
+module B where { twice f = f f }
+                 ^
+"""
+BLAMED = """user.hs:1:25: note: skipped, since B is faulty
+module C where { import B ; y = twice }
+                        ^
+"""
+MISSING = """a.hs:1:25: error: missing B
+A module of this name was looked for, and the set has none.
+module A where { import B ; x = y }
+                        ^
+"""
+
 # name: the lines of standard input, the status, the lines of standard output but the last, and the counts in that
 CHECKS = {
     "no module": ([""], 0, [], (0, 0, 0, 0)),
@@ -252,6 +268,38 @@ ROWS = {
     "a check of no such file": (["none.hs"], "", 4, "", "hmc: cannot open none.hs\n"),
     "a check of a folder": (["folder"], "", 4, "", "hmc: read fault\n"),
     "the example of the help": (["pair.hs", "twice.hs", "user.hs"], "", 1, EXAMPLE, ""),
+    "messages of a faulty set": (
+        ["--explain", "pair.hs", "twice.hs", "user.hs"],
+        "",
+        1,
+        EXAMPLE,
+        "twice.hs" + UNTYPED + BLAMED + "errors: 1, skipped modules: 1\n",
+    ),
+    "messages of standard input": (
+        ["--explain"],
+        TWICE,
+        1,
+        "faulty B\n  1:18 type twice\n1 modules: 0 good, 1 faulty, 0 skipped\n",
+        "<stdin>" + UNTYPED + "errors: 1, skipped modules: 0\n",
+    ),
+    "messages of a refused set": (
+        ["--explain", "a.hs"],
+        "",
+        2,
+        "refused: module A imports missing B\n",
+        MISSING + "errors: 1, skipped modules: 0\n",
+    ),
+    "messages of a good set": (["a.hs", "--explain", "b.hs"], "", 0, REPORT, "errors: 0, skipped modules: 0\n"),
+    "messages and a journal": (
+        ["--jobs", "1", "--journal", "--explain"],
+        BEHIND,
+        0,
+        JOURNAL,
+        "errors: 0, skipped modules: 0\n",
+    ),
+    "messages of a plan": (["--plan", "--explain"], A + B, 0, PLAN, ""),
+    "messages of no such file": (["--explain", "none.hs"], "", 4, "", "hmc: cannot open none.hs\n"),
+    "messages twice": (["--explain", "--explain"], "", 2, "", None),
     "no such file": (["--plan", "a.hs", "none.hs"], "", 4, "", "hmc: cannot open none.hs\n"),
     "a folder": (["--plan", "folder"], "", 4, "", "hmc: read fault\n"),
     "one worker and its journal": (["--jobs", "1", "--journal"], BEHIND, 0, JOURNAL, ""),
@@ -344,6 +392,17 @@ def doubling(folder):
             yield f"{kind} whose levels double {count} times", ran, wanted
 
 
+def refused_check(folder):
+    """Of four modules one needs a type of too many levels: its worker stops the build, and nothing is printed, whatever the others came to."""
+    values = " ; ".join(["c f g = \\x -> f (g x) ; f0 x = [x]"] + [f"f{n} = c f{n - 1} f{n - 1}" for n in range(1, 17)])
+    bodies = {"A": "x = 1", "B": "x = 1", "C": values, "D": "x = 1"}
+    text = "".join(f"module {name} where {{ {body} }}\n" for name, body in bodies.items())
+    for workers in ("1", "2", "4"):
+        for words in ([], ["--journal"]):
+            ran = run(folder, ["--jobs", workers, *words], text)
+            yield f"a check without memory, {workers} workers {words}", ran, (3, "", "hmc: no memory\n")
+
+
 def broken_pipe():
     """A pipe that nobody reads."""
     reading, writing = os.pipe()
@@ -419,6 +478,14 @@ def main():
         closed = lambda: os.close(1)
         for name, words in (("a plan", ["--plan"]), ("help", ["--help"]), ("a plan of a file", ["--plan", "b.hs"]), ("a check", ["--jobs", "2"]), ("the version", ["--version"])):
             runs.append((name + " on a closed output", run(folder, words, B, before=closed), (4, "", "hmc: write fault\n")))
+        errors_closed = lambda: os.close(2)
+        runs.append(
+            (
+                "messages on a closed standard error",
+                run(folder, ["--explain", "pair.hs", "twice.hs", "user.hs"], "", before=errors_closed),
+                (1, EXAMPLE, ""),
+            )
+        )
         input_closed = lambda: os.close(0)
         runs.append(("a plan of a closed input", run(folder, ["--plan"], "", before=input_closed), (4, "", "hmc: read fault\n")))
         runs.append(("a plan of files on a closed input", run(folder, ["--plan", "b.hs"], "", before=input_closed), (0, "module B\n1 modules\n", "")))
@@ -432,6 +499,7 @@ def main():
         runs.append(("a small check in little memory", run(folder, [], "", before=limit(SMALL)), (0, "0 modules: 0 good, 0 faulty, 0 skipped\n", "")))
         runs.append(("one worker in 200 MB", run(folder, ["--jobs", "1"], A + B, before=limit(LITTLE)), (0, REPORT, "")))
         runs.extend(doubling(folder))
+        runs.extend(refused_check(folder))
         runs.append(("no room for the stack", run(folder, ["--plan"], A + B, before=limit(TINY)), (3, "", "hmc: no memory\n")))
         runs.append(("no room for a worker", run(folder, [], A + B, before=limit(TINY)), (6, "", "hmc: no worker\n")))
         for name, ran, (status, out, err) in runs:

@@ -1,0 +1,56 @@
+#!/usr/bin/env python3
+"""Builds the program bench/looks over hm_store and hm_check, in a copy of the crates that it needs, and runs it.
+
+`looks.py [--seconds N]`: it prints how many looks a second four workers make at published interfaces, 1,000,000 in all, beside one that
+publishes: without the lock, and under one. Three rounds of each. The program is not proved: `rt try` runs it, with the checks of a trial run,
+which slow both kinds of looks. What the workers without a lock saw is compared with the journal. Ends with the status of the program.
+"""
+import argparse
+import os
+import shutil
+import subprocess
+import sys
+import tempfile
+
+TOP = os.path.dirname(os.path.dirname(os.path.abspath(__file__)))
+USED = ["hm_syntax", "hm_types", "hm_sources", "hm_outcomes", "hm_check", "hm_published", "hm_store"]
+
+
+def lines_of_crates():
+    """The lines of crates.txt, by name."""
+    with open(os.path.join(TOP, "crates.txt"), encoding="utf-8") as file:
+        return {line.split(":")[0].split()[0]: line for line in file if ":" in line and not line.startswith("#")}
+
+
+def below(lines, names):
+    """These crates and all that they stand on, as far as the repository has them."""
+    found, open_names = set(), list(names)
+    while open_names:
+        name = open_names.pop()
+        if name in lines and name not in found:
+            found.add(name)
+            open_names += lines[name].split(":")[1].split()
+    return found
+
+
+def main():
+    words = argparse.ArgumentParser(description=__doc__, formatter_class=argparse.RawDescriptionHelpFormatter)
+    words.add_argument("--seconds", type=int, default=600)
+    seconds = words.parse_args().seconds
+    lines = lines_of_crates()
+    needed = below(lines, USED)
+    with tempfile.TemporaryDirectory() as work:
+        for name in needed:
+            shutil.copytree(os.path.join(TOP, "crates", name), os.path.join(work, "crates", name), ignore=shutil.ignore_patterns("out"))
+        program = os.path.join(work, "crates", "looks")
+        os.makedirs(os.path.join(program, "src"))
+        shutil.copy(os.path.join(TOP, "bench", "looks", "main.text"), os.path.join(program, "src", "main.rt"))
+        shutil.copy(os.path.join(TOP, "HANDLES"), work)
+        with open(os.path.join(work, "crates.txt"), "w", encoding="utf-8") as file:
+            file.write("".join(line for name, line in lines.items() if name in needed))
+            file.write("looks: " + " ".join(USED) + " anyhow\n")
+        sys.exit(subprocess.run(["rt", "try", "--seconds", str(seconds)], cwd=program).returncode)
+
+
+if __name__ == "__main__":
+    main()
