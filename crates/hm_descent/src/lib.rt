@@ -5,6 +5,7 @@ mod cursor;
 mod declarations;
 mod expressions;
 mod headers;
+mod owned;
 mod patterns;
 mod type_declarations;
 mod types;

@@ -5,6 +5,7 @@ ghost use Rattle.hm_grammar.specs.Reading.TypeDeclarations.{next_tyvar, constr_a
 ghost use Rattle.hm_grammar.specs.Reading.Answers.{Gives};
 
 use crate::cursor::Parser;
+use crate::owned::only;
 use hm_grammar::{ParseFault, Symbol};
 use hm_syntax::{Constr, Decl, DeclKind, Name};
 use std::alloc::Global;
@@ -60,8 +61,8 @@ impl Parser<'_> {
     fn constrs(&mut self, alloc: Global) -> Result<Vec<Constr>, ParseFault>
         ensures { Gives (λ v. (v.items, self.new)) result (constrs_at self.old) }
     {
-        let mut found = Vec::new(alloc);
-        found.push(self.constr(alloc)?)?;
+        let first = self.constr(alloc)?;
+        let mut found = only(alloc, first)?;
         'constrs: while let Some(constr) = self.next_constr(alloc)? {
             found.push(constr)?;
         }
@@ -96,8 +97,7 @@ impl Parser<'_> {
         self.expect(Symbol::Equals)?;
         let constr_name = self.con(alloc)?;
         let arg = self.atype(alloc)?;
-        let mut args = Vec::with_capacity(alloc, 1)?;
-        args.push(arg)?;
+        let args = only(alloc, arg)?;
         let constr = Constr {
             name: constr_name,
             args,

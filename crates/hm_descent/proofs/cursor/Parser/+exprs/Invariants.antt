@@ -48,8 +48,14 @@ decreases-next_alt l = 10 * length l.self.now + 3
 abbrev pub decreases-rhs : goal.decreases-rhs
 decreases-rhs l = 10 * length l.self.now + 4
 
+abbrev pub decreases-local_decls : goal.decreases-local_decls
+decreases-local_decls l = 10 * length l.self.now + 3
+
 abbrev pub decreases-bodies : goal.decreases-bodies
 decreases-bodies l = 10 * length l.self.now + 3
+
+abbrev pub decreases-guards : goal.decreases-guards
+decreases-guards l = 10 * length l.self.now + 3
 
 abbrev pub decreases-guarded : goal.decreases-guarded
 decreases-guarded l = 10 * length l.self.now + 10
@@ -63,6 +69,9 @@ decreases-aexp l = 10 * length l.self.now + 5
 abbrev pub decreases-exp_closing : goal.decreases-exp_closing
 decreases-exp_closing l = 10 * length l.self.now + 1
 
+abbrev pub decreases-exp_tuple : goal.decreases-exp_tuple
+decreases-exp_tuple l = 10 * length l.self.now
+
 abbrev pub decreases-exp_list : goal.decreases-exp_list
 decreases-exp_list l = 10 * length l.self.now + 10
 
@@ -74,6 +83,9 @@ decreases-next_decl l = 10 * length l.self.now + 4
 
 abbrev pub decreases-decl : goal.decreases-decl
 decreases-decl l = 10 * length l.self.now + 3
+
+abbrev pub decreases-clause : goal.decreases-clause
+decreases-clause l = 10 * length l.self.now + 5
 
 abbrev pub decreases-binding : goal.decreases-binding
 decreases-binding l = 10 * length l.self.now + 2
@@ -87,15 +99,15 @@ invariant-operand-apply l = record {
 abbrev pub decreases-operand-apply : goal.decreases-operand-apply
 decreases-operand-apply l = length l.self
 
-abbrev pub invariant-exp_closing-components : goal.invariant-exp_closing-components
-invariant-exp_closing-components l = record {
+abbrev pub invariant-exp_tuple-components : goal.invariant-exp_tuple-components
+invariant-exp_tuple-components l = record {
   read : behind l.found.items (loop (next_of (exp_with all_expressions)) l.self) ≡ behind (l.fn.first ∷ []) (loop (next_of (exp_with all_expressions)) l.fn.self);
   few : length l.found.items ≤ 15;
   left : length l.self ≤ length l.fn.self;
 }
 
-abbrev pub decreases-exp_closing-components : goal.decreases-exp_closing-components
-decreases-exp_closing-components l = length l.self
+abbrev pub decreases-exp_tuple-components : goal.decreases-exp_tuple-components
+decreases-exp_tuple-components l = length l.self
 
 abbrev pub invariant-exp_list-elements : goal.invariant-exp_list-elements
 invariant-exp_list-elements l = record {
@@ -106,14 +118,14 @@ invariant-exp_list-elements l = record {
 abbrev pub decreases-exp_list-elements : goal.decreases-exp_list-elements
 decreases-exp_list-elements l = length l.self
 
-abbrev pub invariant-bodies-guards : goal.invariant-bodies-guards
-invariant-bodies-guards l = record {
-  read : behind l.found.items (loop (next_guarded all_expressions l.fn.mark) l.self) ≡ behind l.initial.found.items (loop (next_guarded all_expressions l.fn.mark) l.initial.self);
-  left : length l.self < length l.fn.self;
+abbrev pub invariant-guards-guards : goal.invariant-guards-guards
+invariant-guards-guards l = record {
+  read : behind l.found.items (loop (next_guarded all_expressions l.fn.mark) l.self) ≡ behind (l.fn.first ∷ []) (loop (next_guarded all_expressions l.fn.mark) l.fn.self);
+  left : length l.self ≤ length l.fn.self;
 }
 
-abbrev pub decreases-bodies-guards : goal.decreases-bodies-guards
-decreases-bodies-guards l = length l.self
+abbrev pub decreases-guards-guards : goal.decreases-guards-guards
+decreases-guards-guards l = length l.self
 
 abbrev pub invariant-alts-alts : goal.invariant-alts-alts
 invariant-alts-alts l = record {
