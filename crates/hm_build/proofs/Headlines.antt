@@ -9,7 +9,7 @@ use Rattle.hm_store.specs.Objects.{status_at}
 use Rattle.hm_store.specs.Settlements.{SettledBuildIsSettled, settlement, settlement_by, settlement_with}
 use Rattle.hm_store.specs.declared.object.Status.{Status}
 use Rattle.hm_store.specs.declared.object.Status.TheVariants.{Waiting, Claimed, Published, Failed, Skipped}
-use Rattle.hm_build.specs.FinishedBuilds.{IsFinished}
+use Rattle.hm_reports.specs.FinishedBuilds.{IsFinished}
 use Rattle.hm_build.specs.Headline.{HasVerdicts}
 use Rattle.hm_build.specs.declared.finished_build.Finished.{Finished}
 use Rattle.hm_build.specs.declared.faults.BuildFault.{BuildFault}

@@ -20,14 +20,14 @@ use Rattle.hm_store.proofs.Settling.{settled_build}
 use Rattle.hm_store.proofs.WorkedLegal.{legal}
 use Rattle.hm_sources.specs.declared.status.Status.{Status}
 use Rattle.hm_sources.specs.declared.status.Status.TheVariants.{Good, Faulty, Refused}
-use Rattle.hm_build.specs.Checks.{IsChecked, IsCheckRun}
+use Rattle.hm_telling.specs.Checks.{IsChecked, IsCheckRun}
 use Rattle.hm_build.specs.Headline.{HasVerdicts}
-use Rattle.hm_build.specs.JournalledRuns.{Follows, IsRun}
-use Rattle.hm_build.specs.Journals.{MayEnd, entry_line, entry_lines, journal_text, worker_of}
+use Rattle.hm_telling.specs.JournalledRuns.{Follows, IsRun}
+use Rattle.hm_reports.specs.Journals.{MayEnd, entry_line, entry_lines, journal_text, worker_of}
 use Rattle.hm_build.specs.Rooms.{room_of}
 use Rattle.hm_build.specs.Worked.{IsOneWorkers, JournalRow, NothingRow, RoomRow, VerdictsRow, no_text, nothing, one_worker}
 use Rattle.hm_build.proofs.Headlines.{verdicts_of}
-use Rattle.hm_build.proofs.OneRun.{one_check_status}
+use Rattle.hm_telling.proofs.OneRun.{one_check_status}
 
 -- The journal
 

@@ -3,7 +3,7 @@ use Rattle.std.specs.Prelude.{◌≡◌, ℕ, List}
 use Rattle.hm_verdicts.specs.Reports.{IsAllGood, IsReport}
 use Rattle.hm_verdicts.specs.Sets.{ModuleSet, IsLawfulSet}
 use Rattle.hm_verdicts.specs.Verdicts.{Status as Settlement, IsSettled}
-use Rattle.hm_build.specs.Checks.{IsChecked, IsCheckRun}
+use Rattle.hm_telling.specs.Checks.{IsChecked, IsCheckRun}
 use Rattle.hm_sources.specs.declared.status.Status.{Status}
 use Rattle.hm_sources.specs.declared.status.Status.TheVariants.{Good, Faulty}
 use Rattle.hm_sources.specs.Runs.{IsRefused}

@@ -3,7 +3,7 @@ ghost use Rattle.std.specs.Prelude.{◌≡◌, ◌⊎◌, ◌↔◌, ◌<◌, �
 ghost use Rattle.std.specs.Arc.{arc_value};
 ghost use Rattle.hm_graph.specs.Imports.{IsImportPlan, IsLawful};
 ghost use Rattle.hm_build.specs.Errors.{IsBuildError, IsBuildFault};
-ghost use Rattle.hm_build.specs.FinishedBuilds.{IsFinished};
+ghost use Rattle.hm_reports.specs.FinishedBuilds.{IsFinished};
 ghost use Rattle.hm_build.specs.Headline.{HasVerdicts};
 ghost use Rattle.hm_build.specs.Rooms.{room_of};
 ghost use Rattle.hm_sources.specs.Names.{module_outlines};
@@ -15,6 +15,7 @@ use crate::{BuildFault, Finished, Gate};
 use core::thread::Stack;
 use hm_graph::Plan;
 use hm_published::{Naming, Opened};
+use hm_reports::may_work;
 use hm_sources::{SetError, depth_limit, set_modules, stack_size, worker_stack_size};
 use hm_store::laws::settled_builds_are_settled_sets;
 use hm_store::{Shared, Store};
@@ -27,9 +28,6 @@ use std::sync::ledger::{Blank, Ledger};
 use std::sync::{Arc, Wait};
 use std::thread;
 use std::thread::{Promise, Threads};
-
-/// The most workers of a build.
-pub(crate) const MOST_WORKERS: usize = 16;
 
 /// A set of modules that no worker has touched.
 #[derive(Drop)]
@@ -188,7 +186,7 @@ struct BuildOf {
 impl Promise<Result<Finished, BuildFault>> for BuildOf {
     ghost use Rattle.std.specs.Prelude.{IfErr, IfOk, map};
     ghost use Rattle.hm_build.specs.Errors.{IsBuildError};
-    ghost use Rattle.hm_build.specs.FinishedBuilds.{IsFinished};
+    ghost use Rattle.hm_reports.specs.FinishedBuilds.{IsFinished};
     ghost use Rattle.hm_build.specs.Headline.{HasVerdicts};
 
     ghost kept_by = { λ p r. IfOk r (λ f. IsFinished (map (λ s. s.items) p.sources.value.items) p.workers f.store f.records.items) × (IfOk r (λ f. HasVerdicts f.store) × IfErr r (IsBuildError (map (λ s. s.items) p.sources.value.items))) };
@@ -249,7 +247,7 @@ pub fn build<T: Threads + Wait + Sync, G: Gate + Sync>(
     // Refused sources have this fault, and it is their first.
     ensures refused { IfErr result (IsBuildFault (map (λ s. s.items) sources.items)) }
 {
-    if !(1..=MOST_WORKERS).contains(&workers) {
+    if !may_work(workers) {
         return Err(BuildFault::Workers);
     }
     build_on_thread(rt, alloc, sources, workers, gate)

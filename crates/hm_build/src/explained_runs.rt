@@ -1,16 +1,16 @@
 //! From readers to two writers: the report of the verdicts, and messages that explain it.
 ghost use Rattle.std.specs.Prelude.{◌≡◌, ◌<◌, ◌⊎◌, ◌↔◌, ℕ, List, All, Any, IfOk, IfErr, IsErrOf, OnErr, OnOk, map};
 ghost use Rattle.std.specs.Io.KnownBytes.{Appends};
-ghost use Rattle.hm_build.specs.Explained.{IsExplained, IsToldTo};
-ghost use Rattle.hm_build.specs.JournalledRuns.{IsRun};
+ghost use Rattle.hm_telling.specs.Explained.{IsExplained, IsToldTo};
+ghost use Rattle.hm_telling.specs.JournalledRuns.{IsRun};
 ghost use Rattle.hm_sources.specs.Sources.{AreReadUp, Stops, StopsAtFault, Tell, WritesPrefix, held_of};
 ghost use Rattle.hm_sources.specs.declared.status.Status.{Status};
 ghost use Rattle.hm_sources.specs.Watching.{device_of, failures_of, HasReadFault, HasWriteFault, IsFlushedBehind, IsFresh, IsReadWithin, IsWritten, IsWrittenOnce};
 
-use crate::building::MOST_WORKERS;
-use crate::explained_stacks::explained_on_thread;
+use crate::reading::read_and_check;
 use crate::{Explain, Options};
-use hm_sources::{RunFault, Status, Watched, read_all, write_text};
+use hm_sources::{RunFault, Status, Watched, write_text};
+use hm_telling::Wanted;
 use std::alloc::Global;
 use std::io::{Read, Write};
 use std::sync::Wait;
@@ -78,11 +78,8 @@ pub fn run_explained<T: Threads + Wait + Sync, R: Read, W: Write, E: Write>(
     ensures write { IsErrOf result RunFault.Write → HasWriteFault writer.new }
     ensures others { IfErr result (λ e. (e ≡ RunFault.Workers) ⊎ ((e ≡ RunFault.Read) ⊎ ((e ≡ RunFault.Write) ⊎ ((e ≡ RunFault.Memory) ⊎ ((e ≡ RunFault.NoWorker) ⊎ (e ≡ RunFault.Mixed)))))) }
 {
-    if !(1..=MOST_WORKERS).contains(&options.workers) {
-        return Err(RunFault::Workers);
-    }
-    let sources = read_all(alloc, readers)?;
-    let explained = explained_on_thread(rt, alloc, sources, options, explain)?;
+    let explain = Some(explain);
+    let explained = read_and_check(rt, alloc, readers, Wanted { options, explain })?;
     write_text(writer, explained.answer.text.as_bytes())?;
     let _ = write_text(errors, explained.messages.as_slice());
     Ok(explained.answer.status)

@@ -1,15 +1,15 @@
 //! From readers to a writer: the report of the verdicts.
 ghost use Rattle.std.specs.Prelude.{◌≡◌, ◌<◌, ◌⊎◌, ◌↔◌, ℕ, List, All, Any, IfOk, IfErr, IsErrOf, OnErr, OnOk};
 ghost use Rattle.std.specs.Io.KnownBytes.{Appends};
-ghost use Rattle.hm_build.specs.JournalledRuns.{IsRun};
+ghost use Rattle.hm_telling.specs.JournalledRuns.{IsRun};
 ghost use Rattle.hm_sources.specs.Sources.{AreReadUp, Stops, StopsAtFault, Tell, WritesPrefix};
 ghost use Rattle.hm_sources.specs.declared.status.Status.{Status};
 ghost use Rattle.hm_sources.specs.Watching.{device_of, failures_of, HasReadFault, HasWriteFault, IsFlushedBehind, IsFresh, IsReadWithin, IsWritten, IsWrittenOnce};
 
 use crate::Options;
-use crate::building::MOST_WORKERS;
-use crate::stacks::build_answer_on_thread;
-use hm_sources::{Answer, RunFault, Status, Watched, read_all, write_text};
+use crate::reading::read_and_check;
+use hm_sources::{RunFault, Status, Watched, write_text};
+use hm_telling::Wanted;
 use std::alloc::Global;
 use std::io::{Read, Write};
 use std::sync::Wait;
@@ -64,11 +64,8 @@ pub fn run<T: Threads + Wait + Sync, R: Read, W: Write>(
     ensures write { IsErrOf result RunFault.Write → HasWriteFault writer.new }
     ensures others { IfErr result (λ e. (e ≡ RunFault.Workers) ⊎ ((e ≡ RunFault.Read) ⊎ ((e ≡ RunFault.Write) ⊎ ((e ≡ RunFault.Memory) ⊎ ((e ≡ RunFault.NoWorker) ⊎ (e ≡ RunFault.Mixed)))))) }
 {
-    if !(1..=MOST_WORKERS).contains(&options.workers) {
-        return Err(RunFault::Workers);
-    }
-    let sources = read_all(alloc, readers)?;
-    let Answer { status, text } = build_answer_on_thread(rt, alloc, sources, options)?;
-    write_text(writer, text.as_bytes())?;
-    Ok(status)
+    let explain = None;
+    let explained = read_and_check(rt, alloc, readers, Wanted { options, explain })?;
+    write_text(writer, explained.answer.text.as_bytes())?;
+    Ok(explained.answer.status)
 }

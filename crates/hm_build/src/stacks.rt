@@ -1,59 +1,63 @@
 //! A build is run on a thread of its own, whose stack is large enough for the longest of its sources.
-ghost use Rattle.std.specs.Prelude.{◌≡◌, ◌⊎◌, ◌<◌, ◌≤◌, IfErr, IfOk, map, string_bytes};
-ghost use Rattle.hm_build.specs.JournalledRuns.{IsRun};
+ghost use Rattle.std.specs.Prelude.{◌≡◌, ◌⊎◌, ◌<◌, ◌≤◌, IfErr, IfOk, IfSome, map, string_bytes};
+ghost use Rattle.hm_telling.specs.Explained.{IsExplained};
+ghost use Rattle.hm_telling.specs.JournalledRuns.{IsRun};
 
-use crate::Options;
 use crate::answers::build_answer;
 use core::thread::Stack;
-use hm_sources::{Answer, RunFault, stack_size};
+use hm_sources::{RunFault, stack_size};
+use hm_telling::{Explained, Wanted};
 use std::alloc::Global;
 use std::snapshot::Snapshot;
 use std::sync::Wait;
 use std::thread;
 use std::thread::{Promise, Threads};
 
-/// The promise of a thread: its answer is a run on these sources with these options.
+/// The promise of a thread: its answer is a run on these sources, as it is wanted.
 #[derive(Drop)]
 struct RunOf {
     sources: Snapshot<Vec<Vec<u8>>>,
-    options: Options,
+    wanted: Snapshot<Wanted>,
 }
 
-impl Promise<Result<Answer, RunFault>> for RunOf {
-    ghost use Rattle.std.specs.Prelude.{◌≡◌, ◌⊎◌, IfErr, IfOk, map, string_bytes};
-    ghost use Rattle.hm_build.specs.JournalledRuns.{IsRun};
+impl Promise<Result<Explained, RunFault>> for RunOf {
+    ghost use Rattle.std.specs.Prelude.{◌≡◌, ◌⊎◌, IfErr, IfOk, IfSome, map, string_bytes};
+    ghost use Rattle.hm_telling.specs.Explained.{IsExplained};
+    ghost use Rattle.hm_telling.specs.JournalledRuns.{IsRun};
     ghost use Rattle.hm_sources.specs.declared.faults.RunFault.TheVariants.{Memory, NoWorker, Mixed};
 
-    ghost kept_by = { λ p r. IfOk r (λ a. IsRun p.options.workers p.options.journal (map (λ s. s.items) p.sources.value.items) a.status (string_bytes a.text)) × IfErr r (λ e. (e ≡ Memory) ⊎ ((e ≡ NoWorker) ⊎ (e ≡ Mixed))) };
+    ghost kept_by = { λ p r. IfOk r (λ a. IsRun p.wanted.value.options.workers p.wanted.value.options.journal (map (λ s. s.items) p.sources.value.items) a.answer.status (string_bytes a.answer.text)) × (IfOk r (λ a. IfSome p.wanted.value.explain (λ e. IsExplained e.paint (map (λ s. s.items) e.names.items) (map (λ s. s.items) p.sources.value.items) a.answer.status (string_bytes a.answer.text) a.messages.items)) × IfErr r (λ e. (e ≡ Memory) ⊎ ((e ≡ NoWorker) ⊎ (e ≡ Mixed)))) };
 }
 
-/// The report of a build of sources, or why they are refused.
+/// The report of a build of sources, or why they are refused, with messages where they are asked for.
 pub(crate) fn build_answer_on_thread<T: Threads + Wait + Sync>(
     rt: &T,
     alloc: Global,
     sources: Vec<Vec<u8>>,
-    options: Options,
-) -> Result<Answer, RunFault>
-    requires { (0 < options.workers) × (options.workers ≤ 16) }
-    ensures ok { IfOk result (λ a. IsRun options.workers options.journal (map (λ s. s.items) sources.items) a.status (string_bytes a.text)) }
+    wanted: Wanted,
+) -> Result<Explained, RunFault>
+    requires { (0 < wanted.options.workers) × (wanted.options.workers ≤ 16) }
+    ensures ok { IfOk result (λ a. IsRun wanted.options.workers wanted.options.journal (map (λ s. s.items) sources.items) a.answer.status (string_bytes a.answer.text)) }
+    ensures told { IfOk result (λ a. IfSome wanted.explain (λ e. IsExplained e.paint (map (λ s. s.items) e.names.items) (map (λ s. s.items) sources.items) a.answer.status (string_bytes a.answer.text) a.messages.items)) }
     ensures err { IfErr result (λ e. (e ≡ RunFault.Memory) ⊎ ((e ≡ RunFault.NoWorker) ⊎ (e ≡ RunFault.Mixed))) }
 {
     thread::scope(
         thread::scope_env(),
         rt,
-        move |scope| -> Result<Answer, RunFault>
-            requires { (0 < options.workers) × (options.workers ≤ 16) }
-            ensures ok { IfOk result (λ a. IsRun options.workers options.journal (map (λ s. s.items) sources.items) a.status (string_bytes a.text)) }
+        move |scope| -> Result<Explained, RunFault>
+            requires { (0 < wanted.options.workers) × (wanted.options.workers ≤ 16) }
+            ensures ok { IfOk result (λ a. IsRun wanted.options.workers wanted.options.journal (map (λ s. s.items) sources.items) a.answer.status (string_bytes a.answer.text)) }
+            ensures told { IfOk result (λ a. IfSome wanted.explain (λ e. IsExplained e.paint (map (λ s. s.items) e.names.items) (map (λ s. s.items) sources.items) a.answer.status (string_bytes a.answer.text) a.messages.items)) }
             ensures err { IfErr result (λ e. (e ≡ RunFault.Memory) ⊎ ((e ≡ RunFault.NoWorker) ⊎ (e ≡ RunFault.Mixed))) }
         {
             let promise = RunOf {
                 sources: Snapshot::of(&sources),
-                options,
+                wanted: Snapshot::of(&wanted),
             };
             let thread = Stack::new().stack_size(stack_size(&sources));
             let work = move ||
-                requires { (0 < options.workers) × (options.workers ≤ 16) }
-            { build_answer(rt, alloc, &sources, options) };
+                requires { (0 < wanted.options.workers) × (wanted.options.workers ≤ 16) }
+            { build_answer(rt, alloc, &sources, &wanted) };
             match thread.spawn_scoped_with(scope, promise, work) {
                 Ok(builder) => builder.join(rt),
                 Err(_) => Err(RunFault::NoWorker),

@@ -1,32 +1,39 @@
-use Rattle.std.proofs.Common.{rules, ◌≡◌, ◌⊎◌, ◌<◌, ◌≤◌, All, IsErrOf, Err, inl, inr, ⊎_elim, map, string_bytes, subst}
-use Rattle.hm_build.specs.JournalledRuns.{IsRun}
-use Rattle.hm_build.proofs.HeldRuns.{build_held}
-use Rattle.hm_build.proofs.RunFaults.{no_failure, only_read_faults}
+use Rattle.std.proofs.Common.{rules, ◌≡◌, Err, inl, inr, ⊎_elim, string_bytes}
+use Rattle.hm_build.proofs.RunFaults.{no_failure, passed_back, passed_on}
 use Rattle.hm_sources.specs.Watching.{failures_of}
 use Rattle.hm_sources.specs.declared.faults.RunFault.TheVariants as fault
 use Rattle.hm_build.proofs.running.run.Goals as goal
 
+pub returns-in_err-explained-clause-read_up_before_a_build : goal.returns-in_err-explained-clause-read_up_before_a_build
+returns-in_err-explained-clause-read_up_before_a_build g c either =
+    let e = c.in_err-explained.field-0.0 in
+    let is : c.from_residual.result ≡ Err e = search rules in
+    c.in_err-explained.ensures.read_up_before_a_build (⊎_elim (λ f. inl (passed_on c.from_residual.result e fault.NoWorker is f)) (λ f. inr (passed_on c.from_residual.result e fault.Mixed is f)) either)
+
+pub returns-in_err-explained-clause-in_order : goal.returns-in_err-explained-clause-in_order
+returns-in_err-explained-clause-in_order g c f =
+    let e = c.in_err-explained.field-0.0 in
+    let is : c.from_residual.result ≡ Err e = search rules in
+    c.in_err-explained.ensures.in_order (passed_on c.from_residual.result e fault.Memory is f)
+
+pub returns-in_err-explained-clause-failed : goal.returns-in_err-explained-clause-failed
+returns-in_err-explained-clause-failed g c =
+    let e = c.in_err-explained.field-0.0 in
+    let is : c.from_residual.result ≡ Err e = search rules in
+    ⊎_elim (λ f. inl (passed_back c.from_residual.result e fault.Read is f)) (λ all. inr all) c.in_err-explained.ensures.failed
+
+pub returns-in_err-write_text-clause-failed : goal.returns-in_err-write_text-clause-failed
+returns-in_err-write_text-clause-failed g c = inr (no_failure (λ r. failures_of r ≡ 0) c.read_and_check.new.readers c.in_ok-explained.explained c.in_ok-explained.ensures.failed)
+
+pub returns-clause-failed : goal.returns-clause-failed
+returns-clause-failed g c = inr (no_failure (λ r. failures_of r ≡ 0) c.read_and_check.new.readers c.in_ok-explained.explained c.in_ok-explained.ensures.failed)
+
 pub returns-in_err-write_text-clause-prefix : goal.returns-in_err-write_text-clause-prefix
 returns-in_err-write_text-clause-prefix g c e sources told =
-    let a = c.in_ok-status.field-0 in
-    let held : IsRun c.args.options.workers c.args.options.journal (map (λ s. s.items) c.in_ok-sources.sources.items) a.status (string_bytes a.text) = search rules in
-    (a.status, string_bytes a.text, build_held c.args.options.workers c.args.options.journal sources a.status (string_bytes a.text) (subst (λ l. IsRun c.args.options.workers c.args.options.journal l a.status (string_bytes a.text)) (c.in_ok-sources.ensures.bytes sources told) held), search rules)
+    let a = c.in_ok-explained.explained.answer in
+    (a.status, string_bytes a.text, c.in_ok-explained.ensures.ok sources told, search rules)
 
 pub returns-clause-ok : goal.returns-clause-ok
 returns-clause-ok g c sources told =
-    let a = c.in_ok-status.field-0 in
-    let held : IsRun c.args.options.workers c.args.options.journal (map (λ s. s.items) c.in_ok-sources.sources.items) a.status (string_bytes a.text) = search rules in
-    (string_bytes a.text, build_held c.args.options.workers c.args.options.journal sources a.status (string_bytes a.text) (subst (λ l. IsRun c.args.options.workers c.args.options.journal l a.status (string_bytes a.text)) (c.in_ok-sources.ensures.bytes sources told) held), search rules)
-
-pub returns-in_err-sources-clause-failed : goal.returns-in_err-sources-clause-failed
-returns-in_err-sources-clause-failed g c = ⊎_elim (λ e. let same : IsErrOf c.from_residual.result fault.Read = search (rules, e) in inl same) (λ a. inr a) c.in_err-sources.ensures.failed
-
-pub returns-in_err-sources-clause-workers : goal.returns-in_err-sources-clause-workers
-returns-in_err-sources-clause-workers g c =
-    let low : 0 < c.args.options.workers = search rules in
-    let high : c.args.options.workers ≤ 16 = search rules in
-    let is : c.from_residual.result ≡ Err c.in_err-sources.field-0.0 = search rules in
-    only_read_faults c.args.options.workers c.from_residual.result c.in_err-sources.field-0.0 is c.in_err-sources.ensures.others low high
-
-pub returns-clause-failed : goal.returns-clause-failed
-returns-clause-failed g c = inr (no_failure (λ r. failures_of r ≡ 0) c.read_all.new.readers c.in_ok-sources.sources c.in_ok-sources.ensures.failed)
+    let a = c.in_ok-explained.explained.answer in
+    (string_bytes a.text, c.in_ok-explained.ensures.ok sources told, search rules)

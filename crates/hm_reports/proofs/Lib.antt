@@ -1,0 +1,6 @@
+pub mod Blame
+pub mod Tables
+pub mod Strict
+pub mod Reporting
+pub mod JournalLines
+pub mod RoundSteps

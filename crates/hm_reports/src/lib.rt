@@ -1,0 +1,15 @@
+//! What a build comes to: whether it ended as it should, how each of its modules was settled, and the texts of its report and its journal.
+#![tactic(auto)]
+
+mod ending;
+mod journals;
+mod reports;
+mod rounds;
+mod statuses;
+mod worker_counts;
+
+pub use ending::has_ended;
+pub use journals::journal_text;
+pub use reports::{report, skipped_in, status_of};
+pub use statuses::{Settled, settled_in};
+pub use worker_counts::may_work;

@@ -1,0 +1,55 @@
+-- A run with messages: what its messages have to do with what it prints.
+use Rattle.std.specs.Prelude.{◌≡◌, ◌⊎◌, ℕ, List, ◌++◌, Option}
+use Rattle.std.specs.Io.KnownBytes.{Appends}
+use Rattle.hm_verdicts.specs.Reports.{IsReport}
+use Rattle.hm_verdicts.specs.Sets.{ModuleSet}
+use Rattle.hm_verdicts.specs.Verdicts.{Status as Settlement}
+use Rattle.hm_messages.specs.Pages.{AreFilesOf}
+use Rattle.hm_messages.specs.Refused.{IsRefusalTold}
+use Rattle.hm_messages.specs.declared.heading.Paint.{Paint}
+use Rattle.hm_sources.specs.Refusals.{Refusal}
+use Rattle.hm_sources.specs.Runs.{IsRefusalOf}
+use Rattle.hm_sources.specs.Sources.{WritesPrefix}
+use Rattle.hm_sources.specs.SourceModules.{AreModulesOf}
+use Rattle.hm_sources.specs.declared.status.Status.{Status}
+use Rattle.hm_sources.specs.declared.status.Status.TheVariants.{Good, Faulty, Refused}
+use Rattle.hm_store.specs.Builds.{Build, set_of}
+use Rattle.hm_store.specs.Settlements.{settlement}
+use Rattle.hm_telling.specs.Explanations.{IsTold}
+
+-- the messages tell what a build came to, from these sources with these names
+pub record AreMessagesOf (paint : Paint) (names sources : List (List ℕ)) (b : Build) (messages : List ℕ) : Type 0 where
+  pub files : List (List ℕ)
+  pub named : AreFilesOf names files
+  pub told : IsTold paint files sources (set_of b) (settlement b) messages
+
+-- the messages tell the verdicts of the set whose report the text begins with
+pub record TellsReport (paint : Paint) (names sources : List (List ℕ)) (text messages : List ℕ) : Type 0 where
+  pub set : ModuleSet
+  pub settled : ℕ → Settlement
+  pub read : AreModulesOf sources set.modules
+  pub report : List ℕ
+  pub behind : List ℕ
+  pub reported : IsReport set settled report
+  pub whole : text ≡ report ++ behind
+  pub files : List (List ℕ)
+  pub named : AreFilesOf names files
+  pub told : IsTold paint files sources set settled messages
+
+-- the messages tell why the sources are refused
+pub record TellsRefusal (paint : Paint) (names sources : List (List ℕ)) (messages : List ℕ) : Type 0 where
+  pub refusal : Refusal
+  pub because : IsRefusalOf sources refusal
+  pub files : List (List ℕ)
+  pub named : AreFilesOf names files
+  pub told : IsRefusalTold paint files sources refusal messages
+
+-- what the messages tell of a run with this status and this text; the names are those of the sources' files
+abbrev pub IsExplained : Paint → List (List ℕ) → List (List ℕ) → Status → List ℕ → List ℕ → Type 0
+IsExplained paint names sources Good text messages = TellsReport paint names sources text messages
+IsExplained paint names sources Faulty text messages = TellsReport paint names sources text messages
+IsExplained paint names sources Refused text messages = TellsRefusal paint names sources messages
+
+-- these messages were written, or a part of them, where their writer failed
+abbrev pub IsToldTo : Option (List ℕ) → Option (List ℕ) → List ℕ → Type 0 → Type 0
+IsToldTo old new messages failed = Appends old new messages ⊎ (WritesPrefix old new messages × failed)

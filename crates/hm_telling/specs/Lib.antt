@@ -1,0 +1,5 @@
+pub mod BuildTexts
+pub mod Checks
+pub mod Explained
+pub mod Explanations
+pub mod JournalledRuns

@@ -1,0 +1,115 @@
+//! What a run of the checker writes, with messages where its faults are to be explained.
+ghost use Rattle.std.specs.Prelude.{ℕ, List, IfOk, IfSome, map, string_bytes};
+ghost use Rattle.hm_store.specs.declared.record.Record.{Record};
+ghost use Rattle.hm_reports.specs.FinishedBuilds.{IsFinished};
+ghost use Rattle.hm_telling.specs.Explained.{AreMessagesOf, IsExplained, TellsRefusal};
+ghost use Rattle.hm_telling.specs.JournalledRuns.{IsRun};
+ghost use Rattle.hm_sources.specs.Runs.{IsRefusalOf};
+
+use crate::answers::finished_answer;
+use crate::explaining::{Told, explanation};
+use crate::{Explain, Wanted};
+use hm_messages::{MessageFault, headers_in, pages_of, refusal_messages};
+use hm_reports::{settled_in, skipped_in};
+use hm_sources::{Answer, SetFault, refusal_answer};
+use hm_store::Store;
+use std::alloc::Global;
+
+/// What is written, and the messages that explain it: none where they aren't asked for.
+#[derive(Drop)]
+pub struct Explained {
+    pub answer: Answer,
+    pub messages: Vec<u8>,
+}
+
+/// The messages of a build that came to its end.
+fn build_messages<'a>(
+    alloc: Global,
+    store: &Store,
+    sources: &'a [Vec<u8>],
+    explain: &'a Explain,
+) -> Result<Vec<u8>, MessageFault>
+    ensures { IfOk result (λ m. AreMessagesOf explain.now.paint (map (λ s. s.items) explain.now.names.items) (map (λ s. s.items) sources.now) store.now m.items) }
+{
+    // The journal is legal, so the modules are a lawful set.
+    store.legal();
+    let settled = settled_in(alloc, store)?;
+    let pages = pages_of(alloc, explain.paint, sources, &explain.names)?;
+    let located = headers_in(alloc, sources)?;
+    let told = Told {
+        pages: &pages,
+        located: located.as_slice(),
+        modules: store.modules(),
+        plan: store.plan(),
+        settled: settled.as_slice(),
+    };
+    Ok(explanation(alloc, &told, skipped_in(settled.as_slice()))?)
+}
+
+/// The messages of a build where they are asked for.
+fn finished_messages<'a>(
+    alloc: Global,
+    store: &Store,
+    sources: &'a [Vec<u8>],
+    wanted: &'a Wanted,
+) -> Result<Vec<u8>, MessageFault>
+    ensures { IfOk result (λ m. IfSome wanted.now.explain (λ e. AreMessagesOf e.paint (map (λ s. s.items) e.names.items) (map (λ s. s.items) sources.now) store.now m.items)) }
+{
+    match &wanted.explain {
+        Some(explain) => Ok(build_messages(alloc, store, sources, explain)?),
+        None => Ok(Vec::new(alloc)),
+    }
+}
+
+/// What is written of a build, and its messages.
+pub fn finished_explained<'a>(
+    alloc: Global,
+    store: &Store,
+    sources: &'a [Vec<u8>],
+    wanted: &'a Wanted,
+) -> Result<Explained, MessageFault>
+    ensures run { IfOk result (λ a. (sources : List (List ℕ)) (records : List Record) (workers : ℕ) → IsFinished sources workers store.now records
+        → IsRun workers wanted.now.options.journal sources a.answer.status (string_bytes a.answer.text)) }
+    ensures told { IfOk result (λ a. (records : List Record) (workers : ℕ) → IsFinished (map (λ s. s.items) sources.now) workers store.now records
+        → IfSome wanted.now.explain (λ e. IsExplained e.paint (map (λ s. s.items) e.names.items) (map (λ s. s.items) sources.now) a.answer.status (string_bytes a.answer.text) a.messages.items)) }
+{
+    let answer = finished_answer(alloc, store, wanted.options.journal)?;
+    let messages = finished_messages(alloc, store, sources, wanted)?;
+    Ok(Explained { answer, messages })
+}
+
+/// The messages of a set that is refused, where they are asked for.
+fn refused_messages<'a>(
+    alloc: Global,
+    sources: &'a [Vec<u8>],
+    fault: &SetFault,
+    wanted: &'a Wanted,
+) -> Result<Vec<u8>, MessageFault>
+    ensures { IfOk result (λ m. IsRefusalOf (map (λ s. s.items) sources.now) fault.now
+        → IfSome wanted.now.explain (λ e. TellsRefusal e.paint (map (λ s. s.items) e.names.items) (map (λ s. s.items) sources.now) m.items)) }
+{
+    match &wanted.explain {
+        Some(explain) => {
+            let pages = pages_of(alloc, explain.paint, sources, &explain.names)?;
+            Ok(refusal_messages(alloc, &pages, sources, fault)?)
+        }
+        None => Ok(Vec::new(alloc)),
+    }
+}
+
+/// The answer to a set that is refused, and its messages.
+pub fn refused_explained<'a>(
+    alloc: Global,
+    sources: &'a [Vec<u8>],
+    fault: &SetFault,
+    wanted: &'a Wanted,
+) -> Result<Explained, MessageFault>
+    ensures run { IfOk result (λ a. (workers : ℕ) → IsRefusalOf (map (λ s. s.items) sources.now) fault.now
+        → IsRun workers wanted.now.options.journal (map (λ s. s.items) sources.now) a.answer.status (string_bytes a.answer.text)) }
+    ensures told { IfOk result (λ a. IsRefusalOf (map (λ s. s.items) sources.now) fault.now
+        → IfSome wanted.now.explain (λ e. IsExplained e.paint (map (λ s. s.items) e.names.items) (map (λ s. s.items) sources.now) a.answer.status (string_bytes a.answer.text) a.messages.items)) }
+{
+    let answer = refusal_answer(alloc, fault)?;
+    let messages = refused_messages(alloc, sources, fault, wanted)?;
+    Ok(Explained { answer, messages })
+}

@@ -1,0 +1,279 @@
+//! The messages of a build: for each module, in the order of the report, one for each of its faults, or one for each import that it is
+//! skipped for.
+ghost use Rattle.std.specs.Prelude.{◌≡◌, ◌<◌, ◌++◌, ◌-◌, ◌^◌, All, IfOk, IfSome, OnOk, length, map, min};
+ghost use Rattle.std.specs.Arc.{arc_value};
+ghost use Rattle.hm_messages.specs.Messages.{AreEach};
+ghost use Rattle.hm_messages.specs.Pages.{files_in, texts_in};
+ghost use Rattle.hm_sources.specs.Origins.{AreLocated, IsSpelledBy};
+ghost use Rattle.hm_verdicts.specs.Sets.{IsLawfulSet};
+ghost use Rattle.hm_verdicts.specs.Reports.{AreBlamed, is_skipped, tally};
+ghost use Rattle.hm_telling.specs.Explanations.{AreBlamesTold, AreFaultsTold, AreNumbered, IsBlameMessage, IsModuleTold, IsTold, fault_count, named_of};
+ghost use Rattle.hm_reports.specs.ReportBlocks.{all_blamed, blamed};
+ghost use Rattle.hm_reports.specs.Settling.{module_set, status_of as settlement, statuses_of};
+
+use hm_graph::Plan;
+use hm_lex::Place;
+use hm_messages::{MessageFault, Page, Pages, Topic, count_text, fault_messages, message};
+use hm_names::Fault;
+use hm_reports::Settled;
+use hm_sources::Located;
+use hm_syntax::{Import, Module};
+use std::alloc::{AllocError, Global};
+use std::sync::Arc;
+
+/// What messages are made of: the sources as they are shown, where each module comes from, and how each was settled.
+#[derive(Clone, Copy)]
+pub(crate) struct Told<'t, 'p, 'm> {
+    pub pages: &'t Pages<'p>,
+    pub located: &'t [Located],
+    pub modules: &'m [Arc<Module>],
+    pub plan: &'m Plan,
+    pub settled: &'t [Settled<'m>],
+}
+
+/// An import that a module is skipped for.
+#[derive(Clone, Copy)]
+struct Blame<'a> {
+    name: &'a str,
+    place: Place,
+    is_faulty: bool,
+}
+
+/// The first import with this name, from this one on.
+fn import_from(imports: &[Import], from: usize, name: &str) -> Option<usize>
+    ensures { IfSome result (λ index. index < length imports.now) }
+{
+    for index in from..imports.len() {
+        if imports[index].name.as_str() == name {
+            return Some(index);
+        }
+    }
+    None
+}
+
+/// Appends an import of a module, where what it imports isn't published.
+fn add_blame<'a>(
+    blames: &mut Vec<Blame<'a>>,
+    name: &'a str,
+    place: Place,
+    settled: &Settled<'_>,
+) -> Result<(), AllocError>
+    ensures { OnOk result (map (λ b. b.name.now) blames.new.items ≡ map (λ b. b.name.now) blames.old.items ++ blamed (settlement settled.now) name.entry.now) }
+{
+    match settled {
+        Settled::Published(_) => Ok(()),
+        Settled::Failed(_) => {
+            let is_faulty = true;
+            Ok(blames.push(Blame {
+                name,
+                place,
+                is_faulty,
+            })?)
+        }
+        Settled::Skipped => {
+            let is_faulty = false;
+            Ok(blames.push(Blame {
+                name,
+                place,
+                is_faulty,
+            })?)
+        }
+    }
+}
+
+/// The imports of a module that aren't published, in the order of its plan's row.
+fn blames_of<'a>(
+    alloc: Global,
+    modules: &'a [Arc<Module>],
+    settled: &[Settled<'_>],
+    row: &[usize],
+    imports: &[Import],
+) -> Result<Vec<Blame<'a>>, MessageFault>
+    requires modules { All (λ j. j < length modules.now) row.now }
+    requires settled { All (λ j. j < length settled.now) row.now }
+    ensures { IfOk result (λ blames. map (λ b. b.name.now) blames.items ≡ all_blamed (map arc_value modules.entry.now) (statuses_of settled.now) row.now) }
+{
+    let mut blames = Vec::new(alloc);
+    let mut from = 0usize;
+    for number in row {
+        let name = modules[*number].header.name.as_str();
+        let Some(index) = import_from(imports, from, name) else {
+            return Err(MessageFault::Place);
+        };
+        let import = &imports[index];
+        let place = import.name.place;
+        add_blame(&mut blames, name, place, &settled[*number])?;
+        from = index;
+    }
+    Ok(blames)
+}
+
+/// The message of an import that a module is skipped for.
+fn blame_message(
+    alloc: Global,
+    pages: &Pages<'_>,
+    page: &Page<'_>,
+    blame: &Blame<'_>,
+) -> Result<Vec<u8>, MessageFault>
+    ensures { IfOk result (λ text. IsBlameMessage pages.now.paint page.now.file.now page.now.lines blame.now.name.now text.items) }
+{
+    if blame.is_faulty {
+        let topic = Topic::Faulty(blame.name);
+        Ok(message(alloc, pages.paint, page, blame.place, &topic)?)
+    } else {
+        let topic = Topic::Skipped(blame.name);
+        Ok(message(alloc, pages.paint, page, blame.place, &topic)?)
+    }
+}
+
+/// The messages of the imports that a module is skipped for.
+fn blame_messages(
+    alloc: Global,
+    pages: &Pages<'_>,
+    page: &Page<'_>,
+    blames: &[Blame<'_>],
+) -> Result<Vec<u8>, MessageFault>
+    ensures { IfOk result (λ text. AreEach (IsBlameMessage pages.now.paint page.now.file.now page.now.lines) (map (λ b. b.name.now) blames.now) text.items) }
+{
+    let mut text = Vec::new(alloc);
+    for blame in blames {
+        let message = blame_message(alloc, pages, page, blame)?;
+        text.extend_from_slice(message.as_slice())?;
+    }
+    Ok(text)
+}
+
+/// The number of the source that spells a module.
+fn source_of(told: &Told<'_, '_, '_>, number: usize) -> Result<usize, MessageFault>
+    requires { AreLocated (texts_in told.now.pages.now.items.items) told.now.located.now }
+    ensures spelled { IfOk result (IsSpelledBy (texts_in told.now.pages.now.items.items) number) }
+    ensures within { IfOk result (λ source. source < length told.now.pages.now.items.items) }
+{
+    if number >= told.located.len() {
+        return Err(MessageFault::Place);
+    }
+    let source = told.located[number].source;
+    if source >= told.pages.items.len() {
+        return Err(MessageFault::Place);
+    }
+    Ok(source)
+}
+
+/// The messages of the faults of a module that this source spells.
+fn faulty_messages(
+    alloc: Global,
+    pages: &Pages<'_>,
+    source: usize,
+    faults: &[Fault],
+) -> Result<Vec<u8>, MessageFault>
+    requires { source < length pages.now.items.items }
+    ensures { IfOk result (λ text. AreFaultsTold pages.now.paint (files_in pages.now.items.items) (texts_in pages.now.items.items) source faults.now text.items) }
+{
+    let page = &pages.items[source];
+    Ok(fault_messages(alloc, pages.paint, page, faults)?)
+}
+
+/// The messages of a module that this source spells and that is skipped.
+fn skipped_messages(
+    alloc: Global,
+    told: &Told<'_, '_, '_>,
+    number: usize,
+    source: usize,
+) -> Result<Vec<u8>, MessageFault>
+    requires lawful { IsLawfulSet (module_set told.now.modules.now told.now.plan.now) }
+    requires len { length told.now.settled.now ≡ length told.now.modules.now }
+    requires number { number < length told.now.modules.now }
+    requires source { source < length told.now.pages.now.items.items }
+    ensures { IfOk result (λ text. AreBlamesTold told.now.pages.now.paint (files_in told.now.pages.now.items.items) (texts_in told.now.pages.now.items.items) source
+        (module_set told.now.modules.now told.now.plan.now) (statuses_of told.now.settled.now) number text.items) }
+{
+    let imports = told.modules[number].header.imports.as_slice();
+    let row = told.plan.imports(number);
+    let mut blames = blames_of(alloc, told.modules, told.settled, row, imports)?;
+    blames.sort_by_key(|blame| blame.name)?;
+    let page = &told.pages.items[source];
+    Ok(blame_messages(alloc, told.pages, page, blames.as_slice())?)
+}
+
+/// The messages of one module.
+fn module_messages(
+    alloc: Global,
+    told: &Told<'_, '_, '_>,
+    number: usize,
+) -> Result<Vec<u8>, MessageFault>
+    requires lawful { IsLawfulSet (module_set told.now.modules.now told.now.plan.now) }
+    requires len { length told.now.settled.now ≡ length told.now.modules.now }
+    requires number { number < length told.now.modules.now }
+    requires located { AreLocated (texts_in told.now.pages.now.items.items) told.now.located.now }
+    ensures { IfOk result (λ text. IsModuleTold told.now.pages.now.paint (files_in told.now.pages.now.items.items) (texts_in told.now.pages.now.items.items)
+        (module_set told.now.modules.now told.now.plan.now) (statuses_of told.now.settled.now) number text.items) }
+{
+    match &told.settled[number] {
+        Settled::Published(_) => Ok(Vec::new(alloc)),
+        Settled::Failed(faults) => {
+            let source = source_of(told, number)?;
+            Ok(faulty_messages(alloc, told.pages, source, faults.as_slice())?)
+        }
+        Settled::Skipped => {
+            let source = source_of(told, number)?;
+            Ok(skipped_messages(alloc, told, number, source)?)
+        }
+    }
+}
+
+/// A module's name and its number.
+#[derive(Clone, Copy)]
+struct Named<'a> {
+    name: &'a str,
+    number: usize,
+}
+
+/// The modules with their numbers, in order.
+fn numbered<'a>(alloc: Global, modules: &'a [Arc<Module>]) -> Result<Vec<Named<'a>>, AllocError>
+    ensures { IfOk result (λ rows. AreNumbered (map arc_value modules.entry.now) (map named_of rows.items)) }
+{
+    let mut rows = Vec::new(alloc);
+    for number in 0..modules.len() {
+        let name = modules[number].header.name.as_str();
+        rows.push(Named { name, number })?;
+    }
+    Ok(rows)
+}
+
+/// How many faults there are, and how many modules are skipped.
+fn errors_in(settled: &[Settled<'_>]) -> usize
+    ensures { result ≡ min (fault_count (statuses_of settled.now) (length settled.now)) (2 ^ 64 - 1) }
+{
+    let mut errors = 0usize;
+    for status in settled {
+        if let Settled::Failed(faults) = status {
+            errors = errors.saturating_add(faults.as_slice().len());
+        }
+    }
+    errors
+}
+
+/// The messages of all modules, in the order of their names, and the counts.
+pub(crate) fn explanation(
+    alloc: Global,
+    told: &Told<'_, '_, '_>,
+    skipped: usize,
+) -> Result<Vec<u8>, MessageFault>
+    requires lawful { IsLawfulSet (module_set told.now.modules.now told.now.plan.now) }
+    requires len { length told.now.settled.now ≡ length told.now.modules.now }
+    requires located { AreLocated (texts_in told.now.pages.now.items.items) told.now.located.now }
+    requires skipped { skipped ≡ tally is_skipped (statuses_of told.now.settled.now) (length told.now.settled.now) }
+    ensures { IfOk result (λ text. IsTold told.now.pages.now.paint (files_in told.now.pages.now.items.items) (texts_in told.now.pages.now.items.items)
+        (module_set told.now.modules.now told.now.plan.now) (statuses_of told.now.settled.now) text.items) }
+{
+    let mut rows = numbered(alloc, told.modules)?;
+    rows.sort_by_key(|row| row.name)?;
+    let mut text = Vec::new(alloc);
+    for row in &rows {
+        let messages = module_messages(alloc, told, row.number)?;
+        text.extend_from_slice(messages.as_slice())?;
+    }
+    let counts = count_text(alloc, errors_in(told.settled), skipped)?;
+    text.extend_from_slice(counts.as_bytes())?;
+    Ok(text)
+}
