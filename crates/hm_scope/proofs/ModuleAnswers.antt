@@ -10,6 +10,7 @@ use Rattle.hm_names.specs.declared.cores.Exported.{Exported}
 use Rattle.hm_names.specs.declared.namespace.Namespace.{Namespace}
 use Rattle.hm_names.specs.declared.namespace.Namespace.TheVariants.{Types, Constructors, Values}
 use Rattle.hm_exports.specs.declared.exports.ModuleExports.{ModuleExports}
+use Rattle.hm_scope.specs.declared.scoping.ExportedRows.{ExportedRows}
 use Rattle.hm_scope.specs.declared.scoping.Trees.{Trees}
 use Rattle.hm_names.specs.ModuleCores.{ModuleCore}
 use Rattle.hm_names.specs.Cores.{IsCore, exports_in}
@@ -24,7 +25,7 @@ use Rattle.hm_names.specs.NodeFaults.{NodeFault, AreLookupsOf}
 use Rattle.hm_synonyms.specs.Synonyms.{HasSynonymFault, AreResolved}
 use Rattle.hm_names.specs.Faults.Phases.{Exporting, IsWellFormed}
 use Rattle.hm_phases.specs.Answers.{is_of_lists, is_of_names, is_of_numbers}
-use Rattle.hm_scope.specs.Answers.{AreTrees, AreWalked, IsResolvedModule, AreExportedRows}
+use Rattle.hm_scope.specs.Answers.{AreTrees, AreWalked, IsResolvedModule, AreExportedRows, rows_in}
 use Rattle.hm_names.proofs.Members.{none_in, cases, first, rest}
 use Rattle.hm_scope.proofs.OneEntity.{one_entity, bound_is_exported}
 use Rattle.hm_names.proofs.Resolves.{resolves}
@@ -32,32 +33,45 @@ use Rattle.hm_scope.proofs.TreePhases.{declaring, naming, counting}
 
 -- The rows of a core
 
-pub rows_of : (given : List Pair) (c : ModuleCore) → ((x : List ℕ) (e : Entity) → Contains c.exported_types (record { name = x; entity = e }) ↔ IsBound given Types x e) → AreOrdered (map (λ r. r.name) c.exported_types)
-    → ((x : List ℕ) (e : Entity) → Contains c.exported_constructors (record { name = x; entity = e }) ↔ IsBound given Constructors x e) → AreOrdered (map (λ r. r.name) c.exported_constructors)
-    → ((x : List ℕ) (e : Entity) → Contains c.exported_values (record { name = x; entity = e }) ↔ IsBound given Values x e) → AreOrdered (map (λ r. r.name) c.exported_values) → AreExportedRows given c
-rows_of given c t to k ko v vo = record { exact = exact; ordered = ordered }
+pub rows_of : (given : List Pair) (r : ExportedRows) → ((x : List ℕ) (e : Entity) → Contains r.types (record { name = x; entity = e }) ↔ IsBound given Types x e) → AreOrdered (map (λ k. k.name) r.types)
+    → ((x : List ℕ) (e : Entity) → Contains r.constructors (record { name = x; entity = e }) ↔ IsBound given Constructors x e) → AreOrdered (map (λ k. k.name) r.constructors)
+    → ((x : List ℕ) (e : Entity) → Contains r.values (record { name = x; entity = e }) ↔ IsBound given Values x e) → AreOrdered (map (λ k. k.name) r.values) → AreExportedRows given (rows_in r)
+rows_of given r t to k ko v vo = record { exact = exact; ordered = ordered }
   where
-    exact : (s : Namespace) (x : List ℕ) (e : Entity) → Contains (exports_in c s) (record { name = x; entity = e }) ↔ IsBound given s x e
+    exact : (s : Namespace) (x : List ℕ) (e : Entity) → Contains (rows_in r s) (record { name = x; entity = e }) ↔ IsBound given s x e
     exact Types x e = t x e
     exact Constructors x e = k x e
     exact Values x e = v x e
 
-    ordered : (s : Namespace) → AreOrdered (map (λ (r : Exported). r.name) (exports_in c s))
+    ordered : (s : Namespace) → AreOrdered (map (λ (k : Exported). k.name) (rows_in r s))
     ordered Types = to
     ordered Constructors = ko
     ordered Values = vo
 
-pub core_is : (m : Module) (fs : List Interface) (ds : List Declaration) (given : List Pair) (c : ModuleCore) → IsResolvedModule m fs ds given → c.name ≡ m.header.name.text → c.decls ≡ ds → c.interfaces ≡ fs → AreExportedRows given c → IsCore m fs c
-core_is m fs ds given c is name decls interfaces rows = record {
+-- a core with these rows
+same_rows : (r : ExportedRows) (c : ModuleCore) → c.exported_types ≡ r.types → c.exported_constructors ≡ r.constructors → c.exported_values ≡ r.values → (s : Namespace) → exports_in c s ≡ rows_in r s
+same_rows r c types constructors values Types = types
+same_rows r c types constructors values Constructors = constructors
+same_rows r c types constructors values Values = values
+
+pub core_is : (m : Module) (fs : List Interface) (ds : List Declaration) (given : List Pair) (r : ExportedRows) (c : ModuleCore) → IsResolvedModule m fs ds given → AreExportedRows given (rows_in r)
+    → c.name ≡ m.header.name.text → c.decls ≡ ds → c.interfaces ≡ fs → c.exported_types ≡ r.types → c.exported_constructors ≡ r.constructors → c.exported_values ≡ r.values → IsCore m fs c
+core_is m fs ds given r c is rows name decls interfaces types constructors values = record {
   well_formed = is.well_formed;
   name = name;
   interfaces = interfaces;
   resolver = is.are_resolved.resolver;
   resolves = is.are_resolved.resolves;
   trees = decls ∙ is.are_resolved.trees;
-  exports = λ s x e. (λ h. (is.exact s x e).0 ((rows.exact s x e).0 h), λ h. (rows.exact s x e).1 ((is.exact s x e).1 h));
-  ordered = rows.ordered;
+  exports = λ s x e. (
+    λ h. (is.exact s x e).0 ((rows.exact s x e).0 (subst (λ (l : List Exported). Contains l (record { name = x; entity = e })) (same s) h)),
+    λ h. subst (λ (l : List Exported). Contains l (record { name = x; entity = e })) (sym (same s)) ((rows.exact s x e).1 ((is.exact s x e).1 h)),
+  );
+  ordered = λ s. subst (λ (l : List Exported). AreOrdered (map (λ (k : Exported). k.name) l)) (sym (same s)) (rows.ordered s);
 }
+  where
+    same : (s : Namespace) → exports_in c s ≡ rows_in r s
+    same = same_rows r c types constructors values
 
 -- The faults of the trees
 

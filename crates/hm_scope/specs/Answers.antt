@@ -6,12 +6,13 @@ use Rattle.hm_names.specs.declared.faults.Fault.{Fault}
 use Rattle.hm_types.specs.declared.Entity.{Entity}
 use Rattle.hm_types.specs.Interfaces.{AreOrdered}
 use Rattle.hm_syntax.specs.Trees.{Declaration}
+use Rattle.hm_names.specs.declared.cores.Exported.{Exported}
 use Rattle.hm_names.specs.declared.namespace.Namespace.{Namespace}
+use Rattle.hm_names.specs.declared.namespace.Namespace.TheVariants.{Types, Constructors, Values}
 use Rattle.hm_scope.specs.declared.scoping.Answer.{Answer}
 use Rattle.hm_scope.specs.declared.scoping.Answer.TheVariants.{Resolved, Faulty}
+use Rattle.hm_scope.specs.declared.scoping.ExportedRows.{ExportedRows}
 use Rattle.hm_scope.specs.declared.scoping.Trees.{Trees}
-use Rattle.hm_names.specs.ModuleCores.{ModuleCore}
-use Rattle.hm_names.specs.Cores.{exports_in}
 use Rattle.hm_names.specs.Exports.{IsExported}
 use Rattle.hm_names.specs.Bindings.{Pair}
 use Rattle.hm_exports.specs.ExportedRows.{HaveOneEntity, IsBound}
@@ -54,7 +55,13 @@ IsAnswer m fs (Faulty found) = AreFaults m fs found
 abbrev pub IsAnswerBehind : Module → List Interface → Answer → Type 0
 IsAnswerBehind m fs answer = ((f : Fault) → ¬ (HasFault m fs Importing f)) → IsAnswer m fs answer
 
--- the core has exactly these exports, ordered by name
-pub record AreExportedRows (given : List Pair) (c : ModuleCore) : Type 0 where
-  pub exact : (s : Namespace) (x : List Rattle.std.specs.Prelude.ℕ) (e : Entity) → Contains (exports_in c s) (record { name = x; entity = e }) ↔ IsBound given s x e
-  pub ordered : (s : Namespace) → AreOrdered (map (λ r. r.name) (exports_in c s))
+-- the rows of a namespace
+abbrev pub rows_in : ExportedRows → Namespace → List Exported
+rows_in r Types = r.types
+rows_in r Constructors = r.constructors
+rows_in r Values = r.values
+
+-- the rows have exactly these exports, ordered by name
+pub record AreExportedRows (given : List Pair) (rows : Namespace → List Exported) : Type 0 where
+  pub exact : (s : Namespace) (x : List Rattle.std.specs.Prelude.ℕ) (e : Entity) → Contains (rows s) (record { name = x; entity = e }) ↔ IsBound given s x e
+  pub ordered : (s : Namespace) → AreOrdered (map (λ r. r.name) (rows s))

@@ -16,7 +16,7 @@ ghost use Rattle.hm_names.specs.DeclaredSynonyms.{AreAmong, IsSound};
 ghost use Rattle.hm_synonyms.specs.Synonyms.{AreOwnSynonyms, IsReferenceGraph, IsExpandable, Finishes, AreResolved};
 ghost use Rattle.hm_names.specs.Texts.{same_entity};
 ghost use Rattle.hm_names.specs.Types.{synonym_of, program_of, type_in};
-ghost use Rattle.hm_names.specs.Variables.{type_variables};
+ghost use Rattle.hm_names.specs.Variables.{texts, type_variables};
 ghost use Rattle.hm_types.specs.Shape.{type_of};
 
 use hm_descriptions::Tables;
@@ -73,6 +73,23 @@ fn type_over(
     Ok(monotype(alloc, variables, &resolved)?)
 }
 
+/// A synonym over these variables with its right side resolved and expanded, if it has no other variables.
+fn finished_over(
+    alloc: Global,
+    scope: &Scope<'_>,
+    tables: &Tables<'_>,
+    variables: &TypeVariables<'_>,
+    ty: &TypeExpr,
+) -> Result<Option<Synonym>, AllocError>
+    ensures { IfOk result (λ synonym. (ps : List Identifier) → variables.now ≡ texts ps → IsSound ps ty.now → synonym ≡ Some (synonym_of ps (type_with (resolver_of (lookups_of scope.now tables.now)) ty.now))) }
+{
+    if !is_closed(alloc, variables, ty)? {
+        return Ok(None);
+    }
+    let body = type_over(alloc, scope, tables, variables, ty)?;
+    Ok(Some(Synonym::new(variables.len(), body)))
+}
+
 /// A synonym with its right side resolved and expanded, if all its variables are parameters.
 fn finished(
     alloc: Global,
@@ -84,11 +101,7 @@ fn finished(
     ensures { IfOk result (λ synonym. IsSound params.now ty.now → synonym ≡ Some (synonym_of params.now (type_with (resolver_of (lookups_of scope.now tables.now)) ty.now))) }
 {
     let variables = parameters_of(alloc, params)?;
-    if !is_closed(alloc, &variables, ty)? {
-        return Ok(None);
-    }
-    let body = type_over(alloc, scope, tables, &variables, ty)?;
-    Ok(Some(Synonym::new(variables.len(), body)))
+    Ok(finished_over(alloc, scope, tables, &variables, ty)?)
 }
 
 /// Adds a synonym whose right side has only synonyms that stand in the tables.
@@ -111,64 +124,84 @@ fn add_finished<'a>(
     }
 }
 
+/// The synonyms that a module declares, and the scope in which their right sides are looked up.
+#[derive(Clone, Copy)]
+struct Unfinished<'r, 'a> {
+    scope: &'r Scope<'a>,
+    home: &'a str,
+    declared: &'r [OwnSynonym<'a>],
+}
+
 /// Adds the synonym of this number, if there is one.
 fn add_numbered<'a>(
     alloc: Global,
     tables: &mut Tables<'a>,
-    scope: &Scope<'_>,
-    home: &'a str,
-    declared: &[OwnSynonym<'a>],
+    unfinished: &Unfinished<'_, 'a>,
     number: usize,
 ) -> Result<(), AllocError>
     ensures types { OnOk result (tables.new.types ≡ tables.old.types) }
     ensures constructors { OnOk result (tables.new.constructors ≡ tables.old.constructors) }
-    ensures none { OnOk result (length declared.now ≤ number → tables.new.synonyms ≡ tables.old.synonyms) }
-    ensures others { OnOk result ((d : OwnSynonym) → number < length declared.now → (e : Entity) → same_entity e (named home.now (slice_index_or declared.now number d).name.now.text) ≡ false → synonym_among tables.new.synonyms e ≡ synonym_among tables.old.synonyms e) }
-    ensures synonym { OnOk result ((d : OwnSynonym) → number < length declared.now → IsSound (slice_index_or declared.now number d).params.now (slice_index_or declared.now number d).ty.now →
-        (e : Entity) → same_entity e (named home.now (slice_index_or declared.now number d).name.now.text) ≡ true →
-        synonym_among tables.new.synonyms e ≡ Some (synonym_of (slice_index_or declared.now number d).params.now (type_with (resolver_of (lookups_of scope.now tables.old)) (slice_index_or declared.now number d).ty.now))) }
+    ensures none { OnOk result (length unfinished.now.declared.now ≤ number → tables.new.synonyms ≡ tables.old.synonyms) }
+    ensures others { OnOk result ((d : OwnSynonym) → number < length unfinished.now.declared.now → (e : Entity) → same_entity e (named unfinished.now.home.now (slice_index_or unfinished.now.declared.now number d).name.now.text) ≡ false → synonym_among tables.new.synonyms e ≡ synonym_among tables.old.synonyms e) }
+    ensures synonym { OnOk result ((d : OwnSynonym) → number < length unfinished.now.declared.now → IsSound (slice_index_or unfinished.now.declared.now number d).params.now (slice_index_or unfinished.now.declared.now number d).ty.now →
+        (e : Entity) → same_entity e (named unfinished.now.home.now (slice_index_or unfinished.now.declared.now number d).name.now.text) ≡ true →
+        synonym_among tables.new.synonyms e ≡ Some (synonym_of (slice_index_or unfinished.now.declared.now number d).params.now (type_with (resolver_of (lookups_of unfinished.now.scope.now tables.old)) (slice_index_or unfinished.now.declared.now number d).ty.now))) }
 {
-    if number < declared.len() {
-        return Ok(add_finished(alloc, tables, scope, home, &declared[number])?);
+    if number >= unfinished.declared.len() {
+        return Ok(());
     }
-    Ok(())
+    Ok(add_finished(
+        alloc,
+        tables,
+        unfinished.scope,
+        unfinished.home,
+        &unfinished.declared[number],
+    )?)
 }
 
 /// Adds the synonyms of these numbers.
 fn add_in_order<'a>(
     alloc: Global,
     tables: &mut Tables<'a>,
-    scope: &Scope<'_>,
-    home: &'a str,
-    declared: &[OwnSynonym<'a>],
+    unfinished: &Unfinished<'_, 'a>,
     order: &[usize],
 ) -> Result<(), AllocError>
     ensures types { OnOk result (tables.new.types ≡ tables.old.types) }
     ensures constructors { OnOk result (tables.new.constructors ≡ tables.old.constructors) }
-    ensures finished { OnOk result ((m : Module) (fs : List Interface) (r : Resolver) → IsScopeOf m fs scope.now → home.now ≡ m.header.name.text → IsExpandable m fs r declared.now order.now tables.old.synonyms → Finishes r home.now declared.now order.now tables.old.synonyms tables.new.synonyms) }
+    ensures finished { OnOk result ((m : Module) (fs : List Interface) (r : Resolver) → IsScopeOf m fs unfinished.now.scope.now → unfinished.now.home.now ≡ m.header.name.text → IsExpandable m fs r unfinished.now.declared.now order.now tables.old.synonyms → Finishes r unfinished.now.home.now unfinished.now.declared.now order.now tables.old.synonyms tables.new.synonyms) }
 {
     'order: for number in order {
-        add_numbered(alloc, tables, scope, home, declared, *number)?;
+        add_numbered(alloc, tables, unfinished, *number)?;
     }
     Ok(())
+}
+
+/// The synonyms that a module declares, and the graph of their references.
+#[derive(Clone, Copy)]
+pub(crate) struct DeclaredSynonyms<'r, 'a> {
+    pub(crate) own: &'r OwnSynonyms<'a>,
+    pub(crate) graph: &'r SynonymGraph,
 }
 
 /// Adds the synonyms of a module, each after those that its right side names. Those of a module with faults may be left out.
 pub(crate) fn add_synonyms<'a>(
     alloc: Global,
     tables: &mut Tables<'a>,
-    scope: &Scope<'_>,
+    scope: &Scope<'a>,
     program: &'a Module,
-    synonyms: &OwnSynonyms<'a>,
-    graph: &SynonymGraph,
+    synonyms: &DeclaredSynonyms<'_, 'a>,
 ) -> Result<(), AllocError>
-    requires { length graph.now ≡ length synonyms.now.names }
+    requires { length synonyms.now.graph.now ≡ length synonyms.now.own.now.names }
     ensures types { OnOk result (tables.new.types ≡ tables.old.types) }
     ensures constructors { OnOk result (tables.new.constructors ≡ tables.old.constructors) }
-    ensures synonyms { OnOk result ((fs : List Interface) → IsScopeOf program.now fs scope.now → AreTablesOf program.now fs tables.old → AreOwnSynonyms program.now.decls synonyms.now → IsReferenceGraph program.now fs synonyms.now.names graph.now
+    ensures synonyms { OnOk result ((fs : List Interface) → IsScopeOf program.now fs scope.now → AreTablesOf program.now fs tables.old → AreOwnSynonyms program.now.decls synonyms.now.own.now → IsReferenceGraph program.now fs synonyms.now.own.now.names synonyms.now.graph.now
         → IsWellFormed program.now fs → AreResolved program.now fs (lookups_of scope.now tables.new)) }
 {
-    let order = graph.order(alloc)?;
-    let home = program.header.name.as_str();
-    Ok(add_in_order(alloc, tables, scope, home, &synonyms.declared, &order)?)
+    let order = synonyms.graph.order(alloc)?;
+    let unfinished = Unfinished {
+        scope,
+        home: program.header.name.as_str(),
+        declared: &synonyms.own.declared,
+    };
+    Ok(add_in_order(alloc, tables, &unfinished, &order)?)
 }

@@ -1,13 +1,14 @@
 //! The core of a module, or its faults.
 
-ghost use Rattle.std.specs.Prelude.{◌≡◌, ◌↔◌, ◌++◌, ◌∷◌, List, length, map, IfOk, IfErr, Contains};
+ghost use Rattle.std.specs.Prelude.{◌≡◌, ◌↔◌, ◌++◌, ◌∷◌, List, length, map, filter, IfOk, IfErr, Contains};
 ghost use Rattle.std.specs.Arc.{arc_value};
 ghost use Rattle.hm_syntax.specs.declared.ast.Module.{Module as ModuleTree};
 ghost use Rattle.hm_types.specs.Interfaces.{Exports as Interface};
 ghost use Rattle.hm_types.specs.StandardPrelude.{prelude_interface};
 ghost use Rattle.hm_names.specs.declared.faults.Fault.{Fault};
 ghost use Rattle.hm_names.specs.declared.namespace.Namespace.{Namespace};
-ghost use Rattle.hm_scope.specs.Answers.{AreTrees, AreWalked, IsAnswerBehind, AreExportedRows};
+ghost use Rattle.hm_scope.specs.Answers.{AreTrees, AreWalked, IsAnswer, IsAnswerBehind, AreExportedRows, rows_in};
+ghost use Rattle.hm_phases.specs.Answers.{is_of_lists, is_of_names, is_of_numbers};
 ghost use Rattle.hm_tables.specs.KnownTables.{AreTablesOf};
 ghost use Rattle.hm_synonyms.specs.Synonyms.{AreOwnSynonyms, HasSynonymFault, IsReferenceGraph};
 ghost use Rattle.hm_names.specs.Bindings.{IsScopeOf};
@@ -16,16 +17,16 @@ ghost use Rattle.hm_exports.specs.ExportedRows.{HaveOneEntity};
 ghost use Rattle.hm_names.specs.Imports.{AreImportsOf};
 ghost use Rattle.hm_scope.specs.Outcome.{IsFaulty, IsOutcome};
 
-use crate::finished_synonyms::add_synonyms;
+use crate::finished_synonyms::{DeclaredSynonyms, add_synonyms};
 use hm_descriptions::Tables;
 use hm_exports::{ModuleExports, exported_in, module_exports};
 use hm_import_faults::import_faults;
 use hm_imports::{interfaces_of, scope_of};
-use hm_names::{Core, Fault, Namespace, ScopeFault};
-use hm_phases::{by_phases, first_faults, phase_answer};
+use hm_names::{Core, Exported, Fault, Namespace, ScopeFault};
+use hm_phases::{TreeFaults, by_phases, first_faults, phase_answer};
 use hm_prelude::prelude;
 use hm_resolve::{Walked, walk};
-use hm_synonyms::{OwnSynonyms, SynonymGraph, own_synonyms, reference_graph, synonym_faults};
+use hm_synonyms::{OwnSynonyms, own_synonyms, reference_graph, synonym_faults};
 use hm_syntax::{Decl, Module, Row};
 use hm_tables::{Binding, Scope};
 use hm_types::{Interface, Text};
@@ -63,41 +64,64 @@ fn joined(faults: Vec<Fault>, others: Vec<Fault>) -> Result<Vec<Fault>, AllocErr
     Ok(all)
 }
 
+/// A module, the interfaces for which it is looked at, and its scope.
+#[derive(Clone, Copy)]
+struct ScopedModule<'r, 'a> {
+    program: &'a Module,
+    interfaces: &'r [&'a Interface],
+    scope: &'r Scope<'a>,
+}
+
 /// What the walk finds in a module with these tables, to which its synonyms are added.
 fn walked_with<'a>(
     alloc: Global,
-    module: &'a Module,
+    program: &'a Module,
     scope: &Scope<'a>,
     tables: &mut Tables<'a>,
-    synonyms: &OwnSynonyms<'a>,
-    graph: &SynonymGraph,
+    synonyms: &DeclaredSynonyms<'_, 'a>,
 ) -> Result<Walked, AllocError>
-    requires { length graph.now ≡ length synonyms.now.names }
-    ensures { IfOk result (λ walked. (fs : List Interface) → IsScopeOf «module».now fs scope.now → AreTablesOf «module».now fs tables.old → AreOwnSynonyms «module».now.decls synonyms.now
-        → IsReferenceGraph «module».now fs synonyms.now.names graph.now → AreWalked «module».now fs walked.decls.items walked.faults.items) }
+    requires { length synonyms.now.graph.now ≡ length synonyms.now.own.now.names }
+    ensures { IfOk result (λ walked. (fs : List Interface) → IsScopeOf program.now fs scope.now → AreTablesOf program.now fs tables.old → AreOwnSynonyms program.now.decls synonyms.now.own.now
+        → IsReferenceGraph program.now fs synonyms.now.own.now.names synonyms.now.graph.now → AreWalked program.now fs walked.decls.items walked.faults.items) }
 {
-    add_synonyms(alloc, tables, scope, module, synonyms, graph)?;
-    Ok(walk(alloc, scope, tables, module)?)
+    add_synonyms(alloc, tables, scope, program, synonyms)?;
+    Ok(walk(alloc, scope, tables, program)?)
 }
 
 /// What the walk finds in a module whose synonyms are these.
 fn walked_trees<'a>(
     alloc: Global,
-    module: &'a Module,
-    interfaces: &[&'a Interface],
-    scope: &Scope<'a>,
-    synonyms: &OwnSynonyms<'a>,
-    graph: &SynonymGraph,
+    scoped: &ScopedModule<'_, 'a>,
+    synonyms: &DeclaredSynonyms<'_, 'a>,
     depth: usize,
 ) -> Result<Walked, AllocError>
-    requires scope { IsScopeOf «module».now (map (λ f. f.now) interfaces.now) scope.now }
-    requires synonyms { AreOwnSynonyms «module».now.decls synonyms.now }
-    requires nodes { length graph.now ≡ length synonyms.now.names }
-    requires edges { IsReferenceGraph «module».now (map (λ f. f.now) interfaces.now) synonyms.now.names graph.now }
-    ensures { IfOk result (λ walked. AreWalked «module».now (map (λ f. f.now) interfaces.now) walked.decls.items walked.faults.items) }
+    requires scope { IsScopeOf scoped.now.program.now (map (λ f. f.now) scoped.now.interfaces.now) scoped.now.scope.now }
+    requires synonyms { AreOwnSynonyms scoped.now.program.now.decls synonyms.now.own.now }
+    requires nodes { length synonyms.now.graph.now ≡ length synonyms.now.own.now.names }
+    requires edges { IsReferenceGraph scoped.now.program.now (map (λ f. f.now) scoped.now.interfaces.now) synonyms.now.own.now.names synonyms.now.graph.now }
+    ensures { IfOk result (λ walked. AreWalked scoped.now.program.now (map (λ f. f.now) scoped.now.interfaces.now) walked.decls.items walked.faults.items) }
 {
-    let mut tables = Tables::of(alloc, module, interfaces, depth)?;
-    Ok(walked_with(alloc, module, scope, &mut tables, synonyms, graph)?)
+    let mut tables = Tables::of(alloc, scoped.program, scoped.interfaces, depth)?;
+    Ok(walked_with(alloc, scoped.program, scoped.scope, &mut tables, synonyms)?)
+}
+
+/// The faults of a walk by phases, with those of synonyms that are recursive.
+fn phases_of(
+    alloc: Global,
+    walked: Vec<Fault>,
+    recursive: Vec<Fault>,
+) -> Result<TreeFaults, AllocError>
+    ensures lists { IfOk result (λ parts. parts.lists.items ≡ filter is_of_lists walked.items) }
+    ensures names { IfOk result (λ parts. parts.names.items ≡ filter is_of_names walked.items) }
+    ensures numbers { IfOk result (λ parts. parts.numbers.items ≡ filter is_of_numbers walked.items ++ recursive.items) }
+{
+    let parts = by_phases(alloc, walked)?;
+    let numbers = joined(parts.numbers, recursive)?;
+    Ok(TreeFaults {
+        lists: parts.lists,
+        names: parts.names,
+        numbers,
+    })
 }
 
 /// The trees of a walk, its faults by phases, with those of synonyms that are recursive.
@@ -105,56 +129,111 @@ fn trees_of(alloc: Global, walked: Walked, recursive: Vec<Fault>) -> Result<Tree
     ensures { IfOk result (λ trees. (m : ModuleTree) (fs : List Interface) → AreWalked m fs walked.decls.items walked.faults.items → ((f : Fault) → Contains recursive.items f ↔ HasSynonymFault m fs f) → AreTrees m fs trees) }
 {
     let Walked { decls, faults } = walked;
-    let parts = by_phases(alloc, faults)?;
-    let numbers = joined(parts.numbers, recursive)?;
+    let parts = phases_of(alloc, faults, recursive)?;
     Ok(Trees {
         decls,
         lists: parts.lists,
         names: parts.names,
-        numbers,
+        numbers: parts.numbers,
     })
 }
 
-/// The trees of a module, whose names are resolved where there are no faults.
-fn resolved_trees<'a>(
+/// The trees of a module whose synonyms are these.
+fn trees_with<'a>(
     alloc: Global,
-    module: &'a Module,
-    interfaces: &[&'a Interface],
-    scope: &Scope<'a>,
+    scoped: &ScopedModule<'_, 'a>,
+    synonyms: &DeclaredSynonyms<'_, 'a>,
     depth: usize,
 ) -> Result<Trees, AllocError>
-    requires { IsScopeOf «module».now (map (λ f. f.now) interfaces.now) scope.now }
-    ensures { IfOk result (AreTrees «module».now (map (λ f. f.now) interfaces.now)) }
+    requires scope { IsScopeOf scoped.now.program.now (map (λ f. f.now) scoped.now.interfaces.now) scoped.now.scope.now }
+    requires synonyms { AreOwnSynonyms scoped.now.program.now.decls synonyms.now.own.now }
+    requires nodes { length synonyms.now.graph.now ≡ length synonyms.now.own.now.names }
+    requires edges { IsReferenceGraph scoped.now.program.now (map (λ f. f.now) scoped.now.interfaces.now) synonyms.now.own.now.names synonyms.now.graph.now }
+    ensures { IfOk result (AreTrees scoped.now.program.now (map (λ f. f.now) scoped.now.interfaces.now)) }
 {
-    let synonyms = own_synonyms(alloc, module.decls.as_slice())?;
-    let graph = reference_graph(alloc, scope, module, &synonyms.names)?;
-    let recursive = synonym_faults(alloc, module, &synonyms.names, &graph)?;
-    let walked = walked_trees(alloc, module, interfaces, scope, &synonyms, &graph, depth)?;
+    let recursive = synonym_faults(alloc, scoped.program, &synonyms.own.names, synonyms.graph)?;
+    let walked = walked_trees(alloc, scoped, synonyms, depth)?;
     Ok(trees_of(alloc, walked, recursive)?)
+}
+
+/// The trees of a module with these synonyms, whose references make a graph.
+fn trees_over<'a>(
+    alloc: Global,
+    scoped: &ScopedModule<'_, 'a>,
+    own: &OwnSynonyms<'a>,
+    depth: usize,
+) -> Result<Trees, AllocError>
+    requires scope { IsScopeOf scoped.now.program.now (map (λ f. f.now) scoped.now.interfaces.now) scoped.now.scope.now }
+    requires synonyms { AreOwnSynonyms scoped.now.program.now.decls own.now }
+    ensures { IfOk result (AreTrees scoped.now.program.now (map (λ f. f.now) scoped.now.interfaces.now)) }
+{
+    let graph = reference_graph(alloc, scoped.scope, scoped.program, &own.names)?;
+    let synonyms = DeclaredSynonyms { own, graph: &graph };
+    Ok(trees_with(alloc, scoped, &synonyms, depth)?)
+}
+
+/// The trees of a module, whose names are resolved where there are no faults.
+fn resolved_trees(
+    alloc: Global,
+    scoped: &ScopedModule<'_, '_>,
+    depth: usize,
+) -> Result<Trees, AllocError>
+    requires { IsScopeOf scoped.now.program.now (map (λ f. f.now) scoped.now.interfaces.now) scoped.now.scope.now }
+    ensures { IfOk result (AreTrees scoped.now.program.now (map (λ f. f.now) scoped.now.interfaces.now)) }
+{
+    let own = own_synonyms(alloc, scoped.program.decls.as_slice())?;
+    Ok(trees_over(alloc, scoped, &own, depth)?)
 }
 
 /// The answer of the phases behind that of the imports.
 fn behind_imports<'a>(
     alloc: Global,
-    module: &'a Module,
-    interfaces: &[&'a Interface],
-    scope: &Scope<'a>,
+    scoped: &ScopedModule<'_, 'a>,
     depth: usize,
 ) -> Result<Answer<'a>, AllocError>
-    requires { IsScopeOf «module».now (map (λ f. f.now) interfaces.now) scope.now }
-    ensures { IfOk result (λ answer. IsAnswerBehind «module».now (map (λ f. f.now) interfaces.now) answer) }
+    requires { IsScopeOf scoped.now.program.now (map (λ f. f.now) scoped.now.interfaces.now) scoped.now.scope.now }
+    ensures { IfOk result (λ answer. IsAnswerBehind scoped.now.program.now (map (λ f. f.now) scoped.now.interfaces.now) answer) }
 {
+    let ModuleExports { given, faults } = module_exports(
+        alloc,
+        scoped.program,
+        scoped.interfaces,
+        scoped.scope,
+    )?;
     let Trees {
         decls,
         lists,
         names,
         numbers,
-    } = resolved_trees(alloc, module, interfaces, scope, depth)?;
-    let ModuleExports { given, faults } = module_exports(alloc, module, interfaces, scope)?;
+    } = resolved_trees(alloc, scoped, depth)?;
     match first_faults(lists, faults, names, numbers)? {
         Some(found) => Ok(Answer::Faulty(found)),
         None => Ok(Answer::Resolved(decls, given)),
     }
+}
+
+/// What the phases answer of a module for Prelude's interface and those of its imports.
+fn phases_answer<'a>(
+    alloc: Global,
+    program: &'a Module,
+    prelude: &'a Interface,
+    imports: &'a [Arc<Interface>],
+    depth: usize,
+) -> Result<Answer<'a>, AllocError>
+    ensures { IfOk result (IsAnswer program.now (prelude.now ∷ map arc_value imports.now)) }
+{
+    let interfaces = interfaces_of(alloc, prelude, imports)?;
+    match phase_answer(import_faults(alloc, program, &interfaces)?)? {
+        Some(found) => return Ok(Answer::Faulty(found)),
+        None => {}
+    }
+    let scope = scope_of(alloc, program, prelude, imports)?;
+    let scoped = ScopedModule {
+        program,
+        interfaces: &interfaces,
+        scope: &scope,
+    };
+    Ok(behind_imports(alloc, &scoped, depth)?)
 }
 
 /// The interfaces for which a core was made, shared.
@@ -173,28 +252,73 @@ fn shared(
     Ok(Row { items })
 }
 
+/// What a module exports, by namespaces.
+#[derive(Drop)]
+pub(crate) struct ExportedRows {
+    pub(crate) types: Row<Exported>,
+    pub(crate) constructors: Row<Exported>,
+    pub(crate) values: Row<Exported>,
+}
+
+/// The exports of these bindings.
+fn exported_rows(alloc: Global, given: &[Binding<'_>]) -> Result<ExportedRows, AllocError>
+    requires { HaveOneEntity given.now }
+    ensures { IfOk result (λ rows. AreExportedRows given.now (rows_in rows)) }
+{
+    let types = exported_in(alloc, given, Namespace::Types)?;
+    let constructors = exported_in(alloc, given, Namespace::Constructors)?;
+    let values = exported_in(alloc, given, Namespace::Values)?;
+    Ok(ExportedRows {
+        types,
+        constructors,
+        values,
+    })
+}
+
 /// The core of these declarations and exports.
 fn core_of(
-    alloc: Global,
     module: &Module,
     decls: Vec<Decl>,
-    given: &[Binding<'_>],
+    exports: ExportedRows,
     interfaces: Row<Arc<Interface>>,
 ) -> Result<Core, AllocError>
-    requires { HaveOneEntity given.now }
     ensures name { IfOk result (λ core. core.name ≡ «module».now.header.name.text) }
     ensures decls { IfOk result (λ core. core.decls ≡ decls.items) }
     ensures interfaces { IfOk result (λ core. core.interfaces ≡ map arc_value interfaces) }
-    ensures exports { IfOk result (AreExportedRows given.now) }
+    ensures types { IfOk result (λ core. core.exported_types ≡ exports.types) }
+    ensures constructors { IfOk result (λ core. core.exported_constructors ≡ exports.constructors) }
+    ensures values { IfOk result (λ core. core.exported_values ≡ exports.values) }
 {
+    let name = Text::new(module.header.name.text.clone()?);
     Ok(Core {
-        name: Text::new(module.header.name.text.clone()?),
+        name,
         decls: Row { items: decls },
         interfaces,
-        exported_types: exported_in(alloc, given, Namespace::Types)?,
-        exported_constructors: exported_in(alloc, given, Namespace::Constructors)?,
-        exported_values: exported_in(alloc, given, Namespace::Values)?,
+        exported_types: exports.types,
+        exported_constructors: exports.constructors,
+        exported_values: exports.values,
     })
+}
+
+/// What is told for an answer of the phases: the core of what is resolved, or the faults.
+fn outcome_of(
+    alloc: Global,
+    module: &Module,
+    prelude: &Arc<Interface>,
+    imports: &[Arc<Interface>],
+    answer: Answer<'_>,
+) -> Result<Result<Core, Row<Fault>>, AllocError>
+    requires { IsAnswer «module».now (arc_value prelude.now ∷ map arc_value imports.now) answer }
+    ensures { IfOk result (IsOutcome «module».now (arc_value prelude.now ∷ map arc_value imports.now)) }
+{
+    match answer {
+        Answer::Faulty(found) => Ok(Err(found)),
+        Answer::Resolved(decls, given) => {
+            let exports = exported_rows(alloc, &given)?;
+            let interfaces = shared(alloc, prelude, imports)?;
+            Ok(Ok(core_of(module, decls, exports, interfaces)?))
+        }
+    }
 }
 
 /// The core of a module, or its faults, where there is memory.
@@ -207,19 +331,8 @@ fn core_or_faults(
     ensures { IfOk result (IsOutcome «module».now (prelude_interface ∷ map arc_value imports.now)) }
 {
     let prelude = Arc::new(alloc, prelude(alloc)?)?;
-    let interfaces = interfaces_of(alloc, &prelude, imports)?;
-    match phase_answer(import_faults(alloc, module, &interfaces)?)? {
-        Some(found) => return Ok(Err(found)),
-        None => {}
-    }
-    let scope = scope_of(alloc, module, &prelude, imports)?;
-    match behind_imports(alloc, module, &interfaces, &scope, depth)? {
-        Answer::Faulty(found) => Ok(Err(found)),
-        Answer::Resolved(decls, given) => {
-            let shared = shared(alloc, &prelude, imports)?;
-            Ok(Ok(core_of(alloc, module, decls, &given, shared)?))
-        }
-    }
+    let answer = phases_answer(alloc, module, &prelude, imports, depth)?;
+    Ok(outcome_of(alloc, module, &prelude, imports, answer)?)
 }
 
 /// The core of a module for the interfaces of its imports but Prelude, each once, in order of first import; or all faults of the first phase

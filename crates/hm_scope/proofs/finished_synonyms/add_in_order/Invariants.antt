@@ -10,6 +10,6 @@ abbrev pub invariant-order : goal.invariant-order
 invariant-order l = record {
   types : l.tables.types ≡ l.initial.tables.types;
   constructors : l.tables.constructors ≡ l.initial.tables.constructors;
-  finished : (m : Module) (fs : List Interface) (r : Resolver) → IsScopeOf m fs l.scope → l.home ≡ m.header.name.text → IsExpandable m fs r l.declared l.order l.initial.tables.synonyms
-      → Finishes r l.home l.declared (take l.number-index l.order) l.initial.tables.synonyms l.tables.synonyms;
+  finished : (m : Module) (fs : List Interface) (r : Resolver) → IsScopeOf m fs l.unfinished.scope.now → l.unfinished.home.now ≡ m.header.name.text → IsExpandable m fs r l.unfinished.declared.now l.order l.initial.tables.synonyms
+      → Finishes r l.unfinished.home.now l.unfinished.declared.now (take l.number-index l.order) l.initial.tables.synonyms l.tables.synonyms;
 }

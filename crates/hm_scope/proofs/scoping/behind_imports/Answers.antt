@@ -7,8 +7,8 @@ use Rattle.hm_scope.proofs.scoping.behind_imports.Goals as goal
 
 pub returns : goal.returns
 returns c = λ i.
-    let m = c.args.module.now in
-    let fs = map (λ (f : Bor Interface). f.now) c.args.interfaces.now in
+    let m = c.args.scoped.now.program.now in
+    let fs = map (λ (f : Bor Interface). f.now) c.args.scoped.now.interfaces.now in
     let trees = c.in_ok-decls.ensures in
     let found = c.in_ok-found.ensures m fs trees.lists c.in_ok-given.ensures.exact trees.names trees.numbers i in
     resolved_module m fs c.in_ok-decls.field-0 c.in_ok-given.field-0 trees c.in_ok-given.ensures (subst (λ (o : Option (List Fault)). AreFirstFaults m fs o) c.in-None.is found)

@@ -3,6 +3,6 @@ use Rattle.hm_scope.proofs.scoping.walked_with.Goals as goal
 
 pub returns : goal.returns
 returns c = λ fs scope tables synonyms edges.
-    are_walked c.args.module.now fs c.args.scope.now c.args.tables.now c.add_synonyms.new.tables _ _ scope tables
+    are_walked c.args.program.now fs c.args.scope.now c.args.tables.now c.add_synonyms.new.tables _ _ scope tables
     c.in_ok-add_synonyms.ensures.types c.in_ok-add_synonyms.ensures.constructors (λ w. c.in_ok-add_synonyms.ensures.synonyms fs scope tables synonyms edges w)
     c.in_ok-walk.ensures.faults c.in_ok-walk.ensures.trees
