@@ -96,22 +96,28 @@ fn own_synonym(scope: &Scope<'_>, home: &str, names: &TextSet<'_>, name: &Name) 
     }
 }
 
+/// The names of a module's synonyms, and the scope in which type constructors are looked up.
+#[derive(Clone, Copy)]
+struct ScopedNames<'r, 'a> {
+    scope: &'r Scope<'a>,
+    home: &'r str,
+    names: &'r TextSet<'a>,
+}
+
 /// Adds the edge from a synonym to the one that a type constructor is, if it is one of the module.
 fn add_reference(
     graph: &mut SynonymGraph,
-    scope: &Scope<'_>,
-    home: &str,
-    names: &TextSet<'_>,
+    scoped: &ScopedNames<'_, '_>,
     from: usize,
     name: &Name,
 ) -> Result<(), AllocError>
-    requires nodes { length graph.old ≡ length names.now }
-    requires from { from < length names.now }
+    requires nodes { length graph.old ≡ length scoped.now.names.now }
+    requires from { from < length scoped.now.names.now }
     ensures nodes { OnOk result (length graph.new ≡ length graph.old) }
-    ensures edges { OnOk result ((m : Module) (fs : List Interface) → IsScopeOf m fs scope.now → home.now ≡ m.header.name.text → IsOnce names.now →
-        AddsReferences names.now graph.old graph.new (λ i y. (i ≡ from) × Means m fs Types name.now (own m y))) }
+    ensures edges { OnOk result ((m : Module) (fs : List Interface) → IsScopeOf m fs scoped.now.scope.now → scoped.now.home.now ≡ m.header.name.text → IsOnce scoped.now.names.now →
+        AddsReferences scoped.now.names.now graph.old graph.new (λ i y. (i ≡ from) × Means m fs Types name.now (own m y))) }
 {
-    match own_synonym(scope, home, names, name) {
+    match own_synonym(scoped.scope, scoped.home, scoped.names, name) {
         None => Ok(()),
         Some(to) => {
             graph.add(from, to)?;
@@ -123,20 +129,18 @@ fn add_reference(
 /// Adds the edges from a synonym to those among these type constructors.
 fn add_references(
     graph: &mut SynonymGraph,
-    scope: &Scope<'_>,
-    home: &str,
-    names: &TextSet<'_>,
+    scoped: &ScopedNames<'_, '_>,
     from: usize,
     used: &[&Name],
 ) -> Result<(), AllocError>
-    requires nodes { length graph.old ≡ length names.now }
-    requires from { from < length names.now }
+    requires nodes { length graph.old ≡ length scoped.now.names.now }
+    requires from { from < length scoped.now.names.now }
     ensures nodes { OnOk result (length graph.new ≡ length graph.old) }
-    ensures edges { OnOk result ((m : Module) (fs : List Interface) → IsScopeOf m fs scope.now → home.now ≡ m.header.name.text → IsOnce names.now →
-        AddsReferences names.now graph.old graph.new (λ i y. (i ≡ from) × NamesOwn m fs (map (λ n. n.now) used.now) y)) }
+    ensures edges { OnOk result ((m : Module) (fs : List Interface) → IsScopeOf m fs scoped.now.scope.now → scoped.now.home.now ≡ m.header.name.text → IsOnce scoped.now.names.now →
+        AddsReferences scoped.now.names.now graph.old graph.new (λ i y. (i ≡ from) × NamesOwn m fs (map (λ n. n.now) used.now) y)) }
 {
     'used: for name in used {
-        add_reference(graph, scope, home, names, from, name)?;
+        add_reference(graph, scoped, from, name)?;
     }
     Ok(())
 }
@@ -145,24 +149,22 @@ fn add_references(
 fn add_declaration(
     alloc: Global,
     graph: &mut SynonymGraph,
-    scope: &Scope<'_>,
-    home: &str,
-    names: &TextSet<'_>,
+    scoped: &ScopedNames<'_, '_>,
     decl: &Decl,
 ) -> Result<(), AllocError>
-    requires nodes { length graph.old ≡ length names.now }
+    requires nodes { length graph.old ≡ length scoped.now.names.now }
     ensures nodes { OnOk result (length graph.new ≡ length graph.old) }
-    ensures edges { OnOk result ((m : Module) (fs : List Interface) → IsScopeOf m fs scope.now → home.now ≡ m.header.name.text → IsOnce names.now →
-        AddsReferences names.now graph.old graph.new (λ i y. RefersIn m fs (decl.now ∷ []) (slice_index_or names.now i []) y)) }
+    ensures edges { OnOk result ((m : Module) (fs : List Interface) → IsScopeOf m fs scoped.now.scope.now → scoped.now.home.now ≡ m.header.name.text → IsOnce scoped.now.names.now →
+        AddsReferences scoped.now.names.now graph.old graph.new (λ i y. RefersIn m fs (decl.now ∷ []) (slice_index_or scoped.now.names.now i []) y)) }
 {
     match &decl.kind {
         DeclKind::Synonym { name, ty, .. } => {
-            match names.place_of(name.as_str()) {
+            match scoped.names.place_of(name.as_str()) {
                 None => Ok(()),
                 Some(from) => {
                     let mut used = LentNames::new(alloc);
                     add_type(&mut used, ty)?;
-                    Ok(add_references(graph, scope, home, names, from, used.as_slice())?)
+                    Ok(add_references(graph, scoped, from, used.as_slice())?)
                 }
             }
         }
@@ -185,9 +187,13 @@ pub fn reference_graph(
     ensures edges { IfOk result (λ graph. (fs : List Interface) → IsScopeOf program.now fs scope.now → AreSynonyms program.now.decls names.now → IsReferenceGraph program.now fs names.now graph) }
 {
     let mut graph = SynonymGraph::new(alloc, names.len())?;
-    let home = program.header.name.as_str();
+    let scoped = ScopedNames {
+        scope,
+        home: program.header.name.as_str(),
+        names,
+    };
     'decls: for decl in program.decls.as_slice() {
-        add_declaration(alloc, &mut graph, scope, home, names, decl)?;
+        add_declaration(alloc, &mut graph, &scoped, decl)?;
     }
     Ok(graph)
 }

@@ -8,6 +8,6 @@ use Rattle.hm_synonyms.proofs.declared_synonyms.add_references.Given as goal
 abbrev pub invariant-used : goal.invariant-used
 invariant-used l = record {
   nodes : length l.graph ≡ length l.initial.graph;
-  edges : (m : Module) (fs : List Interface) → IsScopeOf m fs l.scope → l.home ≡ m.header.name.text → IsOnce l.names →
-      AddsReferences l.names l.initial.graph l.graph (λ i y. (i ≡ l.from) × NamesOwn m fs (map (λ n. n.now) (take l.name-index l.used)) y);
+  edges : (m : Module) (fs : List Interface) → IsScopeOf m fs l.scoped.scope.now → l.scoped.home.now ≡ m.header.name.text → IsOnce l.scoped.names.now →
+      AddsReferences l.scoped.names.now l.initial.graph l.graph (λ i y. (i ≡ l.from) × NamesOwn m fs (map (λ n. n.now) (take l.name-index l.used)) y);
 }

@@ -11,7 +11,7 @@ decls-preserved c =
     record {
       nodes = c.in_ok-add_declaration.ensures.nodes ∙ c.decls.invariant.nodes;
       edges = λ fs scope once. declarations_more c.args.program.now fs c.args.names.now c.in_ok-graph.graph c.decls.graph c.add_declaration.new.graph c.args.program.now.decls c.decls.decl-index c.decl-item.result
-          (rw is at c.decls-test.true) (rw is at c.decl-item.is) (c.decls.invariant.edges fs scope once) (c.in_ok-add_declaration.ensures.edges c.args.program.now fs scope c.as_str-home.ensures once);
+          (rw is at c.decls-test.true) (rw is at c.decl-item.is) (c.decls.invariant.edges fs scope once) (c.in_ok-add_declaration.ensures.edges c.args.program.now fs scope c.as_str.ensures once);
     }
 
 pub returns-clause-edges : goal.returns-clause-edges

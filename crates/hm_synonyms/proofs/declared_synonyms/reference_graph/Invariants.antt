@@ -8,6 +8,6 @@ use Rattle.hm_synonyms.proofs.declared_synonyms.reference_graph.Given as goal
 abbrev pub invariant-decls : goal.invariant-decls
 invariant-decls l = record {
   nodes : length l.graph ≡ length l.initial.graph;
-  edges : (fs : List Interface) → IsScopeOf l.program fs l.scope → IsOnce l.names →
-      AddsReferences l.names l.initial.graph l.graph (λ i y. RefersIn l.program fs (take l.decl-index l.program.decls) (slice_index_or l.names i []) y);
+  edges : (fs : List Interface) → IsScopeOf l.program fs l.scoped.scope.now → IsOnce l.scoped.names.now →
+      AddsReferences l.scoped.names.now l.initial.graph l.graph (λ i y. RefersIn l.program fs (take l.decl-index l.program.decls) (slice_index_or l.scoped.names.now i []) y);
 }
