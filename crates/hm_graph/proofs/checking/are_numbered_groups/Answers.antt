@@ -9,14 +9,14 @@ use Rattle.hm_graph.proofs.checking.are_numbered_groups.Goals as goal
 pub returns : goal.returns
 returns c = λ first_is.
     let n_is : length (lists c.args.rows.now) ≡ length c.args.rows.now = length-map c.args.rows.now (λ r. r.items) in
-    let members : AreMembers (lists c.args.groups.now) c.args.numbers.now = search rules in
-    let up : AllAscending (lists c.args.groups.now) = search rules in
-    let down : NoEdgeAhead (lists c.args.rows.now) c.args.numbers.now = search rules in
-    let near : (x : ℕ) → x < length c.args.rows.now → IsReachedWithin (lists c.args.rows.now) c.args.numbers.now c.args.leasts.now x = search rules in
-    let near_back : (x : ℕ) → x < length c.args.back.now → IsReachedWithin (lists c.args.back.now) c.args.numbers.now c.args.leasts.now x = search rules in
-    let earliest : AreEarliestPlaces (lists c.args.rows.now) c.args.numbers.now c.in_ok-earliest.earliest.items (length c.args.leasts.now) = search rules in
-    let first : IsLeastFirst c.args.leasts.now c.in_ok-earliest.earliest.items = search rules in
-    checked_groups (lists c.args.rows.now) (lists c.args.groups.now) c.args.numbers.now c.args.leasts.now c.in_ok-earliest.earliest.items
+    let members : AreMembers (lists c.args.list.now.groups.now) c.args.list.now.numbers.now = search rules in
+    let up : AllAscending (lists c.args.list.now.groups.now) = search rules in
+    let down : NoEdgeAhead (lists c.args.rows.now) c.args.list.now.numbers.now = search rules in
+    let near : (x : ℕ) → x < length c.args.rows.now → IsReachedWithin (lists c.args.rows.now) c.args.list.now.numbers.now c.args.list.now.leasts.now x = search rules in
+    let near_back : (x : ℕ) → x < length c.args.back.now → IsReachedWithin (lists c.args.back.now) c.args.list.now.numbers.now c.args.list.now.leasts.now x = search rules in
+    let earliest : AreEarliestPlaces (lists c.args.rows.now) c.args.list.now.numbers.now c.in_ok-earliest.earliest.items (length c.args.list.now.leasts.now) = search rules in
+    let first : IsLeastFirst c.args.list.now.leasts.now c.in_ok-earliest.earliest.items = search rules in
+    checked_groups (lists c.args.rows.now) (lists c.args.list.now.groups.now) c.args.list.now.numbers.now c.args.list.now.leasts.now c.in_ok-earliest.earliest.items
     (record {
       closed = c.requires.closed;
       covered = rw n_is c.requires.covered;
