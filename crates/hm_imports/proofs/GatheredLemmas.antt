@@ -1,5 +1,5 @@
 -- What is gathered of import lists is what they list.
-use Rattle.std.proofs.Common.{◌≡◌, ℕ, Bool, true, false, List, [], ◌∷◌, ◌⊎◌, inl, inr, ⊎_elim, refl, sym, ap, ◌∙◌, subst, Contains, map}
+use Rattle.std.proofs.Common.{◌≡◌, ℕ, List, [], ◌∷◌, ◌⊎◌, inl, inr, ⊎_elim, refl, sym, ap, ◌∙◌, subst, Contains, map}
 use Rattle.hm_types.specs.declared.Entity.{Entity}
 use Rattle.hm_types.specs.declared.entries.TypeEntry.{TypeEntry}
 use Rattle.hm_types.specs.declared.entries.ConstructorEntry.{ConstructorEntry}
@@ -13,6 +13,8 @@ use Rattle.hm_names.specs.declared.namespace.Namespace.{Namespace}
 use Rattle.hm_names.specs.declared.namespace.Namespace.TheVariants.{Types, Constructors, Values}
 use Rattle.hm_names.specs.Bindings.{Adds}
 use Rattle.hm_names.specs.Entities.{Belongs}
+use Rattle.hm_imports.specs.declared.selections.ListUse.{ListUse}
+use Rattle.hm_imports.specs.declared.selections.ListUse.TheVariants as list_use
 use Rattle.hm_imports.specs.Gathered as gathered
 use Rattle.hm_imports.specs.Gathered.{bare, type_name, IsOwned, IsBehind, IsNamedBy, IsOpenedBy}
 use Rattle.hm_tables.specs.NameSets.{FullName}
@@ -30,39 +32,39 @@ not_owned f owner x k o c n apart (j, (d, (m, e))) = apart (ap (λ (y : Construc
 pub none_owned : (f : Interface) (owner : Entity) (x : List ℕ) → ((k : ConstructorEntry) → Contains f.constructors k → ¬ (k.name ≡ x)) → ¬ IsOwned f owner x
 none_owned f owner x none (k, (c, (n, e))) = none k c n
 
-module _ (hiding : Bool) (f : Interface) (v : Identifier) where
-  pub behind_alone : (old new : List FullName) → hiding ≡ true → Adds old new (λ n. n ≡ bare Constructors v.text) → Adds old new (λ n. IsBehind hiding f v n subs.None)
-  behind_alone old new h a = adds_like old new (λ n. n ≡ bare Constructors v.text) (λ n. IsBehind hiding f v n subs.None) (λ n e. gathered.alone h e) (λ n b. back n b) a
+module _ (u : ListUse) (f : Interface) (v : Identifier) where
+  pub behind_alone : (old new : List FullName) → u ≡ list_use.Hides → Adds old new (λ n. n ≡ bare Constructors v.text) → Adds old new (λ n. IsBehind u f v n subs.None)
+  behind_alone old new h a = adds_like old new (λ n. n ≡ bare Constructors v.text) (λ n. IsBehind u f v n subs.None) (λ n e. gathered.alone h e) (λ n b. back n b) a
     where
-      back : (n : FullName) → IsBehind hiding f v n subs.None → n ≡ bare Constructors v.text
+      back : (n : FullName) → IsBehind u f v n subs.None → n ≡ bare Constructors v.text
       back n (gathered.alone g e) = e
 
-  pub behind_none : (old : List FullName) (cs : List Identifier) → ((r : TypeEntry) → Contains f.types r → ¬ (r.name ≡ v.text)) → Adds old old (λ n. IsBehind hiding f v n (subs.Some cs))
-  behind_none old cs no_type = adds_none old (λ n. IsBehind hiding f v n (subs.Some cs)) none
+  pub behind_none : (old : List FullName) (cs : List Identifier) → ((r : TypeEntry) → Contains f.types r → ¬ (r.name ≡ v.text)) → Adds old old (λ n. IsBehind u f v n (subs.Some cs))
+  behind_none old cs no_type = adds_none old (λ n. IsBehind u f v n (subs.Some cs)) none
     where
-      none : (n : FullName) → IsBehind hiding f v n (subs.Some cs) → ⊥
+      none : (n : FullName) → IsBehind u f v n (subs.Some cs) → ⊥
       none n (gathered.a_part {r = r} c e k w i) = no_type r c e
 
   pub behind_parts : (old new : List FullName) (cs : List Identifier) (r : TypeEntry) → AreOrdered (map (λ (y : TypeEntry). y.name) f.types) → Contains f.types r → r.name ≡ v.text
-      → Adds old new (λ n. (c : Identifier) × (Contains cs c × (IsOwned f r.entity c.text × (n ≡ bare Constructors c.text)))) → Adds old new (λ n. IsBehind hiding f v n (subs.Some cs))
-  behind_parts old new cs r o k e a = adds_like old new (λ n. (c : Identifier) × (Contains cs c × (IsOwned f r.entity c.text × (n ≡ bare Constructors c.text)))) (λ n. IsBehind hiding f v n (subs.Some cs))
+      → Adds old new (λ n. (c : Identifier) × (Contains cs c × (IsOwned f r.entity c.text × (n ≡ bare Constructors c.text)))) → Adds old new (λ n. IsBehind u f v n (subs.Some cs))
+  behind_parts old new cs r o k e a = adds_like old new (λ n. (c : Identifier) × (Contains cs c × (IsOwned f r.entity c.text × (n ≡ bare Constructors c.text)))) (λ n. IsBehind u f v n (subs.Some cs))
       (λ n (c, (d, (w, i))). gathered.a_part k e d w i) (λ n b. back n b) a
     where
-      back : (n : FullName) → IsBehind hiding f v n (subs.Some cs) → (c : Identifier) × (Contains cs c × (IsOwned f r.entity c.text × (n ≡ bare Constructors c.text)))
+      back : (n : FullName) → IsBehind u f v n (subs.Some cs) → (c : Identifier) × (Contains cs c × (IsOwned f r.entity c.text × (n ≡ bare Constructors c.text)))
       back n (gathered.a_part {c = c} {r = s} j m d w i) = (c, (d, (subst (λ (y : TypeEntry). IsOwned f y.entity c.text) (one_by_name (λ (y : TypeEntry). y.name) f.types s r o j k (m ∙ sym e)) w, i)))
 
-module _ (hiding : Bool) (f : Interface) where
-  pub named_value : (old new : List FullName) (v : Identifier) → Adds old new (λ n. n ≡ bare Values v.text) → Adds old new (λ n. IsNamedBy hiding f n (item.Var v))
-  named_value old new v a = adds_like old new (λ n. n ≡ bare Values v.text) (λ n. IsNamedBy hiding f n (item.Var v)) (λ n e. gathered.a_value e) (λ n b. back n b) a
+module _ (u : ListUse) (f : Interface) where
+  pub named_value : (old new : List FullName) (v : Identifier) → Adds old new (λ n. n ≡ bare Values v.text) → Adds old new (λ n. IsNamedBy u f n (item.Var v))
+  named_value old new v a = adds_like old new (λ n. n ≡ bare Values v.text) (λ n. IsNamedBy u f n (item.Var v)) (λ n e. gathered.a_value e) (λ n b. back n b) a
     where
-      back : (n : FullName) → IsNamedBy hiding f n (item.Var v) → n ≡ bare Values v.text
+      back : (n : FullName) → IsNamedBy u f n (item.Var v) → n ≡ bare Values v.text
       back n (gathered.a_value e) = e
 
-  pub named_type : (old mid new : List FullName) (v : Identifier) (s : Subs) → Adds old mid (λ n. n ≡ bare Types v.text) → Adds mid new (λ n. IsBehind hiding f v n s) → Adds old new (λ n. IsNamedBy hiding f n (item.Con v s))
-  named_type old mid new v s a b = adds_like old new (λ n. (n ≡ bare Types v.text) ⊎ IsBehind hiding f v n s) (λ n. IsNamedBy hiding f n (item.Con v s))
-      (λ n h. ⊎_elim (λ e. gathered.a_type e) (λ k. gathered.behind k) h) (λ n h. back n h) (adds_then old mid new (λ n. n ≡ bare Types v.text) (λ n. IsBehind hiding f v n s) a b)
+  pub named_type : (old mid new : List FullName) (v : Identifier) (s : Subs) → Adds old mid (λ n. n ≡ bare Types v.text) → Adds mid new (λ n. IsBehind u f v n s) → Adds old new (λ n. IsNamedBy u f n (item.Con v s))
+  named_type old mid new v s a b = adds_like old new (λ n. (n ≡ bare Types v.text) ⊎ IsBehind u f v n s) (λ n. IsNamedBy u f n (item.Con v s))
+      (λ n h. ⊎_elim (λ e. gathered.a_type e) (λ k. gathered.behind k) h) (λ n h. back n h) (adds_then old mid new (λ n. n ≡ bare Types v.text) (λ n. IsBehind u f v n s) a b)
     where
-      back : (n : FullName) → IsNamedBy hiding f n (item.Con v s) → (n ≡ bare Types v.text) ⊎ IsBehind hiding f v n s
+      back : (n : FullName) → IsNamedBy u f n (item.Con v s) → (n ≡ bare Types v.text) ⊎ IsBehind u f v n s
       back n (gathered.a_type e) = inl e
       back n (gathered.behind k) = inr k
 
@@ -81,8 +83,8 @@ module _ (f : Interface) where
 
 -- all together
 module _ (f : Interface) (is : List Item) where
-  abbrev pub NamedByList : Bool → FullName → Type 0
-  NamedByList hiding n = (j : Item) × (Contains is j × IsNamedBy hiding f n j)
+  abbrev pub NamedByList : ListUse → FullName → Type 0
+  NamedByList u n = (j : Item) × (Contains is j × IsNamedBy u f n j)
 
   abbrev pub OpenedByList : FullName → Type 0
   OpenedByList n = (j : Item) × (Contains is j × IsOpenedBy f n j)
@@ -96,60 +98,60 @@ module _ (f : Interface) (is : List Item) where
   part_lists : (t : List ℕ) (c : List ℕ) (r : TypeEntry) → Contains f.types r → r.name ≡ t → IsOwned f r.entity c → Belongs f t c
   part_lists t c r k e (j, (d, (n, o))) = record { type = r; constructor = j; exports_type = k; exports_constructor = d; type_name = e; constructor_name = n; owner = o }
 
-  lists_there : (s : Namespace) (x : List ℕ) (j : Item) → IsNamedBy false f (bare s x) j → Lists f x j s
+  lists_there : (s : Namespace) (x : List ℕ) (j : Item) → IsNamedBy list_use.Selects f (bare s x) j → Lists f x j s
   lists_there s x (item.Var v) (gathered.a_value e) = subst (λ t. Lists f x (item.Var v) t) (sym (ap (λ (n : FullName). n.space) e)) (listing.a_value (sym (ap (λ (n : FullName). n.text) e)))
   lists_there s x (item.Con v u) (gathered.a_type e) = subst (λ t. Lists f x (item.Con v u) t) (sym (ap (λ (n : FullName). n.space) e)) (listing.a_type (sym (ap (λ (n : FullName). n.text) e)))
   lists_there s x (item.Con v subs.All) (gathered.behind b) = elim b [ ]
-  lists_there s x (item.Con v subs.None) (gathered.behind (gathered.alone h e)) = let c : false ≡ true = h in cc
+  lists_there s x (item.Con v subs.None) (gathered.behind (gathered.alone h e)) = let c : list_use.Selects ≡ list_use.Hides = h in cc
   lists_there s x (item.Con v (subs.Some cs)) (gathered.behind (gathered.a_part {c = c} {r = r} k e d w i)) = subst (λ t. Lists f x (item.Con v (subs.Some cs)) t) (sym (ap (λ (n : FullName). n.space) i))
       (listing.a_constructor d (sym (ap (λ (n : FullName). n.text) i)) (subst (λ t. Belongs f v.text t) (sym (ap (λ (n : FullName). n.text) i)) (part_lists v.text c.text r k e w)))
 
-  hides_there : (s : Namespace) (x : List ℕ) (j : Item) → IsNamedBy true f (bare s x) j → Hides f x j s
+  hides_there : (s : Namespace) (x : List ℕ) (j : Item) → IsNamedBy list_use.Hides f (bare s x) j → Hides f x j s
   hides_there s x (item.Var v) (gathered.a_value e) = listing.listed (lists_there s x (item.Var v) (gathered.a_value e))
   hides_there s x (item.Con v u) (gathered.a_type e) = listing.listed (lists_there s x (item.Con v u) (gathered.a_type e))
   hides_there s x (item.Con v subs.All) (gathered.behind b) = elim b [ ]
   hides_there s x (item.Con v subs.None) (gathered.behind (gathered.alone h e)) = subst (λ t. Hides f x (item.Con v subs.None) t) (sym (ap (λ (n : FullName). n.space) e)) (listing.alone (sym (ap (λ (n : FullName). n.text) e)))
   hides_there s x (item.Con v (subs.Some cs)) (gathered.behind (gathered.a_part k e d w i)) = listing.listed (lists_there s x (item.Con v (subs.Some cs)) (gathered.behind (gathered.a_part k e d w i)))
 
-  there : (hiding : Bool) (s : Namespace) (x : List ℕ) (j : Item) → IsNamedBy hiding f (bare s x) j → ListsOrHides hiding f x j s
-  there true s x j h = hides_there s x j h
-  there false s x j h = lists_there s x j h
+  there : (u : ListUse) (s : Namespace) (x : List ℕ) (j : Item) → IsNamedBy u f (bare s x) j → ListsOrHides u f x j s
+  there list_use.Hides s x j h = hides_there s x j h
+  there list_use.Selects s x j h = lists_there s x j h
 
   opened_there : (x : List ℕ) (k : ConstructorEntry) (j : Item) → Contains f.constructors k → k.name ≡ x → IsOpenedBy f (type_name k.owner) j → Lists f x j Constructors
   opened_there x k j c n (gathered.opened {v} {r} d e i) = listing.each_constructor (part_lists v.text x r d e (k, (c, (n, same_entity k.owner r.entity i))))
 
-  or_hides : (hiding : Bool) (s : Namespace) (x : List ℕ) (j : Item) → Lists f x j s → ListsOrHides hiding f x j s
-  or_hides true s x j h = listing.listed h
-  or_hides false s x j h = h
+  or_hides : (u : ListUse) (s : Namespace) (x : List ℕ) (j : Item) → Lists f x j s → ListsOrHides u f x j s
+  or_hides list_use.Hides s x j h = listing.listed h
+  or_hides list_use.Selects s x j h = h
 
   -- what is listed is gathered
-  lists_back : (hiding : Bool) (s : Namespace) (x : List ℕ) (j : Item) → Lists f x j s → IsNamedBy hiding f (bare s x) j ⊎ ((k : ConstructorEntry) × (Contains f.constructors k × (IsOpenedBy f (type_name k.owner) j × (bare s x ≡ bare Constructors k.name))))
-  lists_back hiding s x j (listing.a_value e) = inl (gathered.a_value (ap (λ t. bare Values t) (sym e)))
-  lists_back hiding s x j (listing.a_type e) = inl (gathered.a_type (ap (λ t. bare Types t) (sym e)))
-  lists_back hiding s x j (listing.each_constructor b) = inr (b.constructor, (b.exports_constructor, (gathered.opened b.exports_type b.type_name (ap (λ (t : Entity). type_name t) b.owner), ap (λ t. bare Constructors t) (sym b.constructor_name))))
-  lists_back hiding s x j (listing.a_constructor {c = c} d e b) = inl (gathered.behind (gathered.a_part b.exports_type b.type_name d (b.constructor, (b.exports_constructor, (b.constructor_name ∙ sym e, b.owner))) (ap (λ t. bare Constructors t) (sym e))))
+  lists_back : (u : ListUse) (s : Namespace) (x : List ℕ) (j : Item) → Lists f x j s → IsNamedBy u f (bare s x) j ⊎ ((k : ConstructorEntry) × (Contains f.constructors k × (IsOpenedBy f (type_name k.owner) j × (bare s x ≡ bare Constructors k.name))))
+  lists_back u s x j (listing.a_value e) = inl (gathered.a_value (ap (λ t. bare Values t) (sym e)))
+  lists_back u s x j (listing.a_type e) = inl (gathered.a_type (ap (λ t. bare Types t) (sym e)))
+  lists_back u s x j (listing.each_constructor b) = inr (b.constructor, (b.exports_constructor, (gathered.opened b.exports_type b.type_name (ap (λ (t : Entity). type_name t) b.owner), ap (λ t. bare Constructors t) (sym b.constructor_name))))
+  lists_back u s x j (listing.a_constructor {c = c} d e b) = inl (gathered.behind (gathered.a_part b.exports_type b.type_name d (b.constructor, (b.exports_constructor, (b.constructor_name ∙ sym e, b.owner))) (ap (λ t. bare Constructors t) (sym e))))
 
-  hides_back : (s : Namespace) (x : List ℕ) (j : Item) → Hides f x j s → IsNamedBy true f (bare s x) j ⊎ ((k : ConstructorEntry) × (Contains f.constructors k × (IsOpenedBy f (type_name k.owner) j × (bare s x ≡ bare Constructors k.name))))
-  hides_back s x j (listing.listed h) = lists_back true s x j h
+  hides_back : (s : Namespace) (x : List ℕ) (j : Item) → Hides f x j s → IsNamedBy list_use.Hides f (bare s x) j ⊎ ((k : ConstructorEntry) × (Contains f.constructors k × (IsOpenedBy f (type_name k.owner) j × (bare s x ≡ bare Constructors k.name))))
+  hides_back s x j (listing.listed h) = lists_back list_use.Hides s x j h
   hides_back s x j (listing.alone e) = inl (gathered.behind (gathered.alone refl (ap (λ t. bare Constructors t) (sym e))))
 
-  back : (hiding : Bool) (s : Namespace) (x : List ℕ) (j : Item) → ListsOrHides hiding f x j s → IsNamedBy hiding f (bare s x) j ⊎ ((k : ConstructorEntry) × (Contains f.constructors k × (IsOpenedBy f (type_name k.owner) j × (bare s x ≡ bare Constructors k.name))))
-  back true s x j h = hides_back s x j h
-  back false s x j h = lists_back false s x j h
+  back : (u : ListUse) (s : Namespace) (x : List ℕ) (j : Item) → ListsOrHides u f x j s → IsNamedBy u f (bare s x) j ⊎ ((k : ConstructorEntry) × (Contains f.constructors k × (IsOpenedBy f (type_name k.owner) j × (bare s x ≡ bare Constructors k.name))))
+  back list_use.Hides s x j h = hides_back s x j h
+  back list_use.Selects s x j h = lists_back list_use.Selects s x j h
 
-  pub listed_is : (hiding : Bool) (opened names all : List FullName) → Adds [] names (NamedByList hiding) → Adds [] opened OpenedByList → Adds names all (OfOpened opened) → IsListed hiding f is all
-  listed_is hiding opened names all a b c s x = (forth, back_again)
+  pub listed_is : (u : ListUse) (opened names all : List FullName) → Adds [] names (NamedByList u) → Adds [] opened OpenedByList → Adds names all (OfOpened opened) → IsListed u f is all
+  listed_is u opened names all a b c s x = (forth, back_again)
     where
-      forth : Contains all (bare s x) → (j : Item) × (Contains is j × ListsOrHides hiding f x j s)
+      forth : Contains all (bare s x) → (j : Item) × (Contains is j × ListsOrHides u f x j s)
       forth h = ⊎_elim
-          (λ m. ⊎_elim (λ e. absurd (none_in (bare s x) e)) (λ (j, (k, w)). (j, (k, there hiding s x j w))) ((a (bare s x)).0 m))
+          (λ m. ⊎_elim (λ e. absurd (none_in (bare s x) e)) (λ (j, (k, w)). (j, (k, there u s x j w))) ((a (bare s x)).0 m))
           (λ (k, (d, (o, i))). ⊎_elim (λ e. absurd (none_in (type_name k.owner) e))
-          (λ (j, (l, w)). (j, (l, or_hides hiding s x j (subst (λ t. Lists f x j t) (sym (ap (λ (n : FullName). n.space) i)) (opened_there x k j d (sym (ap (λ (n : FullName). n.text) i)) w)))))
+          (λ (j, (l, w)). (j, (l, or_hides u s x j (subst (λ t. Lists f x j t) (sym (ap (λ (n : FullName). n.space) i)) (opened_there x k j d (sym (ap (λ (n : FullName). n.text) i)) w)))))
           ((b (type_name k.owner)).0 o))
           ((c (bare s x)).0 h)
 
-      back_again : (j : Item) × (Contains is j × ListsOrHides hiding f x j s) → Contains all (bare s x)
+      back_again : (j : Item) × (Contains is j × ListsOrHides u f x j s) → Contains all (bare s x)
       back_again (j, (k, h)) = ⊎_elim
           (λ w. (c (bare s x)).1 (inl ((a (bare s x)).1 (inr (j, (k, w))))))
           (λ (q, (d, (w, i))). (c (bare s x)).1 (inr (q, (d, ((b (type_name q.owner)).1 (inr (j, (k, w))), i)))))
-          (back hiding s x j h)
+          (back u s x j h)

@@ -1,5 +1,5 @@
 -- The pairs that imports bring in.
-use Rattle.std.proofs.Common.{◌≡◌, ℕ, Bool, true, false, List, [], Option, Some, None, ◌⊎◌, inl, inr, ⊎_elim, refl, sym, ap, ◌∙◌, subst, Contains, Bor, map}
+use Rattle.std.proofs.Common.{◌≡◌, ℕ, Bool, false, List, [], Option, Some, None, ◌⊎◌, inl, inr, ⊎_elim, refl, sym, ap, ◌∙◌, subst, Contains, Bor, map}
 use Rattle.hm_types.specs.declared.Entity.{Entity}
 use Rattle.hm_types.specs.declared.entries.TypeEntry.{TypeEntry}
 use Rattle.hm_types.specs.declared.entries.SynonymEntry.{SynonymEntry}
@@ -17,6 +17,7 @@ use Rattle.hm_imports.specs.declared.selections.Selection.{Selection}
 use Rattle.hm_names.specs.Bindings.{Pair, Adds, IsPairOf, IsBroughtPair, IsOwnPair, IsScopeOf}
 use Rattle.hm_names.specs.Entities.{Exports, a_type, a_synonym, a_constructor, a_value, own}
 use Rattle.hm_names.specs.Scope.{Lists, Hides, Brings, every, only, hiding, Imports, written, added, InScope, declared, imported, known_as, import_prelude, prelude_name}
+use Rattle.hm_imports.specs.declared.selections.ListUse.TheVariants as list_use
 use Rattle.hm_imports.specs.Selections.{Selects, IsSelected, IsSelectionOf, IsSelectedPair, IsBroughtFrom, IsImportedPair, IsListed}
 use Rattle.hm_imports.specs.declared.selections.Selection.TheVariants as choose
 use Rattle.hm_tables.specs.NameSets.{FullName}
@@ -85,13 +86,13 @@ brought_adds old new f i σ sel a = adds_like old new (IsSelectedPair f σ i.qua
 pub every_selected : (f : Interface) → IsSelectionOf f list.Every Rattle.hm_imports.specs.declared.selections.Selection.TheVariants.Every
 every_selected f s x = (λ _. select.every, λ _. tt)
 
-pub only_selected : (f : Interface) (is : List Item) (names : List FullName) → IsListed false f is names → IsSelectionOf f (list.Only is) (choose.Only names)
+pub only_selected : (f : Interface) (is : List Item) (names : List FullName) → IsListed list_use.Selects f is names → IsSelectionOf f (list.Only is) (choose.Only names)
 only_selected f is names h s x = (λ c. let r = (h s x).0 c in select.only r.1.0 r.1.1, λ sel. (h s x).1 (back sel))
   where
     back : IsSelected f s x (list.Only is) → (j : Item) × (Contains is j × Lists f x j s)
     back (select.only {j = j} c n) = (j, (c, n))
 
-pub hiding_selected : (f : Interface) (is : List Item) (names : List FullName) → IsListed true f is names → IsSelectionOf f (list.Hiding is) (choose.Hiding names)
+pub hiding_selected : (f : Interface) (is : List Item) (names : List FullName) → IsListed list_use.Hides f is names → IsSelectionOf f (list.Hiding is) (choose.Hiding names)
 hiding_selected f is names h s x = (λ n. select.hiding (λ j c k. n ((h s x).1 (j, (c, k)))), λ sel c. let r = (h s x).0 c in back sel r.0 r.1.0 r.1.1)
   where
     back : IsSelected f s x (list.Hiding is) → (j : Item) → Contains is j → ¬ Hides f x j s

@@ -1,5 +1,5 @@
 -- What is gathered of the items of an import list. No public clause names these.
-use Rattle.std.specs.Prelude.{◌≡◌, ℕ, List, Bool, true, Contains, None, Some}
+use Rattle.std.specs.Prelude.{◌≡◌, ℕ, List, Contains, None, Some}
 use Rattle.hm_types.specs.declared.Entity.{Entity}
 use Rattle.hm_types.specs.declared.entries.TypeEntry.{TypeEntry}
 use Rattle.hm_types.specs.declared.entries.ConstructorEntry.{ConstructorEntry}
@@ -11,6 +11,8 @@ use Rattle.hm_syntax.specs.declared.ast.Subs.{Subs}
 use Rattle.hm_syntax.specs.declared.ast.Subs.TheVariants as subs
 use Rattle.hm_names.specs.declared.namespace.Namespace.{Namespace}
 use Rattle.hm_names.specs.declared.namespace.Namespace.TheVariants.{Types, Constructors, Values}
+use Rattle.hm_imports.specs.declared.selections.ListUse.{ListUse}
+use Rattle.hm_imports.specs.declared.selections.ListUse.TheVariants.{Hides}
 use Rattle.hm_tables.specs.NameSets.{FullName}
 
 abbrev pub bare : Namespace → List ℕ → FullName
@@ -25,15 +27,15 @@ abbrev pub IsOwned : Interface → Entity → List ℕ → Type 0
 IsOwned f owner x = (k : ConstructorEntry) × (Contains f.constructors k × ((k.name ≡ x) × (k.owner ≡ owner)))
 
 -- what stands behind the type v lists by name
-pub data IsBehind (hiding : Bool) (f : Interface) (v : Identifier) (n : FullName) : Subs → Type 0 where
-  alone : hiding ≡ true → n ≡ bare Constructors v.text → IsBehind hiding f v n subs.None
-  a_part : {c : Identifier} {cs : List Identifier} {r : TypeEntry} → Contains f.types r → r.name ≡ v.text → Contains cs c → IsOwned f r.entity c.text → n ≡ bare Constructors c.text → IsBehind hiding f v n (subs.Some cs)
+pub data IsBehind (list_use : ListUse) (f : Interface) (v : Identifier) (n : FullName) : Subs → Type 0 where
+  alone : list_use ≡ Hides → n ≡ bare Constructors v.text → IsBehind list_use f v n subs.None
+  a_part : {c : Identifier} {cs : List Identifier} {r : TypeEntry} → Contains f.types r → r.name ≡ v.text → Contains cs c → IsOwned f r.entity c.text → n ≡ bare Constructors c.text → IsBehind list_use f v n (subs.Some cs)
 
 -- the item lists n by name
-pub data IsNamedBy (hiding : Bool) (f : Interface) (n : FullName) : Item → Type 0 where
-  a_value : {v : Identifier} → n ≡ bare Values v.text → IsNamedBy hiding f n (item.Var v)
-  a_type : {v : Identifier} {s : Subs} → n ≡ bare Types v.text → IsNamedBy hiding f n (item.Con v s)
-  behind : {v : Identifier} {s : Subs} → IsBehind hiding f v n s → IsNamedBy hiding f n (item.Con v s)
+pub data IsNamedBy (list_use : ListUse) (f : Interface) (n : FullName) : Item → Type 0 where
+  a_value : {v : Identifier} → n ≡ bare Values v.text → IsNamedBy list_use f n (item.Var v)
+  a_type : {v : Identifier} {s : Subs} → n ≡ bare Types v.text → IsNamedBy list_use f n (item.Con v s)
+  behind : {v : Identifier} {s : Subs} → IsBehind list_use f v n s → IsNamedBy list_use f n (item.Con v s)
 
 -- the item lists the type n with all its constructors
 pub data IsOpenedBy (f : Interface) (n : FullName) : Item → Type 0 where

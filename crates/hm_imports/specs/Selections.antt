@@ -1,5 +1,5 @@
 -- Which of the exported names an import selects. No public clause names these.
-use Rattle.std.specs.Prelude.{◌≡◌, ℕ, List, Bool, true, false, Contains, ◌↔◌}
+use Rattle.std.specs.Prelude.{◌≡◌, ℕ, List, Bool, Contains, ◌↔◌}
 use Rattle.hm_types.specs.Interfaces.{Exports as Interface}
 use Rattle.hm_syntax.specs.declared.ast.Import.{Import}
 use Rattle.hm_syntax.specs.declared.ast.Item.{Item}
@@ -7,6 +7,8 @@ use Rattle.hm_syntax.specs.declared.ast.List.{List as ImportList}
 use Rattle.hm_syntax.specs.declared.ast.List.TheVariants as list
 use Rattle.hm_syntax.specs.declared.ast.Module.{Module}
 use Rattle.hm_names.specs.declared.namespace.Namespace.{Namespace}
+use Rattle.hm_imports.specs.declared.selections.ListUse.{ListUse}
+use Rattle.hm_imports.specs.declared.selections.ListUse.TheVariants as list_use
 use Rattle.hm_imports.specs.declared.selections.Selection.{Selection}
 use Rattle.hm_imports.specs.declared.selections.Selection.TheVariants.{Every, Only, Hiding}
 use Rattle.hm_names.specs.Bindings.{Pair, IsPairOf, IsBroughtPair}
@@ -16,13 +18,13 @@ use Rattle.hm_tables.specs.NameSets.{FullName}
 use Rattle.hm_names.specs.Scope.{Lists, Hides, Imports}
 
 -- the item names x, or hides it
-abbrev pub ListsOrHides : Bool → Interface → List ℕ → Item → Namespace → Type 0
-ListsOrHides true f x j s = Hides f x j s
-ListsOrHides false f x j s = Lists f x j s
+abbrev pub ListsOrHides : ListUse → Interface → List ℕ → Item → Namespace → Type 0
+ListsOrHides list_use.Hides f x j s = Hides f x j s
+ListsOrHides list_use.Selects f x j s = Lists f x j s
 
 -- the set has the names that items of the list name, or hide
-abbrev pub IsListed : Bool → Interface → List Item → List FullName → Type 0
-IsListed hiding f is names = (s : Namespace) (x : List ℕ) → Contains names (bare s x) ↔ ((j : Item) × (Contains is j × ListsOrHides hiding f x j s))
+abbrev pub IsListed : ListUse → Interface → List Item → List FullName → Type 0
+IsListed u f is names = (s : Namespace) (x : List ℕ) → Contains names (bare s x) ↔ ((j : Item) × (Contains is j × ListsOrHides u f x j s))
 
 -- the import list selects the name, if it is exported
 pub data IsSelected (f : Interface) (s : Namespace) (x : List ℕ) : ImportList → Type 0 where

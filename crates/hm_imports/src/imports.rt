@@ -14,7 +14,7 @@ ghost use Rattle.hm_types.specs.declared.entries.SynonymEntry.{SynonymEntry};
 ghost use Rattle.hm_types.specs.declared.entries.ConstructorEntry.{ConstructorEntry};
 ghost use Rattle.hm_types.specs.declared.entries.ValueEntry.{ValueEntry};
 
-use crate::in_scope::{add, add_declared};
+use crate::in_scope::{add_both, add_declared, add_qualified};
 use crate::selections::Selection;
 use hm_names::Namespace;
 use hm_syntax::{Import, Module};
@@ -23,9 +23,10 @@ use hm_types::{ConstructorEntry, Entity, Interface, SynonymEntry, TypeEntry, Val
 use std::alloc::{AllocError, Global};
 use std::sync::Arc;
 
-/// Under which name an import brings entities in, and whether under that alone.
+/// Which names of an interface an import brings in, behind which qualifier, and whether behind that alone.
 #[derive(Clone, Copy)]
-struct Prefix<'a> {
+struct Brought<'r, 'a> {
+    selection: &'r Selection<'a>,
     qualified: bool,
     name: &'a str,
 }
@@ -33,42 +34,35 @@ struct Prefix<'a> {
 /// Adds an exported entity, if its name is selected.
 fn add_entry<'a>(
     pairs: &mut Vec<Binding<'a>>,
-    prefix: Prefix<'a>,
-    selection: &Selection<'a>,
+    brought: &Brought<'_, 'a>,
     space: Namespace,
     text: &'a str,
     entity: &'a Entity,
 ) -> Result<(), AllocError>
-    ensures { OnOk result (Adds pairs.old.items pairs.new.items (λ p. Selects selection.now space text.now × IsPairOf prefix.entry.qualified prefix.entry.name.now space text.now entity.now p)) }
+    ensures { OnOk result (Adds pairs.old.items pairs.new.items (λ p. Selects brought.now.selection.now space text.now × IsPairOf brought.now.qualified brought.now.name.now space text.now entity.now p)) }
 {
-    if !selection.selects(space, text) {
+    if !brought.selection.selects(space, text) {
         return Ok(());
     }
-    add(
-        pairs,
-        prefix.qualified,
-        prefix.name,
-        space,
-        text,
-        EntityRef::of(entity),
-    )?;
-    Ok(())
+    let found = EntityRef::of(entity);
+    if brought.qualified {
+        return Ok(add_qualified(pairs, brought.name, space, text, found)?);
+    }
+    Ok(add_both(pairs, brought.name, space, text, found)?)
 }
 
 /// Adds the selected types of an interface.
 fn add_types<'a>(
     pairs: &mut Vec<Binding<'a>>,
-    prefix: Prefix<'a>,
-    selection: &Selection<'a>,
+    brought: &Brought<'_, 'a>,
     entries: &'a [TypeEntry],
 ) -> Result<(), AllocError>
-    ensures { OnOk result (Adds pairs.old.items pairs.new.items (λ p. (r : TypeEntry) × (Contains entries.now r × (Selects selection.now Types r.name × IsPairOf prefix.entry.qualified prefix.entry.name.now Types r.name r.entity p)))) }
+    ensures { OnOk result (Adds pairs.old.items pairs.new.items (λ p. (r : TypeEntry) × (Contains entries.now r × (Selects brought.now.selection.now Types r.name × IsPairOf brought.now.qualified brought.now.name.now Types r.name r.entity p)))) }
 {
     for entry in entries {
         add_entry(
             pairs,
-            prefix,
-            selection,
+            brought,
             Namespace::Types,
             entry.name.as_str(),
             &entry.entity,
@@ -80,17 +74,15 @@ fn add_types<'a>(
 /// Adds the selected synonyms of an interface.
 fn add_synonyms<'a>(
     pairs: &mut Vec<Binding<'a>>,
-    prefix: Prefix<'a>,
-    selection: &Selection<'a>,
+    brought: &Brought<'_, 'a>,
     entries: &'a [SynonymEntry],
 ) -> Result<(), AllocError>
-    ensures { OnOk result (Adds pairs.old.items pairs.new.items (λ p. (r : SynonymEntry) × (Contains entries.now r × (Selects selection.now Types r.name × IsPairOf prefix.entry.qualified prefix.entry.name.now Types r.name r.entity p)))) }
+    ensures { OnOk result (Adds pairs.old.items pairs.new.items (λ p. (r : SynonymEntry) × (Contains entries.now r × (Selects brought.now.selection.now Types r.name × IsPairOf brought.now.qualified brought.now.name.now Types r.name r.entity p)))) }
 {
     for entry in entries {
         add_entry(
             pairs,
-            prefix,
-            selection,
+            brought,
             Namespace::Types,
             entry.name.as_str(),
             &entry.entity,
@@ -102,17 +94,15 @@ fn add_synonyms<'a>(
 /// Adds the selected constructors of an interface.
 fn add_constructors<'a>(
     pairs: &mut Vec<Binding<'a>>,
-    prefix: Prefix<'a>,
-    selection: &Selection<'a>,
+    brought: &Brought<'_, 'a>,
     entries: &'a [ConstructorEntry],
 ) -> Result<(), AllocError>
-    ensures { OnOk result (Adds pairs.old.items pairs.new.items (λ p. (r : ConstructorEntry) × (Contains entries.now r × (Selects selection.now Constructors r.name × IsPairOf prefix.entry.qualified prefix.entry.name.now Constructors r.name r.entity p)))) }
+    ensures { OnOk result (Adds pairs.old.items pairs.new.items (λ p. (r : ConstructorEntry) × (Contains entries.now r × (Selects brought.now.selection.now Constructors r.name × IsPairOf brought.now.qualified brought.now.name.now Constructors r.name r.entity p)))) }
 {
     for entry in entries {
         add_entry(
             pairs,
-            prefix,
-            selection,
+            brought,
             Namespace::Constructors,
             entry.name.as_str(),
             &entry.entity,
@@ -124,17 +114,15 @@ fn add_constructors<'a>(
 /// Adds the selected variables of an interface.
 fn add_values<'a>(
     pairs: &mut Vec<Binding<'a>>,
-    prefix: Prefix<'a>,
-    selection: &Selection<'a>,
+    brought: &Brought<'_, 'a>,
     entries: &'a [ValueEntry],
 ) -> Result<(), AllocError>
-    ensures { OnOk result (Adds pairs.old.items pairs.new.items (λ p. (r : ValueEntry) × (Contains entries.now r × (Selects selection.now Values r.name × IsPairOf prefix.entry.qualified prefix.entry.name.now Values r.name r.entity p)))) }
+    ensures { OnOk result (Adds pairs.old.items pairs.new.items (λ p. (r : ValueEntry) × (Contains entries.now r × (Selects brought.now.selection.now Values r.name × IsPairOf brought.now.qualified brought.now.name.now Values r.name r.entity p)))) }
 {
     for entry in entries {
         add_entry(
             pairs,
-            prefix,
-            selection,
+            brought,
             Namespace::Values,
             entry.name.as_str(),
             &entry.entity,
@@ -146,16 +134,15 @@ fn add_values<'a>(
 /// Adds all that an interface exports and a selection selects.
 fn add_selected<'a>(
     pairs: &mut Vec<Binding<'a>>,
-    prefix: Prefix<'a>,
-    selection: &Selection<'a>,
+    brought: &Brought<'_, 'a>,
     interface: &'a Interface,
 ) -> Result<(), AllocError>
-    ensures { OnOk result (Adds pairs.old.items pairs.new.items (IsSelectedPair interface.now selection.now prefix.entry.qualified prefix.entry.name.now)) }
+    ensures { OnOk result (Adds pairs.old.items pairs.new.items (IsSelectedPair interface.now brought.now.selection.now brought.now.qualified brought.now.name.now)) }
 {
-    add_types(pairs, prefix, selection, interface.types())?;
-    add_synonyms(pairs, prefix, selection, interface.synonyms())?;
-    add_constructors(pairs, prefix, selection, interface.constructors())?;
-    add_values(pairs, prefix, selection, interface.values())?;
+    add_types(pairs, brought, interface.types())?;
+    add_synonyms(pairs, brought, interface.synonyms())?;
+    add_constructors(pairs, brought, interface.constructors())?;
+    add_values(pairs, brought, interface.values())?;
     Ok(())
 }
 
@@ -179,11 +166,12 @@ fn add_brought<'a>(
     ensures { OnOk result (Adds pairs.old.items pairs.new.items (IsBroughtPair interface.now import.now)) }
 {
     let selection = Selection::new(alloc, interface, &import.list)?;
-    let prefix = Prefix {
+    let brought = Brought {
+        selection: &selection,
         qualified: import.qualified,
         name: import_name(import),
     };
-    add_selected(pairs, prefix, &selection, interface)?;
+    add_selected(pairs, &brought, interface)?;
     Ok(())
 }
 
@@ -225,11 +213,13 @@ fn add_prelude<'a>(pairs: &mut Vec<Binding<'a>>, interface: &'a Interface) -> Re
     if interface.name() != "Prelude" {
         return Ok(());
     }
-    let prefix = Prefix {
+    let selection = Selection::Every;
+    let brought = Brought {
+        selection: &selection,
         qualified: false,
         name: "Prelude",
     };
-    add_selected(pairs, prefix, &Selection::Every, interface)?;
+    add_selected(pairs, &brought, interface)?;
     Ok(())
 }
 

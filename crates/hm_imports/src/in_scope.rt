@@ -1,6 +1,6 @@
 //! The pairs of a scope: what the module declares, and what its imports bring in (Report, sections 5.3 and 5.5).
 
-ghost use Rattle.std.specs.Prelude.{◌≡◌, false, OnOk, Contains};
+ghost use Rattle.std.specs.Prelude.{◌≡◌, true, false, OnOk, Contains};
 ghost use Rattle.std.specs.Borrow.{Bor};
 ghost use Rattle.hm_syntax.specs.Names.{Identifier};
 ghost use Rattle.hm_syntax.specs.Trees.{DataConstructor};
@@ -14,20 +14,31 @@ use hm_syntax::{Constr, Decl, DeclKind, Module, Name, Pat};
 use hm_tables::{Binding, EntityRef};
 use std::alloc::{AllocError, Global};
 
-/// Adds an entity under its name, qualified, and bare unless a qualifier is asked for.
-pub(crate) fn add<'a>(
+/// Adds an entity under its name behind a qualifier.
+pub(crate) fn add_qualified<'a>(
     pairs: &mut Vec<Binding<'a>>,
-    qualified: bool,
     qualifier: &'a str,
     space: Namespace,
     text: &'a str,
     entity: EntityRef<'a>,
 ) -> Result<(), AllocError>
-    ensures { OnOk result (Adds pairs.old.items pairs.new.items (IsPairOf qualified qualifier.now space text.now entity.entry)) }
+    ensures { OnOk result (Adds pairs.old.items pairs.new.items (IsPairOf true qualifier.now space text.now entity.entry)) }
 {
-    if !qualified {
-        pairs.push(Binding::new(space, None, text, entity.copy()))?;
-    }
+    pairs.push(Binding::new(space, Some(qualifier), text, entity))?;
+    Ok(())
+}
+
+/// Adds an entity under its bare name, and behind a qualifier.
+pub(crate) fn add_both<'a>(
+    pairs: &mut Vec<Binding<'a>>,
+    qualifier: &'a str,
+    space: Namespace,
+    text: &'a str,
+    entity: EntityRef<'a>,
+) -> Result<(), AllocError>
+    ensures { OnOk result (Adds pairs.old.items pairs.new.items (IsPairOf false qualifier.now space text.now entity.entry)) }
+{
+    pairs.push(Binding::new(space, None, text, entity.copy()))?;
     pairs.push(Binding::new(space, Some(qualifier), text, entity))?;
     Ok(())
 }
@@ -42,9 +53,8 @@ fn add_own<'a>(
     ensures { OnOk result (Adds pairs.old.items pairs.new.items (IsPairOf false module_name.now space name.now.text (named module_name.now name.now.text))) }
 {
     let text = name.as_str();
-    add(
+    add_both(
         pairs,
-        false,
         module_name,
         space,
         text,

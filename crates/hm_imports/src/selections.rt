@@ -15,6 +15,13 @@ use hm_tables::{NameSet, constructor_named, type_named};
 use hm_types::{ConstructorEntry, Entity, Interface};
 use std::alloc::{AllocError, Global};
 
+/// What an import list does with the names that it has.
+#[derive(Clone, Copy)]
+pub(crate) enum ListUse {
+    Selects,
+    Hides,
+}
+
 /// Adds a constructor that is listed behind a type, if it is one of that type.
 fn gather_part<'a>(
     names: &mut NameSet<'a>,
@@ -55,18 +62,18 @@ fn gather_behind<'a>(
     interface: &Interface,
     name: &'a Name,
     subs: &'a Subs,
-    hiding: bool,
+    list_use: ListUse,
 ) -> Result<(), AllocError>
-    ensures { OnOk result (Adds names.old names.new (λ n. IsBehind hiding interface.now name.now n subs.now)) }
+    ensures { OnOk result (Adds names.old names.new (λ n. IsBehind list_use interface.now name.now n subs.now)) }
 {
     match subs {
-        Subs::None => {
-            if !hiding {
-                return Ok(());
+        Subs::None => match list_use {
+            ListUse::Selects => Ok(()),
+            ListUse::Hides => {
+                names.insert(Namespace::Constructors, None, name.as_str())?;
+                Ok(())
             }
-            names.insert(Namespace::Constructors, None, name.as_str())?;
-            Ok(())
-        }
+        },
         Subs::All => Ok(()),
         Subs::Some(parts) => {
             let Some(entry) = type_named(interface.types(), name.as_str()) else {
@@ -83,9 +90,9 @@ fn gather_names<'a>(
     names: &mut NameSet<'a>,
     interface: &Interface,
     item: &'a Item,
-    hiding: bool,
+    list_use: ListUse,
 ) -> Result<(), AllocError>
-    ensures { OnOk result (Adds names.old names.new (λ n. IsNamedBy hiding interface.now n item.now)) }
+    ensures { OnOk result (Adds names.old names.new (λ n. IsNamedBy list_use interface.now n item.now)) }
 {
     match item {
         Item::Var(name) => {
@@ -94,7 +101,7 @@ fn gather_names<'a>(
         }
         Item::Con(name, subs) => {
             names.insert(Namespace::Types, None, name.as_str())?;
-            gather_behind(names, interface, name, subs, hiding)?;
+            gather_behind(names, interface, name, subs, list_use)?;
             Ok(())
         }
     }
@@ -105,12 +112,12 @@ fn gather_all_names<'a>(
     names: &mut NameSet<'a>,
     interface: &Interface,
     items: &'a [Item],
-    hiding: bool,
+    list_use: ListUse,
 ) -> Result<(), AllocError>
-    ensures { OnOk result (Adds names.old names.new (λ n. (j : Item) × (Contains items.now j × IsNamedBy hiding interface.now n j))) }
+    ensures { OnOk result (Adds names.old names.new (λ n. (j : Item) × (Contains items.now j × IsNamedBy list_use interface.now n j))) }
 {
     for item in items {
-        gather_names(names, interface, item, hiding)?;
+        gather_names(names, interface, item, list_use)?;
     }
     Ok(())
 }
@@ -193,12 +200,12 @@ fn listed<'a>(
     alloc: Global,
     interface: &'a Interface,
     items: &'a [Item],
-    hiding: bool,
+    list_use: ListUse,
 ) -> Result<NameSet<'a>, AllocError>
-    ensures { IfOk result (λ names. IsListed hiding interface.now items.now names) }
+    ensures { IfOk result (λ names. IsListed list_use interface.now items.now names) }
 {
     let mut names = NameSet::new(alloc);
-    gather_all_names(&mut names, interface, items, hiding)?;
+    gather_all_names(&mut names, interface, items, list_use)?;
     let mut opened = NameSet::new(alloc);
     gather_all_opened(&mut opened, interface, items)?;
     gather_constructors(&mut names, &opened, interface.constructors())?;
@@ -229,13 +236,13 @@ impl<'a> Selection<'a> {
                 alloc,
                 interface,
                 items.as_slice(),
-                false,
+                ListUse::Selects,
             )?)),
             List::Hiding(items) => Ok(Selection::Hiding(listed(
                 alloc,
                 interface,
                 items.as_slice(),
-                true,
+                ListUse::Hides,
             )?)),
         }
     }

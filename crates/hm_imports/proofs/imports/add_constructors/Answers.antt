@@ -9,8 +9,8 @@ use Rattle.hm_imports.proofs.imports.add_constructors.Goals as goal
 pub loop-entry-preserved : goal.loop-entry-preserved
 loop-entry-preserved c =
     let r = c.entry-item.result in
-    let added = subst (λ (x : List ℕ). Adds c.loop-entry.pairs.items c.add_entry.new.pairs.items (λ p. Selects c.args.selection.now Constructors x × IsPairOf c.args.prefix.qualified c.args.prefix.name.now Constructors x r.entity p)) c.as_str.ensures c.in_ok-add_entry.ensures in
-    for_more (λ (r : ConstructorEntry) p. Selects c.args.selection.now Constructors r.name × IsPairOf c.args.prefix.qualified c.args.prefix.name.now Constructors r.name r.entity p) c.args.pairs.now.items c.loop-entry.pairs.items c.add_entry.new.pairs.items c.args.entries.now c.loop-entry.entry-index r c.loop-entry-test.true c.entry-item.is c.loop-entry.invariant added
+    let added = subst (λ (x : List ℕ). Adds c.loop-entry.pairs.items c.add_entry.new.pairs.items (λ p. Selects c.args.brought.now.selection.now Constructors x × IsPairOf c.args.brought.now.qualified c.args.brought.now.name.now Constructors x r.entity p)) c.as_str.ensures c.in_ok-add_entry.ensures in
+    for_more (λ (r : ConstructorEntry) p. Selects c.args.brought.now.selection.now Constructors r.name × IsPairOf c.args.brought.now.qualified c.args.brought.now.name.now Constructors r.name r.entity p) c.args.pairs.now.items c.loop-entry.pairs.items c.add_entry.new.pairs.items c.args.entries.now c.loop-entry.entry-index r c.loop-entry-test.true c.entry-item.is c.loop-entry.invariant added
 
 pub returns : goal.returns
-returns c = for_all (λ (r : ConstructorEntry) p. Selects c.args.selection.now Constructors r.name × IsPairOf c.args.prefix.qualified c.args.prefix.name.now Constructors r.name r.entity p) c.args.pairs.now.items c.loop-entry.pairs.items c.args.entries.now c.loop-entry.entry-index c.loop-entry-test.false c.loop-entry.invariant
+returns c = for_all (λ (r : ConstructorEntry) p. Selects c.args.brought.now.selection.now Constructors r.name × IsPairOf c.args.brought.now.qualified c.args.brought.now.name.now Constructors r.name r.entity p) c.args.pairs.now.items c.loop-entry.pairs.items c.args.entries.now c.loop-entry.entry-index c.loop-entry-test.false c.loop-entry.invariant

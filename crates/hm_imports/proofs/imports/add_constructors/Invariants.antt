@@ -7,4 +7,4 @@ use Rattle.hm_names.proofs.AddedPairs.{ForEach}
 use Rattle.hm_imports.proofs.imports.add_constructors.Given as goal
 
 abbrev pub invariant-loop-entry : goal.invariant-loop-entry
-invariant-loop-entry l = Adds l.initial.pairs.items l.pairs.items (ForEach (λ (r : ConstructorEntry) p. Selects l.selection Constructors r.name × IsPairOf l.fn.prefix.qualified l.fn.prefix.name.now Constructors r.name r.entity p) (take l.entry-index l.entries))
+invariant-loop-entry l = Adds l.initial.pairs.items l.pairs.items (ForEach (λ (r : ConstructorEntry) p. Selects l.brought.selection.now Constructors r.name × IsPairOf l.brought.qualified l.brought.name.now Constructors r.name r.entity p) (take l.entry-index l.entries))

@@ -7,4 +7,4 @@ returns c =
     let m : List ℕ = c.args.module_name.now in
     let t = c.as_str-text.ensures in
     let entity = c.new.ensures ∙ ap (λ (x : List ℕ). named m x) t in
-    rw t at (rw entity at c.in_ok-add.ensures)
+    rw t at (rw entity at c.in_ok-add_both.ensures)

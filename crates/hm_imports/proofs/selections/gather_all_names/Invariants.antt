@@ -7,4 +7,4 @@ use Rattle.hm_names.proofs.AddedPairs.{ForEach}
 use Rattle.hm_imports.proofs.selections.gather_all_names.Given as goal
 
 abbrev pub invariant-loop-item : goal.invariant-loop-item
-invariant-loop-item l = Adds l.fn.names l.names (ForEach (λ (j : Item) (n : FullName). IsNamedBy l.hiding l.interface n j) (take l.item-index l.items))
+invariant-loop-item l = Adds l.fn.names l.names (ForEach (λ (j : Item) (n : FullName). IsNamedBy l.list_use l.interface n j) (take l.item-index l.items))
