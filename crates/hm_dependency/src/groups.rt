@@ -14,7 +14,7 @@ ghost use Rattle.hm_groups.specs.Groups.{node_name};
 use hm_groups::{NodeList, Numbers, graph_of, node_list, rows_of, signed_texts};
 use hm_syntax::Decl;
 use hm_unify::UnifyFault;
-use indexmap::IndexMap;
+use indexmap::IndexSet;
 use std::alloc::{AllocError, Global};
 
 /// The units of a list without signatures.
@@ -33,7 +33,7 @@ fn check_distinct(alloc: Global, decls: &[Decl]) -> Result<(), UnifyFault>
     ensures distinct { IfOk result (λ _. (k : Known) → IsDistinct (names (bindings_of k (declarations decls.now) (declarations decls.now)))) }
     ensures repeated { result ≡ Err UnifyFault.Clash → (k : Known) → ¬ (IsDistinct (names (bindings_of k (declarations decls.now) (declarations decls.now)))) }
 {
-    let unsigned = IndexMap::new(alloc);
+    let unsigned = IndexSet::new(alloc);
     let list = node_list(alloc, &unsigned, decls)?;
     list.numbers.has_each_once();
     Ok(())

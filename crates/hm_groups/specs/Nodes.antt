@@ -5,7 +5,7 @@ use Rattle.std.specs.List.{slice_get}
 use Rattle.std.specs.Borrow.{Bor}
 use Rattle.std.specs.declared.hash.FoldHasher.{FoldHasher}
 use Rattle.std.specs.declared.hash.BuildHasherDefault.{BuildHasherDefault}
-use Rattle.indexmap.specs.IndexMap.{IndexMap, get_by}
+use Rattle.indexmap.specs.IndexSet.{IndexSet, contains_by}
 use Rattle.hm_graph.specs.Digraph.{Graph, Edge}
 use Rattle.hm_syntax.specs.Trees.{Declaration, data_declaration, newtype_declaration, synonym_declaration, signature, clause, pattern_binding, Declarations, no_declarations, more_declarations}
 use Rattle.hm_names.specs.Syntax.{is_continued, signature_of}
@@ -14,18 +14,18 @@ use Rattle.hm_groups.specs.References.{pattern_variables, DeclarationRefers}
 use Rattle.hm_groups.specs.Walks.{IsNodeWith}
 use Rattle.hm_typing.specs.Names.{IsOneOf}
 
--- a table of the texts that have signatures
+-- a set of the texts that have signatures
 abbrev pub Texts : Type 0
-Texts = IndexMap (Bor (List ℕ)) Bool (BuildHasherDefault FoldHasher)
+Texts = IndexSet (Bor (List ℕ)) (BuildHasherDefault FoldHasher)
 
 abbrev pub has_text : Texts → List ℕ → Bool
-has_text table x = is_some (get_by (λ k. bytes_eq x k.now) table)
+has_text texts x = contains_by (λ k. bytes_eq x k.now) texts
 
 abbrev pub is_signed : Declarations → List ℕ → Bool
 is_signed all x = is_some (signature_of x all)
 
 abbrev pub AreSigned : Declarations → Texts → Type 0
-AreSigned all table = (x : List ℕ) → has_text table x ≡ is_signed all x
+AreSigned all texts = (x : List ℕ) → has_text texts x ≡ is_signed all x
 
 -- the nodes that a declaration adds, before those behind it
 abbrev pub new_nodes : Declarations → Declaration → Declarations → List (Option Variable)

@@ -39,22 +39,29 @@ fn add_column(graph: &mut Digraph, row: &[usize], to: usize) -> Result<(), Alloc
     Ok(())
 }
 
+/// A declaration of a list, and the numbers of the list's nodes.
+#[derive(Clone, Copy)]
+struct NumberedDecl<'r, 'a> {
+    numbers: &'r Numbers<'a>,
+    decl: &'r Decl,
+}
+
 /// Adds the edges between a pattern binding's own node and those of its variables.
 fn add_star(
     alloc: Global,
     graph: &mut Digraph,
-    numbers: &Numbers,
     shown: &mut [bool],
     own: usize,
-    decl: &Decl,
+    numbered: &NumberedDecl<'_, '_>,
 ) -> Result<(), AllocError>
-    requires size { length graph.old ≡ length numbers.now }
-    requires shown { AllShown shown.old (length numbers.now) }
+    requires size { length graph.old ≡ length numbered.now.numbers.now }
+    requires shown { AllShown shown.old (length numbered.now.numbers.now) }
     requires own { own < length graph.old }
     ensures len { OnOk result (length graph.new ≡ length graph.old) }
     ensures shown { OnOk result (shown.new ≡ shown.old) }
-    ensures edges { OnOk result (AddsEdges graph.old graph.new (Star numbers.now decl.now own)) }
+    ensures edges { OnOk result (AddsEdges graph.old graph.new (Star numbered.now.numbers.now numbered.now.decl.now own)) }
 {
+    let decl = numbered.decl;
     let DeclKind::Pattern {
         place: _,
         pat,
@@ -64,7 +71,7 @@ fn add_star(
         return Ok(());
     };
     let mut noted = Vec::new(alloc);
-    hide_pattern(numbers, pat, shown, &mut noted)?;
+    hide_pattern(numbered.numbers, pat, shown, &mut noted)?;
     show(&noted, shown);
     add_row(graph, own, &noted)?;
     add_column(graph, &noted, own)?;
@@ -75,22 +82,21 @@ fn add_star(
 fn add_references(
     alloc: Global,
     graph: &mut Digraph,
-    numbers: &Numbers,
     shown: &mut [bool],
     own: usize,
-    decl: &Decl,
+    numbered: &NumberedDecl<'_, '_>,
 ) -> Result<(), AllocError>
-    requires size { length graph.old ≡ length numbers.now }
-    requires shown { AllShown shown.old (length numbers.now) }
+    requires size { length graph.old ≡ length numbered.now.numbers.now }
+    requires shown { AllShown shown.old (length numbered.now.numbers.now) }
     requires own { own < length graph.old }
     ensures len { OnOk result (length graph.new ≡ length graph.old) }
     ensures shown { OnOk result (shown.new ≡ shown.old) }
-    ensures edges { OnOk result (AddsEdges graph.old graph.new (DeclarationEdge numbers.now decl.now own)) }
+    ensures edges { OnOk result (AddsEdges graph.old graph.new (DeclarationEdge numbered.now.numbers.now numbered.now.decl.now own)) }
 {
     let mut found = Vec::new(alloc);
-    find_in_decl(alloc, numbers, shown, &mut found, decl)?;
+    find_in_decl(alloc, numbered.numbers, shown, &mut found, numbered.decl)?;
     add_row(graph, own, &found)?;
-    add_star(alloc, graph, numbers, shown, own, decl)?;
+    add_star(alloc, graph, shown, own, numbered)?;
     Ok(())
 }
 
@@ -98,20 +104,19 @@ fn add_references(
 fn add_owned(
     alloc: Global,
     graph: &mut Digraph,
-    numbers: &Numbers,
     shown: &mut [bool],
     owner: Option<usize>,
-    decl: &Decl,
+    numbered: &NumberedDecl<'_, '_>,
 ) -> Result<(), AllocError>
-    requires size { length graph.old ≡ length numbers.now }
-    requires shown { AllShown shown.old (length numbers.now) }
+    requires size { length graph.old ≡ length numbered.now.numbers.now }
+    requires shown { AllShown shown.old (length numbered.now.numbers.now) }
     requires own { (own : ℕ) → owner ≡ Some own → own < length graph.old }
     ensures len { OnOk result (length graph.new ≡ length graph.old) }
     ensures shown { OnOk result (shown.new ≡ shown.old) }
-    ensures edges { OnOk result (AddsEdges graph.old graph.new (λ x y. (own : ℕ) × (owner ≡ Some own) × DeclarationEdge numbers.now decl.now own x y)) }
+    ensures edges { OnOk result (AddsEdges graph.old graph.new (λ x y. (own : ℕ) × (owner ≡ Some own) × DeclarationEdge numbered.now.numbers.now numbered.now.decl.now own x y)) }
 {
     match owner {
-        Some(own) => Ok(add_references(alloc, graph, numbers, shown, own, decl)?),
+        Some(own) => Ok(add_references(alloc, graph, shown, own, numbered)?),
         None => Ok(()),
     }
 }
@@ -134,7 +139,11 @@ fn add_all(
     for behind in 0..decls.len() {
         let place = decls.len() - 1 - behind;
         let owner = list.owners[behind];
-        add_owned(alloc, graph, &list.numbers, shown, owner, &decls[place])?;
+        let numbered = NumberedDecl {
+            numbers: &list.numbers,
+            decl: &decls[place],
+        };
+        add_owned(alloc, graph, shown, owner, &numbered)?;
     }
     Ok(())
 }

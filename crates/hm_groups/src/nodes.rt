@@ -10,14 +10,14 @@ use crate::hiding::is_continued;
 use crate::numbers::Numbers;
 use hm_syntax::{Decl, DeclKind, Name, Pat, PatKind};
 use hm_unify::UnifyFault;
-use indexmap::IndexMap;
+use indexmap::IndexSet;
 use std::alloc::Global;
 
-/// Whether the text of a name is in the table.
-fn is_signed(signed: &IndexMap<&str, bool>, name: &Name) -> bool
+/// Whether the text of a name is in the set.
+fn is_signed(signed: &IndexSet<&str>, name: &Name) -> bool
     ensures { result ≡ has_text signed.now name.now.text }
 {
-    signed.contains_key(name.as_str())
+    signed.contains(name.as_str())
 }
 
 /// Adds the variables of a pattern.
@@ -57,7 +57,7 @@ fn add_all_variables<'a>(numbers: &mut Numbers<'a>, pats: &'a [Pat]) -> Result<(
 /// Adds the nodes of a declaration, and answers the node whose binding it belongs to. `behind` is that of the declaration behind it.
 fn add_declaration<'a>(
     numbers: &mut Numbers<'a>,
-    signed: &IndexMap<&str, bool>,
+    signed: &IndexSet<&str>,
     decl: &'a Decl,
     rest: &[Decl],
     behind: Option<usize>,
@@ -102,7 +102,7 @@ pub struct NodeList<'a> {
 /// The nodes of a list. Where a variable is bound twice the list has no typing.
 pub fn node_list<'a>(
     alloc: Global,
-    signed: &IndexMap<&str, bool>,
+    signed: &IndexSet<&str>,
     decls: &'a [Decl],
 ) -> Result<NodeList<'a>, UnifyFault>
     ensures nodes { IfOk result (λ list. (all : Declarations) → AreSigned all signed.now → list.numbers ≡ list_nodes all (declarations decls.now)) }

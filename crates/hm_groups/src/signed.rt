@@ -7,21 +7,21 @@ ghost use Rattle.hm_groups.specs.Nodes.{has_text, is_signed, AreSigned};
 ghost use Rattle.hm_syntax.specs.Trees.{more_declarations, no_declarations};
 
 use hm_syntax::{Decl, DeclKind, Name};
-use indexmap::IndexMap;
+use indexmap::IndexSet;
 use std::alloc::{AllocError, Global};
 
 /// Adds the texts of names.
-fn add_texts<'a>(texts: &mut IndexMap<&'a str, bool>, names: &'a [Name]) -> Result<(), AllocError>
+fn add_texts<'a>(texts: &mut IndexSet<&'a str>, names: &'a [Name]) -> Result<(), AllocError>
     ensures { OnOk result ((x : List ℕ) → has_text texts.new x ≡ (is_signed_among x names.now || has_text texts.old x)) }
 {
     for place in 0..names.len() {
-        texts.insert(names[place].as_str(), true)?;
+        texts.insert(names[place].as_str())?;
     }
     Ok(())
 }
 
 /// Adds the texts of a signature's names, where the declaration is one.
-fn add_signature<'a>(texts: &mut IndexMap<&'a str, bool>, decl: &'a Decl) -> Result<(), AllocError>
+fn add_signature<'a>(texts: &mut IndexSet<&'a str>, decl: &'a Decl) -> Result<(), AllocError>
     ensures { OnOk result ((x : List ℕ) → has_text texts.new x ≡ (is_signed (more_declarations decl.now no_declarations) x || has_text texts.old x)) }
 {
     match &decl.kind {
@@ -31,13 +31,10 @@ fn add_signature<'a>(texts: &mut IndexMap<&'a str, bool>, decl: &'a Decl) -> Res
 }
 
 /// The texts of the variables that have signatures in a list.
-pub fn signed_texts<'a>(
-    alloc: Global,
-    decls: &'a [Decl],
-) -> Result<IndexMap<&'a str, bool>, AllocError>
+pub fn signed_texts<'a>(alloc: Global, decls: &'a [Decl]) -> Result<IndexSet<&'a str>, AllocError>
     ensures { IfOk result (AreSigned (declarations decls.now)) }
 {
-    let mut texts = IndexMap::new(alloc);
+    let mut texts = IndexSet::new(alloc);
     for place in 0..decls.len() {
         add_signature(&mut texts, &decls[place])?;
     }

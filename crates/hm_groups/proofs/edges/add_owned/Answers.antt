@@ -6,6 +6,6 @@ use Rattle.hm_groups.proofs.edges.add_owned.Goals as goal
 
 pub returns-in_ok-add_references-in-Some-clause-edges : goal.returns-in_ok-add_references-in-Some-clause-edges
 returns-in_ok-add_references-in-Some-clause-edges c =
-    adds_iff c.args.graph.now c.add_references.new.graph (DeclarationEdge c.args.numbers.now c.args.decl.now c.in-Some.own) (λ x y. (own : ℕ) × (c.args.owner ≡ Some own) × DeclarationEdge c.args.numbers.now c.args.decl.now own x y)
-    (λ x y h. (c.in-Some.own, c.in-Some.is, h)) (λ x y h. subst (λ o. DeclarationEdge c.args.numbers.now c.args.decl.now o x y) (some_injective (sym h.1 ∙ c.in-Some.is)) h.2)
+    adds_iff c.args.graph.now c.add_references.new.graph (DeclarationEdge c.args.numbered.now.numbers.now c.args.numbered.now.decl.now c.in-Some.own) (λ x y. (own : ℕ) × (c.args.owner ≡ Some own) × DeclarationEdge c.args.numbered.now.numbers.now c.args.numbered.now.decl.now own x y)
+    (λ x y h. (c.in-Some.own, c.in-Some.is, h)) (λ x y h. subst (λ o. DeclarationEdge c.args.numbered.now.numbers.now c.args.numbered.now.decl.now o x y) (some_injective (sym h.1 ∙ c.in-Some.is)) h.2)
     c.in_ok-add_references-in-Some.ensures.edges

@@ -1,5 +1,4 @@
-use Rattle.std.proofs.Common.{◌||◌, ◌+◌, drop, sym, ap, ◌∙◌, Some, true}
-use Rattle.std.proofs.lemmas.Map.Text.{hash_map_updates_str}
+use Rattle.std.proofs.Common.{◌||◌, ◌+◌, drop, sym, ap, ◌∙◌}
 use Rattle.hm_names.specs.Syntax.{is_signed_among}
 use Rattle.hm_groups.specs.Nodes.{has_text}
 use Rattle.hm_groups.proofs.Rows.{unrolled, past}
@@ -8,9 +7,8 @@ use Rattle.hm_groups.proofs.signed.add_texts.Goals as goal
 
 pub loop-place-preserved : goal.loop-place-preserved
 loop-place-preserved c = λ x.
-    text_step x c.loop-place.texts c.insert.new.self c.index-names-place.result c.as_str.result.now (drop c.loop-place.place c.args.names.now) (drop (c.loop-place.place + 1) c.args.names.now) c.as_str.ensures
-    (unrolled c.args.names.now c.loop-place.place c.index-names-place.result c.loop-place-test.true c.index-names-place.is)
-    (hash_map_updates_str c.as_str.result.now c.loop-place.texts c.insert.new.self (Some true) c.in_ok-insert.ensures.updates x)
+    text_step x c.loop-place.texts c.insert.new.self c.index-names-place.result c.as_str.result (drop c.loop-place.place c.args.names.now) (drop (c.loop-place.place + 1) c.args.names.now) c.as_str.ensures
+    (unrolled c.args.names.now c.loop-place.place c.index-names-place.result c.loop-place-test.true c.index-names-place.is) c.in_ok-insert.ensures.keys
     ∙ c.loop-place.invariant x
 
 pub returns : goal.returns

@@ -1,5 +1,5 @@
-use Rattle.std.proofs.Common.{◌||◌, ◌+◌, drop, sym, ap, ◌∙◌, is_some, bytes_eq}
-use Rattle.std.specs.Map.{lookup}
+use Rattle.std.proofs.Common.{◌||◌, ◌+◌, drop, sym, ap, ◌∙◌, bytes_eq}
+use Rattle.std.specs.List.{list_any}
 use Rattle.hm_syntax.specs.Lists.{declarations}
 use Rattle.hm_groups.specs.Nodes.{has_text, is_signed}
 use Rattle.hm_groups.proofs.Rows.{unrolled, past}
@@ -7,7 +7,7 @@ use Rattle.hm_groups.proofs.Signatures.{signed_step, not_yet}
 use Rattle.hm_groups.proofs.signed.signed_texts.Goals as goal
 
 pub loop-place-init : goal.loop-place-init
-loop-place-init c = λ x. not_yet (is_signed (declarations c.args.decls.now) x) x c.new-texts.result (ap (λ es. is_some (lookup (λ k. bytes_eq x k.now) es)) c.new-texts.ensures.empty)
+loop-place-init c = λ x. not_yet (is_signed (declarations c.args.decls.now) x) x c.new-texts.result (ap (λ ks. list_any (λ k. bytes_eq x k.now) ks) c.new-texts.ensures.empty)
 
 pub loop-place-preserved : goal.loop-place-preserved
 loop-place-preserved c = λ x.
