@@ -56,7 +56,7 @@ fn resolved_type(
     ensures { IfOk result (λ resolved. resolved ≡ type_with (resolver_of (lookups_of scope.now tables.now)) ty.now) }
 {
     let mut resolving = Resolving::new(alloc, scope, tables);
-    Ok(resolving.type_expr(alloc, ty)?)
+    resolving.type_expr(alloc, ty)
 }
 
 /// The type over these variables that is written so.
@@ -70,7 +70,7 @@ fn type_over(
     ensures { IfOk result (λ t. type_of t ≡ program_of (type_in variables.now (type_with (resolver_of (lookups_of scope.now tables.now)) ty.now))) }
 {
     let resolved = resolved_type(alloc, scope, tables, ty)?;
-    Ok(monotype(alloc, variables, &resolved)?)
+    monotype(alloc, variables, &resolved)
 }
 
 /// A synonym over these variables with its right side resolved and expanded, if it has no other variables.
@@ -101,7 +101,7 @@ fn finished(
     ensures { IfOk result (λ synonym. IsSound params.now ty.now → synonym ≡ Some (synonym_of params.now (type_with (resolver_of (lookups_of scope.now tables.now)) ty.now))) }
 {
     let variables = parameters_of(alloc, params)?;
-    Ok(finished_over(alloc, scope, tables, &variables, ty)?)
+    finished_over(alloc, scope, tables, &variables, ty)
 }
 
 /// Adds a synonym whose right side has only synonyms that stand in the tables.

@@ -102,7 +102,7 @@ fn walked_trees<'a>(
     ensures { IfOk result (λ walked. AreWalked scoped.now.program.now (map (λ f. f.now) scoped.now.interfaces.now) walked.decls.items walked.faults.items) }
 {
     let mut tables = Tables::of(alloc, scoped.program, scoped.interfaces, depth)?;
-    Ok(walked_with(alloc, scoped.program, scoped.scope, &mut tables, synonyms)?)
+    walked_with(alloc, scoped.program, scoped.scope, &mut tables, synonyms)
 }
 
 /// The faults of a walk by phases, with those of synonyms that are recursive.
@@ -169,7 +169,7 @@ fn trees_over<'a>(
 {
     let graph = reference_graph(alloc, scoped.scope, scoped.program, &own.names)?;
     let synonyms = DeclaredSynonyms { own, graph: &graph };
-    Ok(trees_with(alloc, scoped, &synonyms, depth)?)
+    trees_with(alloc, scoped, &synonyms, depth)
 }
 
 /// The trees of a module, whose names are resolved where there are no faults.
@@ -182,7 +182,7 @@ fn resolved_trees(
     ensures { IfOk result (AreTrees scoped.now.program.now (map (λ f. f.now) scoped.now.interfaces.now)) }
 {
     let own = own_synonyms(alloc, scoped.program.decls.as_slice())?;
-    Ok(trees_over(alloc, scoped, &own, depth)?)
+    trees_over(alloc, scoped, &own, depth)
 }
 
 /// The answer of the phases behind that of the imports.
@@ -233,7 +233,7 @@ fn phases_answer<'a>(
         interfaces: &interfaces,
         scope: &scope,
     };
-    Ok(behind_imports(alloc, &scoped, depth)?)
+    behind_imports(alloc, &scoped, depth)
 }
 
 /// The interfaces for which a core was made, shared.
@@ -332,7 +332,7 @@ fn core_or_faults(
 {
     let prelude = Arc::new(alloc, prelude(alloc)?)?;
     let answer = phases_answer(alloc, module, &prelude, imports, depth)?;
-    Ok(outcome_of(alloc, module, &prelude, imports, answer)?)
+    outcome_of(alloc, module, &prelude, imports, answer)
 }
 
 /// The core of a module for the interfaces of its imports but Prelude, each once, in order of first import; or all faults of the first phase

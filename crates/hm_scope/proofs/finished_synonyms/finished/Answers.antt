@@ -1,4 +1,5 @@
+use Rattle.std.proofs.lemmas.Result.{IfOk-weaker}
 use Rattle.hm_scope.proofs.finished_synonyms.finished.Goals as goal
 
 pub returns : goal.returns
-returns c = λ sound. c.in_ok-finished_over.ensures c.args.params.now (c.in_ok-variables.ensures sound.distinct) sound
+returns c = IfOk-weaker c.finished_over.result _ _ (λ synonym h sound. h c.args.params.now (c.in_ok-variables.ensures sound.distinct) sound) c.finished_over.ensures

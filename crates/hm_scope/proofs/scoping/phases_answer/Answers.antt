@@ -1,4 +1,5 @@
 use Rattle.std.proofs.Common.{◌∷◌, ◌∙◌, List, Option, map, Bor, ap, sym, subst}
+use Rattle.std.proofs.lemmas.Result.{IfOk-weaker}
 use Rattle.std.specs.Arc.{arc_value}
 use Rattle.hm_types.specs.Interfaces.{Exports as Interface}
 use Rattle.hm_names.specs.declared.faults.Fault.{Fault}
@@ -30,4 +31,4 @@ returns c =
     let lent_again = ap (λ (l : List (Bor Interface)). map (λ f. f.now) l) c.deref-2.ensures.value ∙ c.in_ok-interfaces.ensures in
     let importing = c.in_ok-found.ensures m fs Importing (subst (λ (gs : List Interface). AreExact m gs Importing c.in_ok-import_faults.field-0.items) lent c.in_ok-import_faults.ensures) in
     let none = subst (λ (o : Option (List Fault)). IsPhaseAnswer m fs Importing o) c.in-None.is importing in
-    subst (λ (gs : List Interface). IsAnswerBehind m gs c.in_ok-behind_imports.field-0) lent_again c.in_ok-behind_imports.ensures none
+    IfOk-weaker c.behind_imports.result _ _ (λ answer h. subst (λ (gs : List Interface). IsAnswerBehind m gs answer) lent_again h none) c.behind_imports.ensures
