@@ -1,6 +1,6 @@
 //! Whether the declarations of a unit refer to typed nodes alone (Haskell 98 Report, section 4.5.1).
 
-ghost use Rattle.std.specs.Prelude.{◌≡◌, ◌<◌, All, Contains, IfOk, OnOk, length};
+ghost use Rattle.std.specs.Prelude.{◌≡◌, ◌<◌, true, false, All, Contains, IfOk, OnOk, length};
 ghost use Rattle.hm_groups.specs.Nodes.{AllShown};
 ghost use Rattle.hm_expressions.specs.Dependences.{IsMarked, IsReferred, TellsMembers, TellsNodes};
 ghost use Rattle.hm_groups.specs.declared.members.Member.{Member};
@@ -11,13 +11,23 @@ use hm_groups::{Member, Numbers, referred_nodes};
 use hm_syntax::Decl;
 use std::alloc::{AllocError, Global};
 
-/// Gives the nodes of a group a mark.
-pub fn mark(typed: &mut [bool], group: &[usize], value: bool)
+/// Marks the nodes of a group.
+pub fn mark(typed: &mut [bool], group: &[usize])
     requires { All (λ j. j < length typed.old) group.now }
-    ensures { IsMarked group.now value typed.old typed.new }
+    ensures { IsMarked group.now true typed.old typed.new }
 {
     'nodes: for node in group {
-        typed[*node] = value;
+        typed[*node] = true;
+    }
+}
+
+/// Takes the marks of the nodes of a group away.
+pub fn unmark(typed: &mut [bool], group: &[usize])
+    requires { All (λ j. j < length typed.old) group.now }
+    ensures { IsMarked group.now false typed.old typed.new }
+{
+    'nodes: for node in group {
+        typed[*node] = false;
     }
 }
 

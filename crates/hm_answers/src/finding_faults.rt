@@ -8,7 +8,7 @@ ghost use Rattle.hm_groups.specs.Members.{AreRows};
 ghost use Rattle.hm_groups.specs.Nodes.{AllShown};
 ghost use Rattle.hm_answers.specs.UnitFaults.{AreAlike, IsFirstPlace, AreGroupsTold, ArePlainGroups, GroupTold, IsSameTable};
 
-use crate::dependences::{mark, members_refer_to_typed};
+use crate::dependences::{mark, members_refer_to_typed, unmark};
 use hm_expressions::CheckedList;
 use hm_groups::{Member, group_members};
 use std::alloc::{AllocError, Global};
@@ -34,10 +34,10 @@ fn is_faulty(
     if typed[group[0]] {
         return Ok(false);
     }
-    mark(typed, group, true);
+    mark(typed, group);
     let members = group_members(alloc, &list.found.rows, group)?;
     let is_free = members_refer_to_typed(alloc, list, shown, typed, &members)?;
-    mark(typed, group, false);
+    unmark(typed, group);
     Ok(is_free)
 }
 

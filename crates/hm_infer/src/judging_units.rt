@@ -18,7 +18,7 @@ ghost use Rattle.hm_infer.specs.JudgedUnits.{UnitsJudged};
 ghost use Rattle.hm_expressions.specs.SignedLists.{BindsSigned};
 ghost use Rattle.hm_expressions.specs.Stages.{IsListFound, list_of};
 
-use hm_answers::{mark, members_refer_to_typed};
+use hm_answers::{mark, members_refer_to_typed, unmark};
 use hm_assumptions::Inference;
 use hm_expressions::{CheckedList, infer_group};
 use hm_groups::group_members;
@@ -66,11 +66,11 @@ fn judge_group<'a>(
     ensures numbers { OnOk result (AreUpTo 0 types.new) }
     ensures shown { OnOk result (shown.new ≡ shown.old) }
 {
-    mark(typed, group.nodes, true);
+    mark(typed, group.nodes);
     let list = &group.list;
     let members = group_members(inference.alloc, &list.found.rows, group.nodes)?;
     if !members_refer_to_typed(inference.alloc, list, shown, typed, &members)? {
-        mark(typed, group.nodes, false);
+        unmark(typed, group.nodes);
         return Ok(());
     }
     let outside = inference.environment.len();
@@ -83,7 +83,7 @@ fn judge_group<'a>(
         Err(UnifyFault::Clash) => {
             clear(types, group.nodes);
             inference.environment.truncate(outside);
-            mark(typed, group.nodes, false);
+            unmark(typed, group.nodes);
             Ok(())
         }
         Err(UnifyFault::Memory) => Err(UnifyFault::Memory),

@@ -15,4 +15,4 @@ returns-clause-told c = has_none (get_or c.args.group.now 0 0) (first_in c.args.
     (members_at c.deref.result.now c.args.list.now.found.now.rows.items c.args.group.now c.in_ok-members.members.items c.deref-2.result.now c.deref.ensures.value c.deref-2.ensures.value c.in_ok-members.ensures) c.in_ok-is_free.ensures.told
 
 pub returns-clause-table : goal.returns-clause-table
-returns-clause-table c = restored c.args.group.now c.args.typed.now c.mark.new.typed c.mark-2.new.typed (λ j o. c.requires.alike j (get_or c.args.group.now 0 0) o (first_in c.args.group.now 0 c.requires.some) ∙ c.if-typed-group.false) c.mark.ensures c.mark-2.ensures
+returns-clause-table c = restored c.args.group.now c.args.typed.now c.mark.new.typed c.unmark.new.typed (λ j o. c.requires.alike j (get_or c.args.group.now 0 0) o (first_in c.args.group.now 0 c.requires.some) ∙ c.if-typed-group.false) c.mark.ensures c.unmark.ensures

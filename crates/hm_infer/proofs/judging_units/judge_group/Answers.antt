@@ -20,7 +20,7 @@ returns-then-not-branch-clause-judged c = λ added base e. record {
   is_marked = c.mark.ensures;
   members = c.deref-2.result.now;
   are_members = members_at c.deref.result.now c.args.group.now.list.found.now.rows.items c.args.group.now.nodes.now c.in_ok-members.members.items c.deref-2.result.now c.deref.ensures.value c.deref-2.ensures.value c.in_ok-members.ensures;
-  outcome = skipped (subst (λ b. TellsMembers b c.args.group.now.list.found.now.numbers c.mark.new.typed c.args.group.now.list.decls.now c.deref-2.result.now) c.if-not-branch.true c.in_ok-members_refer_to_typed.ensures.told) c.mark-then-not-branch.ensures refl;
+  outcome = skipped (subst (λ b. TellsMembers b c.args.group.now.list.found.now.numbers c.mark.new.typed c.args.group.now.list.decls.now c.deref-2.result.now) c.if-not-branch.true c.in_ok-members_refer_to_typed.ensures.told) c.unmark.ensures refl;
 }
 
 pub returns-in-Ok-clause-judged : goal.returns-in-Ok-clause-judged
@@ -40,7 +40,7 @@ returns-in-Err-Clash-clause-judged c = λ added base e. record {
   members = c.deref-2.result.now;
   are_members = members_at c.deref.result.now c.args.group.now.list.found.now.rows.items c.args.group.now.nodes.now c.in_ok-members.members.items c.deref-2.result.now c.deref.ensures.value c.deref-2.ensures.value c.in_ok-members.ensures;
   outcome = untyped c.renewed.result c.infer_group.new.inference.environment (subst (λ b. TellsMembers b c.args.group.now.list.found.now.numbers c.mark.new.typed c.args.group.now.list.decls.now c.deref-2.result.now) c.if-not-branch.false c.in_ok-members_refer_to_typed.ensures.told) (ap (λ s. s.equations) c.renewed.ensures)
-      (judges_clash (Unit {0}) (known_of c.args.group.now.list.constructors.now) c.args.group.now.list.decls.now c.args.group.now.nodes.now base c.renewed.result c.args.inference.now.environment c.infer_group.new.inference.environment c.in-Err-Clash.field-0 c.in-Err-Clash.field-0-is (c.in-Err-Clash.ensures.judged added base e)) c.mark-in-Err-Clash.ensures
+      (judges_clash (Unit {0}) (known_of c.args.group.now.list.constructors.now) c.args.group.now.list.decls.now c.args.group.now.nodes.now base c.renewed.result c.args.inference.now.environment c.infer_group.new.inference.environment c.in-Err-Clash.field-0 c.in-Err-Clash.field-0-is (c.in-Err-Clash.ensures.judged added base e)) c.unmark-in-Err-Clash.ensures
       (let k = c.in-Err-Clash.ensures.kept in c.truncate.ensures k.0 c.args.inference.now.environment k.1 (sym c.len-outside.ensures));
 }
 
