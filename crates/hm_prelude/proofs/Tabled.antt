@@ -14,10 +14,11 @@ use Rattle.hm_types.specs.declared.entries.ConstructorEntry.{ConstructorEntry}
 use Rattle.hm_types.specs.declared.entries.ValueEntry.{ValueEntry}
 use Rattle.hm_types.specs.Types.{App as app, done as none, more, Var as leaf}
 use Rattle.hm_types.specs.Monotypes.{Mono, Monos, var, rigid, list_of}
-use Rattle.hm_types.specs.Schemes.{FitsHead, HasArities, AllHaveArities, HasNoRigid, AllHaveNoRigid}
-use Rattle.hm_prelude.specs.Polish.{WriteTypes, written, with_part, read_as}
+use Rattle.hm_types.specs.Schemes.{TypeScheme, IsScheme, FitsHead, HasArities, AllHaveArities, HasNoRigid, AllHaveNoRigid, canonical_of}
+use Rattle.hm_prelude.specs.Polish.{IsNumbered, WriteSchemes, written, with_part, read_as}
 use Rattle.hm_types.specs.Interfaces.{IsInterface}
 use Rattle.hm_types.specs.StandardPrelude.{prelude_interface, prelude_types, prelude_synonyms, prelude_constructors, prelude_values}
+use Rattle.hm_types.proofs.InOrder.{canonical_is_scheme}
 use Rattle.hm_types.proofs.Ordered.{ordered_by_test, apart_by_test, both_left, both_right}
 
 -- ---- reading from the right
@@ -77,33 +78,53 @@ mutual
   all_arities_by_test none e = tt
   all_arities_by_test (more t ts) e = (arities_by_test t (both_left (is_regular t) (are_regular ts) e), all_arities_by_test ts (both_right (is_regular t) (are_regular ts) e))
 
-abbrev pub rows_are_regular : List (List Part) → Bool
+abbrev pub rows_are_regular : List (ℕ × List Part) → Bool
 rows_are_regular [] = true
-rows_are_regular (row ∷ rows) = is_regular (read_as row) && rows_are_regular rows
+rows_are_regular (row ∷ rows) = is_regular (read_as row.1) && rows_are_regular rows
 
-row_by_test : (rows : List (List Part)) (k : ℕ) (d : List Part) → rows_are_regular rows ≡ true → k < length rows → is_regular (read_as (get_or rows k d)) ≡ true
+row_by_test : (rows : List (ℕ × List Part)) (k : ℕ) (d : ℕ × List Part) → rows_are_regular rows ≡ true → k < length rows → is_regular (read_as (get_or rows k d).1) ≡ true
 row_by_test [] k d e below = absurd (omega (arith, below))
-row_by_test (row ∷ rows) zero d e below = both_left (is_regular (read_as row)) (rows_are_regular rows) e
-row_by_test (row ∷ rows) (suc k) d e below = row_by_test rows k d (both_right (is_regular (read_as row)) (rows_are_regular rows) e) (omega (arith, below))
+row_by_test (row ∷ rows) zero d e below = both_left (is_regular (read_as row.1)) (rows_are_regular rows) e
+row_by_test (row ∷ rows) (suc k) d e below = row_by_test rows k d (both_right (is_regular (read_as row.1)) (rows_are_regular rows) e) (omega (arith, below))
 
-pub rows_by_test : (rows : List (List Part)) → rows_are_regular rows ≡ true → WriteTypes rows
-rows_by_test rows e = record {
-  not_rigid = λ k d below. no_rigid_by_test (read_as (get_or rows k d)) (row_by_test rows k d e below);
-  arities = λ k d below. arities_by_test (read_as (get_or rows k d)) (row_by_test rows k d e below);
+-- the schemes of rows, and the rows as schemes
+abbrev pub canonical_rows : List (ℕ × List Part) → List TypeScheme
+canonical_rows rows = map (λ row. canonical_of (read_as row.1)) rows
+
+abbrev pub rows_as_schemes : List (ℕ × List Part) → List TypeScheme
+rows_as_schemes rows = map (λ row. record { vars = row.0; body = read_as row.1 }) rows
+
+row_is_numbered : (rows : List (ℕ × List Part)) (k : ℕ) (d : ℕ × List Part) → canonical_rows rows ≡ rows_as_schemes rows → k < length rows → IsNumbered (get_or rows k d).0 (read_as (get_or rows k d).1)
+row_is_numbered [] k d e below = absurd (omega (arith, below))
+row_is_numbered (row ∷ rows) zero d e below = cc
+row_is_numbered (row ∷ rows) (suc k) d e below = row_is_numbered rows k d (cc) (omega (arith, below))
+
+pub rows_by_test : (rows : List (ℕ × List Part)) → rows_are_regular rows ≡ true → canonical_rows rows ≡ rows_as_schemes rows → WriteSchemes rows
+rows_by_test rows e n = record {
+  not_rigid = λ k d below. no_rigid_by_test (read_as (get_or rows k d).1) (row_by_test rows k d e below);
+  arities = λ k d below. arities_by_test (read_as (get_or rows k d).1) (row_by_test rows k d e below);
+  numbered = λ k d below. row_is_numbered rows k d n below;
 }
 
-module _ {X : Type 0} (parts : X → List Part) (rows : List X) (k : ℕ) (d : X) (written_types : WriteTypes (map parts rows)) (below : k < length rows) where
+module _ {X : Type 0} (parts : X → ℕ × List Part) (rows : List X) (k : ℕ) (d : X) (written_schemes : WriteSchemes (map parts rows)) (below : k < length rows) where
   within : k < length (map parts rows)
   within = omega (arith, below, length-map rows parts)
 
-  row_is : get_or (map parts rows) k [] ≡ parts (get_or rows k d)
-  row_is = get_or-map parts rows k d [] below
+  row_is : get_or (map parts rows) k (0, []) ≡ parts (get_or rows k d)
+  row_is = get_or-map parts rows k d (0, []) below
 
-  pub row_not_rigid : HasNoRigid (read_as (parts (get_or rows k d)))
-  row_not_rigid = let P : List Part → Type 0 = λ ps. HasNoRigid (read_as ps) in subst P row_is (written_types.not_rigid k [] within)
+  pub row_not_rigid : HasNoRigid (read_as (parts (get_or rows k d)).1)
+  row_not_rigid = let P : (ℕ × List Part) → Type 0 = λ row. HasNoRigid (read_as row.1) in subst P row_is (written_schemes.not_rigid k (0, []) within)
 
-  pub row_arities : HasArities (read_as (parts (get_or rows k d)))
-  row_arities = let P : List Part → Type 0 = λ ps. HasArities (read_as ps) in subst P row_is (written_types.arities k [] within)
+  pub row_arities : HasArities (read_as (parts (get_or rows k d)).1)
+  row_arities = let P : (ℕ × List Part) → Type 0 = λ row. HasArities (read_as row.1) in subst P row_is (written_schemes.arities k (0, []) within)
+
+  pub row_numbered : IsNumbered (parts (get_or rows k d)).0 (read_as (parts (get_or rows k d)).1)
+  row_numbered = let P : (ℕ × List Part) → Type 0 = λ row. IsNumbered row.0 (read_as row.1) in subst P row_is (written_schemes.numbered k (0, []) within)
+
+-- a type whose variables are numbered is the body of a scheme
+pub numbered_is_scheme : (n : ℕ) (t : Mono) → HasNoRigid t → HasArities t → IsNumbered n t → IsScheme (record { vars = n; body = t })
+numbered_is_scheme n t r a e = subst IsScheme e (canonical_is_scheme t r a)
 
 -- ---- the table
 

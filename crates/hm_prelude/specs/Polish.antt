@@ -1,5 +1,5 @@
 -- Types of Prelude in Polish notation, in which each constructor stands before its arguments. No public clause names it.
-use Rattle.std.specs.Prelude.{ℕ, List, [], ◌∷◌, All, codes, take, drop}
+use Rattle.std.specs.Prelude.{◌≡◌, ℕ, List, [], ◌∷◌, All, codes, take, drop}
 use Rattle.hm_types.specs.declared.Head.{Head}
 use Rattle.hm_types.specs.declared.Head.TheVariants.{Named, Arrow, Tuple}
 use Rattle.hm_types.specs.declared.Head.TheVariants as head
@@ -7,7 +7,7 @@ use Rattle.hm_prelude.specs.declared.polish.Part.{Part}
 use Rattle.hm_prelude.specs.declared.polish.Part.TheVariants as part
 use Rattle.hm_types.specs.Types.{App as app}
 use Rattle.hm_types.specs.Monotypes.{Mono, arguments_of}
-use Rattle.hm_types.specs.Schemes.{HasArities, HasNoRigid}
+use Rattle.hm_types.specs.Schemes.{HasArities, HasNoRigid, canonical_of}
 use Rattle.hm_types.specs.StandardPrelude.{a, b, c, in_prelude}
 
 -- the first types of a list as the arguments of a constructor
@@ -42,7 +42,12 @@ first_of (t ∷ ts) = t
 abbrev pub read_as : List Part → Mono
 read_as ps = first_of (written ps [])
 
--- each row writes a type of which there is a scheme
-pub record WriteTypes (rows : List (List Part)) : Type 0 where
-  pub not_rigid : All (λ parts. HasNoRigid (read_as parts)) rows
-  pub arities : All (λ parts. HasArities (read_as parts)) rows
+-- the type has so many variables, which are numbered in order of first occurrence
+abbrev pub IsNumbered : ℕ → Mono → Type 0
+IsNumbered n t = canonical_of t ≡ record { vars = n; body = t }
+
+-- each row tells how many variables a type has, and writes it; there is a scheme of it
+pub record WriteSchemes (rows : List (ℕ × List Part)) : Type 0 where
+  pub not_rigid : All (λ row. HasNoRigid (read_as row.1)) rows
+  pub arities : All (λ row. HasArities (read_as row.1)) rows
+  pub numbered : All (λ row. IsNumbered row.0 (read_as row.1)) rows

@@ -3,5 +3,5 @@ use Rattle.hm_prelude.specs.Polish.{read_as}
 use Rattle.hm_types.specs.StandardPrelude.{constructor_entry}
 use Rattle.hm_prelude.proofs.standard_prelude.constructors.Given as goal
 
-abbrev pub invariant-loop-name : goal.invariant-loop-name
-invariant-loop-name l = l.entries.items ≡ map (λ row. constructor_entry row.0.now row.1.now row.2 (read_as row.3.now)) (take l.name-index l.table)
+abbrev pub invariant-loop-row : goal.invariant-loop-row
+invariant-loop-row l = l.entries.items ≡ map (λ row. constructor_entry row.0.now row.1.now row.2 (read_as row.4.now)) (take l.row-index l.table)

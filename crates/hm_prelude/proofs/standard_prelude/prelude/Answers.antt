@@ -3,10 +3,10 @@ use Rattle.hm_prelude.proofs.Tabled.{rows_by_test, is_interface}
 use Rattle.hm_prelude.proofs.standard_prelude.prelude.Goals as goal
 
 pub constructors-requires : goal.constructors-requires
-constructors-requires c = rows_by_test _ refl
+constructors-requires c = rows_by_test _ refl refl
 
 pub values-requires : goal.values-requires
-values-requires c = rows_by_test _ refl
+values-requires c = rows_by_test _ refl refl
 
 pub new-requires : goal.new-requires
 new-requires c = is_interface _ _ _ _ _ (search rules) c.in_ok-types.ensures c.in_ok-synonyms.ensures c.in_ok-constructors.ensures c.in_ok-values.ensures
