@@ -1,5 +1,5 @@
 -- Names that stand twice, name by name.
-use Rattle.std.proofs.Common.{◌≡◌, ℕ, ◌<◌, ◌+◌, Bool, true, false, cond, ◌||◌, inl, inr, Bor, add-one, suc, ◌≤◌, append-nil, List, [], ◌∷◌, ◌++◌, refl, sym, ap, ◌∙◌, map, bytes_eq, not, append_assoc, drop, length, get_or, drop-cons}
+use Rattle.std.proofs.Common.{arith, ◌≡◌, ℕ, ◌<◌, ◌+◌, Bool, true, false, cond, ◌||◌, inl, inr, Bor, add-one, suc, ◌≤◌, append-nil, List, [], ◌∷◌, ◌++◌, refl, sym, ap, ◌∙◌, map, bytes_eq, not, append_assoc, drop, length, get_or, drop-cons}
 use Rattle.std.proofs.lemmas.Bool.{cases_Bool}
 use Rattle.std.proofs.lemmas.List.{drop_all}
 use Rattle.std.proofs.lemmas.Slice.Eq.{bytes_eq-Decides}
@@ -162,3 +162,24 @@ no_repeated f row i a past = rw (drop_all i row past) refl
 pub no_outside : {Y : Type 0} (f : Identifier → Y) (row : List (Bor Identifier)) (i : ℕ) (a : List (List ℕ)) → length row ≤ i → map f (outside a (map (λ x. x.now) (drop i row))) ≡ []
 unfolding outside
 no_outside f row i a past = rw (drop_all i row past) refl
+
+-- rows with too few names for a fault
+
+none_repeated : {Y : Type 0} (f : Identifier → Y) (row : List (Bor Identifier)) → length row < 2 → map f (repeated [] (map (λ x. x.now) row)) ≡ []
+unfolding repeated
+none_repeated f [] few = refl
+none_repeated f (n ∷ []) few = refl
+none_repeated f (n ∷ (m ∷ row)) few = absurd (omega arith)
+
+pub few_repeated : {Y : Type 0} (f : Identifier → Y) (row : List (Bor Identifier)) (names : List Identifier) (old : List Y) → map (λ x. x.now) row ≡ names → length row < 2
+    → old ≡ old ++ map f (repeated [] names)
+few_repeated f row names old are few = sym (append-nil old) ∙ ap (λ l. old ++ l) (sym (ap (λ l. map f (repeated [] l)) (sym are) ∙ none_repeated f row few))
+
+none_outside : {Y : Type 0} (f : Identifier → Y) (a : List (List ℕ)) (row : List (Bor Identifier)) → length row ≡ 0 → map f (outside a (map (λ x. x.now) row)) ≡ []
+unfolding outside
+none_outside f a [] none = refl
+none_outside f a (n ∷ row) none = absurd (omega arith)
+
+pub empty_outside : {Y : Type 0} (f : Identifier → Y) (a : List (List ℕ)) (row : List (Bor Identifier)) (names : List Identifier) (old : List Y) → map (λ x. x.now) row ≡ names → length row ≡ 0
+    → old ≡ old ++ map f (outside a names)
+empty_outside f a row names old are none = sym (append-nil old) ∙ ap (λ l. old ++ l) (sym (ap (λ l. map f (outside a l)) (sym are) ∙ none_outside f a row none))

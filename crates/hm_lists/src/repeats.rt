@@ -22,6 +22,9 @@ pub fn add_repeated(
     ensures { OnOk result (faults.new.items ≡ faults.old.items ++ map (fault kind) (repeated [] names.now)) }
 {
     let row = names.as_slice();
+    if row.len() < 2 {
+        return Ok(());
+    }
     let mut seen = TextSet::new(alloc);
     'row: for name in row {
         if !seen.insert(name.as_str())? {
@@ -52,8 +55,11 @@ pub fn add_outside(
 ) -> Result<(), AllocError>
     ensures { OnOk result (faults.new.items ≡ faults.old.items ++ map (fault kind) (outside (texts known.now) names.now)) }
 {
-    let set = texts_of(alloc, known.as_slice())?;
     let row = names.as_slice();
+    if row.is_empty() {
+        return Ok(());
+    }
+    let set = texts_of(alloc, known.as_slice())?;
     'row: for name in row {
         if !set.contains(name.as_str()) {
             faults.push(fault_at(alloc, kind, name)?)?;

@@ -1,9 +1,9 @@
-use Rattle.std.proofs.Common.{◌∙◌, ap, ◌++◌, ◌∷◌, [], map, sym}
+use Rattle.std.proofs.Common.{rules, ◌∙◌, ap, ◌++◌, ◌∷◌, [], map, sym}
 use Rattle.hm_names.specs.Faults.Phases.{fault}
 use Rattle.hm_names.specs.Found.{outside}
 use Rattle.hm_names.specs.Texts.{is_text_among}
 use Rattle.hm_names.specs.Variables.{texts}
-use Rattle.hm_lists.proofs.NamesTwice.{outside_there, outside_absent, push_step, keep_step, all_names, no_outside}
+use Rattle.hm_lists.proofs.NamesTwice.{outside_there, outside_absent, push_step, keep_step, all_names, no_outside, empty_outside}
 use Rattle.hm_lists.proofs.repeats.add_outside.Goals.{then-not-contains+in_ok-fault_at+in_ok-push, else-not-contains}
 use Rattle.hm_lists.proofs.repeats.add_outside.Goals as goal
 
@@ -30,3 +30,6 @@ row-preserved c =
 pub returns : goal.returns
 returns c = all_names (λ l. map (fault c.args.kind) (outside (texts c.args.known.now) l)) c.as_slice-row.result.now c.args.names.now c.row.name-index _ c.args.faults.now.items c.row.faults.items
     c.as_slice-row.ensures (no_outside (fault c.args.kind) c.as_slice-row.result.now c.row.name-index (texts c.args.known.now) c.row-test.false) c.row.invariant
+
+pub returns-then-is_empty : goal.returns-then-is_empty
+returns-then-is_empty c = empty_outside (fault c.args.kind) (texts c.args.known.now) c.as_slice-row.result.now c.args.names.now c.args.faults.now.items c.as_slice-row.ensures (search rules)

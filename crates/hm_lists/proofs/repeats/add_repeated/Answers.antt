@@ -1,8 +1,8 @@
-use Rattle.std.proofs.Common.{◌∙◌, ap, ◌++◌, ◌∷◌, [], map}
+use Rattle.std.proofs.Common.{rules, ◌∙◌, ap, ◌++◌, ◌∷◌, [], map}
 use Rattle.hm_names.specs.Faults.Phases.{fault}
 use Rattle.hm_names.specs.Found.{repeated}
 use Rattle.hm_names.specs.Texts.{is_text_among}
-use Rattle.hm_lists.proofs.NamesTwice.{repeated_there, repeated_absent, push_step, keep_step, told_there, told_absent, all_names, no_repeated}
+use Rattle.hm_lists.proofs.NamesTwice.{repeated_there, repeated_absent, push_step, keep_step, told_there, told_absent, all_names, no_repeated, few_repeated}
 use Rattle.hm_lists.proofs.repeats.add_repeated.Goals.{then-not-branch+in_ok-fault_at+in_ok-push, else-not-branch}
 use Rattle.hm_lists.proofs.repeats.add_repeated.Goals as goal
 
@@ -28,3 +28,6 @@ row-preserved c =
 pub returns : goal.returns
 returns c = all_names (λ l. map (fault c.args.kind) (repeated [] l)) c.as_slice-row.result.now c.args.names.now c.row.name-index _ c.args.faults.now.items c.row.faults.items
     c.as_slice-row.ensures (no_repeated (fault c.args.kind) c.as_slice-row.result.now c.row.name-index c.row.seen c.row-test.false) c.row.invariant
+
+pub returns-then-row-lt2 : goal.returns-then-row-lt2
+returns-then-row-lt2 c = few_repeated (fault c.args.kind) c.as_slice-row.result.now c.args.names.now c.args.faults.now.items c.as_slice-row.ensures (search rules)
