@@ -96,6 +96,14 @@ pub colons_open : (ps : List (Expression × Identifier)) (e f : Expression) (ts 
     behind_operands ps (link all_expressions e ts) ≡ Some ((consed (ps ++ (e, special_at (codes ":") ts) ∷ []) f, true), us)
 colons_open ps e f ts us h o q = sym (one_more ps e ts (Some ((f, true), us)) h (chain_open (tail ts) us f o q))
 
+-- with the operands and the tokens as the loop has them
+pub colons_opened : (ps qs : List (Expression × Identifier)) (e f w : Expression) (ts rs us : List Terminal) → is_at Colon ts ≡ true → rs ≡ tail ts → qs ≡ ps ++ (e, special_at (codes ":") ts) ∷ [] →
+    begins_open (peek rs) ≡ true → open_by all_expressions (peek rs) rs ≡ Some (f, us) → w ≡ consed qs f → behind_operands ps (link all_expressions e ts) ≡ Some ((w, true), us)
+colons_opened ps qs e f w ts rs us h r g o q d =
+    let opened : begins_open (peek (tail ts)) ≡ true = ap (λ z. begins_open (peek z)) (sym r) ∙ o in
+    let read : open_by all_expressions (peek (tail ts)) (tail ts) ≡ Some (f, us) = ap (λ z. open_by all_expressions (peek z) z) (sym r) ∙ q in
+    rw (d, g) (colons_open ps e f ts us h opened read)
+
 pub colons_open_none : (ps : List (Expression × Identifier)) (e : Expression) (ts : List Terminal) → is_at Colon ts ≡ true → begins_open (peek (tail ts)) ≡ true → open_by all_expressions (peek (tail ts)) (tail ts) ≡ None →
     behind_operands ps (link all_expressions e ts) ≡ None
 colons_open_none ps e ts h o q = sym (one_more ps e ts None h (chain_open_none (tail ts) o q))

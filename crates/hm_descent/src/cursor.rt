@@ -1,5 +1,5 @@
 //! The tokens that are left of a source, and the steps that every part of the parser takes on them.
-ghost use Rattle.std.specs.Prelude.{◌≡◌};
+ghost use Rattle.std.specs.Prelude.{◌≡◌, IfOk};
 ghost use Rattle.hm_grammar.specs.Reading.Basics.{peek, is_at, is_done, is_at_word, tail, expect, name_at, module_name_at, modid_at, item_end, past_semicolons};
 ghost use Rattle.hm_grammar.specs.Reading.Constructors.{IsPlaceAt};
 ghost use Rattle.hm_grammar.specs.Reading.Answers.{Gives};
@@ -229,7 +229,7 @@ impl Parser<'_> {
 
     /// Goes past the separator behind an item, or stays before the end of the items.
     #[tactic(auto, unfolding(hm_grammar::specs::Reading::Basics::item_end))]
-    pub fn item_end(&mut self, separator: Symbol, end: Symbol) -> Result<(), ParseFault>
+    pub(crate) fn item_end(&mut self, separator: Symbol, end: Symbol) -> Result<(), ParseFault>
         ensures { Gives (λ _. self.new) result (item_end separator end self.old) }
     {
         if self.at(separator) {
@@ -240,6 +240,29 @@ impl Parser<'_> {
         } else {
             Err(ParseFault::Syntax(self.place()))
         }
+    }
+
+    /// Goes past the separator behind an item, or stays before the end of the items, and hands the item back.
+    pub fn ended<T: Drop>(
+        &mut self,
+        item: T,
+        separator: Symbol,
+        end: Symbol,
+    ) -> Result<T, ParseFault>
+        ensures read { Gives (λ _. self.new) result (item_end separator end self.old) }
+        ensures item { IfOk result (λ it. it ≡ item) }
+    {
+        self.item_end(separator, end)?;
+        Ok(item)
+    }
+
+    /// Goes past this symbol behind a part, and hands the part back.
+    pub(crate) fn before<T: Drop>(&mut self, part: T, symbol: Symbol) -> Result<T, ParseFault>
+        ensures read { Gives (λ _. self.new) result (expect symbol self.old) }
+        ensures part { IfOk result (λ it. it ≡ part) }
+    {
+        self.expect(symbol)?;
+        Ok(part)
     }
 
     /// Goes past the semicolons that stand next.

@@ -15,15 +15,15 @@ impl Parser<'_> {
     {
         if self.at(Symbol::Data) {
             self.skip();
-            Ok(self.data(alloc)?)
+            self.data(alloc)
         } else if self.at(Symbol::Newtype) {
             self.skip();
-            Ok(self.newtype(alloc)?)
+            self.newtype(alloc)
         } else if self.at(Symbol::TypeWord) {
             self.skip();
-            Ok(self.synonym(alloc)?)
+            self.synonym(alloc)
         } else {
-            Ok(self.decl(alloc)?)
+            self.decl(alloc)
         }
     }
 }

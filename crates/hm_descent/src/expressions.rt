@@ -1,12 +1,12 @@
 //! Expressions and declarations (Haskell 98 Report, sections 3 and 4.4).
 ghost use Rattle.std.specs.Prelude.{◌≡◌, ◌≤◌, length, [], ◌∷◌, false, IfOk};
 ghost use Rattle.hm_syntax.specs.Lists.{bodies};
-ghost use Rattle.hm_syntax.specs.Trees.{application};
 ghost use Rattle.hm_grammar.specs.Reading.Basics.{peek, tail, is_at, loop, behind, next_of, closing, tuple_behind, list_in};
-ghost use Rattle.hm_grammar.specs.Reading.Expressions.{tuple_of_expressions, list_of_expressions, next_item_of, var_at, exp_with, aexp_step, args_from, guarded_in, next_guarded, bodies_with, where_with, rhs_with, alt_with, alts_with, case_with, opd_with, link, typed_behind, consed, cons_expression, open_by, lambda_with, let_with, if_with, signature_with, begins_binding, binding_of, binding_with, decl_with, all_expressions};
+ghost use Rattle.hm_grammar.specs.Reading.Expressions.{tuple_of_expressions, list_of_expressions, next_item_of, var_at, exp_with, aexp_step, args_from, guarded_in, next_guarded, bodies_with, where_with, rhs_with, alt_with, alts_with, case_with, opd_with, link, typed_behind, consed, cons_expression, open_by, lambda_with, let_with, if_with, signature_with, begins_binding, binding_of, binding_with, clause_with, decl_with, all_expressions};
 ghost use Rattle.hm_grammar.specs.Reading.Answers.{Gives};
 
 use crate::cursor::{Context, Parser};
+use crate::owned::{both_boxed, boxed, only, put_first};
 use crate::types::MAX_COMPONENTS;
 use hm_grammar::{ParseFault, Symbol};
 use hm_lex::Place;
@@ -32,12 +32,21 @@ impl Parser<'_> {
         Ok(self.typed(alloc, e)?)
     }
 
+    /// An expression in a box of its own.
+    #[cycle(exprs)]
+    fn boxed_exp(&mut self, alloc: Global, context: Context) -> Result<Box<Expr>, ParseFault>
+        ensures { Gives (λ b. (b.value, self.new)) result (exp_with all_expressions self.old) }
+    {
+        let e = self.exp(alloc, context)?;
+        Ok(boxed(alloc, e)?)
+    }
+
     /// What follows `::` behind an expression.
     #[inline(never)]
     fn typed(&mut self, alloc: Global, e: Expr) -> Result<Expr, ParseFault>
         ensures { Gives (λ whole. (whole, self.new)) result (typed_behind e self.old) }
     {
-        let e = Box::new(alloc, e)?;
+        let e = boxed(alloc, e)?;
         let ty = self.type_expr(alloc)?;
         Ok(Expr {
             kind: ExprKind::Typed(e, ty),
@@ -76,15 +85,17 @@ impl Parser<'_> {
         let mut last = first;
         let mut operands = Vec::new(alloc);
         'colons: while self.at(Symbol::Colon) {
-            let colon = self.colon(alloc)?;
-            operands.push((last, colon))?;
+            let linked = self.with_colon(alloc, last)?;
+            operands.push(linked)?;
             if self.symbol().begins_open() {
                 let e = self.open_exp(alloc, context)?;
-                return Ok((cons_all(alloc, operands, e)?, true));
+                let whole = cons_all(alloc, operands, e)?;
+                return Ok((whole, true));
             }
             last = self.operand(alloc)?;
         }
-        Ok((cons_all(alloc, operands, last)?, false))
+        let whole = cons_all(alloc, operands, last)?;
+        Ok((whole, false))
     }
 
     /// A lambda, a `let` or an `if`.
@@ -97,15 +108,15 @@ impl Parser<'_> {
         match self.symbol() {
             Symbol::Backslash => {
                 self.skip();
-                Ok(self.lambda(alloc, context)?)
+                self.lambda(alloc, context)
             }
             Symbol::Let => {
                 self.skip();
-                Ok(self.let_in(alloc, context)?)
+                self.let_in(alloc, context)
             }
             Symbol::If => {
                 self.skip();
-                Ok(self.if_then_else(alloc, context)?)
+                self.if_then_else(alloc, context)
             }
             _ => Err(ParseFault::Syntax(self.place())),
         }
@@ -118,12 +129,12 @@ impl Parser<'_> {
         ensures { Gives (λ e. (e, self.new)) result (lambda_with all_expressions self.old) }
     {
         let first = self.apat(alloc)?;
-        let mut params = self.apats(alloc)?;
-        params.insert(0, first)?;
-        self.expect(Symbol::Arrow)?;
-        let body = self.exp(alloc, context)?;
+        let more = or_drop!(self.apats(alloc), first);
+        let params = put_first(first, more)?;
+        let params = self.before(params, Symbol::Arrow)?;
+        let body = self.boxed_exp(alloc, context)?;
         Ok(Expr {
-            kind: ExprKind::Lambda(params, Box::new(alloc, body)?),
+            kind: ExprKind::Lambda(params, body),
         })
     }
 
@@ -135,9 +146,9 @@ impl Parser<'_> {
     {
         let local = self.decls(alloc)?;
         self.expect(Symbol::In)?;
-        let body = self.exp(alloc, context)?;
+        let body = self.boxed_exp(alloc, context)?;
         Ok(Expr {
-            kind: ExprKind::Let(local, Box::new(alloc, body)?),
+            kind: ExprKind::Let(local, body),
         })
     }
 
@@ -147,14 +158,11 @@ impl Parser<'_> {
     fn if_then_else(&mut self, alloc: Global, context: Context) -> Result<Expr, ParseFault>
         ensures { Gives (λ e. (e, self.new)) result (if_with all_expressions self.old) }
     {
-        let test = self.exp(alloc, Context::Elsewhere)?;
-        let test = Box::new(alloc, test)?;
+        let test = self.boxed_exp(alloc, Context::Elsewhere)?;
         self.expect(Symbol::Then)?;
-        let consequence = self.exp(alloc, Context::Elsewhere)?;
-        let consequence = Box::new(alloc, consequence)?;
+        let consequence = self.boxed_exp(alloc, Context::Elsewhere)?;
         self.expect(Symbol::Else)?;
-        let alternative = self.exp(alloc, context)?;
-        let alternative = Box::new(alloc, alternative)?;
+        let alternative = self.boxed_exp(alloc, context)?;
         Ok(Expr {
             kind: ExprKind::If(test, consequence, alternative),
         })
@@ -169,12 +177,16 @@ impl Parser<'_> {
     {
         if self.at(Symbol::Case) {
             self.skip();
-            return Ok(self.case_of(alloc)?);
+            return self.case_of(alloc);
         }
         let mut head = self.aexp(alloc)?;
         'apply: while self.symbol().begins_aexp() {
-            let arg = self.aexp(alloc)?;
-            head = apply(alloc, head, arg)?;
+            let function = boxed(alloc, head)?;
+            let argument = self.aexp(alloc)?;
+            let argument = boxed(alloc, argument)?;
+            head = Expr {
+                kind: ExprKind::Apply(function, argument),
+            };
         }
         Ok(head)
     }
@@ -185,8 +197,7 @@ impl Parser<'_> {
     fn case_of(&mut self, alloc: Global) -> Result<Expr, ParseFault>
         ensures { Gives (λ e. (e, self.new)) result (case_with all_expressions self.old) }
     {
-        let subject = self.exp(alloc, Context::Elsewhere)?;
-        let subject = Box::new(alloc, subject)?;
+        let subject = self.boxed_exp(alloc, Context::Elsewhere)?;
         self.expect(Symbol::Of)?;
         self.expect(Symbol::LeftBrace)?;
         let alts = self.alts(alloc)?;
@@ -225,31 +236,40 @@ impl Parser<'_> {
             return Ok(None);
         }
         let pat = self.pat(alloc)?;
-        let rhs = self.rhs(alloc, Symbol::Arrow)?;
-        self.item_end(Symbol::Semicolon, Symbol::RightBrace)?;
-        Ok(Some(Alt { pat, rhs }))
+        let rhs = or_drop!(self.rhs(alloc, Symbol::Arrow), pat);
+        let alt = Alt { pat, rhs };
+        Ok(Some(self.ended(alt, Symbol::Semicolon, Symbol::RightBrace)?))
     }
 
     /// A right side, behind this mark or behind guards and this mark, with its local declarations.
     #[cycle(exprs)]
-    #[tactic(auto, using(crate::proofs::ExpressionLoops::bodies_shorter, crate::proofs::ExpressionLoops::where_shorter), unfolding(hm_grammar::specs::Reading::Expressions::rhs_with, hm_grammar::specs::Reading::Expressions::where_with))]
+    #[tactic(auto, using(crate::proofs::ExpressionLoops::bodies_shorter), unfolding(hm_grammar::specs::Reading::Expressions::rhs_with))]
     fn rhs(&mut self, alloc: Global, mark: Symbol) -> Result<Rhs, ParseFault>
         requires { is_at mark [] ≡ false }
         ensures { Gives (λ b. (b, self.new)) result (rhs_with all_expressions mark self.old) }
     {
         let parts = self.bodies(alloc, mark)?;
-        let local = if self.at(Symbol::Where) {
-            self.skip();
-            self.decls(alloc)?
-        } else {
-            Vec::new(alloc)
-        };
+        let local = self.local_decls(alloc)?;
         Ok(Rhs { parts, local })
+    }
+
+    /// The declarations behind `where`, if it stands here.
+    #[cycle(exprs)]
+    #[tactic(auto, using(crate::proofs::ExpressionLoops::where_shorter), unfolding(hm_grammar::specs::Reading::Expressions::where_with))]
+    fn local_decls(&mut self, alloc: Global) -> Result<Vec<Decl>, ParseFault>
+        ensures { Gives (λ v. (v.items, self.new)) result (where_with all_expressions self.old) }
+    {
+        if self.at(Symbol::Where) {
+            self.skip();
+            self.decls(alloc)
+        } else {
+            Ok(Vec::new(alloc))
+        }
     }
 
     /// The expressions of a right side, each behind its guard, if it has one.
     #[cycle(exprs)]
-    #[tactic(auto, using(crate::proofs::ExpressionLoops::symbol_shorter, crate::proofs::ExpressionLoops::bar_shorter, crate::proofs::ExpressionLoops::guards_go_on, crate::proofs::ExpressionLoops::guards_end, crate::proofs::ExpressionLoops::guards_fail, crate::proofs::ExpressionLoops::next_guarded_shorter), unfolding(hm_grammar::specs::Reading::Expressions::bodies_with))]
+    #[tactic(auto, using(crate::proofs::ExpressionLoops::symbol_shorter, crate::proofs::ExpressionLoops::bar_shorter), unfolding(hm_grammar::specs::Reading::Expressions::bodies_with))]
     fn bodies(
         &mut self,
         alloc: Global,
@@ -261,16 +281,29 @@ impl Parser<'_> {
         if self.at(mark) {
             self.skip();
             let body = self.exp(alloc, Context::Elsewhere)?;
-            let mut only = Vec::with_capacity(alloc, 1)?;
-            only.push((None, body))?;
-            return Ok(only);
+            return Ok(only(alloc, (None, body))?);
         }
         if !self.at(Symbol::Bar) {
             return Err(ParseFault::Syntax(self.place()));
         }
         self.skip();
+        let first = self.guarded(alloc, mark)?;
+        self.guards(alloc, mark, first)
+    }
+
+    /// What follows the first guard with its expression.
+    #[cycle(exprs)]
+    #[tactic(auto, using(crate::proofs::ExpressionLoops::guards_go_on, crate::proofs::ExpressionLoops::guards_end, crate::proofs::ExpressionLoops::guards_fail, crate::proofs::ExpressionLoops::next_guarded_shorter))]
+    fn guards(
+        &mut self,
+        alloc: Global,
+        mark: Symbol,
+        first: (Option<Expr>, Expr),
+    ) -> Result<Vec<(Option<Expr>, Expr)>, ParseFault>
+        ensures { Gives (λ v. (v.items, self.new)) result (behind (first ∷ []) (loop (next_guarded all_expressions mark) self.old)) }
+    {
         let mut found = Vec::new(alloc);
-        found.push(self.guarded(alloc, mark)?)?;
+        found.push(first)?;
         'guards: while let Some(next) = self.next_guarded(alloc, mark)? {
             found.push(next)?;
         }
@@ -283,9 +316,9 @@ impl Parser<'_> {
     fn guarded(&mut self, alloc: Global, mark: Symbol) -> Result<(Option<Expr>, Expr), ParseFault>
         ensures { Gives (λ x. (x, self.new)) result (guarded_in all_expressions mark self.old) }
     {
-        let (guard, _) = self.chain(alloc, Context::of_guard(mark))?;
-        self.expect(mark)?;
-        let body = self.exp(alloc, Context::Elsewhere)?;
+        let (test, _) = self.chain(alloc, Context::of_guard(mark))?;
+        let guard = self.before(test, mark)?;
+        let body = or_drop!(self.exp(alloc, Context::Elsewhere), guard);
         Ok((Some(guard), body))
     }
 
@@ -334,28 +367,35 @@ impl Parser<'_> {
             Symbol::Open => {
                 self.skip();
                 let first = self.exp(alloc, Context::Elsewhere)?;
-                Ok(self.exp_closing(alloc, first)?)
+                self.exp_closing(alloc, first)
             }
             Symbol::OpenSquare => {
                 self.skip();
-                Ok(self.exp_list(alloc)?)
+                self.exp_list(alloc)
             }
             _ => Err(ParseFault::Syntax(self.place())),
         }
     }
 
-    /// What follows `(` and an expression. A comma behind the last component that is allowed is a fault.
+    /// What follows `(` and an expression.
     #[cycle(exprs)]
-    #[tactic(auto, using(crate::proofs::TypeLoops::comma_shorter, crate::proofs::ExpressionLoops::exp_shorter, crate::proofs::ExpressionLoops::components_go_on, crate::proofs::ExpressionLoops::components_end, crate::proofs::ExpressionLoops::components_open, crate::proofs::ExpressionLoops::components_fail, crate::proofs::ExpressionLoops::components_many), unfolding(hm_grammar::specs::Reading::Basics::closing))]
+    #[tactic(auto, unfolding(hm_grammar::specs::Reading::Basics::closing))]
     fn exp_closing(&mut self, alloc: Global, first: Expr) -> Result<Expr, ParseFault>
         ensures { Gives (λ e. (e, self.new)) result (closing (exp_with all_expressions) tuple_of_expressions first self.old) }
     {
         if !self.at(Symbol::Comma) {
-            self.expect(Symbol::Close)?;
-            return Ok(first);
+            return Ok(self.before(first, Symbol::Close)?);
         }
-        let mut found = Vec::new(alloc);
-        found.push(first)?;
+        self.exp_tuple(alloc, first)
+    }
+
+    /// What follows the first component of a tuple. A comma behind the last that is allowed is a fault.
+    #[cycle(exprs)]
+    #[tactic(auto, using(crate::proofs::TypeLoops::comma_shorter, crate::proofs::ExpressionLoops::exp_shorter, crate::proofs::ExpressionLoops::components_go_on, crate::proofs::ExpressionLoops::components_end, crate::proofs::ExpressionLoops::components_open, crate::proofs::ExpressionLoops::components_fail, crate::proofs::ExpressionLoops::components_many))]
+    fn exp_tuple(&mut self, alloc: Global, first: Expr) -> Result<Expr, ParseFault>
+        ensures { Gives (λ e. (e, self.new)) result (tuple_behind (exp_with all_expressions) tuple_of_expressions first self.old) }
+    {
+        let mut found = only(alloc, first)?;
         'components: while self.at(Symbol::Comma) {
             if found.len() == MAX_COMPONENTS {
                 return Err(ParseFault::Syntax(self.place()));
@@ -376,8 +416,7 @@ impl Parser<'_> {
         ensures { Gives (λ e. (e, self.new)) result (list_in (exp_with all_expressions) list_of_expressions self.old) }
     {
         let first = self.exp(alloc, Context::Elsewhere)?;
-        let mut found = Vec::new(alloc);
-        found.push(first)?;
+        let mut found = only(alloc, first)?;
         'elements: while self.at(Symbol::Comma) {
             self.skip();
             found.push(self.exp(alloc, Context::Elsewhere)?)?;
@@ -414,25 +453,33 @@ impl Parser<'_> {
             return Ok(None);
         }
         let decl = self.decl(alloc)?;
-        self.item_end(Symbol::Semicolon, Symbol::RightBrace)?;
-        Ok(Some(decl))
+        Ok(Some(self.ended(decl, Symbol::Semicolon, Symbol::RightBrace)?))
     }
 
     /// A signature, a clause or a pattern binding.
     #[cycle(exprs)]
-    #[tactic(auto, using(crate::proofs::ExpressionLoops::variable_shorter, crate::proofs::ExpressionLoops::apats_shorter), unfolding(hm_grammar::specs::Reading::Expressions::decl_with, hm_grammar::specs::Reading::Expressions::named_with, hm_grammar::specs::Reading::Expressions::clause_with))]
+    #[tactic(auto, using(crate::proofs::ExpressionLoops::variable_shorter), unfolding(hm_grammar::specs::Reading::Expressions::decl_with, hm_grammar::specs::Reading::Expressions::named_with))]
     pub(crate) fn decl(&mut self, alloc: Global) -> Result<Decl, ParseFault>
         ensures { Gives (λ d. (d, self.new)) result (decl_with all_expressions self.old) }
     {
         if self.begins_binding() {
-            return Ok(self.binding(alloc)?);
+            return self.binding(alloc);
         }
         let name = self.var(alloc)?;
         if self.symbol().begins_signature() {
-            return Ok(self.signature(alloc, name)?);
+            return self.signature(alloc, name);
         }
-        let pats = self.apats(alloc)?;
-        let rhs = self.rhs(alloc, Symbol::Equals)?;
+        self.clause(alloc, name)
+    }
+
+    /// What follows the name of a clause.
+    #[cycle(exprs)]
+    #[tactic(auto, using(crate::proofs::ExpressionLoops::apats_shorter), unfolding(hm_grammar::specs::Reading::Expressions::clause_with))]
+    fn clause(&mut self, alloc: Global, name: Name) -> Result<Decl, ParseFault>
+        ensures { Gives (λ d. (d, self.new)) result (clause_with all_expressions name self.old) }
+    {
+        let pats = or_drop!(self.apats(alloc), name);
+        let rhs = or_drop!(self.rhs(alloc, Symbol::Equals), name, pats);
         Ok(Decl {
             kind: DeclKind::Clause { name, pats, rhs },
         })
@@ -459,7 +506,7 @@ impl Parser<'_> {
     {
         let place = self.place();
         let pat = self.pat(alloc)?;
-        let rhs = self.rhs(alloc, Symbol::Equals)?;
+        let rhs = or_drop!(self.rhs(alloc, Symbol::Equals), pat);
         Ok(binding_of(alloc, place, pat, rhs))
     }
 
@@ -469,7 +516,7 @@ impl Parser<'_> {
         ensures { Gives (λ n. (n, self.new)) result (var_at self.old) }
     {
         if self.at(Symbol::Var) {
-            Ok(self.name(alloc)?)
+            self.name(alloc)
         } else {
             Err(ParseFault::Syntax(self.place()))
         }
@@ -493,8 +540,7 @@ impl Parser<'_> {
     fn vars(&mut self, alloc: Global, first: Name) -> Result<Vec<Name>, ParseFault>
         ensures { Gives (λ v. (v.items, self.new)) result (behind (first ∷ []) (loop (next_of var_at) self.old)) }
     {
-        let mut found = Vec::new(alloc);
-        found.push(first)?;
+        let mut found = only(alloc, first)?;
         'vars: while let Some(var) = self.next_var(alloc)? {
             found.push(var)?;
         }
@@ -552,20 +598,16 @@ fn cons_all(alloc: Global, operands: Vec<(Expr, Name)>, last: Expr) -> Result<Ex
 fn cons(alloc: Global, operand: Expr, colon: Name, rest: Expr) -> Result<Expr, AllocError>
     ensures { IfOk result (λ e. e ≡ cons_expression colon operand rest) }
 {
+    let (operand, rest) = or_drop!(both_boxed(alloc, operand, rest), colon);
     let colon = Expr {
         kind: ExprKind::Con(colon),
     };
-    let half = apply(alloc, colon, operand)?;
-    apply(alloc, half, rest)
-}
-
-/// A function applied to an argument.
-fn apply(alloc: Global, function: Expr, argument: Expr) -> Result<Expr, AllocError>
-    ensures { IfOk result (λ e. e ≡ application function argument) }
-{
-    let function = Box::new(alloc, function)?;
-    let argument = Box::new(alloc, argument)?;
+    let colon = boxed(alloc, colon)?;
+    let half = Expr {
+        kind: ExprKind::Apply(colon, operand),
+    };
+    let half = boxed(alloc, half)?;
     Ok(Expr {
-        kind: ExprKind::Apply(function, argument),
+        kind: ExprKind::Apply(half, rest),
     })
 }

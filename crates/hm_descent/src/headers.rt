@@ -5,6 +5,7 @@ ghost use Rattle.hm_grammar.specs.Reading.Headers.{con_at, next_con, con_row, su
 ghost use Rattle.hm_grammar.specs.Reading.Answers.{Gives};
 
 use crate::cursor::Parser;
+use crate::owned::only;
 use hm_grammar::{ParseFault, Symbol};
 use hm_syntax::{Export, Import, Item, List, Name, Row, Subs};
 use std::alloc::Global;
@@ -39,8 +40,8 @@ impl Parser<'_> {
     pub(crate) fn con_row(&mut self, alloc: Global) -> Result<Row<Name>, ParseFault>
         ensures { Gives (λ s. (s, self.new)) result (con_row self.old) }
     {
-        let mut items = Vec::new(alloc);
-        items.push(self.con(alloc)?)?;
+        let first = self.con(alloc)?;
+        let mut items = only(alloc, first)?;
         'cons: while let Some(con) = self.next_con(alloc)? {
             items.push(con)?;
         }
@@ -63,8 +64,7 @@ impl Parser<'_> {
             return Ok(Subs::Some(Row { items }));
         }
         let cons = self.con_row(alloc)?;
-        self.expect(Symbol::Close)?;
-        Ok(Subs::Some(cons))
+        Ok(Subs::Some(self.before(cons, Symbol::Close)?))
     }
 
     #[tactic(auto, unfolding(hm_grammar::specs::Reading::Headers::subs_at))]
@@ -87,7 +87,8 @@ impl Parser<'_> {
             Symbol::Var | Symbol::QVar => Ok(Export::Var(self.name(alloc)?)),
             Symbol::Con | Symbol::QCon => {
                 let name = self.name(alloc)?;
-                Ok(Export::Con(name, self.subs(alloc)?))
+                let subs = or_drop!(self.subs(alloc), name);
+                Ok(Export::Con(name, subs))
             }
             Symbol::Module => {
                 self.skip();
@@ -105,7 +106,8 @@ impl Parser<'_> {
             Symbol::Var => Ok(Item::Var(self.name(alloc)?)),
             Symbol::Con => {
                 let name = self.name(alloc)?;
-                Ok(Item::Con(name, self.subs(alloc)?))
+                let subs = or_drop!(self.subs(alloc), name);
+                Ok(Item::Con(name, subs))
             }
             _ => Err(ParseFault::Syntax(self.place())),
         }
@@ -121,8 +123,7 @@ impl Parser<'_> {
             return Ok(None);
         }
         let export = self.export(alloc)?;
-        self.item_end(Symbol::Comma, Symbol::Close)?;
-        Ok(Some(export))
+        Ok(Some(self.ended(export, Symbol::Comma, Symbol::Close)?))
     }
 
     /// One more item with the comma behind it, or the end of the list.
@@ -135,8 +136,7 @@ impl Parser<'_> {
             return Ok(None);
         }
         let item = self.item(alloc)?;
-        self.item_end(Symbol::Comma, Symbol::Close)?;
-        Ok(Some(item))
+        Ok(Some(self.ended(item, Symbol::Comma, Symbol::Close)?))
     }
 
     /// What follows `(` of an export list.
@@ -144,12 +144,13 @@ impl Parser<'_> {
     pub(crate) fn exports_in(&mut self, alloc: Global) -> Result<Row<Export>, ParseFault>
         ensures { Gives (λ e. (e, self.new)) result (exports_in self.old) }
     {
-        let mut items = Vec::new(alloc);
         if self.at(Symbol::Comma) {
             self.skip();
             self.expect(Symbol::Close)?;
+            let items = Vec::new(alloc);
             return Ok(Row { items });
         }
+        let mut items = Vec::new(alloc);
         'exports: while let Some(export) = self.next_export(alloc)? {
             items.push(export)?;
         }
@@ -161,12 +162,13 @@ impl Parser<'_> {
     pub(crate) fn items_in(&mut self, alloc: Global) -> Result<Row<Item>, ParseFault>
         ensures { Gives (λ e. (e, self.new)) result (items_in self.old) }
     {
-        let mut items = Vec::new(alloc);
         if self.at(Symbol::Comma) {
             self.skip();
             self.expect(Symbol::Close)?;
+            let items = Vec::new(alloc);
             return Ok(Row { items });
         }
+        let mut items = Vec::new(alloc);
         'items: while let Some(item) = self.next_item(alloc)? {
             items.push(item)?;
         }
@@ -231,8 +233,8 @@ impl Parser<'_> {
     {
         let qualified = self.qualified();
         let name = self.modid(alloc)?;
-        let alias = self.alias(alloc)?;
-        let list = self.list(alloc)?;
+        let alias = or_drop!(self.alias(alloc), name);
+        let list = or_drop!(self.list(alloc), name, alias);
         Ok(Import {
             qualified,
             name,
@@ -252,7 +254,6 @@ impl Parser<'_> {
         }
         self.skip();
         let import = self.import(alloc)?;
-        self.item_end(Symbol::Semicolon, Symbol::RightBrace)?;
-        Ok(Some(import))
+        Ok(Some(self.ended(import, Symbol::Semicolon, Symbol::RightBrace)?))
     }
 }

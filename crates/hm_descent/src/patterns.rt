@@ -1,13 +1,14 @@
 //! Patterns (Haskell 98 Report, section 3.17), and the constructors and literals that stand in them (section 3.2).
 ghost use Rattle.std.specs.Prelude.{◌≡◌, ◌≤◌, ◌+◌, length, string_bytes, [], ◌∷◌, IfOk, OnOk, true, codes};
 ghost use Rattle.hm_grammar.specs.Reading.Basics.{peek, tail, is_at, loop, closing, tuple_behind, list_in};
-ghost use Rattle.hm_grammar.specs.Reading.Constructors.{begins_gcon, special_at, commas_at, mark_at, gcon_at, literal_at};
+ghost use Rattle.hm_grammar.specs.Reading.Constructors.{begins_gcon, special_at, commas_at, mark_by, mark_at, gcon_at, literal_at};
 ghost use Rattle.hm_grammar.specs.Grammar.Patterns.{tuple_text};
 ghost use Rattle.hm_grammar.specs.Reading.Patterns.{tuple_of_patterns, list_of_patterns, apat_step, next_apat, apats_with, lpat_with, bound_with, all_patterns};
 ghost use Rattle.hm_grammar.specs.Reading.Answers.{Gives};
-ghost use Rattle.hm_grammar.specs.declared.symbol.Symbol.TheVariants.{Colon};
+ghost use Rattle.hm_grammar.specs.declared.symbol.Symbol.TheVariants.{Colon, Comma};
 
 use crate::cursor::Parser;
+use crate::owned::{boxed, only};
 use crate::types::MAX_COMPONENTS;
 use hm_grammar::{ParseFault, Symbol};
 use hm_syntax::{Literal, LiteralKind, Name, Pat, PatKind};
@@ -29,6 +30,13 @@ fn tuple_text(alloc: Global, commas: usize) -> Result<String, AllocError>
     }
     text.push(')')?;
     Ok(text)
+}
+
+/// The text of a name, whose other parts are dropped.
+fn into_text(name: Name) -> String
+    ensures { string_bytes result ≡ name.text }
+{
+    name.text
 }
 
 impl Parser<'_> {
@@ -77,13 +85,18 @@ impl Parser<'_> {
                 self.expect(Symbol::Close)?;
                 Ok(String::from_str(alloc, ":")?)
             }
-            Symbol::Comma => {
-                let commas = self.commas()?;
-                self.expect(Symbol::Close)?;
-                Ok(tuple_text(alloc, commas)?)
-            }
+            Symbol::Comma => self.tuple_mark(alloc),
             _ => Err(ParseFault::Syntax(self.place())),
         }
+    }
+
+    /// The text of the constructor of a tuple, from its first comma.
+    fn tuple_mark(&mut self, alloc: Global) -> Result<String, ParseFault>
+        ensures { Gives (λ text. (string_bytes text, self.new)) result (mark_by Comma self.old) }
+    {
+        let commas = self.commas()?;
+        self.expect(Symbol::Close)?;
+        Ok(tuple_text(alloc, commas)?)
     }
 
     /// A constructor.
@@ -93,7 +106,7 @@ impl Parser<'_> {
     {
         let place = self.place();
         match self.symbol() {
-            Symbol::Con | Symbol::QCon => Ok(self.name(alloc)?),
+            Symbol::Con | Symbol::QCon => self.name(alloc),
             Symbol::Open => {
                 self.skip();
                 let text = self.mark(alloc)?;
@@ -126,19 +139,19 @@ impl Parser<'_> {
             Symbol::Integer => {
                 let name = self.module_name(alloc)?;
                 Ok(Literal {
-                    kind: LiteralKind::Integer(name.text),
+                    kind: LiteralKind::Integer(into_text(name)),
                 })
             }
             Symbol::Character => {
                 let name = self.module_name(alloc)?;
                 Ok(Literal {
-                    kind: LiteralKind::Character(name.text),
+                    kind: LiteralKind::Character(into_text(name)),
                 })
             }
             Symbol::Text => {
                 let name = self.module_name(alloc)?;
                 Ok(Literal {
-                    kind: LiteralKind::Text(name.text),
+                    kind: LiteralKind::Text(into_text(name)),
                 })
             }
             _ => Err(ParseFault::Syntax(self.place())),
@@ -162,6 +175,20 @@ impl Parser<'_> {
         })
     }
 
+    /// Goes past a colon, as a name, and hands it back behind the part before it.
+    pub(crate) fn with_colon<T: Drop>(
+        &mut self,
+        alloc: Global,
+        part: T,
+    ) -> Result<(T, Name), AllocError>
+        requires { is_at Colon self.old ≡ true }
+        ensures ok { OnOk result (self.new ≡ tail self.old) }
+        ensures both { IfOk result (λ both. both ≡ (part, special_at (codes ":") self.old)) }
+    {
+        let colon = self.colon(alloc)?;
+        Ok((part, colon))
+    }
+
     #[cycle(pats)]
     #[tactic(auto, using(crate::proofs::PatternLoops::pat_is, crate::proofs::PatternLoops::lpat_shorter, crate::proofs::TypeLoops::tail_length), unfolding(hm_grammar::specs::Reading::Patterns::pat_step))]
     pub(crate) fn pat(&mut self, alloc: Global) -> Result<Pat, ParseFault>
@@ -171,10 +198,10 @@ impl Parser<'_> {
         if !self.at(Symbol::Colon) {
             return Ok(first);
         }
-        let mut both = Vec::new(alloc);
-        both.push(first)?;
+        let mut both = only(alloc, first)?;
         let colon = self.colon(alloc)?;
-        both.push(self.pat(alloc)?)?;
+        let second = or_drop!(self.pat(alloc), both, colon);
+        both.push(second)?;
         Ok(Pat {
             kind: PatKind::Con(colon, both),
         })
@@ -189,7 +216,7 @@ impl Parser<'_> {
             return self.apat(alloc);
         }
         let name = self.gcon(alloc)?;
-        let args = self.apats(alloc)?;
+        let args = or_drop!(self.apats(alloc), name);
         Ok(Pat {
             kind: PatKind::Con(name, args),
         })
@@ -233,7 +260,7 @@ impl Parser<'_> {
             });
         }
         match self.symbol() {
-            Symbol::Var => Ok(self.bound_pat(alloc)?),
+            Symbol::Var => self.bound_pat(alloc),
             Symbol::Integer | Symbol::Character | Symbol::Text => {
                 let literal = self.literal(alloc)?;
                 Ok(Pat {
@@ -249,17 +276,18 @@ impl Parser<'_> {
             Symbol::Open => {
                 self.skip();
                 let first = self.pat(alloc)?;
-                Ok(self.pat_closing(alloc, first)?)
+                self.pat_closing(alloc, first)
             }
             Symbol::OpenSquare => {
                 self.skip();
-                Ok(self.pat_list(alloc)?)
+                self.pat_list(alloc)
             }
             Symbol::Tilde => {
                 self.skip();
                 let inner = self.apat(alloc)?;
+                let inner = boxed(alloc, inner)?;
                 Ok(Pat {
-                    kind: PatKind::Lazy(Box::new(alloc, inner)?),
+                    kind: PatKind::Lazy(inner),
                 })
             }
             _ => Err(ParseFault::Syntax(self.place())),
@@ -279,32 +307,32 @@ impl Parser<'_> {
             });
         }
         self.skip();
-        let inner = self.apat(alloc)?;
+        let inner = or_drop!(self.apat(alloc), name);
+        let inner = boxed(alloc, inner)?;
         Ok(Pat {
-            kind: PatKind::Bound(name, Box::new(alloc, inner)?),
+            kind: PatKind::Bound(name, inner),
         })
     }
 
     /// What follows `(` and a pattern.
     #[cycle(pats)]
-    #[tactic(auto, using(crate::proofs::TypeLoops::comma_shorter, crate::proofs::PatternLoops::pattern_shorter, crate::proofs::PatternLoops::components_go_on, crate::proofs::PatternLoops::components_open, crate::proofs::PatternLoops::components_fail, crate::proofs::PatternLoops::components_many), unfolding(hm_grammar::specs::Reading::Basics::closing))]
+    #[tactic(auto, unfolding(hm_grammar::specs::Reading::Basics::closing))]
     fn pat_closing(&mut self, alloc: Global, first: Pat) -> Result<Pat, ParseFault>
         ensures { Gives (λ p. (p, self.new)) result (closing all_patterns.whole tuple_of_patterns first self.old) }
     {
         if !self.at(Symbol::Comma) {
-            self.expect(Symbol::Close)?;
-            return Ok(first);
+            return Ok(self.before(first, Symbol::Close)?);
         }
-        Ok(self.pat_tuple(alloc, first)?)
+        self.pat_tuple(alloc, first)
     }
+
     /// What follows the first component of a tuple. A comma behind the last that is allowed is a fault.
     #[cycle(pats)]
     #[tactic(auto, using(crate::proofs::TypeLoops::comma_shorter, crate::proofs::PatternLoops::pattern_shorter, crate::proofs::PatternLoops::components_go_on, crate::proofs::PatternLoops::components_open, crate::proofs::PatternLoops::components_fail, crate::proofs::PatternLoops::components_many))]
     fn pat_tuple(&mut self, alloc: Global, first: Pat) -> Result<Pat, ParseFault>
         ensures { Gives (λ p. (p, self.new)) result (tuple_behind all_patterns.whole tuple_of_patterns first self.old) }
     {
-        let mut found = Vec::new(alloc);
-        found.push(first)?;
+        let mut found = only(alloc, first)?;
         'components: while self.at(Symbol::Comma) {
             if found.len() == MAX_COMPONENTS {
                 return Err(ParseFault::Syntax(self.place()));
@@ -325,8 +353,7 @@ impl Parser<'_> {
         ensures { Gives (λ p. (p, self.new)) result (list_in all_patterns.whole list_of_patterns self.old) }
     {
         let first = self.pat(alloc)?;
-        let mut found = Vec::new(alloc);
-        found.push(first)?;
+        let mut found = only(alloc, first)?;
         'elements: while self.at(Symbol::Comma) {
             self.skip();
             found.push(self.pat(alloc)?)?;

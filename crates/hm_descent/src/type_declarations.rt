@@ -5,6 +5,7 @@ ghost use Rattle.hm_grammar.specs.Reading.TypeDeclarations.{next_tyvar, constr_a
 ghost use Rattle.hm_grammar.specs.Reading.Answers.{Gives};
 
 use crate::cursor::Parser;
+use crate::owned::only;
 use hm_grammar::{ParseFault, Symbol};
 use hm_syntax::{Constr, Decl, DeclKind, Name};
 use std::alloc::Global;
@@ -39,7 +40,7 @@ impl Parser<'_> {
         ensures { Gives (λ c. (c, self.new)) result (constr_at self.old) }
     {
         let name = self.con(alloc)?;
-        let args = self.atypes(alloc)?;
+        let args = or_drop!(self.atypes(alloc), name);
         Ok(Constr { name, args })
     }
 
@@ -60,8 +61,8 @@ impl Parser<'_> {
     fn constrs(&mut self, alloc: Global) -> Result<Vec<Constr>, ParseFault>
         ensures { Gives (λ v. (v.items, self.new)) result (constrs_at self.old) }
     {
-        let mut found = Vec::new(alloc);
-        found.push(self.constr(alloc)?)?;
+        let first = self.constr(alloc)?;
+        let mut found = only(alloc, first)?;
         'constrs: while let Some(constr) = self.next_constr(alloc)? {
             found.push(constr)?;
         }
@@ -74,9 +75,9 @@ impl Parser<'_> {
         ensures { Gives (λ d. (d, self.new)) result (data_in self.old) }
     {
         let name = self.con(alloc)?;
-        let params = self.tyvars(alloc)?;
-        self.expect(Symbol::Equals)?;
-        let constrs = self.constrs(alloc)?;
+        let params = or_drop!(self.tyvars(alloc), name);
+        or_drop!(self.expect(Symbol::Equals), name, params);
+        let constrs = or_drop!(self.constrs(alloc), name, params);
         Ok(Decl {
             kind: DeclKind::DataType {
                 name,
@@ -92,12 +93,11 @@ impl Parser<'_> {
         ensures { Gives (λ d. (d, self.new)) result (newtype_in self.old) }
     {
         let name = self.con(alloc)?;
-        let params = self.tyvars(alloc)?;
-        self.expect(Symbol::Equals)?;
-        let constr_name = self.con(alloc)?;
-        let arg = self.atype(alloc)?;
-        let mut args = Vec::with_capacity(alloc, 1)?;
-        args.push(arg)?;
+        let params = or_drop!(self.tyvars(alloc), name);
+        or_drop!(self.expect(Symbol::Equals), name, params);
+        let constr_name = or_drop!(self.con(alloc), name, params);
+        let arg = or_drop!(self.atype(alloc), name, params, constr_name);
+        let args = only(alloc, arg)?;
         let constr = Constr {
             name: constr_name,
             args,
@@ -117,9 +117,9 @@ impl Parser<'_> {
         ensures { Gives (λ d. (d, self.new)) result (synonym_in self.old) }
     {
         let name = self.con(alloc)?;
-        let params = self.tyvars(alloc)?;
-        self.expect(Symbol::Equals)?;
-        let ty = self.type_expr(alloc)?;
+        let params = or_drop!(self.tyvars(alloc), name);
+        or_drop!(self.expect(Symbol::Equals), name, params);
+        let ty = or_drop!(self.type_expr(alloc), name, params);
         Ok(Decl {
             kind: DeclKind::Synonym { name, params, ty },
         })

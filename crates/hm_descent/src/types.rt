@@ -5,6 +5,7 @@ ghost use Rattle.hm_grammar.specs.Reading.Types.{tuple_of_types, type_in, atype_
 ghost use Rattle.hm_grammar.specs.Reading.Answers.{Gives};
 
 use crate::cursor::Parser;
+use crate::owned::{boxed, only};
 use hm_grammar::{ParseFault, Symbol};
 use hm_syntax::{TypeExpr, TypeKind};
 use std::alloc::Global;
@@ -22,10 +23,12 @@ impl Parser<'_> {
         if !self.at(Symbol::Arrow) {
             return Ok(left);
         }
+        let left = boxed(alloc, left)?;
         self.skip();
         let right = self.type_expr(alloc)?;
+        let right = boxed(alloc, right)?;
         Ok(TypeExpr {
-            kind: TypeKind::Arrow(Box::new(alloc, left)?, Box::new(alloc, right)?),
+            kind: TypeKind::Arrow(left, right),
         })
     }
 
@@ -38,7 +41,7 @@ impl Parser<'_> {
             return self.atype(alloc);
         }
         let name = self.name(alloc)?;
-        let args = self.atypes(alloc)?;
+        let args = or_drop!(self.atypes(alloc), name);
         Ok(TypeExpr {
             kind: TypeKind::Con(name, args),
         })
@@ -75,12 +78,18 @@ impl Parser<'_> {
         ensures { Gives (λ t. (t, self.new)) result (atype_with type_at self.old) }
     {
         match self.symbol() {
-            Symbol::Var => Ok(TypeExpr {
-                kind: TypeKind::Var(self.name(alloc)?),
-            }),
-            Symbol::Con | Symbol::QCon => Ok(TypeExpr {
-                kind: TypeKind::Con(self.name(alloc)?, Vec::new(alloc)),
-            }),
+            Symbol::Var => {
+                let name = self.name(alloc)?;
+                Ok(TypeExpr {
+                    kind: TypeKind::Var(name),
+                })
+            }
+            Symbol::Con | Symbol::QCon => {
+                let name = self.name(alloc)?;
+                Ok(TypeExpr {
+                    kind: TypeKind::Con(name, Vec::new(alloc)),
+                })
+            }
             Symbol::Open => {
                 self.skip();
                 self.type_in(alloc)
@@ -88,9 +97,10 @@ impl Parser<'_> {
             Symbol::OpenSquare => {
                 self.skip();
                 let element = self.type_expr(alloc)?;
-                self.expect(Symbol::CloseSquare)?;
+                let element = self.before(element, Symbol::CloseSquare)?;
+                let element = boxed(alloc, element)?;
                 Ok(TypeExpr {
-                    kind: TypeKind::List(Box::new(alloc, element)?),
+                    kind: TypeKind::List(element),
                 })
             }
             _ => Err(ParseFault::Syntax(self.place())),
@@ -122,8 +132,7 @@ impl Parser<'_> {
         if self.at(Symbol::Comma) {
             return self.type_tuple(alloc, first);
         }
-        self.expect(Symbol::Close)?;
-        Ok(first)
+        Ok(self.before(first, Symbol::Close)?)
     }
 
     /// What follows the first component of a tuple. A comma behind the last that is allowed is a fault.
@@ -132,8 +141,7 @@ impl Parser<'_> {
     fn type_tuple(&mut self, alloc: Global, first: TypeExpr) -> Result<TypeExpr, ParseFault>
         ensures { Gives (λ t. (t, self.new)) result (tuple_behind type_at tuple_of_types first self.old) }
     {
-        let mut found = Vec::new(alloc);
-        found.push(first)?;
+        let mut found = only(alloc, first)?;
         'components: while self.at(Symbol::Comma) {
             if found.len() == MAX_COMPONENTS {
                 return Err(ParseFault::Syntax(self.place()));

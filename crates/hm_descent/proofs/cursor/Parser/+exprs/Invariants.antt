@@ -6,6 +6,9 @@ use Rattle.hm_descent.proofs.cursor.Parser.+exprs.Given as goal
 abbrev pub decreases-exp : goal.decreases-exp
 decreases-exp l = 10 * length l.self.now + 9
 
+abbrev pub decreases-boxed_exp : goal.decreases-boxed_exp
+decreases-boxed_exp l = 10 * length l.self.now + 10
+
 abbrev pub decreases-chain : goal.decreases-chain
 decreases-chain l = 10 * length l.self.now + 8
 
@@ -31,13 +34,13 @@ abbrev pub decreases-let_in : goal.decreases-let_in
 decreases-let_in l = 10 * length l.self.now + 3
 
 abbrev pub decreases-if_then_else : goal.decreases-if_then_else
-decreases-if_then_else l = 10 * length l.self.now + 10
+decreases-if_then_else l = 10 * length l.self.now + 11
 
 abbrev pub decreases-operand : goal.decreases-operand
 decreases-operand l = 10 * length l.self.now + 6
 
 abbrev pub decreases-case_of : goal.decreases-case_of
-decreases-case_of l = 10 * length l.self.now + 10
+decreases-case_of l = 10 * length l.self.now + 11
 
 abbrev pub decreases-alts : goal.decreases-alts
 decreases-alts l = 10 * length l.self.now + 4
@@ -48,8 +51,14 @@ decreases-next_alt l = 10 * length l.self.now + 3
 abbrev pub decreases-rhs : goal.decreases-rhs
 decreases-rhs l = 10 * length l.self.now + 4
 
+abbrev pub decreases-local_decls : goal.decreases-local_decls
+decreases-local_decls l = 10 * length l.self.now + 3
+
 abbrev pub decreases-bodies : goal.decreases-bodies
 decreases-bodies l = 10 * length l.self.now + 3
+
+abbrev pub decreases-guards : goal.decreases-guards
+decreases-guards l = 10 * length l.self.now + 3
 
 abbrev pub decreases-guarded : goal.decreases-guarded
 decreases-guarded l = 10 * length l.self.now + 10
@@ -63,6 +72,9 @@ decreases-aexp l = 10 * length l.self.now + 5
 abbrev pub decreases-exp_closing : goal.decreases-exp_closing
 decreases-exp_closing l = 10 * length l.self.now + 1
 
+abbrev pub decreases-exp_tuple : goal.decreases-exp_tuple
+decreases-exp_tuple l = 10 * length l.self.now
+
 abbrev pub decreases-exp_list : goal.decreases-exp_list
 decreases-exp_list l = 10 * length l.self.now + 10
 
@@ -74,6 +86,9 @@ decreases-next_decl l = 10 * length l.self.now + 4
 
 abbrev pub decreases-decl : goal.decreases-decl
 decreases-decl l = 10 * length l.self.now + 3
+
+abbrev pub decreases-clause : goal.decreases-clause
+decreases-clause l = 10 * length l.self.now + 5
 
 abbrev pub decreases-binding : goal.decreases-binding
 decreases-binding l = 10 * length l.self.now + 2
@@ -87,15 +102,15 @@ invariant-operand-apply l = record {
 abbrev pub decreases-operand-apply : goal.decreases-operand-apply
 decreases-operand-apply l = length l.self
 
-abbrev pub invariant-exp_closing-components : goal.invariant-exp_closing-components
-invariant-exp_closing-components l = record {
+abbrev pub invariant-exp_tuple-components : goal.invariant-exp_tuple-components
+invariant-exp_tuple-components l = record {
   read : behind l.found.items (loop (next_of (exp_with all_expressions)) l.self) ≡ behind (l.fn.first ∷ []) (loop (next_of (exp_with all_expressions)) l.fn.self);
   few : length l.found.items ≤ 15;
   left : length l.self ≤ length l.fn.self;
 }
 
-abbrev pub decreases-exp_closing-components : goal.decreases-exp_closing-components
-decreases-exp_closing-components l = length l.self
+abbrev pub decreases-exp_tuple-components : goal.decreases-exp_tuple-components
+decreases-exp_tuple-components l = length l.self
 
 abbrev pub invariant-exp_list-elements : goal.invariant-exp_list-elements
 invariant-exp_list-elements l = record {
@@ -106,14 +121,14 @@ invariant-exp_list-elements l = record {
 abbrev pub decreases-exp_list-elements : goal.decreases-exp_list-elements
 decreases-exp_list-elements l = length l.self
 
-abbrev pub invariant-bodies-guards : goal.invariant-bodies-guards
-invariant-bodies-guards l = record {
-  read : behind l.found.items (loop (next_guarded all_expressions l.fn.mark) l.self) ≡ behind l.initial.found.items (loop (next_guarded all_expressions l.fn.mark) l.initial.self);
-  left : length l.self < length l.fn.self;
+abbrev pub invariant-guards-guards : goal.invariant-guards-guards
+invariant-guards-guards l = record {
+  read : behind l.found.items (loop (next_guarded all_expressions l.fn.mark) l.self) ≡ behind (l.fn.first ∷ []) (loop (next_guarded all_expressions l.fn.mark) l.fn.self);
+  left : length l.self ≤ length l.fn.self;
 }
 
-abbrev pub decreases-bodies-guards : goal.decreases-bodies-guards
-decreases-bodies-guards l = length l.self
+abbrev pub decreases-guards-guards : goal.decreases-guards-guards
+decreases-guards-guards l = length l.self
 
 abbrev pub invariant-alts-alts : goal.invariant-alts-alts
 invariant-alts-alts l = record {

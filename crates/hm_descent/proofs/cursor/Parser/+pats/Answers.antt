@@ -1,4 +1,4 @@
-use Rattle.std.proofs.Common.{◌≡◌, List, [], ◌∷◌, ◌++◌, ap, ◌∙◌, rules}
+use Rattle.std.proofs.Common.{List, ap, ◌∙◌, rules}
 use Rattle.hm_syntax.specs.Trees.{Pattern}
 use Rattle.hm_grammar.specs.Reading.Basics.{loop, behind, next_of}
 use Rattle.hm_grammar.specs.Reading.Patterns.{all_patterns}
@@ -12,6 +12,5 @@ pat_tuple-returns t c =
 
 pub pat_list-returns : goal.pat_list-returns
 pat_list-returns t c =
-    let start : ◌≡◌ {A = List Pattern} c.push.new.self.items (c.in_ok-first.first ∷ []) = c.in_ok-push.ensures.items ∙ ap (λ (z : List Pattern). z ++ c.in_ok-first.first ∷ []) c.new-found.ensures.items in
     elements_end c.in_ok-first.first c.elements.found.items c.args.self.now c.pat.new.self c.elements.self c.expect.new.self
-    c.in_ok-first.ensures (c.elements.invariant.read ∙ ap (λ (z : List Pattern). behind z (loop (next_of all_patterns.whole) c.pat.new.self)) start) (search rules) c.in_ok-expect.ensures
+    c.in_ok-first.ensures (c.elements.invariant.read ∙ ap (λ (z : List Pattern). behind z (loop (next_of all_patterns.whole) c.pat.new.self)) c.in_ok-found.ensures) (search rules) c.in_ok-expect.ensures

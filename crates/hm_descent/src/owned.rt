@@ -1,0 +1,43 @@
+//! Steps that take a part of a tree and hand it on, or drop it where the allocator refuses. They are of any type, so that
+//! what the drop of a tree does isn't proved once more at each place where one may be lost.
+ghost use Rattle.std.specs.Prelude.{◌≡◌, [], ◌∷◌, IfOk};
+
+use std::alloc::{AllocError, Global};
+
+/// The part in a box of its own.
+pub(crate) fn boxed<T: Drop>(alloc: Global, part: T) -> Result<Box<T>, AllocError>
+    ensures { IfOk result (λ b. b.value ≡ part) }
+{
+    Ok(Box::new(alloc, part)?)
+}
+
+/// Both parts, each in a box of its own.
+pub(crate) fn both_boxed<T: Drop, U: Drop>(
+    alloc: Global,
+    first: T,
+    second: U,
+) -> Result<(Box<T>, Box<U>), AllocError>
+    ensures { IfOk result (λ boxes. (boxes.0.value ≡ first) × (boxes.1.value ≡ second)) }
+{
+    let first = boxed(alloc, first)?;
+    let second = boxed(alloc, second)?;
+    Ok((first, second))
+}
+
+/// A list of this part alone.
+pub(crate) fn only<T: Drop>(alloc: Global, part: T) -> Result<Vec<T>, AllocError>
+    ensures { IfOk result (λ parts. parts.items ≡ part ∷ []) }
+{
+    let mut parts = Vec::with_capacity(alloc, 1)?;
+    parts.push(part)?;
+    Ok(parts)
+}
+
+/// The list with this part before its first.
+pub(crate) fn put_first<T: Drop>(first: T, rest: Vec<T>) -> Result<Vec<T>, AllocError>
+    ensures { IfOk result (λ parts. parts.items ≡ first ∷ rest.items) }
+{
+    let mut parts = rest;
+    parts.insert(0, first)?;
+    Ok(parts)
+}
