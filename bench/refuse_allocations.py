@@ -38,6 +38,7 @@ IMPORTED_REPORT = b"module A\n  val x = A.x :: Char\nmodule B\n  val y = B.y :: 
 ERRORS = {
     'error: "no memory"': "no memory",
     "error: AllocError": "no memory",
+    "error: AllocFailed { .. }": "no memory",
     "error: Memory": "no memory",
     "error: NoReader": "no memory",
     'error: "the call is refused"': "the call is refused",

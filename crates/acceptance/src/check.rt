@@ -1,10 +1,27 @@
 //! One run, and what it must print.
+ghost use Rattle.std.specs.Prelude.{All};
+ghost use Rattle.hm_sources.specs.Watching.{IsFresh};
+
 use hm_build::{Options, run};
-use hm_sources::{Status, Watched};
+use hm_sources::{RunFault, Status, Watched};
 use std::alloc::{AllocError, Global};
+use std::io::{Read, Write};
 use std::process::Abort;
 use std::sync::Wait;
 use std::thread::Threads;
+
+/// A run. It promises nothing, since the tests look at what comes of it: so the proofs of the tests don't carry the promises of `run`.
+pub(crate) fn ran<T: AllocGlobal + Threads + Wait + Sync, R: Read, W: Write>(
+    rt: &T,
+    readers: &mut [Watched<R>],
+    writer: &mut Watched<W>,
+    options: Options,
+) -> Result<Status, RunFault>
+    requires readers { All IsFresh readers.old }
+    requires writer { IsFresh writer.old }
+{
+    run(rt, rt.alloc(), readers, writer, options)
+}
 
 /// Checks the modules of one source by four workers, and compares how the run ends and what it prints.
 pub(crate) fn check_run(
@@ -32,7 +49,7 @@ pub(crate) fn check_run_by(
     let mut readers = [Watched::new(source)];
     let mut printed = Vec::new(alloc);
     let mut writer = Watched::new(&mut printed);
-    let ended = run(rt, alloc, readers.as_mut_slice(), &mut writer, options);
+    let ended = ran(rt, readers.as_mut_slice(), &mut writer, options);
     assert_eq!(rt; ended, Ok(status));
     assert!(rt; printed.as_slice() == text);
     Ok(())
@@ -54,7 +71,7 @@ pub(crate) fn check_run_of(
         workers: 1,
         journal: false,
     };
-    let ended = run(rt, alloc, readers.as_mut_slice(), &mut writer, options);
+    let ended = ran(rt, readers.as_mut_slice(), &mut writer, options);
     assert_eq!(rt; ended, Ok(status));
     assert!(rt; printed.as_slice() == text);
     Ok(())

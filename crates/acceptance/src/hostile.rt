@@ -1,7 +1,7 @@
 //! Hostile text and failing devices, each by a whole run.
-use crate::check::check_run_by;
+use crate::check::{check_run_by, ran};
 use crate::devices::{Never, Short, Slow, Then};
-use hm_build::{Options, run};
+use hm_build::Options;
 use hm_sources::{RunFault, Status, Watched};
 use std::alloc::{AllocError, Global};
 use std::process::Abort;
@@ -62,7 +62,7 @@ fn check_refused(
     let mut readers = [Watched::new(source)];
     let mut printed = Vec::new(alloc);
     let mut writer = Watched::new(&mut printed);
-    let ended = run(rt, alloc, readers.as_mut_slice(), &mut writer, OPTIONS);
+    let ended = ran(rt, readers.as_mut_slice(), &mut writer, OPTIONS);
     assert_eq!(rt; ended, Ok(Status::Refused));
     assert!(rt; printed.as_slice().starts_with(b"refused: source 1 at 1:"));
     assert!(rt; printed.as_slice().ends_with(end));
@@ -96,7 +96,7 @@ fn reads_between_interrupts(rt: HostRuntime) -> Result<(), Fail> {
     let mut readers = [Watched::new(Slow::new(SOURCE, 0))];
     let mut printed = Vec::new(alloc);
     let mut writer = Watched::new(&mut printed);
-    let ended = run(&rt, alloc, readers.as_mut_slice(), &mut writer, OPTIONS);
+    let ended = ran(&rt, readers.as_mut_slice(), &mut writer, OPTIONS);
     assert_eq!(rt; ended, Ok(Status::Good));
     assert!(rt; printed.as_slice() == REPORT);
     Ok(())
@@ -108,7 +108,7 @@ fn gives_up_a_reader_that_is_always_interrupted(rt: HostRuntime) -> Result<(), F
     let mut readers = [Watched::new(Never)];
     let mut printed = Vec::new(alloc);
     let mut writer = Watched::new(&mut printed);
-    let ended = run(&rt, alloc, readers.as_mut_slice(), &mut writer, OPTIONS);
+    let ended = ran(&rt, readers.as_mut_slice(), &mut writer, OPTIONS);
     assert_eq!(rt; ended, Err(RunFault::Read));
     assert_eq!(rt; readers[0].reads(), 2_097_152);
     assert!(rt; printed.is_empty());
@@ -125,7 +125,7 @@ fn writes_nothing_after_a_failed_read(rt: HostRuntime) -> Result<(), Fail> {
     ];
     let mut printed = Vec::new(alloc);
     let mut writer = Watched::new(&mut printed);
-    let ended = run(&rt, alloc, readers.as_mut_slice(), &mut writer, OPTIONS);
+    let ended = ran(&rt, readers.as_mut_slice(), &mut writer, OPTIONS);
     assert_eq!(rt; ended, Err(RunFault::Read));
     assert_eq!(rt; readers[2].reads(), 0);
     assert!(rt; printed.is_empty());
@@ -139,7 +139,7 @@ fn leaves_a_prefix_of_each_length(rt: HostRuntime) -> Result<(), Fail> {
         let mut readers = [Watched::new(SKIPPED)];
         let mut device = Short::new(alloc, room, Then::Fails);
         let mut writer = Watched::new(&mut device);
-        let ended = run(&rt, alloc, readers.as_mut_slice(), &mut writer, OPTIONS);
+        let ended = ran(&rt, readers.as_mut_slice(), &mut writer, OPTIONS);
         assert_eq!(rt; ended, Err(RunFault::Write), "at {room}");
         assert_eq!(rt; writer.failures(), 1, "at {room}");
         assert!(rt; device.taken.as_slice() == &SKIPPED_REPORT[..room]);
@@ -153,7 +153,7 @@ fn tells_a_flush_that_fails(rt: HostRuntime) -> Result<(), Fail> {
     let mut readers = [Watched::new(SKIPPED)];
     let mut device = Short::new(alloc, SKIPPED_REPORT.len(), Then::FailsToFlush);
     let mut writer = Watched::new(&mut device);
-    let ended = run(&rt, alloc, readers.as_mut_slice(), &mut writer, OPTIONS);
+    let ended = ran(&rt, readers.as_mut_slice(), &mut writer, OPTIONS);
     assert_eq!(rt; ended, Err(RunFault::Write));
     assert!(rt; device.taken.as_slice() == SKIPPED_REPORT);
     Ok(())

@@ -1,8 +1,8 @@
 //! How `run` ends at its bounds, and where its devices fail.
 use crate::builds::chain;
-use crate::check::{check_run, check_run_of};
+use crate::check::{check_run, check_run_of, ran};
 use crate::devices::{Short, Slow, Then};
-use hm_build::{Options, run};
+use hm_build::Options;
 use hm_sources::{RunFault, Status, Watched};
 use std::alloc::{AllocError, Global};
 use std::sync::Wait;
@@ -48,7 +48,7 @@ fn reports_most(
         workers,
         journal: false,
     };
-    let ended = run(rt, rt.alloc(), readers.as_mut_slice(), &mut writer, options);
+    let ended = ran(rt, readers.as_mut_slice(), &mut writer, options);
     let text = printed.as_slice();
     Ok(
         ended == Ok(Status::Good)
@@ -86,13 +86,7 @@ fn refuses_numbers_of_workers(rt: HostRuntime) -> Result<(), Fail> {
             workers,
             journal: false,
         };
-        let ended = run(
-            &rt,
-            rt.alloc(),
-            readers.as_mut_slice(),
-            &mut writer,
-            options,
-        );
+        let ended = ran(&rt, readers.as_mut_slice(), &mut writer, options);
         assert_eq!(rt; ended, Err(RunFault::Workers));
         assert_eq!(rt; readers[0].reads(), 0);
         assert!(rt; printed.is_empty());
@@ -105,25 +99,13 @@ fn answers_failed_devices(rt: HostRuntime) -> Result<(), Fail> {
     let mut readers = [Watched::new(Slow::new(b"", 1))];
     let mut device = Short::new(rt.alloc(), 9, Then::Fails);
     let mut writer = Watched::new(&mut device);
-    let ended = run(
-        &rt,
-        rt.alloc(),
-        readers.as_mut_slice(),
-        &mut writer,
-        OPTIONS,
-    );
+    let ended = ran(&rt, readers.as_mut_slice(), &mut writer, OPTIONS);
     assert_eq!(rt; ended, Err(RunFault::Read));
     assert!(rt; device.taken.is_empty());
     let mut readers: [Watched<&[u8]>; 0] = [];
     let mut device = Short::new(rt.alloc(), 5, Then::Fails);
     let mut writer = Watched::new(&mut device);
-    let ended = run(
-        &rt,
-        rt.alloc(),
-        readers.as_mut_slice(),
-        &mut writer,
-        OPTIONS,
-    );
+    let ended = ran(&rt, readers.as_mut_slice(), &mut writer, OPTIONS);
     assert_eq!(rt; ended, Err(RunFault::Write));
     assert!(rt; device.taken.as_slice() == b"0 mod".as_slice());
     Ok(())

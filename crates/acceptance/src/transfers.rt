@@ -1,9 +1,25 @@
 //! Readers and writers that fail or are slow.
+ghost use Rattle.std.specs.Prelude.{All};
+ghost use Rattle.hm_sources.specs.Watching.{IsFresh};
+
 use crate::devices::{Never, Short, Slow, Then};
 use hm_sources::{RunFault, Status, Watched, run_plan};
 use std::io;
 use std::io::{ErrorKind, Read, Write};
 use std::test::Fail;
+use std::thread::Threads;
+
+/// A run that prints the plan. It promises nothing, since the tests look at what comes of it.
+fn planned<T: AllocGlobal + Threads, R: Read, W: Write>(
+    rt: &T,
+    readers: &mut [Watched<R>],
+    writer: &mut Watched<W>,
+) -> Result<Status, RunFault>
+    requires readers { All IsFresh readers.old }
+    requires writer { IsFresh writer.old }
+{
+    run_plan(rt, rt.alloc(), readers, writer)
+}
 
 /// The kind of an error; none where there is no error.
 fn kind_of<T: Copy>(answer: io::Result<T>) -> Option<ErrorKind> {
@@ -63,7 +79,7 @@ fn reads_byte_by_byte(rt: HostRuntime) -> Result<(), Fail> {
     let mut readers = [Watched::new(Slow::new(SOURCE, 0))];
     let mut printed = Vec::new(rt.alloc());
     let mut writer = Watched::new(&mut printed);
-    let ended = run_plan(&rt, rt.alloc(), readers.as_mut_slice(), &mut writer);
+    let ended = planned(&rt, readers.as_mut_slice(), &mut writer);
     assert_eq!(rt; ended, Ok(Status::Good));
     assert!(rt; printed.as_slice() == TEXT);
     assert_eq!(rt; readers[0].reads(), 124);
@@ -78,7 +94,7 @@ fn answers_a_failed_read(rt: HostRuntime) -> Result<(), Fail> {
         let mut readers = [Watched::new(Slow::new(SOURCE, at))];
         let mut device = Short::new(rt.alloc(), 9, Then::Fails);
         let mut writer = Watched::new(&mut device);
-        let ended = run_plan(&rt, rt.alloc(), readers.as_mut_slice(), &mut writer);
+        let ended = planned(&rt, readers.as_mut_slice(), &mut writer);
         assert_eq!(rt; ended, Err(RunFault::Read), "at {at}");
         assert_eq!(rt; readers[0].failures(), 1, "at {at}");
         assert_eq!(rt; readers[0].reads(), at, "at {at}");
@@ -96,7 +112,7 @@ fn reads_no_further_than_a_failed_reader(rt: HostRuntime) -> Result<(), Fail> {
     ];
     let mut device = Short::new(rt.alloc(), 9, Then::Fails);
     let mut writer = Watched::new(&mut device);
-    let ended = run_plan(&rt, rt.alloc(), readers.as_mut_slice(), &mut writer);
+    let ended = planned(&rt, readers.as_mut_slice(), &mut writer);
     assert_eq!(rt; ended, Err(RunFault::Read));
     assert_eq!(rt; readers[2].reads(), 0);
     assert!(rt; device.taken.is_empty());
@@ -108,7 +124,7 @@ fn gives_up_an_endless_reader(rt: HostRuntime) -> Result<(), Fail> {
     let mut readers = [Watched::new(Never)];
     let mut device = Short::new(rt.alloc(), 9, Then::Fails);
     let mut writer = Watched::new(&mut device);
-    let ended = run_plan(&rt, rt.alloc(), readers.as_mut_slice(), &mut writer);
+    let ended = planned(&rt, readers.as_mut_slice(), &mut writer);
     assert_eq!(rt; ended, Err(RunFault::Read));
     assert_eq!(rt; readers[0].reads(), 2_097_152);
     assert_eq!(rt; readers[0].interrupts(), 2_097_152);
@@ -124,7 +140,7 @@ fn leaves_a_prefix_after_a_failed_write(rt: HostRuntime) -> Result<(), Fail> {
             let mut readers = [Watched::new(SOURCE)];
             let mut device = Short::new(rt.alloc(), room, then);
             let mut writer = Watched::new(&mut device);
-            let ended = run_plan(&rt, rt.alloc(), readers.as_mut_slice(), &mut writer);
+            let ended = planned(&rt, readers.as_mut_slice(), &mut writer);
             assert_eq!(rt; ended, Err(RunFault::Write), "at {room}");
             assert!(rt; device.taken.as_slice() == &TEXT[..room]);
         }
@@ -137,7 +153,7 @@ fn gives_up_an_endless_writer(rt: HostRuntime) -> Result<(), Fail> {
     let mut readers = [Watched::new(SOURCE)];
     let mut device = Short::new(rt.alloc(), 5, Then::IsInterrupted);
     let mut writer = Watched::new(&mut device);
-    let ended = run_plan(&rt, rt.alloc(), readers.as_mut_slice(), &mut writer);
+    let ended = planned(&rt, readers.as_mut_slice(), &mut writer);
     assert_eq!(rt; ended, Err(RunFault::Write));
     assert_eq!(rt; writer.interrupts(), 2_097_152);
     assert_eq!(rt; writer.failures(), 0);
@@ -150,7 +166,7 @@ fn answers_a_failed_flush(rt: HostRuntime) -> Result<(), Fail> {
     let mut readers: [Watched<&[u8]>; 0] = [];
     let mut device = Short::new(rt.alloc(), 99, Then::FailsToFlush);
     let mut writer = Watched::new(&mut device);
-    let ended = run_plan(&rt, rt.alloc(), readers.as_mut_slice(), &mut writer);
+    let ended = planned(&rt, readers.as_mut_slice(), &mut writer);
     assert_eq!(rt; ended, Err(RunFault::Write));
     assert_eq!(rt; writer.failures(), 1);
     assert!(rt; device.taken.as_slice() == b"0 modules\n".as_slice());

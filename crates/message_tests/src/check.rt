@@ -1,8 +1,12 @@
 //! One run, and the messages that it must write.
+ghost use Rattle.std.specs.Prelude.{All};
+ghost use Rattle.hm_sources.specs.Watching.{IsFresh};
+
 use hm_build::{Explain, Options, run, run_explained};
 use hm_messages::Paint;
-use hm_sources::{Status, Watched};
+use hm_sources::{RunFault, Status, Watched};
 use std::alloc::{AllocError, Global};
+use std::io::{Read, Write};
 use std::process::Abort;
 use std::sync::Wait;
 use std::thread::Threads;
@@ -15,6 +19,41 @@ const OPTIONS: Options = Options {
     journal: false,
 };
 
+/// A run without messages. It promises nothing, since the tests look at what comes of it: so their proofs don't carry the promises of `run`.
+fn ran<T: AllocGlobal + Threads + Wait + Sync, R: Read, W: Write>(
+    rt: &T,
+    readers: &mut [Watched<R>],
+    writer: &mut Watched<W>,
+) -> Result<Status, RunFault>
+    requires readers { All IsFresh readers.old }
+    requires writer { IsFresh writer.old }
+{
+    run(rt, rt.alloc(), readers, writer, OPTIONS)
+}
+
+/// A run of the file `M.hs` with messages, likewise.
+fn ran_explained<T: AllocGlobal + Threads + Wait + Sync, R: Read, W: Write, E: Write>(
+    rt: &T,
+    readers: &mut [Watched<R>],
+    writer: &mut Watched<W>,
+    errors: &mut Watched<E>,
+    explain: Explain,
+) -> Result<Status, RunFault>
+    requires readers { All IsFresh readers.old }
+    requires writer { IsFresh writer.old }
+    requires errors { IsFresh errors.old }
+{
+    run_explained(rt, rt.alloc(), readers, writer, OPTIONS, errors, explain)
+}
+
+/// The name of the file, and no colours.
+fn plainly(alloc: Global) -> Result<Explain, AllocError> {
+    let mut names = Vec::new(alloc);
+    names.push(Vec::from_slice(alloc, b"M.hs")?)?;
+    let paint = Paint::Plain;
+    Ok(Explain { names, paint })
+}
+
 /// What a run without messages prints.
 fn printed_alone(
     rt: &(impl Abort + AllocGlobal + Threads + Wait + Sync),
@@ -25,9 +64,33 @@ fn printed_alone(
     let mut readers = [Watched::new(source)];
     let mut printed = Vec::new(alloc);
     let mut writer = Watched::new(&mut printed);
-    let ended = run(rt, alloc, readers.as_mut_slice(), &mut writer, OPTIONS);
+    let ended = ran(rt, readers.as_mut_slice(), &mut writer);
     assert_eq!(rt; ended, Ok(status));
     Ok(printed)
+}
+
+/// What a run with messages prints, and the messages.
+fn printed_explained(
+    rt: &(impl Abort + AllocGlobal + Threads + Wait + Sync),
+    source: &[u8],
+    status: Status,
+) -> Result<(Vec<u8>, Vec<u8>), AllocError> {
+    let alloc: Global = rt.alloc();
+    let explain = plainly(alloc)?;
+    let mut readers = [Watched::new(source)];
+    let mut printed = Vec::new(alloc);
+    let mut writer = Watched::new(&mut printed);
+    let mut told = Vec::new(alloc);
+    let mut errors = Watched::new(&mut told);
+    let ended = ran_explained(
+        rt,
+        readers.as_mut_slice(),
+        &mut writer,
+        &mut errors,
+        explain,
+    );
+    assert_eq!(rt; ended, Ok(status));
+    Ok((printed, told))
 }
 
 /// Runs one source of the file `M.hs`: what is printed is what is printed without messages, and these are the messages.
@@ -37,29 +100,8 @@ pub(crate) fn check_messages(
     status: Status,
     messages: &[u8],
 ) -> Result<(), AllocError> {
-    let alloc: Global = rt.alloc();
     let alone = printed_alone(rt, source, status)?;
-    let mut names = Vec::new(alloc);
-    names.push(Vec::from_slice(alloc, b"M.hs")?)?;
-    let explain = Explain {
-        names,
-        paint: Paint::Plain,
-    };
-    let mut readers = [Watched::new(source)];
-    let mut printed = Vec::new(alloc);
-    let mut writer = Watched::new(&mut printed);
-    let mut told = Vec::new(alloc);
-    let mut errors = Watched::new(&mut told);
-    let ended = run_explained(
-        rt,
-        alloc,
-        readers.as_mut_slice(),
-        &mut writer,
-        OPTIONS,
-        &mut errors,
-        explain,
-    );
-    assert_eq!(rt; ended, Ok(status));
+    let (printed, told) = printed_explained(rt, source, status)?;
     assert!(rt; printed.as_slice() == alone.as_slice());
     assert!(rt; told.as_slice() == messages);
     Ok(())

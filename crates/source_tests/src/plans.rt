@@ -1,6 +1,6 @@
 //! What `run_plan` prints of sources.
-use crate::check::check;
-use hm_sources::{RunFault, Status, Watched, run_plan};
+use crate::check::{check, planned};
+use hm_sources::{Status, Watched};
 use std::test::Fail;
 
 /// A source, how the run ends, and what it prints.
@@ -158,7 +158,7 @@ fn names_the_source(rt: HostRuntime) -> Result<(), Fail> {
     let mut readers = [Watched::new(first), Watched::new(second)];
     let mut printed = Vec::new(rt.alloc());
     let mut writer = Watched::new(&mut printed);
-    let ended = run_plan(&rt, rt.alloc(), readers.as_mut_slice(), &mut writer);
+    let ended = planned(&rt, readers.as_mut_slice(), &mut writer);
     assert_eq!(rt; ended, Ok(Status::Refused));
     assert!(rt; printed.as_slice() == b"refused: source 2 at 1:1: syntax\n".as_slice());
     Ok(())
@@ -212,7 +212,7 @@ fn bounds_the_modules(rt: HostRuntime) -> Result<(), Fail> {
     let mut readers = [Watched::new(source.as_bytes())];
     let mut printed = Vec::new(rt.alloc());
     let mut writer = Watched::new(&mut printed);
-    let ended = run_plan(&rt, rt.alloc(), readers.as_mut_slice(), &mut writer);
+    let ended = planned(&rt, readers.as_mut_slice(), &mut writer);
     assert_eq!(rt; ended, Ok(Status::Good));
     assert!(rt;
         printed
@@ -235,12 +235,7 @@ fn plans_nothing_of_no_reader(rt: HostRuntime) -> Result<(), Fail> {
     let mut readers: [Watched<&[u8]>; 0] = [];
     let mut printed = Vec::new(rt.alloc());
     let mut writer = Watched::new(&mut printed);
-    let ended: Result<Status, RunFault> = run_plan(
-        &rt,
-        rt.alloc(),
-        readers.as_mut_slice(),
-        &mut writer,
-    );
+    let ended = planned(&rt, readers.as_mut_slice(), &mut writer);
     assert_eq!(rt; ended, Ok(Status::Good));
     assert!(rt; printed.as_slice() == b"0 modules\n".as_slice());
     Ok(())
