@@ -4,8 +4,8 @@
 `fuzz.py [--seed N] [--sources N] [--first N] [--kind KIND] [--processes N] [--keep FOLDER] [PROGRAM]`: without PROGRAM, the proved program
 beside this folder is run. Each source is checked by 1 and by 4 workers with `--journal`, by 4 with `--explain`, and planned. Wanted of each run: a status of the
 table, nothing on standard error but the line of that status and, with `--explain`, a message for each line of a fault and for each blamed import, in
-the report's order, one answer whatever the workers, a journal that is legal, an end within 10 s,
-and at most 1 GB; a source of more than 100,000 bytes may take 60 s and 2 GB. Each finding is printed, and its files are put into FOLDER.
+the report's order, one answer whatever the workers, a journal that is legal, an end within 10 s of
+processor time, so that other work on the machine finds nothing, and at most 1 GB; a source of more than 100,000 bytes may take 60 s and 2 GB. Each finding is printed, and its files are put into FOLDER.
 A source is a function of its seed and number. Ends with 1 where something was found.
 """
 import argparse
@@ -18,7 +18,6 @@ import shutil
 import signal
 import sys
 import tempfile
-import time
 
 from hostile_sources import KINDS, hostile
 
@@ -29,9 +28,8 @@ Run = collections.namedtuple("Run", "status out err seconds megabytes")
 
 
 def run(program, folder, words, paths, seconds):
-    """One run, ended after so many seconds."""
+    """One run, ended after so many seconds of the clock."""
     with open(os.path.join(folder, "out"), "w+b") as out, open(os.path.join(folder, "err"), "w+b") as err:
-        start = time.time()
         actions = [(os.POSIX_SPAWN_DUP2, out.fileno(), 1), (os.POSIX_SPAWN_DUP2, err.fileno(), 2)]
         if len(paths) == 1:
             actions.append((os.POSIX_SPAWN_OPEN, 0, paths[0], os.O_RDONLY, 0))
@@ -40,7 +38,7 @@ def run(program, folder, words, paths, seconds):
         signal.setitimer(signal.ITIMER_REAL, seconds)
         _, status, used = os.wait4(child, 0)
         signal.setitimer(signal.ITIMER_REAL, 0)
-        taken = time.time() - start
+        taken = used.ru_utime + used.ru_stime
         out.seek(0)
         err.seek(0)
         return Run(os.waitstatus_to_exitcode(status), out.read(), err.read(), taken, used.ru_maxrss // 1024)
@@ -172,7 +170,7 @@ def fuzzed(task):
             paths.append(os.path.join(folder, f"{place}.hs"))
             with open(paths[-1], "wb") as it:
                 it.write(data)
-        runs = [run(options.program, folder, words, paths, 120) for words in (["--jobs", "1", "--journal"], ["--jobs", "4", "--journal"], ["--plan"], ["--explain"])]
+        runs = [run(options.program, folder, words, paths, 900) for words in (["--jobs", "1", "--journal"], ["--jobs", "4", "--journal"], ["--plan"], ["--explain"])]
         try:
             found = finding(runs, wanted, large)
         except (ValueError, KeyError, AttributeError, IndexError, UnicodeDecodeError) as error:

@@ -79,6 +79,13 @@ fn plans(rt: HostRuntime) -> Result<(), Fail> {
     Ok(())
 }
 
+/// The line that refuses a set for such a fault.
+fn line_of(alloc: Global, kind: SetFaultKind) -> Result<String, AllocError>
+    requires { IsLasting (refusal_of kind) }
+{
+    refusal_text(alloc, &SetFault { kind })
+}
+
 /// Checks the line that refuses a set for such a fault.
 fn check_line(
     rt: &(impl Abort + AllocGlobal),
@@ -87,7 +94,7 @@ fn check_line(
 ) -> Result<(), AllocError>
     requires { IsLasting (refusal_of kind) }
 {
-    let text = refusal_text(rt.alloc(), &SetFault { kind })?;
+    let text = line_of(rt.alloc(), kind)?;
     assert_eq!(rt; text.as_str(), want);
     Ok(())
 }
