@@ -4,6 +4,7 @@
 `command_line.py [PROGRAM]`: without a word, the script `hmc` beside this folder is run. Ends with 1 where a row differs.
 """
 import os
+import pty
 import resource
 import subprocess
 import sys
@@ -47,6 +48,18 @@ module B where { twice f = f f }
 BLAMED = """user.hs:1:25: note: skipped, since B is faulty
 module C where { import B ; y = twice }
                         ^
+"""
+TOO_LONG = """<stdin>:1:1: error: too long
+A source has at most 1,048,576 bytes, and this one has more.
+""" + "x" * 60 + """...
+^
+errors: 1, skipped modules: 0
+"""
+TOO_MANY = """<stdin>:4097:8: error: too many modules
+A set has at most 4,096 modules, and this one is one more.
+module M4096 where { }
+       ^
+errors: 1, skipped modules: 0
 """
 MISSING = """a.hs:1:25: error: missing B
 A module of this name was looked for, and the set has none.
@@ -289,6 +302,14 @@ ROWS = {
         "refused: module A imports missing B\n",
         MISSING + "errors: 1, skipped modules: 0\n",
     ),
+    "messages of a source that is too long": (["--explain"], "x" * 1_048_577, 2, "refused: source 1 too long\n", TOO_LONG),
+    "messages of too many modules": (
+        ["--explain"],
+        "".join(f"module M{n} where {{ }}\n" for n in range(4097)),
+        2,
+        "refused: too many modules\n",
+        TOO_MANY,
+    ),
     "messages of a good set": (["a.hs", "--explain", "b.hs"], "", 0, REPORT, "errors: 0, skipped modules: 0\n"),
     "messages and a journal": (
         ["--jobs", "1", "--journal", "--explain"],
@@ -403,6 +424,35 @@ def refused_check(folder):
             yield f"a check without memory, {workers} workers {words}", ran, (3, "", "hmc: no memory\n")
 
 
+def many_messages(folder):
+    """A message of four lines for each of 10,000 faults, of modules that are skipped in a chain too."""
+    text = "module A where { " + " ; ".join(f"f{n} = y" for n in range(10_000)) + " }"
+    text += "".join(f"\nmodule M{n} where {{ import {f'M{n - 1}' if n else 'A'} }}" for n in range(1000))
+    ran = run(folder, ["--explain"], text)
+    report, messages = ran.stdout.decode().splitlines(), ran.stderr.decode().splitlines()
+    ran.stdout = f"{len(report)} lines, {report[-1]}".encode()
+    errors, notes = (sum(word in line for line in messages) for word in (": error: unbound y", ": note: skipped, since "))
+    ran.stderr = f"{errors} errors and {notes} notes in {len(messages)} lines, {messages[-1]}".encode()
+    wanted = "12002 lines, 1001 modules: 0 good, 1 faulty, 1000 skipped", "10000 errors and 1000 notes in 43001 lines, errors: 10000, skipped modules: 1000"
+    yield "ten thousand faults and a thousand skipped modules", ran, (1, *wanted)
+
+
+def on_a_terminal(folder):
+    """Where standard error is a terminal `error` and `note` have a colour, unless NO_COLOR is set and not empty."""
+    plain = "twice.hs" + UNTYPED + BLAMED + "errors: 1, skipped modules: 1\n"
+    coloured = plain.replace(" error: ", " \x1b[1;31merror\x1b[0m: ").replace(" note: ", " \x1b[1;36mnote\x1b[0m: ")
+    for name, colour, wanted in (("without NO_COLOR", None, coloured), ("with an empty NO_COLOR", "", coloured), ("with NO_COLOR", "1", plain)):
+        words = {word: value for word, value in os.environ.items() if word != "NO_COLOR"}
+        if colour is not None:
+            words["NO_COLOR"] = colour
+        reading, terminal = pty.openpty()
+        ran = subprocess.run([PROGRAM, "--explain", "pair.hs", "twice.hs", "user.hs"], cwd=folder, env=words, stdout=subprocess.PIPE, stderr=terminal)
+        os.close(terminal)
+        ran.stderr = os.read(reading, 1 << 16).replace(b"\r\n", b"\n")
+        os.close(reading)
+        yield f"messages on a terminal {name}", ran, (1, EXAMPLE, wanted)
+
+
 def broken_pipe():
     """A pipe that nobody reads."""
     reading, writing = os.pipe()
@@ -499,6 +549,8 @@ def main():
         runs.append(("a small check in little memory", run(folder, [], "", before=limit(SMALL)), (0, "0 modules: 0 good, 0 faulty, 0 skipped\n", "")))
         runs.append(("one worker in 200 MB", run(folder, ["--jobs", "1"], A + B, before=limit(LITTLE)), (0, REPORT, "")))
         runs.extend(doubling(folder))
+        runs.extend(many_messages(folder))
+        runs.extend(on_a_terminal(folder))
         runs.extend(refused_check(folder))
         runs.append(("no room for the stack", run(folder, ["--plan"], A + B, before=limit(TINY)), (3, "", "hmc: no memory\n")))
         runs.append(("no room for a worker", run(folder, [], A + B, before=limit(TINY)), (6, "", "hmc: no worker\n")))
