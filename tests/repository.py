@@ -8,7 +8,8 @@ docs/ARCHITECTURE.md that say what each crate stands on.
    stands on are the crates of this repository that crates.txt lists for it, but for those on which
    another of them stands.
 2. Each generator (crates/NAME/gen/*.py) writes the very files that are checked in.
-3. Each edit in a folder must-fail/ changes a text that stands once in the file that it names.
+3. Each edit in a folder must-fail/ changes a text that stands once in the file that it names, and names in one line
+   the goal that it is refused at.
 """
 import pathlib
 import re
@@ -71,18 +72,22 @@ def generated_faults():
 def edit_faults():
     faults = []
     for edit in sorted(TOP.glob("crates/*/must-fail/*.edit")):
-        texts, path, old = {}, None, None
+        texts, path, old, goals = {}, None, None, 0
         for line in edit.read_text().splitlines():
             word, _, rest = line.partition(": ")
             if word == "file":
                 path = edit.parent.parent / rest.strip()
                 texts.setdefault(path, path.read_text() if path.is_file() else "")
+            elif word == "goal" and rest.strip():
+                goals += 1
             elif word == "old":
                 old = rest
             elif line.startswith("new:") and path and old:
                 if texts[path].count(old) != 1:
                     faults.append(f"{edit.relative_to(TOP)}: its old text stands {texts[path].count(old)} times")
                 texts[path] = texts[path].replace(old, line[5:])
+        if goals != 1:
+            faults.append(f"{edit.relative_to(TOP)} names {goals} goals")
     return faults
 
 
