@@ -10,6 +10,7 @@ it is about must have been refused by some of the refusals. Ends with 1 where an
 """
 import argparse
 import collections
+import concurrent.futures
 import os
 import subprocess
 import sys
@@ -67,9 +68,16 @@ class Refusing:
         subprocess.run(["gcc", "-shared", "-fPIC", "-O1", "-o", self.library, source], check=True)
 
     def run(self, words, given, number):
-        """How the command ends with this allocation refused, or with none for 0."""
-        environment = dict(os.environ, LD_PRELOAD=self.library, REFUSED_ALLOCATION=str(number), ALLOCATION_COUNT=self.count)
+        """How the command ends with this allocation refused, or with none for 0, which is counted."""
+        environment = dict(os.environ, LD_PRELOAD=self.library, REFUSED_ALLOCATION=str(number))
+        if not number:
+            environment["ALLOCATION_COUNT"] = self.count
         return subprocess.run(words, input=given, capture_output=True, env=environment)
+
+    def runs(self, words, given, numbers):
+        """How the command ends with each of these allocations refused, as many side by side as there are processors."""
+        with concurrent.futures.ThreadPoolExecutor(len(os.sched_getaffinity(0))) as pool:
+            yield from zip(numbers, pool.map(lambda number: self.run(words, given, number), numbers))
 
     def total(self):
         with open(self.count) as told:
@@ -105,8 +113,7 @@ def refuse_in_program(refusing, program):
             first = ending(refusing.run(words, source, 0), status, report)
             total = refusing.total()
             found = collections.Counter()
-            for number in numbers(total, doubles):
-                ran = refusing.run(words, source, number)
+            for number, ran in refusing.runs(words, source, numbers(total, doubles)):
                 end = ending(ran, status, report)
                 found[end or "WRONG"] += 1
                 if end is None:
@@ -124,8 +131,7 @@ def refuse_in_tests(refusing, tests):
         passes = ending_of_test(refusing.run([tests, name], b"", 0)) == "right"
         total = refusing.total()
         found = collections.Counter()
-        for number in range(1, total + 1):
-            ran = refusing.run([tests, name], b"", number)
+        for number, ran in refusing.runs([tests, name], b"", range(1, total + 1)):
             end = ending_of_test(ran)
             found[end or "WRONG"] += 1
             if end is None:
