@@ -2,7 +2,7 @@
 
 Run it in the crate's folder: python3 gen/symbols.py
 
-src/symbol.rt has the same symbols, in the same order, and the same three tables.
+src/symbol.rt has the same symbols, in the same order, and finds the same texts by their first bytes.
 """
 
 SYMBOLS = "specs/Symbols.antt"

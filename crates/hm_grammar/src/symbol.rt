@@ -1,10 +1,10 @@
 //! What a token is to the grammar.
-ghost use Rattle.std.specs.Prelude.{◌≡◌, map};
+ghost use Rattle.std.specs.Prelude.{◌≡◌, ℕ, List, [], ◌∷◌, map};
 ghost use Rattle.hm_grammar.specs.Reading.Types.{begins_atype};
 ghost use Rattle.hm_grammar.specs.Reading.Constructors.{is_mark};
 ghost use Rattle.hm_grammar.specs.Reading.Patterns.{begins_apat};
 ghost use Rattle.hm_grammar.specs.Reading.Expressions.{begins_aexp, begins_open, begins_signature, continues_pattern};
-ghost use Rattle.hm_grammar.specs.Symbols.{same, find_symbol, symbol_of, is_qvar, is_qcon};
+ghost use Rattle.hm_grammar.specs.Symbols.{same, find_symbol, symbol_of, words, operators, specials, is_qvar, is_qcon};
 
 use hm_lex::Kind;
 
@@ -154,22 +154,51 @@ impl Symbol {
     }
 }
 
-const WORDS: [(&[u8], Symbol); 14] = [
-    (b"case", Symbol::Case),
-    (b"data", Symbol::Data),
-    (b"else", Symbol::Else),
+const C_WORDS: [(&[u8], Symbol); 1] = [(b"case", Symbol::Case)];
+
+const D_WORDS: [(&[u8], Symbol); 1] = [(b"data", Symbol::Data)];
+
+const E_WORDS: [(&[u8], Symbol); 1] = [(b"else", Symbol::Else)];
+
+const I_WORDS: [(&[u8], Symbol); 3] = [
     (b"if", Symbol::If),
     (b"import", Symbol::Import),
     (b"in", Symbol::In),
-    (b"let", Symbol::Let),
-    (b"module", Symbol::Module),
-    (b"newtype", Symbol::Newtype),
-    (b"of", Symbol::Of),
-    (b"then", Symbol::Then),
-    (b"type", Symbol::TypeWord),
-    (b"where", Symbol::Where),
-    (b"_", Symbol::Wild),
 ];
+
+const L_WORDS: [(&[u8], Symbol); 1] = [(b"let", Symbol::Let)];
+
+const M_WORDS: [(&[u8], Symbol); 1] = [(b"module", Symbol::Module)];
+
+const N_WORDS: [(&[u8], Symbol); 1] = [(b"newtype", Symbol::Newtype)];
+
+const O_WORDS: [(&[u8], Symbol); 1] = [(b"of", Symbol::Of)];
+
+const T_WORDS: [(&[u8], Symbol); 2] = [(b"then", Symbol::Then), (b"type", Symbol::TypeWord)];
+
+const W_WORDS: [(&[u8], Symbol); 1] = [(b"where", Symbol::Where)];
+
+const UNDERSCORE: [(&[u8], Symbol); 1] = [(b"_", Symbol::Wild)];
+
+/// The reserved words that mean something and begin with the byte.
+fn words_from(first: u8) -> &'static [(&'static [u8], Symbol)]
+    ensures { (rest : List ℕ) → find_symbol (first ∷ rest) (map (λ entry. (entry.0.now, entry.1)) result.now) ≡ find_symbol (first ∷ rest) words }
+{
+    match first {
+        b'c' => &C_WORDS,
+        b'd' => &D_WORDS,
+        b'e' => &E_WORDS,
+        b'i' => &I_WORDS,
+        b'l' => &L_WORDS,
+        b'm' => &M_WORDS,
+        b'n' => &N_WORDS,
+        b'o' => &O_WORDS,
+        b't' => &T_WORDS,
+        b'w' => &W_WORDS,
+        b'_' => &UNDERSCORE,
+        _ => &[],
+    }
+}
 
 const OPERATORS: [(&[u8], Symbol); 9] = [
     (b"..", Symbol::Dots),
@@ -183,16 +212,37 @@ const OPERATORS: [(&[u8], Symbol); 9] = [
     (b"~", Symbol::Tilde),
 ];
 
-const SPECIALS: [(&[u8], Symbol); 8] = [
-    (b"(", Symbol::Open),
-    (b")", Symbol::Close),
-    (b"[", Symbol::OpenSquare),
-    (b"]", Symbol::CloseSquare),
-    (b"{", Symbol::LeftBrace),
-    (b"}", Symbol::RightBrace),
-    (b",", Symbol::Comma),
-    (b";", Symbol::Semicolon),
-];
+/// The operator of one byte.
+fn short_operator(byte: u8) -> Symbol
+    ensures { result ≡ find_symbol (byte ∷ []) operators }
+{
+    match byte {
+        b':' => Symbol::Colon,
+        b'=' => Symbol::Equals,
+        b'\\' => Symbol::Backslash,
+        b'|' => Symbol::Bar,
+        b'@' => Symbol::At,
+        b'~' => Symbol::Tilde,
+        _ => Symbol::Other,
+    }
+}
+
+/// The special character that the byte is.
+fn special_byte(byte: u8) -> Symbol
+    ensures { result ≡ find_symbol (byte ∷ []) specials }
+{
+    match byte {
+        b'(' => Symbol::Open,
+        b')' => Symbol::Close,
+        b'[' => Symbol::OpenSquare,
+        b']' => Symbol::CloseSquare,
+        b'{' => Symbol::LeftBrace,
+        b'}' => Symbol::RightBrace,
+        b',' => Symbol::Comma,
+        b';' => Symbol::Semicolon,
+        _ => Symbol::Other,
+    }
+}
 
 /// The symbol of a text in a table.
 fn find(table: &[(&[u8], Symbol)], text: &[u8]) -> Symbol
@@ -206,14 +256,41 @@ fn find(table: &[(&[u8], Symbol)], text: &[u8]) -> Symbol
     Symbol::Other
 }
 
+fn word(text: &[u8]) -> Symbol
+    ensures { result ≡ find_symbol text.now words }
+{
+    if text.is_empty() {
+        return Symbol::Other;
+    }
+    find(words_from(text[0]), text)
+}
+
+fn operator(text: &[u8]) -> Symbol
+    ensures { result ≡ find_symbol text.now operators }
+{
+    if text.len() == 1 {
+        return short_operator(text[0]);
+    }
+    find(&OPERATORS, text)
+}
+
+fn special(text: &[u8]) -> Symbol
+    ensures { result ≡ find_symbol text.now specials }
+{
+    if text.len() == 1 {
+        return special_byte(text[0]);
+    }
+    Symbol::Other
+}
+
 /// The symbol of a token with this kind and text.
 pub fn symbol_of(kind: Kind, text: &[u8]) -> Symbol
     ensures { result ≡ symbol_of kind text.now }
 {
     match kind {
-        Kind::Word => find(&WORDS, text),
-        Kind::Op => find(&OPERATORS, text),
-        Kind::Special => find(&SPECIALS, text),
+        Kind::Word => word(text),
+        Kind::Op => operator(text),
+        Kind::Special => special(text),
         Kind::VarId => Symbol::Var,
         Kind::ConId => Symbol::Con,
         Kind::QVarId => Symbol::QVar,
