@@ -1,10 +1,12 @@
 #!/usr/bin/env python3
-"""Runs `hmc` on inputs whose time once grew too fast, each at a size and at twice that size, and prints seconds, printed bytes and both ratios.
+"""Runs `hmc` on inputs whose time once grew too fast, each at a size and at twice that size, and prints seconds of the clock, printed bytes and
+both ratios.
 
 `growth.py [PROGRAM]`: without a word, the script `hmc` beside this folder is run. Ends with 1 where a run fails or takes too long,
-and where the time grows by more than 3 and what is printed doesn't.
+where the time grows by more than 3 and what is printed doesn't, and where 10,000 faults with their messages take a second of processors.
 """
 import os
+import resource
 import subprocess
 import sys
 import tempfile
@@ -17,6 +19,9 @@ GREATEST_RATIO = 3
 SECONDS = 120
 # Shorter times than this say nothing about growth.
 LEAST_SECONDS = 0.02
+# So many faults take less than this with their messages.
+MANY_FAULTS = 10_000
+MOST_SECONDS = 1
 
 
 def arrows(count):
@@ -57,6 +62,15 @@ def doubling_synonyms(count):
     return module(["type T0 = Int"] + [f"type T{n} = (T{n - 1}, T{n - 1})" for n in range(1, count)] + ["x = True"])
 
 
+def faults(count):
+    return module(f"f{n} = y" for n in range(count))
+
+
+def chained_faults(count):
+    """As many names that have no type, each in a module of its own that imports nothing, and as many modules that import one of them."""
+    return "\n".join(f"module M{n} where {{ f = f f }}\nmodule N{n} where {{ import M{n} }}" for n in range(count))
+
+
 # the kind, what makes an input of a size, and the smaller size
 KINDS = [
     ("names of one signature, with a type of as many arrows", names_of_a_signature, 500),
@@ -71,32 +85,48 @@ KINDS = [
 ]
 
 
-def run(path):
+# the same for inputs with faults, whose messages are printed too
+FAULTY = [
+    ("faults of one module, each with its message", faults, 5_000),
+    ("faulty modules, and as many that are skipped for them", chained_faults, 1_000),
+]
+
+
+def run(path, words, wanted):
     """The seconds and the printed bytes of the quickest run, or None where one fails."""
     answers = []
     for _ in range(RUNS):
         with tempfile.TemporaryFile() as printed:
             start = time.time()
             try:
-                status = subprocess.run([PROGRAM, "--jobs", "1", path], stdout=printed, stderr=subprocess.DEVNULL, timeout=SECONDS).returncode
+                status = subprocess.run([PROGRAM, "--jobs", "1", *words, path], stdout=printed, stderr=printed, timeout=SECONDS).returncode
             except subprocess.TimeoutExpired:
                 return None
-            if status:
+            if status != wanted:
                 return None
             answers.append((time.time() - start, printed.seek(0, 2)))
     return min(answers)
+
+
+def processor_seconds(path, words):
+    """The seconds that processors spend on a run."""
+    before = resource.getrusage(resource.RUSAGE_CHILDREN)
+    subprocess.run([PROGRAM, *words, path], stdout=subprocess.DEVNULL, stderr=subprocess.DEVNULL, timeout=SECONDS, check=False)
+    after = resource.getrusage(resource.RUSAGE_CHILDREN)
+    return after.ru_utime + after.ru_stime - before.ru_utime - before.ru_stime
 
 
 def main():
     failed = False
     with tempfile.TemporaryDirectory() as folder:
         path = os.path.join(folder, "modules.hs")
-        for kind, make, size in KINDS:
+        rows = [(*row, [], 0) for row in KINDS] + [(*row, ["--explain"], 1) for row in FAULTY]
+        for kind, make, size, words, status in rows:
             answers = []
             for count in (size, 2 * size):
                 with open(path, "w", encoding="utf-8") as file:
                     file.write(make(count))
-                answers.append(run(path))
+                answers.append(run(path, words, status))
             if None in answers:
                 failed = True
                 print(f"{size} and {2 * size} {kind}: a run fails, or takes more than {SECONDS} s", flush=True)
@@ -106,6 +136,11 @@ def main():
             is_fast = growth > GREATEST_RATIO >= output
             failed |= is_fast
             print(f"{size} and {2 * size} {kind}: {short:.2f} and {long:.2f} s, {growth:.1f} times; {output:.1f} times the output{': TOO FAST' if is_fast else ''}", flush=True)
+        with open(path, "w", encoding="utf-8") as file:
+            file.write(faults(MANY_FAULTS))
+        seconds = processor_seconds(path, ["--explain"])
+        failed |= seconds >= MOST_SECONDS
+        print(f"{MANY_FAULTS} faults with their messages: {seconds:.2f} s of processors", flush=True)
     sys.exit(failed)
 
 

@@ -45,11 +45,10 @@ impl Parser<'_> {
     pub(crate) fn begins_gcon(&self) -> bool
         ensures { result ≡ begins_gcon self.now }
     {
-        let second = self.second();
         match self.symbol() {
             Symbol::Con | Symbol::QCon => true,
-            Symbol::Open => second.is_mark(),
-            Symbol::OpenSquare => second.is(Symbol::CloseSquare),
+            Symbol::Open => self.second().is_mark(),
+            Symbol::OpenSquare => self.second().is(Symbol::CloseSquare),
             _ => false,
         }
     }
