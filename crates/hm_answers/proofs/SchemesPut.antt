@@ -4,11 +4,11 @@ use Rattle.std.proofs.lemmas.Slice.Eq.{bytes_eq-Decides}
 use Rattle.std.proofs.lemmas.List.{take_all}
 use Rattle.hm_types.specs.Monotypes.{Mono}
 use Rattle.hm_types.specs.Schemes.{TypeScheme, canonical_of}
-use Rattle.hm_types.specs.Shape.{type_of}
 use Rattle.hm_types.specs.Types.{put}
 use Rattle.hm_typing.specs.Names.{Identifier, local, global, binding}
 use Rattle.hm_names.specs.Cores as cores
 use Rattle.hm_assumptions.specs.Environments.{Assumed, opened}
+use Rattle.hm_assumptions.specs.AssumedTypes.{type_in}
 use Rattle.hm_assumptions.specs.Kept.{assumed_of, entries_of}
 use Rattle.hm_expressions.specs.OwnSchemes.{HaveCanonical, canonical_scheme}
 use Rattle.hm_assumptions.specs.declared.environment.Binding.{Binding}
@@ -27,7 +27,7 @@ name_in (binding m k) = []
 pub none_put : (home : List ℕ) (b : Binding) (given : List ℕ → Option TypeScheme) → ((x : List ℕ) → ¬ ((assumed_of b).name ≡ own home x)) → (es : List Assumed) → HaveCanonical home es given → HaveCanonical home (assumed_of b ∷ es) given
 none_put home b given n es h x s i = ⊎_elim (λ p. absurd (n x p.0)) (λ p. h x s p.1) i
 
-pub one_put : (home text : List ℕ) (b : Binding) (u : Mono) (scheme : TypeScheme) (given given1 : List ℕ → Option TypeScheme) → (assumed_of b).name ≡ own home text → u ≡ put (opened false b.quantified 0) (type_of b.body) → scheme ≡ canonical_of u →
+pub one_put : (home text : List ℕ) (b : Binding) (u : Mono) (scheme : TypeScheme) (given given1 : List ℕ → Option TypeScheme) → (assumed_of b).name ≡ own home text → u ≡ put (opened false b.quantified 0) (type_in b.body) → scheme ≡ canonical_of u →
     ((x : List ℕ) → given1 x ≡ (if bytes_eq text x then Some scheme else given x)) → (es : List Assumed) → HaveCanonical home es given → HaveCanonical home (assumed_of b ∷ es) given1
 unfolding name_in
 one_put home text b u scheme given given1 named e f g es h x s i = at (bytes_eq text x) refl

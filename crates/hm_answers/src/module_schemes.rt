@@ -1,9 +1,9 @@
 //! The schemes of a module's own variables.
 
 ghost use Rattle.std.specs.Prelude.{List, ◌+◌, ◌∷◌, IfOk, OnOk};
-ghost use Rattle.hm_types.specs.Shape.{type_of};
 ghost use Rattle.hm_unify.specs.WellFormed.{IsWellFormed};
 ghost use Rattle.hm_names.specs.SchemeTables.{scheme_of};
+ghost use Rattle.hm_assumptions.specs.AssumedTypes.{type_in};
 ghost use Rattle.hm_assumptions.specs.Environments.{AreAssumed, Assumed};
 ghost use Rattle.hm_assumptions.specs.Kept.{assumed_of};
 ghost use Rattle.hm_expressions.specs.OwnSchemes.{HaveCanonical};
@@ -20,13 +20,14 @@ fn put_scheme(
     home: &str,
     binding: &Binding<'_>,
 ) -> Result<(), AllocError>
-    requires { IsWellFormed (binding.now.quantified + 0) (type_of binding.now.body) }
+    requires { IsWellFormed (binding.now.quantified + 0) (type_in binding.now.body) }
     ensures { OnOk result ((es : List Assumed) → HaveCanonical home.now es (scheme_of schemes.old) → HaveCanonical home.now (assumed_of binding.now ∷ es) (scheme_of schemes.new)) }
 {
     let Some(text) = own_text(binding.name, home) else {
         return Ok(());
     };
-    let body = instantiate(alloc, false, binding.quantified, 0, &binding.body)?;
+    let assumed = binding.body.as_type();
+    let body = instantiate(alloc, false, binding.quantified, 0, assumed)?;
     schemes.put(text, canonical(alloc, &body)?)?;
     Ok(())
 }

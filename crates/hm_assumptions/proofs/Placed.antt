@@ -13,6 +13,7 @@ use Rattle.hm_variables.proofs.SameVariables.{same_variable-is, same_variable-re
 use Rattle.hm_assumptions.specs.declared.environment.Binding.{Binding}
 use Rattle.hm_assumptions.specs.declared.variables.Variable.{Variable as KeptVariable}
 use Rattle.hm_assumptions.specs.Environments.{Assumed, IsSchemeOf, assumed_names}
+use Rattle.hm_assumptions.specs.AssumedTypes.{type_in}
 use Rattle.hm_assumptions.specs.Kept.{stack, assumed_of, entries_of, variable_of, variables_of}
 use Rattle.hm_assumptions.specs.Patterns.{IsTypeOf, names_of}
 use Rattle.hm_assumptions.specs.Places.{IsTable, IsPlaced, AreNoted}
@@ -88,7 +89,7 @@ get_before : {A : Type 0} (xs : List A) (y d : A) (p : ℕ) → p < length xs �
 get_before xs y d p h e = ⊎_elim (λ k. k) (λ k. let n = k.0 in absurd (omega (arith, h, n))) (get-push_cases xs y d p e)
 
 -- and has the innermost assumption of the name
-pub place_found : (bs : List Binding) (f : Places) (x : Variable) (p : ℕ) (d : Binding) → IsTable bs f → f x ≡ Some p → slice_get (reverse bs) p ≡ Some d → IsSchemeOf (identifier x) (record { quantified = d.quantified; body = type_of d.body }) (entries_of (reverse bs))
+pub place_found : (bs : List Binding) (f : Places) (x : Variable) (p : ℕ) (d : Binding) → IsTable bs f → f x ≡ Some p → slice_get (reverse bs) p ≡ Some d → IsSchemeOf (identifier x) (record { quantified = d.quantified; body = type_in d.body }) (entries_of (reverse bs))
 place_found [] f x p d t e g = let k : None ≡ Some p = sym (t x) ∙ e in cc
 place_found (b ∷ bs) f x p d t e g = subst (IsSchemeOf (identifier x) (assumed_of d).scheme) (sym (entries_push bs b)) (⊎_elim same (other (λ h g. place_found bs _ x p d t.1 (hidden_else b f x h ∙ e) g)) (differ (variable_of_key b.name) x))
   where
@@ -136,9 +137,9 @@ none_assumed items table x es t v e = subst (λ (zs : List Assumed). ¬ (IsOneOf
 pub is_inside : (items : List Binding) (table : Table) (x : Variable) (p : ℕ) → IsPlaced items table → number_of table x ≡ Some p → p < length items
 is_inside items table x p t e = let k = place_inside (reverse items) (number_of table) x p t e in let n = length_reverse items in omega (arith, k, n)
 
-pub is_assumed : (items : List Binding) (table : Table) (x : Variable) (p : ℕ) (d : Binding) (es : List Assumed) → IsPlaced items table → entries_of items ≡ es → number_of table x ≡ Some p → slice_get items p ≡ Some d → IsSchemeOf (identifier x) (record { quantified = d.quantified; body = type_of d.body }) es
+pub is_assumed : (items : List Binding) (table : Table) (x : Variable) (p : ℕ) (d : Binding) (es : List Assumed) → IsPlaced items table → entries_of items ≡ es → number_of table x ≡ Some p → slice_get items p ≡ Some d → IsSchemeOf (identifier x) (record { quantified = d.quantified; body = type_in d.body }) es
 is_assumed items table x p d es t v e g =
-    subst (λ (zs : List Assumed). IsSchemeOf (identifier x) (record { quantified = d.quantified; body = type_of d.body }) zs) (ap entries_of (reverse-reverse items) ∙ v)
+    subst (λ (zs : List Assumed). IsSchemeOf (identifier x) (record { quantified = d.quantified; body = type_in d.body }) zs) (ap entries_of (reverse-reverse items) ∙ v)
     (place_found (reverse items) (number_of table) x p d t e (subst (λ (ys : List Binding). slice_get ys p ≡ Some d) (sym (reverse-reverse items)) g))
 
 -- Variables of patterns

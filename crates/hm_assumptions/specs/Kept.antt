@@ -6,6 +6,8 @@ use Rattle.hm_variables.specs.Keys.{variable_of_key}
 use Rattle.hm_variables.specs.Variables.{identifier}
 use Rattle.hm_assumptions.specs.declared.variables.Variable.{Variable as KeptVariable}
 use Rattle.hm_assumptions.specs.declared.environment.Binding.{Binding}
+use Rattle.hm_assumptions.specs.AssumedTypes.{type_in}
+use Rattle.hm_assumptions.specs.KnownSchemes.{scheme_in}
 use Rattle.hm_names.specs.Cores.{ConstructorScheme}
 use Rattle.hm_assumptions.specs.Patterns.{Variable}
 use Rattle.hm_assumptions.specs.Environments.{Assumed}
@@ -22,13 +24,13 @@ abbrev pub variables_of : List KeptVariable → List Variable
 variables_of xs = stack variable_of xs []
 
 abbrev pub assumed_of : Binding → Assumed
-assumed_of b = record { name = identifier (variable_of_key b.name); scheme = record { quantified = b.quantified; body = type_of b.body } }
+assumed_of b = record { name = identifier (variable_of_key b.name); scheme = record { quantified = b.quantified; body = type_in b.body } }
 
 abbrev pub entries_of : List Binding → List Assumed
 entries_of xs = stack assumed_of xs []
 
 abbrev pub scheme_of : Entry → ConstructorScheme
-scheme_of e = record { entity = record { «module» = e.«module».now; name = e.name.now }; scheme = e.scheme }
+scheme_of e = record { entity = record { «module» = e.«module».now; name = e.name.now }; scheme = scheme_in e.scheme }
 
 abbrev pub schemes_of : List Entry → List ConstructorScheme
 schemes_of es = map scheme_of es

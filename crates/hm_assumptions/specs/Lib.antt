@@ -4,7 +4,8 @@ pub mod Patterns
 pub mod Environments
 pub mod Functions
 pub mod Constructors
-pub mod FoundSchemes
+pub mod KnownSchemes
+pub mod AssumedTypes
 pub mod ConstructorPlaces
 pub mod Kept
 pub mod Places

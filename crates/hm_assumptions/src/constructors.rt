@@ -6,8 +6,8 @@ ghost use Rattle.hm_names.specs.Described.{first_of};
 ghost use Rattle.hm_names.specs.Types.{entity_of};
 ghost use Rattle.hm_assumptions.specs.Constructors.{known_of};
 ghost use Rattle.hm_assumptions.specs.ConstructorPlaces.{AreFirstPlaces, key_of_entity};
-ghost use Rattle.hm_assumptions.specs.FoundSchemes.{scheme_in};
 ghost use Rattle.hm_assumptions.specs.Kept.{schemes_of};
+ghost use Rattle.hm_assumptions.specs.KnownSchemes.{scheme_in};
 
 use crate::environment::place_of;
 use crate::special::{special_scheme, unit_scheme};
@@ -18,12 +18,32 @@ use indexmap::IndexMap;
 use std::alloc::{AllocError, Global};
 use std::marker::Model;
 
+/// The scheme of a constructor: that of an imported one is lent by its interface, any other one was
+/// made.
+#[derive(Drop)]
+pub enum KnownScheme<'a> {
+    Made(Scheme),
+    Lent(&'a Scheme),
+}
+
+impl<'a> KnownScheme<'a> {
+    /// The scheme, lent.
+    pub(crate) fn as_scheme(&self) -> &Scheme
+        ensures { result.now ≡ scheme_in self.now }
+    {
+        match self {
+            KnownScheme::Made(scheme) => scheme,
+            KnownScheme::Lent(scheme) => scheme,
+        }
+    }
+}
+
 /// A constructor, by the module that declares it and its name there, with its scheme.
 #[derive(Drop)]
 pub struct Entry<'a> {
     pub module: &'a str,
     pub name: &'a str,
-    pub scheme: Scheme,
+    pub scheme: KnownScheme<'a>,
 }
 
 /// The constructors that a module uses, with their schemes. Of the entries of one constructor the
@@ -72,34 +92,15 @@ impl<'a> Constructors<'a> {
     }
 
     /// The scheme of a constructor.
-    pub(crate) fn find(&self, alloc: Global, name: &Name) -> Result<FoundScheme<'_>, AllocError>
+    pub(crate) fn find(&self, alloc: Global, name: &Name) -> Result<KnownScheme<'_>, AllocError>
         ensures { IfOk result (λ found. scheme_in found ≡ (known_of self.now).scheme name.now) }
     {
         match special_scheme(alloc, name)? {
-            Some(scheme) => Ok(FoundScheme::Made(scheme)),
+            Some(scheme) => Ok(KnownScheme::Made(scheme)),
             None => match entered(&self.entries, &self.places, name) {
-                Some(scheme) => Ok(FoundScheme::Lent(scheme)),
-                None => Ok(FoundScheme::Made(unit_scheme(alloc)?)),
+                Some(scheme) => Ok(KnownScheme::Lent(scheme)),
+                None => Ok(KnownScheme::Made(unit_scheme(alloc)?)),
             },
-        }
-    }
-}
-
-/// The scheme of a constructor: that of a special one is made, any other one is lent.
-#[derive(Drop)]
-pub(crate) enum FoundScheme<'a> {
-    Made(Scheme),
-    Lent(&'a Scheme),
-}
-
-impl<'a> FoundScheme<'a> {
-    /// The scheme, lent.
-    pub(crate) fn as_scheme(&self) -> &Scheme
-        ensures { result.now ≡ scheme_in self.now }
-    {
-        match self {
-            FoundScheme::Made(scheme) => scheme,
-            FoundScheme::Lent(scheme) => scheme,
         }
     }
 }
@@ -148,7 +149,7 @@ fn entered<'b>(
     ensures { option_copied result ≡ option_map (λ d. d.scheme) (first_of (λ d. d.entity) (entity_of name.now) (schemes_of entries.now)) }
 {
     match place_of(places, &entity_key(name)) {
-        Some(place) => Some(&entries[place].scheme),
+        Some(place) => Some(entries[place].scheme.as_scheme()),
         None => None,
     }
 }

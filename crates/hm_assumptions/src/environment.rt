@@ -4,6 +4,7 @@ ghost use Rattle.std.specs.Prelude.{◌≡◌, ℕ, ◌≤◌, ◌-◌, ◌∷�
 ghost use Rattle.hm_types.specs.Shape.{type_of};
 ghost use Rattle.hm_typing.specs.Names.{IsOneOf};
 ghost use Rattle.hm_assumptions.specs.Environments.{Extends, Assumed, IsSchemeOf, assumed_names, monomorphic_entries};
+ghost use Rattle.hm_assumptions.specs.AssumedTypes.{type_in};
 ghost use Rattle.hm_assumptions.specs.Kept.{entries_of};
 ghost use Rattle.hm_assumptions.specs.Places.{IsPlaced};
 ghost use Rattle.hm_variables.specs.Keys.{number_of, same_variable, variable_of_key};
@@ -26,12 +27,32 @@ pub(crate) struct Scheme<'a> {
     pub body: &'a Ty,
 }
 
+/// The type of a scheme that is assumed: that of an imported variable is lent by its interface, any
+/// other one was made.
+#[derive(Drop)]
+pub enum AssumedType<'a> {
+    Made(Ty),
+    Lent(&'a Ty),
+}
+
+impl<'a> AssumedType<'a> {
+    /// The type, lent.
+    pub fn as_type(&self) -> &Ty
+        ensures { type_of result.now ≡ type_in self.now }
+    {
+        match self {
+            AssumedType::Made(ty) => ty,
+            AssumedType::Lent(ty) => ty,
+        }
+    }
+}
+
 /// A name with its scheme, and the place of the assumption of this name that it hides.
 #[derive(Drop)]
 pub struct Binding<'a> {
     pub name: LentName<'a>,
     pub quantified: usize,
-    pub body: Ty,
+    pub body: AssumedType<'a>,
     hidden: Option<usize>,
 }
 
@@ -96,6 +117,31 @@ impl<'a> Environment<'a> {
         ensures bound { OnOk result (self.new ≡ (record { name = identifier (variable_of_key name.entry); scheme = record { quantified = quantified; body = type_of body } } ∷ self.old)) }
         ensures same { OnErr result (self.new ≡ self.old) }
     {
+        self.add(name, quantified, AssumedType::Made(body))
+    }
+
+    /// Assumes a scheme whose type is lent of a name, inside all others.
+    pub fn bind_lent(
+        &mut self,
+        name: LentName<'a>,
+        quantified: usize,
+        body: &'a Ty,
+    ) -> Result<(), AllocError>
+        ensures bound { OnOk result (self.new ≡ (record { name = identifier (variable_of_key name.entry); scheme = record { quantified = quantified; body = type_of body.entry.now } } ∷ self.old)) }
+        ensures same { OnErr result (self.new ≡ self.old) }
+    {
+        self.add(name, quantified, AssumedType::Lent(body))
+    }
+
+    fn add(
+        &mut self,
+        name: LentName<'a>,
+        quantified: usize,
+        body: AssumedType<'a>,
+    ) -> Result<(), AllocError>
+        ensures bound { OnOk result (self.new ≡ (record { name = identifier (variable_of_key name.entry); scheme = record { quantified = quantified; body = type_in body.entry } } ∷ self.old)) }
+        ensures same { OnErr result (self.new ≡ self.old) }
+    {
         let place = self.items.len();
         let key = name;
         let hidden = place_of(&self.innermost, &key);
@@ -131,7 +177,7 @@ impl<'a> Environment<'a> {
         let item = &self.items[place];
         Some(Scheme {
             quantified: item.quantified,
-            body: &item.body,
+            body: item.body.as_type(),
         })
     }
 

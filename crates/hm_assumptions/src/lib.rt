@@ -14,8 +14,8 @@ mod special;
 mod unifying;
 mod variables;
 
-pub use crate::constructors::{Constructors, Entry};
-pub use crate::environment::{Binding, Environment};
+pub use crate::constructors::{Constructors, Entry, KnownScheme};
+pub use crate::environment::{AssumedType, Binding, Environment};
 pub use crate::functions::{open_alternative, open_function};
 pub use crate::inference::Inference;
 pub use crate::instances::{check_constructor, check_scheme, instantiate};

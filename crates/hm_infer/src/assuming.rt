@@ -16,7 +16,6 @@ use std::sync::Arc;
 
 /// Assumes its scheme of a variable.
 fn assume_value<'a>(
-    alloc: Global,
     environment: &mut Environment<'a>,
     entry: &'a ValueEntry,
 ) -> Result<(), AllocError>
@@ -24,14 +23,12 @@ fn assume_value<'a>(
     ensures closed { OnOk result (AreAssumed 0 environment.old → AreAssumed 0 environment.new) }
 {
     let name = entity_name(&entry.entity);
-    let body = entry.scheme.body().copy(alloc)?;
-    environment.bind(name, entry.scheme.vars(), body)?;
+    environment.bind_lent(name, entry.scheme.vars(), entry.scheme.body())?;
     Ok(())
 }
 
 /// Assumes their schemes of variables, the first inside all others.
 fn assume_values<'a>(
-    alloc: Global,
     environment: &mut Environment<'a>,
     values: &'a [ValueEntry],
 ) -> Result<(), AllocError>
@@ -40,7 +37,7 @@ fn assume_values<'a>(
 {
     'values: for behind in 0..values.len() {
         let place = values.len() - 1 - behind;
-        assume_value(alloc, environment, &values[place])?;
+        assume_value(environment, &values[place])?;
     }
     Ok(())
 }
@@ -58,7 +55,7 @@ pub(crate) fn imported_environment<'a>(
     'interfaces: for behind in 0..interfaces.len() {
         let place = interfaces.len() - 1 - behind;
         let interface = &interfaces[place];
-        assume_values(alloc, &mut environment, interface.values())?;
+        assume_values(&mut environment, interface.values())?;
     }
     Ok(environment)
 }

@@ -9,7 +9,7 @@ ghost use Rattle.hm_names.specs.Faults.Lists.{Repeats};
 ghost use Rattle.hm_assumptions.specs.Constructors.{HasDistinctParameters, known_of};
 ghost use Rattle.hm_assumptions.specs.Kept.{schemes_of};
 
-use hm_assumptions::{Constructors, Entry};
+use hm_assumptions::{Constructors, Entry, KnownScheme};
 use hm_names::{Core, declared_scheme};
 use hm_syntax::{Constr, Decl, DeclKind, Name};
 use hm_types::{ConstructorEntry, Interface};
@@ -38,7 +38,7 @@ fn add_constructor<'a>(
     entries.push(Entry {
         module: owner.home,
         name: constr.name.as_str(),
-        scheme,
+        scheme: KnownScheme::Made(scheme),
     })?;
     Ok(())
 }
@@ -111,18 +111,16 @@ fn add_declared<'a>(
 
 /// Adds the constructors of an interface.
 fn add_exported<'a>(
-    alloc: Global,
     entries: &mut Vec<Entry<'a>>,
     exported: &'a [ConstructorEntry],
 ) -> Result<(), AllocError>
     ensures { OnOk result (schemes_of entries.new.items ≡ schemes_of entries.old.items ++ map (λ r. record { entity = r.entity; scheme = r.scheme }) exported.now) }
 {
     'exported: for entry in exported {
-        let scheme = entry.scheme.copy(alloc)?;
         entries.push(Entry {
             module: entry.entity.module.as_str(),
             name: entry.entity.name.as_str(),
-            scheme,
+            scheme: KnownScheme::Lent(&entry.scheme),
         })?;
     }
     Ok(())
@@ -130,14 +128,13 @@ fn add_exported<'a>(
 
 /// Adds the constructors of interfaces.
 fn add_imported<'a>(
-    alloc: Global,
     entries: &mut Vec<Entry<'a>>,
     interfaces: &'a [Arc<Interface>],
 ) -> Result<(), AllocError>
     ensures { OnOk result (schemes_of entries.new.items ≡ schemes_of entries.old.items ++ imported_schemes (map arc_value interfaces.now)) }
 {
     'interfaces: for interface in interfaces {
-        add_exported(alloc, entries, interface.constructors())?;
+        add_exported(entries, interface.constructors())?;
     }
     Ok(())
 }
@@ -157,6 +154,6 @@ pub(crate) fn known_constructors<'a>(
         core.name.as_str(),
         core.decls.as_slice(),
     )?;
-    add_imported(alloc, &mut entries, core.interfaces.as_slice())?;
+    add_imported(&mut entries, core.interfaces.as_slice())?;
     Ok(Constructors::new(alloc, core.name.copy()?, entries)?)
 }

@@ -4,7 +4,6 @@ use Rattle.hm_types.specs.Types.{Var as leaf, App as app, In, put}
 use Rattle.hm_types.specs.Monotypes.{Leaf, Mono, var, rigid, arguments_of}
 use Rattle.hm_types.specs.declared.monotypes.Ty.{Ty}
 use Rattle.hm_types.specs.declared.Head.{Head}
-use Rattle.hm_types.specs.Shape.{type_of, types_of}
 use Rattle.hm_unify.specs.Unifier.{Equation}
 use Rattle.hm_unify.specs.Bindings.{solution}
 use Rattle.hm_unify.specs.WellFormed.{IsWellFormed, AreWellFormed}
@@ -17,6 +16,7 @@ use Rattle.hm_types.specs.Numbers.{Numbers}
 use Rattle.hm_types.specs.Schemes.{is_among}
 use Rattle.hm_types.proofs.Substitution.{bool_cases}
 use Rattle.hm_assumptions.specs.Environments.{Assumed, AreAssumed}
+use Rattle.hm_assumptions.specs.AssumedTypes.{type_in}
 use Rattle.hm_assumptions.specs.Kept.{stack, assumed_of, entries_of}
 use Rattle.hm_assumptions.specs.declared.environment.Binding.{Binding}
 use Rattle.std.proofs.lemmas.List.{take_all, take-append-drop}
@@ -27,9 +27,9 @@ assumed_under : (g : ℕ) (xs : List Binding) (es : List Assumed) → AreAssumed
 assumed_under g [] es a = a
 assumed_under g (x ∷ xs) es a = (assumed_under g xs (assumed_of x ∷ es) a).1
 
-pub assumed_at : (g : ℕ) (xs : List Binding) (es : List Assumed) (i : ℕ) (d : Binding) → AreAssumed g (stack assumed_of xs es) → i < length xs → d ≡ get_or xs i d → IsWellFormed (d.quantified + g) (type_of d.body)
+pub assumed_at : (g : ℕ) (xs : List Binding) (es : List Assumed) (i : ℕ) (d : Binding) → AreAssumed g (stack assumed_of xs es) → i < length xs → d ≡ get_or xs i d → IsWellFormed (d.quantified + g) (type_in d.body)
 assumed_at g [] es i d a h e = absurd (omega arith)
-assumed_at g (x ∷ xs) es zero d a h e = subst (λ z. IsWellFormed (z.quantified + g) (type_of z.body)) (sym e) (assumed_under g xs (assumed_of x ∷ es) a).0
+assumed_at g (x ∷ xs) es zero d a h e = subst (λ z. IsWellFormed (z.quantified + g) (type_in z.body)) (sym e) (assumed_under g xs (assumed_of x ∷ es) a).0
 assumed_at g (x ∷ xs) es (suc i) d a h e = assumed_at g xs (assumed_of x ∷ es) i d a (omega arith) e
 
 -- the outermost schemes

@@ -6,7 +6,7 @@ use Rattle.hm_variables.proofs.SameVariables.{updated}
 use Rattle.hm_assumptions.specs.Kept.{assumed_of, entries_of}
 use Rattle.hm_assumptions.proofs.Placed.{bound_last, kept_same}
 use Rattle.hm_assumptions.proofs.Tables.{stack_pushed}
-use Rattle.hm_assumptions.proofs.environment.Environment.bind.Goals as goal
+use Rattle.hm_assumptions.proofs.environment.Environment.add.Goals as goal
 
 pub invariant_of-self-in-Ok : goal.invariant_of-self-in-Ok
 invariant_of-self-in-Ok c =
