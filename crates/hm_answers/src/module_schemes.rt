@@ -8,7 +8,7 @@ ghost use Rattle.hm_assumptions.specs.Environments.{AreAssumed, Assumed};
 ghost use Rattle.hm_assumptions.specs.Kept.{assumed_of};
 ghost use Rattle.hm_expressions.specs.OwnSchemes.{HaveCanonical};
 
-use hm_assumptions::{Binding, Environment, instantiate, own_text};
+use hm_assumptions::{Binding, Environment, VariableKind, instantiate, own_text};
 use hm_names::Schemes;
 use hm_types::canonical;
 use std::alloc::{AllocError, Global};
@@ -27,7 +27,8 @@ fn put_scheme(
         return Ok(());
     };
     let assumed = binding.body.as_type();
-    let body = instantiate(alloc, false, binding.quantified, 0, assumed)?;
+    let kind = VariableKind::Flexible;
+    let body = instantiate(alloc, kind, binding.quantified, 0, assumed)?;
     schemes.put(text, canonical(alloc, &body)?)?;
     Ok(())
 }

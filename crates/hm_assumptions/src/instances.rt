@@ -10,6 +10,7 @@ ghost use Rattle.hm_names.specs.Syntax.{constructor_type_of};
 ghost use Rattle.hm_assumptions.specs.Constructors.{known_of};
 ghost use Rattle.hm_assumptions.specs.Problems.{monotype, Answers};
 ghost use Rattle.hm_assumptions.specs.Environments.{opened, quantified_leaf, IsInstanceUnder};
+ghost use Rattle.hm_assumptions.specs.VariableKinds.{is_rigid};
 
 use crate::constructors::Constructors;
 use crate::unifying::{equate, new_variables};
@@ -18,29 +19,35 @@ use hm_types::{Scheme, Ty, Types};
 use hm_unify::{Solver, UnifyFault};
 use std::alloc::{AllocError, Global};
 
-/// The type of a scheme in which the quantified variables are those from `base` on, or the rigid
-/// ones from there on.
+/// What a type variable is: a flexible one is solved, a rigid one stands for a type that is not known.
+#[derive(Clone, Copy)]
+pub enum VariableKind {
+    Flexible,
+    Rigid,
+}
+
+/// The type of a scheme in which the quantified variables are those of a kind from `base` on.
 pub fn instantiate(
     alloc: Global,
-    rigid: bool,
+    kind: VariableKind,
     quantified: usize,
     base: usize,
     body: &Ty,
 ) -> Result<Ty, AllocError>
     requires { base + quantified < 2 ^ 64 }
-    ensures { IfOk result (λ t. type_of t ≡ put (opened rigid quantified base) (type_of body.now)) }
+    ensures { IfOk result (λ t. type_of t ≡ put (opened (is_rigid kind) quantified base) (type_of body.now)) }
 {
     match body {
         Ty::Var(n) => {
             if *n < quantified {
-                Ok(quantified_variable(rigid, base + *n))
+                Ok(quantified_variable(kind, base + *n))
             } else {
                 Ok(Ty::Var(*n - quantified))
             }
         }
         Ty::Rigid(n) => {
             if *n < quantified {
-                Ok(quantified_variable(rigid, base + *n))
+                Ok(quantified_variable(kind, base + *n))
             } else {
                 Ok(Ty::Rigid(*n - quantified))
             }
@@ -48,21 +55,20 @@ pub fn instantiate(
         Ty::App(head, arguments) => {
             let mut made = Vec::new(alloc);
             for argument in arguments.as_slice() {
-                made.push(instantiate(alloc, rigid, quantified, base, argument)?)?;
+                made.push(instantiate(alloc, kind, quantified, base, argument)?)?;
             }
             Ok(Ty::App(head.copy()?, Types::new(made)))
         }
     }
 }
 
-/// A variable, or a rigid one.
-fn quantified_variable(rigid: bool, number: usize) -> Ty
-    ensures { type_of result ≡ leaf (quantified_leaf rigid number 0) }
+/// The variable of a kind with this number.
+fn quantified_variable(kind: VariableKind, number: usize) -> Ty
+    ensures { type_of result ≡ leaf (quantified_leaf (is_rigid kind) number 0) }
 {
-    if rigid {
-        Ty::Rigid(number)
-    } else {
-        Ty::Var(number)
+    match kind {
+        VariableKind::Flexible => Ty::Var(number),
+        VariableKind::Rigid => Ty::Rigid(number),
     }
 }
 
@@ -79,7 +85,7 @@ pub fn check_scheme(
     ensures { Answers (λ r. IsInstanceUnder (record { quantified = quantified; body = type_of body.now }) r (put r (monotype (type_of t.now)))) solver.old solver.new result }
 {
     let base = new_variables(solver, quantified)?;
-    let instance = instantiate(alloc, false, quantified, base, body)?;
+    let instance = instantiate(alloc, VariableKind::Flexible, quantified, base, body)?;
     equate(solver, t, instance)
 }
 

@@ -18,7 +18,7 @@ pub use crate::constructors::{Constructors, Entry, KnownScheme};
 pub use crate::environment::{AssumedType, Binding, Environment};
 pub use crate::functions::{open_alternative, open_function};
 pub use crate::inference::Inference;
-pub use crate::instances::{check_constructor, check_scheme, instantiate};
+pub use crate::instances::{VariableKind, check_constructor, check_scheme, instantiate};
 pub use crate::names::{check_name, entity_name, own_text};
 pub use crate::parts::{list_part, tuple_parts};
 pub use crate::patterns::{PartTypes, match_pattern};

@@ -12,7 +12,7 @@ ghost use Rattle.hm_unify.specs.declared.faults.UnifyFault.TheVariants.{Memory};
 ghost use Rattle.hm_names.specs.Types.{declared_type};
 ghost use Rattle.hm_assumptions.specs.Problems.{Answers, bound, given_more, monotype, number, problem};
 
-use hm_assumptions::{check_scheme, instantiate, new_variables};
+use hm_assumptions::{VariableKind, check_scheme, instantiate, new_variables};
 use hm_names::DeclaredType;
 use hm_syntax::TypeExpr;
 use hm_types::Ty;
@@ -50,7 +50,8 @@ pub fn with_rigid_variables(
     ensures below { FactsBelow (bound solver.old) (problem solver.old) }
 {
     let first = new_variables(solver, declared.count)?;
-    let body = instantiate(alloc, true, declared.count, first, &declared.body)?;
+    let kind = VariableKind::Rigid;
+    let body = instantiate(alloc, kind, declared.count, first, &declared.body)?;
     Ok(RigidType { body, first })
 }
 
