@@ -6,6 +6,7 @@ pub mod Functions
 pub mod Constructors
 pub mod KnownSchemes
 pub mod AssumedTypes
+pub mod PartTypes
 pub mod VariableKinds
 pub mod ConstructorPlaces
 pub mod Kept

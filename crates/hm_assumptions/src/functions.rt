@@ -44,7 +44,7 @@ pub fn open_function<'a>(
         constructors,
         &mut variables,
         pats,
-        PartTypes { first, same: false },
+        PartTypes::Row(first),
     )?;
     inference
         .environment

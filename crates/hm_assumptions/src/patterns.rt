@@ -12,6 +12,7 @@ ghost use Rattle.hm_unify.specs.WellFormed.{IsWellFormed};
 ghost use Rattle.hm_assumptions.specs.Problems.{monotype, Answers};
 ghost use Rattle.hm_typing.specs.Names.{Identifier};
 ghost use Rattle.hm_typing.specs.Schemes.{Monotype};
+ghost use Rattle.hm_assumptions.specs.PartTypes.{is_one, first_of};
 ghost use Rattle.hm_assumptions.specs.Patterns.{Matched, AreGiven, HaveTypes, from_number};
 ghost use Rattle.hm_names.specs.Syntax.{name_of, pattern_of, patterns_of};
 ghost use Rattle.hm_assumptions.specs.Constructors.{known_of};
@@ -26,23 +27,23 @@ use hm_types::Ty;
 use hm_unify::{Solver, UnifyFault};
 use hm_variables::key_of;
 
-/// The types of parts, which are variables: those from `first` on, or each that one.
+/// The types of parts, which are variables: a row of them from a number on, or one that is the
+/// type of each part.
 #[derive(Clone, Copy)]
-pub struct PartTypes {
-    pub first: usize,
-    pub same: bool,
+pub enum PartTypes {
+    Row(usize),
+    One(usize),
 }
 
 impl PartTypes {
     /// The number of the variable that is the type of a part.
     pub fn at(self, part: usize) -> usize
-        requires { cond self.same self.first (self.first + part) < 2 ^ 64 }
-        ensures { result ≡ cond self.same self.first (self.first + part) }
+        requires { cond (is_one self) (first_of self) (first_of self + part) < 2 ^ 64 }
+        ensures { result ≡ cond (is_one self) (first_of self) (first_of self + part) }
     {
-        if self.same {
-            self.first
-        } else {
-            self.first + part
+        match self {
+            PartTypes::Row(first) => first + part,
+            PartTypes::One(number) => number,
         }
     }
 }
@@ -101,8 +102,13 @@ pub fn match_pattern<'a>(
         PatKind::Con(name, parts) => {
             let scheme = constructors.find(alloc, name)?;
             let first = constructor_parts(alloc, solver, scheme.as_scheme(), parts.len(), t)?;
-            let types = PartTypes { first, same: false };
-            match_patterns(solver, constructors, variables, parts, types)
+            match_patterns(
+                solver,
+                constructors,
+                variables,
+                parts,
+                PartTypes::Row(first),
+            )
         }
         PatKind::Literal(literal) => {
             let own = literal_type(alloc, literal)?;
@@ -111,13 +117,23 @@ pub fn match_pattern<'a>(
         PatKind::Wild => Ok(()),
         PatKind::Tuple(parts) => {
             let first = tuple_parts(alloc, solver, parts.len(), t)?;
-            let types = PartTypes { first, same: false };
-            match_patterns(solver, constructors, variables, parts, types)
+            match_patterns(
+                solver,
+                constructors,
+                variables,
+                parts,
+                PartTypes::Row(first),
+            )
         }
         PatKind::List(parts) => {
             let first = list_part(alloc, solver, t)?;
-            let types = PartTypes { first, same: true };
-            match_patterns(solver, constructors, variables, parts, types)
+            match_patterns(
+                solver,
+                constructors,
+                variables,
+                parts,
+                PartTypes::One(first),
+            )
         }
         PatKind::Lazy(inner) => match_pattern(solver, constructors, variables, inner, t),
     }
@@ -132,12 +148,12 @@ pub(crate) fn match_patterns<'a>(
     parts: &'a [Pat],
     types: PartTypes,
 ) -> Result<(), UnifyFault>
-    requires given { (j : ℕ) → j < length parts.now → cond types.same types.first (types.first + j) < solver.old.given }
-    requires fits { cond types.same types.first (types.first + length parts.now) < 2 ^ 64 }
+    requires given { (j : ℕ) → j < length parts.now → cond (is_one types) (first_of types) (first_of types + j) < solver.old.given }
+    requires fits { cond (is_one types) (first_of types) (first_of types + length parts.now) < 2 ^ 64 }
     requires variables { AreGiven solver.old.given variables.old }
     requires typed { (τ : Identifier → Monotype) × HaveTypes τ variables.old }
     ensures { let ps = patterns_of (known_of constructors.now) (patterns parts.now) in
-        Matched (λ ρ r. MatchesAll ρ ps (λ j. put r (from_number types.same types.first j)) 0) (patterns_names ps) solver.old variables.old solver.new variables.new result }
+        Matched (λ ρ r. MatchesAll ρ ps (λ j. put r (from_number (is_one types) (first_of types) j)) 0) (patterns_names ps) solver.old variables.old solver.new variables.new result }
 {
     solver.well_formed();
     let mut j = parts.len();

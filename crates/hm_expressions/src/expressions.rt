@@ -27,6 +27,7 @@ ghost use Rattle.hm_typing.specs.Names.{Identifier, IsDistinct};
 ghost use Rattle.hm_groups.specs.Groups.{node_name};
 ghost use Rattle.hm_groups.specs.Members.{AreRows};
 ghost use Rattle.hm_groups.specs.Nodes.{list_nodes};
+ghost use Rattle.hm_assumptions.specs.PartTypes.{is_one, first_of};
 ghost use Rattle.hm_assumptions.specs.Patterns.{from_number, put_each};
 ghost use Rattle.hm_names.specs.Syntax.{Known, bindings_of, expression_of, expressions_of, bodies_of, right_sides_of, where_of, pattern_of, patterns_of, alternatives_of};
 ghost use Rattle.hm_assumptions.specs.Constructors.{known_of};
@@ -111,13 +112,11 @@ pub(crate) fn check_expression<'a>(
         }
         ExprKind::Tuple(parts) => {
             let first = tuple_parts(inference.alloc, &mut inference.solver, parts.len(), t)?;
-            let types = PartTypes { first, same: false };
-            check_expressions(inference, constructors, parts, types)
+            check_expressions(inference, constructors, parts, PartTypes::Row(first))
         }
         ExprKind::List(parts) => {
             let first = list_part(inference.alloc, &mut inference.solver, t)?;
-            let types = PartTypes { first, same: true };
-            check_expressions(inference, constructors, parts, types)
+            check_expressions(inference, constructors, parts, PartTypes::One(first))
         }
         ExprKind::Lambda(pats, body) => {
             let depth = inference.environment.len();
@@ -202,10 +201,10 @@ pub(crate) fn check_expressions<'a>(
     parts: &'a [Expr],
     types: PartTypes,
 ) -> Result<(), UnifyFault>
-    requires given { (j : ℕ) → j < length parts.now → cond types.same types.first (types.first + j) < inference.old.solver.given }
-    requires fits { cond types.same types.first (types.first + length parts.now) < 2 ^ 64 }
+    requires given { (j : ℕ) → j < length parts.now → cond (is_one types) (first_of types) (first_of types + j) < inference.old.solver.given }
+    requires fits { cond (is_one types) (first_of types) (first_of types + length parts.now) < 2 ^ 64 }
     requires assumed { AreAssumed inference.old.solver.given inference.old.environment }
-    ensures answers { Answers (λ r. DeriveAll (assumptions_put r (assumptions inference.old.environment)) (expressions_of (known_of constructors.now) (expressions parts.now)) (λ j. put r (from_number types.same types.first j)) 0) inference.old.solver inference.new.solver result }
+    ensures answers { Answers (λ r. DeriveAll (assumptions_put r (assumptions inference.old.environment)) (expressions_of (known_of constructors.now) (expressions parts.now)) (λ j. put r (from_number (is_one types) (first_of types) j)) 0) inference.old.solver inference.new.solver result }
     ensures same { OnOk result (inference.new.environment ≡ inference.old.environment) }
     ensures kept { Extends inference.old.environment inference.new.environment }
 {

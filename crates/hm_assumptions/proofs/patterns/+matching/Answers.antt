@@ -10,6 +10,7 @@ use Rattle.hm_typing.specs.Syntax.{pattern_names}
 use Rattle.hm_assumptions.specs.Patterns.{HaveTypes, RefusesMatch, IsMatched}
 use Rattle.hm_names.specs.Syntax.{pattern_of}
 use Rattle.hm_assumptions.specs.Constructors.{known_of}
+use Rattle.hm_assumptions.specs.PartTypes.{is_one, first_of}
 use Rattle.hm_assumptions.proofs.States.{problem_below}
 use Rattle.hm_assumptions.proofs.Matching.{match_passed, matched_nothing}
 use Rattle.hm_assumptions.proofs.MatchedForms.{Asks, AsksAll, pattern_is, bound_answers, bound_refused, literal_answers, constructor_answers_at, constructor_refused_at, tuple_answers_at, tuple_refused_at, list_answers_at, list_refused, row_empty, row_back_at, row_refused_at, row_whole, size_at, later_number, parts_given, numbers_given, number_given, later_given}
@@ -110,27 +111,27 @@ match_pattern-match_patterns-requires-in-List t c =
 pub match_patterns-parts-init : goal.match_patterns-parts-init
 match_patterns-parts-init t c = record {
   in_range = omega arith;
-  matched = row_empty (known_of c.args.constructors.now) c.args.parts.now _ c.args.types.same c.args.types.first c.args.solver.now c.args.variables.now refl (problem_below c.args.solver.now c.well_formed-2.ensures) c.requires.variables;
+  matched = row_empty (known_of c.args.constructors.now) c.args.parts.now _ (is_one c.args.types) (first_of c.args.types) c.args.solver.now c.args.variables.now refl (problem_below c.args.solver.now c.well_formed-2.ensures) c.requires.variables;
 }
 
 pub match_patterns-match_pattern-requires : goal.match_patterns-match_pattern-requires
 match_patterns-match_pattern-requires t c =
     let m = c.parts.invariant.matched c.requires.typed.0 c.requires.typed.1 in
     let smaller : pattern_size c.index-parts-j.result < patterns_size (patterns c.args.parts.now) = size_at c.args.parts.now (c.parts.j - 1) c.index-parts-j.result (omega arith) c.index-parts-j.is in
-    (search rules, (later_number c.args.solver.now c.parts.solver c.at-number.result c.args.parts.now c.parts.j c.args.types.same c.args.types.first m.1.grows c.at-number.ensures c.parts-test.true c.parts.invariant.in_range c.requires.given, (m.1.given, (m.0, m.1.typed))))
+    (search rules, (later_number c.args.solver.now c.parts.solver c.at-number.result c.args.parts.now c.parts.j (is_one c.args.types) (first_of c.args.types) m.1.grows c.at-number.ensures c.parts-test.true c.parts.invariant.in_range c.requires.given, (m.1.given, (m.0, m.1.typed))))
 
 pub match_patterns-returns-in_err-match_pattern : goal.match_patterns-returns-in_err-match_pattern
 match_patterns-returns-in_err-match_pattern t c =
-    match_passed (AsksAll (known_of c.args.constructors.now) (patterns c.args.parts.now) c.args.types.same c.args.types.first 0) _ c.args.solver.now c.args.variables.now c.match_pattern.new.solver c.match_pattern.new.variables c.from_residual.result c.in_err-match_pattern.field-0.0 c.from_residual.ensures.1
-    (row_refused_at (known_of c.args.constructors.now) c.args.parts.now c.parts.j c.at-number.result c.index-parts-j.result c.args.types.same c.args.types.first c.args.solver.now c.args.variables.now c.parts.solver c.parts.variables c.in_err-match_pattern.field-0.0 c.at-number.ensures c.parts-test.true c.parts.invariant.in_range c.index-parts-j.is c.requires.given c.parts.invariant.matched
+    match_passed (AsksAll (known_of c.args.constructors.now) (patterns c.args.parts.now) (is_one c.args.types) (first_of c.args.types) 0) _ c.args.solver.now c.args.variables.now c.match_pattern.new.solver c.match_pattern.new.variables c.from_residual.result c.in_err-match_pattern.field-0.0 c.from_residual.ensures.1
+    (row_refused_at (known_of c.args.constructors.now) c.args.parts.now c.parts.j c.at-number.result c.index-parts-j.result (is_one c.args.types) (first_of c.args.types) c.args.solver.now c.args.variables.now c.parts.solver c.parts.variables c.in_err-match_pattern.field-0.0 c.at-number.ensures c.parts-test.true c.parts.invariant.in_range c.index-parts-j.is c.requires.given c.parts.invariant.matched
     c.in_err-match_pattern.ensures)
 
 pub match_patterns-parts-preserved : goal.match_patterns-parts-preserved
 match_patterns-parts-preserved t c = record {
   in_range = omega arith;
-  matched = row_back_at {X = Unit {0}} (known_of c.args.constructors.now) c.args.parts.now c.parts.j c.at-number.result c.index-parts-j.result c.args.types.same c.args.types.first c.args.solver.now c.args.variables.now c.parts.solver c.parts.variables c.match_pattern.new.solver c.match_pattern.new.variables tt c.at-number.ensures c.parts-test.true c.parts.invariant.in_range c.index-parts-j.is c.requires.given c.parts.invariant.matched
+  matched = row_back_at {X = Unit {0}} (known_of c.args.constructors.now) c.args.parts.now c.parts.j c.at-number.result c.index-parts-j.result (is_one c.args.types) (first_of c.args.types) c.args.solver.now c.args.variables.now c.parts.solver c.parts.variables c.match_pattern.new.solver c.match_pattern.new.variables tt c.at-number.ensures c.parts-test.true c.parts.invariant.in_range c.index-parts-j.is c.requires.given c.parts.invariant.matched
       c.in_ok-match_pattern.ensures;
 }
 
 pub match_patterns-returns : goal.match_patterns-returns
-match_patterns-returns t c = row_whole (known_of c.args.constructors.now) c.args.parts.now c.parts.j c.args.types.same c.args.types.first c.args.solver.now c.args.variables.now c.parts.solver c.parts.variables (omega arith) c.parts.invariant.matched
+match_patterns-returns t c = row_whole (known_of c.args.constructors.now) c.args.parts.now c.parts.j (is_one c.args.types) (first_of c.args.types) c.args.solver.now c.args.variables.now c.parts.solver c.parts.variables (omega arith) c.parts.invariant.matched

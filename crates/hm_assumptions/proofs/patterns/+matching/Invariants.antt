@@ -9,6 +9,7 @@ use Rattle.hm_typing.specs.Patterns.{MatchesAll}
 use Rattle.hm_assumptions.specs.Patterns.{HaveTypes, IsMatched, from_number}
 use Rattle.hm_names.specs.Syntax.{patterns_of}
 use Rattle.hm_assumptions.specs.Constructors.{known_of}
+use Rattle.hm_assumptions.specs.PartTypes.{is_one, first_of}
 use Rattle.hm_assumptions.proofs.patterns.+matching.Given as goal
 
 abbrev pub decreases-match_pattern : goal.decreases-match_pattern
@@ -24,6 +25,6 @@ abbrev pub invariant-match_patterns-parts : goal.invariant-match_patterns-parts
 invariant-match_patterns-parts l = record {
   in_range : l.j ≤ length l.parts;
   matched : (τ : Identifier → Monotype) → HaveTypes τ l.initial.variables → (τ' : Identifier → Monotype)
-      × IsMatched (λ ρ r. MatchesAll ρ (patterns_of (known_of l.constructors) (patterns (drop l.j l.parts))) (λ i. put r (from_number l.types.same l.types.first i)) l.j) (patterns_names (patterns_of (known_of l.constructors) (patterns (drop l.j l.parts))))
+      × IsMatched (λ ρ r. MatchesAll ρ (patterns_of (known_of l.constructors) (patterns (drop l.j l.parts))) (λ i. put r (from_number (is_one l.types) (first_of l.types) i)) l.j) (patterns_names (patterns_of (known_of l.constructors) (patterns (drop l.j l.parts))))
       l.initial.solver l.initial.variables τ l.solver l.variables τ';
 }

@@ -14,6 +14,7 @@ use Rattle.hm_unify.specs.WellFormed.{IsWellFormed}
 use Rattle.hm_assumptions.specs.Constructors.{known_of}
 use Rattle.hm_names.specs.Syntax.{patterns_of, bindings_of}
 use Rattle.hm_assumptions.specs.Functions.{IsOpened, RefusesOpening}
+use Rattle.hm_assumptions.specs.PartTypes.{is_one, first_of}
 use Rattle.hm_expressions.specs.Lists.{IsBound, RefusesList}
 use Rattle.hm_expressions.proofs.OpenedForms.{lambda_answers, lambda_refused, let_answers, let_refused, empty_listed, none_of}
 use Rattle.hm_assumptions.proofs.States.{problem_below}
@@ -182,29 +183,29 @@ check_expression-returns-in_ok-own-in-Literal-clause-answers t c =
 
 pub check_expressions-parts-init : goal.check_expressions-parts-init
 check_expressions-parts-init t c =
-    record { same = refl; checked = row_nothing (known_of c.args.constructors.now) c.args.parts.now c.args.types.same c.args.types.first c.args.inference.now.environment c.args.inference.now.solver (problem_below c.args.inference.now.solver c.well_formed-2.ensures) }
+    record { same = refl; checked = row_nothing (known_of c.args.constructors.now) c.args.parts.now (is_one c.args.types) (first_of c.args.types) c.args.inference.now.environment c.args.inference.now.solver (problem_below c.args.inference.now.solver c.well_formed-2.ensures) }
 
 pub check_expressions-check_expression-requires : goal.check_expressions-check_expression-requires
 check_expressions-check_expression-requires t c =
     let l = solved_grows _ c.args.inference.now.solver c.parts.inference.solver c.parts.invariant.checked in
     let smaller : expression_size c.index-parts-j.result < expressions_size (expressions c.args.parts.now) = size_of_item c.args.parts.now c.parts.j c.index-parts-j.result c.parts-test.true c.index-parts-j.is in
-    (search rules, (row_number c.args.inference.now.solver c.parts.inference.solver c.at-number.result c.args.parts.now c.parts.j c.args.types.same c.args.types.first l c.at-number.ensures c.parts-test.true c.requires.given, assumed_at c.args.inference.now.solver c.parts.inference.solver c.args.inference.now.environment c.parts.inference.environment c.parts.invariant.same l c.requires.assumed))
+    (search rules, (row_number c.args.inference.now.solver c.parts.inference.solver c.at-number.result c.args.parts.now c.parts.j (is_one c.args.types) (first_of c.args.types) l c.at-number.ensures c.parts-test.true c.requires.given, assumed_at c.args.inference.now.solver c.parts.inference.solver c.args.inference.now.environment c.parts.inference.environment c.parts.invariant.same l c.requires.assumed))
 
 pub check_expressions-returns-in_err-check_expression-clause-answers : goal.check_expressions-returns-in_err-check_expression-clause-answers
 check_expressions-returns-in_err-check_expression-clause-answers t c =
-    refused_by (ChecksAll (known_of c.args.constructors.now) c.args.parts.now c.args.types.same c.args.types.first c.args.inference.now.environment) c.args.inference.now.solver c.check_expression.new.inference.solver c.from_residual.result c.in_err-check_expression.field-0.0 c.from_residual.ensures.1
-    (row_unchecked (known_of c.args.constructors.now) c.args.parts.now c.parts.j c.at-number.result c.index-parts-j.result c.args.types.same c.args.types.first c.args.inference.now.environment c.parts.inference.environment c.args.inference.now.solver c.parts.inference.solver c.in_err-check_expression.field-0.0 c.parts.invariant.same c.at-number.ensures c.parts-test.true c.index-parts-j.is c.requires.assumed c.requires.given c.parts.invariant.checked c.in_err-check_expression.ensures.answers)
+    refused_by (ChecksAll (known_of c.args.constructors.now) c.args.parts.now (is_one c.args.types) (first_of c.args.types) c.args.inference.now.environment) c.args.inference.now.solver c.check_expression.new.inference.solver c.from_residual.result c.in_err-check_expression.field-0.0 c.from_residual.ensures.1
+    (row_unchecked (known_of c.args.constructors.now) c.args.parts.now c.parts.j c.at-number.result c.index-parts-j.result (is_one c.args.types) (first_of c.args.types) c.args.inference.now.environment c.parts.inference.environment c.args.inference.now.solver c.parts.inference.solver c.in_err-check_expression.field-0.0 c.parts.invariant.same c.at-number.ensures c.parts-test.true c.index-parts-j.is c.requires.assumed c.requires.given c.parts.invariant.checked c.in_err-check_expression.ensures.answers)
 
 pub check_expressions-parts-preserved : goal.check_expressions-parts-preserved
 check_expressions-parts-preserved t c =
     record {
       same = c.in_ok-check_expression.ensures.same ∙ c.parts.invariant.same;
-      checked = row_more (known_of c.args.constructors.now) c.args.parts.now c.parts.j c.at-number.result c.index-parts-j.result c.args.types.same c.args.types.first c.args.inference.now.environment c.parts.inference.environment c.args.inference.now.solver c.parts.inference.solver c.check_expression.new.inference.solver c.parts.invariant.same c.at-number.ensures c.parts-test.true c.index-parts-j.is c.requires.assumed c.requires.given c.parts.invariant.checked c.in_ok-check_expression.ensures.answers;
+      checked = row_more (known_of c.args.constructors.now) c.args.parts.now c.parts.j c.at-number.result c.index-parts-j.result (is_one c.args.types) (first_of c.args.types) c.args.inference.now.environment c.parts.inference.environment c.args.inference.now.solver c.parts.inference.solver c.check_expression.new.inference.solver c.parts.invariant.same c.at-number.ensures c.parts-test.true c.index-parts-j.is c.requires.assumed c.requires.given c.parts.invariant.checked c.in_ok-check_expression.ensures.answers;
     }
 
 pub check_expressions-returns-clause-answers : goal.check_expressions-returns-clause-answers
 check_expressions-returns-clause-answers t c =
-    row_all (known_of c.args.constructors.now) c.args.parts.now c.parts.j c.args.types.same c.args.types.first c.args.inference.now.environment c.args.inference.now.solver c.parts.inference.solver c.parts-test.false c.parts.invariant.checked
+    row_all (known_of c.args.constructors.now) c.args.parts.now c.parts.j (is_one c.args.types) (first_of c.args.types) c.args.inference.now.environment c.args.inference.now.solver c.parts.inference.solver c.parts-test.false c.parts.invariant.checked
 
 pub check_expression-returns-in_err-outcome-in-Lambda-clause-answers : goal.check_expression-returns-in_err-outcome-in-Lambda-clause-answers
 check_expression-returns-in_err-outcome-in-Lambda-clause-answers t c =

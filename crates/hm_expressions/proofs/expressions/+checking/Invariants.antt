@@ -10,6 +10,7 @@ use Rattle.hm_syntax.specs.Lists.{expressions, body, bodies, alternatives, decla
 use Rattle.hm_syntax.specs.Trees.{no_bodies}
 use Rattle.hm_types.specs.Shape.{type_of}
 use Rattle.hm_assumptions.specs.Constructors.{known_of}
+use Rattle.hm_assumptions.specs.PartTypes.{is_one, first_of}
 use Rattle.hm_assumptions.proofs.Outcomes.{SolvedBy}
 use Rattle.hm_expressions.proofs.Derived.{ChecksAll}
 use Rattle.hm_expressions.proofs.SignedSteps.{SignedAll}
@@ -31,7 +32,7 @@ decreases-check_expressions l = 8 * expressions_size (expressions l.parts.now)
 abbrev pub invariant-check_expressions-parts : goal.invariant-check_expressions-parts
 invariant-check_expressions-parts l = record {
   same : l.inference.environment ≡ l.initial.inference.environment;
-  checked : SolvedBy (ChecksAll (known_of l.constructors) (take l.j l.parts) l.types.same l.types.first l.initial.inference.environment) l.initial.inference.solver l.inference.solver;
+  checked : SolvedBy (ChecksAll (known_of l.constructors) (take l.j l.parts) (is_one l.types) (first_of l.types) l.initial.inference.environment) l.initial.inference.solver l.inference.solver;
 }
 
 abbrev pub decreases-check_body : goal.decreases-check_body
