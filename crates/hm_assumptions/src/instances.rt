@@ -53,8 +53,9 @@ pub fn instantiate(
             }
         }
         Ty::App(head, arguments) => {
-            let mut made = Vec::new(alloc);
-            for argument in arguments.as_slice() {
+            let row = arguments.as_slice();
+            let mut made = Vec::with_capacity(alloc, row.len())?;
+            for argument in row {
                 made.push(instantiate(alloc, kind, quantified, base, argument)?)?;
             }
             Ok(Ty::App(head.copy()?, Types::new(made)))

@@ -66,8 +66,9 @@ fn close(alloc: Global, quantified: &Quantified<'_>, t: &Ty) -> Result<Ty, Alloc
             Ok(Ty::Var(rigid_slot(quantified.slots, *n)?))
         }
         Ty::App(head, arguments) => {
-            let mut made = Vec::new(alloc);
-            for argument in arguments.as_slice() {
+            let row = arguments.as_slice();
+            let mut made = Vec::with_capacity(alloc, row.len())?;
+            for argument in row {
                 made.push(close(alloc, quantified, argument)?)?;
             }
             Ok(Ty::App(head.copy()?, Types::new(made)))

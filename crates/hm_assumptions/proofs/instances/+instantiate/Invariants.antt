@@ -11,6 +11,6 @@ decreases-instantiate l = size (type_of l.body.now)
 
 abbrev pub invariant-loop-argument : goal.invariant-loop-argument
 invariant-loop-argument l = record {
-  whole : type_of l.body ≡ app l.head (arguments_of (types_of l.argument-items));
-  done : types_of l.made.items ≡ map (put (opened (is_rigid l.kind) l.quantified l.base)) (take l.argument-index (types_of l.argument-items));
+  whole : type_of l.body ≡ app l.head (arguments_of (types_of l.row));
+  done : types_of l.made.items ≡ map (put (opened (is_rigid l.kind) l.quantified l.base)) (take l.argument-index (types_of l.row));
 }

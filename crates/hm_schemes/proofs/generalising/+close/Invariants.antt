@@ -12,6 +12,6 @@ decreases-close l = size (type_of l.t.now)
 
 abbrev pub invariant-loop-argument : goal.invariant-loop-argument
 invariant-loop-argument l = record {
-  whole : type_of l.t ≡ app l.head (arguments_of (types_of l.argument-items));
-  done : (xs ys : List ℕ) → Numbers l.quantified.slots.now.plain xs → Numbers l.quantified.slots.now.rigid ys → types_of l.made.items ≡ map (put (λ k. leaf (closing (is_outer l.quantified.solver.now.equations l.quantified.older) l.quantified.count xs ys k))) (take l.argument-index (types_of l.argument-items));
+  whole : type_of l.t ≡ app l.head (arguments_of (types_of l.row));
+  done : (xs ys : List ℕ) → Numbers l.quantified.slots.now.plain xs → Numbers l.quantified.slots.now.rigid ys → types_of l.made.items ≡ map (put (λ k. leaf (closing (is_outer l.quantified.solver.now.equations l.quantified.older) l.quantified.count xs ys k))) (take l.argument-index (types_of l.row));
 }
