@@ -7,12 +7,29 @@ ghost use Rattle.hm_names.specs.Resolved.{expression_with, right_side_with, decl
 ghost use Rattle.hm_names.specs.Found.{noting, entering, locals_of, resolver_of, binder_of, list_faults, expression_faults, expressions_faults, alternative_faults, alternatives_faults, right_side_faults, declaration_faults, declarations_faults, alternative_with, guard_with, part_with, guard_faults, part_faults, parts_faults};
 
 use crate::resolving::Resolving;
+use crate::type_declarations::TypeHead;
 use hm_expansion::{bound_name, copy_literal, owned_names};
 use hm_lex::Place;
 use hm_names::{LentNames, add_all_bound};
 use hm_syntax::{Alt, Decl, DeclKind, Expr, ExprKind, Name, Pat, Rhs, TypeExpr};
 use hm_types::Text;
 use std::alloc::{AllocError, Global};
+
+/// A clause of a variable's binding, lent by its declaration.
+#[derive(Clone, Copy)]
+struct FunctionClause<'t> {
+    name: &'t Name,
+    pats: &'t [Pat],
+    rhs: &'t Rhs,
+}
+
+/// A pattern binding, lent by its declaration.
+#[derive(Clone, Copy)]
+struct PatternBinding<'t> {
+    place: Place,
+    pat: &'t Pat,
+    rhs: &'t Rhs,
+}
 
 impl Resolving<'_> {
     /// An expression with its names resolved.
@@ -257,20 +274,32 @@ impl Resolving<'_> {
                 name,
                 params,
                 constrs,
-            } => Ok(self.data_type(alloc, home, name, params, constrs)?),
+            } => {
+                let head = TypeHead { home, name, params };
+                Ok(self.data_type(alloc, &head, constrs)?)
+            }
             DeclKind::Newtype {
                 name,
                 params,
                 constr,
-            } => Ok(self.newtype(alloc, home, name, params, constr)?),
-            DeclKind::Synonym { name, params, ty } => Ok(self.synonym(
-                alloc, home, name, params, ty,
-            )?),
+            } => {
+                let head = TypeHead { home, name, params };
+                Ok(self.newtype(alloc, &head, constr)?)
+            }
+            DeclKind::Synonym { name, params, ty } => {
+                let head = TypeHead { home, name, params };
+                Ok(self.synonym(alloc, &head, ty)?)
+            }
             DeclKind::Signature { names, ty } => Ok(self.signature(alloc, home, names, ty)?),
-            DeclKind::Clause { name, pats, rhs } => Ok(self.clause(alloc, home, name, pats, rhs)?),
-            DeclKind::Pattern { place, pat, rhs } => Ok(self.binding(
-                alloc, home, *place, pat, rhs,
-            )?),
+            DeclKind::Clause { name, pats, rhs } => {
+                let given = FunctionClause { name, pats, rhs };
+                Ok(self.clause(alloc, home, &given)?)
+            }
+            DeclKind::Pattern { place, pat, rhs } => {
+                let place = *place;
+                let given = PatternBinding { place, pat, rhs };
+                Ok(self.binding(alloc, home, &given)?)
+            }
         }
     }
 
@@ -282,20 +311,18 @@ impl Resolving<'_> {
         &mut self,
         alloc: Global,
         home: &Option<Text>,
-        name: &Name,
-        pats: &[Pat],
-        rhs: &Rhs,
+        given: &FunctionClause<'_>,
     ) -> Result<Decl, AllocError>
-        ensures tree { IfOk result (λ d. d ≡ declaration_with (resolver_of self.old.known) (binder_of home.now) (locals_of self.old) (clause name.now (patterns pats.now) rhs.now)) }
-        ensures state { OnOk result (self.new ≡ noting (declaration_faults self.old.known (locals_of self.old) (clause name.now (patterns pats.now) rhs.now)) self.old) }
+        ensures tree { IfOk result (λ d. d ≡ declaration_with (resolver_of self.old.known) (binder_of home.now) (locals_of self.old) (clause given.now.name.now (patterns given.now.pats.now) given.now.rhs.now)) }
+        ensures state { OnOk result (self.new ≡ noting (declaration_faults self.old.known (locals_of self.old) (clause given.now.name.now (patterns given.now.pats.now) given.now.rhs.now)) self.old) }
     {
-        let (pats, names) = self.head(alloc, pats)?;
+        let (pats, names) = self.head(alloc, given.pats)?;
         self.enter(names)?;
-        let rhs = self.rhs(alloc, rhs)?;
+        let rhs = self.rhs(alloc, given.rhs)?;
         self.leave();
         Ok(Decl {
             kind: DeclKind::Clause {
-                name: bound_name(alloc, home, name)?,
+                name: bound_name(alloc, home, given.name)?,
                 pats,
                 rhs,
             },
@@ -310,15 +337,14 @@ impl Resolving<'_> {
         &mut self,
         alloc: Global,
         home: &Option<Text>,
-        place: Place,
-        pat: &Pat,
-        rhs: &Rhs,
+        given: &PatternBinding<'_>,
     ) -> Result<Decl, AllocError>
-        ensures tree { IfOk result (λ d. d ≡ declaration_with (resolver_of self.old.known) (binder_of home.now) (locals_of self.old) (pattern_binding place.line place.column pat.now rhs.now)) }
-        ensures state { OnOk result (self.new ≡ noting (declaration_faults self.old.known (locals_of self.old) (pattern_binding place.line place.column pat.now rhs.now)) self.old) }
+        ensures tree { IfOk result (λ d. d ≡ declaration_with (resolver_of self.old.known) (binder_of home.now) (locals_of self.old) (pattern_binding given.now.place.line given.now.place.column given.now.pat.now given.now.rhs.now)) }
+        ensures state { OnOk result (self.new ≡ noting (declaration_faults self.old.known (locals_of self.old) (pattern_binding given.now.place.line given.now.place.column given.now.pat.now given.now.rhs.now)) self.old) }
     {
-        let (pat, _) = self.lone(alloc, home, pat)?;
-        let rhs = self.rhs(alloc, rhs)?;
+        let (pat, _) = self.lone(alloc, home, given.pat)?;
+        let rhs = self.rhs(alloc, given.rhs)?;
+        let place = given.place;
         Ok(Decl {
             kind: DeclKind::Pattern { place, pat, rhs },
         })

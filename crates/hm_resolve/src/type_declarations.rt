@@ -14,6 +14,14 @@ use hm_syntax::{Constr, Decl, DeclKind, Name, TypeExpr};
 use hm_types::Text;
 use std::alloc::{AllocError, Global};
 
+/// What a declaration of a type has before its `=`, and the module that declares it.
+#[derive(Clone, Copy)]
+pub(crate) struct TypeHead<'t> {
+    pub(crate) home: &'t Option<Text>,
+    pub(crate) name: &'t Name,
+    pub(crate) params: &'t [Name],
+}
+
 impl Resolving<'_> {
     /// Notes each second parameter, and each type variable that is no parameter.
     #[tactic(auto, using(hm_names::proofs::Rows::noting_more))]
@@ -113,18 +121,16 @@ impl Resolving<'_> {
     pub(crate) fn data_type(
         &mut self,
         alloc: Global,
-        home: &Option<Text>,
-        name: &Name,
-        params: &[Name],
+        head: &TypeHead<'_>,
         constrs: &[Constr],
     ) -> Result<Decl, AllocError>
-        ensures tree { IfOk result (λ d. d ≡ declaration_with (resolver_of self.old.known) (binder_of home.now) (locals_of self.old) (data_declaration name.now params.now (constructors constrs.now))) }
-        ensures state { OnOk result (self.new ≡ noting (declaration_faults self.old.known (locals_of self.old) (data_declaration name.now params.now (constructors constrs.now))) self.old) }
+        ensures tree { IfOk result (λ d. d ≡ declaration_with (resolver_of self.old.known) (binder_of head.now.home.now) (locals_of self.old) (data_declaration head.now.name.now head.now.params.now (constructors constrs.now))) }
+        ensures state { OnOk result (self.new ≡ noting (declaration_faults self.old.known (locals_of self.old) (data_declaration head.now.name.now head.now.params.now (constructors constrs.now))) self.old) }
     {
-        self.data_parameters(alloc, params, constrs)?;
-        let name = bound_name(alloc, home, name)?;
-        let params = copy_names(alloc, params)?;
-        let constrs = self.constr_row(alloc, home, constrs)?;
+        self.data_parameters(alloc, head.params, constrs)?;
+        let name = bound_name(alloc, head.home, head.name)?;
+        let params = copy_names(alloc, head.params)?;
+        let constrs = self.constr_row(alloc, head.home, constrs)?;
         Ok(Decl {
             kind: DeclKind::DataType {
                 name,
@@ -140,18 +146,16 @@ impl Resolving<'_> {
     pub(crate) fn newtype(
         &mut self,
         alloc: Global,
-        home: &Option<Text>,
-        name: &Name,
-        params: &[Name],
+        head: &TypeHead<'_>,
         constr: &Constr,
     ) -> Result<Decl, AllocError>
-        ensures tree { IfOk result (λ d. d ≡ declaration_with (resolver_of self.old.known) (binder_of home.now) (locals_of self.old) (newtype_declaration name.now params.now constr.now)) }
-        ensures state { OnOk result (self.new ≡ noting (declaration_faults self.old.known (locals_of self.old) (newtype_declaration name.now params.now constr.now)) self.old) }
+        ensures tree { IfOk result (λ d. d ≡ declaration_with (resolver_of self.old.known) (binder_of head.now.home.now) (locals_of self.old) (newtype_declaration head.now.name.now head.now.params.now constr.now)) }
+        ensures state { OnOk result (self.new ≡ noting (declaration_faults self.old.known (locals_of self.old) (newtype_declaration head.now.name.now head.now.params.now constr.now)) self.old) }
     {
-        self.newtype_parameters(alloc, params, constr)?;
-        let name = bound_name(alloc, home, name)?;
-        let params = copy_names(alloc, params)?;
-        let constr = self.constr(alloc, home, constr)?;
+        self.newtype_parameters(alloc, head.params, constr)?;
+        let name = bound_name(alloc, head.home, head.name)?;
+        let params = copy_names(alloc, head.params)?;
+        let constr = self.constr(alloc, head.home, constr)?;
         Ok(Decl {
             kind: DeclKind::Newtype {
                 name,
@@ -167,17 +171,15 @@ impl Resolving<'_> {
     pub(crate) fn synonym(
         &mut self,
         alloc: Global,
-        home: &Option<Text>,
-        name: &Name,
-        params: &[Name],
+        head: &TypeHead<'_>,
         ty: &TypeExpr,
     ) -> Result<Decl, AllocError>
-        ensures tree { IfOk result (λ d. d ≡ declaration_with (resolver_of self.old.known) (binder_of home.now) (locals_of self.old) (synonym_declaration name.now params.now ty.now)) }
-        ensures state { OnOk result (self.new ≡ noting (declaration_faults self.old.known (locals_of self.old) (synonym_declaration name.now params.now ty.now)) self.old) }
+        ensures tree { IfOk result (λ d. d ≡ declaration_with (resolver_of self.old.known) (binder_of head.now.home.now) (locals_of self.old) (synonym_declaration head.now.name.now head.now.params.now ty.now)) }
+        ensures state { OnOk result (self.new ≡ noting (declaration_faults self.old.known (locals_of self.old) (synonym_declaration head.now.name.now head.now.params.now ty.now)) self.old) }
     {
-        self.synonym_parameters(alloc, params, ty)?;
-        let name = bound_name(alloc, home, name)?;
-        let params = copy_names(alloc, params)?;
+        self.synonym_parameters(alloc, head.params, ty)?;
+        let name = bound_name(alloc, head.home, head.name)?;
+        let params = copy_names(alloc, head.params)?;
         let ty = self.type_expr(alloc, ty)?;
         Ok(Decl {
             kind: DeclKind::Synonym { name, params, ty },

@@ -51,10 +51,10 @@ abbrev pub decreases-decl : goal.decreases-decl
 decreases-decl l = 3 * declaration_size l.decl.now
 
 abbrev pub decreases-clause : goal.decreases-clause
-decreases-clause l = 3 * right_side_size l.rhs.now + 1
+decreases-clause l = 3 * right_side_size l.given.now.rhs.now + 1
 
 abbrev pub decreases-binding : goal.decreases-binding
-decreases-binding l = 3 * right_side_size l.rhs.now + 1
+decreases-binding l = 3 * right_side_size l.given.now.rhs.now + 1
 
 abbrev pub decreases-decl_row : goal.decreases-decl_row
 decreases-decl_row l = 3 * declarations_size (declarations l.row.now)
