@@ -16,7 +16,7 @@ ghost use Rattle.hm_names.specs.declared.namespace.Namespace.TheVariants.{Types,
 
 use hm_names::{Fault, Kind, fault_at};
 use hm_syntax::{Import, Item, List, Module, Name, Subs};
-use hm_tables::{constructor_named, synonym_named, type_named, value_named};
+use hm_tables::entry_named;
 use hm_types::Interface;
 use std::alloc::{AllocError, Global};
 
@@ -24,9 +24,9 @@ use std::alloc::{AllocError, Global};
 fn exports_type(interface: &Interface, text: &str) -> bool
     ensures { IsTrue result ↔ ((e : Entity) × Exports interface.now text.now e Types) }
 {
-    match type_named(interface.types(), text) {
+    match entry_named(interface.types(), text) {
         Some(_) => true,
-        None => match synonym_named(interface.synonyms(), text) {
+        None => match entry_named(interface.synonyms(), text) {
             Some(_) => true,
             None => false,
         },
@@ -37,7 +37,7 @@ fn exports_type(interface: &Interface, text: &str) -> bool
 fn exports_value(interface: &Interface, text: &str) -> bool
     ensures { IsTrue result ↔ ((e : Entity) × Exports interface.now text.now e Values) }
 {
-    match value_named(interface.values(), text) {
+    match entry_named(interface.values(), text) {
         Some(_) => true,
         None => false,
     }
@@ -47,10 +47,10 @@ fn exports_value(interface: &Interface, text: &str) -> bool
 fn belongs(interface: &Interface, owner: &str, text: &str) -> bool
     ensures { IsTrue result ↔ Belongs interface.now owner.now text.now }
 {
-    let Some(entry) = type_named(interface.types(), owner) else {
+    let Some(entry) = entry_named(interface.types(), owner) else {
         return false;
     };
-    let Some(constructor) = constructor_named(interface.constructors(), text) else {
+    let Some(constructor) = entry_named(interface.constructors(), text) else {
         return false;
     };
     constructor.owner.is_same(&entry.entity)

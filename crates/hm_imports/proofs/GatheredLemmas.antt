@@ -1,5 +1,6 @@
 -- What is gathered of import lists is what they list.
-use Rattle.std.proofs.Common.{◌≡◌, ℕ, List, [], ◌∷◌, ◌⊎◌, inl, inr, ⊎_elim, refl, sym, ap, ◌∙◌, subst, Contains, map}
+use Rattle.std.proofs.lemmas.Bool.Decides.{nat_tests}
+use Rattle.std.proofs.Common.{◌≡◌, ◌==◌, ℕ, true, length, arith, List, [], ◌∷◌, ◌⊎◌, inl, inr, ⊎_elim, refl, sym, ap, ◌∙◌, subst, Contains, map}
 use Rattle.hm_types.specs.declared.Entity.{Entity}
 use Rattle.hm_types.specs.declared.entries.TypeEntry.{TypeEntry}
 use Rattle.hm_types.specs.declared.entries.ConstructorEntry.{ConstructorEntry}
@@ -17,7 +18,8 @@ use Rattle.hm_imports.specs.declared.selections.ListUse.{ListUse}
 use Rattle.hm_imports.specs.declared.selections.ListUse.TheVariants as list_use
 use Rattle.hm_imports.specs.Gathered as gathered
 use Rattle.hm_imports.specs.Gathered.{bare, type_name, IsOwned, IsBehind, IsNamedBy, IsOpenedBy}
-use Rattle.hm_tables.specs.NameSets.{FullName}
+use Rattle.hm_tables.specs.declared.keys.Key.{Key}
+use Rattle.hm_tables.specs.NameSets.{FullName, full_names}
 use Rattle.hm_names.specs.Scope as listing
 use Rattle.hm_names.specs.Scope.{Lists, Hides}
 use Rattle.hm_imports.specs.Selections.{IsListed, ListsOrHides}
@@ -80,6 +82,11 @@ module _ (f : Interface) where
     where
       none : (n : FullName) → IsOpenedBy f n (item.Con v subs.All) → ⊥
       none n (gathered.opened {r = r} c e i) = no_type r c e
+
+-- no keys are no names
+pub no_keys : (ks : List Key) → (length ks == 0) ≡ true → full_names ks ≡ []
+no_keys [] h = refl
+no_keys (k ∷ ks) h = let none : length (k ∷ ks) ≡ 0 = grind (arith, nat_tests) in absurd (omega (arith, none))
 
 -- all together
 module _ (f : Interface) (is : List Item) where
@@ -155,3 +162,7 @@ module _ (f : Interface) (is : List Item) where
           (λ w. (c (bare s x)).1 (inl ((a (bare s x)).1 (inr (j, (k, w))))))
           (λ (q, (d, (w, i))). (c (bare s x)).1 (inr (q, (d, ((b (type_name q.owner)).1 (inr (j, (k, w))), i)))))
           (back u s x j h)
+
+  -- where no type is listed with all its constructors
+  pub all_named : (names opened : List FullName) → opened ≡ [] → Adds names names (OfOpened opened)
+  all_named names opened none = adds_none names (OfOpened opened) (λ n (k, (c, (o, i))). none_in (type_name k.owner) (subst (λ l. Contains l (type_name k.owner)) none o))

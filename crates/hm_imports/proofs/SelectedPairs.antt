@@ -5,7 +5,7 @@ use Rattle.hm_types.specs.declared.entries.TypeEntry.{TypeEntry}
 use Rattle.hm_types.specs.declared.entries.SynonymEntry.{SynonymEntry}
 use Rattle.hm_types.specs.declared.entries.ConstructorEntry.{ConstructorEntry}
 use Rattle.hm_types.specs.declared.entries.ValueEntry.{ValueEntry}
-use Rattle.hm_types.specs.Interfaces.{Exports as Interface}
+use Rattle.hm_types.specs.Interfaces.{Exports as Interface, AreOrdered}
 use Rattle.hm_syntax.specs.declared.ast.Import.{Import}
 use Rattle.hm_syntax.specs.declared.ast.List.{List as ImportList}
 use Rattle.hm_syntax.specs.declared.ast.List.TheVariants as list
@@ -18,12 +18,28 @@ use Rattle.hm_names.specs.Bindings.{Pair, Adds, IsPairOf, IsBroughtPair, IsOwnPa
 use Rattle.hm_names.specs.Entities.{Exports, a_type, a_synonym, a_constructor, a_value, own}
 use Rattle.hm_names.specs.Scope.{Lists, Hides, Brings, every, only, hiding, Imports, written, added, InScope, declared, imported, known_as, import_prelude, prelude_name}
 use Rattle.hm_imports.specs.declared.selections.ListUse.TheVariants as list_use
-use Rattle.hm_imports.specs.Selections.{Selects, IsSelected, IsSelectionOf, IsSelectedPair, IsBroughtFrom, IsImportedPair, IsListed}
+use Rattle.hm_imports.specs.Selections.{Selects, IsSelected, IsSelectionOf, IsSelectedPair, IsSelectedAs, IsNamedPair, IsBroughtFrom, IsImportedPair, IsListed}
+use Rattle.hm_imports.specs.Gathered.{bare}
 use Rattle.hm_imports.specs.declared.selections.Selection.TheVariants as choose
-use Rattle.hm_tables.specs.NameSets.{FullName}
+use Rattle.hm_tables.specs.declared.keys.Key.{Key}
+use Rattle.hm_tables.specs.NameSets.{FullName, full_name, full_names}
+use Rattle.hm_tables.proofs.SortedNames.{one_by_name}
 use Rattle.hm_imports.specs.Selections as select
-use Rattle.hm_names.proofs.AddedPairs.{adds_like, adds_then, ForEach}
+use Rattle.hm_names.proofs.AddedPairs.{adds_none, adds_like, adds_then, ForEach}
 use Rattle.hm_names.proofs.DeclaredPairs.{contains_map}
+
+-- what entries of one name give
+module _ {E : Type 0} (name : E → List ℕ) (entity : E → Entity) (entries : List E) (σ : Selection) (qualified : Bool) (under : List ℕ) (s : Namespace) (x : List ℕ) where
+  abbrev OfEntry : E → Pair → Type 0
+  OfEntry r p = Selects σ s (name r) × IsPairOf qualified under s (name r) (entity r) p
+
+  pub named_none : (old : List Pair) → ((r : E) → Contains entries r → ¬ (name r ≡ x)) → Adds old old (IsNamedPair name entity entries σ qualified under s x)
+  named_none old none = adds_none old (IsNamedPair name entity entries σ qualified under s x) (λ p (r, (c, (n, h))). none r c n)
+
+  pub named_one : (old new : List Pair) (r : E) → AreOrdered (map name entries) → Contains entries r → name r ≡ x → Adds old new (OfEntry r) → Adds old new (IsNamedPair name entity entries σ qualified under s x)
+  named_one old new r o c n a = adds_like old new (OfEntry r) (IsNamedPair name entity entries σ qualified under s x)
+      (λ p h. (r, (c, (n, h))))
+      (λ p (q, (d, (m, h))). subst (λ (y : E). OfEntry y p) (one_by_name name entries q r o d c (m ∙ sym n)) h) a
 
 module _ (f : Interface) (σ : Selection) (qualified : Bool) (under : List ℕ) where
   abbrev pub Selected : Namespace → List ℕ → Entity → Pair → Type 0
@@ -66,6 +82,61 @@ module _ (f : Interface) (σ : Selection) (qualified : Bool) (under : List ℕ) 
       (λ (r, (k, q)). there Values r.name r.entity p (a_value k refl refl) q) h)
       (λ p i. back p.space p.text p.entity p i.exported (i.selected, i.pair))
       (adds_then a d e (λ p. (TypesOf p ⊎ SynonymsOf p) ⊎ ConstructorsOf p) ValuesOf (adds_then a c d (λ p. TypesOf p ⊎ SynonymsOf p) ConstructorsOf (adds_then a b c TypesOf SynonymsOf one two) three) four)
+
+  module _ (x : List ℕ) where
+    abbrev pub TypesNamed : Pair → Type 0
+    TypesNamed = IsNamedPair (λ (r : TypeEntry). r.name) (λ r. r.entity) f.types σ qualified under Types x
+
+    abbrev pub SynonymsNamed : Pair → Type 0
+    SynonymsNamed = IsNamedPair (λ (r : SynonymEntry). r.name) (λ r. r.entity) f.synonyms σ qualified under Types x
+
+    abbrev pub ConstructorsNamed : Pair → Type 0
+    ConstructorsNamed = IsNamedPair (λ (r : ConstructorEntry). r.name) (λ r. r.entity) f.constructors σ qualified under Constructors x
+
+    abbrev pub ValuesNamed : Pair → Type 0
+    ValuesNamed = IsNamedPair (λ (r : ValueEntry). r.name) (λ r. r.entity) f.values σ qualified under Values x
+
+    selected_as : (s : Namespace) (y : List ℕ) (e : Entity) (p : Pair) → y ≡ x → Exports f x e s → Selected s y e p → IsSelectedAs f σ qualified under s x p
+    selected_as s y e p n exported (selected, i) = record {
+      exported = subst (λ t. Exports f x t s) (sym i.entity_is) exported;
+      selected = subst (λ t. Selects σ s t) n selected;
+      pair = record { space_is = i.space_is; qualifier_is = i.qualifier_is; text_is = i.text_is ∙ n; entity_is = refl };
+    }
+
+    selected_of : (s : Namespace) (y : List ℕ) (e : Entity) (p : Pair) → y ≡ x → e ≡ p.entity → IsSelectedAs f σ qualified under s x p → Selected s y e p
+    selected_of s y e p n k h = (subst (λ t. Selects σ s t) (sym n) h.selected, record { space_is = h.pair.space_is; qualifier_is = h.pair.qualifier_is; text_is = h.pair.text_is ∙ sym n; entity_is = sym k })
+
+    types_back : (p : Pair) → IsSelectedAs f σ qualified under Types x p → Exports f x p.entity Types → TypesNamed p ⊎ SynonymsNamed p
+    types_back p h (a_type {r = r} c n k) = inl (r, (c, (n, selected_of Types r.name r.entity p n k h)))
+    types_back p h (a_synonym {r = r} c n k) = inr (r, (c, (n, selected_of Types r.name r.entity p n k h)))
+
+    constructors_back : (p : Pair) → IsSelectedAs f σ qualified under Constructors x p → Exports f x p.entity Constructors → ConstructorsNamed p
+    constructors_back p h (a_constructor {r = r} c n k) = (r, (c, (n, selected_of Constructors r.name r.entity p n k h)))
+
+    values_back : (p : Pair) → IsSelectedAs f σ qualified under Values x p → Exports f x p.entity Values → ValuesNamed p
+    values_back p h (a_value {r = r} c n k) = (r, (c, (n, selected_of Values r.name r.entity p n k h)))
+
+    pub type_adds : (old mid new : List Pair) → Adds old mid TypesNamed → Adds mid new SynonymsNamed → Adds old new (IsSelectedAs f σ qualified under Types x)
+    type_adds old mid new a b = adds_like old new (λ p. TypesNamed p ⊎ SynonymsNamed p) (IsSelectedAs f σ qualified under Types x)
+        (λ p h. ⊎_elim (λ (r, (c, (n, q))). selected_as Types r.name r.entity p n (a_type c n refl) q) (λ (r, (c, (n, q))). selected_as Types r.name r.entity p n (a_synonym c n refl) q) h)
+        (λ p h. types_back p h h.exported) (adds_then old mid new TypesNamed SynonymsNamed a b)
+
+    pub constructor_adds : (old new : List Pair) → Adds old new ConstructorsNamed → Adds old new (IsSelectedAs f σ qualified under Constructors x)
+    constructor_adds old new a = adds_like old new ConstructorsNamed (IsSelectedAs f σ qualified under Constructors x)
+        (λ p (r, (c, (n, q))). selected_as Constructors r.name r.entity p n (a_constructor c n refl) q) (λ p h. constructors_back p h h.exported) a
+
+    pub value_adds : (old new : List Pair) → Adds old new ValuesNamed → Adds old new (IsSelectedAs f σ qualified under Values x)
+    value_adds old new a = adds_like old new ValuesNamed (IsSelectedAs f σ qualified under Values x)
+        (λ p (r, (c, (n, q))). selected_as Values r.name r.entity p n (a_value c n refl) q) (λ p h. values_back p h h.exported) a
+
+  -- what is exported under the names that a list selects is all that it selects
+  pub listed_adds : (old new : List Pair) (keys : List Key) → σ ≡ choose.Only (full_names keys) → Adds old new (ForEach (λ (k : Key). IsSelectedAs f σ qualified under k.space k.text.now) keys) → Adds old new (IsSelectedPair f σ qualified under)
+  listed_adds old new keys is a = adds_like old new (ForEach (λ (k : Key). IsSelectedAs f σ qualified under k.space k.text.now) keys) (IsSelectedPair f σ qualified under)
+      (λ p (k, (c, h)). there k.space k.text.now p.entity p h.exported (h.selected, h.pair))
+      (λ p h. let b = contains_map full_name keys (bare p.space p.text) (subst (λ (t : Selection). Selects t p.space p.text) is h.selected) in
+      let spaces : b.0.space ≡ p.space = ap (λ (n : FullName). n.space) b.1.1 in
+      let texts : b.0.text.now ≡ p.text = ap (λ (n : FullName). n.text) b.1.1 in
+      (b.0, (b.1.0, subst (λ t. IsSelectedAs f σ qualified under t b.0.text.now p) (sym spaces) (subst (λ t. IsSelectedAs f σ qualified under p.space t p) (sym texts) (record { exported = h.exported; selected = h.selected; pair = h.pair }))))) a
 
 -- an import brings in what its list selects of the exports
 brings_there : (f : Interface) (i : Import) (s : Namespace) (x : List ℕ) (e : Entity) (l : ImportList) → i.list ≡ l → IsSelected f s x l → Exports f x e s → Brings f i s x e

@@ -1,5 +1,6 @@
 -- Which of the exported names an import selects. No public clause names these.
 use Rattle.std.specs.Prelude.{◌≡◌, ℕ, List, Bool, Contains, ◌↔◌}
+use Rattle.hm_types.specs.declared.Entity.{Entity}
 use Rattle.hm_types.specs.Interfaces.{Exports as Interface}
 use Rattle.hm_syntax.specs.declared.ast.Import.{Import}
 use Rattle.hm_syntax.specs.declared.ast.Item.{Item}
@@ -47,6 +48,16 @@ pub record IsSelectedPair (f : Interface) (σ : Selection) (qualified : Bool) (u
   pub exported : Exports f p.text p.entity p.space
   pub selected : Selects σ p.space p.text
   pub pair : IsPairOf qualified under p.space p.text p.entity p
+
+-- the pair is of an entity that f exports under this name, which the selection has
+pub record IsSelectedAs (f : Interface) (σ : Selection) (qualified : Bool) (under : List ℕ) (s : Namespace) (x : List ℕ) (p : Pair) : Type 0 where
+  pub exported : Exports f x p.entity s
+  pub selected : Selects σ s x
+  pub pair : IsPairOf qualified under s x p.entity p
+
+-- the pair is of an entry of this name, which the selection has
+abbrev pub IsNamedPair : {E : Type 0} → (E → List ℕ) → (E → Entity) → List E → Selection → Bool → List ℕ → Namespace → List ℕ → Pair → Type 0
+IsNamedPair {E} name entity entries σ qualified under s x p = (r : E) × (Contains entries r × ((name r ≡ x) × (Selects σ s (name r) × IsPairOf qualified under s (name r) (entity r) p)))
 
 -- the pair is one that the import brings in from one of the interfaces, that of its module
 pub record IsBroughtFrom (fs : List Interface) (i : Import) (p : Pair) : Type 0 where

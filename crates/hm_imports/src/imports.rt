@@ -2,24 +2,20 @@
 
 ghost use Rattle.std.specs.Prelude.{◌≡◌, ◌↔◌, IfOk, OnOk, IsTrue, Contains, List, ◌∷◌, map};
 ghost use Rattle.std.specs.Arc.{arc_value};
-ghost use Rattle.hm_types.specs.Interfaces.{Exports as Interface};
+ghost use Rattle.hm_types.specs.Interfaces.{Exports as Interface, AreOrdered};
 ghost use Rattle.hm_syntax.specs.declared.ast.Import.{Import};
 ghost use Rattle.hm_syntax.specs.declared.ast.Module.{Module};
 ghost use Rattle.hm_names.specs.Bindings.{Pair, Adds, IsPairOf, IsBroughtPair, IsScopeOf};
 ghost use Rattle.hm_names.specs.Scope.{Imports, known_as, prelude_name, import_prelude};
-ghost use Rattle.hm_imports.specs.Selections.{Selects, IsSelectedPair, IsImportedPair, IsBroughtFrom};
-ghost use Rattle.hm_names.specs.declared.namespace.Namespace.TheVariants.{Types, Constructors, Values};
-ghost use Rattle.hm_types.specs.declared.entries.TypeEntry.{TypeEntry};
-ghost use Rattle.hm_types.specs.declared.entries.SynonymEntry.{SynonymEntry};
-ghost use Rattle.hm_types.specs.declared.entries.ConstructorEntry.{ConstructorEntry};
-ghost use Rattle.hm_types.specs.declared.entries.ValueEntry.{ValueEntry};
+ghost use Rattle.hm_imports.specs.Selections.{Selects, IsSelectedPair, IsSelectedAs, IsNamedPair, IsImportedPair, IsBroughtFrom};
+ghost use Rattle.hm_tables.specs.declared.keys.Key.{Key};
 
 use crate::in_scope::{add_both, add_declared, add_qualified};
 use crate::selections::Selection;
 use hm_names::Namespace;
 use hm_syntax::{Import, Module};
-use hm_tables::{Binding, EntityRef, Scope};
-use hm_types::{ConstructorEntry, Entity, Interface, SynonymEntry, TypeEntry, ValueEntry};
+use hm_tables::{Binding, EntityRef, Key, Named, Scope, entry_named};
+use hm_types::{Entity, Interface};
 use std::alloc::{AllocError, Global};
 use std::sync::Arc;
 
@@ -51,82 +47,105 @@ fn add_entry<'a>(
     Ok(add_both(pairs, brought.name, space, text, found)?)
 }
 
-/// Adds the selected types of an interface.
-fn add_types<'a>(
+/// Adds the selected ones of all that is exported in a namespace.
+fn add_entries<'a, E: Named>(
     pairs: &mut Vec<Binding<'a>>,
     brought: &Brought<'_, 'a>,
-    entries: &'a [TypeEntry],
+    space: Namespace,
+    entries: &'a [E],
 ) -> Result<(), AllocError>
-    ensures { OnOk result (Adds pairs.old.items pairs.new.items (λ p. (r : TypeEntry) × (Contains entries.now r × (Selects brought.now.selection.now Types r.name × IsPairOf brought.now.qualified brought.now.name.now Types r.name r.entity p)))) }
+    ensures { OnOk result (Adds pairs.old.items pairs.new.items (λ p. (r : E) × (Contains entries.now r × (Selects brought.now.selection.now space (E.name_of r) × IsPairOf brought.now.qualified brought.now.name.now space (E.name_of r) (E.entity_of r) p)))) }
 {
     for entry in entries {
-        add_entry(
-            pairs,
-            brought,
-            Namespace::Types,
-            entry.name.as_str(),
-            &entry.entity,
-        )?;
+        add_entry(pairs, brought, space, entry.name(), entry.entity())?;
     }
     Ok(())
 }
 
-/// Adds the selected synonyms of an interface.
-fn add_synonyms<'a>(
+/// Adds all that an interface exports and a selection selects, by a walk over the interface.
+fn add_every<'a>(
     pairs: &mut Vec<Binding<'a>>,
     brought: &Brought<'_, 'a>,
-    entries: &'a [SynonymEntry],
+    interface: &'a Interface,
 ) -> Result<(), AllocError>
-    ensures { OnOk result (Adds pairs.old.items pairs.new.items (λ p. (r : SynonymEntry) × (Contains entries.now r × (Selects brought.now.selection.now Types r.name × IsPairOf brought.now.qualified brought.now.name.now Types r.name r.entity p)))) }
+    ensures { OnOk result (Adds pairs.old.items pairs.new.items (IsSelectedPair interface.now brought.now.selection.now brought.now.qualified brought.now.name.now)) }
 {
-    for entry in entries {
-        add_entry(
-            pairs,
-            brought,
-            Namespace::Types,
-            entry.name.as_str(),
-            &entry.entity,
-        )?;
-    }
+    add_entries(pairs, brought, Namespace::Types, interface.types())?;
+    add_entries(pairs, brought, Namespace::Types, interface.synonyms())?;
+    add_entries(
+        pairs,
+        brought,
+        Namespace::Constructors,
+        interface.constructors(),
+    )?;
+    add_entries(pairs, brought, Namespace::Values, interface.values())?;
     Ok(())
 }
 
-/// Adds the selected constructors of an interface.
-fn add_constructors<'a>(
+/// Adds what is exported under a name in a namespace, if that is selected.
+fn add_entry_named<'a, E: Named>(
     pairs: &mut Vec<Binding<'a>>,
     brought: &Brought<'_, 'a>,
-    entries: &'a [ConstructorEntry],
+    space: Namespace,
+    entries: &'a [E],
+    text: &str,
 ) -> Result<(), AllocError>
-    ensures { OnOk result (Adds pairs.old.items pairs.new.items (λ p. (r : ConstructorEntry) × (Contains entries.now r × (Selects brought.now.selection.now Constructors r.name × IsPairOf brought.now.qualified brought.now.name.now Constructors r.name r.entity p)))) }
+    requires { AreOrdered (map E.name_of entries.now) }
+    ensures { OnOk result (Adds pairs.old.items pairs.new.items (IsNamedPair E.name_of E.entity_of entries.now brought.now.selection.now brought.now.qualified brought.now.name.now space text.now)) }
 {
-    for entry in entries {
-        add_entry(
-            pairs,
-            brought,
-            Namespace::Constructors,
-            entry.name.as_str(),
-            &entry.entity,
-        )?;
+    match entry_named(entries, text) {
+        None => Ok(()),
+        Some(entry) => {
+            add_entry(pairs, brought, space, entry.name(), entry.entity())?;
+            Ok(())
+        }
     }
-    Ok(())
 }
 
-/// Adds the selected variables of an interface.
-fn add_values<'a>(
+/// Adds what an interface exports under a name, if that is selected.
+fn add_name<'a>(
     pairs: &mut Vec<Binding<'a>>,
     brought: &Brought<'_, 'a>,
-    entries: &'a [ValueEntry],
+    interface: &'a Interface,
+    name: &Key<'_>,
 ) -> Result<(), AllocError>
-    ensures { OnOk result (Adds pairs.old.items pairs.new.items (λ p. (r : ValueEntry) × (Contains entries.now r × (Selects brought.now.selection.now Values r.name × IsPairOf brought.now.qualified brought.now.name.now Values r.name r.entity p)))) }
+    ensures { OnOk result (Adds pairs.old.items pairs.new.items (IsSelectedAs interface.now brought.now.selection.now brought.now.qualified brought.now.name.now name.now.space name.now.text.now)) }
 {
-    for entry in entries {
-        add_entry(
-            pairs,
-            brought,
-            Namespace::Values,
-            entry.name.as_str(),
-            &entry.entity,
-        )?;
+    let text = name.text;
+    match name.space {
+        Namespace::Types => {
+            add_entry_named(pairs, brought, Namespace::Types, interface.types(), text)?;
+            add_entry_named(pairs, brought, Namespace::Types, interface.synonyms(), text)?;
+            Ok(())
+        }
+        Namespace::Constructors => {
+            add_entry_named(
+                pairs,
+                brought,
+                Namespace::Constructors,
+                interface.constructors(),
+                text,
+            )?;
+            Ok(())
+        }
+        Namespace::Values => {
+            add_entry_named(pairs, brought, Namespace::Values, interface.values(), text)?;
+            Ok(())
+        }
+    }
+}
+
+/// Adds what an interface exports under names that a list has, without a walk over the interface.
+fn add_listed<'a>(
+    pairs: &mut Vec<Binding<'a>>,
+    brought: &Brought<'_, 'a>,
+    interface: &'a Interface,
+    names: &[Key<'_>],
+) -> Result<(), AllocError>
+    ensures { OnOk result (Adds pairs.old.items pairs.new.items (λ p. (k : Key) × (Contains names.now k × IsSelectedAs interface.now brought.now.selection.now brought.now.qualified brought.now.name.now k.space k.text.now p))) }
+{
+    for name in names {
+        add_name(pairs, brought, interface, name)?;
     }
     Ok(())
 }
@@ -139,11 +158,11 @@ fn add_selected<'a>(
 ) -> Result<(), AllocError>
     ensures { OnOk result (Adds pairs.old.items pairs.new.items (IsSelectedPair interface.now brought.now.selection.now brought.now.qualified brought.now.name.now)) }
 {
-    add_types(pairs, brought, interface.types())?;
-    add_synonyms(pairs, brought, interface.synonyms())?;
-    add_constructors(pairs, brought, interface.constructors())?;
-    add_values(pairs, brought, interface.values())?;
-    Ok(())
+    match brought.selection {
+        Selection::Every => Ok(add_every(pairs, brought, interface)?),
+        Selection::Only(names) => Ok(add_listed(pairs, brought, interface, names.keys())?),
+        Selection::Hiding(_) => Ok(add_every(pairs, brought, interface)?),
+    }
 }
 
 /// The name under which a module is imported.

@@ -11,7 +11,7 @@ ghost use Rattle.hm_names.specs.declared.namespace.Namespace.TheVariants.{Types,
 
 use hm_names::Namespace;
 use hm_syntax::{Item, List, Name, Subs};
-use hm_tables::{NameSet, constructor_named, type_named};
+use hm_tables::{NameSet, entry_named};
 use hm_types::{ConstructorEntry, Entity, Interface};
 use std::alloc::{AllocError, Global};
 
@@ -31,7 +31,7 @@ fn gather_part<'a>(
 ) -> Result<(), AllocError>
     ensures { OnOk result (Adds names.old names.new (λ n. IsOwned interface.now owner.now part.now.text × (n ≡ bare Constructors part.now.text))) }
 {
-    let Some(constructor) = constructor_named(interface.constructors(), part.as_str()) else {
+    let Some(constructor) = entry_named(interface.constructors(), part.as_str()) else {
         return Ok(());
     };
     if !constructor.owner.is_same(owner) {
@@ -76,7 +76,7 @@ fn gather_behind<'a>(
         },
         Subs::All => Ok(()),
         Subs::Some(parts) => {
-            let Some(entry) = type_named(interface.types(), name.as_str()) else {
+            let Some(entry) = entry_named(interface.types(), name.as_str()) else {
                 return Ok(());
             };
             gather_parts(names, interface, &entry.entity, parts.as_slice())?;
@@ -136,7 +136,7 @@ fn gather_opened<'a>(
             Subs::None => Ok(()),
             Subs::Some(_) => Ok(()),
             Subs::All => {
-                let Some(entry) = type_named(interface.types(), name.as_str()) else {
+                let Some(entry) = entry_named(interface.types(), name.as_str()) else {
                     return Ok(());
                 };
                 let module = entry.entity.module.as_str();
@@ -208,6 +208,9 @@ fn listed<'a>(
     gather_all_names(&mut names, interface, items, list_use)?;
     let mut opened = NameSet::new(alloc);
     gather_all_opened(&mut opened, interface, items)?;
+    if opened.keys().is_empty() {
+        return Ok(names);
+    }
     gather_constructors(&mut names, &opened, interface.constructors())?;
     Ok(names)
 }

@@ -1,10 +1,10 @@
 -- What a table tells of a name is what the pairs give it.
-use Rattle.std.proofs.Common.{◌≡◌, true, false, List, None, refl, sym, ap, ◌∙◌, subst, Contains}
+use Rattle.std.proofs.Common.{◌≡◌, List, None, refl, sym, ap, ◌∙◌, subst, Contains}
 use Rattle.hm_types.specs.declared.Entity.{Entity}
 use Rattle.hm_syntax.specs.Names.{Identifier}
 use Rattle.hm_names.specs.declared.namespace.Namespace.{Namespace}
 use Rattle.hm_tables.specs.declared.keys.Key.{Key}
-use Rattle.hm_tables.specs.declared.table.Slot.{Slot}
+use Rattle.hm_tables.specs.declared.table.Slot.TheVariants.{One, Several}
 use Rattle.hm_names.specs.Bindings.{Pair, MeaningOf, unbound, ambiguous, entity, meaning_of, meaning_in}
 use Rattle.hm_tables.specs.Tables.{IsNamed, Tells, IsTold}
 use Rattle.hm_names.proofs.Meant.{pair_for, Told, told}
@@ -38,13 +38,10 @@ module _ (ps : List Pair) (s : Namespace) (n : Identifier) (k : Key) where
   pub unbound_meaning : IsKeyOf s n k → IsTold ps k None → meaning_in ps s n ≡ unbound
   unbound_meaning key tells = is_meaning ps s n unbound (λ e c. tells (pair_for s n e) c (named_for key e))
 
-  pub ambiguous_meaning : IsKeyOf s n k → (slot : Slot) → Tells ps k slot → slot.several ≡ true → meaning_in ps s n ≡ ambiguous
-  ambiguous_meaning key slot tells several =
-      let one = tells.member in
-      let other = tells.others several in
-      is_meaning ps s n ambiguous (other.0.entity, (one.0.entity, (has_pair key other.0 other.1.0 other.1.1.0, (has_pair key one.0 one.1.0 one.1.1.0, λ same. other.1.1.1 (same ∙ one.1.1.1)))))
+  pub ambiguous_meaning : IsKeyOf s n k → Tells ps k Several → meaning_in ps s n ≡ ambiguous
+  ambiguous_meaning key t = is_meaning ps s n ambiguous (t.one.entity, (t.other.entity, (has_pair key t.one t.has_one t.one_named, (has_pair key t.other t.has_other t.other_named, t.differ))))
 
-  pub entity_meaning : IsKeyOf s n k → (slot : Slot) → Tells ps k slot → slot.several ≡ false → meaning_in ps s n ≡ entity slot.entity
-  entity_meaning key slot tells alone =
-      let one = tells.member in
-      is_meaning ps s n (entity slot.entity) (subst (λ e. Contains ps (pair_for s n e)) one.1.1.1 (has_pair key one.0 one.1.0 one.1.1.0), λ d c. tells.one alone (pair_for s n d) c (named_for key d))
+  pub entity_meaning : IsKeyOf s n k → (e : Entity) → Tells ps k (One e) → meaning_in ps s n ≡ entity e
+  entity_meaning key e t =
+      let one = t.member in
+      is_meaning ps s n (entity e) (subst (λ d. Contains ps (pair_for s n d)) (t.all one.0 one.1.0 one.1.1) (has_pair key one.0 one.1.0 one.1.1), λ d c. t.all (pair_for s n d) c (named_for key d))

@@ -1,12 +1,12 @@
 -- What a table tells of a name is what the name means in the scope.
-use Rattle.std.proofs.Common.{◌≡◌, true, false, List, None, sym, ◌∙◌, subst, option_map, Contains}
+use Rattle.std.proofs.Common.{◌≡◌, List, None, sym, ◌∙◌, subst, option_map, Contains}
 use Rattle.hm_types.specs.declared.Entity.{Entity}
 use Rattle.hm_types.specs.Interfaces.{Exports as Interface}
 use Rattle.hm_syntax.specs.Names.{Identifier}
 use Rattle.hm_syntax.specs.declared.ast.Module.{Module}
 use Rattle.hm_names.specs.declared.namespace.Namespace.{Namespace}
 use Rattle.hm_tables.specs.declared.keys.Key.{Key}
-use Rattle.hm_tables.specs.declared.table.Slot.{Slot}
+use Rattle.hm_tables.specs.declared.table.Slot.TheVariants.{One, Several}
 use Rattle.hm_names.specs.Bindings.{Pair, IsScopeOf}
 use Rattle.hm_names.specs.Scope.{InScope, IsUnbound, IsAmbiguous, Means}
 use Rattle.hm_tables.specs.Tables.{IsNamed, Tells, IsTold}
@@ -33,16 +33,13 @@ module _ (m : Module) (fs : List Interface) (pairs : List Pair) (s : Namespace) 
   pub unbound : IsScopeOf m fs pairs → IsKeyOf s n k → IsTold pairs k None → IsUnbound m fs s n
   unbound scope key told e h = told (pair_for e) ((scope (pair_for e)).1 h) (named_for key e)
 
-  pub ambiguous : IsScopeOf m fs pairs → IsKeyOf s n k → (slot : Slot) → Tells pairs k slot → slot.several ≡ true → IsAmbiguous m fs s n
-  ambiguous scope key slot tells several =
-      let one = tells.member in
-      let other = tells.others several in
-      (other.0.entity, (one.0.entity, (in_scope scope key other.0 other.1.0 other.1.1.0, in_scope scope key one.0 one.1.0 one.1.1.0, λ same. other.1.1.1 (same ∙ one.1.1.1))))
+  pub ambiguous : IsScopeOf m fs pairs → IsKeyOf s n k → Tells pairs k Several → IsAmbiguous m fs s n
+  ambiguous scope key t = (t.one.entity, (t.other.entity, (in_scope scope key t.one t.has_one t.one_named, in_scope scope key t.other t.has_other t.other_named, t.differ)))
 
-  pub means : IsScopeOf m fs pairs → IsKeyOf s n k → (slot : Slot) → Tells pairs k slot → slot.several ≡ false → Means m fs s n slot.entity
-  means scope key slot tells alone =
-      let one = tells.member in
+  pub means : IsScopeOf m fs pairs → IsKeyOf s n k → (e : Entity) → Tells pairs k (One e) → Means m fs s n e
+  means scope key e t =
+      let one = t.member in
       record {
-        in_scope = subst (λ e. InScope m fs s n.qualifier n.text e) one.1.1.1 (in_scope scope key one.0 one.1.0 one.1.1.0);
-        alone = λ e h. tells.one alone (pair_for e) ((scope (pair_for e)).1 h) (named_for key e);
+        in_scope = subst (λ d. InScope m fs s n.qualifier n.text d) (t.all one.0 one.1.0 one.1.1) (in_scope scope key one.0 one.1.0 one.1.1);
+        alone = λ d h. t.all (pair_for d) ((scope (pair_for d)).1 h) (named_for key d);
       }

@@ -1,5 +1,5 @@
 -- Tables of names: what a table tells of a name, and what it tells after one more pair.
-use Rattle.std.proofs.Common.{◌≡◌, ℕ, true, false, cond, List, [], ◌∷◌, ◌++◌, Option, Some, None, ◌⊎◌, inl, inr, refl, sym, ap, ◌∙◌, subst, Bor, option_map, Decides, bytes_eq, IsTrue, ◌+◌, ◌<◌, length, take, get_or}
+use Rattle.std.proofs.Common.{◌≡◌, ℕ, true, false, cond, List, [], ◌∷◌, ◌++◌, Option, Some, None, inl, inr, refl, sym, ap, ◌∙◌, subst, Bor, option_map, Decides, bytes_eq, ◌+◌, ◌<◌, length, take, get_or}
 use Rattle.std.specs.Option.{option_eq}
 use Rattle.std.proofs.lemmas.Bool.{cases_Bool, both_ways}
 use Rattle.std.proofs.lemmas.Bool.Decides.{Decides-and}
@@ -13,6 +13,8 @@ use Rattle.hm_names.specs.declared.namespace.Namespace.{Namespace}
 use Rattle.hm_names.specs.declared.namespace.Namespace.TheVariants.{Types, Constructors, Values}
 use Rattle.hm_tables.specs.declared.keys.Key.{Key}
 use Rattle.hm_tables.specs.declared.table.Slot.{Slot}
+use Rattle.hm_tables.specs.declared.table.Slot.TheVariants.{One, Several}
+use Rattle.hm_types.specs.declared.Entity.{Entity}
 use Rattle.hm_names.specs.Bindings.{Pair}
 use Rattle.hm_tables.specs.Tables.{IsNamed, same_key, Tells, IsTold, Table, IsTable}
 
@@ -55,41 +57,65 @@ named_both : (j k : Key) (p : Pair) → IsNamed j p → IsNamed k p → IsSameNa
 named_both j k p m n = record { space = sym m.space ∙ n.space; qualifier = sym m.qualifier ∙ n.qualifier; text = sym m.text ∙ n.text }
 
 tells_there : (pairs : List Pair) (j k : Key) (s : Slot) → IsSameName j k → Tells pairs j s → Tells pairs k s
-tells_there pairs j k s same t = record {
-  member = let m = t.member in (m.0, (m.1.0, (named_there j k m.0 same m.1.1.0, m.1.1.1)));
-  one = λ e p h n. t.one e p h (named_back j k p same n);
-  others = λ e. let m = t.others e in (m.0, (m.1.0, (named_there j k m.0 same m.1.1.0, m.1.1.1)));
+tells_there pairs j k (One e) same t = record {
+  member = let m = t.member in (m.0, (m.1.0, named_there j k m.0 same m.1.1));
+  all = λ p h n. t.all p h (named_back j k p same n);
+}
+tells_there pairs j k Several same t = record {
+  one = t.one;
+  other = t.other;
+  has_one = t.has_one;
+  has_other = t.has_other;
+  one_named = named_there j k t.one same t.one_named;
+  other_named = named_there j k t.other same t.other_named;
+  differ = t.differ;
+}
+
+-- one more pair, where pairs of two entities are there
+pub tells_several : (pairs : List Pair) (p : Pair) (k : Key) → Tells pairs k Several → Tells (pairs ++ p ∷ []) k Several
+tells_several pairs p k t = record {
+  one = t.one;
+  other = t.other;
+  has_one = Contains-append_left pairs (p ∷ []) t.one t.has_one;
+  has_other = Contains-append_left pairs (p ∷ []) t.other t.has_other;
+  one_named = t.one_named;
+  other_named = t.other_named;
+  differ = t.differ;
 }
 
 -- a name that a pair does not have keeps what is told of it
 told_kept : (pairs : List Pair) (p : Pair) (k : Key) (o : Option Slot) → ¬ IsNamed k p → IsTold pairs k o → IsTold (pairs ++ p ∷ []) k o
 told_kept pairs p k None other t = λ q h n. elim (Contains-push_cases pairs p q h) [ inl before ↦ t q before n | inr is ↦ other (subst (λ r. IsNamed k r) (sym is) n) ]
-told_kept pairs p k (Some s) other t = record {
+told_kept pairs p k (Some (One e)) other t = record {
   member = let m = t.member in (m.0, (Contains-append_left pairs (p ∷ []) m.0 m.1.0, m.1.1));
-  one = λ e q h n. elim (Contains-push_cases pairs p q h) [ inl before ↦ t.one e q before n | inr is ↦ absurd (other (subst (λ r. IsNamed k r) (sym is) n)) ];
-  others = λ e. let m = t.others e in (m.0, (Contains-append_left pairs (p ∷ []) m.0 m.1.0, m.1.1));
+  all = λ q h n. elim (Contains-push_cases pairs p q h) [ inl before ↦ t.all q before n | inr is ↦ absurd (other (subst (λ r. IsNamed k r) (sym is) n)) ];
 }
+told_kept pairs p k (Some Several) other t = tells_several pairs p k t
 
 -- the first pair of a name
-pub tells_first : (pairs : List Pair) (p : Pair) (k : Key) (s : Slot) → IsNamed k p → IsTold pairs k None → s.entity ≡ p.entity → s.several ≡ false → Tells (pairs ++ p ∷ []) k s
-tells_first pairs p k s named none is one = record {
-  member = (p, (Contains-push pairs p, (named, sym is)));
-  one = λ e q h n. elim (Contains-push_cases pairs p q h) [ inl before ↦ absurd (none q before n) | inr last ↦ sym (ap (λ r. r.entity) last) ∙ sym is ];
-  others = λ e. absurd (both_ways s.several one e);
+pub tells_first : (pairs : List Pair) (p : Pair) (k : Key) (e : Entity) → IsNamed k p → IsTold pairs k None → p.entity ≡ e → Tells (pairs ++ p ∷ []) k (One e)
+tells_first pairs p k e named none is = record {
+  member = (p, (Contains-push pairs p, named));
+  all = λ q h n. elim (Contains-push_cases pairs p q h) [ inl before ↦ absurd (none q before n) | inr last ↦ sym (ap (λ (r : Pair). r.entity) last) ∙ is ];
 }
 
--- one more pair of a name
-pub tells_more : (pairs : List Pair) (p : Pair) (k : Key) (old new : Slot) → IsNamed k p → Tells pairs k old → new.entity ≡ old.entity → (IsTrue new.several → IsTrue old.several ⊎ ¬ (p.entity ≡ old.entity)) → (new.several ≡ false → (old.several ≡ false) × (p.entity ≡ old.entity)) → Tells (pairs ++ p ∷ []) k new
-tells_more pairs p k old new named t is several one = record {
-  member = let m = t.member in (m.0, (Contains-append_left pairs (p ∷ []) m.0 m.1.0, (m.1.1.0, m.1.1.1 ∙ sym is)));
-  one = λ e q h n. elim (Contains-push_cases pairs p q h) [
-    | inl before ↦ t.one (one e).0 q before n ∙ sym is
-    | inr last ↦ sym (ap (λ r. r.entity) last) ∙ ((one e).1 ∙ sym is)
-  ];
-  others = λ e. elim (several e) [
-    | inl before ↦ let m = t.others before in (m.0, (Contains-append_left pairs (p ∷ []) m.0 m.1.0, (m.1.1.0, λ same. m.1.1.1 (same ∙ is))))
-    | inr apart ↦ (p, (Contains-push pairs p, (named, λ same. apart (same ∙ is))))
-  ];
+-- one more pair of the entity that all others are of
+pub tells_same : (pairs : List Pair) (p : Pair) (k : Key) (e : Entity) → p.entity ≡ e → Tells pairs k (One e) → Tells (pairs ++ p ∷ []) k (One e)
+tells_same pairs p k e is t = record {
+  member = let m = t.member in (m.0, (Contains-append_left pairs (p ∷ []) m.0 m.1.0, m.1.1));
+  all = λ q h n. elim (Contains-push_cases pairs p q h) [ inl before ↦ t.all q before n | inr last ↦ sym (ap (λ (r : Pair). r.entity) last) ∙ is ];
+}
+
+-- one more pair, of another entity than all others
+pub tells_other : (pairs : List Pair) (p : Pair) (k : Key) (e : Entity) → IsNamed k p → ¬ (p.entity ≡ e) → Tells pairs k (One e) → Tells (pairs ++ p ∷ []) k Several
+tells_other pairs p k e named apart t = let m = t.member in record {
+  one = p;
+  other = m.0;
+  has_one = Contains-push pairs p;
+  has_other = Contains-append_left pairs (p ∷ []) m.0 m.1.0;
+  one_named = named;
+  other_named = m.1.1;
+  differ = λ same. apart (same ∙ t.all m.0 m.1.0 m.1.1);
 }
 
 -- a table into which a pair was noted

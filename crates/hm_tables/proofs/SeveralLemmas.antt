@@ -1,9 +1,9 @@
 -- Whether a name means several entities.
-use Rattle.std.proofs.Common.{◌≡◌, true, false, List, None, inl, inr, sym, ◌∙◌, option_map, IsTrue}
+use Rattle.std.proofs.Common.{◌≡◌, true, false, List, None, refl, sym, ◌∙◌, option_map, IsTrue}
 use Rattle.std.specs.Prelude.{◌↔◌}
-use Rattle.std.proofs.lemmas.Bool.{cases_Bool}
 use Rattle.hm_tables.specs.declared.keys.Key.{Key}
-use Rattle.hm_tables.specs.declared.table.Slot.{Slot}
+use Rattle.hm_tables.specs.declared.table.Slot.TheVariants.{One, Several}
+use Rattle.hm_types.specs.declared.Entity.{Entity}
 use Rattle.hm_names.specs.Bindings.{Pair, IsSeveral}
 use Rattle.hm_tables.specs.Tables.{IsNamed, Tells, IsTold}
 
@@ -22,22 +22,22 @@ same_name k p q h n = (n.space ∙ h.space, n.qualifier ∙ h.qualifier, n.text 
 pub none_several : (pairs : List Pair) (p : Pair) (k : Key) → IsKeyOfPair k p → IsTold pairs k None → IsTrue false ↔ IsSeveral pairs p
 none_several pairs p k h none = (λ t. let f : false ≡ true = t in cc, λ s. absurd (none s.one s.has_one (named k p s.one h s.one_name)))
 
-pub told_several : (pairs : List Pair) (p : Pair) (k : Key) → IsKeyOfPair k p → (slot : Slot) → Tells pairs k slot → IsTrue slot.several ↔ IsSeveral pairs p
-told_several pairs p k h slot tells = (there, back)
-  where
-    there : slot.several ≡ true → IsSeveral pairs p
-    there t = let m = tells.member in let o = tells.others t in record {
-      one = m.0;
-      other = o.0;
-      has_one = m.1.0;
-      has_other = o.1.0;
-      one_name = same_name k p m.0 h m.1.1.0;
-      other_name = same_name k p o.0 h o.1.1.0;
-      differ = λ e. o.1.1.1 (sym e ∙ m.1.1.1);
-    }
+pub one_several : (pairs : List Pair) (p : Pair) (k : Key) (e : Entity) → IsKeyOfPair k p → Tells pairs k (One e) → IsTrue false ↔ IsSeveral pairs p
+one_several pairs p k e h t = (
+  λ f. let g : false ≡ true = f in cc,
+  λ s. absurd (s.differ (t.all s.one s.has_one (named k p s.one h s.one_name) ∙ sym (t.all s.other s.has_other (named k p s.other h s.other_name)))),
+)
 
-    back : IsSeveral pairs p → slot.several ≡ true
-    back s = elim (cases_Bool slot.several) [
-      | inl t ↦ t
-      | inr f ↦ absurd (s.differ (tells.one f s.one s.has_one (named k p s.one h s.one_name) ∙ sym (tells.one f s.other s.has_other (named k p s.other h s.other_name))))
-    ]
+pub all_several : (pairs : List Pair) (p : Pair) (k : Key) → IsKeyOfPair k p → Tells pairs k Several → IsTrue true ↔ IsSeveral pairs p
+all_several pairs p k h t = (
+  λ _. record {
+    one = t.one;
+    other = t.other;
+    has_one = t.has_one;
+    has_other = t.has_other;
+    one_name = same_name k p t.one h t.one_named;
+    other_name = same_name k p t.other h t.other_named;
+    differ = t.differ;
+  },
+  λ _. refl,
+)

@@ -1,5 +1,5 @@
 -- What the table of a scope keeps. No public clause names these.
-use Rattle.std.specs.Prelude.{◌≡◌, List, Option, Some, None, Contains, Bool, true, false, ◌&&◌, option_map}
+use Rattle.std.specs.Prelude.{◌≡◌, List, Option, Some, None, Contains, Bool, ◌&&◌, option_map}
 use Rattle.std.specs.Str.{bytes_eq}
 use Rattle.std.specs.Option.{option_eq}
 use Rattle.std.specs.declared.hash.FoldHasher.{FoldHasher}
@@ -9,6 +9,8 @@ use denote.Enum.Bare.{sameb}
 use Rattle.hm_names.specs.contracts.namespace.Namespace.{the_type}
 use Rattle.hm_tables.specs.declared.keys.Key.{Key}
 use Rattle.hm_tables.specs.declared.table.Slot.{Slot}
+use Rattle.hm_tables.specs.declared.table.Slot.TheVariants.{One, Several}
+use Rattle.hm_types.specs.declared.Entity.{Entity}
 use Rattle.hm_names.specs.Bindings.{Pair}
 
 -- the pair has this name
@@ -21,11 +23,25 @@ pub record IsNamed (k : Key) (p : Pair) : Type 0 where
 abbrev pub same_key : Key → Key → Bool
 same_key j k = sameb the_type j.space k.space && (option_eq (λ a b. bytes_eq a.now b.now) j.qualifier k.qualifier && bytes_eq j.text.now k.text.now)
 
--- an entity that the name means, and whether it means others too
-pub record Tells (pairs : List Pair) (k : Key) (s : Slot) : Type 0 where
-  pub member : (p : Pair) × (Contains pairs p × (IsNamed k p × (p.entity ≡ s.entity)))
-  pub one : s.several ≡ false → (p : Pair) → Contains pairs p → IsNamed k p → p.entity ≡ s.entity
-  pub others : s.several ≡ true → (p : Pair) × (Contains pairs p × (IsNamed k p × ¬ (p.entity ≡ s.entity)))
+-- there are pairs with the name, and all are of this entity
+pub record AreOfOne (pairs : List Pair) (k : Key) (e : Entity) : Type 0 where
+  pub member : (p : Pair) × (Contains pairs p × IsNamed k p)
+  pub all : (p : Pair) → Contains pairs p → IsNamed k p → p.entity ≡ e
+
+-- two pairs with the name are of two entities
+pub record AreOfSeveral (pairs : List Pair) (k : Key) : Type 0 where
+  pub one : Pair
+  pub other : Pair
+  pub has_one : Contains pairs one
+  pub has_other : Contains pairs other
+  pub one_named : IsNamed k one
+  pub other_named : IsNamed k other
+  pub differ : ¬ (one.entity ≡ other.entity)
+
+-- what a name means that some pairs have
+abbrev pub Tells : List Pair → Key → Slot → Type 0
+Tells pairs k (One e) = AreOfOne pairs k e
+Tells pairs k Several = AreOfSeveral pairs k
 
 abbrev pub IsTold : List Pair → Key → Option Slot → Type 0
 IsTold pairs k None = (p : Pair) → Contains pairs p → ¬ IsNamed k p

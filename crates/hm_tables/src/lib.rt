@@ -11,7 +11,7 @@ mod text_set;
 
 pub use crate::bindings::{Binding, EntityRef};
 pub use crate::keys::{EntityKey, Key};
-pub use crate::lookups::{constructor_named, synonym_named, type_named, value_named};
+pub use crate::lookups::{Named, entry_named};
 pub use crate::name_set::NameSet;
 pub use crate::table::{Meaning, Scope, Slot, is_several, note};
 pub use crate::text_set::TextSet;

@@ -1,56 +1,88 @@
 //! The entries of an interface by their names.
 
-ghost use Rattle.std.specs.Prelude.{◌≡◌, map, Contains, MatchOption};
+ghost use Rattle.std.specs.Prelude.{◌≡◌, ℕ, List, map, Contains, MatchOption};
+ghost use Rattle.hm_types.specs.declared.Entity.{Entity};
 ghost use Rattle.hm_types.specs.Interfaces.{AreOrdered};
-ghost use Rattle.hm_types.specs.declared.entries.TypeEntry.{TypeEntry};
-ghost use Rattle.hm_types.specs.declared.entries.SynonymEntry.{SynonymEntry};
-ghost use Rattle.hm_types.specs.declared.entries.ConstructorEntry.{ConstructorEntry};
-ghost use Rattle.hm_types.specs.declared.entries.ValueEntry.{ValueEntry};
 
-use hm_types::{ConstructorEntry, SynonymEntry, TypeEntry, ValueEntry};
+use hm_types::{ConstructorEntry, Entity, SynonymEntry, TypeEntry, ValueEntry};
 
-/// The type of this name.
-pub fn type_named<'a>(entries: &'a [TypeEntry], name: &str) -> Option<&'a TypeEntry>
-    requires { AreOrdered (map (λ x. x.name) entries.now) }
-    ensures { MatchOption result ((r : TypeEntry) → Contains entries.now r → ¬ (r.name ≡ name.now)) (λ r. Contains entries.now r.now × (r.now.name ≡ name.now)) }
-{
-    match entries.binary_search_by(|entry| entry.name.as_str().cmp(&name)) {
-        Ok(place) => Some(&entries[place]),
-        Err(_) => None,
+/// What is exported under a name: an entity, with what is told of it.
+pub trait Named {
+    ghost name_of: { Self → List ℕ };
+
+    ghost entity_of: { Self → Entity };
+
+    /// The name.
+    fn name(&self) -> &str
+        ensures { result.now ≡ name_of self.now };
+
+    /// The entity.
+    fn entity(&self) -> &Entity
+        ensures { result.now ≡ entity_of self.now };
+}
+
+impl Named for TypeEntry {
+    ghost name_of = { λ e. e.name };
+
+    ghost entity_of = { λ e. e.entity };
+
+    fn name(&self) -> &str {
+        self.name.as_str()
+    }
+
+    fn entity(&self) -> &Entity {
+        &self.entity
     }
 }
 
-/// The synonym of this name.
-pub fn synonym_named<'a>(entries: &'a [SynonymEntry], name: &str) -> Option<&'a SynonymEntry>
-    requires { AreOrdered (map (λ x. x.name) entries.now) }
-    ensures { MatchOption result ((r : SynonymEntry) → Contains entries.now r → ¬ (r.name ≡ name.now)) (λ r. Contains entries.now r.now × (r.now.name ≡ name.now)) }
-{
-    match entries.binary_search_by(|entry| entry.name.as_str().cmp(&name)) {
-        Ok(place) => Some(&entries[place]),
-        Err(_) => None,
+impl Named for SynonymEntry {
+    ghost name_of = { λ e. e.name };
+
+    ghost entity_of = { λ e. e.entity };
+
+    fn name(&self) -> &str {
+        self.name.as_str()
+    }
+
+    fn entity(&self) -> &Entity {
+        &self.entity
     }
 }
 
-/// The constructor of this name.
-pub fn constructor_named<'a>(
-    entries: &'a [ConstructorEntry],
-    name: &str,
-) -> Option<&'a ConstructorEntry>
-    requires { AreOrdered (map (λ x. x.name) entries.now) }
-    ensures { MatchOption result ((r : ConstructorEntry) → Contains entries.now r → ¬ (r.name ≡ name.now)) (λ r. Contains entries.now r.now × (r.now.name ≡ name.now)) }
-{
-    match entries.binary_search_by(|entry| entry.name.as_str().cmp(&name)) {
-        Ok(place) => Some(&entries[place]),
-        Err(_) => None,
+impl Named for ConstructorEntry {
+    ghost name_of = { λ e. e.name };
+
+    ghost entity_of = { λ e. e.entity };
+
+    fn name(&self) -> &str {
+        self.name.as_str()
+    }
+
+    fn entity(&self) -> &Entity {
+        &self.entity
     }
 }
 
-/// The variable of this name.
-pub fn value_named<'a>(entries: &'a [ValueEntry], name: &str) -> Option<&'a ValueEntry>
-    requires { AreOrdered (map (λ x. x.name) entries.now) }
-    ensures { MatchOption result ((r : ValueEntry) → Contains entries.now r → ¬ (r.name ≡ name.now)) (λ r. Contains entries.now r.now × (r.now.name ≡ name.now)) }
+impl Named for ValueEntry {
+    ghost name_of = { λ e. e.name };
+
+    ghost entity_of = { λ e. e.entity };
+
+    fn name(&self) -> &str {
+        self.name.as_str()
+    }
+
+    fn entity(&self) -> &Entity {
+        &self.entity
+    }
+}
+
+/// What is exported under this name, among entries in the order of their names.
+pub fn entry_named<'a, E: Named>(entries: &'a [E], name: &str) -> Option<&'a E>
+    requires { AreOrdered (map E.name_of entries.now) }
+    ensures { MatchOption result ((r : E) → Contains entries.now r → ¬ (E.name_of r ≡ name.now)) (λ r. Contains entries.now r.now × (E.name_of r.now ≡ name.now)) }
 {
-    match entries.binary_search_by(|entry| entry.name.as_str().cmp(&name)) {
+    match entries.binary_search_by(|entry| entry.name().cmp(&name)) {
         Ok(place) => Some(&entries[place]),
         Err(_) => None,
     }

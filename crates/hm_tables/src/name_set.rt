@@ -1,7 +1,7 @@
 //! Sets of names.
 
 ghost use Rattle.std.specs.Prelude.{◌≡◌, ◌⊎◌, ◌↔◌, [], OnOk, IsTrue, Contains, option_map};
-ghost use Rattle.hm_tables.specs.NameSets.{FullName};
+ghost use Rattle.hm_tables.specs.NameSets.{FullName, full_names};
 
 use crate::keys::Key;
 use hm_names::Namespace;
@@ -32,6 +32,13 @@ impl<'a> NameSet<'a> {
         NameSet {
             keys: IndexSet::new(alloc),
         }
+    }
+
+    /// The names, in the order in which they came.
+    pub fn keys(&self) -> &[Key<'a>]
+        ensures { full_names result.now ≡ self.now }
+    {
+        self.keys.as_slice()
     }
 
     /// Whether the set has the name.

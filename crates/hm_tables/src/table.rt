@@ -1,11 +1,12 @@
 //! The table of a scope: what each name means in it.
 
-ghost use Rattle.std.specs.Prelude.{◌≡◌, ◌↔◌, ◌⊎◌, ◌++◌, [], ◌∷◌, List, IfOk, OnOk, IsTrue, false, option_map};
+ghost use Rattle.std.specs.Prelude.{◌≡◌, ◌↔◌, ◌++◌, [], ◌∷◌, List, IfOk, OnOk, IsTrue, option_map};
 ghost use Rattle.hm_types.specs.Interfaces.{Exports as Interface};
 ghost use Rattle.hm_syntax.specs.declared.ast.Module.{Module};
 ghost use Rattle.hm_names.specs.Bindings.{Pair, IsScopeOf, IsSeveral, meaning_in};
 ghost use Rattle.hm_tables.specs.Meanings.{IsMeaning, meaning_is};
-ghost use Rattle.hm_tables.specs.Tables.{IsTable};
+ghost use Rattle.hm_tables.specs.Tables.{IsNamed, Tells, IsTable};
+ghost use Rattle.hm_tables.specs.declared.keys.Key.{Key};
 
 use crate::bindings::{Binding, EntityRef};
 use crate::keys::Key;
@@ -25,11 +26,11 @@ pub enum Meaning<'a> {
     Entity(EntityRef<'a>),
 }
 
-/// What is known of a name: an entity that it means, and whether it means others too.
+/// What a name of the table means: one entity, or more.
 #[derive(Drop)]
-pub struct Slot<'a> {
-    entity: EntityRef<'a>,
-    several: bool,
+pub enum Slot<'a> {
+    One(EntityRef<'a>),
+    Several,
 }
 
 /// The scope of a module: its pairs of a name and an entity, and a table of what each name means.
@@ -82,13 +83,10 @@ impl<'a> Scope<'a> {
         };
         match self.table.get(&key) {
             None => Meaning::Unbound,
-            Some(slot) => {
-                if slot.several {
-                    Meaning::Ambiguous
-                } else {
-                    Meaning::Entity(slot.entity.copy())
-                }
-            }
+            Some(slot) => match slot {
+                Slot::One(entity) => Meaning::Entity(entity.copy()),
+                Slot::Several => Meaning::Ambiguous,
+            },
         }
     }
 }
@@ -103,15 +101,18 @@ fn qualifier_of(name: &Name) -> Option<&str>
     }
 }
 
-/// What is known of a name that means one more entity.
+/// What a name means of which there is one more pair, with this entity.
 fn with_entity<'a>(slot: &Slot<'a>, entity: &EntityRef<'a>) -> Slot<'a>
-    ensures entity { result.entity ≡ slot.now.entity }
-    ensures several { IsTrue result.several → (IsTrue slot.now.several ⊎ ¬ (entity.now ≡ slot.now.entity)) }
-    ensures one { result.several ≡ false → (slot.now.several ≡ false) × (entity.now ≡ slot.now.entity) }
+    ensures { (pairs : List Pair) (p : Pair) (k : Key) → IsNamed k p → p.entity ≡ entity.now → Tells pairs k slot.now → Tells (pairs ++ p ∷ []) k result }
 {
-    Slot {
-        entity: slot.entity.copy(),
-        several: slot.several || !entity.is_same(&slot.entity),
+    match slot {
+        Slot::Several => Slot::Several,
+        Slot::One(known) => {
+            if !entity.is_same(known) {
+                return Slot::Several;
+            }
+            Slot::One(known.copy())
+        }
     }
 }
 
@@ -126,7 +127,10 @@ pub fn is_several<'a>(table: &IndexMap<Key<'a>, Slot<'a>>, pair: &Binding<'a>) -
     };
     match table.get(&key) {
         None => false,
-        Some(slot) => slot.several,
+        Some(slot) => match slot {
+            Slot::One(_) => false,
+            Slot::Several => true,
+        },
     }
 }
 
@@ -143,10 +147,7 @@ pub fn note<'a>(
         text: binding.text(),
     };
     let slot = match table.get(&key) {
-        None => Slot {
-            entity: binding.entity().copy(),
-            several: false,
-        },
+        None => Slot::One(binding.entity().copy()),
         Some(slot) => with_entity(slot, binding.entity()),
     };
     table.insert(key, slot)?;

@@ -11,7 +11,7 @@ returns-in_ok-insert-in-Hides c = rw c.in-None.is
 
 pub returns-in_ok-gather_parts-in-Some : goal.returns-in_ok-gather_parts-in-Some
 returns-in_ok-gather_parts-in-Some c =
-    let found = rw (c.types.ensures.value, c.as_str-in-Some.ensures) at c.in-Some-type_named.ensures in
+    let found = rw (c.types.ensures.value, c.as_str-in-Some.ensures) at c.in-Some-entry_named.ensures in
     rw c.in-Some.is
-    (behind_parts c.args.list_use c.args.interface.now c.args.name.now c.args.names.now c.gather_parts.new.names c.in-Some.parts c.in-Some-type_named.entry.now c.types.ensures.valid.types found.0 found.1
+    (behind_parts c.args.list_use c.args.interface.now c.args.name.now c.args.names.now c.gather_parts.new.names c.in-Some.parts c.in-Some-entry_named.entry.now c.types.ensures.valid.types found.0 found.1
     (rw c.as_slice.ensures at c.in_ok-gather_parts-in-Some.ensures))

@@ -7,7 +7,7 @@ returns-in_default c = rw (c.in-Con.is, c.in-All.is)
 
 pub returns-in_ok-insert-in-All : goal.returns-in_ok-insert-in-All
 returns-in_ok-insert-in-All c =
-    let found = rw (c.types.ensures.value, c.as_str.ensures) at c.in-Some-type_named.ensures in
+    let found = rw (c.types.ensures.value, c.as_str.ensures) at c.in-Some-entry_named.ensures in
     rw (c.in-Con.is, c.in-All.is)
-    (opened_type c.args.interface.now c.args.opened.now c.insert.new.self c.in-Con.name c.in-Some-type_named.entry.now c.types.ensures.valid.types found.0 found.1
+    (opened_type c.args.interface.now c.args.opened.now c.insert.new.self c.in-Con.name c.in-Some-entry_named.entry.now c.types.ensures.valid.types found.0 found.1
     (rw (c.as_str-module.ensures, c.as_str-in-All.ensures) at c.in_ok-insert-in-All.ensures))

@@ -1,8 +1,8 @@
-use Rattle.std.proofs.Common.{◌++◌, [], ◌∷◌, None, sym, ◌∙◌, ap, subst}
+use Rattle.std.proofs.Common.{◌++◌, [], ◌∷◌, None, sym, ◌∙◌, subst}
 use Rattle.hm_tables.specs.declared.keys.Key.{Key}
 use Rattle.hm_names.specs.Bindings.{Pair}
 use Rattle.hm_tables.specs.Tables.{IsTold, IsNamed, Tells}
-use Rattle.hm_tables.proofs.NameTables.{noted, tells_first, tells_more}
+use Rattle.hm_tables.proofs.NameTables.{noted, tells_first}
 use Rattle.hm_tables.proofs.table.note.Goals as goal
 use Rattle.hm_tables.proofs.table.note.Goals.{in-None, in-Some}
 
@@ -15,12 +15,9 @@ returns c = λ pairs table.
     let tells : Tells (pairs ++ p ∷ []) key slot = elim c.match-get.branch [
       | in-None w ↦
           let told : IsTold pairs key None = subst (λ o. IsTold pairs key o) (sym w.in-None.ensures.value) (table key) in
-          tells_first pairs p key slot named told (ap (λ x. x.entity) w.slot-is ∙ (w.copy.ensures ∙ w.entity.ensures)) (ap (λ x. x.several) w.slot-is)
+          rw w.slot-is (tells_first pairs p key w.copy.result named told (sym (w.copy.ensures ∙ w.entity.ensures)))
       | in-Some w ↦
-          let old = w.in-Some.slot.now in
-          let told : Tells pairs key old = subst (λ o. IsTold pairs key o) (sym w.in-Some.ensures.value) (table key) in
-          let is = w.entity-in-Some.ensures in
-          rw w.slot-is (tells_more pairs p key old w.with_entity-slot.result named told w.with_entity-slot.ensures.entity
-          (rw is at w.with_entity-slot.ensures.several) (rw is at w.with_entity-slot.ensures.one))
+          let told : Tells pairs key w.in-Some.slot.now = subst (λ o. IsTold pairs key o) (sym w.in-Some.ensures.value) (table key) in
+          rw w.slot-is (w.with_entity-slot.ensures pairs p key named (sym w.entity-in-Some.ensures) told)
     ] in
     noted pairs p c.args.table.now c.insert.new.self key slot named table tells c.in_ok-insert.ensures.updates.0
