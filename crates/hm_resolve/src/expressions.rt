@@ -184,10 +184,9 @@ impl Resolving<'_> {
         ensures tree { IfOk result (λ a. a ≡ alternative_with (resolver_of self.old.known) (locals_of self.old) alt.now) }
         ensures state { OnOk result (self.new ≡ noting (alternative_faults self.old.known (locals_of self.old) alt.now) self.old) }
     {
-        let home = None;
-        let (pat, names) = self.lone(alloc, &home, &alt.pat)?;
-        self.enter(names)?;
-        let rhs = self.rhs(alloc, &alt.rhs)?;
+        let (pat, names) = self.lone(alloc, &None, &alt.pat)?;
+        or_drop!(self.enter(names), pat);
+        let rhs = or_drop!(self.rhs(alloc, &alt.rhs), pat);
         self.leave();
         Ok(Alt { pat, rhs })
     }
@@ -248,7 +247,7 @@ impl Resolving<'_> {
         ensures state { OnOk result (self.new ≡ noting (part_faults self.old.known (locals_of self.old) part.now) self.old) }
     {
         let guard = self.guard(alloc, &part.0)?;
-        let body = self.expr(alloc, &part.1)?;
+        let body = or_drop!(self.expr(alloc, &part.1), guard);
         Ok((guard, body))
     }
 
@@ -343,7 +342,7 @@ impl Resolving<'_> {
         ensures state { OnOk result (self.new ≡ noting (declaration_faults self.old.known (locals_of self.old) (pattern_binding given.now.place.line given.now.place.column given.now.pat.now given.now.rhs.now)) self.old) }
     {
         let (pat, _) = self.lone(alloc, home, given.pat)?;
-        let rhs = self.rhs(alloc, given.rhs)?;
+        let rhs = or_drop!(self.rhs(alloc, given.rhs), pat);
         let place = given.place;
         Ok(Decl {
             kind: DeclKind::Pattern { place, pat, rhs },

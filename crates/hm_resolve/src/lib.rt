@@ -2,6 +2,20 @@
 //! declaration lists, names and numbers of arguments are noted.
 #![tactic(auto)]
 
+/// What a call gives. Where it is refused, it hands that on, and first drops what is held by calls of their own: a `?` would drop it by the
+/// steps of the function that it stands in, which the prover goes through one by one.
+macro_rules! or_drop {
+    ($call:expr, $($held:expr),+) => {
+        match $call {
+            Ok(answer) => answer,
+            Err(refusal) => {
+                $(drop($held);)+
+                return Err(refusal);
+            }
+        }
+    };
+}
+
 mod expressions;
 mod noted_names;
 mod patterns;
