@@ -13,7 +13,7 @@ import sys
 import tempfile
 
 TOP = os.path.dirname(os.path.dirname(os.path.abspath(__file__)))
-USED = ["hm_syntax", "hm_types", "hm_sources", "hm_outcomes", "hm_check", "hm_published", "hm_store"]
+USED = ["hm_syntax", "hm_types", "hm_sources", "hm_outcomes", "hm_check", "hm_published", "hm_store", "hm_shared"]
 
 
 def lines_of_crates():

@@ -5,13 +5,20 @@ use crate::sources::module_of;
 use crate::stores::{IMPORTED, IMPORTER, OTHER, outcome_of, store_of};
 use hm_check::{CheckFault, check_module_within};
 use hm_published::{Naming, Opened};
-use hm_store::{Entry, Pass, Record, Refusal, Shared, Status, Store, Turn};
+use hm_shared::{Brands, Shared};
+use hm_store::{Crew, Entry, Pass, Record, Refusal, Status, Store, Turn};
 use std::alloc::Global;
 use std::marker::Brand;
 use std::process::Abort;
 use std::sync::Wait;
 use std::sync::ledger::{Blank, Ledger};
 use std::test::Fail;
+
+/// Four workers, with room for nine calls each.
+const FOUR: Crew = Crew {
+    workers: 4,
+    room: 9,
+};
 
 /// A call of a worker, and what it must answer.
 enum Step {
@@ -97,7 +104,7 @@ fn called<L: Ledger + Naming, R: Abort + AllocGlobal + Wait>(
     requires plan { store.given.imports ≡ L.plan }
     requires empty { store.journal ≡ [] }
 {
-    let (shared, mut passes) = Shared::<L, &R>::new(rt.alloc(), rt, store, 4, 9, blank, opened)?;
+    let (shared, mut passes) = Shared::<L, &R>::new(rt.alloc(), rt, store, FOUR, Brands { blank, opened })?;
     for step in steps {
         let pass = passes.get_mut(worker_of(step)).ok_or("no pass")?;
         assert!(rt; answers(rt, &shared, pass, step)?);

@@ -16,7 +16,8 @@ use hm_outcomes::{Outcome, Verdict};
 use hm_parse::{ParseFault, parse};
 use hm_published::{Naming, Opened};
 use hm_scope::scope;
-use hm_store::{Entry, Pass, Refusal, Shared, SharedFault, Status, Store, Turn};
+use hm_shared::{Brands, Shared};
+use hm_store::{Crew, Entry, Pass, Refusal, SharedFault, Status, Store, Turn};
 use hm_syntax::Module;
 use std::alloc::{AllocError, Global};
 use std::marker::Brand;
@@ -25,6 +26,12 @@ use std::sync::ledger::{Blank, Ledger};
 use std::sync::{Arc, Wait};
 use std::test::Fail;
 use std::thread::Threads;
+
+/// Four workers, with room for nine calls each.
+const FOUR: Crew = Crew {
+    workers: 4,
+    room: 9,
+};
 
 /// How a test ends where memory is refused to the call that it is about.
 const REFUSED: &str = "the call is refused";
@@ -213,7 +220,7 @@ fn shared_and_back<L: Ledger + Naming, R: AllocGlobal + Wait>(
     requires plan { store.given.imports ≡ L.plan }
     requires empty { store.journal ≡ [] }
 {
-    match Shared::<L, &R>::new(rt.alloc(), rt, store, 4, 9, blank, opened) {
+    match Shared::<L, &R>::new(rt.alloc(), rt, store, FOUR, Brands { blank, opened }) {
         Ok((shared, passes)) => {
             if !are_dealt(passes.as_slice()) {
                 return Err(Fail::from("other passes"));
@@ -303,7 +310,7 @@ fn published<L: Ledger + Naming, R: Abort + AllocGlobal + Wait>(
     requires plan { store.given.imports ≡ L.plan }
     requires empty { store.journal ≡ [] }
 {
-    let (shared, mut passes) = Shared::<L, &R>::new(rt.alloc(), rt, store, 4, 9, blank, opened)?;
+    let (shared, mut passes) = Shared::<L, &R>::new(rt.alloc(), rt, store, FOUR, Brands { blank, opened })?;
     let pass = passes.get_mut(0).ok_or("no pass")?;
     let is_published = claimed_and_stopped(rt, &shared, pass)?;
     let (store, _book) = shared.into_store();

@@ -30,9 +30,9 @@ use Rattle.hm_store.specs.contracts.record.Act as Act
 use Rattle.hm_store.specs.contracts.record.Pass as Pass
 use Rattle.hm_store.specs.contracts.record.Record as Record
 use Rattle.hm_store.specs.contracts.store.Store as Store
-use Rattle.hm_store.specs.contracts.shared.Shared as Shared
-use Rattle.hm_store.specs.contracts.shared.Locked as Locked
-use Rattle.hm_store.specs.contracts.listed.Listed as Listed
+use Rattle.hm_shared.specs.contracts.shared.Shared as Shared
+use Rattle.hm_shared.specs.contracts.shared.Locked as Locked
+use Rattle.hm_shared.specs.contracts.listed.Listed as Listed
 use Rattle.hm_published.specs.contracts.history.Front as Front
 use Rattle.hm_published.specs.contracts.published.Published as Published
 use Rattle.hm_published.specs.contracts.published.Step as Step
@@ -132,14 +132,14 @@ module _ (L : RattleType) (l : Ghosts L.Denot) (j : Names L.Denot) (send : IsSen
   pass_send = search (call_field_send, reader_send, Share.the_send, crosses, sendable) depth 30 fits 5000
 
   listed_send : IsSend (Listed.the_row L j)
-  listed_send = search (store_send, front_send, crosses, sendable) depth 30 fits 5000
+  listed_send = search (store_send, front_send, Word.the_send, crosses, sendable) depth 30 fits 5000
 
   module _ (W S : RattleType) (absorbs : Absorbs (Published.the_row L j).Denot (Step.the_row L j).Denot S.Denot) (held : IsSend W) where
     pages_send : IsSend (WriteHandle.the_field (Published.the_row L j) (Step.the_row L j) W Heap.the_row S absorbs ghosts).row
     pages_send = WriteHandleFacts.the_field_send (Published.the_row L j) (Step.the_row L j) W Heap.the_row S absorbs ghosts published_send step_send held heap.send published_sync heap.sync heap.frees
 
     locked_send : IsSend (Locked.the_row L W S j absorbs l)
-    locked_send = search (listed_send, pages_send, Word.the_send, Book.the_send, crosses, sendable) depth 30 fits 5000
+    locked_send = search (listed_send, pages_send, Book.the_send, crosses, sendable) depth 30 fits 5000
 
     shared_sync : IsSync (Shared.the_row L W S j absorbs l)
     shared_sync = search (locked_send, crosses, sendable) depth 30 fits 5000

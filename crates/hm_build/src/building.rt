@@ -16,9 +16,10 @@ use core::thread::Stack;
 use hm_graph::Plan;
 use hm_published::{Naming, Opened};
 use hm_reports::may_work;
+use hm_shared::{Brands, Shared};
 use hm_sources::{SetError, depth_limit, set_modules, stack_size, worker_stack_size};
 use hm_store::laws::settled_builds_are_settled_sets;
-use hm_store::{Shared, Store};
+use hm_store::{Crew, Store};
 use hm_syntax::Module;
 use hm_verdicts::settled_modules_have_their_verdicts;
 use std::alloc::{AllocError, Global};
@@ -35,6 +36,14 @@ struct Fresh {
     modules: Vec<Arc<Module>>,
     imports: Vec<Vec<usize>>,
     store: Store,
+}
+
+/// A build that is to be made: so many workers check the modules of these sources, each behind this gate.
+#[derive(Drop)]
+struct Task<'a, G: Gate> {
+    sources: &'a [Vec<u8>],
+    workers: usize,
+    gate: &'a G,
 }
 
 /// Modules that threads can share.
@@ -111,25 +120,22 @@ fn room_for(imports: &[Vec<usize>]) -> usize
     room.min(1 << 40)
 }
 
-/// Runs the workers on a store, and looks at what came of it. Stacks and types have room for these texts.
+/// Runs the workers on a store, and looks at what came of it. Stacks and types have room for the sources.
 fn worked<L: Ledger + Naming + Send + Sync, G: Gate + Sync, R: Threads + Wait + Sync>(
     rt: &R,
     alloc: Global,
     fresh: Fresh,
-    workers: usize,
-    gate: &G,
-    texts: &[Vec<u8>],
-    blank: Blank,
-    opened: Opened,
+    task: &Task<'_, G>,
+    brands: Brands,
 ) -> Result<Finished, BuildFault>
-    requires brand { (blank.name ≡ L.name) × (blank.parts ≡ L.parts) × (blank.parts ≡ workers) }
-    requires list { opened.seen.book ≡ L.book }
+    requires brand { (brands.blank.name ≡ L.name) × (brands.blank.parts ≡ L.parts) × (brands.blank.parts ≡ task.now.workers) }
+    requires list { brands.opened.seen.book ≡ L.book }
     requires subjects { fresh.store.modules ≡ L.modules }
     requires same { map arc_value fresh.modules.items ≡ fresh.store.modules }
     requires plan { fresh.store.given.imports ≡ L.plan }
-    requires workers { (0 < workers) × (workers ≤ 16) }
+    requires workers { (0 < task.now.workers) × (task.now.workers ≤ 16) }
     requires empty { fresh.store.journal ≡ [] }
-    ensures finished { IfOk result (λ f. (sources : List (List ℕ)) → AreModulesOf sources (map arc_value fresh.modules.items) → IsFinished sources workers f.store f.records.items) }
+    ensures finished { IfOk result (λ f. (sources : List (List ℕ)) → AreModulesOf sources (map arc_value fresh.modules.items) → IsFinished sources task.now.workers f.store f.records.items) }
     ensures err { IfErr result (λ e. (e ≡ BuildFault.NoWorker) ⊎ ((e ≡ BuildFault.Memory) ⊎ (e ≡ BuildFault.Mixed))) }
 {
     let Fresh {
@@ -137,19 +143,20 @@ fn worked<L: Ledger + Naming + Send + Sync, G: Gate + Sync, R: Threads + Wait + 
         imports,
         store,
     } = fresh;
+    let workers = task.workers;
     let room = room_for(imports.as_slice());
-    let (shared, mut passes) = Shared::<L, &R>::new(
-        alloc, rt, store, workers, room, blank, opened,
-    )?;
+    let crew = Crew { workers, room };
+    let (shared, mut passes) = Shared::<L, &R>::new(alloc, rt, store, crew, brands)?;
     let work = Work {
         alloc,
         shared: &shared,
         modules: modules.as_slice(),
         imports: imports.as_slice(),
-        gate,
-        depth: depth_limit(texts),
+        gate: task.gate,
+        depth: depth_limit(task.sources),
     };
-    run_workers(rt, &work, passes.as_mut_slice(), worker_stack_size(texts))?;
+    let stack = worker_stack_size(task.sources);
+    run_workers(rt, &work, passes.as_mut_slice(), stack)?;
     let (store, book) = shared.into_store();
     let records = records_of(alloc, book, passes)?;
     finished(alloc, store, records, workers)
@@ -171,9 +178,16 @@ pub(crate) fn build_here<T: Threads + Wait + Sync, G: Gate + Sync>(
     settled_builds_are_settled_sets();
     settled_modules_have_their_verdicts();
     let fresh = read(alloc, sources)?;
-    let blank = Blank::new(workers as u64);
-    let opened = Opened::new();
-    worked::<Brand, G, T>(rt, alloc, fresh, workers, gate, sources, blank, opened)
+    let task = Task {
+        sources,
+        workers,
+        gate,
+    };
+    let brands = Brands {
+        blank: Blank::new(workers as u64),
+        opened: Opened::new(),
+    };
+    worked::<Brand, G, T>(rt, alloc, fresh, &task, brands)
 }
 
 /// The promise of a thread: its answer is a build of these sources by so many workers.

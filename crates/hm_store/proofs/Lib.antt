@@ -1,11 +1,10 @@
 pub mod Calls
+pub mod Dealt
 pub mod DependentLists
 pub mod Finishing
 pub mod Following
-pub mod JobImports
 pub mod Journals
 pub mod Kept
-pub mod Listing
 pub mod Lists
 pub mod Marking
 pub mod OpenImports

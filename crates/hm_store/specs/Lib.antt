@@ -1,7 +1,6 @@
 pub mod Agreement
 pub mod AuditsInside
 pub mod Builds
-pub mod Listings
 pub mod Objects
 pub mod Passes
 pub mod Plans

@@ -6,9 +6,6 @@ ghost use Rattle.hm_store.specs.Worked.{DependentsRow, LeastRow, LegalRow, NotAl
 use crate::store::Store;
 use std::sync::ledger::{Book, Ledger, Share};
 
-/// Whoever holds the lock and a pass learns how the published interfaces that the pass has seen stand to those of the lock.
-pub use crate::shared::meet;
-
 /// In a legal build whose modules are all settled each was settled rightly: by the published interfaces of its imports, or skipped since an
 /// import isn't published.
 pub fn settled_builds_are_settled_sets()

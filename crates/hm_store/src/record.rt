@@ -67,7 +67,7 @@ impl<L: Ledger + Naming> Pass<L> {
     ghost use Rattle.hm_store.specs.Passes.{calls_of, room_of, seen_of, share_of, worker_of};
 
     /// A pass with an empty record.
-    pub(crate) fn new(
+    pub fn new(
         alloc: Global,
         worker: usize,
         room: usize,
@@ -95,7 +95,7 @@ impl<L: Ledger + Naming> Pass<L> {
 
     /// Writes down a call that wrote an entry.
     #[tactic(auto, using(crate::proofs::Calls::rises_more, crate::proofs::Calls::knows_more, crate::proofs::Calls::wrote_more))]
-    pub(crate) fn wrote(&mut self, book: &mut Book<L>, entries: usize, act: Act)
+    pub fn wrote(&mut self, book: &mut Book<L>, entries: usize, act: Act)
         requires room { 0 < room_of self.old }
         requires writes { wrote act ≡ 1 }
         requires place { entries + room_of self.old < 2 ^ 63 }
@@ -115,7 +115,7 @@ impl<L: Ledger + Naming> Pass<L> {
 
     /// Writes down a call that wrote none.
     #[tactic(auto, using(crate::proofs::Calls::rises_more, crate::proofs::Calls::knows_more, crate::proofs::Calls::wrote_more))]
-    pub(crate) fn read(&mut self, entries: usize, act: Act)
+    pub fn read(&mut self, entries: usize, act: Act)
         requires room { 0 < room_of self.old }
         requires writes { wrote act ≡ 0 }
         requires place { entries + room_of self.old < 2 ^ 63 }
@@ -132,7 +132,7 @@ impl<L: Ledger + Naming> Pass<L> {
     }
 
     /// Is told of these publications, too. Nothing is written down.
-    pub(crate) fn learn(&mut self, front: &Front<L>)
+    pub fn learn(&mut self, front: &Front<L>)
         ensures kept { IsPrefix (seen_of self.old) (seen_of self.new) }
         ensures told { IsPrefix front.now (seen_of self.new) }
         ensures lawful { IsLawful (seen_of self.new) }
@@ -142,7 +142,7 @@ impl<L: Ledger + Naming> Pass<L> {
     }
 
     /// Looks for a published interface and writes down what is found. It waits for nobody.
-    pub(crate) fn look(&mut self, number: usize) -> Result<Option<Arc<Interface>>, LookFault>
+    pub fn look(&mut self, number: usize) -> Result<Option<Arc<Interface>>, LookFault>
         requires { 0 < room_of self.old }
         ensures list { IfOk result (λ _. IsPrefix (seen_of self.old) (seen_of self.new) × IsLawful (seen_of self.new)) }
         ensures reply { IfOk result (λ r. option_map arc_value r ≡ interface_in (seen_of self.new) number) }

@@ -130,7 +130,7 @@ impl Store {
     }
 
     /// How many entries the journal has.
-    pub(crate) fn entries(&self) -> usize
+    pub fn entries(&self) -> usize
         ensures is { result ≡ length self.now.journal }
         ensures few { result < 2 ^ 62 }
         ensures legal { IsLegal self.now }

@@ -13,7 +13,7 @@ use std::sync::Arc;
 
 impl Store {
     /// Why an outcome is no answer to a claim of this worker.
-    pub(crate) fn refusal(&self, worker: usize, number: usize, outcome: &Outcome) -> Option<Refusal>
+    pub fn refusal(&self, worker: usize, number: usize, outcome: &Outcome) -> Option<Refusal>
         ensures { Refuses self.now worker number outcome.now result }
     {
         if self.status_or_skipped(number) != Status::Claimed(worker) {

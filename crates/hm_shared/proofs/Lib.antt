@@ -1,0 +1,2 @@
+pub mod JobImports
+pub mod Listing

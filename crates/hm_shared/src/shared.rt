@@ -1,0 +1,420 @@
+//! The store behind a lock, for workers that have a pass each.
+ghost use Rattle.std.specs.Prelude.{◌≡◌, ◌≤◌, ◌<◌, ◌+◌, ◌^◌, [], ◌∷◌, ◌++◌, All, Err, max, length, not, vec_len, IfOk, IfErr, IfSome, IfNone, ℕ, slice_index_or, option_map};
+ghost use Rattle.std.specs.Arc.{arc_value};
+ghost use mathlib.Core.List.{IsPrefix};
+ghost use Rattle.hm_outcomes.specs.Outcomes.{IsGood};
+ghost use Rattle.hm_published.specs.Publications.{IsLawful, entries_of, interface_in, interface_of};
+ghost use Rattle.hm_published.specs.declared.published.LookFault.TheVariants.{NoEntry};
+ghost use Rattle.left_right.specs.Handles.{published};
+ghost use Rattle.hm_store.specs.Builds.{after_claim, after_stop, state_of};
+ghost use Rattle.hm_shared.specs.Listings.{FailsIn, HasImports, Settled, one_way};
+ghost use Rattle.hm_store.specs.Objects.{reply_of};
+ghost use Rattle.hm_store.specs.Passes.{calls_of, room_of, seen_of, share_of, worker_of};
+ghost use Rattle.hm_store.specs.Records.{Adds, AddsAt, act_of, replied};
+ghost use Rattle.hm_store.specs.declared.record.Act.TheVariants.{Publish, Fail, Stop, Look};
+
+use crate::listed::Listed;
+use hm_outcomes::Outcome;
+use hm_published::{LookFault, Naming, Opened, Published, Step, pages};
+use hm_store::{Act, Claimed, Crew, Pass, Refusal, SharedFault, Store, Turn, deal};
+use hm_types::Interface;
+use left_right::{Absorb, WriteHandle};
+use std::alloc::Global;
+use std::sync::ledger::{Blank, Book, Ledger};
+use std::sync::{Arc, Condvar, Mutex, Wait};
+
+/// What the lock keeps: the store with the list of its publications, the book whose total is the number of its entries, and what look-ups read,
+/// in which that list is published.
+#[derive(Drop)]
+pub struct Locked<L: Ledger + Naming, R: Wait + Drop>
+where
+    Published<L>: Absorb<Step<L>>,
+{
+    pub listed: Listed<L>,
+    book: Book<L>,
+    pages: WriteHandle<Published<L>, Step<L>, R>,
+    ghost counted: { book.total ≡ length listed.build.journal },
+    ghost same: { published pages ≡ listed.published } by { one_way (published pages) listed.published },
+}
+
+/// What takes the name of a build: the ledger of its journal's entries, and the list of its publications, both still empty.
+#[derive(Drop)]
+pub struct Brands {
+    pub blank: Blank,
+    pub opened: Opened,
+}
+
+/// The store behind a lock, shared by the workers of a build. Each call takes the lock, and is written down in the worker's pass.
+#[derive(Drop)]
+pub struct Shared<L: Ledger + Naming, R: Wait + Drop>
+where
+    Published<L>: Absorb<Step<L>>,
+{
+    locked: Mutex<Locked<L, R>>,
+    moved: Condvar,
+}
+
+impl<L: Ledger + Naming, R: Wait + Drop> Locked<L, R> {
+    /// Claims a module and writes it down; None where the worker has to wait.
+    fn claim_next(&mut self, pass: &mut Pass<L>) -> Option<Turn>
+        requires { 0 < room_of pass.old }
+        ensures reply { replied result ≡ reply_of self.old.listed.build.given (state_of self.old.listed.build) }
+        ensures step { self.new.listed ≡ record { build = after_claim self.old.listed.build (worker_of pass.old) (replied result); published = self.old.listed.published } }
+        ensures imports { IfSome result (λ t. HasImports L.plan t self.new.listed.published) }
+        ensures none { IfNone result (pass.new ≡ pass.old) }
+        ensures some { IfSome result (λ t. AddsAt (length self.old.listed.build.journal) (calls_of pass.old) (act_of t) (calls_of pass.new)) }
+        ensures worker { IfSome result (λ _. worker_of pass.new ≡ worker_of pass.old) }
+        ensures room { IfSome result (λ _. room_of pass.new + 1 ≡ room_of pass.old) }
+        ensures parts { IfSome result (λ _. (share_of pass.new).parts ≡ (share_of pass.old).parts) }
+        ensures seen { seen_of pass.new ≡ seen_of pass.old }
+    {
+        let Locked { listed, book, .. } = self;
+        let entries = listed.store().entries();
+        match listed.claim(pass.worker()) {
+            Claimed::Job(number) => {
+                pass.wrote(book, entries, Act::Job(number));
+                Some(Turn::Job(number))
+            }
+            Claimed::Later => None,
+            Claimed::Done => {
+                pass.read(entries, Act::Done);
+                Some(Turn::Done)
+            }
+        }
+    }
+
+    /// Publishes and writes it down.
+    fn publish_one(
+        &mut self,
+        pass: &mut Pass<L>,
+        number: usize,
+        outcome: Outcome,
+    ) -> Result<(), (Refusal, Outcome)>
+        requires room { 0 < room_of pass.old }
+        requires good { IsGood outcome.verdict }
+        ensures settles { Settled self.old.listed (worker_of pass.old) number outcome self.new.listed result }
+        ensures ok { IfOk result (λ _. AddsAt (length self.old.listed.build.journal) (calls_of pass.old) (Publish number) (calls_of pass.new)) }
+        ensures worker { IfOk result (λ _. worker_of pass.new ≡ worker_of pass.old) }
+        ensures room { IfOk result (λ _. room_of pass.new + 1 ≡ room_of pass.old) }
+        ensures parts { IfOk result (λ _. (share_of pass.new).parts ≡ (share_of pass.old).parts) }
+        ensures err { IfErr result (λ _. pass.new ≡ pass.old) }
+        ensures returned { IfErr result (λ r. r.1 ≡ outcome) }
+        ensures seen { seen_of pass.new ≡ seen_of pass.old }
+        ensures published { IfOk result (λ _. interface_in self.new.listed.published number ≡ interface_of outcome.verdict) }
+    {
+        let Locked {
+            listed,
+            book,
+            pages,
+        } = self;
+        let entries = listed.store().entries();
+        listed.publish(pages, pass.worker(), number, outcome)?;
+        pass.wrote(book, entries, Act::Publish(number));
+        Ok(())
+    }
+
+    /// Tells of a failure and writes it down.
+    fn fail_one(
+        &mut self,
+        pass: &mut Pass<L>,
+        number: usize,
+        outcome: Outcome,
+    ) -> Result<(), (Refusal, Outcome)>
+        requires room { 0 < room_of pass.old }
+        requires faulty { ¬ IsGood outcome.verdict }
+        ensures settles { FailsIn self.old.listed (worker_of pass.old) number outcome self.new.listed result }
+        ensures ok { IfOk result (λ _. AddsAt (length self.old.listed.build.journal) (calls_of pass.old) (Fail number) (calls_of pass.new)) }
+        ensures worker { IfOk result (λ _. worker_of pass.new ≡ worker_of pass.old) }
+        ensures room { IfOk result (λ _. room_of pass.new + 1 ≡ room_of pass.old) }
+        ensures parts { IfOk result (λ _. (share_of pass.new).parts ≡ (share_of pass.old).parts) }
+        ensures err { IfErr result (λ _. pass.new ≡ pass.old) }
+        ensures returned { IfErr result (λ r. r.1 ≡ outcome) }
+        ensures seen { seen_of pass.new ≡ seen_of pass.old }
+    {
+        let Locked { listed, book, .. } = self;
+        let entries = listed.store().entries();
+        listed.fail(pass.worker(), number, outcome)?;
+        pass.wrote(book, entries, Act::Fail(number));
+        Ok(())
+    }
+
+    /// Stops the build and writes it down.
+    fn stop_all(&mut self, pass: &mut Pass<L>) -> bool
+        requires { 0 < room_of pass.old }
+        ensures reply { result ≡ not (state_of self.old.listed.build).stopped }
+        ensures step { self.new.listed ≡ record { build = after_stop self.old.listed.build (worker_of pass.old) result; published = self.old.listed.published } }
+        ensures adds { AddsAt (length self.old.listed.build.journal) (calls_of pass.old) (Stop result) (calls_of pass.new) }
+        ensures worker { worker_of pass.new ≡ worker_of pass.old }
+        ensures room { room_of pass.new + 1 ≡ room_of pass.old }
+        ensures parts { (share_of pass.new).parts ≡ (share_of pass.old).parts }
+        ensures seen { seen_of pass.new ≡ seen_of pass.old }
+    {
+        let Locked { listed, book, .. } = self;
+        let entries = listed.store().entries();
+        let first = listed.stop(pass.worker());
+        if first {
+            pass.wrote(book, entries, Act::Stop(true));
+        } else {
+            pass.read(entries, Act::Stop(false));
+        }
+        first
+    }
+
+    /// Claims a module, writes it down, and meets; None where the worker has to wait.
+    fn claim(&mut self, pass: &mut Pass<L>) -> Option<Turn>
+        requires { 0 < room_of pass.old }
+        ensures reply { replied result ≡ reply_of self.old.listed.build.given (state_of self.old.listed.build) }
+        ensures step { self.new.listed ≡ record { build = after_claim self.old.listed.build (worker_of pass.old) (replied result); published = self.old.listed.published } }
+        ensures imports { IfSome result (λ t. HasImports L.plan t (seen_of pass.new)) }
+        ensures none { IfNone result (pass.new ≡ pass.old) }
+        ensures some { IfSome result (λ t. AddsAt (length self.old.listed.build.journal) (calls_of pass.old) (act_of t) (calls_of pass.new)) }
+        ensures worker { IfSome result (λ _. worker_of pass.new ≡ worker_of pass.old) }
+        ensures room { IfSome result (λ _. room_of pass.new + 1 ≡ room_of pass.old) }
+        ensures parts { IfSome result (λ _. (share_of pass.new).parts ≡ (share_of pass.old).parts) }
+        ensures kept { IfSome result (λ _. IsPrefix (seen_of pass.old) (seen_of pass.new)) }
+        ensures told { IfSome result (λ _. IsPrefix self.new.listed.published (seen_of pass.new)) }
+    {
+        let turn = self.claim_next(pass)?;
+        meet(self, pass);
+        Some(turn)
+    }
+
+    /// Publishes, writes it down, and meets.
+    fn publish(
+        &mut self,
+        pass: &mut Pass<L>,
+        number: usize,
+        outcome: Outcome,
+    ) -> Result<(), (Refusal, Outcome)>
+        requires room { 0 < room_of pass.old }
+        requires good { IsGood outcome.verdict }
+        ensures settles { Settled self.old.listed (worker_of pass.old) number outcome self.new.listed result }
+        ensures ok { IfOk result (λ _. AddsAt (length self.old.listed.build.journal) (calls_of pass.old) (Publish number) (calls_of pass.new)) }
+        ensures worker { IfOk result (λ _. worker_of pass.new ≡ worker_of pass.old) }
+        ensures room { IfOk result (λ _. room_of pass.new + 1 ≡ room_of pass.old) }
+        ensures parts { IfOk result (λ _. (share_of pass.new).parts ≡ (share_of pass.old).parts) }
+        ensures err { IfErr result (λ _. pass.new ≡ pass.old) }
+        ensures returned { IfErr result (λ r. r.1 ≡ outcome) }
+        ensures kept { IfOk result (λ _. IsPrefix (seen_of pass.old) (seen_of pass.new)) }
+        ensures told { IfOk result (λ _. IsPrefix self.new.listed.published (seen_of pass.new)) }
+        ensures seen { IfOk result (λ _. interface_in (seen_of pass.new) number ≡ interface_of outcome.verdict) }
+    {
+        match self.publish_one(pass, number, outcome) {
+            Ok(()) => {
+                meet(self, pass);
+                Ok(())
+            }
+            Err(refused) => Err(refused),
+        }
+    }
+
+    /// Tells of a failure, writes it down, and meets.
+    fn fail(
+        &mut self,
+        pass: &mut Pass<L>,
+        number: usize,
+        outcome: Outcome,
+    ) -> Result<(), (Refusal, Outcome)>
+        requires room { 0 < room_of pass.old }
+        requires faulty { ¬ IsGood outcome.verdict }
+        ensures settles { FailsIn self.old.listed (worker_of pass.old) number outcome self.new.listed result }
+        ensures ok { IfOk result (λ _. AddsAt (length self.old.listed.build.journal) (calls_of pass.old) (Fail number) (calls_of pass.new)) }
+        ensures worker { IfOk result (λ _. worker_of pass.new ≡ worker_of pass.old) }
+        ensures room { IfOk result (λ _. room_of pass.new + 1 ≡ room_of pass.old) }
+        ensures parts { IfOk result (λ _. (share_of pass.new).parts ≡ (share_of pass.old).parts) }
+        ensures err { IfErr result (λ _. pass.new ≡ pass.old) }
+        ensures returned { IfErr result (λ r. r.1 ≡ outcome) }
+        ensures kept { IfOk result (λ _. IsPrefix (seen_of pass.old) (seen_of pass.new)) }
+        ensures told { IfOk result (λ _. IsPrefix self.new.listed.published (seen_of pass.new)) }
+    {
+        match self.fail_one(pass, number, outcome) {
+            Ok(()) => {
+                meet(self, pass);
+                Ok(())
+            }
+            Err(refused) => Err(refused),
+        }
+    }
+
+    /// Stops the build, writes it down, and meets.
+    fn stop(&mut self, pass: &mut Pass<L>) -> bool
+        requires { 0 < room_of pass.old }
+        ensures reply { result ≡ not (state_of self.old.listed.build).stopped }
+        ensures step { self.new.listed ≡ record { build = after_stop self.old.listed.build (worker_of pass.old) result; published = self.old.listed.published } }
+        ensures adds { AddsAt (length self.old.listed.build.journal) (calls_of pass.old) (Stop result) (calls_of pass.new) }
+        ensures worker { worker_of pass.new ≡ worker_of pass.old }
+        ensures room { room_of pass.new + 1 ≡ room_of pass.old }
+        ensures parts { (share_of pass.new).parts ≡ (share_of pass.old).parts }
+        ensures kept { IsPrefix (seen_of pass.old) (seen_of pass.new) }
+        ensures told { IsPrefix self.new.listed.published (seen_of pass.new) }
+    {
+        let first = self.stop_all(pass);
+        meet(self, pass);
+        first
+    }
+}
+
+/// What ends each hold of the lock: the pass sees all publications that the store's journal has. Nothing is written down.
+pub fn meet<L: Ledger + Naming, R: Wait + Drop>(locked: &mut Locked<L, R>, pass: &mut Pass<L>)
+    ensures kept { IsPrefix (seen_of pass.old) (seen_of pass.new) }
+    ensures told { IsPrefix locked.old.listed.published (seen_of pass.new) }
+    ensures lawful { IsLawful (seen_of pass.new) }
+    ensures record { (worker_of pass.new ≡ worker_of pass.old) × (calls_of pass.new ≡ calls_of pass.old) × (room_of pass.new ≡ room_of pass.old) × (share_of pass.new ≡ share_of pass.old) }
+    ensures same { locked.new ≡ locked.old }
+{
+    pass.learn(locked.listed.front());
+}
+
+impl<L: Ledger + Naming, R: Wait + Drop> Shared<L, R> {
+    /// The store behind a lock, and a pass for each worker.
+    pub fn new(
+        alloc: Global,
+        rt: R,
+        store: Store,
+        crew: Crew,
+        brands: Brands,
+    ) -> Result<(Shared<L, R>, Vec<Pass<L>>), SharedFault>
+        requires brand { (brands.blank.name ≡ L.name) × (brands.blank.parts ≡ L.parts) × (brands.blank.parts ≡ crew.workers) }
+        requires list { brands.opened.seen.book ≡ L.book }
+        requires modules { store.modules ≡ L.modules }
+        requires plan { store.given.imports ≡ L.plan }
+        requires workers { (0 < crew.workers) × (crew.workers ≤ 16) }
+        requires empty { store.journal ≡ [] }
+        requires room { crew.room < 2 ^ 62 }
+        ensures count { IfOk result (λ r. vec_len r.1 ≡ crew.workers) }
+        ensures worker { IfOk result (λ r. (k : ℕ) (d : _) → k < crew.workers → worker_of (slice_index_or r.1.items k d) ≡ k) }
+        ensures room { IfOk result (λ r. All (λ p. room_of p ≡ crew.room) r.1.items) }
+        ensures empty { IfOk result (λ r. All (λ p. calls_of p ≡ []) r.1.items) }
+        ensures parts { IfOk result (λ r. All (λ p. (share_of p).parts ≡ 1) r.1.items) }
+        ensures seen { IfOk result (λ r. All (λ p. seen_of p ≡ []) r.1.items) }
+    {
+        let _entries = store.entries();
+        let Brands { blank, opened } = brands;
+        let (book, rest) = blank.open::<L>();
+        let (history, front) = opened.named::<L>();
+        let pages = pages::opened(alloc, rt, &front, store.modules().len(), crew.workers)?;
+        let passes = deal(alloc, crew, rest, &pages, &front)?;
+        let locked = Mutex::new(Locked {
+            listed: Listed::new(store, front, history),
+            book,
+            pages,
+        });
+        let shared = Shared {
+            locked,
+            moved: Condvar::new(),
+        };
+        Ok((shared, passes))
+    }
+
+    /// Claims a module to check, and waits while none is ready but one that is being checked may make one so.
+    pub fn claim<W: Wait>(&self, rt: &W, pass: &mut Pass<L>) -> Turn
+        requires { 0 < room_of pass.old }
+        ensures adds { Adds (calls_of pass.old) (act_of result) (calls_of pass.new) }
+        ensures worker { worker_of pass.new ≡ worker_of pass.old }
+        ensures room { room_of pass.new + 1 ≡ room_of pass.old }
+        ensures parts { (share_of pass.new).parts ≡ (share_of pass.old).parts }
+        ensures imports { HasImports L.plan result (seen_of pass.new) }
+        ensures kept { IsPrefix (seen_of pass.old) (seen_of pass.new) }
+    {
+        let mut locked = self.locked.lock(rt);
+        for _ in rt.forever() {
+            if let Some(turn) = locked.claim(pass) {
+                return turn;
+            }
+            locked = self.moved.wait(rt, locked);
+        }
+        unreachable!()
+    }
+
+    /// Publishes the interface of a module that this worker has claimed. Workers that wait look again.
+    pub fn publish<W: Wait>(
+        &self,
+        rt: &W,
+        pass: &mut Pass<L>,
+        number: usize,
+        outcome: Outcome,
+    ) -> Result<(), (Refusal, Outcome)>
+        requires room { 0 < room_of pass.old }
+        requires good { IsGood outcome.verdict }
+        ensures ok { IfOk result (λ _. Adds (calls_of pass.old) (Publish number) (calls_of pass.new)) }
+        ensures worker { IfOk result (λ _. worker_of pass.new ≡ worker_of pass.old) }
+        ensures room { IfOk result (λ _. room_of pass.new + 1 ≡ room_of pass.old) }
+        ensures parts { IfOk result (λ _. (share_of pass.new).parts ≡ (share_of pass.old).parts) }
+        ensures err { IfErr result (λ _. pass.new ≡ pass.old) }
+        ensures returned { IfErr result (λ r. r.1 ≡ outcome) }
+        ensures kept { IfOk result (λ _. IsPrefix (seen_of pass.old) (seen_of pass.new)) }
+        ensures seen { IfOk result (λ _. interface_in (seen_of pass.new) number ≡ interface_of outcome.verdict) }
+    {
+        let reply = self.locked.lock(rt).publish(pass, number, outcome);
+        self.moved.notify_all();
+        reply
+    }
+
+    /// Stops the build: each claim from now on is told that there is nothing left. True the first time.
+    pub fn stop<W: Wait>(&self, rt: &W, pass: &mut Pass<L>) -> bool
+        requires { 0 < room_of pass.old }
+        ensures adds { Adds (calls_of pass.old) (Stop result) (calls_of pass.new) }
+        ensures worker { worker_of pass.new ≡ worker_of pass.old }
+        ensures room { room_of pass.new + 1 ≡ room_of pass.old }
+        ensures parts { (share_of pass.new).parts ≡ (share_of pass.old).parts }
+        ensures kept { IsPrefix (seen_of pass.old) (seen_of pass.new) }
+    {
+        let first = self.locked.lock(rt).stop(pass);
+        self.moved.notify_all();
+        first
+    }
+
+    /// Tells that a module that this worker has claimed is faulty. Workers that wait look again.
+    pub fn fail<W: Wait>(
+        &self,
+        rt: &W,
+        pass: &mut Pass<L>,
+        number: usize,
+        outcome: Outcome,
+    ) -> Result<(), (Refusal, Outcome)>
+        requires room { 0 < room_of pass.old }
+        requires faulty { ¬ IsGood outcome.verdict }
+        ensures ok { IfOk result (λ _. Adds (calls_of pass.old) (Fail number) (calls_of pass.new)) }
+        ensures worker { IfOk result (λ _. worker_of pass.new ≡ worker_of pass.old) }
+        ensures room { IfOk result (λ _. room_of pass.new + 1 ≡ room_of pass.old) }
+        ensures parts { IfOk result (λ _. (share_of pass.new).parts ≡ (share_of pass.old).parts) }
+        ensures err { IfErr result (λ _. pass.new ≡ pass.old) }
+        ensures returned { IfErr result (λ r. r.1 ≡ outcome) }
+        ensures kept { IfOk result (λ _. IsPrefix (seen_of pass.old) (seen_of pass.new)) }
+    {
+        let reply = self.locked.lock(rt).fail(pass, number, outcome);
+        self.moved.notify_all();
+        reply
+    }
+
+    /// The published interface of a module, as far as publications are seen: all that the pass has seen or was told of, and perhaps more. None
+    /// where it isn't among them. It takes no lock and waits for nobody.
+    pub fn look(
+        &self,
+        pass: &mut Pass<L>,
+        number: usize,
+    ) -> Result<Option<Arc<Interface>>, LookFault>
+        requires { 0 < room_of pass.old }
+        ensures list { IfOk result (λ _. IsPrefix (seen_of pass.old) (seen_of pass.new) × IsLawful (seen_of pass.new)) }
+        ensures reply { IfOk result (λ r. option_map arc_value r ≡ interface_in (seen_of pass.new) number) }
+        ensures ok { IfOk result (λ r. (o : _) × (option_map arc_value o ≡ option_map arc_value r) × AddsAt (entries_of (seen_of pass.new)) (calls_of pass.old) (Look number o) (calls_of pass.new)) }
+        ensures worker { IfOk result (λ _. worker_of pass.new ≡ worker_of pass.old) }
+        ensures room { IfOk result (λ _. room_of pass.new + 1 ≡ room_of pass.old) }
+        ensures parts { IfOk result (λ _. (share_of pass.new).parts ≡ (share_of pass.old).parts) }
+        ensures err { IfErr result (λ _. (worker_of pass.new ≡ worker_of pass.old) × (calls_of pass.new ≡ calls_of pass.old) × (room_of pass.new ≡ room_of pass.old) × (share_of pass.new ≡ share_of pass.old) × IsPrefix (seen_of pass.old) (seen_of pass.new)) }
+        ensures no_entry { result ≡ Err NoEntry → seen_of pass.new ≡ seen_of pass.old }
+    {
+        pass.look(number)
+    }
+
+    /// The store, and the book whose total is the number of its entries.
+    pub fn into_store(self) -> (Store, Book<L>)
+        ensures total { result.1.total ≡ length result.0.journal }
+        ensures modules { result.0.modules ≡ L.modules }
+        ensures plan { result.0.given.imports ≡ L.plan }
+    {
+        let Shared { locked, moved: _ } = self;
+        let Locked { listed, book, .. } = locked.into_inner();
+        (listed.into_store(), book)
+    }
+}
