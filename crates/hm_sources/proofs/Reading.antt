@@ -1,7 +1,7 @@
 -- The modules of a set of sources, one source after the other.
 use Rattle.std.proofs.Common.{◌≡◌, ℕ, suc, ◌+◌, ◌<◌, List, [], ◌∷◌, ◌++◌, length, take, drop, map, get_or, refl, sym, ap, subst, ◌∙◌, arith, inr, append-nil, append_assoc}
 use Rattle.std.proofs.Math.Seq.{drop-cons}
-use Rattle.std.proofs.lemmas.List.{take_more, map-append, take-append-drop, length-map, length-take-le}
+use Rattle.std.proofs.lemmas.List.{take_all, take_more, map-append, take-append-drop, length-map, length-take-le}
 use Rattle.hm_syntax.specs.declared.ast.Module.{Module}
 use Rattle.hm_sources.specs.Names.{module_outline, module_outlines}
 use Rattle.hm_graph.specs.Imports.{IsImportPlan, IsLawful}
@@ -11,6 +11,7 @@ use Rattle.hm_sources.specs.Refusals.{Refusal, IsLasting}
 use Rattle.hm_sources.specs.Runs.{AreOutlinesOf, IsSourceFault, IsSetPlanFault, IsPlanned, IsRefusalOf}
 use Rattle.hm_sources.specs.SourceModules.{AreModulesOf, HasModules}
 use Rattle.hm_sources.specs.Errors.{IsSourceError, IsSetError}
+use Rattle.hm_sources.specs.Parts.{FailsBehind, Follow}
 use Rattle.hm_sources.specs.declared.sets.SetError.{SetError}
 use Rattle.hm_sources.specs.declared.sets.SetError.TheVariants.{Refused, Memory}
 
@@ -19,6 +20,22 @@ pub modules_more : (before : List (List ℕ)) (s : List ℕ) (modules first : Li
 modules_more [] s modules first e sp = (first, [], sp, refl, ap (λ l. l ++ first) e ∙ sym (append-nil first))
 modules_more (b ∷ bs) s modules first h sp =
     (h.0, h.1 ++ first, h.2, modules_more bs s h.1 first h.3 sp, ap (λ l. l ++ first) h.4 ∙ append_assoc h.0 h.1 first)
+
+-- one more source behind a part
+pub follow_more : (before through : List (List ℕ)) (s : List ℕ) (modules first : List Module) → Follow before through modules → HasModules s first → Follow before (through ++ s ∷ []) (modules ++ first)
+follow_more before through s modules first h sp = λ earlier are. subst (AreModulesOf (through ++ s ∷ [])) (append_assoc earlier modules first) (modules_more through s (earlier ++ modules) first (h earlier are) sp)
+
+-- no source behind others
+pub none_follow : (before : List (List ℕ)) → Follow before before []
+none_follow before = λ earlier are. subst (AreModulesOf before) (sym (append-nil earlier)) are
+
+-- a part that is all
+pub all_follow : {X : Type 0} (view : X → List ℕ) (xs : List X) (modules : List Module) → Follow (map view (take 0 xs)) (map view (take (length xs) xs)) modules → AreModulesOf (map view xs) modules
+all_follow view xs modules h = subst (λ l. AreModulesOf (map view l) modules) (take_all (length xs) xs (omega arith)) (h [] refl)
+
+-- a fault behind no source
+pub all_fail : {X : Type 0} (view : X → List ℕ) (xs : List X) (e : SetError) → FailsBehind (map view xs) (map view (take 0 xs)) e → IsSetError (map view xs) e
+all_fail view xs e h = h [] refl
 
 -- the outlines of the modules are those that the plan is made of
 pub outlines_there : (sources : List (List ℕ)) (modules : List Module) → AreModulesOf sources modules → AreOutlinesOf sources (module_outlines modules)

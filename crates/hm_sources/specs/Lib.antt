@@ -3,6 +3,7 @@ pub mod Errors
 pub mod Laws
 pub mod Names
 pub mod Origins
+pub mod Parts
 pub mod Plans
 pub mod Refusals
 pub mod Runs

@@ -23,7 +23,7 @@ pub use output::write_text;
 pub use plans::plan_text;
 pub use refusals::refusal_text;
 pub use running::run_plan;
-pub use sets::{SetError, set_modules};
+pub use sets::{SetError, modules_between, planned, set_modules};
 pub use source::read_all;
 pub use stacks::{depth_limit, stack_size, worker_stack_size};
 pub use status::Status;

@@ -1,11 +1,12 @@
 //! The modules of a set of sources, and their plan.
-ghost use Rattle.std.specs.Prelude.{◌≡◌, [], ◌++◌, ◌+◌, ◌<◌, List, IfOk, IfErr, OnOk, length, map, string_bytes};
+ghost use Rattle.std.specs.Prelude.{◌≡◌, [], ◌++◌, ◌+◌, ◌<◌, ◌≤◌, ℕ, List, IfOk, IfErr, OnOk, length, map, string_bytes, take};
 ghost use Rattle.hm_graph.specs.Outline.{outlines};
 ghost use Rattle.hm_graph.specs.Imports.{IsImportPlan, IsLawful, imports_at, name_at};
 ghost use Rattle.hm_graph.specs.Refusal.{IsRefusal as IsPlanRefusal};
 ghost use Rattle.hm_syntax.specs.declared.ast.Module.{Module as ModuleTree};
 ghost use Rattle.hm_sources.specs.Errors.{IsSourceError, IsSetError, IsPlanError};
 ghost use Rattle.hm_sources.specs.Names.{import_at, module_outlines};
+ghost use Rattle.hm_sources.specs.Parts.{FailsBehind, Follow};
 ghost use Rattle.hm_sources.specs.Refusals.{IsLasting, plan, refusal_of};
 ghost use Rattle.hm_sources.specs.Runs.{IsSetPlanFault};
 ghost use Rattle.hm_sources.specs.SourceModules.{AreModulesOf, HasModules};
@@ -59,16 +60,32 @@ pub(crate) fn add_modules(
     Ok(())
 }
 
+/// The modules of some of the sources, from this number up to that one, in order of appearance. They are counted from 0.
+pub fn modules_between(
+    alloc: Global,
+    sources: &[Vec<u8>],
+    from: usize,
+    to: usize,
+) -> Result<Vec<Module>, SetError>
+    requires from { from ≤ to }
+    requires to { to ≤ length sources.now }
+    ensures ok { IfOk result (λ modules. Follow (map (λ s. s.items) (take from sources.now)) (map (λ s. s.items) (take to sources.now)) modules.items) }
+    ensures err { IfErr result (FailsBehind (map (λ s. s.items) sources.now) (map (λ s. s.items) (take from sources.now))) }
+{
+    let mut modules = Vec::new(alloc);
+    for index in from..to {
+        add_modules(alloc, index + 1, sources[index].as_slice(), &mut modules)?;
+    }
+    Ok(modules)
+}
+
 /// All modules of the sources, in order of appearance.
+#[tactic(auto, using(crate::proofs::Reading::all_follow, crate::proofs::Reading::all_fail))]
 fn source_modules(alloc: Global, sources: &[Vec<u8>]) -> Result<Vec<Module>, SetError>
     ensures ok { IfOk result (λ modules. AreModulesOf (map (λ s. s.items) sources.now) modules.items) }
     ensures err { IfErr result (λ e. IsSetError (map (λ s. s.items) sources.now) e) }
 {
-    let mut modules = Vec::new(alloc);
-    for (index, source) in sources.iter().enumerate() {
-        add_modules(alloc, index + 1, source.as_slice(), &mut modules)?;
-    }
-    Ok(modules)
+    Ok(modules_between(alloc, sources, 0, sources.len())?)
 }
 
 /// The name of a module.
@@ -135,6 +152,24 @@ fn plan_of(alloc: Global, modules: &[Module]) -> Result<Plan, PlanFault>
     hm_graph::import_plan(alloc, &headers)
 }
 
+/// Modules with their plan, or why they have none.
+#[tactic(auto, using(crate::proofs::Reading::refused_by_plan))]
+pub fn planned(alloc: Global, modules: Vec<Module>) -> Result<(Vec<Module>, Plan), SetError>
+    ensures same { IfOk result (λ set. set.0.items ≡ modules.items) }
+    ensures lawful { IfOk result (λ set. IsLawful (module_outlines set.0.items)) }
+    ensures planned { IfOk result (λ set. IsImportPlan (module_outlines set.0.items) set.1) }
+    ensures err { IfErr result (λ e. (sources : List (List ℕ)) → AreModulesOf sources modules.items → IsPlanError sources e) }
+{
+    match plan_of(alloc, modules.as_slice()) {
+        Ok(plan) => Ok((modules, plan)),
+        Err(PlanFault::Memory) => Err(SetError::Memory),
+        Err(fault) => match plan_fault(alloc, modules.as_slice(), fault) {
+            Ok(fault) => Err(SetError::Refused(fault)),
+            Err(AllocError) => Err(SetError::Memory),
+        },
+    }
+}
+
 /// The modules and the plan of a set of sources.
 #[tactic(auto, using(crate::proofs::Reading::refused_by_plan))]
 pub fn set_modules(alloc: Global, sources: &[Vec<u8>]) -> Result<(Vec<Module>, Plan), SetError>
@@ -144,14 +179,7 @@ pub fn set_modules(alloc: Global, sources: &[Vec<u8>]) -> Result<(Vec<Module>, P
     ensures err { IfErr result (λ e. IsPlanError (map (λ s. s.items) sources.now) e) }
 {
     let modules = source_modules(alloc, sources)?;
-    match plan_of(alloc, modules.as_slice()) {
-        Ok(plan) => Ok((modules, plan)),
-        Err(PlanFault::Memory) => Err(SetError::Memory),
-        Err(fault) => match plan_fault(alloc, modules.as_slice(), fault) {
-            Ok(fault) => Err(SetError::Refused(fault)),
-            Err(AllocError) => Err(SetError::Memory),
-        },
-    }
+    Ok(planned(alloc, modules)?)
 }
 
 /// The headers of modules, without what they declare.

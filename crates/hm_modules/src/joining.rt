@@ -1,0 +1,28 @@
+//! Modules of two parts of the sources as those of one.
+ghost use Rattle.std.specs.Prelude.{ℕ, List, IfErr, IfOk};
+ghost use Rattle.hm_sources.specs.Parts.{FailsBehind, Follow};
+
+use hm_sources::SetError;
+use hm_syntax::Module;
+
+/// The modules of a part and of the part behind it, or why there are none: for the first part's reason, if it has one.
+pub(crate) fn joined(
+    first: Result<Vec<Module>, SetError>,
+    later: Result<Vec<Module>, SetError>,
+) -> Result<Vec<Module>, SetError>
+    ensures ok { IfOk result (λ r. (before between through : List (List ℕ)) → IfOk first (λ f. Follow before between f.items) → IfOk later (λ l. Follow between through l.items) → Follow before through r.items) }
+    ensures err { IfErr result (λ e. (sources before between : List (List ℕ)) → IfOk first (λ f. Follow before between f.items) → IfErr first (FailsBehind sources before) → IfErr later (FailsBehind sources between) → FailsBehind sources before e) }
+{
+    let mut modules = match first {
+        Ok(modules) => modules,
+        Err(fault) => return Err(fault),
+    };
+    let mut more = match later {
+        Ok(more) => more,
+        Err(fault) => return Err(fault),
+    };
+    match modules.append(&mut more) {
+        Ok(()) => Ok(modules),
+        Err(_) => Err(SetError::Memory),
+    }
+}

@@ -1,0 +1,127 @@
+//! Modules that are made side by side.
+ghost use Rattle.std.specs.Prelude.{◌≡◌, ◌<◌, ◌≤◌, IfErr, IfOk, length, map, take};
+ghost use Rattle.hm_graph.specs.Imports.{IsImportPlan, IsLawful};
+ghost use Rattle.hm_sources.specs.Errors.{IsPlanError, IsSetError};
+ghost use Rattle.hm_sources.specs.Names.{module_outlines};
+ghost use Rattle.hm_sources.specs.Parts.{FailsBehind, Follow};
+ghost use Rattle.hm_sources.specs.SourceModules.{AreModulesOf};
+
+use crate::joining::joined;
+use crate::parts::{Part, bytes_of_part, part_end};
+use core::thread::Stack;
+use hm_graph::Plan;
+use hm_sources::{SetError, modules_between, planned, stack_size};
+use hm_syntax::Module;
+use std::alloc::Global;
+use std::sync::Wait;
+use std::thread;
+use std::thread::{Scope, Threads};
+
+/// The modules of a part, by this thread.
+fn made(alloc: Global, part: Part<'_>) -> Result<Vec<Module>, SetError>
+    requires from { part.from ≤ part.to }
+    requires to { part.to ≤ length part.sources.now }
+    ensures ok { IfOk result (λ modules. Follow (map (λ s. s.items) (take part.entry.from part.entry.sources.now)) (map (λ s. s.items) (take part.entry.to part.entry.sources.now)) modules.items) }
+    ensures err { IfErr result (FailsBehind (map (λ s. s.items) part.entry.sources.now) (map (λ s. s.items) (take part.entry.from part.entry.sources.now))) }
+{
+    modules_between(alloc, part.sources, part.from, part.to)
+}
+
+/// The modules of the rest of the sources. A part of so many bytes at its front is another thread's, where one can be started, while this one goes on
+/// behind it.
+fn made_by_threads<'s, E, R: Threads>(
+    rt: &R,
+    scope: &Scope<'s, E>,
+    alloc: Global,
+    rest: Part<'s>,
+    bytes: usize,
+) -> Result<Vec<Module>, SetError>
+    requires from { rest.from ≤ rest.to }
+    requires to { rest.to ≡ length rest.sources.now }
+    ensures ok { IfOk result (λ modules. Follow (map (λ s. s.items) (take rest.entry.from rest.entry.sources.now)) (map (λ s. s.items) (take rest.entry.to rest.entry.sources.now)) modules.items) }
+    ensures err { IfErr result (FailsBehind (map (λ s. s.items) rest.entry.sources.now) (map (λ s. s.items) (take rest.entry.from rest.entry.sources.now))) }
+{
+    if rest.from >= rest.to {
+        return made(alloc, rest);
+    }
+    let end = part_end(rest.sources, rest.from, bytes);
+    if end >= rest.to {
+        return made(alloc, rest);
+    }
+    let front = Part {
+        sources: rest.sources,
+        from: rest.from,
+        to: end,
+    };
+    let behind = Part {
+        sources: rest.sources,
+        from: end,
+        to: rest.to,
+    };
+    let thread = Stack::new().stack_size(stack_size(rest.sources));
+    let work = move ||
+        requires { (front.from ≤ front.to) × (front.to ≤ length front.sources.now) }
+    { made(alloc, front) };
+    let begun = thread.spawn_scoped_with(scope, front, work);
+    let later = made_by_threads(rt, scope, alloc, behind, bytes);
+    match begun {
+        Ok(thread) => joined(thread.join(rt), later),
+        Err(_) => joined(made(alloc, front), later),
+    }
+}
+
+/// All modules of the sources, in order of appearance, in parts of so many bytes.
+fn made_of_all<'s, E, R: Threads>(
+    rt: &R,
+    scope: &Scope<'s, E>,
+    alloc: Global,
+    sources: &'s [Vec<u8>],
+    bytes: usize,
+) -> Result<Vec<Module>, SetError>
+    ensures ok { IfOk result (λ modules. AreModulesOf (map (λ s. s.items) sources.now) modules.items) }
+    ensures err { IfErr result (IsSetError (map (λ s. s.items) sources.now)) }
+{
+    let rest = Part {
+        sources,
+        from: 0,
+        to: sources.len(),
+    };
+    made_by_threads(rt, scope, alloc, rest, bytes)
+}
+
+/// All modules of the sources, in order of appearance, made by so many threads. This thread is one of them.
+fn source_modules<T: Threads + Wait + Sync>(
+    rt: &T,
+    alloc: Global,
+    sources: &[Vec<u8>],
+    threads: usize,
+) -> Result<Vec<Module>, SetError>
+    ensures ok { IfOk result (λ modules. AreModulesOf (map (λ s. s.items) sources.now) modules.items) }
+    ensures err { IfErr result (IsSetError (map (λ s. s.items) sources.now)) }
+{
+    let bytes = bytes_of_part(sources, threads);
+    thread::scope(
+        thread::scope_env(),
+        rt,
+        |scope| -> Result<Vec<Module>, SetError>
+            ensures ok { IfOk result (λ modules. AreModulesOf (map (λ s. s.items) sources.entry.now) modules.items) }
+            ensures err { IfErr result (IsSetError (map (λ s. s.items) sources.entry.now)) }
+        { made_of_all(rt, scope, alloc, sources, bytes) },
+    )
+}
+
+/// The modules and the plan of a set of sources, made by so many threads, or by as many as can be started.
+pub fn set_modules_by<T: Threads + Wait + Sync>(
+    rt: &T,
+    alloc: Global,
+    sources: &[Vec<u8>],
+    threads: usize,
+) -> Result<(Vec<Module>, Plan), SetError>
+    ensures read { IfOk result (λ set. AreModulesOf (map (λ s. s.items) sources.now) set.0.items) }
+    ensures lawful { IfOk result (λ set. IsLawful (module_outlines set.0.items)) }
+    ensures planned { IfOk result (λ set. IsImportPlan (module_outlines set.0.items) set.1) }
+    ensures err { IfErr result (λ e. IsPlanError (map (λ s. s.items) sources.now) e) }
+{
+    let modules = source_modules(rt, alloc, sources, threads)?;
+    Ok(planned(alloc, modules)?)
+}

@@ -1,0 +1,47 @@
+//! Parts of a set of sources.
+ghost use Rattle.std.specs.Prelude.{◌<◌, ◌≤◌, length};
+
+use hm_sources::SetError;
+use hm_syntax::Module;
+use std::thread::Promise;
+
+/// Some of the sources, from this number up to that one. They are counted from 0.
+#[derive(Clone, Copy)]
+pub(crate) struct Part<'a> {
+    pub sources: &'a [Vec<u8>],
+    pub from: usize,
+    pub to: usize,
+}
+
+/// What a thread promises of the modules of a part.
+impl<'a> Promise<Result<Vec<Module>, SetError>> for Part<'a> {
+    ghost use Rattle.std.specs.Prelude.{IfErr, IfOk, map, take};
+    ghost use Rattle.hm_sources.specs.Parts.{FailsBehind, Follow};
+
+    ghost kept_by = { λ p r. IfOk r (λ modules. Follow (map (λ s. s.items) (take p.from p.sources.now)) (map (λ s. s.items) (take p.to p.sources.now)) modules.items) × IfErr r (FailsBehind (map (λ s. s.items) p.sources.now) (map (λ s. s.items) (take p.from p.sources.now))) };
+}
+
+/// Where a part ends that begins at this source and has so many bytes: behind the last source, if it has fewer.
+pub(crate) fn part_end(sources: &[Vec<u8>], from: usize, bytes: usize) -> usize
+    requires { from < length sources.now }
+    ensures some { from < result }
+    ensures inside { result ≤ length sources.now }
+{
+    let mut held: usize = 0;
+    for number in from..sources.len() {
+        held = held.saturating_add(sources[number].len());
+        if held >= bytes {
+            return number + 1;
+        }
+    }
+    sources.len()
+}
+
+/// How many bytes a part has at least, if it isn't the last, so that there are no more than so many parts.
+pub(crate) fn bytes_of_part(sources: &[Vec<u8>], parts: usize) -> usize {
+    let mut all: usize = 0;
+    for source in sources {
+        all = all.saturating_add(source.len());
+    }
+    (all / parts.max(1)).saturating_add(1)
+}
