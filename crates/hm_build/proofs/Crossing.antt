@@ -19,10 +19,7 @@ use Rattle.left_right.proofs.handles.ReadHandle.TheSendSync as ReadHandleFacts
 use Rattle.left_right.proofs.handles.WriteHandle.TheSendSync as WriteHandleFacts
 use Rattle.hm_types.specs.contracts.interfaces.Interface as Interface
 use Rattle.hm_types.proofs.monotypes.Types.TheLaws.TheKnot.{crosses as types}
-use Rattle.hm_syntax.specs.contracts.ast.Module as Module
-use Rattle.hm_syntax.proofs.ast.Alt.TheLaws.TheKnot.{crosses as expressions}
-use Rattle.hm_syntax.proofs.ast.Pat.TheLaws.TheKnot.{crosses as patterns}
-use Rattle.hm_syntax.proofs.ast.TypeExpr.TheLaws.TheKnot.{crosses as written_types}
+use Rattle.hm_modules.proofs.Crossing.{module_send, module_sync}
 use Rattle.hm_outcomes.specs.contracts.outcome.Verdict as Verdict
 use Rattle.hm_outcomes.specs.contracts.outcome.Outcome as Outcome
 use Rattle.hm_store.specs.contracts.record.Call as Call
@@ -51,15 +48,6 @@ use Rattle.hm_types.proofs.Text.TheSendSync as Text
 use Rattle.hm_types.proofs.Entity.TheSendSync as Entity
 use Rattle.hm_types.proofs.Head.TheSendSync as Head
 use Rattle.hm_types.proofs.entries.TypeEntry.TheSendSync as TypeEntry
-use Rattle.hm_syntax.proofs.ast.Name.TheSendSync as Name
-use Rattle.hm_syntax.proofs.ast.Literal.TheSendSync as Literal
-use Rattle.hm_syntax.proofs.ast.LiteralKind.TheSendSync as LiteralKind
-use Rattle.hm_syntax.proofs.ast.Export.TheSendSync as Export
-use Rattle.hm_syntax.proofs.ast.Header.TheSendSync as Header
-use Rattle.hm_syntax.proofs.ast.Import.TheSendSync as Import
-use Rattle.hm_syntax.proofs.ast.Item.TheSendSync as Item
-use Rattle.hm_syntax.proofs.ast.List.TheSendSync as List
-use Rattle.hm_syntax.proofs.ast.Subs.TheSendSync as Subs
 use Rattle.hm_names.proofs.faults.Fault.TheSendSync as Fault
 
 -- a closure with three captures
@@ -70,20 +58,6 @@ captures_send ν A B C a b c =
     recorded_send (Struct (shape T)) T.D T.to T.to_one (struct_send (shape T) all)
 
 ruleset parts_of_types = (Text.the_send, Text.the_sync, Entity.the_send, Entity.the_sync, Head.the_send, Head.the_sync, TypeEntry.the_send, TypeEntry.the_sync)
-
-ruleset parts_of_trees = (Name.the_send, Name.the_sync, Literal.the_send, Literal.the_sync, LiteralKind.the_send, LiteralKind.the_sync, Export.the_send, Export.the_sync, Header.the_send, Header.the_sync, Import.the_send, Import.the_sync, Item.the_send, Item.the_sync, List.the_send, List.the_sync, Subs.the_send, Subs.the_sync)
-
-pub interface_send : IsSend Interface.the_row
-interface_send = search (types, parts_of_types, crosses, sendable) depth 30 fits 5000
-
-pub interface_sync : IsSync Interface.the_row
-interface_sync = search (types, parts_of_types, crosses, sendable) depth 30 fits 5000
-
-pub module_send : IsSend Module.the_row
-module_send = search (parts_of_trees, expressions, patterns, written_types, crosses, sendable) depth 30 fits 5000
-
-pub module_sync : IsSync Module.the_row
-module_sync = search (parts_of_trees, expressions, patterns, written_types, crosses, sendable) depth 30 fits 5000
 
 pub verdict_field_send : IsSend Verdict.the_field.row
 verdict_field_send = search (interface_send, interface_sync, Fault.the_send, crosses, sendable) depth 30 fits 5000

@@ -14,10 +14,11 @@ use crate::workers::{Work, run_workers};
 use crate::{BuildFault, Finished, Gate};
 use core::thread::Stack;
 use hm_graph::Plan;
+use hm_modules::set_modules_by;
 use hm_published::{Naming, Opened};
 use hm_reports::may_work;
 use hm_shared::{Brands, Shared};
-use hm_sources::{SetError, depth_limit, set_modules, stack_size, worker_stack_size};
+use hm_sources::{SetError, depth_limit, stack_size, worker_stack_size};
 use hm_store::laws::settled_builds_are_settled_sets;
 use hm_store::{Crew, Store};
 use hm_syntax::Module;
@@ -95,14 +96,19 @@ fn set_up(alloc: Global, modules: Vec<Module>, plan: Plan) -> Result<Fresh, Allo
     })
 }
 
-/// A store for the modules of sources.
-fn read(alloc: Global, sources: &[Vec<u8>]) -> Result<Fresh, BuildFault>
+/// A store for the modules of sources, which so many threads lex and parse.
+fn read<T: Threads + Wait + Sync>(
+    rt: &T,
+    alloc: Global,
+    sources: &[Vec<u8>],
+    threads: usize,
+) -> Result<Fresh, BuildFault>
     ensures read { IfOk result (λ f. AreModulesOf (map (λ s. s.items) sources.now) (map arc_value f.modules.items)) }
     ensures same { IfOk result (λ f. map arc_value f.modules.items ≡ f.store.modules) }
     ensures empty { IfOk result (λ f. f.store.journal ≡ []) }
     ensures err { IfErr result (IsBuildError (map (λ s. s.items) sources.now)) }
 {
-    match set_modules(alloc, sources) {
+    match set_modules_by(rt, alloc, sources, threads) {
         Ok((modules, plan)) => Ok(set_up(alloc, modules, plan)?),
         Err(SetError::Refused(fault)) => Err(BuildFault::Refused(fault)),
         Err(SetError::Memory) => Err(BuildFault::Memory),
@@ -177,7 +183,7 @@ pub(crate) fn build_here<T: Threads + Wait + Sync, G: Gate + Sync>(
 {
     settled_builds_are_settled_sets();
     settled_modules_have_their_verdicts();
-    let fresh = read(alloc, sources)?;
+    let fresh = read(rt, alloc, sources, workers)?;
     let task = Task {
         sources,
         workers,
