@@ -104,7 +104,13 @@ fn called<L: Ledger + Naming, R: Abort + AllocGlobal + Wait>(
     requires plan { store.given.imports ≡ L.plan }
     requires empty { store.journal ≡ [] }
 {
-    let (shared, mut passes) = Shared::<L, &R>::new(rt.alloc(), rt, store, FOUR, Brands { blank, opened })?;
+    let (shared, mut passes) = Shared::<L, &R>::new(
+        rt.alloc(),
+        rt,
+        store,
+        FOUR,
+        Brands { blank, opened },
+    )?;
     for step in steps {
         let pass = passes.get_mut(worker_of(step)).ok_or("no pass")?;
         assert!(rt; answers(rt, &shared, pass, step)?);

@@ -310,7 +310,13 @@ fn published<L: Ledger + Naming, R: Abort + AllocGlobal + Wait>(
     requires plan { store.given.imports ≡ L.plan }
     requires empty { store.journal ≡ [] }
 {
-    let (shared, mut passes) = Shared::<L, &R>::new(rt.alloc(), rt, store, FOUR, Brands { blank, opened })?;
+    let (shared, mut passes) = Shared::<L, &R>::new(
+        rt.alloc(),
+        rt,
+        store,
+        FOUR,
+        Brands { blank, opened },
+    )?;
     let pass = passes.get_mut(0).ok_or("no pass")?;
     let is_published = claimed_and_stopped(rt, &shared, pass)?;
     let (store, _book) = shared.into_store();
