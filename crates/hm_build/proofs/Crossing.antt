@@ -59,6 +59,12 @@ captures_send ν A B C a b c =
 
 ruleset parts_of_types = (Text.the_send, Text.the_sync, Entity.the_send, Entity.the_sync, Head.the_send, Head.the_sync, TypeEntry.the_send, TypeEntry.the_sync)
 
+pub interface_send : IsSend Interface.the_row
+interface_send = search (types, parts_of_types, crosses, sendable) depth 30 fits 5000
+
+pub interface_sync : IsSync Interface.the_row
+interface_sync = search (types, parts_of_types, crosses, sendable) depth 30 fits 5000
+
 pub verdict_field_send : IsSend Verdict.the_field.row
 verdict_field_send = search (interface_send, interface_sync, Fault.the_send, crosses, sendable) depth 30 fits 5000
 
