@@ -51,7 +51,8 @@ pub fn faulty_groups(
     requires typed { length typed.old ≡ length list.now.found.now.numbers }
     requires groups { ArePlainGroups (lists list.now.found.now.groups.items) (length list.now.found.now.numbers) typed.old }
     ensures table { OnOk result (IsSameTable typed.old typed.new) }
-    ensures told { IfOk result (λ faulty. AreGroupsTold list.now.decls.now list.now.found.now.numbers (lists list.now.found.now.rows.items) (lists list.now.found.now.groups.items) typed.old faulty.items) }
+    ensures told { IfOk result (λ faulty. AreGroupsTold list.now.decls.now list.now.found.now.numbers (lists list.now.found.now.rows.items)
+        (lists list.now.found.now.groups.items) typed.old faulty.items) }
 {
     let found = list.found;
     let count = found.numbers.len();

@@ -9,8 +9,8 @@ ghost use Rattle.hm_assumptions.specs.Kept.{assumed_of};
 ghost use Rattle.hm_expressions.specs.OwnSchemes.{HaveCanonical};
 
 use hm_assumptions::{Binding, Environment, VariableKind, instantiate, own_text};
+use hm_instances::canonical;
 use hm_names::Schemes;
-use hm_types::canonical;
 use std::alloc::{AllocError, Global};
 
 /// Gives a variable of the module `home` the canonical scheme that is assumed of it.
@@ -21,7 +21,8 @@ fn put_scheme(
     binding: &Binding<'_>,
 ) -> Result<(), AllocError>
     requires { IsWellFormed (binding.now.quantified + 0) (type_in binding.now.body) }
-    ensures { OnOk result ((es : List Assumed) → HaveCanonical home.now es (scheme_of schemes.old) → HaveCanonical home.now (assumed_of binding.now ∷ es) (scheme_of schemes.new)) }
+    ensures { OnOk result ((es : List Assumed) → HaveCanonical home.now es (scheme_of schemes.old)
+        → HaveCanonical home.now (assumed_of binding.now ∷ es) (scheme_of schemes.new)) }
 {
     let Some(text) = own_text(binding.name, home) else {
         return Ok(());

@@ -114,7 +114,8 @@ impl<'a> Environment<'a> {
         quantified: usize,
         body: Ty,
     ) -> Result<(), AllocError>
-        ensures bound { OnOk result (self.new ≡ (record { name = identifier (variable_of_key name.entry); scheme = record { quantified = quantified; body = type_of body } } ∷ self.old)) }
+        ensures bound { OnOk result (self.new ≡ (record
+            { name = identifier (variable_of_key name.entry); scheme = record { quantified = quantified; body = type_of body } } ∷ self.old)) }
         ensures same { OnErr result (self.new ≡ self.old) }
     {
         self.add(name, quantified, AssumedType::Made(body))
@@ -127,7 +128,8 @@ impl<'a> Environment<'a> {
         quantified: usize,
         body: &'a Ty,
     ) -> Result<(), AllocError>
-        ensures bound { OnOk result (self.new ≡ (record { name = identifier (variable_of_key name.entry); scheme = record { quantified = quantified; body = type_of body.entry.now } } ∷ self.old)) }
+        ensures bound { OnOk result (self.new ≡ (record
+            { name = identifier (variable_of_key name.entry); scheme = record { quantified = quantified; body = type_of body.entry.now } } ∷ self.old)) }
         ensures same { OnErr result (self.new ≡ self.old) }
     {
         self.add(name, quantified, AssumedType::Lent(body))
@@ -139,24 +141,24 @@ impl<'a> Environment<'a> {
         quantified: usize,
         body: AssumedType<'a>,
     ) -> Result<(), AllocError>
-        ensures bound { OnOk result (self.new ≡ (record { name = identifier (variable_of_key name.entry); scheme = record { quantified = quantified; body = type_in body.entry } } ∷ self.old)) }
+        ensures bound { OnOk result (self.new ≡ (record
+            { name = identifier (variable_of_key name.entry); scheme = record { quantified = quantified; body = type_in body.entry } } ∷ self.old)) }
         ensures same { OnErr result (self.new ≡ self.old) }
     {
+        self.items.reserve(1)?;
         let place = self.items.len();
-        let key = name;
-        let hidden = place_of(&self.innermost, &key);
-        self.items.push(Binding {
+        let Ok(hidden) = self.innermost.insert(name, place) else {
+            return Err(AllocError);
+        };
+        let added = self.items.push(Binding {
             name,
             quantified,
             body,
             hidden,
-        })?;
-        match self.innermost.insert(name, place) {
-            Ok(_) => Ok(()),
-            Err(_) => {
-                self.items.pop();
-                Err(AllocError)
-            }
+        });
+        match added {
+            Ok(()) => Ok(()),
+            Err(_) => unreachable!(),
         }
     }
 
@@ -169,7 +171,8 @@ impl<'a> Environment<'a> {
 
     /// The scheme of the innermost assumption of a name, if there is one.
     pub(crate) fn find(&self, name: &Name) -> Option<Scheme<'_>>
-        ensures { MatchOption result (¬ (IsOneOf (name_of name.now) (assumed_names self.now))) (λ s. IsSchemeOf (name_of name.now) (record { quantified = s.quantified; body = type_of s.body.now }) self.now) }
+        ensures { MatchOption result (¬ (IsOneOf (name_of name.now) (assumed_names self.now))) (λ s.
+            IsSchemeOf (name_of name.now) (record { quantified = s.quantified; body = type_of s.body.now }) self.now) }
     {
         let Some(place) = place_of(&self.innermost, &key_of(name)) else {
             return None;
@@ -214,7 +217,8 @@ fn restore<'a>(
     name: LentName<'a>,
     hidden: Option<usize>,
 )
-    ensures { ¬ (number_of places.old (variable_of_key name.entry) ≡ None) → (x : Variable) → number_of places.new x ≡ cond (same_variable (variable_of_key name.entry) x) hidden (number_of places.old x) }
+    ensures { ¬ (number_of places.old (variable_of_key name.entry) ≡ None) → (x : Variable)
+        → number_of places.new x ≡ cond (same_variable (variable_of_key name.entry) x) hidden (number_of places.old x) }
 {
     let Some(place) = hidden else {
         let key = name;

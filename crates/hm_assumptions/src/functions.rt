@@ -33,7 +33,8 @@ pub fn open_function<'a>(
 ) -> Result<usize, UnifyFault>
     requires given { IsWellFormed inference.old.solver.given (type_of t.now) }
     requires assumed { AreAssumed inference.old.solver.given inference.old.environment }
-    ensures opened { Opened (patterns_of (known_of constructors.now) (patterns pats.now)) (monotype (type_of t.now)) inference.old.solver inference.old.environment inference.new.solver inference.new.environment result }
+    ensures opened { Opened (patterns_of (known_of constructors.now) (patterns pats.now)) (monotype (type_of t.now)) inference.old.solver
+        inference.old.environment inference.new.solver inference.new.environment result }
     ensures kept { Extends inference.old.environment inference.new.environment }
 {
     let count = pats.len();
@@ -64,7 +65,9 @@ pub fn open_alternative<'a>(
     requires first { first < inference.old.solver.given }
     requires given { IsWellFormed inference.old.solver.given (type_of t.now) }
     requires assumed { AreAssumed inference.old.solver.given inference.old.environment }
-    ensures opened { Entered (pattern (pattern_of (known_of constructors.now) pat.now) no_pattern) (arrow (monotype (Var (var first))) (monotype (type_of t.now))) (type_of t.now) inference.old.solver inference.old.environment inference.new.solver inference.new.environment result }
+    ensures opened { Entered (pattern (pattern_of (known_of constructors.now) pat.now) no_pattern)
+        (arrow (monotype (Var (var first))) (monotype (type_of t.now))) (type_of t.now) inference.old.solver inference.old.environment
+        inference.new.solver inference.new.environment result }
     ensures kept { Extends inference.old.environment inference.new.environment }
 {
     let mut variables = Variables::new(inference.alloc);

@@ -83,7 +83,8 @@ pub fn check_scheme(
 ) -> Result<(), UnifyFault>
     requires scheme { IsWellFormed (quantified + solver.old.given) (type_of body.now) }
     requires given { IsWellFormed solver.old.given (type_of t.now) }
-    ensures { Answers (λ r. IsInstanceUnder (record { quantified = quantified; body = type_of body.now }) r (put r (monotype (type_of t.now)))) solver.old solver.new result }
+    ensures { Answers (λ r. IsInstanceUnder (record { quantified = quantified; body = type_of body.now }) r (put r (monotype (type_of t.now))))
+        solver.old solver.new result }
 {
     let base = new_variables(solver, quantified)?;
     let instance = instantiate(alloc, VariableKind::Flexible, quantified, base, body)?;
@@ -112,7 +113,8 @@ pub fn check_constructor(
     t: &Ty,
 ) -> Result<(), UnifyFault>
     requires { IsWellFormed solver.old.given (type_of t.now) }
-    ensures { Answers (λ r. Instantiates (constructor_type_of (known_of constructors.now) name.now) (put r (monotype (type_of t.now)))) solver.old solver.new result }
+    ensures { Answers (λ r. Instantiates (constructor_type_of (known_of constructors.now) name.now) (put r (monotype (type_of t.now)))) solver.old
+        solver.new result }
 {
     let scheme = constructors.find(alloc, name)?;
     check_declared(alloc, solver, scheme.as_scheme(), t)

@@ -55,7 +55,8 @@ pub fn check_name(
 ) -> Result<(), UnifyFault>
     requires given { IsWellFormed solver.old.given (type_of t.now) }
     requires assumed { AreAssumed solver.old.given environment.now }
-    ensures { Answers (λ r. Has (assumptions_put r (assumptions environment.now)) (name_of name.now) (put r (monotype (type_of t.now)))) solver.old solver.new result }
+    ensures { Answers (λ r. Has (assumptions_put r (assumptions environment.now)) (name_of name.now) (put r (monotype (type_of t.now)))) solver.old
+        solver.new result }
 {
     match environment.find(name) {
         None => Err(UnifyFault::Clash),

@@ -29,7 +29,8 @@ pub(crate) fn constructor_parts(
     ensures first { IfOk result (λ n. n ≡ solver.old.given) }
     ensures fits { IfOk result (λ n. n + count < 2 ^ 64) }
     ensures below { FactsBelow (bound solver.old) (problem solver.old) }
-    ensures answers { Answers (λ r. Instantiates (monotype_of scheme.now.body) (arrows count (new_at solver.old.given r) 0 (put r (monotype (type_of t.now))))) (given_more solver.old count) solver.new result }
+    ensures answers { Answers (λ r. Instantiates (monotype_of scheme.now.body)
+        (arrows count (new_at solver.old.given r) 0 (put r (monotype (type_of t.now))))) (given_more solver.old count) solver.new result }
 {
     let first = new_variables(solver, count)?;
     let whole = function_type(alloc, first, count, t)?;
@@ -49,7 +50,8 @@ pub(crate) fn function_parts(
     ensures first { IfOk result (λ n. n ≡ solver.old.given) }
     ensures fits { IfOk result (λ n. n + (count + 1) < 2 ^ 64) }
     ensures below { FactsBelow (bound solver.old) (problem solver.old) }
-    ensures answers { Answers (λ r. put r (monotype (type_of t.now)) ≡ arrows count (new_at solver.old.given r) 0 (new_at solver.old.given r count)) (given_more solver.old (count + 1)) solver.new result }
+    ensures answers { Answers (λ r. put r (monotype (type_of t.now))
+        ≡ arrows count (new_at solver.old.given r) 0 (new_at solver.old.given r count)) (given_more solver.old (count + 1)) solver.new result }
 {
     solver.well_formed();
     if count == usize::MAX {
@@ -72,7 +74,8 @@ pub fn tuple_parts(
     ensures first { IfOk result (λ n. n ≡ solver.old.given) }
     ensures fits { IfOk result (λ n. n + count < 2 ^ 64) }
     ensures below { FactsBelow (bound solver.old) (problem solver.old) }
-    ensures answers { Answers (λ r. put r (monotype (type_of t.now)) ≡ tuple count (new_at solver.old.given r)) (given_more solver.old count) solver.new result }
+    ensures answers { Answers (λ r. put r (monotype (type_of t.now))
+        ≡ tuple count (new_at solver.old.given r)) (given_more solver.old count) solver.new result }
 {
     let first = new_variables(solver, count)?;
     let whole = tuple_type(alloc, first, count)?;

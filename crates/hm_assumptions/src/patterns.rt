@@ -57,7 +57,8 @@ fn add_variable<'a>(
 ) -> Result<(), UnifyFault>
     requires given { IsWellFormed solver.old.given (type_of t.now) }
     requires variables { AreGiven solver.old.given variables.old }
-    ensures { Matched (λ ρ r. put r (monotype (type_of t.now)) ≡ ρ (name_of name.now)) (name_of name.now ∷ []) solver.old variables.old solver.new variables.new result }
+    ensures { Matched (λ ρ r. put r (monotype (type_of t.now))
+        ≡ ρ (name_of name.now)) (name_of name.now ∷ []) solver.old variables.old solver.new variables.new result }
 {
     solver.well_formed();
     match variables.find(name) {

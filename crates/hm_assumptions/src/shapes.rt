@@ -74,8 +74,8 @@ pub fn prelude_type(alloc: Global, name: &str) -> Result<Ty, AllocError>
     ensures { IfOk result (λ t. type_of t ≡ app (head.Named (record { «module» = codes "Prelude"; name = name.now })) none) }
 {
     let entity = Entity {
-        module: Text::new(String::from_str(alloc, "Prelude")?),
-        name: Text::new(String::from_str(alloc, name)?),
+        module: Text::new(String::from_str(alloc, "Prelude")?)?,
+        name: Text::new(String::from_str(alloc, name)?)?,
     };
     Ok(Ty::App(Head::Named(entity), Types::new(Vec::new(alloc))))
 }

@@ -6,9 +6,10 @@ ghost use Rattle.hm_names.specs.Special.{Cons, Tuple, special_of, special_text};
 ghost use Rattle.hm_names.specs.Types.{declared_scheme, program_of, special_type};
 
 use crate::shapes::{function_type, list_of, tuple_type};
+use hm_instances::canonical;
 use hm_names::tuple_arity;
 use hm_syntax::Name;
-use hm_types::{Head, Scheme, Ty, Types, canonical};
+use hm_types::{Head, Scheme, Ty, Types};
 use std::alloc::{AllocError, Global};
 
 /// The type of (:).

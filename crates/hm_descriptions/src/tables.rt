@@ -237,7 +237,8 @@ fn add_imported_types<'a>(
     interfaces: &[&'a Interface],
 ) -> Result<(), AllocError>
     ensures { OnOk result ((before : List TypeDescription) → KnowsTypes before (map known_arity types.old.entries) (map known_imported synonyms.old.entries)
-        → KnowsTypes (before ++ imported_types (map (λ f. f.now) interfaces.now)) (map known_arity types.new.entries) (map known_imported synonyms.new.entries)) }
+        → KnowsTypes (before ++ imported_types (map (λ f.
+        f.now) interfaces.now)) (map known_arity types.new.entries) (map known_imported synonyms.new.entries)) }
 {
     'interfaces: for interface in interfaces {
         add_types(types, interface.types())?;
@@ -292,7 +293,8 @@ fn known_types<'a>(
     decls: &'a [Decl],
     interfaces: &[&'a Interface],
 ) -> Result<KnownTypes<'a>, AllocError>
-    ensures { IfOk result (λ known. KnowsTypes (declared_types home.now decls.now ++ imported_types (map (λ f. f.now) interfaces.now)) (map known_arity known.types.entries) (map known_imported known.imported.entries)) }
+    ensures { IfOk result (λ known. KnowsTypes (declared_types home.now decls.now
+        ++ imported_types (map (λ f. f.now) interfaces.now)) (map known_arity known.types.entries) (map known_imported known.imported.entries)) }
 {
     let mut types = IndexMap::new(alloc);
     let mut imported = IndexMap::new(alloc);
@@ -308,7 +310,8 @@ fn known_constructors<'a>(
     decls: &'a [Decl],
     interfaces: &[&'a Interface],
 ) -> Result<IndexMap<EntityKey<'a>, usize>, AllocError>
-    ensures { IfOk result (λ known. KnowsConstructors (declared_constructors home.now decls.now ++ imported_constructors (map (λ f. f.now) interfaces.now)) (map known_arity known.entries)) }
+    ensures { IfOk result (λ known. KnowsConstructors (declared_constructors home.now decls.now
+        ++ imported_constructors (map (λ f. f.now) interfaces.now)) (map known_arity known.entries)) }
 {
     let mut constructors = IndexMap::new(alloc);
     add_declared_constructors(&mut constructors, home, decls)?;
@@ -353,7 +356,8 @@ impl<'a> Tables<'a> {
     ) -> Result<(), AllocError>
         ensures types { OnOk result (self.new.types ≡ self.old.types) }
         ensures constructors { OnOk result (self.new.constructors ≡ self.old.constructors) }
-        ensures synonyms { OnOk result ((e : Entity) → synonym_among self.new.synonyms e ≡ cond (same_entity e (named home.now name.now)) (Some synonym) (synonym_among self.old.synonyms e)) }
+        ensures synonyms { OnOk result ((e : Entity) → synonym_among self.new.synonyms e
+            ≡ cond (same_entity e (named home.now name.now)) (Some synonym) (synonym_among self.old.synonyms e)) }
     {
         let key = EntityKey { module: home, name };
         self.own.insert(key, synonym)?;

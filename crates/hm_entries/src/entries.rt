@@ -40,7 +40,8 @@ fn add_synonym(
     exported: &Exported,
     synonym: Synonym,
 ) -> Result<(), AllocError>
-    ensures { OnOk result (synonyms.new.items ≡ synonyms.old.items ++ record { name = exported.now.name; entity = exported.now.entity; synonym = synonym } ∷ []) }
+    ensures { OnOk result (synonyms.new.items ≡ synonyms.old.items
+        ++ record { name = exported.now.name; entity = exported.now.entity; synonym = synonym } ∷ []) }
 {
     synonyms.push(SynonymEntry {
         name: exported.name.copy()?,
@@ -59,8 +60,12 @@ fn add_type(
     exported: &Exported,
 ) -> Result<(), AllocError>
     requires { HasSoundSynonyms known.now }
-    ensures types { OnOk result ((c : ModuleCore) (xs : List Exported) → AreTypesOf c known.now → AreOrdered (map (λ x. x.name) (xs ++ exported.now ∷ [])) → AreTypeEntries c xs types.old.items → AreTypeEntries c (xs ++ exported.now ∷ []) types.new.items) }
-    ensures synonyms { OnOk result ((c : ModuleCore) (xs : List Exported) → AreTypesOf c known.now → AreOrdered (map (λ x. x.name) (xs ++ exported.now ∷ [])) → AreSynonymEntries c xs synonyms.old.items → AreSynonymEntries c (xs ++ exported.now ∷ []) synonyms.new.items) }
+    ensures types { OnOk result ((c : ModuleCore) (xs : List Exported) → AreTypesOf c known.now
+        → AreOrdered (map (λ x. x.name) (xs ++ exported.now ∷ [])) → AreTypeEntries c xs types.old.items
+        → AreTypeEntries c (xs ++ exported.now ∷ []) types.new.items) }
+    ensures synonyms { OnOk result ((c : ModuleCore) (xs : List Exported) → AreTypesOf c known.now
+        → AreOrdered (map (λ x. x.name) (xs ++ exported.now ∷ [])) → AreSynonymEntries c xs synonyms.old.items
+        → AreSynonymEntries c (xs ++ exported.now ∷ []) synonyms.new.items) }
 {
     let Some(known) = known.get(&key_of(exported)) else {
         return Ok(());
@@ -90,8 +95,10 @@ fn add_types(
     exports: &[Exported],
 ) -> Result<(), AllocError>
     requires { HasSoundSynonyms known.now }
-    ensures types { OnOk result ((c : ModuleCore) → AreTypesOf c known.now → AreOrdered (map (λ x. x.name) exports.now) → types.old.items ≡ [] → AreTypeEntries c exports.now types.new.items) }
-    ensures synonyms { OnOk result ((c : ModuleCore) → AreTypesOf c known.now → AreOrdered (map (λ x. x.name) exports.now) → synonyms.old.items ≡ [] → AreSynonymEntries c exports.now synonyms.new.items) }
+    ensures types { OnOk result ((c : ModuleCore) → AreTypesOf c known.now → AreOrdered (map (λ x. x.name) exports.now) → types.old.items ≡ []
+        → AreTypeEntries c exports.now types.new.items) }
+    ensures synonyms { OnOk result ((c : ModuleCore) → AreTypesOf c known.now → AreOrdered (map (λ x. x.name) exports.now) → synonyms.old.items ≡ []
+        → AreSynonymEntries c exports.now synonyms.new.items) }
 {
     for exported in exports {
         add_type(alloc, types, synonyms, known, exported)?;
@@ -107,7 +114,8 @@ fn push_constructor(
     arguments: usize,
     scheme: Scheme,
 ) -> Result<(), AllocError>
-    ensures { OnOk result (constructors.new.items ≡ constructors.old.items ++ record { name = exported.now.name; entity = exported.now.entity; owner = owner; arguments = arguments; scheme = scheme } ∷ []) }
+    ensures { OnOk result (constructors.new.items ≡ constructors.old.items
+        ++ record { name = exported.now.name; entity = exported.now.entity; owner = owner; arguments = arguments; scheme = scheme } ∷ []) }
 {
     constructors.push(ConstructorEntry {
         name: exported.name.copy()?,
@@ -128,7 +136,9 @@ fn add_constructor(
     exported: &Exported,
 ) -> Result<(), AllocError>
     requires { HasDistinctParameters known.now }
-    ensures { OnOk result ((c : ModuleCore) (xs : List Exported) → home.now ≡ c.name → AreConstructorsOf c known.now → AreOrdered (map (λ x. x.name) (xs ++ exported.now ∷ [])) → AreConstructorEntries c xs constructors.old.items → AreConstructorEntries c (xs ++ exported.now ∷ []) constructors.new.items) }
+    ensures { OnOk result ((c : ModuleCore) (xs : List Exported) → home.now ≡ c.name → AreConstructorsOf c known.now
+        → AreOrdered (map (λ x. x.name) (xs ++ exported.now ∷ [])) → AreConstructorEntries c xs constructors.old.items
+        → AreConstructorEntries c (xs ++ exported.now ∷ []) constructors.new.items) }
 {
     let Some(known) = known.get(&key_of(exported)) else {
         return Ok(());
@@ -156,7 +166,8 @@ fn add_constructors(
     exports: &[Exported],
 ) -> Result<(), AllocError>
     requires { HasDistinctParameters known.now }
-    ensures { OnOk result ((c : ModuleCore) → home.now ≡ c.name → AreConstructorsOf c known.now → AreOrdered (map (λ x. x.name) exports.now) → constructors.old.items ≡ [] → AreConstructorEntries c exports.now constructors.new.items) }
+    ensures { OnOk result ((c : ModuleCore) → home.now ≡ c.name → AreConstructorsOf c known.now → AreOrdered (map (λ x. x.name) exports.now)
+        → constructors.old.items ≡ [] → AreConstructorEntries c exports.now constructors.new.items) }
 {
     for exported in exports {
         add_constructor(alloc, constructors, home, known, exported)?;
@@ -176,7 +187,8 @@ struct Values<'a> {
 
 /// The scheme of an exported variable.
 fn scheme_of<'v>(values: &'v Values<'_>, exported: &'v Exported) -> Option<&'v Scheme>
-    ensures { (c : ModuleCore) → AreValuesOf c values.now → (t : TypeScheme) → (option_map (λ x. x.now) result ≡ Some t) ↔ HasScheme c (scheme_of values.now.schemes.now) exported.now.entity t }
+    ensures { (c : ModuleCore) → AreValuesOf c values.now → (t : TypeScheme)
+        → (option_map (λ x. x.now) result ≡ Some t) ↔ HasScheme c (scheme_of values.now.schemes.now) exported.now.entity t }
 {
     let name = exported.entity.name.as_str();
     if exported.entity.module.as_str() == values.home && values.own.contains(name) {
@@ -193,7 +205,9 @@ fn add_value(
     values: &Values<'_>,
     exported: &Exported,
 ) -> Result<(), AllocError>
-    ensures { OnOk result ((c : ModuleCore) (xs : List Exported) → AreValuesOf c values.now → AreOrdered (map (λ x. x.name) (xs ++ exported.now ∷ [])) → AreValueEntries c (scheme_of values.now.schemes.now) xs entries.old.items → AreValueEntries c (scheme_of values.now.schemes.now) (xs ++ exported.now ∷ []) entries.new.items) }
+    ensures { OnOk result ((c : ModuleCore) (xs : List Exported) → AreValuesOf c values.now → AreOrdered (map (λ x. x.name) (xs ++ exported.now ∷ []))
+        → AreValueEntries c (scheme_of values.now.schemes.now) xs entries.old.items
+        → AreValueEntries c (scheme_of values.now.schemes.now) (xs ++ exported.now ∷ []) entries.new.items) }
 {
     let Some(scheme) = scheme_of(values, exported) else {
         return Ok(());
@@ -213,7 +227,8 @@ fn add_values(
     values: &Values<'_>,
     exports: &[Exported],
 ) -> Result<(), AllocError>
-    ensures { OnOk result ((c : ModuleCore) → AreValuesOf c values.now → AreOrdered (map (λ x. x.name) exports.now) → entries.old.items ≡ [] → AreValueEntries c (scheme_of values.now.schemes.now) exports.now entries.new.items) }
+    ensures { OnOk result ((c : ModuleCore) → AreValuesOf c values.now → AreOrdered (map (λ x. x.name) exports.now) → entries.old.items ≡ []
+        → AreValueEntries c (scheme_of values.now.schemes.now) exports.now entries.new.items) }
 {
     for exported in exports {
         add_value(alloc, entries, values, exported)?;

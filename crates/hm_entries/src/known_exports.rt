@@ -48,7 +48,9 @@ fn note<'a, V: Drop>(
     key: EntityKey<'a>,
     value: V,
 ) -> Result<(), AllocError>
-    ensures { OnOk result ((k : EntityKey) → get_by (same_key k) table.new ≡ cond (is_some (get_by (same_key key.entry) table.old)) (get_by (same_key k) table.old) (cond (same_key key.entry k) (Some value) (get_by (same_key k) table.old))) }
+    ensures { OnOk result ((k : EntityKey) → get_by (same_key k) table.new
+        ≡ cond (is_some (get_by (same_key key.entry) table.old)) (get_by (same_key k) table.old)
+        (cond (same_key key.entry k) (Some value) (get_by (same_key k) table.old))) }
 {
     if table.contains_key(&key) {
         return Ok(());
@@ -116,7 +118,8 @@ fn note_type_entries<'a>(
     types: &mut IndexMap<EntityKey<'a>, KnownType<'a>>,
     entries: &'a [TypeEntry],
 ) -> Result<(), AllocError>
-    ensures { OnOk result ((ds : List TypeDescription) → KnowsTypes ds types.old → KnowsTypes (ds ++ map (λ r. record { entity = r.entity; meaning = algebraic r.arity }) entries.now) types.new) }
+    ensures { OnOk result ((ds : List TypeDescription) → KnowsTypes ds types.old
+        → KnowsTypes (ds ++ map (λ r. record { entity = r.entity; meaning = algebraic r.arity }) entries.now) types.new) }
 {
     for entry in entries {
         let key = EntityKey::of(&EntityRef::of(&entry.entity));
@@ -130,7 +133,8 @@ fn note_synonym_entries<'a>(
     types: &mut IndexMap<EntityKey<'a>, KnownType<'a>>,
     entries: &'a [SynonymEntry],
 ) -> Result<(), AllocError>
-    ensures { OnOk result ((ds : List TypeDescription) → KnowsTypes ds types.old → KnowsTypes (ds ++ map (λ r. record { entity = r.entity; meaning = imported_synonym r.synonym }) entries.now) types.new) }
+    ensures { OnOk result ((ds : List TypeDescription) → KnowsTypes ds types.old
+        → KnowsTypes (ds ++ map (λ r. record { entity = r.entity; meaning = imported_synonym r.synonym }) entries.now) types.new) }
 {
     for entry in entries {
         let key = EntityKey::of(&EntityRef::of(&entry.entity));
@@ -165,7 +169,8 @@ fn note_constructors<'a>(
     params: &'a [Name],
     constrs: &'a [Constr],
 ) -> Result<(), AllocError>
-    ensures { OnOk result ((ds : List ConstructorSource) → KnowsConstructors home.now ds constructors.old → KnowsConstructors home.now (ds ++ map (declared name.now params.now) constrs.now) constructors.new) }
+    ensures { OnOk result ((ds : List ConstructorSource) → KnowsConstructors home.now ds constructors.old
+        → KnowsConstructors home.now (ds ++ map (declared name.now params.now) constrs.now) constructors.new) }
 {
     for constr in constrs {
         note(
@@ -183,7 +188,8 @@ fn note_declared<'a>(
     home: &'a str,
     decl: &'a Decl,
 ) -> Result<(), AllocError>
-    ensures { OnOk result ((ds : List ConstructorSource) → KnowsConstructors home.now ds constructors.old → KnowsConstructors home.now (ds ++ declared_sources (decl.now ∷ [])) constructors.new) }
+    ensures { OnOk result ((ds : List ConstructorSource) → KnowsConstructors home.now ds constructors.old
+        → KnowsConstructors home.now (ds ++ declared_sources (decl.now ∷ [])) constructors.new) }
 {
     match &decl.kind {
         DeclKind::DataType {
@@ -213,7 +219,8 @@ fn note_all_declared<'a>(
     home: &'a str,
     decls: &'a [Decl],
 ) -> Result<(), AllocError>
-    ensures { OnOk result ((ds : List ConstructorSource) → KnowsConstructors home.now ds constructors.old → KnowsConstructors home.now (ds ++ declared_sources decls.now) constructors.new) }
+    ensures { OnOk result ((ds : List ConstructorSource) → KnowsConstructors home.now ds constructors.old
+        → KnowsConstructors home.now (ds ++ declared_sources decls.now) constructors.new) }
 {
     for decl in decls {
         note_declared(constructors, home, decl)?;
@@ -226,7 +233,8 @@ fn note_constructor_entries<'a>(
     constructors: &mut IndexMap<EntityKey<'a>, KnownConstructor<'a>>,
     entries: &'a [ConstructorEntry],
 ) -> Result<(), AllocError>
-    ensures { OnOk result ((m : List ℕ) (ds : List ConstructorSource) → KnowsConstructors m ds constructors.old → KnowsConstructors m (ds ++ map imported entries.now) constructors.new) }
+    ensures { OnOk result ((m : List ℕ) (ds : List ConstructorSource) → KnowsConstructors m ds constructors.old
+        → KnowsConstructors m (ds ++ map imported entries.now) constructors.new) }
 {
     for entry in entries {
         let key = EntityKey::of(&EntityRef::of(&entry.entity));

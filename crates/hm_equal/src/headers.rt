@@ -4,16 +4,19 @@ ghost use Rattle.std.specs.Prelude.{◌≡◌, ◌↔◌, IsTrue};
 
 use crate::names::is_same_name;
 use crate::rows::{Part, are_same};
-use hm_syntax::{Export, Header, Import, Item, List, Name, Row, Subs};
+use hm_syntax::{Export, Header, Import, ImportItem, ImportList, Name, Row, SubItems};
 
 /// Whether two lists behind a type are the same.
-fn is_same_subs(subs: &Subs, other: &Subs) -> bool
+fn is_same_subs(subs: &SubItems, other: &SubItems) -> bool
     ensures { IsTrue result ↔ (subs.now ≡ other.now) }
 {
     match (subs, other) {
-        (Subs::None, Subs::None) => true,
-        (Subs::All, Subs::All) => true,
-        (Subs::Some(names), Subs::Some(others)) => are_same(names.as_slice(), others.as_slice()),
+        (SubItems::None, SubItems::None) => true,
+        (SubItems::All, SubItems::All) => true,
+        (SubItems::Some(names), SubItems::Some(others)) => are_same(
+            names.as_slice(),
+            others.as_slice(),
+        ),
         _ => false,
     }
 }
@@ -31,11 +34,11 @@ impl Part for Export {
     }
 }
 
-impl Part for Item {
-    fn is_same(&self, other: &Item) -> bool {
+impl Part for ImportItem {
+    fn is_same(&self, other: &ImportItem) -> bool {
         match (self, other) {
-            (Item::Var(name), Item::Var(with)) => is_same_name(name, with),
-            (Item::Con(name, subs), Item::Con(with, others)) => {
+            (ImportItem::Var(name), ImportItem::Var(with)) => is_same_name(name, with),
+            (ImportItem::Con(name, subs), ImportItem::Con(with, others)) => {
                 is_same_name(name, with) && is_same_subs(subs, others)
             }
             _ => false,
@@ -44,13 +47,16 @@ impl Part for Item {
 }
 
 /// Whether two import lists are the same.
-fn is_same_list(list: &List, other: &List) -> bool
+fn is_same_list(list: &ImportList, other: &ImportList) -> bool
     ensures { IsTrue result ↔ (list.now ≡ other.now) }
 {
     match (list, other) {
-        (List::Every, List::Every) => true,
-        (List::Only(items), List::Only(others)) => are_same(items.as_slice(), others.as_slice()),
-        (List::Hiding(items), List::Hiding(others)) => {
+        (ImportList::Every, ImportList::Every) => true,
+        (ImportList::Only(items), ImportList::Only(others)) => are_same(
+            items.as_slice(),
+            others.as_slice(),
+        ),
+        (ImportList::Hiding(items), ImportList::Hiding(others)) => {
             are_same(items.as_slice(), others.as_slice())
         }
         _ => false,

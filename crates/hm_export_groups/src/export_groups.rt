@@ -74,7 +74,8 @@ pub fn add_to_group<'a>(
     selector: Selector<'a>,
     binding: Binding<'a>,
 ) -> Result<(), AllocError>
-    ensures { OnOk result ((k : Selector) → group_of groups.new k ≡ cond (same_selector selector.entry k) (group_of groups.old k ++ binding.entry ∷ []) (group_of groups.old k)) }
+    ensures { OnOk result ((k : Selector) → group_of groups.new k
+        ≡ cond (same_selector selector.entry k) (group_of groups.old k ++ binding.entry ∷ []) (group_of groups.old k)) }
 {
     if let Some(group) = groups.get_mut(&selector) {
         group.push(binding)?;
@@ -152,7 +153,8 @@ fn add_owned<'a>(
     owners: &IndexMap<EntityKey<'a>, EntityRef<'a>>,
     pair: &Binding<'a>,
 ) -> Result<(), AllocError>
-    ensures { OnOk result ((ds : List ConstructorDescription) → IsOwners ds owners.now → (k : Selector) → Adds (group_of groups.old k) (group_of groups.new k) (IsOfOwner ds pair.now k)) }
+    ensures { OnOk result ((ds : List ConstructorDescription) → IsOwners ds owners.now → (k : Selector)
+        → Adds (group_of groups.old k) (group_of groups.new k) (IsOfOwner ds pair.now k)) }
 {
     if pair.space() != Namespace::Constructors {
         return Ok(());
@@ -183,7 +185,8 @@ fn add_pair<'a>(
     owners: &IndexMap<EntityKey<'a>, EntityRef<'a>>,
     pair: &Binding<'a>,
 ) -> Result<(), AllocError>
-    ensures { OnOk result ((ds : List ConstructorDescription) → IsOwners ds owners.now → (k : Selector) → Adds (group_of groups.old k) (group_of groups.new k) (λ p. IsOfWhole bare.now pair.now k p ⊎ IsOfOwner ds pair.now k p)) }
+    ensures { OnOk result ((ds : List ConstructorDescription) → IsOwners ds owners.now → (k : Selector)
+        → Adds (group_of groups.old k) (group_of groups.new k) (λ p. IsOfWhole bare.now pair.now k p ⊎ IsOfOwner ds pair.now k p)) }
 {
     add_qualified(alloc, groups, bare, pair)?;
     add_owned(alloc, groups, owners, pair)?;
@@ -198,7 +201,8 @@ fn add_pairs<'a>(
     owners: &IndexMap<EntityKey<'a>, EntityRef<'a>>,
     pairs: &[Binding<'a>],
 ) -> Result<(), AllocError>
-    ensures { OnOk result ((ds : List ConstructorDescription) → IsOwners ds owners.now → (k : Selector) → Adds (group_of groups.old k) (group_of groups.new k) (λ p. (q : Pair) × (Contains pairs.now q × (IsOfWhole bare.now q k p ⊎ IsOfOwner ds q k p)))) }
+    ensures { OnOk result ((ds : List ConstructorDescription) → IsOwners ds owners.now → (k : Selector)
+        → Adds (group_of groups.old k) (group_of groups.new k) (λ p. (q : Pair) × (Contains pairs.now q × (IsOfWhole bare.now q k p ⊎ IsOfOwner ds q k p)))) }
 {
     for pair in pairs {
         add_pair(alloc, groups, bare, owners, pair)?;
@@ -213,7 +217,8 @@ fn groups_with<'a>(
     owners: &IndexMap<EntityKey<'a>, EntityRef<'a>>,
     pairs: &[Binding<'a>],
 ) -> Result<IndexMap<Selector<'a>, Vec<Binding<'a>>>, AllocError>
-    ensures { IfOk result (λ groups. (m : Module) (fs : List Interface) → IsScopeOf m fs pairs.now → ((p : Pair) → Contains bare.now p ↔ (Contains pairs.now p × (p.qualifier ≡ None)))
+    ensures { IfOk result (λ groups. (m : Module) (fs : List Interface) → IsScopeOf m fs pairs.now
+        → ((p : Pair) → Contains bare.now p ↔ (Contains pairs.now p × (p.qualifier ≡ None)))
         → IsOwners (declared_constructors m.header.name.text m.decls ++ imported_constructors fs) owners.now → AreGroupsOf m fs groups) }
 {
     let mut groups = IndexMap::new(alloc);
@@ -228,7 +233,8 @@ pub fn groups_of<'a>(
     interfaces: &[&'a Interface],
     pairs: &[Binding<'a>],
 ) -> Result<IndexMap<Selector<'a>, Vec<Binding<'a>>>, AllocError>
-    ensures { IfOk result (λ groups. IsScopeOf program.now (map (λ i. i.now) interfaces.now) pairs.now → AreGroupsOf program.now (map (λ i. i.now) interfaces.now) groups) }
+    ensures { IfOk result (λ groups. IsScopeOf program.now (map (λ i. i.now) interfaces.now) pairs.now
+        → AreGroupsOf program.now (map (λ i. i.now) interfaces.now) groups) }
 {
     let bare = bare_pairs(alloc, pairs)?;
     let owners = owners_of(alloc, program, interfaces)?;

@@ -15,8 +15,8 @@ use Rattle.hm_syntax.specs.Names.{Identifier}
 use Rattle.hm_syntax.specs.declared.ast.Module.{Module}
 use Rattle.hm_syntax.specs.declared.ast.Export.{Export}
 use Rattle.hm_syntax.specs.declared.ast.Export.TheVariants as export
-use Rattle.hm_syntax.specs.declared.ast.Subs.{Subs}
-use Rattle.hm_syntax.specs.declared.ast.Subs.TheVariants as subs
+use Rattle.hm_syntax.specs.declared.ast.SubItems.{SubItems}
+use Rattle.hm_syntax.specs.declared.ast.SubItems.TheVariants as subs
 use Rattle.hm_names.specs.declared.namespace.Namespace.{Namespace}
 use Rattle.hm_names.specs.declared.namespace.Namespace.TheVariants.{Types, Values}
 use Rattle.hm_names.specs.declared.faults.Fault.{Fault}
@@ -139,7 +139,7 @@ one_clash old new all given i x f least is more = adds_like old new (λ g. f ≡
 -- What an item gives, by its cases
 
 module _ (m : Module) (fs : List Interface) where
-  gives_behind : (t : Entity) (n : Identifier) (s : Subs) (p : Pair) → Rattle.hm_names.specs.Scope.Means m fs Types n t → GivesBehind m fs t s p → Gives m fs p.text p.entity (export.Con n s) p.space
+  gives_behind : (t : Entity) (n : Identifier) (s : SubItems) (p : Pair) → Rattle.hm_names.specs.Scope.Means m fs Types n t → GivesBehind m fs t s p → Gives m fs p.text p.entity (export.Con n s) p.space
   gives_behind t n subs.None p means h = absurd h
   gives_behind t n subs.All p means (_, (space, has)) = subst (λ z. Gives m fs p.text p.entity (export.Con n subs.All) z) (sym space) (each_constructor means has)
   gives_behind t n (subs.Some cs) p means (c, (listed, ((_, (space, has)), text))) = subst (λ z. Gives m fs p.text p.entity (export.Con n (subs.Some cs)) z) (sym space) (a_constructor means listed (sym text) has)
@@ -148,7 +148,7 @@ module _ (m : Module) (fs : List Interface) where
   gives (export.Var n) p (e, (means, is)) = subst (λ z. (z.qualifier ≡ None) × Gives m fs z.text z.entity (export.Var n) z.space) is (refl, a_value means refl)
   gives (export.Con n s) p (t, (means, h)) = ⊎_elim (λ is. subst (λ z. (z.qualifier ≡ None) × Gives m fs z.text z.entity (export.Con n s) z.space) is (refl, a_type means refl)) (λ b. (unqualified s b, gives_behind t n s p means b)) h
     where
-      unqualified : (s : Subs) → GivesBehind m fs t s p → p.qualifier ≡ None
+      unqualified : (s : SubItems) → GivesBehind m fs t s p → p.qualifier ≡ None
       unqualified subs.None b = absurd b
       unqualified subs.All b = b.0
       unqualified (subs.Some cs) b = b.1.1.0.0

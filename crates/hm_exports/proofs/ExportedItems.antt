@@ -6,7 +6,7 @@ use Rattle.hm_types.specs.Interfaces.{Exports as Interface}
 use Rattle.hm_syntax.specs.Names.{Identifier}
 use Rattle.hm_syntax.specs.declared.ast.Module.{Module}
 use Rattle.hm_syntax.specs.declared.ast.Export.TheVariants as export
-use Rattle.hm_syntax.specs.declared.ast.Subs.{Subs}
+use Rattle.hm_syntax.specs.declared.ast.SubItems.{SubItems}
 use Rattle.hm_names.specs.declared.namespace.Namespace.{Namespace}
 use Rattle.hm_names.specs.declared.namespace.Namespace.TheVariants.{Types, Constructors, Values}
 use Rattle.hm_names.specs.declared.faults.Fault.{Fault}
@@ -47,7 +47,7 @@ module _ (m : Module) (fs : List Interface) where
         (λ p (d, (also, h)). ap (bare_pair Values n.text) (sym (means.alone d also.in_scope)) ∙ h) a
 
   -- an exported type
-  module _ (n : Identifier) (s : Subs) where
+  module _ (n : Identifier) (s : SubItems) where
     pub type_missing : (old : List Pair) → ((e : Entity) → ¬ (Means m fs Types n e)) → Adds old old (GivesPair m fs (export.Con n s))
     type_missing old none = adds_none old (GivesPair m fs (export.Con n s)) (λ p (e, (means, _)). none e means)
 

@@ -9,8 +9,8 @@ use Rattle.hm_syntax.specs.Names.{Identifier}
 use Rattle.hm_syntax.specs.declared.ast.Module.{Module}
 use Rattle.hm_syntax.specs.declared.ast.Export.{Export}
 use Rattle.hm_syntax.specs.declared.ast.Export.TheVariants as export
-use Rattle.hm_syntax.specs.declared.ast.Subs.{Subs}
-use Rattle.hm_syntax.specs.declared.ast.Subs.TheVariants as subs
+use Rattle.hm_syntax.specs.declared.ast.SubItems.{SubItems}
+use Rattle.hm_syntax.specs.declared.ast.SubItems.TheVariants as subs
 use Rattle.hm_exports.specs.declared.exports.ModuleExports.{ModuleExports}
 use Rattle.hm_names.specs.declared.namespace.Namespace.{Namespace}
 use Rattle.hm_names.specs.declared.namespace.Namespace.TheVariants.{Types}
@@ -117,7 +117,7 @@ module _ (m : Module) (fs : List Interface) where
     of_fault : (k : Kind) (n : Identifier) (g : Fault) → ExportFault m fs es k n → fault k n ≡ g → HasFault m fs Exporting g
     of_fault k n g f is = record { kind = k; name = n; stands = (es, (stand, f)); is = sym is }
 
-    behind_fault : (v : Identifier) (s : Subs) (t : Entity) (g : Fault) → Contains es (export.Con v s) → Means m fs Types v t → FaultBehind m fs t s g → HasFault m fs Exporting g
+    behind_fault : (v : Identifier) (s : SubItems) (t : Entity) (g : Fault) → Contains es (export.Con v s) → Means m fs Types v t → FaultBehind m fs t s g → HasFault m fs Exporting g
     behind_fault v subs.None t g c means h = absurd h
     behind_fault v subs.All t g c means h = absurd h
     behind_fault v (subs.Some cs) t g c means (n, (there, (none, is))) = of_fault Unbound n g (unbound_constructor c means there none) is

@@ -6,8 +6,8 @@ use Rattle.hm_syntax.specs.Names.{Identifier}
 use Rattle.hm_syntax.specs.declared.ast.Module.{Module}
 use Rattle.hm_syntax.specs.declared.ast.Export.{Export}
 use Rattle.hm_syntax.specs.declared.ast.Export.TheVariants as export
-use Rattle.hm_syntax.specs.declared.ast.Subs.{Subs}
-use Rattle.hm_syntax.specs.declared.ast.Subs.TheVariants as subs
+use Rattle.hm_syntax.specs.declared.ast.SubItems.{SubItems}
+use Rattle.hm_syntax.specs.declared.ast.SubItems.TheVariants as subs
 use Rattle.hm_names.specs.declared.namespace.Namespace.{Namespace}
 use Rattle.hm_names.specs.declared.namespace.Namespace.TheVariants.{Types, Values}
 use Rattle.hm_names.specs.declared.faults.Fault.{Fault}
@@ -30,7 +30,7 @@ abbrev pub bare_pair : Namespace → List ℕ → Entity → Pair
 bare_pair s x e = record { space = s; qualifier = None; text = x; entity = e }
 
 -- what stands behind an exported type t gives
-abbrev pub GivesBehind : Module → List Interface → Entity → Subs → Pair → Type 0
+abbrev pub GivesBehind : Module → List Interface → Entity → SubItems → Pair → Type 0
 GivesBehind m fs t subs.None p = ⊥
 GivesBehind m fs t subs.All p = IsOwned m fs t p
 GivesBehind m fs t (subs.Some cs) p = (c : Identifier) × (Contains cs c × (IsOwned m fs t p × (p.text ≡ c.text)))
@@ -46,7 +46,7 @@ abbrev pub NameFault : Module → List Interface → Namespace → Identifier �
 NameFault m fs s n g = (IsUnbound m fs s n × (fault Unbound n ≡ g)) ⊎ (IsAmbiguous m fs s n × (fault Ambiguous n ≡ g))
 
 -- the faults of what stands behind an exported type t
-abbrev pub FaultBehind : Module → List Interface → Entity → Subs → Fault → Type 0
+abbrev pub FaultBehind : Module → List Interface → Entity → SubItems → Fault → Type 0
 FaultBehind m fs t subs.None g = ⊥
 FaultBehind m fs t subs.All g = ⊥
 FaultBehind m fs t (subs.Some cs) g = (c : Identifier) × (Contains cs c × (((k : Entity) → ¬ (HasConstructor m fs t c.text k)) × (fault Unbound c ≡ g)))

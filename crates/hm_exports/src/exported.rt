@@ -20,7 +20,8 @@ fn add_once<'a>(
     space: Namespace,
     binding: &Binding<'a>,
 ) -> Result<(), AllocError>
-    ensures { OnOk result ((seen : List Pair) → AreOnePerName space seen names.old out.old.items → AreOnePerName space (seen ++ binding.now ∷ []) names.new out.new.items) }
+    ensures { OnOk result ((seen : List Pair) → AreOnePerName space seen names.old out.old.items
+        → AreOnePerName space (seen ++ binding.now ∷ []) names.new out.new.items) }
 {
     if binding.space() != space {
         return Ok(());
@@ -56,10 +57,10 @@ fn exported(alloc: Global, binding: &Binding<'_>) -> Result<Exported, AllocError
     let module_name = String::from_str(alloc, binding.entity().module())?;
     let entity_name = String::from_str(alloc, binding.entity().name())?;
     Ok(Exported {
-        name: Text::new(name),
+        name: Text::new(name)?,
         entity: Entity {
-            module: Text::new(module_name),
-            name: Text::new(entity_name),
+            module: Text::new(module_name)?,
+            name: Text::new(entity_name)?,
         },
     })
 }

@@ -21,7 +21,7 @@ use hm_export_groups::{Selector, add_group, copy_of, groups_of};
 use hm_imports::{add_declared, module_names};
 use hm_lex::Place;
 use hm_names::{Fault, Kind, Namespace, fault_at};
-use hm_syntax::{Export, Module, Name, Row, Subs};
+use hm_syntax::{Export, Module, Name, Row, SubItems};
 use hm_tables::{Binding, EntityRef, Key, Meaning, Scope, Slot, TextSet, is_several, note};
 use hm_types::{Interface, Text};
 use indexmap::IndexMap;
@@ -77,7 +77,8 @@ fn exported_entity<'a>(
     space: Namespace,
     name: &'a Name,
 ) -> Result<Option<EntityRef<'a>>, AllocError>
-    ensures { IfOk result (λ meant. (m : Module) (fs : List Interface) → IsScopeOf m fs exporter.now.scope.now → IsExportMeaning m fs space name.now faults.old.items faults.new.items meant) }
+    ensures { IfOk result (λ meant. (m : Module) (fs : List Interface) → IsScopeOf m fs exporter.now.scope.now
+        → IsExportMeaning m fs space name.now faults.old.items faults.new.items meant) }
 {
     match exporter.scope.meaning(space, name) {
         Meaning::Unbound => {
@@ -100,8 +101,10 @@ fn add_part<'a>(
     owner: &EntityRef<'a>,
     part: &'a Name,
 ) -> Result<(), AllocError>
-    ensures given { OnOk result ((m : Module) (fs : List Interface) → IsExporterOf m fs exporter.now → Adds out.old.items out.new.items (λ p. IsOwned m fs owner.now p × (p.text ≡ part.now.text))) }
-    ensures faults { OnOk result ((m : Module) (fs : List Interface) → IsExporterOf m fs exporter.now → Adds faults.old.items faults.new.items (λ g. ((k : Entity) → ¬ (HasConstructor m fs owner.now part.now.text k)) × (fault Unbound part.now ≡ g))) }
+    ensures given { OnOk result ((m : Module) (fs : List Interface) → IsExporterOf m fs exporter.now
+        → Adds out.old.items out.new.items (λ p. IsOwned m fs owner.now p × (p.text ≡ part.now.text))) }
+    ensures faults { OnOk result ((m : Module) (fs : List Interface) → IsExporterOf m fs exporter.now
+        → Adds faults.old.items faults.new.items (λ g. ((k : Entity) → ¬ (HasConstructor m fs owner.now part.now.text k)) × (fault Unbound part.now ≡ g))) }
 {
     let selector = Selector::constructor(owner, part.as_str());
     if add_group(out, &exporter.groups, &selector)? {
@@ -119,8 +122,11 @@ fn add_parts<'a>(
     owner: &EntityRef<'a>,
     parts: &'a [Name],
 ) -> Result<(), AllocError>
-    ensures given { OnOk result ((m : Module) (fs : List Interface) → IsExporterOf m fs exporter.now → Adds out.old.items out.new.items (λ p. (c : Identifier) × (Contains parts.now c × (IsOwned m fs owner.now p × (p.text ≡ c.text))))) }
-    ensures faults { OnOk result ((m : Module) (fs : List Interface) → IsExporterOf m fs exporter.now → Adds faults.old.items faults.new.items (λ g. (c : Identifier) × (Contains parts.now c × (((k : Entity) → ¬ (HasConstructor m fs owner.now c.text k)) × (fault Unbound c ≡ g))))) }
+    ensures given { OnOk result ((m : Module) (fs : List Interface) → IsExporterOf m fs exporter.now
+        → Adds out.old.items out.new.items (λ p. (c : Identifier) × (Contains parts.now c × (IsOwned m fs owner.now p × (p.text ≡ c.text))))) }
+    ensures faults { OnOk result ((m : Module) (fs : List Interface) → IsExporterOf m fs exporter.now
+        → Adds faults.old.items faults.new.items (λ g. (c : Identifier)
+        × (Contains parts.now c × (((k : Entity) → ¬ (HasConstructor m fs owner.now c.text k)) × (fault Unbound c ≡ g))))) }
 {
     for part in parts {
         add_part(exporter, out, faults, owner, part)?;
@@ -134,18 +140,20 @@ fn add_behind<'a>(
     out: &mut Vec<Binding<'a>>,
     faults: &mut Vec<Fault>,
     owner: &EntityRef<'a>,
-    subs: &'a Subs,
+    subs: &'a SubItems,
 ) -> Result<(), AllocError>
-    ensures given { OnOk result ((m : Module) (fs : List Interface) → IsExporterOf m fs exporter.now → Adds out.old.items out.new.items (GivesBehind m fs owner.now subs.now)) }
-    ensures faults { OnOk result ((m : Module) (fs : List Interface) → IsExporterOf m fs exporter.now → Adds faults.old.items faults.new.items (FaultBehind m fs owner.now subs.now)) }
+    ensures given { OnOk result ((m : Module) (fs : List Interface) → IsExporterOf m fs exporter.now
+        → Adds out.old.items out.new.items (GivesBehind m fs owner.now subs.now)) }
+    ensures faults { OnOk result ((m : Module) (fs : List Interface) → IsExporterOf m fs exporter.now
+        → Adds faults.old.items faults.new.items (FaultBehind m fs owner.now subs.now)) }
 {
     match subs {
-        Subs::None => Ok(()),
-        Subs::All => {
+        SubItems::None => Ok(()),
+        SubItems::All => {
             add_group(out, &exporter.groups, &Selector::constructors(owner))?;
             Ok(())
         }
-        Subs::Some(parts) => {
+        SubItems::Some(parts) => {
             add_parts(exporter, out, faults, owner, parts.as_slice())?;
             Ok(())
         }
@@ -159,8 +167,10 @@ fn add_value<'a>(
     faults: &mut Vec<Fault>,
     name: &'a Name,
 ) -> Result<(), AllocError>
-    ensures given { OnOk result ((m : Module) (fs : List Interface) → IsExporterOf m fs exporter.now → Adds out.old.items out.new.items (GivesPair m fs (export.Var name.now))) }
-    ensures faults { OnOk result ((m : Module) (fs : List Interface) → IsExporterOf m fs exporter.now → Adds faults.old.items faults.new.items (ItemFault m fs (export.Var name.now))) }
+    ensures given { OnOk result ((m : Module) (fs : List Interface) → IsExporterOf m fs exporter.now
+        → Adds out.old.items out.new.items (GivesPair m fs (export.Var name.now))) }
+    ensures faults { OnOk result ((m : Module) (fs : List Interface) → IsExporterOf m fs exporter.now
+        → Adds faults.old.items faults.new.items (ItemFault m fs (export.Var name.now))) }
 {
     let Some(entity) = exported_entity(exporter, faults, Namespace::Values, name)? else {
         return Ok(());
@@ -175,10 +185,12 @@ fn add_type<'a>(
     out: &mut Vec<Binding<'a>>,
     faults: &mut Vec<Fault>,
     name: &'a Name,
-    subs: &'a Subs,
+    subs: &'a SubItems,
 ) -> Result<(), AllocError>
-    ensures given { OnOk result ((m : Module) (fs : List Interface) → IsExporterOf m fs exporter.now → Adds out.old.items out.new.items (GivesPair m fs (export.Con name.now subs.now))) }
-    ensures faults { OnOk result ((m : Module) (fs : List Interface) → IsExporterOf m fs exporter.now → Adds faults.old.items faults.new.items (ItemFault m fs (export.Con name.now subs.now))) }
+    ensures given { OnOk result ((m : Module) (fs : List Interface) → IsExporterOf m fs exporter.now
+        → Adds out.old.items out.new.items (GivesPair m fs (export.Con name.now subs.now))) }
+    ensures faults { OnOk result ((m : Module) (fs : List Interface) → IsExporterOf m fs exporter.now
+        → Adds faults.old.items faults.new.items (ItemFault m fs (export.Con name.now subs.now))) }
 {
     let Some(owner) = exported_entity(exporter, faults, Namespace::Types, name)? else {
         return Ok(());
@@ -195,8 +207,10 @@ fn add_whole<'a>(
     faults: &mut Vec<Fault>,
     name: &'a Name,
 ) -> Result<(), AllocError>
-    ensures given { OnOk result ((m : Module) (fs : List Interface) → IsExporterOf m fs exporter.now → Adds out.old.items out.new.items (GivesPair m fs (export.Whole name.now))) }
-    ensures faults { OnOk result ((m : Module) (fs : List Interface) → IsExporterOf m fs exporter.now → Adds faults.old.items faults.new.items (ItemFault m fs (export.Whole name.now))) }
+    ensures given { OnOk result ((m : Module) (fs : List Interface) → IsExporterOf m fs exporter.now
+        → Adds out.old.items out.new.items (GivesPair m fs (export.Whole name.now))) }
+    ensures faults { OnOk result ((m : Module) (fs : List Interface) → IsExporterOf m fs exporter.now
+        → Adds faults.old.items faults.new.items (ItemFault m fs (export.Whole name.now))) }
 {
     if !exporter.modules.contains(name.as_str()) {
         add_fault(exporter.alloc, faults, Kind::NotImported, name)?;
@@ -213,8 +227,10 @@ fn add_item<'a>(
     faults: &mut Vec<Fault>,
     item: &'a Export,
 ) -> Result<(), AllocError>
-    ensures given { OnOk result ((m : Module) (fs : List Interface) → IsExporterOf m fs exporter.now → Adds out.old.items out.new.items (GivesPair m fs item.now)) }
-    ensures faults { OnOk result ((m : Module) (fs : List Interface) → IsExporterOf m fs exporter.now → Adds faults.old.items faults.new.items (ItemFault m fs item.now)) }
+    ensures given { OnOk result ((m : Module) (fs : List Interface) → IsExporterOf m fs exporter.now
+        → Adds out.old.items out.new.items (GivesPair m fs item.now)) }
+    ensures faults { OnOk result ((m : Module) (fs : List Interface) → IsExporterOf m fs exporter.now
+        → Adds faults.old.items faults.new.items (ItemFault m fs item.now)) }
 {
     match item {
         Export::Var(name) => {
@@ -250,7 +266,8 @@ fn lesser<'a>(
     least: Option<&'a str>,
     pair: &Binding<'a>,
 ) -> Option<&'a str>
-    ensures { (all seen : List Pair) → IsTable all table.now → IsLeastOf all seen (option_map (λ x. x.now) least.entry) → IsLeastOf all (seen ++ pair.now ∷ []) (option_map (λ x. x.now) result) }
+    ensures { (all seen : List Pair) → IsTable all table.now → IsLeastOf all seen (option_map (λ x. x.now) least.entry)
+        → IsLeastOf all (seen ++ pair.now ∷ []) (option_map (λ x. x.now) result) }
 {
     if !is_several(table, pair) {
         return least;
@@ -288,7 +305,7 @@ fn add_clash<'a>(
     let Some(text) = least_clash(table, given) else {
         return Ok(());
     };
-    let name = Text::new(String::from_str(alloc, text)?);
+    let name = Text::new(String::from_str(alloc, text)?)?;
     faults.push(Fault {
         place: item_place(item),
         kind: Kind::ExportClash,
@@ -320,7 +337,8 @@ fn add_export<'a>(
     table: &mut IndexMap<Key<'a>, Slot<'a>>,
     item: &'a Export,
 ) -> Result<(), AllocError>
-    ensures { OnOk result ((m : Module) (fs : List Interface) (before : List Export) → IsExporterOf m fs exporter.now → AreExportsSoFar m fs before exports.old table.old → AreExportsSoFar m fs (before ++ item.now ∷ []) exports.new table.new) }
+    ensures { OnOk result ((m : Module) (fs : List Interface) (before : List Export) → IsExporterOf m fs exporter.now
+        → AreExportsSoFar m fs before exports.old table.old → AreExportsSoFar m fs (before ++ item.now ∷ []) exports.new table.new) }
 {
     let mut out = Vec::new(exporter.alloc);
     add_item(exporter, &mut out, &mut exports.faults, item)?;

@@ -8,10 +8,10 @@ use Rattle.hm_types.specs.declared.entries.ConstructorEntry.{ConstructorEntry}
 use Rattle.hm_types.specs.declared.entries.ValueEntry.{ValueEntry}
 use Rattle.hm_types.specs.Interfaces.{Exports as Interface, AreOrdered}
 use Rattle.hm_syntax.specs.Names.{Identifier}
-use Rattle.hm_syntax.specs.declared.ast.Item.{Item}
-use Rattle.hm_syntax.specs.declared.ast.Item.TheVariants as item
-use Rattle.hm_syntax.specs.declared.ast.Subs.{Subs}
-use Rattle.hm_syntax.specs.declared.ast.Subs.TheVariants as subs
+use Rattle.hm_syntax.specs.declared.ast.ImportItem.{ImportItem}
+use Rattle.hm_syntax.specs.declared.ast.ImportItem.TheVariants as item
+use Rattle.hm_syntax.specs.declared.ast.SubItems.{SubItems}
+use Rattle.hm_syntax.specs.declared.ast.SubItems.TheVariants as subs
 use Rattle.hm_names.specs.declared.namespace.Namespace.TheVariants.{Types, Values}
 use Rattle.hm_names.specs.declared.faults.Fault.{Fault}
 use Rattle.hm_names.specs.declared.faults.Kind.TheVariants.{NotExported}
@@ -62,10 +62,10 @@ module _ (f : Interface) (t x : List ℕ) where
 
 -- the faults of an item
 module _ (f : Interface) where
-  abbrev pub ItemFault : Item → Fault → Type 0
+  abbrev pub ItemFault : ImportItem → Fault → Type 0
   ItemFault j g = (k : Identifier) × (IsItemFault f k j × (fault NotExported k ≡ g))
 
-  pub no_faults : (old : List Fault) (j : Item) → ((k : Identifier) → ¬ IsItemFault f k j) → Adds old old (ItemFault j)
+  pub no_faults : (old : List Fault) (j : ImportItem) → ((k : Identifier) → ¬ IsItemFault f k j) → Adds old old (ItemFault j)
   no_faults old j n = adds_none old (ItemFault j) (λ g (k, (h, e)). n k h)
 
   pub value_fine : (v : Identifier) → (e : Entity) × Exports f v.text e Values → (k : Identifier) → ¬ IsItemFault f k (item.Var v)
@@ -77,10 +77,10 @@ module _ (f : Interface) where
       at : {g : Fault} (k : Identifier) → IsItemFault f k (item.Var v) → fault NotExported k ≡ g → fault NotExported v ≡ g
       at k (faulty.a_value m) e = e
 
-  pub type_fault : (old new : List Fault) (v : Identifier) (s : Subs) → ¬ ((e : Entity) × Exports f v.text e Types) → Adds old new (λ g. fault NotExported v ≡ g) → Adds old new (ItemFault (item.Con v s))
+  pub type_fault : (old new : List Fault) (v : Identifier) (s : SubItems) → ¬ ((e : Entity) × Exports f v.text e Types) → Adds old new (λ g. fault NotExported v ≡ g) → Adds old new (ItemFault (item.Con v s))
   type_fault old new v s n a = adds_like old new (λ g. fault NotExported v ≡ g) (ItemFault (item.Con v s)) (λ g e. (v, (faulty.a_type (λ d h. n (d, h)), e))) (λ g (k, (h, e)). at s k h e) a
     where
-      at : {g : Fault} (u : Subs) (k : Identifier) → IsItemFault f k (item.Con v u) → fault NotExported k ≡ g → fault NotExported v ≡ g
+      at : {g : Fault} (u : SubItems) (k : Identifier) → IsItemFault f k (item.Con v u) → fault NotExported k ≡ g → fault NotExported v ≡ g
       at u k (faulty.a_type m) e = e
       at u k (faulty.a_constructor {e = d} h c b) e = absurd (n (d, h))
 

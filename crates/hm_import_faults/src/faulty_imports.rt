@@ -5,7 +5,7 @@ ghost use Rattle.std.specs.Borrow.{Bor};
 ghost use Rattle.hm_types.specs.declared.Entity.{Entity};
 ghost use Rattle.hm_types.specs.Interfaces.{Exports as Interface};
 ghost use Rattle.hm_syntax.specs.Names.{Identifier};
-ghost use Rattle.hm_syntax.specs.declared.ast.Item.{Item};
+ghost use Rattle.hm_syntax.specs.declared.ast.ImportItem.{ImportItem};
 ghost use Rattle.hm_names.specs.Bindings.{Adds};
 ghost use Rattle.hm_names.specs.Entities.{Exports, Belongs};
 ghost use Rattle.hm_import_faults.specs.FaultyItems.{IsItemFault, IsListFault};
@@ -15,7 +15,7 @@ ghost use Rattle.hm_names.specs.declared.faults.Kind.TheVariants.{NotExported};
 ghost use Rattle.hm_names.specs.declared.namespace.Namespace.TheVariants.{Types, Values};
 
 use hm_names::{Fault, Kind, fault_at};
-use hm_syntax::{Import, Item, List, Module, Name, Subs};
+use hm_syntax::{Import, ImportItem, ImportList, Module, Name, SubItems};
 use hm_tables::entry_named;
 use hm_types::Interface;
 use std::alloc::{AllocError, Global};
@@ -73,7 +73,8 @@ fn add_part_fault(
     owner: &Name,
     part: &Name,
 ) -> Result<(), AllocError>
-    ensures { OnOk result (Adds faults.old.items faults.new.items (λ g. (¬ Belongs interface.now owner.now.text part.now.text) × (fault NotExported part.now ≡ g))) }
+    ensures { OnOk result (Adds faults.old.items faults.new.items (λ g. (¬ Belongs interface.now owner.now.text part.now.text)
+        × (fault NotExported part.now ≡ g))) }
 {
     if belongs(interface, owner.as_str(), part.as_str()) {
         return Ok(());
@@ -90,7 +91,8 @@ fn add_part_faults(
     owner: &Name,
     parts: &[Name],
 ) -> Result<(), AllocError>
-    ensures { OnOk result (Adds faults.old.items faults.new.items (λ g. (c : Identifier) × (Contains parts.now c × ((¬ Belongs interface.now owner.now.text c.text) × (fault NotExported c ≡ g))))) }
+    ensures { OnOk result (Adds faults.old.items faults.new.items (λ g. (c : Identifier)
+        × (Contains parts.now c × ((¬ Belongs interface.now owner.now.text c.text) × (fault NotExported c ≡ g))))) }
 {
     for part in parts {
         add_part_fault(alloc, faults, interface, owner, part)?;
@@ -103,27 +105,28 @@ fn add_item_faults(
     alloc: Global,
     faults: &mut Vec<Fault>,
     interface: &Interface,
-    item: &Item,
+    item: &ImportItem,
 ) -> Result<(), AllocError>
-    ensures { OnOk result (Adds faults.old.items faults.new.items (λ g. (k : Identifier) × (IsItemFault interface.now k item.now × (fault NotExported k ≡ g)))) }
+    ensures { OnOk result (Adds faults.old.items faults.new.items (λ g. (k : Identifier)
+        × (IsItemFault interface.now k item.now × (fault NotExported k ≡ g)))) }
 {
     match item {
-        Item::Var(name) => {
+        ImportItem::Var(name) => {
             if exports_value(interface, name.as_str()) {
                 return Ok(());
             }
             add_fault(alloc, faults, name)?;
             Ok(())
         }
-        Item::Con(name, subs) => {
+        ImportItem::Con(name, subs) => {
             if !exports_type(interface, name.as_str()) {
                 add_fault(alloc, faults, name)?;
                 return Ok(());
             }
             match subs {
-                Subs::None => Ok(()),
-                Subs::All => Ok(()),
-                Subs::Some(parts) => {
+                SubItems::None => Ok(()),
+                SubItems::All => Ok(()),
+                SubItems::Some(parts) => {
                     add_part_faults(alloc, faults, interface, name, parts.as_slice())?;
                     Ok(())
                 }
@@ -137,9 +140,10 @@ fn add_items_faults(
     alloc: Global,
     faults: &mut Vec<Fault>,
     interface: &Interface,
-    items: &[Item],
+    items: &[ImportItem],
 ) -> Result<(), AllocError>
-    ensures { OnOk result (Adds faults.old.items faults.new.items (λ g. (j : Item) × (Contains items.now j × ((k : Identifier) × (IsItemFault interface.now k j × (fault NotExported k ≡ g)))))) }
+    ensures { OnOk result (Adds faults.old.items faults.new.items (λ g. (j : ImportItem)
+        × (Contains items.now j × ((k : Identifier) × (IsItemFault interface.now k j × (fault NotExported k ≡ g)))))) }
 {
     for item in items {
         add_item_faults(alloc, faults, interface, item)?;
@@ -152,17 +156,18 @@ fn add_list_faults(
     alloc: Global,
     faults: &mut Vec<Fault>,
     interface: &Interface,
-    list: &List,
+    list: &ImportList,
 ) -> Result<(), AllocError>
-    ensures { OnOk result (Adds faults.old.items faults.new.items (λ g. (k : Identifier) × (IsListFault interface.now k list.now × (fault NotExported k ≡ g)))) }
+    ensures { OnOk result (Adds faults.old.items faults.new.items (λ g. (k : Identifier)
+        × (IsListFault interface.now k list.now × (fault NotExported k ≡ g)))) }
 {
     match list {
-        List::Every => Ok(()),
-        List::Only(items) => {
+        ImportList::Every => Ok(()),
+        ImportList::Only(items) => {
             add_items_faults(alloc, faults, interface, items.as_slice())?;
             Ok(())
         }
-        List::Hiding(_) => Ok(()),
+        ImportList::Hiding(_) => Ok(()),
     }
 }
 
@@ -173,7 +178,8 @@ fn add_named_faults(
     import: &Import,
     interface: &Interface,
 ) -> Result<(), AllocError>
-    ensures { OnOk result (Adds faults.old.items faults.new.items (λ g. (interface.now.name ≡ import.now.name.text) × ((k : Identifier) × (IsListFault interface.now k import.now.list × (fault NotExported k ≡ g))))) }
+    ensures { OnOk result (Adds faults.old.items faults.new.items (λ g. (interface.now.name ≡ import.now.name.text)
+        × ((k : Identifier) × (IsListFault interface.now k import.now.list × (fault NotExported k ≡ g))))) }
 {
     if interface.name() != import.name.as_str() {
         return Ok(());
@@ -189,7 +195,9 @@ fn add_import_faults(
     import: &Import,
     interfaces: &[&Interface],
 ) -> Result<(), AllocError>
-    ensures { OnOk result (Adds faults.old.items faults.new.items (λ g. (f : Bor Interface) × (Contains interfaces.now f × ((f.now.name ≡ import.now.name.text) × ((k : Identifier) × (IsListFault f.now k import.now.list × (fault NotExported k ≡ g))))))) }
+    ensures { OnOk result (Adds faults.old.items faults.new.items (λ g. (f : Bor Interface)
+        × (Contains interfaces.now f × ((f.now.name ≡ import.now.name.text)
+        × ((k : Identifier) × (IsListFault f.now k import.now.list × (fault NotExported k ≡ g))))))) }
 {
     for interface in interfaces {
         add_named_faults(alloc, faults, import, interface)?;

@@ -6,10 +6,10 @@ use Rattle.hm_types.specs.declared.entries.TypeEntry.{TypeEntry}
 use Rattle.hm_types.specs.declared.entries.ConstructorEntry.{ConstructorEntry}
 use Rattle.hm_types.specs.Interfaces.{Exports as Interface, AreOrdered}
 use Rattle.hm_syntax.specs.Names.{Identifier}
-use Rattle.hm_syntax.specs.declared.ast.Item.{Item}
-use Rattle.hm_syntax.specs.declared.ast.Item.TheVariants as item
-use Rattle.hm_syntax.specs.declared.ast.Subs.{Subs}
-use Rattle.hm_syntax.specs.declared.ast.Subs.TheVariants as subs
+use Rattle.hm_syntax.specs.declared.ast.ImportItem.{ImportItem}
+use Rattle.hm_syntax.specs.declared.ast.ImportItem.TheVariants as item
+use Rattle.hm_syntax.specs.declared.ast.SubItems.{SubItems}
+use Rattle.hm_syntax.specs.declared.ast.SubItems.TheVariants as subs
 use Rattle.hm_names.specs.declared.namespace.Namespace.{Namespace}
 use Rattle.hm_names.specs.declared.namespace.Namespace.TheVariants.{Types, Constructors, Values}
 use Rattle.hm_names.specs.Bindings.{Adds}
@@ -62,7 +62,7 @@ module _ (u : ListUse) (f : Interface) where
       back : (n : FullName) → IsNamedBy u f n (item.Var v) → n ≡ bare Values v.text
       back n (gathered.a_value e) = e
 
-  pub named_type : (old mid new : List FullName) (v : Identifier) (s : Subs) → Adds old mid (λ n. n ≡ bare Types v.text) → Adds mid new (λ n. IsBehind u f v n s) → Adds old new (λ n. IsNamedBy u f n (item.Con v s))
+  pub named_type : (old mid new : List FullName) (v : Identifier) (s : SubItems) → Adds old mid (λ n. n ≡ bare Types v.text) → Adds mid new (λ n. IsBehind u f v n s) → Adds old new (λ n. IsNamedBy u f n (item.Con v s))
   named_type old mid new v s a b = adds_like old new (λ n. (n ≡ bare Types v.text) ⊎ IsBehind u f v n s) (λ n. IsNamedBy u f n (item.Con v s))
       (λ n h. ⊎_elim (λ e. gathered.a_type e) (λ k. gathered.behind k) h) (λ n h. back n h) (adds_then old mid new (λ n. n ≡ bare Types v.text) (λ n. IsBehind u f v n s) a b)
     where
@@ -89,12 +89,12 @@ no_keys [] h = refl
 no_keys (k ∷ ks) h = let none : length (k ∷ ks) ≡ 0 = grind (arith, nat_tests) in absurd (omega (arith, none))
 
 -- all together
-module _ (f : Interface) (is : List Item) where
+module _ (f : Interface) (is : List ImportItem) where
   abbrev pub NamedByList : ListUse → FullName → Type 0
-  NamedByList u n = (j : Item) × (Contains is j × IsNamedBy u f n j)
+  NamedByList u n = (j : ImportItem) × (Contains is j × IsNamedBy u f n j)
 
   abbrev pub OpenedByList : FullName → Type 0
-  OpenedByList n = (j : Item) × (Contains is j × IsOpenedBy f n j)
+  OpenedByList n = (j : ImportItem) × (Contains is j × IsOpenedBy f n j)
 
   abbrev pub OfOpened : List FullName → FullName → Type 0
   OfOpened opened n = (k : ConstructorEntry) × (Contains f.constructors k × (Contains opened (type_name k.owner) × (n ≡ bare Constructors k.name)))
@@ -105,7 +105,7 @@ module _ (f : Interface) (is : List Item) where
   part_lists : (t : List ℕ) (c : List ℕ) (r : TypeEntry) → Contains f.types r → r.name ≡ t → IsOwned f r.entity c → Belongs f t c
   part_lists t c r k e (j, (d, (n, o))) = record { type = r; constructor = j; exports_type = k; exports_constructor = d; type_name = e; constructor_name = n; owner = o }
 
-  lists_there : (s : Namespace) (x : List ℕ) (j : Item) → IsNamedBy list_use.Selects f (bare s x) j → Lists f x j s
+  lists_there : (s : Namespace) (x : List ℕ) (j : ImportItem) → IsNamedBy list_use.Selects f (bare s x) j → Lists f x j s
   lists_there s x (item.Var v) (gathered.a_value e) = subst (λ t. Lists f x (item.Var v) t) (sym (ap (λ (n : FullName). n.space) e)) (listing.a_value (sym (ap (λ (n : FullName). n.text) e)))
   lists_there s x (item.Con v u) (gathered.a_type e) = subst (λ t. Lists f x (item.Con v u) t) (sym (ap (λ (n : FullName). n.space) e)) (listing.a_type (sym (ap (λ (n : FullName). n.text) e)))
   lists_there s x (item.Con v subs.All) (gathered.behind b) = elim b [ ]
@@ -113,43 +113,43 @@ module _ (f : Interface) (is : List Item) where
   lists_there s x (item.Con v (subs.Some cs)) (gathered.behind (gathered.a_part {c = c} {r = r} k e d w i)) = subst (λ t. Lists f x (item.Con v (subs.Some cs)) t) (sym (ap (λ (n : FullName). n.space) i))
       (listing.a_constructor d (sym (ap (λ (n : FullName). n.text) i)) (subst (λ t. Belongs f v.text t) (sym (ap (λ (n : FullName). n.text) i)) (part_lists v.text c.text r k e w)))
 
-  hides_there : (s : Namespace) (x : List ℕ) (j : Item) → IsNamedBy list_use.Hides f (bare s x) j → Hides f x j s
+  hides_there : (s : Namespace) (x : List ℕ) (j : ImportItem) → IsNamedBy list_use.Hides f (bare s x) j → Hides f x j s
   hides_there s x (item.Var v) (gathered.a_value e) = listing.listed (lists_there s x (item.Var v) (gathered.a_value e))
   hides_there s x (item.Con v u) (gathered.a_type e) = listing.listed (lists_there s x (item.Con v u) (gathered.a_type e))
   hides_there s x (item.Con v subs.All) (gathered.behind b) = elim b [ ]
   hides_there s x (item.Con v subs.None) (gathered.behind (gathered.alone h e)) = subst (λ t. Hides f x (item.Con v subs.None) t) (sym (ap (λ (n : FullName). n.space) e)) (listing.alone (sym (ap (λ (n : FullName). n.text) e)))
   hides_there s x (item.Con v (subs.Some cs)) (gathered.behind (gathered.a_part k e d w i)) = listing.listed (lists_there s x (item.Con v (subs.Some cs)) (gathered.behind (gathered.a_part k e d w i)))
 
-  there : (u : ListUse) (s : Namespace) (x : List ℕ) (j : Item) → IsNamedBy u f (bare s x) j → ListsOrHides u f x j s
+  there : (u : ListUse) (s : Namespace) (x : List ℕ) (j : ImportItem) → IsNamedBy u f (bare s x) j → ListsOrHides u f x j s
   there list_use.Hides s x j h = hides_there s x j h
   there list_use.Selects s x j h = lists_there s x j h
 
-  opened_there : (x : List ℕ) (k : ConstructorEntry) (j : Item) → Contains f.constructors k → k.name ≡ x → IsOpenedBy f (type_name k.owner) j → Lists f x j Constructors
+  opened_there : (x : List ℕ) (k : ConstructorEntry) (j : ImportItem) → Contains f.constructors k → k.name ≡ x → IsOpenedBy f (type_name k.owner) j → Lists f x j Constructors
   opened_there x k j c n (gathered.opened {v} {r} d e i) = listing.each_constructor (part_lists v.text x r d e (k, (c, (n, same_entity k.owner r.entity i))))
 
-  or_hides : (u : ListUse) (s : Namespace) (x : List ℕ) (j : Item) → Lists f x j s → ListsOrHides u f x j s
+  or_hides : (u : ListUse) (s : Namespace) (x : List ℕ) (j : ImportItem) → Lists f x j s → ListsOrHides u f x j s
   or_hides list_use.Hides s x j h = listing.listed h
   or_hides list_use.Selects s x j h = h
 
   -- what is listed is gathered
-  lists_back : (u : ListUse) (s : Namespace) (x : List ℕ) (j : Item) → Lists f x j s → IsNamedBy u f (bare s x) j ⊎ ((k : ConstructorEntry) × (Contains f.constructors k × (IsOpenedBy f (type_name k.owner) j × (bare s x ≡ bare Constructors k.name))))
+  lists_back : (u : ListUse) (s : Namespace) (x : List ℕ) (j : ImportItem) → Lists f x j s → IsNamedBy u f (bare s x) j ⊎ ((k : ConstructorEntry) × (Contains f.constructors k × (IsOpenedBy f (type_name k.owner) j × (bare s x ≡ bare Constructors k.name))))
   lists_back u s x j (listing.a_value e) = inl (gathered.a_value (ap (λ t. bare Values t) (sym e)))
   lists_back u s x j (listing.a_type e) = inl (gathered.a_type (ap (λ t. bare Types t) (sym e)))
   lists_back u s x j (listing.each_constructor b) = inr (b.constructor, (b.exports_constructor, (gathered.opened b.exports_type b.type_name (ap (λ (t : Entity). type_name t) b.owner), ap (λ t. bare Constructors t) (sym b.constructor_name))))
   lists_back u s x j (listing.a_constructor {c = c} d e b) = inl (gathered.behind (gathered.a_part b.exports_type b.type_name d (b.constructor, (b.exports_constructor, (b.constructor_name ∙ sym e, b.owner))) (ap (λ t. bare Constructors t) (sym e))))
 
-  hides_back : (s : Namespace) (x : List ℕ) (j : Item) → Hides f x j s → IsNamedBy list_use.Hides f (bare s x) j ⊎ ((k : ConstructorEntry) × (Contains f.constructors k × (IsOpenedBy f (type_name k.owner) j × (bare s x ≡ bare Constructors k.name))))
+  hides_back : (s : Namespace) (x : List ℕ) (j : ImportItem) → Hides f x j s → IsNamedBy list_use.Hides f (bare s x) j ⊎ ((k : ConstructorEntry) × (Contains f.constructors k × (IsOpenedBy f (type_name k.owner) j × (bare s x ≡ bare Constructors k.name))))
   hides_back s x j (listing.listed h) = lists_back list_use.Hides s x j h
   hides_back s x j (listing.alone e) = inl (gathered.behind (gathered.alone refl (ap (λ t. bare Constructors t) (sym e))))
 
-  back : (u : ListUse) (s : Namespace) (x : List ℕ) (j : Item) → ListsOrHides u f x j s → IsNamedBy u f (bare s x) j ⊎ ((k : ConstructorEntry) × (Contains f.constructors k × (IsOpenedBy f (type_name k.owner) j × (bare s x ≡ bare Constructors k.name))))
+  back : (u : ListUse) (s : Namespace) (x : List ℕ) (j : ImportItem) → ListsOrHides u f x j s → IsNamedBy u f (bare s x) j ⊎ ((k : ConstructorEntry) × (Contains f.constructors k × (IsOpenedBy f (type_name k.owner) j × (bare s x ≡ bare Constructors k.name))))
   back list_use.Hides s x j h = hides_back s x j h
   back list_use.Selects s x j h = lists_back list_use.Selects s x j h
 
   pub listed_is : (u : ListUse) (opened names all : List FullName) → Adds [] names (NamedByList u) → Adds [] opened OpenedByList → Adds names all (OfOpened opened) → IsListed u f is all
   listed_is u opened names all a b c s x = (forth, back_again)
     where
-      forth : Contains all (bare s x) → (j : Item) × (Contains is j × ListsOrHides u f x j s)
+      forth : Contains all (bare s x) → (j : ImportItem) × (Contains is j × ListsOrHides u f x j s)
       forth h = ⊎_elim
           (λ m. ⊎_elim (λ e. absurd (none_in (bare s x) e)) (λ (j, (k, w)). (j, (k, there u s x j w))) ((a (bare s x)).0 m))
           (λ (k, (d, (o, i))). ⊎_elim (λ e. absurd (none_in (type_name k.owner) e))
@@ -157,7 +157,7 @@ module _ (f : Interface) (is : List Item) where
           ((b (type_name k.owner)).0 o))
           ((c (bare s x)).0 h)
 
-      back_again : (j : Item) × (Contains is j × ListsOrHides u f x j s) → Contains all (bare s x)
+      back_again : (j : ImportItem) × (Contains is j × ListsOrHides u f x j s) → Contains all (bare s x)
       back_again (j, (k, h)) = ⊎_elim
           (λ w. (c (bare s x)).1 (inl ((a (bare s x)).1 (inr (j, (k, w))))))
           (λ (q, (d, (w, i))). (c (bare s x)).1 (inr (q, (d, ((b (type_name q.owner)).1 (inr (j, (k, w))), i)))))

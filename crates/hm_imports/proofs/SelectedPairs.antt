@@ -7,9 +7,9 @@ use Rattle.hm_types.specs.declared.entries.ConstructorEntry.{ConstructorEntry}
 use Rattle.hm_types.specs.declared.entries.ValueEntry.{ValueEntry}
 use Rattle.hm_types.specs.Interfaces.{Exports as Interface, AreOrdered}
 use Rattle.hm_syntax.specs.declared.ast.Import.{Import}
-use Rattle.hm_syntax.specs.declared.ast.List.{List as ImportList}
-use Rattle.hm_syntax.specs.declared.ast.List.TheVariants as list
-use Rattle.hm_syntax.specs.declared.ast.Item.{Item}
+use Rattle.hm_syntax.specs.declared.ast.ImportList.{ImportList}
+use Rattle.hm_syntax.specs.declared.ast.ImportList.TheVariants as list
+use Rattle.hm_syntax.specs.declared.ast.ImportItem.{ImportItem}
 use Rattle.hm_syntax.specs.declared.ast.Module.{Module}
 use Rattle.hm_names.specs.declared.namespace.Namespace.{Namespace}
 use Rattle.hm_names.specs.declared.namespace.Namespace.TheVariants.{Types, Constructors, Values}
@@ -157,16 +157,16 @@ brought_adds old new f i σ sel a = adds_like old new (IsSelectedPair f σ i.qua
 pub every_selected : (f : Interface) → IsSelectionOf f list.Every Rattle.hm_imports.specs.declared.selections.Selection.TheVariants.Every
 every_selected f s x = (λ _. select.every, λ _. tt)
 
-pub only_selected : (f : Interface) (is : List Item) (names : List FullName) → IsListed list_use.Selects f is names → IsSelectionOf f (list.Only is) (choose.Only names)
+pub only_selected : (f : Interface) (is : List ImportItem) (names : List FullName) → IsListed list_use.Selects f is names → IsSelectionOf f (list.Only is) (choose.Only names)
 only_selected f is names h s x = (λ c. let r = (h s x).0 c in select.only r.1.0 r.1.1, λ sel. (h s x).1 (back sel))
   where
-    back : IsSelected f s x (list.Only is) → (j : Item) × (Contains is j × Lists f x j s)
+    back : IsSelected f s x (list.Only is) → (j : ImportItem) × (Contains is j × Lists f x j s)
     back (select.only {j = j} c n) = (j, (c, n))
 
-pub hiding_selected : (f : Interface) (is : List Item) (names : List FullName) → IsListed list_use.Hides f is names → IsSelectionOf f (list.Hiding is) (choose.Hiding names)
+pub hiding_selected : (f : Interface) (is : List ImportItem) (names : List FullName) → IsListed list_use.Hides f is names → IsSelectionOf f (list.Hiding is) (choose.Hiding names)
 hiding_selected f is names h s x = (λ n. select.hiding (λ j c k. n ((h s x).1 (j, (c, k)))), λ sel c. let r = (h s x).0 c in back sel r.0 r.1.0 r.1.1)
   where
-    back : IsSelected f s x (list.Hiding is) → (j : Item) → Contains is j → ¬ Hides f x j s
+    back : IsSelected f s x (list.Hiding is) → (j : ImportItem) → Contains is j → ¬ Hides f x j s
     back (select.hiding n) = n
 
 -- what an import brings in from lent interfaces

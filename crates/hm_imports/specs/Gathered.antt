@@ -5,10 +5,10 @@ use Rattle.hm_types.specs.declared.entries.TypeEntry.{TypeEntry}
 use Rattle.hm_types.specs.declared.entries.ConstructorEntry.{ConstructorEntry}
 use Rattle.hm_types.specs.Interfaces.{Exports as Interface}
 use Rattle.hm_syntax.specs.Names.{Identifier}
-use Rattle.hm_syntax.specs.declared.ast.Item.{Item}
-use Rattle.hm_syntax.specs.declared.ast.Item.TheVariants as item
-use Rattle.hm_syntax.specs.declared.ast.Subs.{Subs}
-use Rattle.hm_syntax.specs.declared.ast.Subs.TheVariants as subs
+use Rattle.hm_syntax.specs.declared.ast.ImportItem.{ImportItem}
+use Rattle.hm_syntax.specs.declared.ast.ImportItem.TheVariants as item
+use Rattle.hm_syntax.specs.declared.ast.SubItems.{SubItems}
+use Rattle.hm_syntax.specs.declared.ast.SubItems.TheVariants as subs
 use Rattle.hm_names.specs.declared.namespace.Namespace.{Namespace}
 use Rattle.hm_names.specs.declared.namespace.Namespace.TheVariants.{Types, Constructors, Values}
 use Rattle.hm_imports.specs.declared.selections.ListUse.{ListUse}
@@ -27,16 +27,16 @@ abbrev pub IsOwned : Interface → Entity → List ℕ → Type 0
 IsOwned f owner x = (k : ConstructorEntry) × (Contains f.constructors k × ((k.name ≡ x) × (k.owner ≡ owner)))
 
 -- what stands behind the type v lists by name
-pub data IsBehind (list_use : ListUse) (f : Interface) (v : Identifier) (n : FullName) : Subs → Type 0 where
+pub data IsBehind (list_use : ListUse) (f : Interface) (v : Identifier) (n : FullName) : SubItems → Type 0 where
   alone : list_use ≡ Hides → n ≡ bare Constructors v.text → IsBehind list_use f v n subs.None
   a_part : {c : Identifier} {cs : List Identifier} {r : TypeEntry} → Contains f.types r → r.name ≡ v.text → Contains cs c → IsOwned f r.entity c.text → n ≡ bare Constructors c.text → IsBehind list_use f v n (subs.Some cs)
 
 -- the item lists n by name
-pub data IsNamedBy (list_use : ListUse) (f : Interface) (n : FullName) : Item → Type 0 where
+pub data IsNamedBy (list_use : ListUse) (f : Interface) (n : FullName) : ImportItem → Type 0 where
   a_value : {v : Identifier} → n ≡ bare Values v.text → IsNamedBy list_use f n (item.Var v)
-  a_type : {v : Identifier} {s : Subs} → n ≡ bare Types v.text → IsNamedBy list_use f n (item.Con v s)
-  behind : {v : Identifier} {s : Subs} → IsBehind list_use f v n s → IsNamedBy list_use f n (item.Con v s)
+  a_type : {v : Identifier} {s : SubItems} → n ≡ bare Types v.text → IsNamedBy list_use f n (item.Con v s)
+  behind : {v : Identifier} {s : SubItems} → IsBehind list_use f v n s → IsNamedBy list_use f n (item.Con v s)
 
 -- the item lists the type n with all its constructors
-pub data IsOpenedBy (f : Interface) (n : FullName) : Item → Type 0 where
+pub data IsOpenedBy (f : Interface) (n : FullName) : ImportItem → Type 0 where
   opened : {v : Identifier} {r : TypeEntry} → Contains f.types r → r.name ≡ v.text → n ≡ type_name r.entity → IsOpenedBy f n (item.Con v subs.All)

@@ -3,9 +3,9 @@ use Rattle.std.specs.Prelude.{◌≡◌, ℕ, List, Bool, Contains, ◌↔◌}
 use Rattle.hm_types.specs.declared.Entity.{Entity}
 use Rattle.hm_types.specs.Interfaces.{Exports as Interface}
 use Rattle.hm_syntax.specs.declared.ast.Import.{Import}
-use Rattle.hm_syntax.specs.declared.ast.Item.{Item}
-use Rattle.hm_syntax.specs.declared.ast.List.{List as ImportList}
-use Rattle.hm_syntax.specs.declared.ast.List.TheVariants as list
+use Rattle.hm_syntax.specs.declared.ast.ImportItem.{ImportItem}
+use Rattle.hm_syntax.specs.declared.ast.ImportList.{ImportList}
+use Rattle.hm_syntax.specs.declared.ast.ImportList.TheVariants as list
 use Rattle.hm_syntax.specs.declared.ast.Module.{Module}
 use Rattle.hm_names.specs.declared.namespace.Namespace.{Namespace}
 use Rattle.hm_imports.specs.declared.selections.ListUse.{ListUse}
@@ -19,19 +19,19 @@ use Rattle.hm_tables.specs.NameSets.{FullName}
 use Rattle.hm_names.specs.Scope.{Lists, Hides, Imports}
 
 -- the item names x, or hides it
-abbrev pub ListsOrHides : ListUse → Interface → List ℕ → Item → Namespace → Type 0
+abbrev pub ListsOrHides : ListUse → Interface → List ℕ → ImportItem → Namespace → Type 0
 ListsOrHides list_use.Hides f x j s = Hides f x j s
 ListsOrHides list_use.Selects f x j s = Lists f x j s
 
 -- the set has the names that items of the list name, or hide
-abbrev pub IsListed : ListUse → Interface → List Item → List FullName → Type 0
-IsListed u f is names = (s : Namespace) (x : List ℕ) → Contains names (bare s x) ↔ ((j : Item) × (Contains is j × ListsOrHides u f x j s))
+abbrev pub IsListed : ListUse → Interface → List ImportItem → List FullName → Type 0
+IsListed u f is names = (s : Namespace) (x : List ℕ) → Contains names (bare s x) ↔ ((j : ImportItem) × (Contains is j × ListsOrHides u f x j s))
 
 -- the import list selects the name, if it is exported
 pub data IsSelected (f : Interface) (s : Namespace) (x : List ℕ) : ImportList → Type 0 where
   every : IsSelected f s x list.Every
-  only : {is : List Item} {j : Item} → Contains is j → Lists f x j s → IsSelected f s x (list.Only is)
-  hiding : {is : List Item} → ((j : Item) → Contains is j → ¬ Hides f x j s) → IsSelected f s x (list.Hiding is)
+  only : {is : List ImportItem} {j : ImportItem} → Contains is j → Lists f x j s → IsSelected f s x (list.Only is)
+  hiding : {is : List ImportItem} → ((j : ImportItem) → Contains is j → ¬ Hides f x j s) → IsSelected f s x (list.Hiding is)
 
 -- the selection has the name
 abbrev pub Selects : Selection → Namespace → List ℕ → Type 0

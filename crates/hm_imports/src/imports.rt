@@ -35,7 +35,8 @@ fn add_entry<'a>(
     text: &'a str,
     entity: &'a Entity,
 ) -> Result<(), AllocError>
-    ensures { OnOk result (Adds pairs.old.items pairs.new.items (λ p. Selects brought.now.selection.now space text.now × IsPairOf brought.now.qualified brought.now.name.now space text.now entity.now p)) }
+    ensures { OnOk result (Adds pairs.old.items pairs.new.items (λ p. Selects brought.now.selection.now space text.now
+        × IsPairOf brought.now.qualified brought.now.name.now space text.now entity.now p)) }
 {
     if !brought.selection.selects(space, text) {
         return Ok(());
@@ -54,7 +55,9 @@ fn add_entries<'a, E: Named>(
     space: Namespace,
     entries: &'a [E],
 ) -> Result<(), AllocError>
-    ensures { OnOk result (Adds pairs.old.items pairs.new.items (λ p. (r : E) × (Contains entries.now r × (Selects brought.now.selection.now space (E.name_of r) × IsPairOf brought.now.qualified brought.now.name.now space (E.name_of r) (E.entity_of r) p)))) }
+    ensures { OnOk result (Adds pairs.old.items pairs.new.items (λ p. (r : E)
+        × (Contains entries.now r × (Selects brought.now.selection.now space (E.name_of r)
+        × IsPairOf brought.now.qualified brought.now.name.now space (E.name_of r) (E.entity_of r) p)))) }
 {
     for entry in entries {
         add_entry(pairs, brought, space, entry.name(), entry.entity())?;
@@ -68,7 +71,8 @@ fn add_every<'a>(
     brought: &Brought<'_, 'a>,
     interface: &'a Interface,
 ) -> Result<(), AllocError>
-    ensures { OnOk result (Adds pairs.old.items pairs.new.items (IsSelectedPair interface.now brought.now.selection.now brought.now.qualified brought.now.name.now)) }
+    ensures { OnOk result (Adds pairs.old.items pairs.new.items
+        (IsSelectedPair interface.now brought.now.selection.now brought.now.qualified brought.now.name.now)) }
 {
     add_entries(pairs, brought, Namespace::Types, interface.types())?;
     add_entries(pairs, brought, Namespace::Types, interface.synonyms())?;
@@ -91,7 +95,8 @@ fn add_entry_named<'a, E: Named>(
     text: &str,
 ) -> Result<(), AllocError>
     requires { AreOrdered (map E.name_of entries.now) }
-    ensures { OnOk result (Adds pairs.old.items pairs.new.items (IsNamedPair E.name_of E.entity_of entries.now brought.now.selection.now brought.now.qualified brought.now.name.now space text.now)) }
+    ensures { OnOk result (Adds pairs.old.items pairs.new.items
+        (IsNamedPair E.name_of E.entity_of entries.now brought.now.selection.now brought.now.qualified brought.now.name.now space text.now)) }
 {
     match entry_named(entries, text) {
         None => Ok(()),
@@ -109,7 +114,8 @@ fn add_name<'a>(
     interface: &'a Interface,
     name: &Key<'_>,
 ) -> Result<(), AllocError>
-    ensures { OnOk result (Adds pairs.old.items pairs.new.items (IsSelectedAs interface.now brought.now.selection.now brought.now.qualified brought.now.name.now name.now.space name.now.text.now)) }
+    ensures { OnOk result (Adds pairs.old.items pairs.new.items
+        (IsSelectedAs interface.now brought.now.selection.now brought.now.qualified brought.now.name.now name.now.space name.now.text.now)) }
 {
     let text = name.text;
     match name.space {
@@ -142,7 +148,8 @@ fn add_listed<'a>(
     interface: &'a Interface,
     names: &[Key<'_>],
 ) -> Result<(), AllocError>
-    ensures { OnOk result (Adds pairs.old.items pairs.new.items (λ p. (k : Key) × (Contains names.now k × IsSelectedAs interface.now brought.now.selection.now brought.now.qualified brought.now.name.now k.space k.text.now p))) }
+    ensures { OnOk result (Adds pairs.old.items pairs.new.items (λ p. (k : Key)
+        × (Contains names.now k × IsSelectedAs interface.now brought.now.selection.now brought.now.qualified brought.now.name.now k.space k.text.now p))) }
 {
     for name in names {
         add_name(pairs, brought, interface, name)?;
@@ -156,7 +163,8 @@ fn add_selected<'a>(
     brought: &Brought<'_, 'a>,
     interface: &'a Interface,
 ) -> Result<(), AllocError>
-    ensures { OnOk result (Adds pairs.old.items pairs.new.items (IsSelectedPair interface.now brought.now.selection.now brought.now.qualified brought.now.name.now)) }
+    ensures { OnOk result (Adds pairs.old.items pairs.new.items
+        (IsSelectedPair interface.now brought.now.selection.now brought.now.qualified brought.now.name.now)) }
 {
     match brought.selection {
         Selection::Every => Ok(add_every(pairs, brought, interface)?),
@@ -274,7 +282,8 @@ fn add_written<'a>(
     imports: &'a [Import],
     interfaces: &[&'a Interface],
 ) -> Result<(), AllocError>
-    ensures { OnOk result (Adds pairs.old.items pairs.new.items (λ p. (i : Import) × (Contains imports.now i × IsBroughtFrom (map (λ f. f.now) interfaces.now) i p))) }
+    ensures { OnOk result (Adds pairs.old.items pairs.new.items (λ p. (i : Import)
+        × (Contains imports.now i × IsBroughtFrom (map (λ f. f.now) interfaces.now) i p))) }
 {
     for import in imports {
         add_import(alloc, pairs, import, interfaces)?;

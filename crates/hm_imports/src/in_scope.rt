@@ -69,7 +69,8 @@ fn add_names<'a>(
     module_name: &'a str,
     names: &[&'a Name],
 ) -> Result<(), AllocError>
-    ensures { OnOk result (Adds pairs.old.items pairs.new.items (λ p. (n : Bor Identifier) × (Contains names.now n × IsPairOf false module_name.now Values n.now.text (named module_name.now n.now.text) p))) }
+    ensures { OnOk result (Adds pairs.old.items pairs.new.items (λ p. (n : Bor Identifier)
+        × (Contains names.now n × IsPairOf false module_name.now Values n.now.text (named module_name.now n.now.text) p))) }
 {
     for name in names {
         add_own(pairs, module_name, Namespace::Values, name)?;
@@ -84,7 +85,8 @@ fn add_variables<'a>(
     module_name: &'a str,
     pat: &'a Pat,
 ) -> Result<(), AllocError>
-    ensures { OnOk result (Adds pairs.old.items pairs.new.items (λ p. (n : Identifier) × (Contains (pattern_variables pat.now) n × IsPairOf false module_name.now Values n.text (named module_name.now n.text) p))) }
+    ensures { OnOk result (Adds pairs.old.items pairs.new.items (λ p. (n : Identifier)
+        × (Contains (pattern_variables pat.now) n × IsPairOf false module_name.now Values n.text (named module_name.now n.text) p))) }
 {
     let mut names = LentNames::new(alloc);
     add_pattern(&mut names, pat)?;
@@ -98,7 +100,9 @@ fn add_constructors<'a>(
     module_name: &'a str,
     constrs: &'a [Constr],
 ) -> Result<(), AllocError>
-    ensures { OnOk result (Adds pairs.old.items pairs.new.items (λ p. (c : DataConstructor) × (Contains constrs.now c × IsPairOf false module_name.now Constructors (constructor_name c).text (named module_name.now (constructor_name c).text) p))) }
+    ensures { OnOk result (Adds pairs.old.items pairs.new.items (λ p. (c : DataConstructor)
+        × (Contains constrs.now c × IsPairOf false module_name.now Constructors (constructor_name c).text
+        (named module_name.now (constructor_name c).text) p))) }
 {
     for constr in constrs {
         add_own(pairs, module_name, Namespace::Constructors, &constr.name)?;

@@ -3,14 +3,14 @@
 ghost use Rattle.std.specs.Prelude.{◌≡◌, ◌↔◌, IfOk, OnOk, IsTrue, Contains};
 ghost use Rattle.hm_types.specs.declared.entries.ConstructorEntry.{ConstructorEntry};
 ghost use Rattle.hm_syntax.specs.Names.{Identifier};
-ghost use Rattle.hm_syntax.specs.declared.ast.Item.{Item};
+ghost use Rattle.hm_syntax.specs.declared.ast.ImportItem.{ImportItem};
 ghost use Rattle.hm_names.specs.Bindings.{Adds};
 ghost use Rattle.hm_imports.specs.Selections.{IsListed, Selects, IsSelectionOf};
 ghost use Rattle.hm_imports.specs.Gathered.{bare, type_name, IsOwned, IsBehind, IsNamedBy, IsOpenedBy};
 ghost use Rattle.hm_names.specs.declared.namespace.Namespace.TheVariants.{Types, Constructors, Values};
 
 use hm_names::Namespace;
-use hm_syntax::{Item, List, Name, Subs};
+use hm_syntax::{ImportItem, ImportList, Name, SubItems};
 use hm_tables::{NameSet, entry_named};
 use hm_types::{ConstructorEntry, Entity, Interface};
 use std::alloc::{AllocError, Global};
@@ -48,7 +48,8 @@ fn gather_parts<'a>(
     owner: &Entity,
     parts: &'a [Name],
 ) -> Result<(), AllocError>
-    ensures { OnOk result (Adds names.old names.new (λ n. (c : Identifier) × (Contains parts.now c × (IsOwned interface.now owner.now c.text × (n ≡ bare Constructors c.text))))) }
+    ensures { OnOk result (Adds names.old names.new (λ n. (c : Identifier)
+        × (Contains parts.now c × (IsOwned interface.now owner.now c.text × (n ≡ bare Constructors c.text))))) }
 {
     for part in parts {
         gather_part(names, interface, owner, part)?;
@@ -61,21 +62,21 @@ fn gather_behind<'a>(
     names: &mut NameSet<'a>,
     interface: &Interface,
     name: &'a Name,
-    subs: &'a Subs,
+    subs: &'a SubItems,
     list_use: ListUse,
 ) -> Result<(), AllocError>
     ensures { OnOk result (Adds names.old names.new (λ n. IsBehind list_use interface.now name.now n subs.now)) }
 {
     match subs {
-        Subs::None => match list_use {
+        SubItems::None => match list_use {
             ListUse::Selects => Ok(()),
             ListUse::Hides => {
                 names.insert(Namespace::Constructors, None, name.as_str())?;
                 Ok(())
             }
         },
-        Subs::All => Ok(()),
-        Subs::Some(parts) => {
+        SubItems::All => Ok(()),
+        SubItems::Some(parts) => {
             let Some(entry) = entry_named(interface.types(), name.as_str()) else {
                 return Ok(());
             };
@@ -89,17 +90,17 @@ fn gather_behind<'a>(
 fn gather_names<'a>(
     names: &mut NameSet<'a>,
     interface: &Interface,
-    item: &'a Item,
+    item: &'a ImportItem,
     list_use: ListUse,
 ) -> Result<(), AllocError>
     ensures { OnOk result (Adds names.old names.new (λ n. IsNamedBy list_use interface.now n item.now)) }
 {
     match item {
-        Item::Var(name) => {
+        ImportItem::Var(name) => {
             names.insert(Namespace::Values, None, name.as_str())?;
             Ok(())
         }
-        Item::Con(name, subs) => {
+        ImportItem::Con(name, subs) => {
             names.insert(Namespace::Types, None, name.as_str())?;
             gather_behind(names, interface, name, subs, list_use)?;
             Ok(())
@@ -111,10 +112,10 @@ fn gather_names<'a>(
 fn gather_all_names<'a>(
     names: &mut NameSet<'a>,
     interface: &Interface,
-    items: &'a [Item],
+    items: &'a [ImportItem],
     list_use: ListUse,
 ) -> Result<(), AllocError>
-    ensures { OnOk result (Adds names.old names.new (λ n. (j : Item) × (Contains items.now j × IsNamedBy list_use interface.now n j))) }
+    ensures { OnOk result (Adds names.old names.new (λ n. (j : ImportItem) × (Contains items.now j × IsNamedBy list_use interface.now n j))) }
 {
     for item in items {
         gather_names(names, interface, item, list_use)?;
@@ -126,16 +127,16 @@ fn gather_all_names<'a>(
 fn gather_opened<'a>(
     opened: &mut NameSet<'a>,
     interface: &'a Interface,
-    item: &Item,
+    item: &ImportItem,
 ) -> Result<(), AllocError>
     ensures { OnOk result (Adds opened.old opened.new (λ n. IsOpenedBy interface.now n item.now)) }
 {
     match item {
-        Item::Var(_) => Ok(()),
-        Item::Con(name, subs) => match subs {
-            Subs::None => Ok(()),
-            Subs::Some(_) => Ok(()),
-            Subs::All => {
+        ImportItem::Var(_) => Ok(()),
+        ImportItem::Con(name, subs) => match subs {
+            SubItems::None => Ok(()),
+            SubItems::Some(_) => Ok(()),
+            SubItems::All => {
                 let Some(entry) = entry_named(interface.types(), name.as_str()) else {
                     return Ok(());
                 };
@@ -151,9 +152,9 @@ fn gather_opened<'a>(
 fn gather_all_opened<'a>(
     opened: &mut NameSet<'a>,
     interface: &'a Interface,
-    items: &[Item],
+    items: &[ImportItem],
 ) -> Result<(), AllocError>
-    ensures { OnOk result (Adds opened.old opened.new (λ n. (j : Item) × (Contains items.now j × IsOpenedBy interface.now n j))) }
+    ensures { OnOk result (Adds opened.old opened.new (λ n. (j : ImportItem) × (Contains items.now j × IsOpenedBy interface.now n j))) }
 {
     for item in items {
         gather_opened(opened, interface, item)?;
@@ -167,7 +168,8 @@ fn gather_constructor<'a>(
     opened: &NameSet<'_>,
     constructor: &'a ConstructorEntry,
 ) -> Result<(), AllocError>
-    ensures { OnOk result (Adds names.old names.new (λ n. Contains opened.now (type_name constructor.now.owner) × (n ≡ bare Constructors constructor.now.name))) }
+    ensures { OnOk result (Adds names.old names.new (λ n. Contains opened.now (type_name constructor.now.owner)
+        × (n ≡ bare Constructors constructor.now.name))) }
 {
     let module = constructor.owner.module.as_str();
     if !opened.contains(
@@ -187,7 +189,8 @@ fn gather_constructors<'a>(
     opened: &NameSet<'_>,
     constructors: &'a [ConstructorEntry],
 ) -> Result<(), AllocError>
-    ensures { OnOk result (Adds names.old names.new (λ n. (k : ConstructorEntry) × (Contains constructors.now k × (Contains opened.now (type_name k.owner) × (n ≡ bare Constructors k.name))))) }
+    ensures { OnOk result (Adds names.old names.new (λ n. (k : ConstructorEntry)
+        × (Contains constructors.now k × (Contains opened.now (type_name k.owner) × (n ≡ bare Constructors k.name))))) }
 {
     for constructor in constructors {
         gather_constructor(names, opened, constructor)?;
@@ -199,7 +202,7 @@ fn gather_constructors<'a>(
 fn listed<'a>(
     alloc: Global,
     interface: &'a Interface,
-    items: &'a [Item],
+    items: &'a [ImportItem],
     list_use: ListUse,
 ) -> Result<NameSet<'a>, AllocError>
     ensures { IfOk result (λ names. IsListed list_use interface.now items.now names) }
@@ -229,19 +232,19 @@ impl<'a> Selection<'a> {
     pub(crate) fn new(
         alloc: Global,
         interface: &'a Interface,
-        list: &'a List,
+        list: &'a ImportList,
     ) -> Result<Selection<'a>, AllocError>
         ensures { IfOk result (IsSelectionOf interface.now list.now) }
     {
         match list {
-            List::Every => Ok(Selection::Every),
-            List::Only(items) => Ok(Selection::Only(listed(
+            ImportList::Every => Ok(Selection::Every),
+            ImportList::Only(items) => Ok(Selection::Only(listed(
                 alloc,
                 interface,
                 items.as_slice(),
                 ListUse::Selects,
             )?)),
-            List::Hiding(items) => Ok(Selection::Hiding(listed(
+            ImportList::Hiding(items) => Ok(Selection::Hiding(listed(
                 alloc,
                 interface,
                 items.as_slice(),

@@ -22,7 +22,8 @@ pub fn one_answer()
 /// A source has one first fault at most, and is refused for one thing, but for want of memory.
 pub fn one_fault()
     ensures first { (source : List ℕ) (fault other : LexFault) → IsFirstFault source fault → IsFirstFault source other → fault ≡ other }
-    ensures refusal { (source : List ℕ) (fault other : LexFault) → IsRefusal source fault → IsRefusal source other → fault ≢ Memory → other ≢ Memory → fault ≡ other }
+    ensures refusal { (source : List ℕ) (fault other : LexFault) → IsRefusal source fault → IsRefusal source other → fault ≢ Memory → other ≢ Memory
+        → fault ≡ other }
 {}
 
 /// The tokens of a source lie in it, and their bytes are text.

@@ -35,7 +35,8 @@ fn add_binding<'a>(
     begun: OpenBinding<'a>,
     decl: &'a Decl,
 ) -> Result<OpenBinding<'a>, AllocError>
-    ensures { IfOk result (λ next. (ds : Declarations) → out.new ++ binding_names next ds ≡ out.old ++ binding_names begun.entry (more_declarations decl.now ds)) }
+    ensures { IfOk result (λ next. (ds : Declarations) → out.new ++ binding_names next ds ≡ out.old
+        ++ binding_names begun.entry (more_declarations decl.now ds)) }
 {
     match &decl.kind {
         DeclKind::DataType { .. } => Ok(OpenBinding::none()),
@@ -77,7 +78,8 @@ fn add_other_length<'a>(
     begun: OpenBinding<'a>,
     decl: &'a Decl,
 ) -> Result<OpenBinding<'a>, AllocError>
-    ensures { IfOk result (λ next. (ds : Declarations) → out.new ++ other_lengths next ds ≡ out.old ++ other_lengths begun.entry (more_declarations decl.now ds)) }
+    ensures { IfOk result (λ next. (ds : Declarations) → out.new ++ other_lengths next ds ≡ out.old
+        ++ other_lengths begun.entry (more_declarations decl.now ds)) }
 {
     match &decl.kind {
         DeclKind::DataType { .. } => Ok(OpenBinding::none()),

@@ -46,7 +46,8 @@ fn note_all(
     names: &[Name],
     depth: usize,
 ) -> Result<(), AllocError>
-    ensures { OnOk result ((x : List ℕ) → get_by_text depths.new x ≡ or_else (get_by_text depths.old x) (cond (is_text_among x (texts names.now)) (Some depth) None)) }
+    ensures { OnOk result ((x : List ℕ) → get_by_text depths.new x
+        ≡ or_else (get_by_text depths.old x) (cond (is_text_among x (texts names.now)) (Some depth) None)) }
 {
     'names: for name in names {
         note(depths, name, depth)?;
@@ -56,7 +57,8 @@ fn note_all(
 
 /// Forgets a name that is bound at this depth first.
 fn forget(depths: &mut HashMap<String, usize>, name: &Name, depth: usize)
-    ensures { (x : List ℕ) → get_by_text depths.new x ≡ cond (bytes_eq name.now.text x) (unless_at depth (get_by_text depths.old x)) (get_by_text depths.old x) }
+    ensures { (x : List ℕ) → get_by_text depths.new x
+        ≡ cond (bytes_eq name.now.text x) (unless_at depth (get_by_text depths.old x)) (get_by_text depths.old x) }
 {
     match depths.get(name.as_str()) {
         None => {}
@@ -70,7 +72,8 @@ fn forget(depths: &mut HashMap<String, usize>, name: &Name, depth: usize)
 
 /// Forgets those of the names that are bound at this depth first.
 fn forget_all(depths: &mut HashMap<String, usize>, names: &[Name], depth: usize)
-    ensures { (x : List ℕ) → get_by_text depths.new x ≡ cond (is_text_among x (texts names.now)) (unless_at depth (get_by_text depths.old x)) (get_by_text depths.old x) }
+    ensures { (x : List ℕ) → get_by_text depths.new x
+        ≡ cond (is_text_among x (texts names.now)) (unless_at depth (get_by_text depths.old x)) (get_by_text depths.old x) }
 {
     'names: for name in names {
         forget(depths, name, depth);

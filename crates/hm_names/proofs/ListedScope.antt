@@ -11,12 +11,12 @@ use Rattle.hm_syntax.specs.Names.{Identifier}
 use Rattle.hm_syntax.specs.Trees.{DataConstructor, Declaration, data_declaration, newtype_declaration, synonym_declaration, signature, clause, pattern_binding}
 use Rattle.hm_syntax.specs.declared.ast.Module.{Module}
 use Rattle.hm_syntax.specs.declared.ast.Import.{Import}
-use Rattle.hm_syntax.specs.declared.ast.Item.{Item}
-use Rattle.hm_syntax.specs.declared.ast.Item.TheVariants as item
-use Rattle.hm_syntax.specs.declared.ast.List.{List as ImportList}
-use Rattle.hm_syntax.specs.declared.ast.List.TheVariants as list
-use Rattle.hm_syntax.specs.declared.ast.Subs.{Subs}
-use Rattle.hm_syntax.specs.declared.ast.Subs.TheVariants as subs
+use Rattle.hm_syntax.specs.declared.ast.ImportItem.{ImportItem}
+use Rattle.hm_syntax.specs.declared.ast.ImportItem.TheVariants as item
+use Rattle.hm_syntax.specs.declared.ast.ImportList.{ImportList}
+use Rattle.hm_syntax.specs.declared.ast.ImportList.TheVariants as list
+use Rattle.hm_syntax.specs.declared.ast.SubItems.{SubItems}
+use Rattle.hm_syntax.specs.declared.ast.SubItems.TheVariants as subs
 use Rattle.hm_names.specs.declared.namespace.Namespace.{Namespace}
 use Rattle.hm_names.specs.declared.namespace.Namespace.TheVariants.{Types, Constructors, Values}
 use Rattle.hm_names.specs.Bindings.{Pair, IsScopeOf}
@@ -151,10 +151,10 @@ belongs_dec f t c = same_dec both (some_dec (λ r. (k : ConstructorEntry) × (Co
       (λ b. (b.type, (b.exports_type, (b.constructor, (b.exports_constructor, (b.type_name, (b.constructor_name, b.owner))))))),
     )
 
-listed_type : (f : Interface) (x : List ℕ) (n : Identifier) (t : Subs) → Lists f x (item.Con n t) Types → n.text ≡ x
+listed_type : (f : Interface) (x : List ℕ) (n : Identifier) (t : SubItems) → Lists f x (item.Con n t) Types → n.text ≡ x
 listed_type f x n t (scope.a_type e) = e
 
-lists_dec : (f : Interface) (x : List ℕ) (j : Item) (s : Namespace) → Dec (Lists f x j s)
+lists_dec : (f : Interface) (x : List ℕ) (j : ImportItem) (s : Namespace) → Dec (Lists f x j s)
 lists_dec f x (item.Var n) Values = same_dec ((λ e. scope.a_value e), back_value) (text_discrete n.text x)
   where
     back_value : Lists f x (item.Var n) Values → n.text ≡ x
@@ -177,11 +177,11 @@ lists_dec f x (item.Con n (subs.Some cs)) Constructors =
     back_some (scope.a_constructor {c = c} h e b) = (c, (h, (e, b)))
 
 -- a name alone hides constructors too
-abbrev Alone : List ℕ → Item → Namespace → Type 0
+abbrev Alone : List ℕ → ImportItem → Namespace → Type 0
 Alone x (item.Con n subs.None) Constructors = n.text ≡ x
 Alone x i s = ⊥
 
-alone_dec : (x : List ℕ) (j : Item) (s : Namespace) → Dec (Alone x j s)
+alone_dec : (x : List ℕ) (j : ImportItem) (s : Namespace) → Dec (Alone x j s)
 alone_dec x (item.Var n) s = no (λ h. h)
 alone_dec x (item.Con n subs.All) s = no (λ h. h)
 alone_dec x (item.Con n (subs.Some cs)) s = no (λ h. h)
@@ -189,7 +189,7 @@ alone_dec x (item.Con n subs.None) Types = no (λ h. h)
 alone_dec x (item.Con n subs.None) Values = no (λ h. h)
 alone_dec x (item.Con n subs.None) Constructors = text_discrete n.text x
 
-alone_hides : (f : Interface) (x : List ℕ) (j : Item) (s : Namespace) → Alone x j s → Hides f x j s
+alone_hides : (f : Interface) (x : List ℕ) (j : ImportItem) (s : Namespace) → Alone x j s → Hides f x j s
 alone_hides f x (item.Var n) s h = absurd h
 alone_hides f x (item.Con n subs.All) s h = absurd h
 alone_hides f x (item.Con n (subs.Some cs)) s h = absurd h
@@ -197,10 +197,10 @@ alone_hides f x (item.Con n subs.None) Types h = absurd h
 alone_hides f x (item.Con n subs.None) Values h = absurd h
 alone_hides f x (item.Con n subs.None) Constructors h = scope.alone h
 
-hides_dec : (f : Interface) (x : List ℕ) (j : Item) (s : Namespace) → Dec (Hides f x j s)
+hides_dec : (f : Interface) (x : List ℕ) (j : ImportItem) (s : Namespace) → Dec (Hides f x j s)
 hides_dec f x j s = go (lists_dec f x j s) (alone_dec x j s)
   where
-    back_hides : (j : Item) (s : Namespace) → Hides f x j s → Lists f x j s ⊎ Alone x j s
+    back_hides : (j : ImportItem) (s : Namespace) → Hides f x j s → Lists f x j s ⊎ Alone x j s
     back_hides j s (scope.listed l) = inl l
     back_hides (item.Con n subs.None) Constructors (scope.alone e) = inr e
 
@@ -212,8 +212,8 @@ hides_dec f x j s = go (lists_dec f x j s) (alone_dec x j s)
 -- what the list of an import admits
 abbrev Admitted : Interface → ImportList → Namespace → List ℕ → Type 0
 Admitted f list.Every s x = Unit {0}
-Admitted f (list.Only is) s x = (j : Item) × (Contains is j × Lists f x j s)
-Admitted f (list.Hiding is) s x = ¬ ((j : Item) × (Contains is j × Hides f x j s))
+Admitted f (list.Only is) s x = (j : ImportItem) × (Contains is j × Lists f x j s)
+Admitted f (list.Hiding is) s x = ¬ ((j : ImportItem) × (Contains is j × Hides f x j s))
 
 admitted_dec : (f : Interface) (l : ImportList) (s : Namespace) (x : List ℕ) → Dec (Admitted f l s x)
 admitted_dec f list.Every s x = yes tt

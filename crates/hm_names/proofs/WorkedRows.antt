@@ -16,8 +16,8 @@ use Rattle.hm_names.proofs.Synonyms.{exported_of}
 use Rattle.hm_syntax.specs.declared.ast.Import.{Import}
 use Rattle.hm_syntax.specs.declared.ast.Export.{Export}
 use Rattle.hm_syntax.specs.declared.ast.Export.TheVariants as export
-use Rattle.hm_syntax.specs.declared.ast.Item.TheVariants as item
-use Rattle.hm_syntax.specs.declared.ast.List.TheVariants as list
+use Rattle.hm_syntax.specs.declared.ast.ImportItem.TheVariants as item
+use Rattle.hm_syntax.specs.declared.ast.ImportList.TheVariants as list
 use Rattle.hm_names.specs.declared.faults.Kind.{Kind}
 use Rattle.hm_names.specs.declared.faults.Kind.TheVariants.{NotExported, Duplicate, NoBinding, Unbound, Ambiguous, ExportClash, NotImported, NonLinear, Arity, ClauseLength, Recursive}
 use Rattle.hm_names.specs.declared.namespace.Namespace.TheVariants.{Types, Values}

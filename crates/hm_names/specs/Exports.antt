@@ -7,8 +7,8 @@ use Rattle.hm_syntax.specs.declared.ast.Module.{Module}
 use Rattle.hm_syntax.specs.declared.ast.Import.{Import}
 use Rattle.hm_syntax.specs.declared.ast.Export.{Export}
 use Rattle.hm_syntax.specs.declared.ast.Export.TheVariants as export
-use Rattle.hm_syntax.specs.declared.ast.Subs.{Subs}
-use Rattle.hm_syntax.specs.declared.ast.Subs.TheVariants as subs
+use Rattle.hm_syntax.specs.declared.ast.SubItems.{SubItems}
+use Rattle.hm_syntax.specs.declared.ast.SubItems.TheVariants as subs
 use Rattle.hm_names.specs.declared.namespace.Namespace.{Namespace}
 use Rattle.hm_names.specs.declared.namespace.Namespace.TheVariants.{Types, Constructors, Values}
 use Rattle.hm_names.specs.Entities.{Declares, own}
@@ -31,7 +31,7 @@ pub data IsModuleName (m : Module) (x : List ℕ) : Type 0 where
 -- an item of an export list gives the entity the name
 pub data Gives (m : Module) (fs : List Interface) (x : List ℕ) (e : Entity) : Export → Namespace → Type 0 where
   a_value : {n : Identifier} → Means m fs Values n e → n.text ≡ x → Gives m fs x e (export.Var n) Values
-  a_type : {n : Identifier} {s : Subs} → Means m fs Types n e → n.text ≡ x → Gives m fs x e (export.Con n s) Types
+  a_type : {n : Identifier} {s : SubItems} → Means m fs Types n e → n.text ≡ x → Gives m fs x e (export.Con n s) Types
   each_constructor : {n : Identifier} {t : Entity} → Means m fs Types n t → HasConstructor m fs t x e → Gives m fs x e (export.Con n subs.All) Constructors
   a_constructor : {n c : Identifier} {cs : List Identifier} {t : Entity} → Means m fs Types n t → Contains cs c → c.text ≡ x → HasConstructor m fs t x e → Gives m fs x e (export.Con n (subs.Some cs)) Constructors
   whole : {n : Identifier} {s : Namespace} → IsModuleName m n.text → InScope m fs s None x e → InScope m fs s (Some n.text) x e → Gives m fs x e (export.Whole n) s

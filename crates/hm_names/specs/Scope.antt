@@ -5,11 +5,11 @@ use Rattle.hm_types.specs.Interfaces.{Exports as Interface}
 use Rattle.hm_syntax.specs.Names.{Identifier}
 use Rattle.hm_syntax.specs.declared.ast.Module.{Module}
 use Rattle.hm_syntax.specs.declared.ast.Import.{Import}
-use Rattle.hm_syntax.specs.declared.ast.Item.{Item}
-use Rattle.hm_syntax.specs.declared.ast.Item.TheVariants as item
-use Rattle.hm_syntax.specs.declared.ast.List.TheVariants as list
-use Rattle.hm_syntax.specs.declared.ast.Subs.{Subs}
-use Rattle.hm_syntax.specs.declared.ast.Subs.TheVariants as subs
+use Rattle.hm_syntax.specs.declared.ast.ImportItem.{ImportItem}
+use Rattle.hm_syntax.specs.declared.ast.ImportItem.TheVariants as item
+use Rattle.hm_syntax.specs.declared.ast.ImportList.TheVariants as list
+use Rattle.hm_syntax.specs.declared.ast.SubItems.{SubItems}
+use Rattle.hm_syntax.specs.declared.ast.SubItems.TheVariants as subs
 use Rattle.hm_names.specs.declared.namespace.Namespace.{Namespace}
 use Rattle.hm_names.specs.declared.namespace.Namespace.TheVariants.{Types, Constructors, Values}
 use Rattle.hm_names.specs.Entities.{Exports, Belongs, Declares, own}
@@ -17,22 +17,22 @@ use Rattle.hm_names.specs.Entities.{Exports, Belongs, Declares, own}
 -- Import lists (Report 5.3.1)
 
 -- an item of a list names x, among what f exports
-pub data Lists (f : Interface) (x : List ℕ) : Item → Namespace → Type 0 where
+pub data Lists (f : Interface) (x : List ℕ) : ImportItem → Namespace → Type 0 where
   a_value : {n : Identifier} → n.text ≡ x → Lists f x (item.Var n) Values
-  a_type : {n : Identifier} {s : Subs} → n.text ≡ x → Lists f x (item.Con n s) Types
+  a_type : {n : Identifier} {s : SubItems} → n.text ≡ x → Lists f x (item.Con n s) Types
   each_constructor : {n : Identifier} → Belongs f n.text x → Lists f x (item.Con n subs.All) Constructors
   a_constructor : {n c : Identifier} {cs : List Identifier} → Contains cs c → c.text ≡ x → Belongs f n.text x → Lists f x (item.Con n (subs.Some cs)) Constructors
 
 -- behind hiding a name that stands alone is also that of a constructor, of whatever type
-pub data Hides (f : Interface) (x : List ℕ) : Item → Namespace → Type 0 where
-  listed : {i : Item} {s : Namespace} → Lists f x i s → Hides f x i s
+pub data Hides (f : Interface) (x : List ℕ) : ImportItem → Namespace → Type 0 where
+  listed : {i : ImportItem} {s : Namespace} → Lists f x i s → Hides f x i s
   alone : {n : Identifier} → n.text ≡ x → Hides f x (item.Con n subs.None) Constructors
 
 -- the import i of f's module brings in the name x for the entity e
 pub data Brings (f : Interface) (i : Import) (s : Namespace) (x : List ℕ) (e : Entity) : Type 0 where
   every : i.list ≡ list.Every → Exports f x e s → Brings f i s x e
-  only : {is : List Item} {j : Item} → i.list ≡ list.Only is → Contains is j → Lists f x j s → Exports f x e s → Brings f i s x e
-  hiding : {is : List Item} → i.list ≡ list.Hiding is → ((j : Item) → Contains is j → ¬ (Hides f x j s)) → Exports f x e s → Brings f i s x e
+  only : {is : List ImportItem} {j : ImportItem} → i.list ≡ list.Only is → Contains is j → Lists f x j s → Exports f x e s → Brings f i s x e
+  hiding : {is : List ImportItem} → i.list ≡ list.Hiding is → ((j : ImportItem) → Contains is j → ¬ (Hides f x j s)) → Exports f x e s → Brings f i s x e
 
 -- Imports (Report 5.3, 5.6)
 

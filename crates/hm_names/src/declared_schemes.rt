@@ -17,8 +17,9 @@ ghost use Rattle.hm_names.specs.Variables.{texts};
 use crate::monotypes::{monotype, monotypes};
 use crate::type_variables::TypeVariables;
 use crate::variables::LentNames;
+use hm_instances::canonical;
 use hm_syntax::{Constr, Name, TypeExpr};
-use hm_types::{Entity, Head, Scheme, Synonym, Text, Ty, Types, canonical};
+use hm_types::{Entity, Head, Scheme, Synonym, Text, Ty, Types};
 use std::alloc::{AllocError, Global};
 
 /// The parameters of a declaration, as type variables.
@@ -64,8 +65,8 @@ pub fn own_entity(alloc: Global, home: &str, name: &Name) -> Result<Entity, Allo
     let home = String::from_str(alloc, home)?;
     let text = String::from_str(alloc, name.as_str())?;
     Ok(Entity {
-        module: Text::new(home),
-        name: Text::new(text),
+        module: Text::new(home)?,
+        name: Text::new(text)?,
     })
 }
 

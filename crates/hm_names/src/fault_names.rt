@@ -18,7 +18,7 @@ pub(crate) fn written(alloc: Global, name: &Name) -> Result<Text, AllocError>
         text.push_str(".")?;
     }
     text.push_str(name.as_str())?;
-    Ok(Text::new(text))
+    Text::new(text)
 }
 
 /// The fault of a kind at a name.

@@ -15,12 +15,12 @@ pub(crate) fn entity_of(alloc: Global, name: &Name) -> Result<Entity, AllocError
 {
     match &name.qualifier {
         None => Ok(Entity {
-            module: Text::new(String::new(alloc)),
-            name: Text::new(name.text.clone()?),
+            module: Text::new(String::new(alloc))?,
+            name: Text::new(name.text.clone()?)?,
         }),
         Some(qualifier) => Ok(Entity {
-            module: Text::new(qualifier.clone()?),
-            name: Text::new(name.text.clone()?),
+            module: Text::new(qualifier.clone()?)?,
+            name: Text::new(name.text.clone()?)?,
         }),
     }
 }

@@ -16,7 +16,8 @@ fn note_owner<'a>(
     constructor: &EntityRef<'a>,
     owner: EntityRef<'a>,
 ) -> Result<(), AllocError>
-    ensures { OnOk result ((ds : List ConstructorDescription) (n : ℕ) → IsOwners ds owners.old → IsOwners (ds ++ record { entity = constructor.now; owner = owner.entry; arguments = n } ∷ []) owners.new) }
+    ensures { OnOk result ((ds : List ConstructorDescription) (n : ℕ) → IsOwners ds owners.old
+        → IsOwners (ds ++ record { entity = constructor.now; owner = owner.entry; arguments = n } ∷ []) owners.new) }
 {
     let key = EntityKey {
         module: constructor.module(),
@@ -36,7 +37,8 @@ fn note_constructor<'a>(
     name: &'a Name,
     constr: &'a Constr,
 ) -> Result<(), AllocError>
-    ensures { OnOk result ((ds : List ConstructorDescription) → IsOwners ds owners.old → IsOwners (ds ++ described «module».now name.now constr.now ∷ []) owners.new) }
+    ensures { OnOk result ((ds : List ConstructorDescription) → IsOwners ds owners.old
+        → IsOwners (ds ++ described «module».now name.now constr.now ∷ []) owners.new) }
 {
     let constructor = EntityRef::new(module, constr.name.as_str());
     note_owner(owners, &constructor, EntityRef::new(module, name.as_str()))?;
@@ -50,7 +52,8 @@ fn note_constructors<'a>(
     name: &'a Name,
     constrs: &'a [Constr],
 ) -> Result<(), AllocError>
-    ensures { OnOk result ((ds : List ConstructorDescription) → IsOwners ds owners.old → IsOwners (ds ++ map (described «module».now name.now) constrs.now) owners.new) }
+    ensures { OnOk result ((ds : List ConstructorDescription) → IsOwners ds owners.old
+        → IsOwners (ds ++ map (described «module».now name.now) constrs.now) owners.new) }
 {
     for constr in constrs {
         note_constructor(owners, module, name, constr)?;
@@ -64,7 +67,8 @@ fn note_declaration<'a>(
     module: &'a str,
     decl: &'a Decl,
 ) -> Result<(), AllocError>
-    ensures { OnOk result ((ds : List ConstructorDescription) → IsOwners ds owners.old → IsOwners (ds ++ declared_constructors «module».now (decl.now ∷ [])) owners.new) }
+    ensures { OnOk result ((ds : List ConstructorDescription) → IsOwners ds owners.old
+        → IsOwners (ds ++ declared_constructors «module».now (decl.now ∷ [])) owners.new) }
 {
     match &decl.kind {
         DeclKind::DataType { name, constrs, .. } => {
@@ -87,7 +91,8 @@ fn note_declared<'a>(
     owners: &mut IndexMap<EntityKey<'a>, EntityRef<'a>>,
     program: &'a Module,
 ) -> Result<(), AllocError>
-    ensures { OnOk result ((ds : List ConstructorDescription) → IsOwners ds owners.old → IsOwners (ds ++ declared_constructors program.now.header.name.text program.now.decls) owners.new) }
+    ensures { OnOk result ((ds : List ConstructorDescription) → IsOwners ds owners.old
+        → IsOwners (ds ++ declared_constructors program.now.header.name.text program.now.decls) owners.new) }
 {
     let module = program.header.name.as_str();
     for decl in program.decls.as_slice() {
@@ -101,7 +106,8 @@ fn note_exported<'a>(
     owners: &mut IndexMap<EntityKey<'a>, EntityRef<'a>>,
     entries: &'a [ConstructorEntry],
 ) -> Result<(), AllocError>
-    ensures { OnOk result ((ds : List ConstructorDescription) → IsOwners ds owners.old → IsOwners (ds ++ map (λ r. record { entity = r.entity; owner = r.owner; arguments = r.arguments }) entries.now) owners.new) }
+    ensures { OnOk result ((ds : List ConstructorDescription) → IsOwners ds owners.old
+        → IsOwners (ds ++ map (λ r. record { entity = r.entity; owner = r.owner; arguments = r.arguments }) entries.now) owners.new) }
 {
     for entry in entries {
         let constructor = EntityRef::of(&entry.entity);
@@ -116,7 +122,8 @@ pub fn owners_of<'a>(
     program: &'a Module,
     interfaces: &[&'a Interface],
 ) -> Result<IndexMap<EntityKey<'a>, EntityRef<'a>>, AllocError>
-    ensures { IfOk result (IsOwners (declared_constructors program.now.header.name.text program.now.decls ++ imported_constructors (map (λ i. i.now) interfaces.now))) }
+    ensures { IfOk result (IsOwners (declared_constructors program.now.header.name.text program.now.decls
+        ++ imported_constructors (map (λ i. i.now) interfaces.now))) }
 {
     let mut owners = IndexMap::new(alloc);
     note_declared(&mut owners, program)?;
@@ -131,7 +138,8 @@ pub fn owner_of<'o, 'a>(
     owners: &'o IndexMap<EntityKey<'a>, EntityRef<'a>>,
     constructor: &EntityRef<'a>,
 ) -> Option<&'o EntityRef<'a>>
-    ensures { (ds : List ConstructorDescription) → IsOwners ds owners.now → option_map (λ e. e.now) result ≡ option_map (λ d. d.owner) (first_of (λ d. d.entity) constructor.now ds) }
+    ensures { (ds : List ConstructorDescription) → IsOwners ds owners.now
+        → option_map (λ e. e.now) result ≡ option_map (λ d. d.owner) (first_of (λ d. d.entity) constructor.now ds) }
 {
     let key = EntityKey {
         module: constructor.module(),

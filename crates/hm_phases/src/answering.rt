@@ -28,7 +28,8 @@ pub fn first_faults(
     names: Vec<Fault>,
     numbers: Vec<Fault>,
 ) -> Result<Option<Row<Fault>>, AllocError>
-    ensures { IfOk result (λ found. (m : Module) (fs : List Interface) → AreExact m fs Declaring lists.items → AreExact m fs Exporting exports.items → AreExact m fs Naming names.items → AreExact m fs Counting numbers.items → ((f : Fault) → ¬ (HasFault m fs Importing f)) → AreFirstFaults m fs found) }
+    ensures { IfOk result (λ found. (m : Module) (fs : List Interface) → AreExact m fs Declaring lists.items → AreExact m fs Exporting exports.items
+        → AreExact m fs Naming names.items → AreExact m fs Counting numbers.items → ((f : Fault) → ¬ (HasFault m fs Importing f)) → AreFirstFaults m fs found) }
 {
     match phase_answer(lists)? {
         Some(found) => return Ok(Some(found)),

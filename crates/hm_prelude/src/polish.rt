@@ -32,8 +32,8 @@ pub(crate) fn in_prelude(alloc: Global, name: &str) -> Result<Entity, AllocError
     ensures { IfOk result (λ entity. entity ≡ in_prelude name.now) }
 {
     Ok(Entity {
-        module: Text::new(String::from_str(alloc, "Prelude")?),
-        name: Text::new(String::from_str(alloc, name)?),
+        module: Text::new(String::from_str(alloc, "Prelude")?)?,
+        name: Text::new(String::from_str(alloc, name)?)?,
     })
 }
 

@@ -233,7 +233,7 @@ const VALUES: [(&str, usize, &[Part]); 55] = [
 pub fn prelude(alloc: Global) -> Result<Interface, AllocError>
     ensures { IfOk result (λ interface. interface ≡ prelude_interface) }
 {
-    let name = Text::new(String::from_str(alloc, "Prelude")?);
+    let name = Text::new(String::from_str(alloc, "Prelude")?)?;
     let types = types(alloc, &TYPES)?;
     let synonyms = synonyms(alloc, &SYNONYMS)?;
     let constructors = constructors(alloc, &CONSTRUCTORS)?;
@@ -290,7 +290,7 @@ fn values(alloc: Global, table: &[(&str, usize, &[Part])]) -> Result<Vec<ValueEn
 fn type_entry(alloc: Global, name: &str, arity: usize) -> Result<TypeEntry, AllocError>
     ensures { IfOk result (λ entry. entry ≡ type_entry name.now arity) }
 {
-    let text = Text::new(String::from_str(alloc, name)?);
+    let text = Text::new(String::from_str(alloc, name)?)?;
     let entity = in_prelude(alloc, name)?;
     Ok(TypeEntry {
         name: text,
@@ -303,7 +303,7 @@ fn synonym_entry(alloc: Global, name: &str, parts: &[Part]) -> Result<SynonymEnt
     requires { IsSynonym (record { parameters = 0; body = read_as parts.now }) }
     ensures { IfOk result (λ entry. entry ≡ synonym_entry name.now (read_as parts.now)) }
 {
-    let text = Text::new(String::from_str(alloc, name)?);
+    let text = Text::new(String::from_str(alloc, name)?)?;
     let entity = in_prelude(alloc, name)?;
     let body = read(alloc, parts)?;
     Ok(SynonymEntry {
@@ -345,7 +345,7 @@ fn value_entry(
     requires numbered { IsNumbered variables (read_as parts.now) }
     ensures { IfOk result (λ entry. entry ≡ value_entry name.now (read_as parts.now)) }
 {
-    let text = Text::new(String::from_str(alloc, name)?);
+    let text = Text::new(String::from_str(alloc, name)?)?;
     let entity = in_prelude(alloc, name)?;
     let scheme = scheme(alloc, variables, parts)?;
     Ok(ValueEntry {

@@ -87,7 +87,8 @@ impl Resolving<'_> {
     #[tactic(auto, using(hm_names::proofs::Rows::noting_more))]
     fn apply(&mut self, alloc: Global, function: &Expr, argument: &Expr) -> Result<Expr, AllocError>
         ensures tree { IfOk result (λ e. e ≡ expression_with (resolver_of self.old.known) (locals_of self.old) (application function.now argument.now)) }
-        ensures state { OnOk result (self.new ≡ noting (expression_faults self.old.known (locals_of self.old) (application function.now argument.now)) self.old) }
+        ensures state { OnOk result (self.new ≡ noting (expression_faults self.old.known (locals_of self.old) (application function.now argument.now))
+            self.old) }
     {
         let function = Box::new(alloc, self.expr(alloc, function)?)?;
         let argument = Box::new(alloc, self.expr(alloc, argument)?)?;
@@ -116,8 +117,10 @@ impl Resolving<'_> {
     #[tactic(auto, using(hm_names::proofs::Rows::noting_more, hm_names::proofs::Rows::declarations_map))]
     #[inline(never)]
     fn let_in(&mut self, alloc: Global, local: &[Decl], body: &Expr) -> Result<Expr, AllocError>
-        ensures tree { IfOk result (λ e. e ≡ expression_with (resolver_of self.old.known) (locals_of self.old) (let_expression (declarations local.now) body.now)) }
-        ensures state { OnOk result (self.new ≡ noting (expression_faults self.old.known (locals_of self.old) (let_expression (declarations local.now) body.now)) self.old) }
+        ensures tree { IfOk result (λ e. e ≡ expression_with (resolver_of self.old.known) (locals_of self.old)
+            (let_expression (declarations local.now) body.now)) }
+        ensures state { OnOk result (self.new ≡ noting
+            (expression_faults self.old.known (locals_of self.old) (let_expression (declarations local.now) body.now)) self.old) }
     {
         self.enter_list(alloc, local)?;
         let local = self.decl_list(alloc, local)?;
@@ -138,8 +141,10 @@ impl Resolving<'_> {
         consequence: &Expr,
         alternative: &Expr,
     ) -> Result<Expr, AllocError>
-        ensures tree { IfOk result (λ e. e ≡ expression_with (resolver_of self.old.known) (locals_of self.old) (if_expression test.now consequence.now alternative.now)) }
-        ensures state { OnOk result (self.new ≡ noting (expression_faults self.old.known (locals_of self.old) (if_expression test.now consequence.now alternative.now)) self.old) }
+        ensures tree { IfOk result (λ e. e ≡ expression_with (resolver_of self.old.known) (locals_of self.old)
+            (if_expression test.now consequence.now alternative.now)) }
+        ensures state { OnOk result (self.new ≡ noting
+            (expression_faults self.old.known (locals_of self.old) (if_expression test.now consequence.now alternative.now)) self.old) }
     {
         let test = Box::new(alloc, self.expr(alloc, test)?)?;
         let consequence = Box::new(alloc, self.expr(alloc, consequence)?)?;
@@ -153,8 +158,10 @@ impl Resolving<'_> {
     #[tactic(auto, using(hm_names::proofs::Rows::noting_more, hm_names::proofs::Rows::alternatives_map))]
     #[inline(never)]
     fn case_of(&mut self, alloc: Global, subject: &Expr, alts: &[Alt]) -> Result<Expr, AllocError>
-        ensures tree { IfOk result (λ e. e ≡ expression_with (resolver_of self.old.known) (locals_of self.old) (case_expression subject.now (alternatives alts.now))) }
-        ensures state { OnOk result (self.new ≡ noting (expression_faults self.old.known (locals_of self.old) (case_expression subject.now (alternatives alts.now))) self.old) }
+        ensures tree { IfOk result (λ e. e ≡ expression_with (resolver_of self.old.known) (locals_of self.old)
+            (case_expression subject.now (alternatives alts.now))) }
+        ensures state { OnOk result (self.new ≡ noting
+            (expression_faults self.old.known (locals_of self.old) (case_expression subject.now (alternatives alts.now))) self.old) }
     {
         let subject = Box::new(alloc, self.expr(alloc, subject)?)?;
         let alts = self.alt_row(alloc, alts)?;
@@ -312,8 +319,10 @@ impl Resolving<'_> {
         home: &Option<Text>,
         given: &FunctionClause<'_>,
     ) -> Result<Decl, AllocError>
-        ensures tree { IfOk result (λ d. d ≡ declaration_with (resolver_of self.old.known) (binder_of home.now) (locals_of self.old) (clause given.now.name.now (patterns given.now.pats.now) given.now.rhs.now)) }
-        ensures state { OnOk result (self.new ≡ noting (declaration_faults self.old.known (locals_of self.old) (clause given.now.name.now (patterns given.now.pats.now) given.now.rhs.now)) self.old) }
+        ensures tree { IfOk result (λ d. d ≡ declaration_with (resolver_of self.old.known) (binder_of home.now) (locals_of self.old)
+            (clause given.now.name.now (patterns given.now.pats.now) given.now.rhs.now)) }
+        ensures state { OnOk result (self.new ≡ noting
+            (declaration_faults self.old.known (locals_of self.old) (clause given.now.name.now (patterns given.now.pats.now) given.now.rhs.now)) self.old) }
     {
         let (pats, names) = self.head(alloc, given.pats)?;
         self.enter(names)?;
@@ -338,8 +347,11 @@ impl Resolving<'_> {
         home: &Option<Text>,
         given: &PatternBinding<'_>,
     ) -> Result<Decl, AllocError>
-        ensures tree { IfOk result (λ d. d ≡ declaration_with (resolver_of self.old.known) (binder_of home.now) (locals_of self.old) (pattern_binding given.now.place.line given.now.place.column given.now.pat.now given.now.rhs.now)) }
-        ensures state { OnOk result (self.new ≡ noting (declaration_faults self.old.known (locals_of self.old) (pattern_binding given.now.place.line given.now.place.column given.now.pat.now given.now.rhs.now)) self.old) }
+        ensures tree { IfOk result (λ d. d ≡ declaration_with (resolver_of self.old.known) (binder_of home.now) (locals_of self.old)
+            (pattern_binding given.now.place.line given.now.place.column given.now.pat.now given.now.rhs.now)) }
+        ensures state { OnOk result (self.new ≡ noting
+            (declaration_faults self.old.known (locals_of self.old)
+            (pattern_binding given.now.place.line given.now.place.column given.now.pat.now given.now.rhs.now)) self.old) }
     {
         let (pat, _) = self.lone(alloc, home, given.pat)?;
         let rhs = or_drop!(self.rhs(alloc, given.rhs), pat);
@@ -373,7 +385,8 @@ impl Resolving<'_> {
     #[tactic(auto, using(hm_names::proofs::Rows::noting_more))]
     fn decl_list(&mut self, alloc: Global, decls: &[Decl]) -> Result<Vec<Decl>, AllocError>
         ensures trees { IfOk result (λ ds. ds.items ≡ map (declaration_with (resolver_of self.old.known) unchanged (locals_of self.old)) decls.now) }
-        ensures state { OnOk result (self.new ≡ noting (list_faults (declarations decls.now) ++ declarations_faults self.old.known (locals_of self.old) (declarations decls.now)) self.old) }
+        ensures state { OnOk result (self.new ≡ noting (list_faults (declarations decls.now)
+            ++ declarations_faults self.old.known (locals_of self.old) (declarations decls.now)) self.old) }
     {
         let home = None;
         self.note_list(alloc, decls)?;

@@ -149,7 +149,8 @@ impl Resolving<'_> {
 
     /// Notes a type constructor with another number of arguments than it has.
     fn type_arity(&mut self, alloc: Global, name: &Name, count: usize) -> Result<(), AllocError>
-        ensures { OnOk result (self.new ≡ noting (other_arity (type_arity_meant self.old.known (meaning_in self.old.known.pairs Types name.now)) count name.now) self.old) }
+        ensures { OnOk result (self.new ≡ noting
+            (other_arity (type_arity_meant self.old.known (meaning_in self.old.known.pairs Types name.now)) count name.now) self.old) }
     {
         match self.scope.meaning(Namespace::Types, name) {
             Meaning::Unbound => Ok(()),

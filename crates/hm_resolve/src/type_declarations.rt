@@ -124,8 +124,11 @@ impl Resolving<'_> {
         head: &TypeHead<'_>,
         constrs: &[Constr],
     ) -> Result<Decl, AllocError>
-        ensures tree { IfOk result (λ d. d ≡ declaration_with (resolver_of self.old.known) (binder_of head.now.home.now) (locals_of self.old) (data_declaration head.now.name.now head.now.params.now (constructors constrs.now))) }
-        ensures state { OnOk result (self.new ≡ noting (declaration_faults self.old.known (locals_of self.old) (data_declaration head.now.name.now head.now.params.now (constructors constrs.now))) self.old) }
+        ensures tree { IfOk result (λ d. d ≡ declaration_with (resolver_of self.old.known) (binder_of head.now.home.now) (locals_of self.old)
+            (data_declaration head.now.name.now head.now.params.now (constructors constrs.now))) }
+        ensures state { OnOk result (self.new ≡ noting
+            (declaration_faults self.old.known (locals_of self.old)
+            (data_declaration head.now.name.now head.now.params.now (constructors constrs.now))) self.old) }
     {
         self.data_parameters(alloc, head.params, constrs)?;
         let name = bound_name(alloc, head.home, head.name)?;
@@ -149,8 +152,10 @@ impl Resolving<'_> {
         head: &TypeHead<'_>,
         constr: &Constr,
     ) -> Result<Decl, AllocError>
-        ensures tree { IfOk result (λ d. d ≡ declaration_with (resolver_of self.old.known) (binder_of head.now.home.now) (locals_of self.old) (newtype_declaration head.now.name.now head.now.params.now constr.now)) }
-        ensures state { OnOk result (self.new ≡ noting (declaration_faults self.old.known (locals_of self.old) (newtype_declaration head.now.name.now head.now.params.now constr.now)) self.old) }
+        ensures tree { IfOk result (λ d. d ≡ declaration_with (resolver_of self.old.known) (binder_of head.now.home.now) (locals_of self.old)
+            (newtype_declaration head.now.name.now head.now.params.now constr.now)) }
+        ensures state { OnOk result (self.new ≡ noting
+            (declaration_faults self.old.known (locals_of self.old) (newtype_declaration head.now.name.now head.now.params.now constr.now)) self.old) }
     {
         self.newtype_parameters(alloc, head.params, constr)?;
         let name = bound_name(alloc, head.home, head.name)?;
@@ -174,8 +179,10 @@ impl Resolving<'_> {
         head: &TypeHead<'_>,
         ty: &TypeExpr,
     ) -> Result<Decl, AllocError>
-        ensures tree { IfOk result (λ d. d ≡ declaration_with (resolver_of self.old.known) (binder_of head.now.home.now) (locals_of self.old) (synonym_declaration head.now.name.now head.now.params.now ty.now)) }
-        ensures state { OnOk result (self.new ≡ noting (declaration_faults self.old.known (locals_of self.old) (synonym_declaration head.now.name.now head.now.params.now ty.now)) self.old) }
+        ensures tree { IfOk result (λ d. d ≡ declaration_with (resolver_of self.old.known) (binder_of head.now.home.now) (locals_of self.old)
+            (synonym_declaration head.now.name.now head.now.params.now ty.now)) }
+        ensures state { OnOk result (self.new ≡ noting
+            (declaration_faults self.old.known (locals_of self.old) (synonym_declaration head.now.name.now head.now.params.now ty.now)) self.old) }
     {
         self.synonym_parameters(alloc, head.params, ty)?;
         let name = bound_name(alloc, head.home, head.name)?;
@@ -195,7 +202,8 @@ impl Resolving<'_> {
         names: &[Name],
         ty: &TypeExpr,
     ) -> Result<Decl, AllocError>
-        ensures tree { IfOk result (λ d. d ≡ declaration_with (resolver_of self.old.known) (binder_of home.now) (locals_of self.old) (signature names.now ty.now)) }
+        ensures tree { IfOk result (λ d. d ≡ declaration_with (resolver_of self.old.known) (binder_of home.now) (locals_of self.old)
+            (signature names.now ty.now)) }
         ensures state { OnOk result (self.new ≡ noting (declaration_faults self.old.known (locals_of self.old) (signature names.now ty.now)) self.old) }
     {
         let names = bound_names(alloc, home, names)?;

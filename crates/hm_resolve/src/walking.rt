@@ -32,10 +32,14 @@ pub fn walk(
     tables: &Tables<'_>,
     module: &Module,
 ) -> Result<Walked, AllocError>
-    ensures faults { IfOk result (λ w. (fs : List Interface) → AreLookupsOf «module».now fs (lookups_in scope.now tables.now.synonyms tables.now.types tables.now.constructors) → (f : Fault) → Contains w.faults.items f ↔ Somewhere «module».now (NodeFault «module».now fs f)) }
-    ensures trees { IfOk result (λ w. w.decls.items ≡ map (declaration_with (resolver_of (lookups_in scope.now tables.now.synonyms tables.now.types tables.now.constructors)) (top «module».now) []) «module».now.decls) }
+    ensures faults { IfOk result (λ w. (fs : List Interface)
+        → AreLookupsOf «module».now fs (lookups_in scope.now tables.now.synonyms tables.now.types tables.now.constructors) → (f : Fault)
+        → Contains w.faults.items f ↔ Somewhere «module».now (NodeFault «module».now fs f)) }
+    ensures trees { IfOk result (λ w. w.decls.items
+        ≡ map (declaration_with (resolver_of (lookups_in scope.now tables.now.synonyms tables.now.types tables.now.constructors)) (top «module».now)
+        []) «module».now.decls) }
 {
-    let home = Some(Text::new(module.header.name.text.clone()?));
+    let home = Some(Text::new(module.header.name.text.clone()?)?);
     let mut walk = Resolving::new(alloc, scope, tables);
     walk.note_list(alloc, module.decls.as_slice())?;
     let decls = walk.decl_row(alloc, &home, module.decls.as_slice())?;

@@ -44,7 +44,8 @@ pub fn with_rigid_variables(
     ensures first { IfOk result (λ t. t.first ≡ solver.old.given) }
     ensures fits { IfOk result (λ t. t.first + declared.now.count < 2 ^ 64) }
     ensures next { OnOk result (solver.new ≡ given_more solver.old declared.now.count) }
-    ensures body { IfOk result (λ t. monotype (type_of t.body) ≡ put (λ i. leaf (number (rigid (solver.old.given + i)))) (monotype_of (type_of declared.now.body))) }
+    ensures body { IfOk result (λ t. monotype (type_of t.body)
+        ≡ put (λ i. leaf (number (rigid (solver.old.given + i)))) (monotype_of (type_of declared.now.body))) }
     ensures given { IfOk result (λ t. IsWellFormed solver.new.given (type_of t.body)) }
     ensures refused { IfErr result (λ e. e ≡ Memory) }
     ensures below { FactsBelow (bound solver.old) (problem solver.old) }

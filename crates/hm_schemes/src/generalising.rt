@@ -50,7 +50,9 @@ struct Quantified<'q> {
 
 /// A type as the body of a scheme that quantifies these variables.
 fn close(alloc: Global, quantified: &Quantified<'_>, t: &Ty) -> Result<Ty, AllocError>
-    ensures { IfOk result (λ u. (xs ys : List ℕ) → Numbers quantified.now.slots.now.plain xs → Numbers quantified.now.slots.now.rigid ys → type_of u ≡ put (λ l. leaf (closing (is_outer quantified.now.solver.now.equations quantified.now.older) quantified.now.count xs ys l)) (type_of t.now)) }
+    ensures { IfOk result (λ u. (xs ys : List ℕ) → Numbers quantified.now.slots.now.plain xs → Numbers quantified.now.slots.now.rigid ys
+        → type_of u ≡ put (λ l. leaf (closing (is_outer quantified.now.solver.now.equations quantified.now.older) quantified.now.count xs ys l))
+        (type_of t.now)) }
 {
     match t {
         Ty::Var(n) => {
@@ -93,9 +95,12 @@ pub fn generalise(
     t: &Ty,
 ) -> Result<Generalised, AllocError>
     requires { IsWellFormed solver.now.given (type_of t.now) }
-    ensures scheme { IfOk result (λ s. (A : Assumptions) (m : ℕ → Monotype) → IsSolution solver.now.equations m → Keeps (is_outer solver.now.equations older) (substitute (solution solver.now.equations) (type_of t.now)) (assumptions_put m A) → IsGeneralisation (assumptions_put m A) (put m (monotype (type_of t.now))) (scheme_in (record { quantified = s.quantified; body = type_of s.body }))) }
+    ensures scheme { IfOk result (λ s. (A : Assumptions) (m : ℕ → Monotype) → IsSolution solver.now.equations m
+        → Keeps (is_outer solver.now.equations older) (substitute (solution solver.now.equations) (type_of t.now)) (assumptions_put m A)
+        → IsGeneralisation (assumptions_put m A) (put m (monotype (type_of t.now))) (scheme_in (record { quantified = s.quantified; body = type_of s.body }))) }
     ensures given { IfOk result (λ s. IsWellFormed (s.quantified + solver.now.given) (type_of s.body)) }
-    ensures closed { IfOk result (λ s. IsClosing (is_outer solver.now.equations older) (substitute (solution solver.now.equations) (type_of t.now)) s.quantified (type_of s.body)) }
+    ensures closed { IfOk result (λ s. IsClosing (is_outer solver.now.equations older) (substitute (solution solver.now.equations) (type_of t.now))
+        s.quantified (type_of s.body)) }
 {
     let value = solver.value(t)?;
     let mut slots = none_collected(alloc);

@@ -31,7 +31,7 @@ use Rattle.hm_tables.specs.KnownTables.{KnownTables, AreTablesOf, imported_of, i
 use Rattle.hm_names.specs.Faults.Lists.{Repeats, type_names, second_type}
 use Rattle.hm_names.specs.Faults.Arities.{RefersTo, refers, Reaches}
 use Rattle.hm_names.specs.Faults.Phases.{IsWellFormed, Declaring, fault}
-use Rattle.hm_synonyms.specs.SynonymGraphs.{IsOrder}
+use Rattle.hm_graph.specs.NodeOrders.{IsOrder}
 use Rattle.hm_names.specs.DeclaredSynonyms.{IsSound}
 use Rattle.hm_synonyms.specs.Synonyms.{AreOwnSynonyms, IsReferenceGraph, IsSettled, IsExpandable, Finishes, AreResolved}
 use Rattle.hm_names.proofs.Members.{none_in, cases, first, rest, name_discrete, optional_synonym_discrete, same_entity-Decides}

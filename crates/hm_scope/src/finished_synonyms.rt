@@ -20,9 +20,10 @@ ghost use Rattle.hm_names.specs.Variables.{texts, type_variables};
 ghost use Rattle.hm_types.specs.Shape.{type_of};
 
 use hm_descriptions::Tables;
+use hm_graph::Digraph;
 use hm_names::{LentNames, TypeVariables, add_type, monotype, parameters_of};
 use hm_resolve::Resolving;
-use hm_synonyms::{OwnSynonym, OwnSynonyms, SynonymGraph};
+use hm_synonyms::{OwnSynonym, OwnSynonyms};
 use hm_syntax::{Module, Name, TypeExpr};
 use hm_tables::Scope;
 use hm_types::{Synonym, Ty};
@@ -81,7 +82,8 @@ fn finished_over(
     variables: &TypeVariables<'_>,
     ty: &TypeExpr,
 ) -> Result<Option<Synonym>, AllocError>
-    ensures { IfOk result (λ synonym. (ps : List Identifier) → variables.now ≡ texts ps → IsSound ps ty.now → synonym ≡ Some (synonym_of ps (type_with (resolver_of (lookups_of scope.now tables.now)) ty.now))) }
+    ensures { IfOk result (λ synonym. (ps : List Identifier) → variables.now ≡ texts ps → IsSound ps ty.now
+        → synonym ≡ Some (synonym_of ps (type_with (resolver_of (lookups_of scope.now tables.now)) ty.now))) }
 {
     if !is_closed(alloc, variables, ty)? {
         return Ok(None);
@@ -98,7 +100,8 @@ fn finished(
     params: &[Name],
     ty: &TypeExpr,
 ) -> Result<Option<Synonym>, AllocError>
-    ensures { IfOk result (λ synonym. IsSound params.now ty.now → synonym ≡ Some (synonym_of params.now (type_with (resolver_of (lookups_of scope.now tables.now)) ty.now))) }
+    ensures { IfOk result (λ synonym. IsSound params.now ty.now
+        → synonym ≡ Some (synonym_of params.now (type_with (resolver_of (lookups_of scope.now tables.now)) ty.now))) }
 {
     let variables = parameters_of(alloc, params)?;
     finished_over(alloc, scope, tables, &variables, ty)
@@ -114,8 +117,10 @@ fn add_finished<'a>(
 ) -> Result<(), AllocError>
     ensures types { OnOk result (tables.new.types ≡ tables.old.types) }
     ensures constructors { OnOk result (tables.new.constructors ≡ tables.old.constructors) }
-    ensures others { OnOk result ((e : Entity) → same_entity e (named home.now synonym.now.name.now.text) ≡ false → synonym_among tables.new.synonyms e ≡ synonym_among tables.old.synonyms e) }
-    ensures synonym { OnOk result (IsSound synonym.now.params.now synonym.now.ty.now → (e : Entity) → same_entity e (named home.now synonym.now.name.now.text) ≡ true →
+    ensures others { OnOk result ((e : Entity) → same_entity e (named home.now synonym.now.name.now.text) ≡ false
+        → synonym_among tables.new.synonyms e ≡ synonym_among tables.old.synonyms e) }
+    ensures synonym { OnOk result (IsSound synonym.now.params.now synonym.now.ty.now → (e : Entity)
+        → same_entity e (named home.now synonym.now.name.now.text) ≡ true →
         synonym_among tables.new.synonyms e ≡ Some (synonym_of synonym.now.params.now (type_with (resolver_of (lookups_of scope.now tables.old)) synonym.now.ty.now))) }
 {
     match finished(alloc, scope, tables, synonym.params, synonym.ty)? {
@@ -142,8 +147,11 @@ fn add_numbered<'a>(
     ensures types { OnOk result (tables.new.types ≡ tables.old.types) }
     ensures constructors { OnOk result (tables.new.constructors ≡ tables.old.constructors) }
     ensures none { OnOk result (length unfinished.now.declared.now ≤ number → tables.new.synonyms ≡ tables.old.synonyms) }
-    ensures others { OnOk result ((d : OwnSynonym) → number < length unfinished.now.declared.now → (e : Entity) → same_entity e (named unfinished.now.home.now (slice_index_or unfinished.now.declared.now number d).name.now.text) ≡ false → synonym_among tables.new.synonyms e ≡ synonym_among tables.old.synonyms e) }
-    ensures synonym { OnOk result ((d : OwnSynonym) → number < length unfinished.now.declared.now → IsSound (slice_index_or unfinished.now.declared.now number d).params.now (slice_index_or unfinished.now.declared.now number d).ty.now →
+    ensures others { OnOk result ((d : OwnSynonym) → number < length unfinished.now.declared.now → (e : Entity)
+        → same_entity e (named unfinished.now.home.now (slice_index_or unfinished.now.declared.now number d).name.now.text) ≡ false
+        → synonym_among tables.new.synonyms e ≡ synonym_among tables.old.synonyms e) }
+    ensures synonym { OnOk result ((d : OwnSynonym) → number < length unfinished.now.declared.now
+        → IsSound (slice_index_or unfinished.now.declared.now number d).params.now (slice_index_or unfinished.now.declared.now number d).ty.now →
         (e : Entity) → same_entity e (named unfinished.now.home.now (slice_index_or unfinished.now.declared.now number d).name.now.text) ≡ true →
         synonym_among tables.new.synonyms e ≡ Some (synonym_of (slice_index_or unfinished.now.declared.now number d).params.now (type_with (resolver_of (lookups_of unfinished.now.scope.now tables.old)) (slice_index_or unfinished.now.declared.now number d).ty.now))) }
 {
@@ -168,7 +176,9 @@ fn add_in_order<'a>(
 ) -> Result<(), AllocError>
     ensures types { OnOk result (tables.new.types ≡ tables.old.types) }
     ensures constructors { OnOk result (tables.new.constructors ≡ tables.old.constructors) }
-    ensures finished { OnOk result ((m : Module) (fs : List Interface) (r : Resolver) → IsScopeOf m fs unfinished.now.scope.now → unfinished.now.home.now ≡ m.header.name.text → IsExpandable m fs r unfinished.now.declared.now order.now tables.old.synonyms → Finishes r unfinished.now.home.now unfinished.now.declared.now order.now tables.old.synonyms tables.new.synonyms) }
+    ensures finished { OnOk result ((m : Module) (fs : List Interface) (r : Resolver) → IsScopeOf m fs unfinished.now.scope.now
+        → unfinished.now.home.now ≡ m.header.name.text → IsExpandable m fs r unfinished.now.declared.now order.now tables.old.synonyms
+        → Finishes r unfinished.now.home.now unfinished.now.declared.now order.now tables.old.synonyms tables.new.synonyms) }
 {
     'order: for number in order {
         add_numbered(alloc, tables, unfinished, *number)?;
@@ -180,7 +190,7 @@ fn add_in_order<'a>(
 #[derive(Clone, Copy)]
 pub(crate) struct DeclaredSynonyms<'r, 'a> {
     pub(crate) own: &'r OwnSynonyms<'a>,
-    pub(crate) graph: &'r SynonymGraph,
+    pub(crate) graph: &'r Digraph,
 }
 
 /// Adds the synonyms of a module, each after those that its right side names. Those of a module with faults may be left out.
@@ -194,10 +204,11 @@ pub(crate) fn add_synonyms<'a>(
     requires { length synonyms.now.graph.now ≡ length synonyms.now.own.now.names }
     ensures types { OnOk result (tables.new.types ≡ tables.old.types) }
     ensures constructors { OnOk result (tables.new.constructors ≡ tables.old.constructors) }
-    ensures synonyms { OnOk result ((fs : List Interface) → IsScopeOf program.now fs scope.now → AreTablesOf program.now fs tables.old → AreOwnSynonyms program.now.decls synonyms.now.own.now → IsReferenceGraph program.now fs synonyms.now.own.now.names synonyms.now.graph.now
+    ensures synonyms { OnOk result ((fs : List Interface) → IsScopeOf program.now fs scope.now → AreTablesOf program.now fs tables.old
+        → AreOwnSynonyms program.now.decls synonyms.now.own.now → IsReferenceGraph program.now fs synonyms.now.own.now.names synonyms.now.graph.now
         → IsWellFormed program.now fs → AreResolved program.now fs (lookups_of scope.now tables.new)) }
 {
-    let order = synonyms.graph.order(alloc)?;
+    let order = synonyms.graph.order()?;
     let unfinished = Unfinished {
         scope,
         home: program.header.name.as_str(),

@@ -81,7 +81,8 @@ fn walked_with<'a>(
     synonyms: &DeclaredSynonyms<'_, 'a>,
 ) -> Result<Walked, AllocError>
     requires { length synonyms.now.graph.now ≡ length synonyms.now.own.now.names }
-    ensures { IfOk result (λ walked. (fs : List Interface) → IsScopeOf program.now fs scope.now → AreTablesOf program.now fs tables.old → AreOwnSynonyms program.now.decls synonyms.now.own.now
+    ensures { IfOk result (λ walked. (fs : List Interface) → IsScopeOf program.now fs scope.now → AreTablesOf program.now fs tables.old
+        → AreOwnSynonyms program.now.decls synonyms.now.own.now
         → IsReferenceGraph program.now fs synonyms.now.own.now.names synonyms.now.graph.now → AreWalked program.now fs walked.decls.items walked.faults.items) }
 {
     add_synonyms(alloc, tables, scope, program, synonyms)?;
@@ -126,7 +127,8 @@ fn phases_of(
 
 /// The trees of a walk, its faults by phases, with those of synonyms that are recursive.
 fn trees_of(alloc: Global, walked: Walked, recursive: Vec<Fault>) -> Result<Trees, AllocError>
-    ensures { IfOk result (λ trees. (m : ModuleTree) (fs : List Interface) → AreWalked m fs walked.decls.items walked.faults.items → ((f : Fault) → Contains recursive.items f ↔ HasSynonymFault m fs f) → AreTrees m fs trees) }
+    ensures { IfOk result (λ trees. (m : ModuleTree) (fs : List Interface) → AreWalked m fs walked.decls.items walked.faults.items
+        → ((f : Fault) → Contains recursive.items f ↔ HasSynonymFault m fs f) → AreTrees m fs trees) }
 {
     let Walked { decls, faults } = walked;
     let parts = phases_of(alloc, faults, recursive)?;
@@ -275,6 +277,13 @@ fn exported_rows(alloc: Global, given: &[Binding<'_>]) -> Result<ExportedRows, A
     })
 }
 
+/// The name of a module.
+fn name_of(module: &Module) -> Result<Text, AllocError>
+    ensures { IfOk result (λ name. name ≡ «module».now.header.name.text) }
+{
+    Text::new(module.header.name.text.clone()?)
+}
+
 /// The core of these declarations and exports.
 fn core_of(
     module: &Module,
@@ -289,7 +298,7 @@ fn core_of(
     ensures constructors { IfOk result (λ core. core.exported_constructors ≡ exports.constructors) }
     ensures values { IfOk result (λ core. core.exported_values ≡ exports.values) }
 {
-    let name = Text::new(module.header.name.text.clone()?);
+    let name = name_of(module)?;
     Ok(Core {
         name,
         decls: Row { items: decls },

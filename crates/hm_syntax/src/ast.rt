@@ -382,14 +382,14 @@ pub enum Export {
     /// A variable.
     Var(Name),
     /// A type, with some of its constructors.
-    Con(Name, Subs),
+    Con(Name, SubItems),
     /// What `module` and a name export.
     Whole(Name),
 }
 
 /// The constructors that are listed behind a type.
 #[derive(Drop)]
-pub enum Subs {
+pub enum SubItems {
     /// The name stands alone.
     None,
     /// `(..)`
@@ -407,27 +407,27 @@ pub struct Import {
     pub name: Name,
     /// The name behind `as`.
     pub alias: Option<Name>,
-    pub list: List,
+    pub list: ImportList,
 }
 
 /// Which of a module's exports are imported (Report, section 5.3.1).
 #[derive(Drop)]
-pub enum List {
+pub enum ImportList {
     /// All, since there is no list.
     Every,
     /// These alone.
-    Only(Row<Item>),
+    Only(Row<ImportItem>),
     /// All but these.
-    Hiding(Row<Item>),
+    Hiding(Row<ImportItem>),
 }
 
 /// An item of an import list. Behind `hiding` a `Con` may be a constructor too.
 #[derive(Drop)]
-pub enum Item {
+pub enum ImportItem {
     /// A variable.
     Var(Name),
     /// A type, with some of its constructors.
-    Con(Name, Subs),
+    Con(Name, SubItems),
 }
 
 impl Name {

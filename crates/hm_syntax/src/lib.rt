@@ -4,6 +4,6 @@
 mod ast;
 
 pub use crate::ast::{
-    Alt, Constr, Decl, DeclKind, Export, Expr, ExprKind, Header, Import, Item, List, Literal,
-    LiteralKind, Module, Name, Pat, PatKind, Rhs, Row, Subs, TypeExpr, TypeKind,
+    Alt, Constr, Decl, DeclKind, Export, Expr, ExprKind, Header, Import, ImportItem, ImportList,
+    Literal, LiteralKind, Module, Name, Pat, PatKind, Rhs, Row, SubItems, TypeExpr, TypeKind,
 };

@@ -1,3 +1,4 @@
+pub mod Hashed
 pub mod Tables
 pub mod Meanings
 pub mod NameSets

@@ -2,16 +2,33 @@
 
 ghost use Rattle.std.specs.Prelude.{◌≡◌};
 ghost use Rattle.hm_tables.specs.KnownTables.{entity_at};
+ghost use Rattle.hm_tables.specs.Hashed.{same_writes, writes_of};
 
 use crate::bindings::EntityRef;
 use hm_names::Namespace;
+use std::hash::{Hash, Hasher};
 
 /// A name, bare or qualified, in a namespace.
-#[derive(Clone, Copy, Hash, PartialEq, Eq)]
+#[derive(Clone, Copy, PartialEq, Eq)]
 pub struct Key<'a> {
     pub space: Namespace,
     pub qualifier: Option<&'a str>,
     pub text: &'a str,
+}
+
+/// Feeds the texts and no more, since few names stand in several namespaces, and a derived one also feeds numbers for the
+/// namespace and the qualifier, and a byte behind each text.
+impl<'a> Hash for Key<'a> {
+    ghost hash_input = { writes_of };
+
+    ghost respects_eq = { same_writes };
+
+    fn hash<H: Hasher>(&self, state: &mut H) {
+        if let Some(qualifier) = self.qualifier {
+            state.write(qualifier.as_bytes());
+        }
+        state.write(self.text.as_bytes());
+    }
 }
 
 /// An entity, by its two texts.

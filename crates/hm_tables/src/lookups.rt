@@ -80,7 +80,8 @@ impl Named for ValueEntry {
 /// What is exported under this name, among entries in the order of their names.
 pub fn entry_named<'a, E: Named>(entries: &'a [E], name: &str) -> Option<&'a E>
     requires { AreOrdered (map E.name_of entries.now) }
-    ensures { MatchOption result ((r : E) → Contains entries.now r → ¬ (E.name_of r ≡ name.now)) (λ r. Contains entries.now r.now × (E.name_of r.now ≡ name.now)) }
+    ensures { MatchOption result ((r : E) → Contains entries.now r
+        → ¬ (E.name_of r ≡ name.now)) (λ r. Contains entries.now r.now × (E.name_of r.now ≡ name.now)) }
 {
     match entries.binary_search_by(|entry| entry.name().cmp(&name)) {
         Ok(place) => Some(&entries[place]),

@@ -59,7 +59,8 @@ impl<'a> NameSet<'a> {
         qualifier: Option<&'a str>,
         text: &'a str,
     ) -> Result<(), AllocError>
-        ensures { OnOk result ((n : FullName) → Contains self.new n ↔ (Contains self.old n ⊎ (n ≡ record { space = space; qualifier = option_map (λ q. q.now) qualifier.entry; text = text.now }))) }
+        ensures { OnOk result ((n : FullName) → Contains self.new n
+            ↔ (Contains self.old n ⊎ (n ≡ record { space = space; qualifier = option_map (λ q. q.now) qualifier.entry; text = text.now }))) }
     {
         self.keys.insert(Key {
             space,

@@ -9,7 +9,6 @@ pub mod Synonyms
 pub mod Interfaces
 pub mod InterfaceTexts
 pub mod StandardPrelude
-pub mod Matching
 pub mod Numbers
 pub mod Texts
 pub mod Laws

@@ -2,7 +2,7 @@
 
 ghost use Rattle.hm_typing.specs.Laws.{ProgramsDecideGenerality, ProgramsUnifyAlike};
 
-/// Of closed schemes, one is at least as general as another exactly where `hm_types::instance_of` answers so.
+/// Of closed schemes, one is at least as general as another exactly where `hm_instances::instance_of` answers so.
 pub fn programs_decide_generality()
     ensures { ProgramsDecideGenerality }
 {}

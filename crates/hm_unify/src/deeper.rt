@@ -67,7 +67,8 @@ pub(crate) fn none_seen(alloc: Global) -> Seen
 /// Adds a number to those seen, unless it is there or is that of an outer variable.
 fn see(seen: &mut Seen, is_outer: bool, number: usize) -> Result<(), AllocError>
     requires { Numbers seen.old.places seen.old.numbers.items }
-    ensures numbers { OnOk result (seen.new.numbers.items ≡ (if is_outer || is_among number seen.old.numbers.items then seen.old.numbers.items else (seen.old.numbers.items ++ number ∷ []))) }
+    ensures numbers { OnOk result (seen.new.numbers.items
+        ≡ (if is_outer || is_among number seen.old.numbers.items then seen.old.numbers.items else (seen.old.numbers.items ++ number ∷ []))) }
     ensures placed { OnOk result (Numbers seen.new.places seen.new.numbers.items) }
 {
     if is_outer {

@@ -3,14 +3,30 @@
 ghost use Rattle.std.specs.Prelude.{◌≡◌};
 ghost use Rattle.hm_variables.specs.Variables.{variable_of};
 ghost use Rattle.hm_variables.specs.Keys.{variable_of_key};
+ghost use Rattle.hm_variables.specs.Hashed.{same_writes, writes_of};
 
 use hm_syntax::Name;
+use std::hash::{Hash, Hasher};
 
 /// A variable by its qualifier and text, lent by a tree.
-#[derive(Clone, Copy, Debug, PartialEq, Eq, Hash)]
+#[derive(Clone, Copy, Debug, PartialEq, Eq)]
 pub struct LentName<'a> {
     pub qualifier: Option<&'a str>,
     pub text: &'a str,
+}
+
+/// Feeds the texts and no more, since a derived one also feeds a number for the qualifier and a byte behind each text.
+impl<'a> Hash for LentName<'a> {
+    ghost hash_input = { writes_of };
+
+    ghost respects_eq = { same_writes };
+
+    fn hash<H: Hasher>(&self, state: &mut H) {
+        if let Some(qualifier) = self.qualifier {
+            state.write(qualifier.as_bytes());
+        }
+        state.write(self.text.as_bytes());
+    }
 }
 
 /// The variable that a name is.

@@ -6,7 +6,7 @@ use Rattle.hm_typing.specs.Names.{IsOneOf}
 use Rattle.hm_syntax.specs.declared.ast.Module.{Module}
 use Rattle.hm_syntax.specs.declared.ast.Import.{Import}
 use Rattle.hm_syntax.specs.declared.ast.Export.{Export}
-use Rattle.hm_syntax.specs.declared.ast.Item.{Item}
+use Rattle.hm_syntax.specs.declared.ast.ImportItem.{ImportItem}
 use Rattle.hm_syntax.specs.Names.{Identifier}
 use Rattle.hm_names.specs.declared.namespace.Namespace.{Namespace}
 use Rattle.hm_names.specs.declared.namespace.Namespace.TheVariants.{Types, Constructors, Values}
@@ -106,13 +106,13 @@ alike fs gs h = record {
 
 -- Import lists
 
-moved_lists : (f g : Interface) → AlikeInterface f g → (x : List ℕ) (j : Item) (s : Namespace) → Lists f x j s → Lists g x j s
+moved_lists : (f g : Interface) → AlikeInterface f g → (x : List ℕ) (j : ImportItem) (s : Namespace) → Lists f x j s → Lists g x j s
 moved_lists f g a x j s (scope.a_value e) = scope.a_value e
 moved_lists f g a x j s (scope.a_type e) = scope.a_type e
 moved_lists f g a x j s (scope.each_constructor {n = n} b) = scope.each_constructor (a.belongs n.text x b)
 moved_lists f g a x j s (scope.a_constructor {n = n} c e b) = scope.a_constructor c e (a.belongs n.text x b)
 
-moved_hides : (f g : Interface) → AlikeInterface f g → (x : List ℕ) (j : Item) (s : Namespace) → Hides f x j s → Hides g x j s
+moved_hides : (f g : Interface) → AlikeInterface f g → (x : List ℕ) (j : ImportItem) (s : Namespace) → Hides f x j s → Hides g x j s
 moved_hides f g a x j s (scope.listed h) = scope.listed (moved_lists f g a x j s h)
 moved_hides f g a x j s (scope.alone e) = scope.alone e
 
@@ -166,7 +166,7 @@ module _ (m : Module) where
 
   -- Faults
 
-  moved_lists_item : (fs gs : List Interface) → Alike fs gs → (f : Interface) (j : Item) → ListsItem m fs f j → (g : Interface) × (AlikeInterface f g × ListsItem m gs g j)
+  moved_lists_item : (fs gs : List Interface) → Alike fs gs → (f : Interface) (j : ImportItem) → ListsItem m fs f j → (g : Interface) × (AlikeInterface f g × ListsItem m gs g j)
   moved_lists_item fs gs a f j (lists h c n l k) = let g = a.there f c in (g.0, (g.1.1, lists h g.1.0 (g.1.1.name ∙ n) l k))
 
   moved_import_fault : (fs gs : List Interface) → Alike fs gs → (k : Kind) (n : Identifier) → ImportFault m fs k n → ImportFault m gs k n

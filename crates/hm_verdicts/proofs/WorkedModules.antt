@@ -21,8 +21,8 @@ use Rattle.hm_syntax.specs.Lists.{declarations}
 use Rattle.hm_syntax.specs.declared.ast.Module.{Module}
 use Rattle.hm_syntax.specs.declared.ast.Export.{Export}
 use Rattle.hm_syntax.specs.declared.ast.Export.TheVariants as export
-use Rattle.hm_syntax.specs.declared.ast.Item.{Item}
-use Rattle.hm_syntax.specs.declared.ast.List.TheVariants as list
+use Rattle.hm_syntax.specs.declared.ast.ImportItem.{ImportItem}
+use Rattle.hm_syntax.specs.declared.ast.ImportList.TheVariants as list
 use Rattle.hm_names.specs.declared.faults.Fault.{Fault}
 use Rattle.hm_names.specs.declared.faults.Kind.{Kind}
 use Rattle.hm_names.specs.declared.faults.Kind.TheVariants.{NotImported}
@@ -63,7 +63,7 @@ only a y c = ⊎_elim (λ e. e) (λ o. absurd (none_in y o)) (cases a [] y c)
 
 -- Faults of imports: there is no list
 
-no_item : (x : List ℕ) (es : Option (List Export)) (ds : List Declaration) {f : Interface} {j : Item} → ¬ (importing.ListsItem (module_of x es [] ds) prelude_alone f j)
+no_item : (x : List ℕ) (es : Option (List Export)) (ds : List Declaration) {f : Interface} {j : ImportItem} → ¬ (importing.ListsItem (module_of x es [] ds) prelude_alone f j)
 no_item x es ds (importing.lists {i = i} {is = is} (written c) k n e o) = none_in i c
 no_item x es ds (importing.lists {i = i} {is = is} (added s q) k n e o) = let z : list.Every ≡ list.Only is = sym (ap (λ y. y.list) q) ∙ e in absurd (cc)
 
@@ -322,7 +322,7 @@ export_fault k n (exporting.unbound_value c u) = let q : export.Var n ≡ whole_
 export_fault k n (exporting.unbound_type {s = s} c u) = let q : export.Con n s ≡ whole_Z = only whole_Z _ c in absurd (cc)
 export_fault k n (exporting.ambiguous_value c u) = let q : export.Var n ≡ whole_Z = only whole_Z _ c in absurd (cc)
 export_fault k n (exporting.ambiguous_type {s = s} c u) = let q : export.Con n s ≡ whole_Z = only whole_Z _ c in absurd (cc)
-export_fault k n (exporting.unbound_constructor {n = t} {cs = cs} c m o u) = let q : export.Con t (Rattle.hm_syntax.specs.declared.ast.Subs.TheVariants.Some cs) ≡ whole_Z = only whole_Z _ c in absurd (cc)
+export_fault k n (exporting.unbound_constructor {n = t} {cs = cs} c m o u) = let q : export.Con t (Rattle.hm_syntax.specs.declared.ast.SubItems.TheVariants.Some cs) ≡ whole_Z = only whole_Z _ c in absurd (cc)
 export_fault k n (exporting.clash before after {i = i} {x = x} e c l) = absurd (no_clash before after i x e c)
 export_fault k n (exporting.not_imported c m) = (refl, ap (name_or n) (only whole_Z (export.Whole n) c))
 

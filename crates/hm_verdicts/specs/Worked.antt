@@ -6,7 +6,7 @@ use Rattle.hm_syntax.specs.declared.ast.Module.{Module}
 use Rattle.hm_syntax.specs.declared.ast.Import.{Import}
 use Rattle.hm_syntax.specs.declared.ast.Export.{Export}
 use Rattle.hm_syntax.specs.declared.ast.Export.TheVariants as export
-use Rattle.hm_syntax.specs.declared.ast.List.TheVariants as list
+use Rattle.hm_syntax.specs.declared.ast.ImportList.TheVariants as list
 use Rattle.hm_verdicts.specs.Sets.{ModuleSet}
 
 abbrev pub no_modules : ModuleSet

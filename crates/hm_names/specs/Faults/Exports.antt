@@ -6,8 +6,8 @@ use Rattle.hm_syntax.specs.Names.{Identifier}
 use Rattle.hm_syntax.specs.declared.ast.Module.{Module}
 use Rattle.hm_syntax.specs.declared.ast.Export.{Export}
 use Rattle.hm_syntax.specs.declared.ast.Export.TheVariants as export
-use Rattle.hm_syntax.specs.declared.ast.Subs.{Subs}
-use Rattle.hm_syntax.specs.declared.ast.Subs.TheVariants as subs
+use Rattle.hm_syntax.specs.declared.ast.SubItems.{SubItems}
+use Rattle.hm_syntax.specs.declared.ast.SubItems.TheVariants as subs
 use Rattle.hm_names.specs.declared.namespace.Namespace.{Namespace}
 use Rattle.hm_names.specs.declared.namespace.Namespace.TheVariants.{Types, Values}
 use Rattle.hm_names.specs.declared.faults.Kind.{Kind}
@@ -44,9 +44,9 @@ bare_at n x = record { qualifier = None; text = x; line = n.line; column = n.col
 -- names that mean nothing or too much; behind a type that means one, a constructor that isn't in scope; for each item its least clashing name; a module that isn't imported
 pub data ExportFault (m : Module) (fs : List Interface) (es : List Export) : Kind → Identifier → Type 0 where
   unbound_value : {n : Identifier} → Contains es (export.Var n) → IsUnbound m fs Values n → ExportFault m fs es Unbound n
-  unbound_type : {n : Identifier} {s : Subs} → Contains es (export.Con n s) → IsUnbound m fs Types n → ExportFault m fs es Unbound n
+  unbound_type : {n : Identifier} {s : SubItems} → Contains es (export.Con n s) → IsUnbound m fs Types n → ExportFault m fs es Unbound n
   ambiguous_value : {n : Identifier} → Contains es (export.Var n) → IsAmbiguous m fs Values n → ExportFault m fs es Ambiguous n
-  ambiguous_type : {n : Identifier} {s : Subs} → Contains es (export.Con n s) → IsAmbiguous m fs Types n → ExportFault m fs es Ambiguous n
+  ambiguous_type : {n : Identifier} {s : SubItems} → Contains es (export.Con n s) → IsAmbiguous m fs Types n → ExportFault m fs es Ambiguous n
   unbound_constructor : {n c : Identifier} {cs : List Identifier} {t : Entity} →
       Contains es (export.Con n (subs.Some cs)) → Means m fs Types n t → Contains cs c → ((k : Entity) → ¬ (HasConstructor m fs t c.text k)) → ExportFault m fs es Unbound c
   clash : (before after : List Export) {i : Export} {x : List ℕ} →

@@ -8,5 +8,5 @@ returns-in_default c = λ all table. no_clash c.args.faults.now.items all c.args
 
 pub returns : goal.returns
 returns c = λ all table.
-    one_clash c.args.faults.now.items c.push.new.self.items all c.args.given.now c.args.item.now c.in-Some.text.now (record { place = c.item_place.result; kind = ExportClash; name = c.new-name.result }) (c.in-Some.ensures all table)
-    (λ i. record { place = record { line = c.item_place.ensures.line i; column = c.item_place.ensures.column i }; kind = ExportClash; name = (c.new-name.ensures ∙ c.in_ok-from_str.ensures.ok) i }) c.in_ok-push.ensures.items
+    one_clash c.args.faults.now.items c.push.new.self.items all c.args.given.now c.args.item.now c.in-Some.text.now (record { place = c.item_place.result; kind = ExportClash; name = c.in_ok-name.name }) (c.in-Some.ensures all table)
+    (λ i. record { place = record { line = c.item_place.ensures.line i; column = c.item_place.ensures.column i }; kind = ExportClash; name = (c.in_ok-name.ensures ∙ c.in_ok-from_str.ensures.ok) i }) c.in_ok-push.ensures.items

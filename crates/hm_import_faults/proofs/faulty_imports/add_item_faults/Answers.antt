@@ -1,6 +1,6 @@
 use Rattle.std.proofs.lemmas.Bool.{both_ways}
-use Rattle.hm_syntax.specs.declared.ast.Item.TheVariants as item
-use Rattle.hm_syntax.specs.declared.ast.Subs.TheVariants as subs
+use Rattle.hm_syntax.specs.declared.ast.ImportItem.TheVariants as item
+use Rattle.hm_syntax.specs.declared.ast.SubItems.TheVariants as subs
 use Rattle.hm_import_faults.proofs.FaultyLemmas.{no_faults, value_fine, value_fault, type_fault, type_alone, type_open, part_faults}
 use Rattle.hm_import_faults.proofs.faulty_imports.add_item_faults.Goals as goal
 

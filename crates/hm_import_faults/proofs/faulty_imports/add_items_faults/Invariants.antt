@@ -1,5 +1,5 @@
 use Rattle.std.proofs.Common.{◌≡◌, take}
-use Rattle.hm_syntax.specs.declared.ast.Item.{Item}
+use Rattle.hm_syntax.specs.declared.ast.ImportItem.{ImportItem}
 use Rattle.hm_syntax.specs.Names.{Identifier}
 use Rattle.hm_names.specs.declared.faults.Fault.{Fault}
 use Rattle.hm_names.specs.declared.faults.Kind.TheVariants.{NotExported}
@@ -10,4 +10,4 @@ use Rattle.hm_names.proofs.AddedPairs.{ForEach}
 use Rattle.hm_import_faults.proofs.faulty_imports.add_items_faults.Given as goal
 
 abbrev pub invariant-loop-item : goal.invariant-loop-item
-invariant-loop-item l = Adds l.initial.faults.items l.faults.items (ForEach (λ (j : Item) (g : Fault). (k : Identifier) × (IsItemFault l.interface k j × (fault NotExported k ≡ g))) (take l.item-index l.items))
+invariant-loop-item l = Adds l.initial.faults.items l.faults.items (ForEach (λ (j : ImportItem) (g : Fault). (k : Identifier) × (IsItemFault l.interface k j × (fault NotExported k ≡ g))) (take l.item-index l.items))

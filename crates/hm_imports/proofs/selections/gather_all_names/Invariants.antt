@@ -1,5 +1,5 @@
 use Rattle.std.proofs.Common.{take}
-use Rattle.hm_syntax.specs.declared.ast.Item.{Item}
+use Rattle.hm_syntax.specs.declared.ast.ImportItem.{ImportItem}
 use Rattle.hm_names.specs.Bindings.{Adds}
 use Rattle.hm_tables.specs.NameSets.{FullName}
 use Rattle.hm_imports.specs.Gathered.{IsNamedBy}
@@ -7,4 +7,4 @@ use Rattle.hm_names.proofs.AddedPairs.{ForEach}
 use Rattle.hm_imports.proofs.selections.gather_all_names.Given as goal
 
 abbrev pub invariant-loop-item : goal.invariant-loop-item
-invariant-loop-item l = Adds l.fn.names l.names (ForEach (λ (j : Item) (n : FullName). IsNamedBy l.list_use l.interface n j) (take l.item-index l.items))
+invariant-loop-item l = Adds l.fn.names l.names (ForEach (λ (j : ImportItem) (n : FullName). IsNamedBy l.list_use l.interface n j) (take l.item-index l.items))

@@ -1,5 +1,5 @@
 use Rattle.std.proofs.Common.{take}
-use Rattle.hm_syntax.specs.declared.ast.Item.{Item}
+use Rattle.hm_syntax.specs.declared.ast.ImportItem.{ImportItem}
 use Rattle.hm_names.specs.Bindings.{Adds}
 use Rattle.hm_tables.specs.NameSets.{FullName}
 use Rattle.hm_imports.specs.Gathered.{IsOpenedBy}
@@ -7,4 +7,4 @@ use Rattle.hm_names.proofs.AddedPairs.{ForEach}
 use Rattle.hm_imports.proofs.selections.gather_all_opened.Given as goal
 
 abbrev pub invariant-loop-item : goal.invariant-loop-item
-invariant-loop-item l = Adds l.fn.opened l.opened (ForEach (λ (j : Item) (n : FullName). IsOpenedBy l.interface n j) (take l.item-index l.items))
+invariant-loop-item l = Adds l.fn.opened l.opened (ForEach (λ (j : ImportItem) (n : FullName). IsOpenedBy l.interface n j) (take l.item-index l.items))

@@ -8,5 +8,5 @@ constructors-requires c = rows_by_test _ refl refl
 pub values-requires : goal.values-requires
 values-requires c = rows_by_test _ refl refl
 
-pub new-requires : goal.new-requires
-new-requires c = is_interface _ _ _ _ _ (search rules) c.in_ok-types.ensures c.in_ok-synonyms.ensures c.in_ok-constructors.ensures c.in_ok-values.ensures
+pub new-requires-2 : goal.new-requires-2
+new-requires-2 c = is_interface _ _ _ _ _ (search rules) c.in_ok-types.ensures c.in_ok-synonyms.ensures c.in_ok-constructors.ensures c.in_ok-values.ensures

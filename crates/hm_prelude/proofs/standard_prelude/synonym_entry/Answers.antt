@@ -1,4 +1,4 @@
 use Rattle.hm_prelude.proofs.standard_prelude.synonym_entry.Goals as goal
 
-pub new-requires : goal.new-requires
-new-requires c = rw c.in_ok-body.ensures c.requires
+pub new-requires-2 : goal.new-requires-2
+new-requires-2 c = rw c.in_ok-body.ensures c.requires
