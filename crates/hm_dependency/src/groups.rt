@@ -11,9 +11,8 @@ ghost use Rattle.hm_typing.specs.Orders.{AreNumberedGroups};
 ghost use Rattle.hm_names.specs.Syntax.{Known, bindings_of};
 ghost use Rattle.hm_groups.specs.Groups.{node_name};
 
-use hm_groups::{NodeList, Numbers, graph_of, node_list, rows_of, signed_texts};
+use hm_groups::{GroupFault, NodeList, Numbers, graph_of, node_list, rows_of, signed_texts};
 use hm_syntax::Decl;
-use hm_unify::UnifyFault;
 use indexmap::IndexSet;
 use std::alloc::{AllocError, Global};
 
@@ -28,10 +27,11 @@ pub struct BindingGroups<'a> {
     pub groups: Vec<Vec<usize>>,
 }
 
-/// The names of a list are distinct, those with signatures too; where they aren't the answer is `Clash`.
-fn check_distinct(alloc: Global, decls: &[Decl]) -> Result<(), UnifyFault>
+/// The names of a list are distinct, those with signatures too; where they aren't the answer is `Repeated`.
+fn check_distinct(alloc: Global, decls: &[Decl]) -> Result<(), GroupFault>
     ensures distinct { IfOk result (λ _. (k : Known) → IsDistinct (names (bindings_of k (declarations decls.now) (declarations decls.now)))) }
-    ensures repeated { result ≡ Err UnifyFault.Clash → (k : Known) → ¬ (IsDistinct (names (bindings_of k (declarations decls.now) (declarations decls.now)))) }
+    ensures repeated { result ≡ Err GroupFault.Repeated → (k : Known)
+        → ¬ (IsDistinct (names (bindings_of k (declarations decls.now) (declarations decls.now)))) }
 {
     let unsigned = IndexSet::new(alloc);
     let list = node_list(alloc, &unsigned, decls)?;
@@ -52,13 +52,16 @@ fn groups_of(
     graph_of(alloc, list, decls)?.groups()
 }
 
-/// The units of a list. Where a name is bound twice the list has no typing, and the answer is `Clash`.
-pub fn binding_groups<'a>(alloc: Global, decls: &'a [Decl]) -> Result<BindingGroups<'a>, UnifyFault>
+/// The units of a list. Where a name is bound twice the list has no typing, and the answer is `Repeated`.
+pub fn binding_groups<'a>(alloc: Global, decls: &'a [Decl]) -> Result<BindingGroups<'a>, GroupFault>
     ensures nodes { IfOk result (λ found. found.numbers ≡ list_nodes (declarations decls.now) (declarations decls.now)) }
     ensures rows { IfOk result (λ found. AreRows decls.now (length found.numbers) (lists found.rows.items)) }
     ensures distinct { IfOk result (λ found. (k : Known) → IsDistinct (names (bindings_of k (declarations decls.now) (declarations decls.now)))) }
-    ensures groups { IfOk result (λ found. (k : Known) → AreNumberedGroups (bindings_of k (declarations decls.now) (declarations decls.now)) (node_name k (declarations decls.now)) (length found.numbers) (lists found.groups.items)) }
-    ensures repeated { result ≡ Err UnifyFault.Clash → (k : Known) → ¬ (IsDistinct (names (bindings_of k (declarations decls.now) (declarations decls.now)))) }
+    ensures groups { IfOk result (λ found. (k : Known)
+        → AreNumberedGroups (bindings_of k (declarations decls.now) (declarations decls.now)) (node_name k (declarations decls.now))
+        (length found.numbers) (lists found.groups.items)) }
+    ensures repeated { result ≡ Err GroupFault.Repeated → (k : Known)
+        → ¬ (IsDistinct (names (bindings_of k (declarations decls.now) (declarations decls.now)))) }
 {
     check_distinct(alloc, decls)?;
     let signed = signed_texts(alloc, decls)?;

@@ -63,7 +63,8 @@ pub(crate) fn match_binding(
     requires before { length (pattern_names (pattern_of (known_of constructors.now) pat.now)) ≤ node.now.own }
     requires given { AreGivenTypes solver.old.given node.now.types.now }
     ensures answers { let p = pattern_of (known_of constructors.now) pat.now in
-        (τ : Identifier → Monotype) → HaveTypesBefore τ (pattern_names p) node.now.types.now node.now.own → Answers (λ r. Matches (put_each r τ) p (put r (type_at node.now.types.now node.now.own))) solver.old solver.new result }
+        (τ : Identifier → Monotype) → HaveTypesBefore τ (pattern_names p) node.now.types.now node.now.own
+        → Answers (λ r. Matches (put_each r τ) p (put r (type_at node.now.types.now node.now.own))) solver.old solver.new result }
     ensures grows { OnOk result (solver.old.given ≤ solver.new.given) }
 {
     let mut variables = Variables::new(alloc);

@@ -34,13 +34,14 @@ ghost use Rattle.hm_assumptions.specs.Constructors.{known_of};
 
 use crate::bindings::{TypedNode, match_binding};
 use crate::grouping::{TypedGroup, close_group, open_group};
+use crate::listing::listed_groups;
 use crate::signed::{bind_signed, declared_for, signatures_of};
 use hm_assumptions::{
     Constructors, Inference, PartTypes, check_constructor, check_name, equate, function_from,
     list_part, literal_type, new_variables, open_alternative, open_function, prelude_type,
     tuple_parts,
 };
-use hm_dependency::{BindingGroups, binding_groups};
+use hm_dependency::BindingGroups;
 use hm_groups::Member;
 use hm_schemes::{check_instance, declare, forbid_escape, with_rigid_variables};
 use hm_syntax::{Alt, Decl, DeclKind, Expr, ExprKind, Pat, Rhs, TypeExpr};
@@ -76,7 +77,8 @@ pub(crate) fn check_expression<'a>(
 ) -> Result<(), UnifyFault>
     requires given { IsWellFormed inference.old.solver.given (type_of t.now) }
     requires assumed { AreAssumed inference.old.solver.given inference.old.environment }
-    ensures answers { Answers (λ r. Derives (assumptions_put r (assumptions inference.old.environment)) (expression_of (known_of constructors.now) e.now) (put r (monotype (type_of t.now)))) inference.old.solver inference.new.solver result }
+    ensures answers { Answers (λ r. Derives (assumptions_put r (assumptions inference.old.environment))
+        (expression_of (known_of constructors.now) e.now) (put r (monotype (type_of t.now)))) inference.old.solver inference.new.solver result }
     ensures same { OnOk result (inference.new.environment ≡ inference.old.environment) }
     ensures kept { Extends inference.old.environment inference.new.environment }
 {
@@ -158,7 +160,9 @@ fn check_typed<'a>(
 ) -> Result<(), UnifyFault>
     requires given { IsWellFormed inference.old.solver.given (type_of t.now) }
     requires assumed { AreAssumed inference.old.solver.given inference.old.environment }
-    ensures answers { Answers (λ r. Derives (assumptions_put r (assumptions inference.old.environment)) (expression_of (known_of constructors.now) (typed_expression inner.now ty.now)) (put r (monotype (type_of t.now)))) inference.old.solver inference.new.solver result }
+    ensures answers { Answers (λ r. Derives (assumptions_put r (assumptions inference.old.environment))
+        (expression_of (known_of constructors.now) (typed_expression inner.now ty.now)) (put r (monotype (type_of t.now)))) inference.old.solver
+        inference.new.solver result }
     ensures same { OnOk result (inference.new.environment ≡ inference.old.environment) }
     ensures kept { Extends inference.old.environment inference.new.environment }
 {
@@ -183,7 +187,9 @@ fn check_function<'a>(
     requires argument { argument < inference.old.solver.given }
     requires given { IsWellFormed inference.old.solver.given (type_of t.now) }
     requires assumed { AreAssumed inference.old.solver.given inference.old.environment }
-    ensures answers { Answers (λ r. Derives (assumptions_put r (assumptions inference.old.environment)) (expression_of (known_of constructors.now) function.now) (put r (arrow (monotype (Var (var argument))) (monotype (type_of t.now))))) inference.old.solver inference.new.solver result }
+    ensures answers { Answers (λ r. Derives (assumptions_put r (assumptions inference.old.environment))
+        (expression_of (known_of constructors.now) function.now) (put r (arrow (monotype (Var (var argument))) (monotype (type_of t.now)))))
+        inference.old.solver inference.new.solver result }
     ensures same { OnOk result (inference.new.environment ≡ inference.old.environment) }
     ensures kept { Extends inference.old.environment inference.new.environment }
 {
@@ -204,7 +210,9 @@ pub(crate) fn check_expressions<'a>(
     requires given { (j : ℕ) → j < length parts.now → cond (is_one types) (first_of types) (first_of types + j) < inference.old.solver.given }
     requires fits { cond (is_one types) (first_of types) (first_of types + length parts.now) < 2 ^ 64 }
     requires assumed { AreAssumed inference.old.solver.given inference.old.environment }
-    ensures answers { Answers (λ r. DeriveAll (assumptions_put r (assumptions inference.old.environment)) (expressions_of (known_of constructors.now) (expressions parts.now)) (λ j. put r (from_number (is_one types) (first_of types) j)) 0) inference.old.solver inference.new.solver result }
+    ensures answers { Answers (λ r. DeriveAll (assumptions_put r (assumptions inference.old.environment))
+        (expressions_of (known_of constructors.now) (expressions parts.now)) (λ j.
+        put r (from_number (is_one types) (first_of types) j)) 0) inference.old.solver inference.new.solver result }
     ensures same { OnOk result (inference.new.environment ≡ inference.old.environment) }
     ensures kept { Extends inference.old.environment inference.new.environment }
 {
@@ -227,7 +235,9 @@ pub(crate) fn check_body<'a>(
 ) -> Result<(), UnifyFault>
     requires given { IsWellFormed inference.old.solver.given (type_of t.now) }
     requires assumed { AreAssumed inference.old.solver.given inference.old.environment }
-    ensures answers { Answers (λ r. DeriveRightSides (assumptions_put r (assumptions inference.old.environment)) (bodies_of (known_of constructors.now) (body guard.now e.now no_bodies)) (put r (monotype (type_of t.now)))) inference.old.solver inference.new.solver result }
+    ensures answers { Answers (λ r. DeriveRightSides (assumptions_put r (assumptions inference.old.environment))
+        (bodies_of (known_of constructors.now) (body guard.now e.now no_bodies)) (put r (monotype (type_of t.now)))) inference.old.solver
+        inference.new.solver result }
     ensures same { OnOk result (inference.new.environment ≡ inference.old.environment) }
     ensures kept { Extends inference.old.environment inference.new.environment }
 {
@@ -251,7 +261,8 @@ pub(crate) fn check_bodies<'a>(
 ) -> Result<(), UnifyFault>
     requires given { IsWellFormed inference.old.solver.given (type_of t.now) }
     requires assumed { AreAssumed inference.old.solver.given inference.old.environment }
-    ensures answers { Answers (λ r. DeriveRightSides (assumptions_put r (assumptions inference.old.environment)) (bodies_of (known_of constructors.now) (bodies parts.now)) (put r (monotype (type_of t.now)))) inference.old.solver inference.new.solver result }
+    ensures answers { Answers (λ r. DeriveRightSides (assumptions_put r (assumptions inference.old.environment))
+        (bodies_of (known_of constructors.now) (bodies parts.now)) (put r (monotype (type_of t.now)))) inference.old.solver inference.new.solver result }
     ensures same { OnOk result (inference.new.environment ≡ inference.old.environment) }
     ensures kept { Extends inference.old.environment inference.new.environment }
 {
@@ -320,7 +331,9 @@ fn check_alternatives<'a>(
     requires inner { types.now.inner < inference.old.solver.given }
     requires given { IsWellFormed inference.old.solver.given (type_of types.now.outcome.now) }
     requires assumed { AreAssumed inference.old.solver.given inference.old.environment }
-    ensures answers { Answers (λ r. DeriveClauses (assumptions_put r (assumptions inference.old.environment)) (alternatives_of (known_of constructors.now) (alternatives choices.now)) (put r (arrow (monotype (Var (var types.now.inner))) (monotype (type_of types.now.outcome.now))))) inference.old.solver inference.new.solver result }
+    ensures answers { Answers (λ r. DeriveClauses (assumptions_put r (assumptions inference.old.environment))
+        (alternatives_of (known_of constructors.now) (alternatives choices.now))
+        (put r (arrow (monotype (Var (var types.now.inner))) (monotype (type_of types.now.outcome.now))))) inference.old.solver inference.new.solver result }
     ensures same { OnOk result (inference.new.environment ≡ inference.old.environment) }
     ensures kept { Extends inference.old.environment inference.new.environment }
 {
@@ -369,7 +382,9 @@ fn check_member<'a>(
     requires given { AreGivenTypes inference.old.solver.given node.now.types.now }
     requires assumed { AreAssumed inference.old.solver.given inference.old.environment }
     ensures answers { let k = known_of constructors.now in
-        (τ : Identifier → Monotype) → HaveTypesOf k τ node.now.types.now node.now.own decl.now → Answers (λ r. MemberHas k (assumptions_put r (assumptions inference.old.environment)) (put_each r τ) (put r (type_at node.now.types.now node.now.own)) decl.now) inference.old.solver inference.new.solver result }
+        (τ : Identifier → Monotype) → HaveTypesOf k τ node.now.types.now node.now.own decl.now
+        → Answers (λ r. MemberHas k (assumptions_put r (assumptions inference.old.environment)) (put_each r τ)
+        (put r (type_at node.now.types.now node.now.own)) decl.now) inference.old.solver inference.new.solver result }
     ensures same { OnOk result (inference.new.environment ≡ inference.old.environment) }
     ensures kept { Extends inference.old.environment inference.new.environment }
     ensures grows { OnOk result (inference.old.solver.given ≤ inference.new.solver.given) }
@@ -426,7 +441,9 @@ fn check_members<'a>(
     requires given { AreGivenTypes inference.old.solver.given types.now }
     requires assumed { AreAssumed inference.old.solver.given inference.old.environment }
     ensures answers { let k = known_of constructors.now in
-        (τ : Identifier → Monotype) → HaveTypesOfAll k decls.now τ types.now members.now → Answers (MembersHave k decls.now types.now τ members.now (assumptions inference.old.environment)) inference.old.solver inference.new.solver result }
+        (τ : Identifier → Monotype) → HaveTypesOfAll k decls.now τ types.now members.now
+        → Answers (MembersHave k decls.now types.now τ members.now (assumptions inference.old.environment)) inference.old.solver
+        inference.new.solver result }
     ensures same { OnOk result (inference.new.environment ≡ inference.old.environment) }
     ensures kept { Extends inference.old.environment inference.new.environment }
     ensures grows { OnOk result (inference.old.solver.given ≤ inference.new.solver.given) }
@@ -458,10 +475,16 @@ pub fn infer_group<'a>(
     requires some { 0 < length group.now }
     requires numbers { AreUpTo inference.old.solver.given types.old }
     requires assumed { AreAssumed inference.old.solver.given inference.old.environment }
-    ensures inferred { (added base : List Assumed) → inference.old.environment ≡ added ++ base → InfersGroup (known_of list.now.constructors.now) list.now.decls.now group.now base inference.old.solver inference.old.environment inference.new.solver inference.new.environment result }
+    ensures inferred { (added base : List Assumed) → inference.old.environment ≡ added ++ base
+        → InfersGroup (known_of list.now.constructors.now) list.now.decls.now group.now base inference.old.solver inference.old.environment
+        inference.new.solver inference.new.environment result }
     ensures assumed { OnOk result (AreAssumed inference.new.solver.given inference.new.environment) }
-    ensures judged { (added base : List Assumed) → inference.old.environment ≡ added ++ base → JudgesGroup (known_of list.now.constructors.now) list.now.decls.now group.now base inference.old.solver inference.old.environment inference.new.environment result }
-    ensures closed { OnOk result ((added base : List Assumed) → inference.old.environment ≡ added ++ base → ClosesGroup (known_of list.now.constructors.now) list.now.decls.now group.now base inference.old.solver inference.old.environment inference.new.environment) }
+    ensures judged { (added base : List Assumed) → inference.old.environment ≡ added ++ base
+        → JudgesGroup (known_of list.now.constructors.now) list.now.decls.now group.now base inference.old.solver inference.old.environment
+        inference.new.environment result }
+    ensures closed { OnOk result ((added base : List Assumed) → inference.old.environment ≡ added ++ base
+        → ClosesGroup (known_of list.now.constructors.now) list.now.decls.now group.now base inference.old.solver inference.old.environment
+        inference.new.environment) }
     ensures closed_first { OnOk result (inference.old.solver.given ≡ 0 → AreAssumed 0 inference.old.environment → AreAssumed 0 inference.new.environment) }
     ensures numbers { OnOk result (AreUpTo inference.new.solver.given types.new) }
     ensures kept { Extends inference.old.environment inference.new.environment }
@@ -497,7 +520,9 @@ pub fn check_signed<'a>(
     decl: &'a Decl,
 ) -> Result<(), UnifyFault>
     requires assumed { AreAssumed inference.old.solver.given inference.old.environment }
-    ensures answers { (all : Declarations) → AreSignatures all signatures.now → Answers (λ r. SignedClauseHas (known_of constructors.now) all (assumptions_put r (assumptions inference.old.environment)) decl.now) inference.old.solver inference.new.solver result }
+    ensures answers { (all : Declarations) → AreSignatures all signatures.now
+        → Answers (λ r. SignedClauseHas (known_of constructors.now) all (assumptions_put r (assumptions inference.old.environment)) decl.now)
+        inference.old.solver inference.new.solver result }
     ensures same { OnOk result (inference.new.environment ≡ inference.old.environment) }
     ensures kept { Extends inference.old.environment inference.new.environment }
     ensures grows { OnOk result (inference.old.solver.given ≤ inference.new.solver.given) }
@@ -524,7 +549,8 @@ fn check_all_signed<'a>(
 ) -> Result<(), UnifyFault>
     requires signatures { AreSignatures (declarations list.now.decls.now) list.now.signatures.now }
     requires assumed { AreAssumed inference.old.solver.given inference.old.environment }
-    ensures answers { Answers (λ r. SignedClausesHave (known_of list.now.constructors.now) (declarations list.now.decls.now) (assumptions_put r (assumptions inference.old.environment)) list.now.decls.now) inference.old.solver inference.new.solver result }
+    ensures answers { Answers (λ r. SignedClausesHave (known_of list.now.constructors.now) (declarations list.now.decls.now)
+        (assumptions_put r (assumptions inference.old.environment)) list.now.decls.now) inference.old.solver inference.new.solver result }
     ensures same { OnOk result (inference.new.environment ≡ inference.old.environment) }
     ensures kept { Extends inference.old.environment inference.new.environment }
 {
@@ -545,7 +571,8 @@ pub fn check_bindings<'a>(
     list: &'a [Decl],
 ) -> Result<(), UnifyFault>
     requires { AreAssumed inference.old.solver.given inference.old.environment }
-    ensures listed { Listed (list_of (known_of constructors.now) list.now) inference.old.solver inference.old.environment inference.new.solver inference.new.environment result }
+    ensures listed { Listed (list_of (known_of constructors.now) list.now) inference.old.solver inference.old.environment inference.new.solver
+        inference.new.environment result }
     ensures closed { OnOk result (AreAssumed 0 inference.old.environment → AreAssumed 0 inference.new.environment) }
     ensures kept { Extends inference.old.environment inference.new.environment }
 {
@@ -553,7 +580,7 @@ pub fn check_bindings<'a>(
     if list.is_empty() {
         return Ok(());
     }
-    let found = binding_groups(inference.alloc, list)?;
+    let found = listed_groups(inference.alloc, list)?;
     let signatures = signatures_of(inference.alloc, list)?;
     let checked = CheckedList {
         constructors,
@@ -574,9 +601,11 @@ fn check_list<'a>(
     requires nodes { list.now.found.now.numbers ≡ list_nodes (declarations list.now.decls.now) (declarations list.now.decls.now) }
     requires rows { AreRows list.now.decls.now (length list.now.found.now.numbers) (lists list.now.found.now.rows.items) }
     requires distinct { (k : Known) → IsDistinct (names (bindings_of k (declarations list.now.decls.now) (declarations list.now.decls.now))) }
-    requires groups { (k : Known) → AreNumberedGroups (bindings_of k (declarations list.now.decls.now) (declarations list.now.decls.now)) (node_name k (declarations list.now.decls.now)) (length list.now.found.now.numbers) (lists list.now.found.now.groups.items) }
+    requires groups { (k : Known) → AreNumberedGroups (bindings_of k (declarations list.now.decls.now) (declarations list.now.decls.now))
+        (node_name k (declarations list.now.decls.now)) (length list.now.found.now.numbers) (lists list.now.found.now.groups.items) }
     requires signatures { AreSignatures (declarations list.now.decls.now) list.now.signatures.now }
-    ensures listed { Listed (list_of (known_of list.now.constructors.now) list.now.decls.now) inference.old.solver inference.old.environment inference.new.solver inference.new.environment result }
+    ensures listed { Listed (list_of (known_of list.now.constructors.now) list.now.decls.now) inference.old.solver inference.old.environment
+        inference.new.solver inference.new.environment result }
     ensures closed { OnOk result (AreAssumed 0 inference.old.environment → AreAssumed 0 inference.new.environment) }
     ensures kept { Extends inference.old.environment inference.new.environment }
 {

@@ -59,7 +59,8 @@ fn bind_node<'a>(
     body: Ty,
 ) -> Result<(), AllocError>
     requires { node < length numbers.now }
-    ensures bound { OnOk result ((k : Known) (all : Declarations) → numbers.now ≡ list_nodes all all → BindsNode (node_name k all node) (record { quantified = quantified; body = type_of body }) environment.old environment.new) }
+    ensures bound { OnOk result ((k : Known) (all : Declarations) → numbers.now ≡ list_nodes all all
+        → BindsNode (node_name k all node) (record { quantified = quantified; body = type_of body }) environment.old environment.new) }
     ensures given { OnOk result ((g : ℕ) → IsWellFormed (quantified + g) (type_of body) → AreAssumed g environment.old → AreAssumed g environment.new) }
     ensures kept { Extends environment.old environment.new }
 {
@@ -80,7 +81,8 @@ pub(crate) fn bind_types<'a>(
 ) -> Result<(), AllocError>
     requires nodes { All (λ j. j < length numbers.now) group.now }
     requires types { length types.now ≡ length numbers.now }
-    ensures bound { OnOk result ((k : Known) (all : Declarations) → numbers.now ≡ list_nodes all all → BindsTypes k all types.now group.now environment.old environment.new) }
+    ensures bound { OnOk result ((k : Known) (all : Declarations) → numbers.now ≡ list_nodes all all
+        → BindsTypes k all types.now group.now environment.old environment.new) }
     ensures given { OnOk result ((g : ℕ) → AreGivenTypes g types.now → AreAssumed g environment.old → AreAssumed g environment.new) }
     ensures kept { Extends environment.old environment.new }
 {
@@ -103,9 +105,12 @@ pub(crate) fn bind_schemes<'a>(
     requires nodes { All (λ j. j < length group.now.numbers.now) group.now.nodes.now }
     requires types { length group.now.types.now ≡ length group.now.numbers.now }
     requires numbers { AreGivenTypes solver.now.given group.now.types.now }
-    ensures bound { OnOk result ((k : Known) (all : Declarations) → group.now.numbers.now ≡ list_nodes all all → (A : Assumptions) (m : ℕ → Monotype) → IsSolution solver.now.equations m → KeepsEach (is_outer solver.now.equations group.now.older) solver.now.equations group.now.types.now group.now.nodes.now (assumptions_put m A) → BindsSchemes k all group.now.types.now m A group.now.nodes.now environment.old environment.new) }
+    ensures bound { OnOk result ((k : Known) (all : Declarations) → group.now.numbers.now ≡ list_nodes all all → (A : Assumptions) (m : ℕ → Monotype)
+        → IsSolution solver.now.equations m → KeepsEach (is_outer solver.now.equations group.now.older) solver.now.equations group.now.types.now
+        group.now.nodes.now (assumptions_put m A) → BindsSchemes k all group.now.types.now m A group.now.nodes.now environment.old environment.new) }
     ensures given { OnOk result (AreAssumed solver.now.given environment.old → AreAssumed solver.now.given environment.new) }
-    ensures closed { OnOk result (KeepsNone (is_outer solver.now.equations group.now.older) solver.now.equations group.now.types.now group.now.nodes.now → AreAssumed 0 environment.old → AreAssumed 0 environment.new) }
+    ensures closed { OnOk result (KeepsNone (is_outer solver.now.equations group.now.older) solver.now.equations group.now.types.now
+        group.now.nodes.now → AreAssumed 0 environment.old → AreAssumed 0 environment.new) }
     ensures kept { Extends environment.old environment.new }
 {
     'nodes: for place in 0..group.nodes.len() {
@@ -132,7 +137,8 @@ pub(crate) fn open_group<'a>(
     requires some { 0 < length group.now }
     requires numbers { AreUpTo inference.old.solver.given types.old }
     requires assumed { AreAssumed inference.old.solver.given inference.old.environment }
-    ensures opened { IfOk result (λ members. IsOpenGroup found.now.numbers (lists found.now.rows.items) group.now inference.old.solver inference.old.environment inference.new.solver inference.new.environment types.new members.items) }
+    ensures opened { IfOk result (λ members. IsOpenGroup found.now.numbers (lists found.now.rows.items) group.now inference.old.solver
+        inference.old.environment inference.new.solver inference.new.environment types.new members.items) }
     ensures refused { IfErr result (λ e. e ≡ Memory) }
     ensures kept { Extends inference.old.environment inference.new.environment }
     ensures changed { ChangesOnly group.now types.old types.new }
@@ -160,9 +166,11 @@ pub(crate) fn close_group<'a>(
     requires types { length group.now.types.now ≡ length group.now.numbers.now }
     requires numbers { AreGivenTypes solver.now.given group.now.types.now }
     requires assumed { AreAssumed solver.now.given environment.old }
-    ensures closed { OnOk result (IsClosedGroup group.now.numbers.now group.now.nodes.now group.now.types.now group.now.older solver.now environment.old environment.new) }
+    ensures closed { OnOk result (IsClosedGroup group.now.numbers.now group.now.nodes.now group.now.types.now group.now.older solver.now
+        environment.old environment.new) }
     ensures assumed { OnOk result (AreAssumed solver.now.given environment.new) }
-    ensures closed_alone { OnOk result (KeepsNone (is_outer solver.now.equations group.now.older) solver.now.equations group.now.types.now group.now.nodes.now → AreAssumed 0 environment.old → AreAssumed 0 environment.new) }
+    ensures closed_alone { OnOk result (KeepsNone (is_outer solver.now.equations group.now.older) solver.now.equations group.now.types.now
+        group.now.nodes.now → AreAssumed 0 environment.old → AreAssumed 0 environment.new) }
     ensures kept { Extends environment.old environment.new }
     ensures refused { IfErr result (λ e. e ≡ Memory) }
 {

@@ -5,7 +5,9 @@
 mod bindings;
 mod expressions;
 mod grouping;
+mod listing;
 mod signed;
 
 pub use crate::expressions::{CheckedList, check_bindings, check_signed, infer_group};
+pub use crate::listing::listed_groups;
 pub use crate::signed::{bind_signed, signatures_of};

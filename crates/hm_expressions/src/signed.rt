@@ -23,7 +23,8 @@ fn add_names<'a>(
     names: &'a [Name],
     ty: &'a TypeExpr,
 ) -> Result<(), AllocError>
-    ensures { OnOk result ((x : List ℕ) → declared_in signatures.new x ≡ cond (is_signed_among x names.now) (Some (declared_type ty.now)) (declared_in signatures.old x)) }
+    ensures { OnOk result ((x : List ℕ) → declared_in signatures.new x
+        ≡ cond (is_signed_among x names.now) (Some (declared_type ty.now)) (declared_in signatures.old x)) }
 {
     'names: for place in 0..names.len() {
         signatures.insert(names[place].as_str(), ty)?;
@@ -82,7 +83,8 @@ fn bind_declared<'a>(
     decl: &'a Decl,
     rest: &[Decl],
 ) -> Result<(), AllocError>
-    ensures bound { OnOk result ((k : Known) (all : Declarations) → AreSignatures all signatures.now → BindsDeclaration k all decl.now (declarations rest.now) environment.old environment.new) }
+    ensures bound { OnOk result ((k : Known) (all : Declarations) → AreSignatures all signatures.now
+        → BindsDeclaration k all decl.now (declarations rest.now) environment.old environment.new) }
     ensures given { OnOk result ((g : ℕ) → AreAssumed g environment.old → AreAssumed g environment.new) }
     ensures kept { Extends environment.old environment.new }
 {

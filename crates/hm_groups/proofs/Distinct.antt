@@ -2,8 +2,8 @@
 use Rattle.std.proofs.Common.{◌≡◌, ℕ, zero, suc, ◌+◌, ◌<◌, Bool, true, false, cond, List, [], ◌∷◌, ◌++◌, map, length, Option, Some, None, Result, Ok, Err, IsErrAnd, ◌⊎◌, ⊎_elim, inl, inr, refl, sym, ap, ◌∙◌, subst, ◌↔◌, ◌-◌, drop, get_or, arith, append_assoc, true≢false}
 use Rattle.std.proofs.lemmas.List.{map-append}
 use Rattle.std.proofs.lemmas.Option.{slice_get_within}
-use Rattle.hm_unify.specs.declared.faults.UnifyFault.{UnifyFault}
-use Rattle.hm_unify.specs.declared.faults.UnifyFault.TheVariants.{Clash}
+use Rattle.hm_groups.specs.declared.faults.GroupFault.{GroupFault}
+use Rattle.hm_groups.specs.declared.faults.GroupFault.TheVariants.{Repeated}
 use Rattle.std.specs.List.{slice_get}
 use Rattle.hm_typing.specs.Names.{Identifier, binding, IsOneOf, IsDistinct}
 use Rattle.hm_typing.specs.Schemes.{Monotype}
@@ -170,9 +170,9 @@ repeated_clause true s xs x e f n = absurd (true≢false e)
 repeated_clause false true xs x e f n = absurd (true≢false f)
 repeated_clause false false xs x e f n = repeated_push xs x n
 
-pub passed_on : {X P : Type 0} (outcome : Result X UnifyFault) (f : UnifyFault) → IsErrAnd outcome (λ y. y ≡ f) → (f ≡ Clash → P) → outcome ≡ Err Clash → P
+pub passed_on : {X P : Type 0} (outcome : Result X GroupFault) (f : GroupFault) → IsErrAnd outcome (λ y. y ≡ f) → (f ≡ Repeated → P) → outcome ≡ Err Repeated → P
 passed_on (Ok x) f i g e = absurd i
-passed_on (Err k) f i g e = let h : f ≡ Clash = cc in g h
+passed_on (Err k) f i g e = let h : f ≡ Repeated = cc in g h
 
 pub repeated_row : (now initial : List (Option Variable)) (ps : List Pattern) (i : ℕ) (p : Pattern) → i < length ps → p ≡ get_or ps i p → now ++ map Some (patterns_variables (patterns (drop i ps))) ≡ initial ++ map Some (patterns_variables (patterns ps)) →
     IsRepeated (now ++ map Some (pattern_variables p)) → IsRepeated (initial ++ map Some (patterns_variables (patterns ps)))

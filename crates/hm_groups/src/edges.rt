@@ -113,7 +113,8 @@ fn add_owned(
     requires own { (own : ℕ) → owner ≡ Some own → own < length graph.old }
     ensures len { OnOk result (length graph.new ≡ length graph.old) }
     ensures shown { OnOk result (shown.new ≡ shown.old) }
-    ensures edges { OnOk result (AddsEdges graph.old graph.new (λ x y. (own : ℕ) × (owner ≡ Some own) × DeclarationEdge numbered.now.numbers.now numbered.now.decl.now own x y)) }
+    ensures edges { OnOk result (AddsEdges graph.old graph.new (λ x y. (own : ℕ) × (owner ≡ Some own)
+        × DeclarationEdge numbered.now.numbers.now numbered.now.decl.now own x y)) }
 {
     match owner {
         Some(own) => Ok(add_references(alloc, graph, shown, own, numbered)?),

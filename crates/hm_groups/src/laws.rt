@@ -27,5 +27,6 @@ pub fn nodes_are_names()
 
 /// What a group of a list asks of its bindings is what it asks of its declarations, one by one.
 pub fn groups_ask_of_declarations()
-    ensures { (g : Identifier → Bool) (C : Assumptions) (τ : Identifier → Monotype) (k : Known) (all ds : Declarations) → GroupUnder g C τ (bindings_of k all ds) ↔ DeclarationsHave g C τ k all ds }
+    ensures { (g : Identifier → Bool) (C : Assumptions) (τ : Identifier → Monotype) (k : Known) (all ds : Declarations)
+        → GroupUnder g C τ (bindings_of k all ds) ↔ DeclarationsHave g C τ k all ds }
 {}

@@ -2,6 +2,7 @@
 #![tactic(auto)]
 
 mod edges;
+mod faults;
 mod hiding;
 pub mod laws;
 mod members;
@@ -12,6 +13,7 @@ mod references;
 mod signed;
 
 pub use crate::edges::graph_of;
+pub use crate::faults::GroupFault;
 pub use crate::hiding::is_continued;
 pub use crate::members::{Member, group_members};
 pub use crate::nodes::{NodeList, node_list};

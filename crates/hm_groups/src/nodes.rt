@@ -6,10 +6,10 @@ ghost use Rattle.hm_groups.specs.References.{pattern_variables, patterns_variabl
 ghost use Rattle.hm_groups.specs.Nodes.{AreSigned, IsRepeated, new_nodes, list_nodes, owner_of, owners, has_text};
 ghost use Rattle.hm_syntax.specs.Trees.{Declarations};
 
+use crate::faults::GroupFault;
 use crate::hiding::is_continued;
 use crate::numbers::Numbers;
 use hm_syntax::{Decl, DeclKind, Name, Pat, PatKind};
-use hm_unify::UnifyFault;
 use indexmap::IndexSet;
 use std::alloc::Global;
 
@@ -22,9 +22,9 @@ fn is_signed(signed: &IndexSet<&str>, name: &Name) -> bool
 
 /// Adds the variables of a pattern.
 #[cycle(variables)]
-fn add_variables<'a>(numbers: &mut Numbers<'a>, pat: &'a Pat) -> Result<(), UnifyFault>
+fn add_variables<'a>(numbers: &mut Numbers<'a>, pat: &'a Pat) -> Result<(), GroupFault>
     ensures added { OnOk result (numbers.new ≡ numbers.old ++ map Some (pattern_variables pat.now)) }
-    ensures twice { result ≡ Err UnifyFault.Clash → IsRepeated (numbers.old ++ map Some (pattern_variables pat.now)) }
+    ensures twice { result ≡ Err GroupFault.Repeated → IsRepeated (numbers.old ++ map Some (pattern_variables pat.now)) }
 {
     match &pat.kind {
         PatKind::Var(name) => numbers.add(name)?,
@@ -44,9 +44,9 @@ fn add_variables<'a>(numbers: &mut Numbers<'a>, pat: &'a Pat) -> Result<(), Unif
 
 /// Adds the variables of patterns.
 #[cycle(variables)]
-fn add_all_variables<'a>(numbers: &mut Numbers<'a>, pats: &'a [Pat]) -> Result<(), UnifyFault>
+fn add_all_variables<'a>(numbers: &mut Numbers<'a>, pats: &'a [Pat]) -> Result<(), GroupFault>
     ensures added { OnOk result (numbers.new ≡ numbers.old ++ map Some (patterns_variables (patterns pats.now))) }
-    ensures twice { result ≡ Err UnifyFault.Clash → IsRepeated (numbers.old ++ map Some (patterns_variables (patterns pats.now))) }
+    ensures twice { result ≡ Err GroupFault.Repeated → IsRepeated (numbers.old ++ map Some (patterns_variables (patterns pats.now))) }
 {
     for pat in pats {
         add_variables(numbers, pat)?;
@@ -61,10 +61,13 @@ fn add_declaration<'a>(
     decl: &'a Decl,
     rest: &[Decl],
     behind: Option<usize>,
-) -> Result<Option<usize>, UnifyFault>
-    ensures nodes { OnOk result ((all : Declarations) → AreSigned all signed.now → numbers.new ≡ numbers.old ++ new_nodes all decl.now (declarations rest.now)) }
-    ensures owner { IfOk result (λ o. (all : Declarations) → AreSigned all signed.now → numbers.old ≡ list_nodes all (declarations rest.now) → o ≡ owner_of all decl.now (declarations rest.now) behind) }
-    ensures twice { result ≡ Err UnifyFault.Clash → (all : Declarations) → AreSigned all signed.now → IsRepeated (numbers.old ++ new_nodes all decl.now (declarations rest.now)) }
+) -> Result<Option<usize>, GroupFault>
+    ensures nodes { OnOk result ((all : Declarations) → AreSigned all signed.now
+        → numbers.new ≡ numbers.old ++ new_nodes all decl.now (declarations rest.now)) }
+    ensures owner { IfOk result (λ o. (all : Declarations) → AreSigned all signed.now → numbers.old ≡ list_nodes all (declarations rest.now)
+        → o ≡ owner_of all decl.now (declarations rest.now) behind) }
+    ensures twice { result ≡ Err GroupFault.Repeated → (all : Declarations) → AreSigned all signed.now
+        → IsRepeated (numbers.old ++ new_nodes all decl.now (declarations rest.now)) }
 {
     match &decl.kind {
         DeclKind::Clause { name, pats, rhs: _ } => {
@@ -104,10 +107,10 @@ pub fn node_list<'a>(
     alloc: Global,
     signed: &IndexSet<&str>,
     decls: &'a [Decl],
-) -> Result<NodeList<'a>, UnifyFault>
+) -> Result<NodeList<'a>, GroupFault>
     ensures nodes { IfOk result (λ list. (all : Declarations) → AreSigned all signed.now → list.numbers ≡ list_nodes all (declarations decls.now)) }
     ensures owners { IfOk result (λ list. (all : Declarations) → AreSigned all signed.now → list.owners.items ≡ owners all (declarations decls.now)) }
-    ensures twice { result ≡ Err UnifyFault.Clash → (all : Declarations) → AreSigned all signed.now → IsRepeated (list_nodes all (declarations decls.now)) }
+    ensures twice { result ≡ Err GroupFault.Repeated → (all : Declarations) → AreSigned all signed.now → IsRepeated (list_nodes all (declarations decls.now)) }
 {
     let mut numbers = Numbers::new(alloc);
     let mut owners = Vec::new(alloc);

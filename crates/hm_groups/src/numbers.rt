@@ -6,8 +6,8 @@ ghost use Rattle.hm_variables.specs.Variables.{Variable, variable_of};
 ghost use Rattle.hm_groups.specs.Numberings.{IsNode};
 ghost use Rattle.hm_variables.specs.Keys.{variable_of_key};
 
+use crate::faults::GroupFault;
 use hm_syntax::Name;
-use hm_unify::UnifyFault;
 use hm_variables::{LentName, key_of};
 use indexmap::IndexMap;
 use std::alloc::{AllocError, Global};
@@ -80,12 +80,12 @@ impl<'a> Numbers<'a> {
     }
 
     /// Adds a variable, unless it is a node already.
-    pub(crate) fn add(&mut self, name: &'a Name) -> Result<(), UnifyFault>
+    pub(crate) fn add(&mut self, name: &'a Name) -> Result<(), GroupFault>
         ensures added { OnOk result (self.new ≡ self.old ++ (Some (variable_of name.now)) ∷ []) }
-        ensures twice { result ≡ Err UnifyFault.Clash → IsNode self.old (variable_of name.now) }
+        ensures twice { result ≡ Err GroupFault.Repeated → IsNode self.old (variable_of name.now) }
     {
         let None = self.number(name) else {
-            return Err(UnifyFault::Clash);
+            return Err(GroupFault::Repeated);
         };
         let key = key_of(name);
         let number = self.nodes.len();
@@ -94,7 +94,7 @@ impl<'a> Numbers<'a> {
             Ok(_) => Ok(()),
             Err(_) => {
                 self.nodes.pop();
-                Err(UnifyFault::Memory)
+                Err(GroupFault::Memory)
             }
         }
     }

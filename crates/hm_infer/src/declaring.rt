@@ -32,7 +32,8 @@ fn add_constructor<'a>(
     constr: &'a Constr,
 ) -> Result<(), AllocError>
     requires { (n : Identifier) → ¬ (Repeats owner.now.params.now n) }
-    ensures { OnOk result (schemes_of entries.new.items ≡ schemes_of entries.old.items ++ scheme_in owner.now.home.now owner.now.name.now owner.now.params.now constr.now ∷ []) }
+    ensures { OnOk result (schemes_of entries.new.items ≡ schemes_of entries.old.items
+        ++ scheme_in owner.now.home.now owner.now.name.now owner.now.params.now constr.now ∷ []) }
 {
     let scheme = declared_scheme(alloc, owner.home, owner.name, owner.params, constr)?;
     entries.push(Entry {
@@ -51,7 +52,8 @@ fn add_constructors<'a>(
     constrs: &'a [Constr],
 ) -> Result<(), AllocError>
     requires { (n : Identifier) → ¬ (Repeats owner.now.params.now n) }
-    ensures { OnOk result (schemes_of entries.new.items ≡ schemes_of entries.old.items ++ map (scheme_in owner.now.home.now owner.now.name.now owner.now.params.now) constrs.now) }
+    ensures { OnOk result (schemes_of entries.new.items ≡ schemes_of entries.old.items
+        ++ map (scheme_in owner.now.home.now owner.now.name.now owner.now.params.now) constrs.now) }
 {
     'constrs: for constr in constrs {
         add_constructor(alloc, entries, owner, constr)?;
@@ -114,7 +116,8 @@ fn add_exported<'a>(
     entries: &mut Vec<Entry<'a>>,
     exported: &'a [ConstructorEntry],
 ) -> Result<(), AllocError>
-    ensures { OnOk result (schemes_of entries.new.items ≡ schemes_of entries.old.items ++ map (λ r. record { entity = r.entity; scheme = r.scheme }) exported.now) }
+    ensures { OnOk result (schemes_of entries.new.items ≡ schemes_of entries.old.items
+        ++ map (λ r. record { entity = r.entity; scheme = r.scheme }) exported.now) }
 {
     'exported: for entry in exported {
         entries.push(Entry {

@@ -52,7 +52,8 @@ fn judge_group<'a>(
     shown: &mut [bool],
     typed: &mut [bool],
 ) -> Result<(), UnifyFault>
-    requires list { IsListFound (known_of group.now.list.constructors.now) group.now.list.decls.now group.now.list.found.now.numbers (lists group.now.list.found.now.rows.items) }
+    requires list { IsListFound (known_of group.now.list.constructors.now) group.now.list.decls.now group.now.list.found.now.numbers
+        (lists group.now.list.found.now.rows.items) }
     requires nodes { All (λ j. j < length group.now.list.found.now.numbers) group.now.nodes.now }
     requires some { 0 < length group.now.nodes.now }
     requires closed { AreAssumed 0 inference.old.environment }
@@ -60,7 +61,9 @@ fn judge_group<'a>(
     requires numbers { AreUpTo 0 types.old }
     requires shown { AllShown shown.old (length group.now.list.found.now.numbers) }
     requires typed { length typed.old ≡ length group.now.list.found.now.numbers }
-    ensures judged { OnOk result ((added base : List Assumed) → inference.old.environment ≡ added ++ base → UnitJudged (known_of group.now.list.constructors.now) group.now.list.decls.now group.now.list.found.now.numbers (lists group.now.list.found.now.rows.items) group.now.nodes.now base inference.old.environment inference.new.environment typed.old typed.new) }
+    ensures judged { OnOk result ((added base : List Assumed) → inference.old.environment ≡ added ++ base
+        → UnitJudged (known_of group.now.list.constructors.now) group.now.list.decls.now group.now.list.found.now.numbers
+        (lists group.now.list.found.now.rows.items) group.now.nodes.now base inference.old.environment inference.new.environment typed.old typed.new) }
     ensures closed { OnOk result (AreAssumed 0 inference.new.environment) }
     ensures kept { OnOk result (Extends inference.old.environment inference.new.environment) }
     ensures numbers { OnOk result (AreUpTo 0 types.new) }
@@ -99,13 +102,19 @@ fn judge_each<'a>(
     typed: &mut [bool],
 ) -> Result<(), UnifyFault>
     requires list { IsListFound (known_of list.now.constructors.now) list.now.decls.now list.now.found.now.numbers (lists list.now.found.now.rows.items) }
-    requires groups { AreNumberedGroups (list_of (known_of list.now.constructors.now) list.now.decls.now) (node_name (known_of list.now.constructors.now) (declarations list.now.decls.now)) (length list.now.found.now.numbers) (lists list.now.found.now.groups.items) }
+    requires groups { AreNumberedGroups (list_of (known_of list.now.constructors.now) list.now.decls.now)
+        (node_name (known_of list.now.constructors.now) (declarations list.now.decls.now)) (length list.now.found.now.numbers)
+        (lists list.now.found.now.groups.items) }
     requires closed { AreAssumed 0 inference.old.environment }
     requires types { length types.old ≡ length list.now.found.now.numbers }
     requires numbers { AreUpTo 0 types.old }
     requires shown { AllShown shown.old (length list.now.found.now.numbers) }
     requires typed { length typed.old ≡ length list.now.found.now.numbers }
-    ensures judged { OnOk result ((added base : List Assumed) → inference.old.environment ≡ added ++ base → UnitsJudged (known_of list.now.constructors.now) list.now.decls.now (lists list.now.found.now.groups.items) (length list.now.found.now.numbers) 0 base inference.old.environment typed.old → UnitsJudged (known_of list.now.constructors.now) list.now.decls.now (lists list.now.found.now.groups.items) (length list.now.found.now.numbers) (length (lists list.now.found.now.groups.items)) base inference.new.environment typed.new) }
+    ensures judged { OnOk result ((added base : List Assumed) → inference.old.environment ≡ added ++ base
+        → UnitsJudged (known_of list.now.constructors.now) list.now.decls.now (lists list.now.found.now.groups.items)
+        (length list.now.found.now.numbers) 0 base inference.old.environment typed.old
+        → UnitsJudged (known_of list.now.constructors.now) list.now.decls.now (lists list.now.found.now.groups.items)
+        (length list.now.found.now.numbers) (length (lists list.now.found.now.groups.items)) base inference.new.environment typed.new) }
     ensures closed { OnOk result (AreAssumed 0 inference.new.environment) }
 {
     let found = list.found;
@@ -126,10 +135,15 @@ pub(crate) fn judge_groups<'a>(
     list: &CheckedList<'_, 'a, '_>,
 ) -> Result<Vec<bool>, UnifyFault>
     requires list { IsListFound (known_of list.now.constructors.now) list.now.decls.now list.now.found.now.numbers (lists list.now.found.now.rows.items) }
-    requires groups { AreNumberedGroups (list_of (known_of list.now.constructors.now) list.now.decls.now) (node_name (known_of list.now.constructors.now) (declarations list.now.decls.now)) (length list.now.found.now.numbers) (lists list.now.found.now.groups.items) }
+    requires groups { AreNumberedGroups (list_of (known_of list.now.constructors.now) list.now.decls.now)
+        (node_name (known_of list.now.constructors.now) (declarations list.now.decls.now)) (length list.now.found.now.numbers)
+        (lists list.now.found.now.groups.items) }
     requires distinct { IsDistinct (names (list_of (known_of list.now.constructors.now) list.now.decls.now)) }
     requires closed { AreAssumed 0 inference.old.environment }
-    ensures judged { IfOk result (λ typed. (added base : List Assumed) → inference.old.environment ≡ added ++ base → BindsSigned (list_of (known_of list.now.constructors.now) list.now.decls.now) base inference.old.environment → UnitsJudged (known_of list.now.constructors.now) list.now.decls.now (lists list.now.found.now.groups.items) (length list.now.found.now.numbers) (length (lists list.now.found.now.groups.items)) base inference.new.environment typed.items) }
+    ensures judged { IfOk result (λ typed. (added base : List Assumed) → inference.old.environment ≡ added ++ base
+        → BindsSigned (list_of (known_of list.now.constructors.now) list.now.decls.now) base inference.old.environment
+        → UnitsJudged (known_of list.now.constructors.now) list.now.decls.now (lists list.now.found.now.groups.items)
+        (length list.now.found.now.numbers) (length (lists list.now.found.now.groups.items)) base inference.new.environment typed.items) }
     ensures sized { IfOk result (λ typed. length typed.items ≡ length list.now.found.now.numbers) }
     ensures closed { OnOk result (AreAssumed 0 inference.new.environment) }
 {

@@ -67,7 +67,8 @@ fn is_refused<'a>(
     is_waiting: bool,
 ) -> Result<bool, UnifyFault>
     requires closed { AreAssumed 0 inference.old.environment }
-    ensures told { IfOk result (λ b. (all : Declarations) → AreSignatures all list.now.signatures.now → Refuses is_waiting b (known_of list.now.constructors.now) all (assumptions inference.old.environment) decl.now) }
+    ensures told { IfOk result (λ b. (all : Declarations) → AreSignatures all list.now.signatures.now
+        → Refuses is_waiting b (known_of list.now.constructors.now) all (assumptions inference.old.environment) decl.now) }
     ensures same { OnOk result (inference.new.environment ≡ inference.old.environment) }
 {
     if is_waiting {
@@ -97,7 +98,8 @@ fn refused_clauses<'a>(
 ) -> Result<Vec<bool>, UnifyFault>
     requires closed { AreAssumed 0 inference.old.environment }
     requires sized { length waiting.now ≡ length list.now.decls.now }
-    ensures told { IfOk result (λ refused. (all : Declarations) → AreSignatures all list.now.signatures.now → AreRefused (known_of list.now.constructors.now) all (assumptions inference.old.environment) list.now.decls.now waiting.now refused.items) }
+    ensures told { IfOk result (λ refused. (all : Declarations) → AreSignatures all list.now.signatures.now
+        → AreRefused (known_of list.now.constructors.now) all (assumptions inference.old.environment) list.now.decls.now waiting.now refused.items) }
     ensures sized { IfOk result (λ refused. length refused.items ≡ length list.now.decls.now) }
 {
     let decls = list.decls;
@@ -174,7 +176,9 @@ pub(crate) fn signed_faults<'a>(
 ) -> Result<Vec<usize>, UnifyFault>
     requires closed { AreAssumed 0 inference.old.environment }
     requires typed { length typed.now ≡ length list.now.found.now.numbers }
-    ensures told { IfOk result (λ places. (all : Declarations) → AreSignatures all list.now.signatures.now → AreSignedFaults (known_of list.now.constructors.now) all (assumptions inference.old.environment) list.now.found.now.numbers typed.now list.now.decls.now places.items) }
+    ensures told { IfOk result (λ places. (all : Declarations) → AreSignatures all list.now.signatures.now
+        → AreSignedFaults (known_of list.now.constructors.now) all (assumptions inference.old.environment) list.now.found.now.numbers typed.now
+        list.now.decls.now places.items) }
 {
     let alloc = inference.alloc;
     let decls = list.decls;

@@ -24,7 +24,8 @@ pub(crate) fn signed_starts<'a>(
     requires signatures { AreSignatures (declarations list.now.decls.now) list.now.signatures.now }
     requires closed { AreAssumed 0 inference.old.environment }
     requires sized { length typed.now ≡ length list.now.found.now.numbers }
-    ensures { IfOk result (λ places. TellsSigned (known_of list.now.constructors.now) list.now.decls.now list.now.found.now.numbers (lists list.now.found.now.rows.items) (lists list.now.found.now.groups.items) inference.old.environment typed.now places.items) }
+    ensures { IfOk result (λ places. TellsSigned (known_of list.now.constructors.now) list.now.decls.now list.now.found.now.numbers
+        (lists list.now.found.now.rows.items) (lists list.now.found.now.groups.items) inference.old.environment typed.now places.items) }
 {
     Ok(signed_faults(inference, list, typed)?)
 }

@@ -50,14 +50,14 @@ fn first_variable_among(row: &[Pat]) -> Option<&Name>
 }
 
 /// The fault of a unit without a type.
-fn untyped(place: Place, text: String) -> Fault
-    ensures { result ≡ fault Untyped (bare place.line place.column (string_bytes text)) }
+fn untyped(place: Place, text: String) -> Result<Fault, AllocError>
+    ensures { IfOk result (λ told. told ≡ fault Untyped (bare place.line place.column (string_bytes text))) }
 {
-    Fault {
+    Ok(Fault {
         place,
         kind: Kind::Untyped,
-        name: Text::new(text),
-    }
+        name: Text::new(text)?,
+    })
 }
 
 /// The text by which a pattern is told: its first variable, or `_` where it has none.
@@ -76,11 +76,11 @@ fn add_fault(alloc: Global, faults: &mut Vec<Fault>, decl: &Decl) -> Result<(), 
 {
     match &decl.kind {
         DeclKind::Clause { name, .. } => {
-            faults.push(untyped(name.place, name.text.clone()?))?;
+            faults.push(untyped(name.place, name.text.clone()?)?)?;
             Ok(())
         }
         DeclKind::Pattern { place, pat, .. } => {
-            faults.push(untyped(*place, pattern_text(alloc, pat)?))?;
+            faults.push(untyped(*place, pattern_text(alloc, pat)?)?)?;
             Ok(())
         }
         _ => Ok(()),

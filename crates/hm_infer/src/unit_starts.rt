@@ -41,7 +41,8 @@ pub(crate) fn unsigned_starts(
     requires nodes { (g : List ℕ) → IsOneOf g (lists found.now.groups.items) → All (λ j. j < length found.now.rows.items) g }
     requires some { (g : List ℕ) → IsOneOf g (lists found.now.groups.items) → HasMember (lists found.now.rows.items) g }
     requires sized { length faulty.now ≡ length found.now.groups.items }
-    ensures { IfOk result (λ starts. AreGroupStarts (lists found.now.rows.items) (lists found.now.groups.items) faulty.now (length (lists found.now.groups.items)) starts.items) }
+    ensures { IfOk result (λ starts. AreGroupStarts (lists found.now.rows.items) (lists found.now.groups.items) faulty.now
+        (length (lists found.now.groups.items)) starts.items) }
 {
     let mut starts = Vec::new(alloc);
     'groups: for i in 0..found.groups.len() {

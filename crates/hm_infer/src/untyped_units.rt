@@ -26,8 +26,7 @@ use crate::telling::told_faults;
 use crate::unit_starts::unsigned_starts;
 use hm_answers::faulty_groups;
 use hm_assumptions::{Constructors, Inference};
-use hm_dependency::binding_groups;
-use hm_expressions::{CheckedList, bind_signed, signatures_of};
+use hm_expressions::{CheckedList, bind_signed, listed_groups, signatures_of};
 use hm_names::{Core, Fault};
 use hm_syntax::{Decl, Row};
 use hm_unify::{Solver, UnifyFault};
@@ -44,7 +43,8 @@ fn unsigned_fault_starts(
     requires typed { length typed.old ≡ length list.now.found.now.numbers }
     requires groups { ArePlainGroups (lists list.now.found.now.groups.items) (length list.now.found.now.numbers) typed.old }
     requires members { (g : List ℕ) → IsOneOf g (lists list.now.found.now.groups.items) → HasMember (lists list.now.found.now.rows.items) g }
-    ensures { IfOk result (λ starts. AreUnsignedStarts list.now.decls.now list.now.found.now.numbers (lists list.now.found.now.rows.items) (lists list.now.found.now.groups.items) typed.old starts.items) }
+    ensures { IfOk result (λ starts. AreUnsignedStarts list.now.decls.now list.now.found.now.numbers (lists list.now.found.now.rows.items)
+        (lists list.now.found.now.groups.items) typed.old starts.items) }
 {
     let faulty = faulty_groups(alloc, list, typed)?;
     Ok(unsigned_starts(alloc, list.found, &faulty)?)
@@ -59,10 +59,13 @@ fn starts_of_groups<'a>(
     requires core { IsCoreList (known_of list.now.constructors.now) list.now.decls.now }
     requires closed { AreAssumed 0 inference.old.environment }
     requires list { IsListFound (known_of list.now.constructors.now) list.now.decls.now list.now.found.now.numbers (lists list.now.found.now.rows.items) }
-    requires groups { AreNumberedGroups (list_of (known_of list.now.constructors.now) list.now.decls.now) (node_name (known_of list.now.constructors.now) (declarations list.now.decls.now)) (length list.now.found.now.numbers) (lists list.now.found.now.groups.items) }
+    requires groups { AreNumberedGroups (list_of (known_of list.now.constructors.now) list.now.decls.now)
+        (node_name (known_of list.now.constructors.now) (declarations list.now.decls.now)) (length list.now.found.now.numbers)
+        (lists list.now.found.now.groups.items) }
     requires distinct { IsDistinct (names (list_of (known_of list.now.constructors.now) list.now.decls.now)) }
     requires signatures { AreSignatures (declarations list.now.decls.now) list.now.signatures.now }
-    ensures { IfOk result (λ starts. (o : IsCoreList (known_of list.now.constructors.now) list.now.decls.now) → AreFaultStarts o.core (assumptions inference.old.environment) starts.items) }
+    ensures { IfOk result (λ starts. (o : IsCoreList (known_of list.now.constructors.now) list.now.decls.now)
+        → AreFaultStarts o.core (assumptions inference.old.environment) starts.items) }
 {
     let alloc = inference.alloc;
     bind_signed(
@@ -87,9 +90,10 @@ fn fault_starts<'a>(
 ) -> Result<Vec<usize>, UnifyFault>
     requires core { IsCoreList (known_of constructors.now) decls.now }
     requires closed { AreAssumed 0 inference.old.environment }
-    ensures { IfOk result (λ starts. (o : IsCoreList (known_of constructors.now) decls.now) → AreFaultStarts o.core (assumptions inference.old.environment) starts.items) }
+    ensures { IfOk result (λ starts. (o : IsCoreList (known_of constructors.now) decls.now)
+        → AreFaultStarts o.core (assumptions inference.old.environment) starts.items) }
 {
-    let found = binding_groups(inference.alloc, decls)?;
+    let found = listed_groups(inference.alloc, decls)?;
     let signatures = signatures_of(inference.alloc, decls)?;
     let list = CheckedList {
         constructors,

@@ -1,3 +1,2 @@
 pub mod References
-pub mod SynonymGroups
 pub mod SynonymReferences

@@ -1,2 +1,1 @@
 pub mod Synonyms
-pub mod SynonymGraphs

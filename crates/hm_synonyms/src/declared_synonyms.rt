@@ -10,8 +10,8 @@ ghost use Rattle.hm_names.specs.declared.namespace.Namespace.TheVariants.{Types}
 ghost use Rattle.hm_names.specs.Bindings.{IsScopeOf};
 ghost use Rattle.hm_synonyms.specs.Synonyms.{declaration_of, AreSynonyms, AreOwnSynonyms, IsOnce, IsReferenceGraph, NamesOwn, RefersIn, AddsReferences};
 
-use crate::synonym_graph::SynonymGraph;
 use crate::type_names::add_type;
+use hm_graph::Digraph;
 use hm_names::{LentNames, Namespace};
 use hm_syntax::{Decl, DeclKind, Module, Name, TypeExpr};
 use hm_tables::{Meaning, Scope, TextSet};
@@ -80,8 +80,10 @@ pub fn own_synonyms<'a>(alloc: Global, decls: &'a [Decl]) -> Result<OwnSynonyms<
 /// Which synonym of the module a type constructor is.
 fn own_synonym(scope: &Scope<'_>, home: &str, names: &TextSet<'_>, name: &Name) -> Option<usize>
     ensures within { IfSome result (λ j. j < length names.now) }
-    ensures own { IfSome result (λ j. (m : Module) (fs : List Interface) → IsScopeOf m fs scope.now → home.now ≡ m.header.name.text → Means m fs Types name.now (own m (slice_index_or names.now j []))) }
-    ensures none { IfNone result ((m : Module) (fs : List Interface) → IsScopeOf m fs scope.now → home.now ≡ m.header.name.text → (x : List ℕ) → Contains names.now x → ¬ Means m fs Types name.now (own m x)) }
+    ensures own { IfSome result (λ j. (m : Module) (fs : List Interface) → IsScopeOf m fs scope.now → home.now ≡ m.header.name.text
+        → Means m fs Types name.now (own m (slice_index_or names.now j []))) }
+    ensures none { IfNone result ((m : Module) (fs : List Interface) → IsScopeOf m fs scope.now → home.now ≡ m.header.name.text → (x : List ℕ)
+        → Contains names.now x → ¬ Means m fs Types name.now (own m x)) }
 {
     match scope.meaning(Namespace::Types, name) {
         Meaning::Unbound => None,
@@ -106,7 +108,7 @@ struct ScopedNames<'r, 'a> {
 
 /// Adds the edge from a synonym to the one that a type constructor is, if it is one of the module.
 fn add_reference(
-    graph: &mut SynonymGraph,
+    graph: &mut Digraph,
     scoped: &ScopedNames<'_, '_>,
     from: usize,
     name: &Name,
@@ -114,7 +116,8 @@ fn add_reference(
     requires nodes { length graph.old ≡ length scoped.now.names.now }
     requires from { from < length scoped.now.names.now }
     ensures nodes { OnOk result (length graph.new ≡ length graph.old) }
-    ensures edges { OnOk result ((m : Module) (fs : List Interface) → IsScopeOf m fs scoped.now.scope.now → scoped.now.home.now ≡ m.header.name.text → IsOnce scoped.now.names.now →
+    ensures edges { OnOk result ((m : Module) (fs : List Interface) → IsScopeOf m fs scoped.now.scope.now → scoped.now.home.now ≡ m.header.name.text
+        → IsOnce scoped.now.names.now →
         AddsReferences scoped.now.names.now graph.old graph.new (λ i y. (i ≡ from) × Means m fs Types name.now (own m y))) }
 {
     match own_synonym(scoped.scope, scoped.home, scoped.names, name) {
@@ -128,7 +131,7 @@ fn add_reference(
 
 /// Adds the edges from a synonym to those among these type constructors.
 fn add_references(
-    graph: &mut SynonymGraph,
+    graph: &mut Digraph,
     scoped: &ScopedNames<'_, '_>,
     from: usize,
     used: &[&Name],
@@ -136,7 +139,8 @@ fn add_references(
     requires nodes { length graph.old ≡ length scoped.now.names.now }
     requires from { from < length scoped.now.names.now }
     ensures nodes { OnOk result (length graph.new ≡ length graph.old) }
-    ensures edges { OnOk result ((m : Module) (fs : List Interface) → IsScopeOf m fs scoped.now.scope.now → scoped.now.home.now ≡ m.header.name.text → IsOnce scoped.now.names.now →
+    ensures edges { OnOk result ((m : Module) (fs : List Interface) → IsScopeOf m fs scoped.now.scope.now → scoped.now.home.now ≡ m.header.name.text
+        → IsOnce scoped.now.names.now →
         AddsReferences scoped.now.names.now graph.old graph.new (λ i y. (i ≡ from) × NamesOwn m fs (map (λ n. n.now) used.now) y)) }
 {
     'used: for name in used {
@@ -148,13 +152,14 @@ fn add_references(
 /// Adds the edges of a declaration.
 fn add_declaration(
     alloc: Global,
-    graph: &mut SynonymGraph,
+    graph: &mut Digraph,
     scoped: &ScopedNames<'_, '_>,
     decl: &Decl,
 ) -> Result<(), AllocError>
     requires nodes { length graph.old ≡ length scoped.now.names.now }
     ensures nodes { OnOk result (length graph.new ≡ length graph.old) }
-    ensures edges { OnOk result ((m : Module) (fs : List Interface) → IsScopeOf m fs scoped.now.scope.now → scoped.now.home.now ≡ m.header.name.text → IsOnce scoped.now.names.now →
+    ensures edges { OnOk result ((m : Module) (fs : List Interface) → IsScopeOf m fs scoped.now.scope.now → scoped.now.home.now ≡ m.header.name.text
+        → IsOnce scoped.now.names.now →
         AddsReferences scoped.now.names.now graph.old graph.new (λ i y. RefersIn m fs (decl.now ∷ []) (slice_index_or scoped.now.names.now i []) y)) }
 {
     match &decl.kind {
@@ -182,11 +187,12 @@ pub fn reference_graph(
     scope: &Scope<'_>,
     program: &Module,
     names: &TextSet<'_>,
-) -> Result<SynonymGraph, AllocError>
+) -> Result<Digraph, AllocError>
     ensures nodes { IfOk result (λ graph. length graph ≡ length names.now) }
-    ensures edges { IfOk result (λ graph. (fs : List Interface) → IsScopeOf program.now fs scope.now → AreSynonyms program.now.decls names.now → IsReferenceGraph program.now fs names.now graph) }
+    ensures edges { IfOk result (λ graph. (fs : List Interface) → IsScopeOf program.now fs scope.now → AreSynonyms program.now.decls names.now
+        → IsReferenceGraph program.now fs names.now graph) }
 {
-    let mut graph = SynonymGraph::new(alloc, names.len())?;
+    let mut graph = Digraph::new(alloc, names.len())?;
     let scoped = ScopedNames {
         scope,
         home: program.header.name.as_str(),

@@ -3,9 +3,7 @@
 
 mod declared_synonyms;
 mod recursive_synonyms;
-mod synonym_graph;
 mod type_names;
 
 pub use crate::declared_synonyms::{OwnSynonym, OwnSynonyms, own_synonyms, reference_graph};
 pub use crate::recursive_synonyms::synonym_faults;
-pub use crate::synonym_graph::SynonymGraph;

@@ -6,7 +6,7 @@ ghost use Rattle.hm_names.specs.Bindings.{IsScopeOf, Adds};
 ghost use Rattle.hm_synonyms.specs.Synonyms.{AreSynonyms, IsOnce, IsReferenceGraph, IsMarked, IsMarkedFault, HasSynonymFault};
 ghost use Rattle.hm_names.specs.declared.faults.Fault.{Fault};
 
-use crate::synonym_graph::SynonymGraph;
+use hm_graph::Digraph;
 use hm_names::{Fault, Kind, fault_at};
 use hm_syntax::{Decl, DeclKind, Module, Name};
 use hm_tables::TextSet;
@@ -55,12 +55,13 @@ pub fn synonym_faults(
     alloc: Global,
     program: &Module,
     names: &TextSet<'_>,
-    graph: &SynonymGraph,
+    graph: &Digraph,
 ) -> Result<Vec<Fault>, AllocError>
     requires { length graph.now ≡ length names.now }
-    ensures { IfOk result (λ faults. (fs : List Interface) → AreSynonyms program.now.decls names.now → IsReferenceGraph program.now fs names.now graph.now → (f : Fault) → Contains faults.items f ↔ HasSynonymFault program.now fs f) }
+    ensures { IfOk result (λ faults. (fs : List Interface) → AreSynonyms program.now.decls names.now
+        → IsReferenceGraph program.now fs names.now graph.now → (f : Fault) → Contains faults.items f ↔ HasSynonymFault program.now fs f) }
 {
-    let marks = graph.recursive(alloc)?;
+    let marks = graph.recursive()?;
     let mut faults = Vec::new(alloc);
     'decls: for decl in program.decls.as_slice() {
         add_recursive(alloc, &mut faults, names, &marks, decl)?;

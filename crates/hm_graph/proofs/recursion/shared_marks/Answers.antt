@@ -5,8 +5,8 @@ use Rattle.hm_graph.specs.Digraph.{lists}
 use Rattle.hm_graph.specs.Marks.{PlacesGroup}
 use Rattle.hm_graph.proofs.Rows.{row_at}
 use Rattle.hm_graph.proofs.Cycles.{SharesBelow, shared_of, of_shared, shares_old, shares_new, shares_cases}
-use Rattle.hm_graph.proofs.planning.shared_marks.Goals as goal
-use Rattle.hm_graph.proofs.planning.shared_marks.Goals.{then-len-gt1, else-len-gt1}
+use Rattle.hm_graph.proofs.recursion.shared_marks.Goals as goal
+use Rattle.hm_graph.proofs.recursion.shared_marks.Goals.{then-len-gt1, else-len-gt1}
 
 pub place-requires : goal.place-requires
 place-requires c = λ k d inside.

@@ -5,7 +5,7 @@ use Rattle.std.proofs.lemmas.List.Elements.{contains_decides, Decides-contains}
 use Rattle.hm_graph.specs.Digraph.{lists}
 use Rattle.hm_graph.proofs.Rows.{row_at}
 use Rattle.hm_graph.proofs.Cycles.{cycle_of, of_cycle}
-use Rattle.hm_graph.proofs.planning.is_in_cycle.Goals as goal
+use Rattle.hm_graph.proofs.recursion.is_in_cycle.Goals as goal
 
 pub returns-then-shared-number : goal.returns-then-shared-number
 returns-then-shared-number c = (

@@ -1,0 +1,35 @@
+//! The binding groups of a declaration list, as inference asks for them.
+
+ghost use Rattle.std.specs.Prelude.{◌≡◌, IfOk, Err, length};
+ghost use Rattle.hm_graph.specs.Digraph.{lists};
+ghost use Rattle.hm_syntax.specs.Lists.{declarations};
+ghost use Rattle.hm_groups.specs.Nodes.{list_nodes};
+ghost use Rattle.hm_groups.specs.Members.{AreRows};
+ghost use Rattle.hm_groups.specs.Groups.{node_name};
+ghost use Rattle.hm_typing.specs.Names.{IsDistinct};
+ghost use Rattle.hm_typing.specs.Syntax.{names};
+ghost use Rattle.hm_typing.specs.Orders.{AreNumberedGroups};
+ghost use Rattle.hm_names.specs.Syntax.{Known, bindings_of};
+
+use hm_dependency::{BindingGroups, binding_groups};
+use hm_groups::GroupFault;
+use hm_syntax::Decl;
+use hm_unify::UnifyFault;
+use std::alloc::Global;
+
+/// The binding groups of a list. Where a name is bound twice the list has no typing, and the answer is `Clash`.
+pub fn listed_groups<'a>(alloc: Global, decls: &'a [Decl]) -> Result<BindingGroups<'a>, UnifyFault>
+    ensures nodes { IfOk result (λ found. found.numbers ≡ list_nodes (declarations decls.now) (declarations decls.now)) }
+    ensures rows { IfOk result (λ found. AreRows decls.now (length found.numbers) (lists found.rows.items)) }
+    ensures distinct { IfOk result (λ found. (k : Known) → IsDistinct (names (bindings_of k (declarations decls.now) (declarations decls.now)))) }
+    ensures groups { IfOk result (λ found. (k : Known)
+        → AreNumberedGroups (bindings_of k (declarations decls.now) (declarations decls.now)) (node_name k (declarations decls.now))
+        (length found.numbers) (lists found.groups.items)) }
+    ensures repeated { result ≡ Err UnifyFault.Clash → (k : Known) → ¬ (IsDistinct (names (bindings_of k (declarations decls.now) (declarations decls.now)))) }
+{
+    match binding_groups(alloc, decls) {
+        Ok(found) => Ok(found),
+        Err(GroupFault::Repeated) => Err(UnifyFault::Clash),
+        Err(GroupFault::Memory) => Err(UnifyFault::Memory),
+    }
+}
