@@ -2,7 +2,7 @@
 use Rattle.std.proofs.Common.{◌≡◌, ◌<◌, List, [], ◌∷◌, ◌++◌, length, true, false, Some, None, sym, arith}
 use Rattle.hm_syntax.specs.Names.{Identifier}
 use Rattle.hm_syntax.specs.declared.ast.Export.{Export}
-use Rattle.hm_syntax.specs.declared.ast.Item.{Item}
+use Rattle.hm_syntax.specs.declared.ast.ImportItem.{ImportItem}
 use Rattle.hm_grammar.specs.declared.symbol.Symbol.TheVariants.{Open, Semicolon}
 use Rattle.hm_grammar.specs.Tokens.{Terminal}
 use Rattle.hm_grammar.specs.Grammar.Headers.{Export', Item'}
@@ -67,17 +67,17 @@ exports_start ts = starts (loop next_export ts)
 pub exports_shorter : (ts us : List Terminal) (x : Export) → next_export ts ≡ Some (Some x, us) → length us < length ts
 exports_shorter ts us x e = falls export_steps ts us x e
 
-pub items_go_on : (xs : List Item) (x : Item) (ts us : List Terminal) → next_item ts ≡ Some (Some x, us) → behind (xs ++ x ∷ []) (loop next_item us) ≡ behind xs (loop next_item ts)
+pub items_go_on : (xs : List ImportItem) (x : ImportItem) (ts us : List Terminal) → next_item ts ≡ Some (Some x, us) → behind (xs ++ x ∷ []) (loop next_item us) ≡ behind xs (loop next_item ts)
 items_go_on xs x ts us e = goes_on item_steps xs x ts us e
 
-pub items_end : (xs : List Item) (ts us : List Terminal) → next_item ts ≡ Some (None, us) → behind xs (loop next_item ts) ≡ Some (xs, us)
+pub items_end : (xs : List ImportItem) (ts us : List Terminal) → next_item ts ≡ Some (None, us) → behind xs (loop next_item ts) ≡ Some (xs, us)
 items_end xs ts us e = ends item_steps xs ts us e
 
-pub items_fail : (xs : List Item) (ts : List Terminal) → next_item ts ≡ None → behind xs (loop next_item ts) ≡ None
+pub items_fail : (xs : List ImportItem) (ts : List Terminal) → next_item ts ≡ None → behind xs (loop next_item ts) ≡ None
 items_fail xs ts e = fails item_steps xs ts e
 
 pub items_start : (ts : List Terminal) → behind [] (loop next_item ts) ≡ loop next_item ts
 items_start ts = starts (loop next_item ts)
 
-pub items_shorter : (ts us : List Terminal) (x : Item) → next_item ts ≡ Some (Some x, us) → length us < length ts
+pub items_shorter : (ts us : List Terminal) (x : ImportItem) → next_item ts ≡ Some (Some x, us) → length us < length ts
 items_shorter ts us x e = falls item_steps ts us x e

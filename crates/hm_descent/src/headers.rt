@@ -7,7 +7,7 @@ ghost use Rattle.hm_grammar.specs.Reading.Answers.{Gives};
 use crate::cursor::Parser;
 use crate::owned::only;
 use hm_grammar::{ParseFault, Symbol};
-use hm_syntax::{Export, Import, Item, List, Name, Row, Subs};
+use hm_syntax::{Export, Import, ImportItem, ImportList, Name, Row, SubItems};
 use std::alloc::Global;
 
 impl Parser<'_> {
@@ -50,32 +50,32 @@ impl Parser<'_> {
 
     /// What follows `(` behind a type.
     #[tactic(auto, unfolding(hm_grammar::specs::Reading::Headers::subs_in))]
-    pub(crate) fn subs_in(&mut self, alloc: Global) -> Result<Subs, ParseFault>
+    pub(crate) fn subs_in(&mut self, alloc: Global) -> Result<SubItems, ParseFault>
         ensures { Gives (λ s. (s, self.new)) result (subs_in self.old) }
     {
         if self.at(Symbol::Dots) {
             self.skip();
             self.expect(Symbol::Close)?;
-            return Ok(Subs::All);
+            return Ok(SubItems::All);
         }
         if self.at(Symbol::Close) {
             self.skip();
             let items = Vec::new(alloc);
-            return Ok(Subs::Some(Row { items }));
+            return Ok(SubItems::Some(Row { items }));
         }
         let cons = self.con_row(alloc)?;
-        Ok(Subs::Some(self.before(cons, Symbol::Close)?))
+        Ok(SubItems::Some(self.before(cons, Symbol::Close)?))
     }
 
     #[tactic(auto, unfolding(hm_grammar::specs::Reading::Headers::subs_at))]
-    pub(crate) fn subs(&mut self, alloc: Global) -> Result<Subs, ParseFault>
+    pub(crate) fn subs(&mut self, alloc: Global) -> Result<SubItems, ParseFault>
         ensures { Gives (λ s. (s, self.new)) result (subs_at self.old) }
     {
         if self.at(Symbol::Open) {
             self.skip();
             self.subs_in(alloc)
         } else {
-            Ok(Subs::None)
+            Ok(SubItems::None)
         }
     }
 
@@ -99,15 +99,15 @@ impl Parser<'_> {
     }
 
     #[tactic(auto, unfolding(hm_grammar::specs::Reading::Headers::item_at))]
-    pub(crate) fn item(&mut self, alloc: Global) -> Result<Item, ParseFault>
+    pub(crate) fn item(&mut self, alloc: Global) -> Result<ImportItem, ParseFault>
         ensures { Gives (λ e. (e, self.new)) result (item_at self.old) }
     {
         match self.symbol() {
-            Symbol::Var => Ok(Item::Var(self.name(alloc)?)),
+            Symbol::Var => Ok(ImportItem::Var(self.name(alloc)?)),
             Symbol::Con => {
                 let name = self.name(alloc)?;
                 let subs = or_drop!(self.subs(alloc), name);
-                Ok(Item::Con(name, subs))
+                Ok(ImportItem::Con(name, subs))
             }
             _ => Err(ParseFault::Syntax(self.place())),
         }
@@ -128,7 +128,7 @@ impl Parser<'_> {
 
     /// One more item with the comma behind it, or the end of the list.
     #[tactic(auto, unfolding(hm_grammar::specs::Reading::Headers::next_item))]
-    pub(crate) fn next_item(&mut self, alloc: Global) -> Result<Option<Item>, ParseFault>
+    pub(crate) fn next_item(&mut self, alloc: Global) -> Result<Option<ImportItem>, ParseFault>
         ensures { Gives (λ e. (e, self.new)) result (next_item self.old) }
     {
         if self.at(Symbol::Close) {
@@ -159,7 +159,7 @@ impl Parser<'_> {
 
     /// What follows `(` of an import list.
     #[tactic(auto, using(crate::proofs::Loops::items_go_on, crate::proofs::Loops::items_end, crate::proofs::Loops::items_fail, crate::proofs::Loops::items_start, crate::proofs::Loops::items_shorter), unfolding(hm_grammar::specs::Reading::Headers::items_in))]
-    pub(crate) fn items_in(&mut self, alloc: Global) -> Result<Row<Item>, ParseFault>
+    pub(crate) fn items_in(&mut self, alloc: Global) -> Result<Row<ImportItem>, ParseFault>
         ensures { Gives (λ e. (e, self.new)) result (items_in self.old) }
     {
         if self.at(Symbol::Comma) {
@@ -211,18 +211,18 @@ impl Parser<'_> {
     }
 
     #[tactic(auto, unfolding(hm_grammar::specs::Reading::Headers::list_at))]
-    pub(crate) fn list(&mut self, alloc: Global) -> Result<List, ParseFault>
+    pub(crate) fn list(&mut self, alloc: Global) -> Result<ImportList, ParseFault>
         ensures { Gives (λ e. (e, self.new)) result (list_at self.old) }
     {
         if self.is_at_word(b"hiding") {
             self.skip();
             self.expect(Symbol::Open)?;
-            Ok(List::Hiding(self.items_in(alloc)?))
+            Ok(ImportList::Hiding(self.items_in(alloc)?))
         } else if self.at(Symbol::Open) {
             self.skip();
-            Ok(List::Only(self.items_in(alloc)?))
+            Ok(ImportList::Only(self.items_in(alloc)?))
         } else {
-            Ok(List::Every)
+            Ok(ImportList::Every)
         }
     }
 

@@ -3,12 +3,12 @@ use Rattle.std.proofs.Common.{◌≡◌, inl, inr, ℕ, ◌<◌, ◌≤◌, List
 use Rattle.hm_syntax.specs.Names.{Identifier}
 use Rattle.hm_syntax.specs.declared.ast.Export.{Export}
 use Rattle.hm_syntax.specs.declared.ast.Export.TheVariants as exports
-use Rattle.hm_syntax.specs.declared.ast.Subs.{Subs}
-use Rattle.hm_syntax.specs.declared.ast.Subs.TheVariants as subs
+use Rattle.hm_syntax.specs.declared.ast.SubItems.{SubItems}
+use Rattle.hm_syntax.specs.declared.ast.SubItems.TheVariants as subs
 use Rattle.hm_syntax.specs.declared.ast.Import.{Import}
-use Rattle.hm_syntax.specs.declared.ast.List.{List as ImportList}
-use Rattle.hm_syntax.specs.declared.ast.List.TheVariants as lists
-use Rattle.hm_syntax.specs.declared.ast.Item.{Item}
+use Rattle.hm_syntax.specs.declared.ast.ImportList.{ImportList}
+use Rattle.hm_syntax.specs.declared.ast.ImportList.TheVariants as lists
+use Rattle.hm_syntax.specs.declared.ast.ImportItem.{ImportItem}
 use Rattle.hm_grammar.specs.declared.symbol.Symbol.{Symbol}
 use Rattle.hm_grammar.specs.declared.symbol.Symbol.TheVariants.{Open, Close, Comma, Import as ImportWord, Module as ModuleWord, Var, Con, QVar, QCon}
 use Rattle.hm_grammar.specs.Symbols.{same}
@@ -68,7 +68,7 @@ con_row_found ts = holds_then _ _ (con_found ts) (λ n dn. behind_found n.0 n.1 
 
 -- ---- subs
 
-subs_in_found : (k : Terminal) (ts : List Terminal) → k.symbol ≡ Open → Holds (λ (x : Subs × List Terminal). MaySubs x.0 (k ∷ ts) x.1) (subs_in ts)
+subs_in_found : (k : Terminal) (ts : List Terminal) → k.symbol ≡ Open → Holds (λ (x : SubItems × List Terminal). MaySubs x.0 (k ∷ ts) x.1) (subs_in ts)
 unfolding subs_in con_row con_at
 subs_in_found k [] o = holds_none
 subs_in_found k (d ∷ ts) o =
@@ -79,18 +79,18 @@ subs_in_found k (d ∷ ts) o =
     (λ _. holds_then _ _ (con_row_found (d ∷ ts)) (λ (ns : List Identifier × List Terminal) dns.
     holds_expect Close ns.1 _ (λ m us eq c. holds_some _ (subs_some o (subst (λ z. Row ConName ns.0 (d ∷ ts) z) eq dns) c)))))
 
-subs_found : (ts : List Terminal) → Holds (λ (x : Subs × List Terminal). MaySubs x.0 ts x.1) (subs_at ts)
+subs_found : (ts : List Terminal) → Holds (λ (x : SubItems × List Terminal). MaySubs x.0 ts x.1) (subs_at ts)
 unfolding subs_at
 subs_found [] = holds_some _ no_subs
 subs_found (k ∷ ts) = holds_if _ _ _ (λ q. subs_in_found k ts (same_true _ _ q)) (λ _. holds_some _ no_subs)
 
-subs_short : {s : Subs} {ts rest : List Terminal} → MaySubs s ts rest → length rest ≤ length ts
+subs_short : {s : SubItems} {ts rest : List Terminal} → MaySubs s ts rest → length rest ≤ length ts
 subs_short no_subs = omega arith
 subs_short (subs_all o d c) = omega arith
 subs_short (subs_some o row_none c) = omega arith
 subs_short (subs_some o (row_some d ds) c) = omega (arith, con_short d, cons_short ds)
 
-subs_only : {s : Subs} {ts rest : List Terminal} → MaySubs s ts rest → same (peek rest) Open ≡ false → subs_at ts ≡ Some (s, rest)
+subs_only : {s : SubItems} {ts rest : List Terminal} → MaySubs s ts rest → same (peek rest) Open ≡ false → subs_at ts ≡ Some (s, rest)
 unfolding subs_at subs_in con_row con_at
 subs_only no_subs h = rw h refl
 subs_only (subs_all o d c) h = rw (o, d, c) refl
@@ -146,25 +146,25 @@ export_reads = record { found = export_found; only = export_only; short = export
 
 -- ---- items
 
-item_found : (ts : List Terminal) → Holds (λ (x : Item × List Terminal). Item' x.0 ts x.1) (item_at ts)
+item_found : (ts : List Terminal) → Holds (λ (x : ImportItem × List Terminal). Item' x.0 ts x.1) (item_at ts)
 unfolding item_at
 item_found [] = holds_none
 item_found (k ∷ ts) = by_symbol k.symbol refl
   where
-    by_symbol : (s : Symbol) → k.symbol ≡ s → Holds (λ (x : Item × List Terminal). Item' x.0 (k ∷ ts) x.1) (item_by s (k ∷ ts))
+    by_symbol : (s : Symbol) → k.symbol ≡ s → Holds (λ (x : ImportItem × List Terminal). Item' x.0 (k ∷ ts) x.1) (item_by s (k ∷ ts))
     by_symbol Var e = holds_some _ (item_var e)
     by_symbol Con e = holds_then _ _ (subs_found ts) (λ s d. holds_some _ (item_con e d))
     by_symbol _ e = holds_none
 
-item_short : (x : Item) (ts rest : List Terminal) → Item' x ts rest → length rest < length ts
+item_short : (x : ImportItem) (ts rest : List Terminal) → Item' x ts rest → length rest < length ts
 item_short _ _ _ (item_var q) = omega arith
 item_short _ _ _ (item_con q d) = omega (arith, subs_short d)
 
-item_begins : (x : Item) (ts rest : List Terminal) → Item' x ts rest → ends_item (peek ts) ≡ false
+item_begins : (x : ImportItem) (ts rest : List Terminal) → Item' x ts rest → ends_item (peek ts) ≡ false
 item_begins _ _ _ (item_var q) = ap ends_item q
 item_begins _ _ _ (item_con q d) = ap ends_item q
 
-item_only : (x : Item) (ts rest : List Terminal) → Item' x ts rest → ends_item (peek rest) ≡ true → item_at ts ≡ Some (x, rest)
+item_only : (x : ImportItem) (ts rest : List Terminal) → Item' x ts rest → ends_item (peek rest) ≡ true → item_at ts ≡ Some (x, rest)
 unfolding item_at
 item_only _ _ rest (item_var q) h = rw q refl
 item_only _ _ rest (item_con q d) h = rw q (rw (subs_only d (follows_subs (peek rest) h)) refl)

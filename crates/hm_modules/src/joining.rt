@@ -10,8 +10,10 @@ pub(crate) fn joined(
     first: Result<Vec<Module>, SetError>,
     later: Result<Vec<Module>, SetError>,
 ) -> Result<Vec<Module>, SetError>
-    ensures ok { IfOk result (λ r. (before between through : List (List ℕ)) → IfOk first (λ f. Follow before between f.items) → IfOk later (λ l. Follow between through l.items) → Follow before through r.items) }
-    ensures err { IfErr result (λ e. (sources before between : List (List ℕ)) → IfOk first (λ f. Follow before between f.items) → IfErr first (FailsBehind sources before) → IfErr later (FailsBehind sources between) → FailsBehind sources before e) }
+    ensures ok { IfOk result (λ r. (before between through : List (List ℕ)) → IfOk first (λ f. Follow before between f.items)
+        → IfOk later (λ l. Follow between through l.items) → Follow before through r.items) }
+    ensures err { IfErr result (λ e. (sources before between : List (List ℕ)) → IfOk first (λ f. Follow before between f.items)
+        → IfErr first (FailsBehind sources before) → IfErr later (FailsBehind sources between) → FailsBehind sources before e) }
 {
     let mut modules = match first {
         Ok(modules) => modules,

@@ -7,6 +7,7 @@ ghost use Rattle.hm_sources.specs.Parts.{FailsBehind, Follow};
 ghost use Rattle.hm_sources.specs.SourceModules.{AreModulesOf};
 
 use crate::joining::joined;
+use crate::parsing::modules_of;
 use crate::parts::{Part, bytes_of_part, part_end};
 use core::thread::Stack;
 use hm_graph::Plan;
@@ -21,7 +22,8 @@ use std::thread::{Scope, Threads};
 fn made(alloc: Global, part: Part<'_>) -> Result<Vec<Module>, SetError>
     requires from { part.from ≤ part.to }
     requires to { part.to ≤ length part.sources.now }
-    ensures ok { IfOk result (λ modules. Follow (map (λ s. s.items) (take part.entry.from part.entry.sources.now)) (map (λ s. s.items) (take part.entry.to part.entry.sources.now)) modules.items) }
+    ensures ok { IfOk result (λ modules. Follow (map (λ s. s.items) (take part.entry.from part.entry.sources.now)) (map (λ s.
+        s.items) (take part.entry.to part.entry.sources.now)) modules.items) }
     ensures err { IfErr result (FailsBehind (map (λ s. s.items) part.entry.sources.now) (map (λ s. s.items) (take part.entry.from part.entry.sources.now))) }
 {
     modules_between(alloc, part.sources, part.from, part.to)
@@ -38,7 +40,8 @@ fn made_by_threads<'s, E, R: Threads>(
 ) -> Result<Vec<Module>, SetError>
     requires from { rest.from ≤ rest.to }
     requires to { rest.to ≡ length rest.sources.now }
-    ensures ok { IfOk result (λ modules. Follow (map (λ s. s.items) (take rest.entry.from rest.entry.sources.now)) (map (λ s. s.items) (take rest.entry.to rest.entry.sources.now)) modules.items) }
+    ensures ok { IfOk result (λ modules. Follow (map (λ s. s.items) (take rest.entry.from rest.entry.sources.now)) (map (λ s.
+        s.items) (take rest.entry.to rest.entry.sources.now)) modules.items) }
     ensures err { IfErr result (FailsBehind (map (λ s. s.items) rest.entry.sources.now) (map (λ s. s.items) (take rest.entry.from rest.entry.sources.now))) }
 {
     if rest.from >= rest.to {
@@ -89,8 +92,8 @@ fn made_of_all<'s, E, R: Threads>(
     made_by_threads(rt, scope, alloc, rest, bytes)
 }
 
-/// All modules of the sources, in order of appearance, made by so many threads. This thread is one of them.
-fn source_modules<T: Threads + Wait + Sync>(
+/// All modules of several sources, in order of appearance, made by so many threads. This thread is one of them.
+fn modules_of_all<T: Threads + Wait + Sync>(
     rt: &T,
     alloc: Global,
     sources: &[Vec<u8>],
@@ -108,6 +111,23 @@ fn source_modules<T: Threads + Wait + Sync>(
             ensures err { IfErr result (IsSetError (map (λ s. s.items) sources.entry.now)) }
         { made_of_all(rt, scope, alloc, sources, bytes) },
     )
+}
+
+/// All modules of the sources, in order of appearance, made by so many threads: of several sources each by one of them, of one alone by all.
+fn source_modules<T: Threads + Wait + Sync>(
+    rt: &T,
+    alloc: Global,
+    sources: &[Vec<u8>],
+    threads: usize,
+) -> Result<Vec<Module>, SetError>
+    ensures ok { IfOk result (λ modules. AreModulesOf (map (λ s. s.items) sources.now) modules.items) }
+    ensures err { IfErr result (IsSetError (map (λ s. s.items) sources.now)) }
+{
+    if sources.len() == 1 {
+        modules_of(rt, alloc, sources[0].as_slice(), threads)
+    } else {
+        modules_of_all(rt, alloc, sources, threads)
+    }
 }
 
 /// The modules and the plan of a set of sources, made by so many threads, or by as many as can be started.

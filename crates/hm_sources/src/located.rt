@@ -21,7 +21,8 @@ fn add_headers(
     modules: Vec<Module>,
     source: usize,
 ) -> Result<(), AllocError>
-    ensures { OnOk result ((tail : List Row) × (located.new.items ≡ located.old.items ++ tail) × (length tail ≡ length modules.items) × All (λ l. l.source ≡ source) tail) }
+    ensures { OnOk result ((tail : List Row) × (located.new.items ≡ located.old.items ++ tail) × (length tail ≡ length modules.items)
+        × All (λ l. l.source ≡ source) tail) }
 {
     for module in modules {
         let Module { header, .. } = module;

@@ -32,7 +32,8 @@ pub fn run_plan<T: Threads, R: Read, W: Write>(
     ensures flushed { OnOk result (IsFlushedBehind writer.new) }
     // After a fault of the writer a prefix of that text was written.
     ensures prefix { IsErrOf result RunFault.Write → (sources : List (List ℕ)) → Tell (λ r. R.remaining (device_of r)) readers.old sources
-        → (status : Status) × (text : List ℕ) × IsPlanRun sources status text × WritesPrefix (W.contents (device_of writer.old)) (W.contents (device_of writer.new)) text }
+        → (status : Status) × (text : List ℕ) × IsPlanRun sources status text
+        × WritesPrefix (W.contents (device_of writer.old)) (W.contents (device_of writer.new)) text }
     // After every other fault nothing was written.
     ensures nothing { OnErr result ((writer.new ≡ writer.old) ⊎ IsErrOf result RunFault.Write) }
 
@@ -42,7 +43,8 @@ pub fn run_plan<T: Threads, R: Read, W: Write>(
     // After a fault of a reader those before it were read so, and those behind it not at all.
     ensures stops { IsErrOf result RunFault.Read → StopsAtFault (λ r. R.remaining (device_of r)) readers.old readers.new }
     // Where memory ran out, all readers were read so, or reading stopped at one of them in the same way.
-    ensures in_order { IsErrOf result RunFault.Memory → AreReadUp (λ r. R.remaining (device_of r)) readers.old readers.new ⊎ Stops (λ r. R.remaining (device_of r)) readers.old readers.new }
+    ensures in_order { IsErrOf result RunFault.Memory → AreReadUp (λ r. R.remaining (device_of r)) readers.old readers.new ⊎ Stops (λ r.
+        R.remaining (device_of r)) readers.old readers.new }
 
     // Each reader is read at most so often, and no more after it failed; a failed read is answered.
     ensures within { All IsReadWithin readers.new }

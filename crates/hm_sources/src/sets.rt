@@ -1,5 +1,7 @@
 //! The modules of a set of sources, and their plan.
 ghost use Rattle.std.specs.Prelude.{◌≡◌, [], ◌++◌, ◌+◌, ◌<◌, ◌≤◌, ℕ, List, IfOk, IfErr, OnOk, length, map, string_bytes, take};
+ghost use Rattle.hm_lex.specs.Faults.{AreTokensOf};
+ghost use Rattle.hm_grammar.specs.Grammar.Modules.{Spells};
 ghost use Rattle.hm_graph.specs.Outline.{outlines};
 ghost use Rattle.hm_graph.specs.Imports.{IsImportPlan, IsLawful, imports_at, name_at};
 ghost use Rattle.hm_graph.specs.Refusal.{IsRefusal as IsPlanRefusal};
@@ -13,7 +15,7 @@ ghost use Rattle.hm_sources.specs.SourceModules.{AreModulesOf, HasModules};
 
 use crate::{SetFault, SetFaultKind};
 use hm_graph::{Plan, PlanFault};
-use hm_lex::LexFault;
+use hm_lex::{LexFault, Token};
 use hm_parse::ParseFault;
 use hm_syntax::{Header, Module};
 use std::alloc::{AllocError, Global};
@@ -33,6 +35,36 @@ fn refused(kind: SetFaultKind) -> SetError
     SetError::Refused(SetFault { kind })
 }
 
+/// The tokens of the source with this number.
+pub fn source_tokens(alloc: Global, source: usize, text: &[u8]) -> Result<Vec<Token>, SetError>
+    ensures ok { IfOk result (λ tokens. AreTokensOf text.now tokens.items) }
+    ensures err { IfErr result (λ e. IsSourceError source text.now e) }
+{
+    match hm_lex::lex(alloc, text) {
+        Ok(tokens) => Ok(tokens),
+        Err(LexFault::Memory) => Err(SetError::Memory),
+        Err(fault) => Err(refused(SetFaultKind::Lex { source, fault })),
+    }
+}
+
+/// The modules that the tokens of the source with this number spell.
+pub fn spelled_modules(
+    alloc: Global,
+    source: usize,
+    text: &[u8],
+    tokens: &[Token],
+) -> Result<Vec<Module>, SetError>
+    requires { AreTokensOf text.now tokens.now }
+    ensures ok { IfOk result (λ modules. Spells modules.items text.now tokens.now) }
+    ensures err { IfErr result (λ e. IsSourceError source text.now e) }
+{
+    match hm_parse::parse(alloc, text, tokens) {
+        Ok(modules) => Ok(modules),
+        Err(ParseFault::Memory) => Err(SetError::Memory),
+        Err(fault) => Err(refused(SetFaultKind::Parse { source, fault })),
+    }
+}
+
 /// Appends one source's modules.
 pub(crate) fn add_modules(
     alloc: Global,
@@ -44,15 +76,13 @@ pub(crate) fn add_modules(
         × (modules.new.items ≡ modules.old.items ++ first)) }
     ensures err { IfErr result (λ e. IsSourceError source text.now e) }
 {
-    let tokens = match hm_lex::lex(alloc, text) {
+    let tokens = match source_tokens(alloc, source, text) {
         Ok(tokens) => tokens,
-        Err(LexFault::Memory) => return Err(SetError::Memory),
-        Err(fault) => return Err(refused(SetFaultKind::Lex { source, fault })),
+        Err(fault) => return Err(fault),
     };
-    let parsed = match hm_parse::parse(alloc, text, tokens.as_slice()) {
+    let parsed = match spelled_modules(alloc, source, text, tokens.as_slice()) {
         Ok(parsed) => parsed,
-        Err(ParseFault::Memory) => return Err(SetError::Memory),
-        Err(fault) => return Err(refused(SetFaultKind::Parse { source, fault })),
+        Err(fault) => return Err(fault),
     };
     for module in parsed {
         modules.push(module).map_err(|_| SetError::Memory)?;

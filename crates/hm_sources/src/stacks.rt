@@ -33,11 +33,16 @@ fn longest(sources: &[Vec<u8>]) -> usize {
     longest
 }
 
-/// How many bytes of stack work on these sources has.
-pub fn stack_size(sources: &[Vec<u8>]) -> usize {
-    longest(sources)
+/// How many bytes of stack work has on a source, or a part of one, of so many bytes.
+pub fn stack_for(bytes: usize) -> usize {
+    bytes
         .saturating_mul(STACK_PER_BYTE)
         .saturating_add(LEAST_STACK)
+}
+
+/// How many bytes of stack work on these sources has.
+pub fn stack_size(sources: &[Vec<u8>]) -> usize {
+    stack_for(longest(sources))
 }
 
 /// How many bytes of stack a worker has that checks modules of these sources.

@@ -3,13 +3,13 @@ use Rattle.std.specs.Prelude.{◌≡◌, List, ◌∷◌, Bool, true, false, Opt
 use Rattle.hm_syntax.specs.Names.{Identifier}
 use Rattle.hm_syntax.specs.declared.ast.Export.{Export}
 use Rattle.hm_syntax.specs.declared.ast.Export.TheVariants as exports
-use Rattle.hm_syntax.specs.declared.ast.Subs.{Subs}
-use Rattle.hm_syntax.specs.declared.ast.Subs.TheVariants as subs
+use Rattle.hm_syntax.specs.declared.ast.SubItems.{SubItems}
+use Rattle.hm_syntax.specs.declared.ast.SubItems.TheVariants as subs
 use Rattle.hm_syntax.specs.declared.ast.Import.{Import}
-use Rattle.hm_syntax.specs.declared.ast.List.{List as ImportList}
-use Rattle.hm_syntax.specs.declared.ast.List.TheVariants as lists
-use Rattle.hm_syntax.specs.declared.ast.Item.{Item}
-use Rattle.hm_syntax.specs.declared.ast.Item.TheVariants as items
+use Rattle.hm_syntax.specs.declared.ast.ImportList.{ImportList}
+use Rattle.hm_syntax.specs.declared.ast.ImportList.TheVariants as lists
+use Rattle.hm_syntax.specs.declared.ast.ImportItem.{ImportItem}
+use Rattle.hm_syntax.specs.declared.ast.ImportItem.TheVariants as items
 use Rattle.hm_grammar.specs.declared.symbol.Symbol.TheVariants.{Dots, Open, Close, Import as ImportWord, Module as ModuleWord, Var, Con}
 use Rattle.hm_grammar.specs.Tokens.{Terminal, name_of, modid_of}
 use Rattle.hm_grammar.specs.Grammar.Marks.{IsQvar, IsQcon, IsWord, Row, Listed}
@@ -19,7 +19,7 @@ pub data ConName : Identifier → List Terminal → List Terminal → Type 0 whe
   con_name : {k : Terminal} {rest : List Terminal} → k.symbol ≡ Con → ConName (name_of k) (k ∷ rest) rest
 
 -- [subs], where subs = '(' '..' ')' | '(' [con {',' con}*] ')'
-pub data MaySubs : Subs → List Terminal → List Terminal → Type 0 where
+pub data MaySubs : SubItems → List Terminal → List Terminal → Type 0 where
   no_subs : {ts : List Terminal} → MaySubs subs.None ts ts
   subs_all : {k d m : Terminal} {rest : List Terminal} → k.symbol ≡ Open → d.symbol ≡ Dots → m.symbol ≡ Close → MaySubs subs.All (k ∷ d ∷ m ∷ rest) rest
   subs_some : {ns : List Identifier} {k m : Terminal} {us rest : List Terminal} →
@@ -28,7 +28,7 @@ pub data MaySubs : Subs → List Terminal → List Terminal → Type 0 where
 -- export = qvar | qtycon [subs] | 'module' modid
 pub data Export' : Export → List Terminal → List Terminal → Type 0 where
   export_var : {k : Terminal} {rest : List Terminal} → IsQvar k → Export' (exports.Var (name_of k)) (k ∷ rest) rest
-  export_con : {s : Subs} {k : Terminal} {us rest : List Terminal} → IsQcon k → MaySubs s us rest → Export' (exports.Con (name_of k) s) (k ∷ us) rest
+  export_con : {s : SubItems} {k : Terminal} {us rest : List Terminal} → IsQcon k → MaySubs s us rest → Export' (exports.Con (name_of k) s) (k ∷ us) rest
   export_whole : {k n : Terminal} {rest : List Terminal} → k.symbol ≡ ModuleWord → IsQcon n → Export' (exports.Whole (modid_of n)) (k ∷ n ∷ rest) rest
 
 -- [exports], where exports = '(' [export {',' export}*] [','] ')'
@@ -38,9 +38,9 @@ pub data MayExports : Option (List Export) → List Terminal → List Terminal �
 
 -- item = var | tycon [subs]
 -- In hiding, a tycon alone may be a con: both are spelled alike, and the tree doesn't tell which is meant.
-pub data Item' : Item → List Terminal → List Terminal → Type 0 where
+pub data Item' : ImportItem → List Terminal → List Terminal → Type 0 where
   item_var : {k : Terminal} {rest : List Terminal} → k.symbol ≡ Var → Item' (items.Var (name_of k)) (k ∷ rest) rest
-  item_con : {s : Subs} {k : Terminal} {us rest : List Terminal} → k.symbol ≡ Con → MaySubs s us rest → Item' (items.Con (name_of k) s) (k ∷ us) rest
+  item_con : {s : SubItems} {k : Terminal} {us rest : List Terminal} → k.symbol ≡ Con → MaySubs s us rest → Item' (items.Con (name_of k) s) (k ∷ us) rest
 
 -- ['qualified']
 pub data MayQualified : Bool → List Terminal → List Terminal → Type 0 where
@@ -55,8 +55,8 @@ pub data MayAlias : Option Identifier → List Terminal → List Terminal → Ty
 -- [['hiding'] '(' [item {',' item}*] [','] ')']
 pub data MayList : ImportList → List Terminal → List Terminal → Type 0 where
   every : {ts : List Terminal} → MayList lists.Every ts ts
-  only : {is : List Item} {ts rest : List Terminal} → Listed Item' is ts rest → MayList (lists.Only is) ts rest
-  hiding : {is : List Item} {k : Terminal} {us rest : List Terminal} → IsWord (codes "hiding") k → Listed Item' is us rest → MayList (lists.Hiding is) (k ∷ us) rest
+  only : {is : List ImportItem} {ts rest : List Terminal} → Listed Item' is ts rest → MayList (lists.Only is) ts rest
+  hiding : {is : List ImportItem} {k : Terminal} {us rest : List Terminal} → IsWord (codes "hiding") k → Listed Item' is us rest → MayList (lists.Hiding is) (k ∷ us) rest
 
 -- import = 'import' ['qualified'] modid ['as' modid] [['hiding'] '(' [item {',' item}*] [','] ')']
 pub data Import' : Import → List Terminal → List Terminal → Type 0 where

@@ -3,13 +3,13 @@ use Rattle.std.specs.Prelude.{List, [], ◌∷◌, Bool, true, false, Option, So
 use Rattle.hm_syntax.specs.Names.{Identifier}
 use Rattle.hm_syntax.specs.declared.ast.Export.{Export}
 use Rattle.hm_syntax.specs.declared.ast.Export.TheVariants as exports
-use Rattle.hm_syntax.specs.declared.ast.Subs.{Subs}
-use Rattle.hm_syntax.specs.declared.ast.Subs.TheVariants as subs
+use Rattle.hm_syntax.specs.declared.ast.SubItems.{SubItems}
+use Rattle.hm_syntax.specs.declared.ast.SubItems.TheVariants as subs
 use Rattle.hm_syntax.specs.declared.ast.Import.{Import}
-use Rattle.hm_syntax.specs.declared.ast.List.{List as ImportList}
-use Rattle.hm_syntax.specs.declared.ast.List.TheVariants as lists
-use Rattle.hm_syntax.specs.declared.ast.Item.{Item}
-use Rattle.hm_syntax.specs.declared.ast.Item.TheVariants as items
+use Rattle.hm_syntax.specs.declared.ast.ImportList.{ImportList}
+use Rattle.hm_syntax.specs.declared.ast.ImportList.TheVariants as lists
+use Rattle.hm_syntax.specs.declared.ast.ImportItem.{ImportItem}
+use Rattle.hm_syntax.specs.declared.ast.ImportItem.TheVariants as items
 use Rattle.hm_grammar.specs.declared.symbol.Symbol.{Symbol}
 use Rattle.hm_grammar.specs.declared.symbol.Symbol.TheVariants.{Dots, Open, Close, Comma, Semicolon, RightBrace, Import as ImportWord, Module as ModuleWord, Var, Con, QVar, QCon}
 use Rattle.hm_grammar.specs.Tokens.{Terminal}
@@ -32,7 +32,7 @@ con_row ts = do
   behind (n.0 ∷ []) (loop next_con n.1)
 
 -- what follows `(`
-unfoldable pub subs_in : Reader Subs
+unfoldable pub subs_in : Reader SubItems
 subs_in ts = if is_at Dots ts then (do
   us ← expect Close (tail ts)
   Some (subs.All, us))
@@ -42,7 +42,7 @@ subs_in ts = if is_at Dots ts then (do
       us ← expect Close ns.1
       Some (subs.Some ns.0, us))
 
-unfoldable pub subs_at : Reader Subs
+unfoldable pub subs_at : Reader SubItems
 subs_at ts = if is_at Open ts then subs_in (tail ts) else Some (subs.None, ts)
 
 abbrev pub export_by : Symbol → Reader Export
@@ -68,7 +68,7 @@ export_by _ ts = None
 unfoldable pub export_at : Reader Export
 export_at ts = export_by (peek ts) ts
 
-abbrev pub item_by : Symbol → Reader Item
+abbrev pub item_by : Symbol → Reader ImportItem
 item_by Var ts = do
   n ← name_at ts
   Some (items.Var n.0, n.1)
@@ -78,7 +78,7 @@ item_by Con ts = do
   Some (items.Con n.0 s.0, s.1)
 item_by _ ts = None
 
-unfoldable pub item_at : Reader Item
+unfoldable pub item_at : Reader ImportItem
 item_at ts = item_by (peek ts) ts
 
 -- one more thing of a list, with the comma behind it; or the list's end
@@ -92,7 +92,7 @@ next_listed one ts = if is_at Close ts then Some (None, tail ts)
 unfoldable pub next_export : Reader (Option Export)
 next_export ts = next_listed export_at ts
 
-unfoldable pub next_item : Reader (Option Item)
+unfoldable pub next_item : Reader (Option ImportItem)
 next_item ts = next_listed item_at ts
 
 -- what follows `(`; where nothing is listed a comma may still stand
@@ -106,7 +106,7 @@ listed_in next ts = if is_at Comma ts
 unfoldable pub exports_in : Reader (List Export)
 exports_in ts = listed_in next_export ts
 
-unfoldable pub items_in : Reader (List Item)
+unfoldable pub items_in : Reader (List ImportItem)
 items_in ts = listed_in next_item ts
 
 unfoldable pub exports_at : Reader (Option (List Export))

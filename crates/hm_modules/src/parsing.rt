@@ -1,0 +1,109 @@
+//! The modules of one source, whose tokens several threads parse.
+ghost use Rattle.std.specs.Prelude.{◌≡◌, ◌<◌, ◌≤◌, All, IfErr, IfOk, IfSome, length};
+ghost use Rattle.hm_lex.specs.Faults.{AreTokensOf};
+ghost use Rattle.hm_lex.specs.Texts.{LiesIn};
+ghost use Rattle.hm_grammar.specs.Grammar.Modules.{Spells};
+ghost use Rattle.hm_sources.specs.Errors.{IsSourceError};
+ghost use Rattle.hm_sources.specs.SourceModules.{HasModules};
+
+use crate::runs::{Run, bytes_of_run, joined_runs, run_end};
+use core::thread::Stack;
+use hm_lex::Token;
+use hm_lex::laws::token_texts;
+use hm_parse::parse_run;
+use hm_sources::{SetError, source_tokens, spelled_modules, stack_for};
+use hm_syntax::Module;
+use std::alloc::{AllocError, Global};
+use std::sync::Wait;
+use std::thread;
+use std::thread::{Scope, Threads};
+
+/// The modules of a run, by this thread.
+fn parsed(alloc: Global, run: Run<'_>) -> Result<Option<Vec<Module>>, AllocError>
+    requires { All (LiesIn run.text.now) run.tokens.now }
+    ensures { IfOk result (λ found. IfSome found (λ modules. Spells modules.items run.entry.text.now run.entry.tokens.now)) }
+{
+    parse_run(alloc, run.text, run.tokens)
+}
+
+/// The modules of the rest of the tokens. A run of at least so many at its front is another thread's, where one can be started, while this one
+/// goes on behind it.
+fn parsed_by_threads<'s, E, R: Threads>(
+    rt: &R,
+    scope: &Scope<'s, E>,
+    alloc: Global,
+    rest: Run<'s>,
+    least: usize,
+) -> Result<Option<Vec<Module>>, AllocError>
+    requires { All (LiesIn rest.text.now) rest.tokens.now }
+    ensures { IfOk result (λ found. IfSome found (λ modules. Spells modules.items rest.entry.text.now rest.entry.tokens.now)) }
+{
+    let end = run_end(rest, least);
+    if end >= rest.tokens.len() {
+        return parsed(alloc, rest);
+    }
+    let (first, later) = rest.tokens.split_at(end);
+    let front = Run {
+        text: rest.text,
+        tokens: first,
+    };
+    let behind = Run {
+        text: rest.text,
+        tokens: later,
+    };
+    let thread = Stack::new().stack_size(stack_for(bytes_of_run(front)));
+    let work = move ||
+        requires { All (LiesIn front.text.now) front.tokens.now }
+    { parsed(alloc, front) };
+    let begun = thread.spawn_scoped_with(scope, front, work);
+    let later = parsed_by_threads(rt, scope, alloc, behind, least);
+    match begun {
+        Ok(thread) => joined_runs(thread.join(rt), later),
+        Err(_) => joined_runs(parsed(alloc, front), later),
+    }
+}
+
+/// The modules that the tokens of a source spell, cut into as many runs as there are threads; none where a run spells none.
+fn parsed_in_runs<T: Threads + Wait + Sync>(
+    rt: &T,
+    alloc: Global,
+    text: &[u8],
+    tokens: &[Token],
+    threads: usize,
+) -> Result<Option<Vec<Module>>, AllocError>
+    requires { All (LiesIn text.now) tokens.now }
+    ensures { IfOk result (λ found. IfSome found (λ modules. Spells modules.items text.now tokens.now)) }
+{
+    let least = (tokens.len() / threads.max(1)).saturating_add(1);
+    thread::scope(
+        thread::scope_env(),
+        rt,
+        |scope| -> Result<Option<Vec<Module>>, AllocError>
+            requires { All (LiesIn text.now) tokens.now }
+            ensures { IfOk result (λ found. IfSome found (λ modules. Spells modules.items text.entry.now tokens.entry.now)) }
+        { parsed_by_threads(rt, scope, alloc, Run { text, tokens }, least) },
+    )
+}
+
+/// The modules of the only source of a set. Where a run spells none, as one does that a fault stands in, all tokens are parsed by this thread, so
+/// what is told of a fault is what `parse` tells.
+pub(crate) fn modules_of<T: Threads + Wait + Sync>(
+    rt: &T,
+    alloc: Global,
+    text: &[u8],
+    threads: usize,
+) -> Result<Vec<Module>, SetError>
+    ensures ok { IfOk result (λ modules. HasModules text.now modules.items) }
+    ensures err { IfErr result (IsSourceError 1 text.now) }
+{
+    token_texts();
+    let tokens = match source_tokens(alloc, 1, text) {
+        Ok(tokens) => tokens,
+        Err(fault) => return Err(fault),
+    };
+    match parsed_in_runs(rt, alloc, text, tokens.as_slice(), threads) {
+        Ok(Some(modules)) => Ok(modules),
+        Ok(None) => spelled_modules(alloc, 1, text, tokens.as_slice()),
+        Err(AllocError) => Err(SetError::Memory),
+    }
+}
