@@ -24,7 +24,7 @@ use Rattle.hm_outcomes.specs.contracts.outcome.Verdict as Verdict
 use Rattle.hm_outcomes.specs.contracts.outcome.Outcome as Outcome
 use Rattle.hm_store.specs.contracts.record.Call as Call
 use Rattle.hm_store.specs.contracts.record.Act as Act
-use Rattle.hm_store.specs.contracts.record.Pass as Pass
+use Rattle.hm_shared.specs.contracts.passes.Pass as Pass
 use Rattle.hm_store.specs.contracts.record.Record as Record
 use Rattle.hm_store.specs.contracts.store.Store as Store
 use Rattle.hm_shared.specs.contracts.shared.Shared as Shared

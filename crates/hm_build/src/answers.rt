@@ -4,8 +4,9 @@ ghost use Rattle.hm_telling.specs.Explained.{IsExplained};
 ghost use Rattle.hm_telling.specs.JournalledRuns.{IsRun};
 
 use crate::building::build_here;
+use crate::dropping::drop_by_threads;
 use crate::{BuildFault, Open};
-use hm_sources::RunFault;
+use hm_sources::{RunFault, stack_size};
 use hm_telling::{Explained, Wanted, finished_explained, refused_explained};
 use std::alloc::Global;
 use std::sync::Wait;
@@ -19,12 +20,20 @@ pub(crate) fn build_answer<'a, T: Threads + Wait + Sync>(
     wanted: &'a Wanted,
 ) -> Result<Explained, RunFault>
     requires { (0 < wanted.now.options.workers) × (wanted.now.options.workers ≤ 16) }
-    ensures ok { IfOk result (λ a. IsRun wanted.now.options.workers wanted.now.options.journal (map (λ s. s.items) sources.now) a.answer.status (string_bytes a.answer.text)) }
-    ensures told { IfOk result (λ a. IfSome wanted.now.explain (λ e. IsExplained e.paint (map (λ s. s.items) e.names.items) (map (λ s. s.items) sources.now) a.answer.status (string_bytes a.answer.text) a.messages.items)) }
+    ensures ok { IfOk result (λ a. IsRun wanted.now.options.workers wanted.now.options.journal (map (λ s.
+        s.items) sources.now) a.answer.status (string_bytes a.answer.text)) }
+    ensures told { IfOk result (λ a. IfSome wanted.now.explain (λ e.
+        IsExplained e.paint (map (λ s. s.items) e.names.items) (map (λ s.
+        s.items) sources.now) a.answer.status (string_bytes a.answer.text) a.messages.items)) }
     ensures err { IfErr result (λ e. (e ≡ RunFault.Memory) ⊎ ((e ≡ RunFault.NoWorker) ⊎ (e ≡ RunFault.Mixed))) }
 {
     match build_here(rt, alloc, sources, wanted.options.workers, &Open) {
-        Ok(finished) => Ok(finished_explained(alloc, &finished.store, sources, wanted)?),
+        Ok(finished) => {
+            let explained = finished_explained(alloc, &finished.store, sources, wanted)?;
+            let workers = wanted.options.workers;
+            drop_by_threads(rt, alloc, finished, workers, stack_size(sources));
+            Ok(explained)
+        }
         Err(BuildFault::Refused(fault)) => Ok(refused_explained(alloc, sources, &fault, wanted)?),
         Err(BuildFault::Workers) => unreachable!(),
         Err(BuildFault::NoWorker) => Err(RunFault::NoWorker),

@@ -17,10 +17,10 @@ use hm_graph::Plan;
 use hm_modules::set_modules_by;
 use hm_published::{Naming, Opened};
 use hm_reports::may_work;
-use hm_shared::{Brands, Shared};
+use hm_shared::{Brands, Crew, Shared};
 use hm_sources::{SetError, depth_limit, stack_size, worker_stack_size};
+use hm_store::Store;
 use hm_store::laws::settled_builds_are_settled_sets;
-use hm_store::{Crew, Store};
 use hm_syntax::Module;
 use hm_verdicts::settled_modules_have_their_verdicts;
 use std::alloc::{AllocError, Global};
@@ -59,7 +59,10 @@ fn shared_modules(alloc: Global, modules: Vec<Module>) -> Result<Vec<Arc<Module>
 }
 
 /// The same modules once more. No tree is copied.
-fn lend_all(alloc: Global, modules: &[Arc<Module>]) -> Result<Vec<Arc<Module>>, AllocError>
+pub(crate) fn lend_all(
+    alloc: Global,
+    modules: &[Arc<Module>],
+) -> Result<Vec<Arc<Module>>, AllocError>
     ensures { IfOk result (λ lent. map arc_value lent.items ≡ map arc_value modules.now) }
 {
     let mut lent = Vec::new(alloc);
@@ -141,7 +144,8 @@ fn worked<L: Ledger + Naming + Send + Sync, G: Gate + Sync, R: Threads + Wait + 
     requires plan { fresh.store.given.imports ≡ L.plan }
     requires workers { (0 < task.now.workers) × (task.now.workers ≤ 16) }
     requires empty { fresh.store.journal ≡ [] }
-    ensures finished { IfOk result (λ f. (sources : List (List ℕ)) → AreModulesOf sources (map arc_value fresh.modules.items) → IsFinished sources task.now.workers f.store f.records.items) }
+    ensures finished { IfOk result (λ f. (sources : List (List ℕ)) → AreModulesOf sources (map arc_value fresh.modules.items)
+        → IsFinished sources task.now.workers f.store f.records.items) }
     ensures err { IfErr result (λ e. (e ≡ BuildFault.NoWorker) ⊎ ((e ≡ BuildFault.Memory) ⊎ (e ≡ BuildFault.Mixed))) }
 {
     let Fresh {

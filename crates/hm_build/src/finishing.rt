@@ -6,7 +6,8 @@ ghost use Rattle.hm_sources.specs.SourceModules.{AreModulesOf};
 use crate::{BuildFault, Finished};
 use hm_published::Naming;
 use hm_reports::has_ended;
-use hm_store::{Pass, Record, Store};
+use hm_shared::Pass;
+use hm_store::{Record, Store};
 use std::alloc::{AllocError, Global};
 use std::sync::ledger::{Book, Ledger};
 

@@ -3,6 +3,7 @@
 
 mod answers;
 mod building;
+mod dropping;
 mod explained_runs;
 mod faults;
 mod finished_build;
@@ -16,10 +17,10 @@ mod texts;
 mod workers;
 
 pub use building::build;
-pub use explained_runs::run_explained;
+pub use explained_runs::{Outputs, run_explained};
 pub use faults::BuildFault;
 pub use finished_build::Finished;
 pub use gate::{Gate, Open};
-pub use hm_telling::{Explain, Options};
+pub use hm_telling::{Explain, Explaining, Options};
 pub use running::run;
 pub use texts::{journal_text, report};

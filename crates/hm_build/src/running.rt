@@ -29,12 +29,14 @@ pub fn run<T: Threads + Wait + Sync, R: Read, W: Write>(
 
     // Where the readers and the writer tell their bytes, the report of the verdicts or the refusal is written, and nothing else.
     ensures ok { IfOk result (λ status. (sources : List (List ℕ)) → Tell (λ r. R.remaining (device_of r)) readers.old sources
-        → (text : List ℕ) × IsRun options.workers options.journal sources status text × Appends (W.contents (device_of writer.old)) (W.contents (device_of writer.new)) text) }
+        → (text : List ℕ) × IsRun options.workers options.journal sources status text
+        × Appends (W.contents (device_of writer.old)) (W.contents (device_of writer.new)) text) }
     // The writer was flushed once, behind it.
     ensures flushed { OnOk result (IsFlushedBehind writer.new) }
     // After a fault of the writer a prefix of that text was written.
     ensures prefix { IsErrOf result RunFault.Write → (sources : List (List ℕ)) → Tell (λ r. R.remaining (device_of r)) readers.old sources
-        → (status : Status) × (text : List ℕ) × IsRun options.workers options.journal sources status text × WritesPrefix (W.contents (device_of writer.old)) (W.contents (device_of writer.new)) text }
+        → (status : Status) × (text : List ℕ) × IsRun options.workers options.journal sources status text
+        × WritesPrefix (W.contents (device_of writer.old)) (W.contents (device_of writer.new)) text }
     // After every other fault nothing was written.
     ensures nothing { OnErr result ((writer.new ≡ writer.old) ⊎ IsErrOf result RunFault.Write) }
 
@@ -44,11 +46,13 @@ pub fn run<T: Threads + Wait + Sync, R: Read, W: Write>(
     ensures read_up { OnOk result (AreReadUp (λ r. R.remaining (device_of r)) readers.old readers.new) }
     ensures read_up_before_a_write { IsErrOf result RunFault.Write → AreReadUp (λ r. R.remaining (device_of r)) readers.old readers.new }
     // And where a build was begun.
-    ensures read_up_before_a_build { (IsErrOf result RunFault.NoWorker ⊎ IsErrOf result RunFault.Mixed) → AreReadUp (λ r. R.remaining (device_of r)) readers.old readers.new }
+    ensures read_up_before_a_build { (IsErrOf result RunFault.NoWorker ⊎ IsErrOf result RunFault.Mixed)
+        → AreReadUp (λ r. R.remaining (device_of r)) readers.old readers.new }
     // After a fault of a reader those before it were read so, and those behind it not at all.
     ensures stops { IsErrOf result RunFault.Read → StopsAtFault (λ r. R.remaining (device_of r)) readers.old readers.new }
     // Where memory ran out, all readers were read so, or reading stopped at one of them in the same way.
-    ensures in_order { IsErrOf result RunFault.Memory → AreReadUp (λ r. R.remaining (device_of r)) readers.old readers.new ⊎ Stops (λ r. R.remaining (device_of r)) readers.old readers.new }
+    ensures in_order { IsErrOf result RunFault.Memory → AreReadUp (λ r. R.remaining (device_of r)) readers.old readers.new ⊎ Stops (λ r.
+        R.remaining (device_of r)) readers.old readers.new }
 
     // Each reader is read at most so often, and no more after it failed; a failed read is answered.
     ensures within { All IsReadWithin readers.new }
@@ -62,7 +66,8 @@ pub fn run<T: Threads + Wait + Sync, R: Read, W: Write>(
     ensures workers { IsErrOf result RunFault.Workers ↔ ((options.workers ≡ 0) ⊎ (16 < options.workers)) }
     ensures read { IsErrOf result RunFault.Read → Any HasReadFault readers.new }
     ensures write { IsErrOf result RunFault.Write → HasWriteFault writer.new }
-    ensures others { IfErr result (λ e. (e ≡ RunFault.Workers) ⊎ ((e ≡ RunFault.Read) ⊎ ((e ≡ RunFault.Write) ⊎ ((e ≡ RunFault.Memory) ⊎ ((e ≡ RunFault.NoWorker) ⊎ (e ≡ RunFault.Mixed)))))) }
+    ensures others { IfErr result (λ e. (e ≡ RunFault.Workers)
+        ⊎ ((e ≡ RunFault.Read) ⊎ ((e ≡ RunFault.Write) ⊎ ((e ≡ RunFault.Memory) ⊎ ((e ≡ RunFault.NoWorker) ⊎ (e ≡ RunFault.Mixed)))))) }
 {
     let explain = None;
     let explained = read_and_check(rt, alloc, readers, Wanted { options, explain })?;

@@ -37,8 +37,11 @@ pub(crate) fn build_answer_on_thread<T: Threads + Wait + Sync>(
     wanted: Wanted,
 ) -> Result<Explained, RunFault>
     requires { (0 < wanted.options.workers) × (wanted.options.workers ≤ 16) }
-    ensures ok { IfOk result (λ a. IsRun wanted.options.workers wanted.options.journal (map (λ s. s.items) sources.items) a.answer.status (string_bytes a.answer.text)) }
-    ensures told { IfOk result (λ a. IfSome wanted.explain (λ e. IsExplained e.paint (map (λ s. s.items) e.names.items) (map (λ s. s.items) sources.items) a.answer.status (string_bytes a.answer.text) a.messages.items)) }
+    ensures ok { IfOk result (λ a. IsRun wanted.options.workers wanted.options.journal (map (λ s.
+        s.items) sources.items) a.answer.status (string_bytes a.answer.text)) }
+    ensures told { IfOk result (λ a. IfSome wanted.explain (λ e.
+        IsExplained e.paint (map (λ s. s.items) e.names.items) (map (λ s.
+        s.items) sources.items) a.answer.status (string_bytes a.answer.text) a.messages.items)) }
     ensures err { IfErr result (λ e. (e ≡ RunFault.Memory) ⊎ ((e ≡ RunFault.NoWorker) ⊎ (e ≡ RunFault.Mixed))) }
 {
     thread::scope(
@@ -46,8 +49,11 @@ pub(crate) fn build_answer_on_thread<T: Threads + Wait + Sync>(
         rt,
         move |scope| -> Result<Explained, RunFault>
             requires { (0 < wanted.options.workers) × (wanted.options.workers ≤ 16) }
-            ensures ok { IfOk result (λ a. IsRun wanted.options.workers wanted.options.journal (map (λ s. s.items) sources.items) a.answer.status (string_bytes a.answer.text)) }
-            ensures told { IfOk result (λ a. IfSome wanted.explain (λ e. IsExplained e.paint (map (λ s. s.items) e.names.items) (map (λ s. s.items) sources.items) a.answer.status (string_bytes a.answer.text) a.messages.items)) }
+            ensures ok { IfOk result (λ a. IsRun wanted.options.workers wanted.options.journal (map (λ s.
+                s.items) sources.items) a.answer.status (string_bytes a.answer.text)) }
+            ensures told { IfOk result (λ a. IfSome wanted.explain (λ e.
+                IsExplained e.paint (map (λ s. s.items) e.names.items) (map (λ s.
+                s.items) sources.items) a.answer.status (string_bytes a.answer.text) a.messages.items)) }
             ensures err { IfErr result (λ e. (e ≡ RunFault.Memory) ⊎ ((e ≡ RunFault.NoWorker) ⊎ (e ≡ RunFault.Mixed))) }
         {
             let promise = RunOf {

@@ -72,7 +72,8 @@ fn message_at(
     spot: Spot,
     topic: &Topic<'_>,
 ) -> Result<Vec<u8>, MessageFault>
-    ensures { IfOk result (λ text. IsMessageAt pages.now.paint (files_in pages.now.items.items) (texts_in pages.now.items.items) spot.source spot.place (subject_of topic.now) text.items) }
+    ensures { IfOk result (λ text. IsMessageAt pages.now.paint (files_in pages.now.items.items) (texts_in pages.now.items.items) spot.source
+        spot.place (subject_of topic.now) text.items) }
 {
     if spot.source >= pages.items.len() {
         return Err(MessageFault::Place);
@@ -88,7 +89,8 @@ fn spot_messages(
     spot: Option<Spot>,
     topic: &Topic<'_>,
 ) -> Result<Vec<u8>, MessageFault>
-    ensures { IfOk result (λ text. AreMessagesOf pages.now.paint (files_in pages.now.items.items) (texts_in pages.now.items.items) (subject_of topic.now) text.items) }
+    ensures { IfOk result (λ text. AreMessagesOf pages.now.paint (files_in pages.now.items.items) (texts_in pages.now.items.items)
+        (subject_of topic.now) text.items) }
 {
     match spot {
         Some(spot) => Ok(message_at(alloc, pages, spot, topic)?),
@@ -103,7 +105,8 @@ fn lex_messages(
     source: usize,
     fault: LexFault,
 ) -> Result<Vec<u8>, MessageFault>
-    ensures { IfOk result (λ text. AreMessagesOf pages.now.paint (files_in pages.now.items.items) (texts_in pages.now.items.items) (refused_subject (lex source fault)) text.items) }
+    ensures { IfOk result (λ text. AreMessagesOf pages.now.paint (files_in pages.now.items.items) (texts_in pages.now.items.items)
+        (refused_subject (lex source fault)) text.items) }
 {
     let spot = lex_spot(source, fault);
     match fault {
@@ -155,7 +158,8 @@ fn cycle_messages(
     start: usize,
     name: &str,
 ) -> Result<Vec<u8>, MessageFault>
-    ensures { IfOk result (λ text. AreMessagesOf pages.now.paint (files_in pages.now.items.items) (texts_in pages.now.items.items) (refused_subject (plan (PlanReason.Cycle start) name.now [])) text.items) }
+    ensures { IfOk result (λ text. AreMessagesOf pages.now.paint (files_in pages.now.items.items) (texts_in pages.now.items.items)
+        (refused_subject (plan (PlanReason.Cycle start) name.now [])) text.items) }
 {
     let steps = cycle_of(alloc, located, start)?;
     let Some(first) = steps.first() else {
@@ -218,7 +222,8 @@ fn set_messages(
     sources: &[Vec<u8>],
     fault: &SetFault,
 ) -> Result<Vec<u8>, MessageFault>
-    ensures { IfOk result (λ text. AreMessagesOf pages.now.paint (files_in pages.now.items.items) (texts_in pages.now.items.items) (refused_subject fault.now) text.items) }
+    ensures { IfOk result (λ text. AreMessagesOf pages.now.paint (files_in pages.now.items.items) (texts_in pages.now.items.items)
+        (refused_subject fault.now) text.items) }
 {
     match &fault.kind {
         SetFaultKind::Lex { source, fault } => Ok(lex_messages(alloc, pages, *source, *fault)?),

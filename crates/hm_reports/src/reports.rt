@@ -124,7 +124,8 @@ fn block_text(
     requires lawful { IsLawfulSet (module_set modules.now plan.now) }
     requires len { length settled.now ≡ length modules.now }
     requires number { number < length modules.now }
-    ensures { IfOk result (λ text. IsBlockText (module_set modules.now plan.now) (statuses_of settled.now) number (string_bytes text) (statuses_of settled.now number)) }
+    ensures { IfOk result (λ text. IsBlockText (module_set modules.now plan.now) (statuses_of settled.now) number (string_bytes text)
+        (statuses_of settled.now number)) }
 {
     let name = modules[number].header.name.as_str();
     match &settled[number] {

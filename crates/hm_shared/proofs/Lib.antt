@@ -1,2 +1,4 @@
+pub mod Calls
+pub mod Dealt
 pub mod JobImports
 pub mod Listing

@@ -9,14 +9,16 @@ ghost use Rattle.left_right.specs.Handles.{published};
 ghost use Rattle.hm_store.specs.Builds.{after_claim, after_stop, state_of};
 ghost use Rattle.hm_shared.specs.Listings.{FailsIn, HasImports, Settled, one_way};
 ghost use Rattle.hm_store.specs.Objects.{reply_of};
-ghost use Rattle.hm_store.specs.Passes.{calls_of, room_of, seen_of, share_of, worker_of};
+ghost use Rattle.hm_shared.specs.Passes.{calls_of, room_of, seen_of, share_of, worker_of};
 ghost use Rattle.hm_store.specs.Records.{Adds, AddsAt, act_of, replied};
 ghost use Rattle.hm_store.specs.declared.record.Act.TheVariants.{Publish, Fail, Stop, Look};
 
+use crate::dealing::{Crew, SharedFault, deal};
 use crate::listed::Listed;
+use crate::passes::Pass;
 use hm_outcomes::Outcome;
 use hm_published::{LookFault, Naming, Opened, Published, Step, pages};
-use hm_store::{Act, Claimed, Crew, Pass, Refusal, SharedFault, Store, Turn, deal};
+use hm_store::{Act, Claimed, Refusal, Store, Turn};
 use hm_types::Interface;
 use left_right::{Absorb, WriteHandle};
 use std::alloc::Global;
@@ -59,7 +61,11 @@ impl<L: Ledger + Naming, R: Wait + Drop> Locked<L, R> {
     fn claim_next(&mut self, pass: &mut Pass<L>) -> Option<Turn>
         requires { 0 < room_of pass.old }
         ensures reply { replied result ≡ reply_of self.old.listed.build.given (state_of self.old.listed.build) }
-        ensures step { self.new.listed ≡ record { build = after_claim self.old.listed.build (worker_of pass.old) (replied result); published = self.old.listed.published } }
+        ensures step { self.new.listed ≡ record {
+          build = after_claim self.old.listed.build (worker_of pass.old) (replied result);
+          published =
+              self.old.listed.published;
+        } }
         ensures imports { IfSome result (λ t. HasImports L.plan t self.new.listed.published) }
         ensures none { IfNone result (pass.new ≡ pass.old) }
         ensures some { IfSome result (λ t. AddsAt (length self.old.listed.build.journal) (calls_of pass.old) (act_of t) (calls_of pass.new)) }
@@ -142,7 +148,11 @@ impl<L: Ledger + Naming, R: Wait + Drop> Locked<L, R> {
     fn stop_all(&mut self, pass: &mut Pass<L>) -> bool
         requires { 0 < room_of pass.old }
         ensures reply { result ≡ not (state_of self.old.listed.build).stopped }
-        ensures step { self.new.listed ≡ record { build = after_stop self.old.listed.build (worker_of pass.old) result; published = self.old.listed.published } }
+        ensures step { self.new.listed ≡ record {
+          build = after_stop self.old.listed.build (worker_of pass.old) result;
+          published =
+              self.old.listed.published;
+        } }
         ensures adds { AddsAt (length self.old.listed.build.journal) (calls_of pass.old) (Stop result) (calls_of pass.new) }
         ensures worker { worker_of pass.new ≡ worker_of pass.old }
         ensures room { room_of pass.new + 1 ≡ room_of pass.old }
@@ -164,7 +174,11 @@ impl<L: Ledger + Naming, R: Wait + Drop> Locked<L, R> {
     fn claim(&mut self, pass: &mut Pass<L>) -> Option<Turn>
         requires { 0 < room_of pass.old }
         ensures reply { replied result ≡ reply_of self.old.listed.build.given (state_of self.old.listed.build) }
-        ensures step { self.new.listed ≡ record { build = after_claim self.old.listed.build (worker_of pass.old) (replied result); published = self.old.listed.published } }
+        ensures step { self.new.listed ≡ record {
+          build = after_claim self.old.listed.build (worker_of pass.old) (replied result);
+          published =
+              self.old.listed.published;
+        } }
         ensures imports { IfSome result (λ t. HasImports L.plan t (seen_of pass.new)) }
         ensures none { IfNone result (pass.new ≡ pass.old) }
         ensures some { IfSome result (λ t. AddsAt (length self.old.listed.build.journal) (calls_of pass.old) (act_of t) (calls_of pass.new)) }
@@ -240,7 +254,11 @@ impl<L: Ledger + Naming, R: Wait + Drop> Locked<L, R> {
     fn stop(&mut self, pass: &mut Pass<L>) -> bool
         requires { 0 < room_of pass.old }
         ensures reply { result ≡ not (state_of self.old.listed.build).stopped }
-        ensures step { self.new.listed ≡ record { build = after_stop self.old.listed.build (worker_of pass.old) result; published = self.old.listed.published } }
+        ensures step { self.new.listed ≡ record {
+          build = after_stop self.old.listed.build (worker_of pass.old) result;
+          published =
+              self.old.listed.published;
+        } }
         ensures adds { AddsAt (length self.old.listed.build.journal) (calls_of pass.old) (Stop result) (calls_of pass.new) }
         ensures worker { worker_of pass.new ≡ worker_of pass.old }
         ensures room { room_of pass.new + 1 ≡ room_of pass.old }
@@ -259,7 +277,8 @@ pub fn meet<L: Ledger + Naming, R: Wait + Drop>(locked: &mut Locked<L, R>, pass:
     ensures kept { IsPrefix (seen_of pass.old) (seen_of pass.new) }
     ensures told { IsPrefix locked.old.listed.published (seen_of pass.new) }
     ensures lawful { IsLawful (seen_of pass.new) }
-    ensures record { (worker_of pass.new ≡ worker_of pass.old) × (calls_of pass.new ≡ calls_of pass.old) × (room_of pass.new ≡ room_of pass.old) × (share_of pass.new ≡ share_of pass.old) }
+    ensures record { (worker_of pass.new ≡ worker_of pass.old) × (calls_of pass.new ≡ calls_of pass.old) × (room_of pass.new ≡ room_of pass.old)
+        × (share_of pass.new ≡ share_of pass.old) }
     ensures same { locked.new ≡ locked.old }
 {
     pass.learn(locked.listed.front());
@@ -397,11 +416,13 @@ impl<L: Ledger + Naming, R: Wait + Drop> Shared<L, R> {
         requires { 0 < room_of pass.old }
         ensures list { IfOk result (λ _. IsPrefix (seen_of pass.old) (seen_of pass.new) × IsLawful (seen_of pass.new)) }
         ensures reply { IfOk result (λ r. option_map arc_value r ≡ interface_in (seen_of pass.new) number) }
-        ensures ok { IfOk result (λ r. (o : _) × (option_map arc_value o ≡ option_map arc_value r) × AddsAt (entries_of (seen_of pass.new)) (calls_of pass.old) (Look number o) (calls_of pass.new)) }
+        ensures ok { IfOk result (λ r. (o : _) × (option_map arc_value o ≡ option_map arc_value r)
+            × AddsAt (entries_of (seen_of pass.new)) (calls_of pass.old) (Look number o) (calls_of pass.new)) }
         ensures worker { IfOk result (λ _. worker_of pass.new ≡ worker_of pass.old) }
         ensures room { IfOk result (λ _. room_of pass.new + 1 ≡ room_of pass.old) }
         ensures parts { IfOk result (λ _. (share_of pass.new).parts ≡ (share_of pass.old).parts) }
-        ensures err { IfErr result (λ _. (worker_of pass.new ≡ worker_of pass.old) × (calls_of pass.new ≡ calls_of pass.old) × (room_of pass.new ≡ room_of pass.old) × (share_of pass.new ≡ share_of pass.old) × IsPrefix (seen_of pass.old) (seen_of pass.new)) }
+        ensures err { IfErr result (λ _. (worker_of pass.new ≡ worker_of pass.old) × (calls_of pass.new ≡ calls_of pass.old)
+            × (room_of pass.new ≡ room_of pass.old) × (share_of pass.new ≡ share_of pass.old) × IsPrefix (seen_of pass.old) (seen_of pass.new)) }
         ensures no_entry { result ≡ Err NoEntry → seen_of pass.new ≡ seen_of pass.old }
     {
         pass.look(number)

@@ -1,5 +1,3 @@
-pub mod Calls
-pub mod Dealt
 pub mod DependentLists
 pub mod Finishing
 pub mod Following

@@ -2,7 +2,6 @@ pub mod Agreement
 pub mod AuditsInside
 pub mod Builds
 pub mod Objects
-pub mod Passes
 pub mod Plans
 pub mod Reaching
 pub mod Readiness

@@ -164,7 +164,8 @@ impl Store {
     pub fn verdict(&self, number: usize) -> Option<&Verdict>
         requires { number < length self.now.modules }
         ensures verdict { option_map verdict_of (option_copied result) ≡ option_map (λ c. c.verdict) (kept_at self.now.kept number) }
-        ensures settled { IsSome result ↔ ((status_at (state_of self.now).statuses number ≡ Published) ⊎ (status_at (state_of self.now).statuses number ≡ Failed)) }
+        ensures settled { IsSome result ↔ ((status_at (state_of self.now).statuses number ≡ Published)
+            ⊎ (status_at (state_of self.now).statuses number ≡ Failed)) }
     {
         Some(self.outcomes[number].as_ref()?.verdict())
     }

@@ -29,7 +29,8 @@ fn build_messages<'a>(
     sources: &'a [Vec<u8>],
     explain: &'a Explain,
 ) -> Result<Vec<u8>, MessageFault>
-    ensures { IfOk result (λ m. AreMessagesOf explain.now.paint (map (λ s. s.items) explain.now.names.items) (map (λ s. s.items) sources.now) store.now m.items) }
+    ensures { IfOk result (λ m. AreMessagesOf explain.now.paint (map (λ s. s.items) explain.now.names.items) (map (λ s.
+        s.items) sources.now) store.now m.items) }
 {
     // The journal is legal, so the modules are a lawful set.
     store.legal();
@@ -53,7 +54,8 @@ fn finished_messages<'a>(
     sources: &'a [Vec<u8>],
     wanted: &'a Wanted,
 ) -> Result<Vec<u8>, MessageFault>
-    ensures { IfOk result (λ m. IfSome wanted.now.explain (λ e. AreMessagesOf e.paint (map (λ s. s.items) e.names.items) (map (λ s. s.items) sources.now) store.now m.items)) }
+    ensures { IfOk result (λ m. IfSome wanted.now.explain (λ e.
+        AreMessagesOf e.paint (map (λ s. s.items) e.names.items) (map (λ s. s.items) sources.now) store.now m.items)) }
 {
     match &wanted.explain {
         Some(explain) => Ok(build_messages(alloc, store, sources, explain)?),
@@ -71,7 +73,8 @@ pub fn finished_explained<'a>(
     ensures run { IfOk result (λ a. (sources : List (List ℕ)) (records : List Record) (workers : ℕ) → IsFinished sources workers store.now records
         → IsRun workers wanted.now.options.journal sources a.answer.status (string_bytes a.answer.text)) }
     ensures told { IfOk result (λ a. (records : List Record) (workers : ℕ) → IsFinished (map (λ s. s.items) sources.now) workers store.now records
-        → IfSome wanted.now.explain (λ e. IsExplained e.paint (map (λ s. s.items) e.names.items) (map (λ s. s.items) sources.now) a.answer.status (string_bytes a.answer.text) a.messages.items)) }
+        → IfSome wanted.now.explain (λ e. IsExplained e.paint (map (λ s. s.items) e.names.items) (map (λ s.
+        s.items) sources.now) a.answer.status (string_bytes a.answer.text) a.messages.items)) }
 {
     let answer = finished_answer(alloc, store, wanted.options.journal)?;
     let messages = finished_messages(alloc, store, sources, wanted)?;
@@ -107,7 +110,8 @@ pub fn refused_explained<'a>(
     ensures run { IfOk result (λ a. (workers : ℕ) → IsRefusalOf (map (λ s. s.items) sources.now) fault.now
         → IsRun workers wanted.now.options.journal (map (λ s. s.items) sources.now) a.answer.status (string_bytes a.answer.text)) }
     ensures told { IfOk result (λ a. IsRefusalOf (map (λ s. s.items) sources.now) fault.now
-        → IfSome wanted.now.explain (λ e. IsExplained e.paint (map (λ s. s.items) e.names.items) (map (λ s. s.items) sources.now) a.answer.status (string_bytes a.answer.text) a.messages.items)) }
+        → IfSome wanted.now.explain (λ e. IsExplained e.paint (map (λ s. s.items) e.names.items) (map (λ s.
+        s.items) sources.now) a.answer.status (string_bytes a.answer.text) a.messages.items)) }
 {
     let answer = refusal_answer(alloc, fault)?;
     let messages = refused_messages(alloc, sources, fault, wanted)?;

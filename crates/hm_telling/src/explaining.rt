@@ -167,7 +167,8 @@ fn faulty_messages(
     faults: &[Fault],
 ) -> Result<Vec<u8>, MessageFault>
     requires { source < length pages.now.items.items }
-    ensures { IfOk result (λ text. AreFaultsTold pages.now.paint (files_in pages.now.items.items) (texts_in pages.now.items.items) source faults.now text.items) }
+    ensures { IfOk result (λ text. AreFaultsTold pages.now.paint (files_in pages.now.items.items) (texts_in pages.now.items.items) source faults.now
+        text.items) }
 {
     let page = &pages.items[source];
     Ok(fault_messages(alloc, pages.paint, page, faults)?)
@@ -184,7 +185,8 @@ fn skipped_messages(
     requires len { length told.now.settled.now ≡ length told.now.modules.now }
     requires number { number < length told.now.modules.now }
     requires source { source < length told.now.pages.now.items.items }
-    ensures { IfOk result (λ text. AreBlamesTold told.now.pages.now.paint (files_in told.now.pages.now.items.items) (texts_in told.now.pages.now.items.items) source
+    ensures { IfOk result (λ text. AreBlamesTold told.now.pages.now.paint (files_in told.now.pages.now.items.items)
+        (texts_in told.now.pages.now.items.items) source
         (module_set told.now.modules.now told.now.plan.now) (statuses_of told.now.settled.now) number text.items) }
 {
     let imports = told.modules[number].header.imports.as_slice();

@@ -7,4 +7,4 @@ mod explaining;
 mod options;
 
 pub use explained::{Explained, finished_explained, refused_explained};
-pub use options::{Explain, Options, Wanted};
+pub use options::{Explain, Explaining, Options, Wanted};

@@ -18,6 +18,13 @@ pub struct Explain {
     pub paint: Paint,
 }
 
+/// What a run with messages is asked for, and how its faults are explained.
+#[derive(Drop)]
+pub struct Explaining {
+    pub options: Options,
+    pub explain: Explain,
+}
+
 /// What a run is asked for, and how its faults are explained where that is asked for.
 #[derive(Drop)]
 pub struct Wanted {

@@ -1,4 +1,4 @@
-use Rattle.hm_store.specs.Passes.{seen_of}
+use Rattle.hm_shared.specs.Passes.{seen_of}
 use Rattle.hm_shared.proofs.Listing.{still_shown}
 use Rattle.hm_shared.proofs.shared.Locked.publish.Goals as goal
 

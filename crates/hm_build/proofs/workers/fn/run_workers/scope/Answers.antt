@@ -5,7 +5,7 @@ use denote.Array.{Array}
 use denote.Param.{param}
 use denote.Param.Send.{arg_send, mut_send, param_send, param_sync, shr_send}
 use denote.Ref.{MutRef, NamedLft, ShrRef}
-use Rattle.hm_store.specs.contracts.record.Pass as Pass
+use Rattle.hm_shared.specs.contracts.passes.Pass as Pass
 use Rattle.hm_build.specs.contracts.workers.Work as Work
 use Rattle.hm_published.specs.contracts.publication.Publication as Publication
 use Rattle.hm_published.specs.contracts.published.PublishedAbsorbStep.TheImpl as Absorbs

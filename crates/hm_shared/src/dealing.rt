@@ -1,8 +1,8 @@
 //! Passes for the workers that share a store.
 ghost use Rattle.std.specs.Prelude.{◌≡◌, ◌<◌, ◌^◌, [], ℕ, All, IfOk, slice_index_or, vec_len};
-ghost use Rattle.hm_store.specs.Passes.{calls_of, room_of, seen_of, share_of, worker_of};
+ghost use Rattle.hm_shared.specs.Passes.{calls_of, room_of, seen_of, share_of, worker_of};
 
-use crate::record::Pass;
+use crate::passes::Pass;
 use hm_published::{Front, Naming, Published, Step, pages};
 use left_right::WriteHandle;
 use std::alloc::{AllocError, Global};
@@ -30,7 +30,7 @@ pub enum SharedFault {
 
 impl From<AllocError> for SharedFault {
     ghost use Rattle.std.specs.Prelude.{◌≡◌};
-    ghost use Rattle.hm_store.specs.declared.dealing.SharedFault.TheVariants.{Memory};
+    ghost use Rattle.hm_shared.specs.declared.dealing.SharedFault.TheVariants.{Memory};
 
     ghost from_gives = { λ _ fault. fault ≡ Memory };
 
@@ -40,7 +40,7 @@ impl From<AllocError> for SharedFault {
 }
 
 /// A pass for each worker, with one part of the ledger each.
-pub fn deal<L: Ledger + Naming, R: Wait + Drop>(
+pub(crate) fn deal<L: Ledger + Naming, R: Wait + Drop>(
     alloc: Global,
     crew: Crew,
     mut rest: Share<L>,

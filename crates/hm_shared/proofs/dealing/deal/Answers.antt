@@ -1,7 +1,7 @@
 use Rattle.std.proofs.Common.{rules, ◌≡◌, [], sym, ◌∙◌}
-use Rattle.hm_store.specs.Passes.{calls_of, room_of, seen_of, share_of, worker_of}
-use Rattle.hm_store.proofs.Dealt.{all_and_one, numbered}
-use Rattle.hm_store.proofs.dealing.deal.Goals as goal
+use Rattle.hm_shared.specs.Passes.{calls_of, room_of, seen_of, share_of, worker_of}
+use Rattle.hm_shared.proofs.Dealt.{all_and_one, numbered}
+use Rattle.hm_shared.proofs.dealing.deal.Goals as goal
 
 pub loop-worker-preserved : goal.loop-worker-preserved
 loop-worker-preserved g c =

@@ -4,7 +4,7 @@ use Rattle.std.specs.declared.sync.ledger.Share.{Share}
 use Rattle.hm_published.specs.declared.history.Naming as Naming
 use Rattle.hm_published.specs.declared.publication.Publication.{Publication}
 use Rattle.hm_store.specs.declared.record.Call.{Call}
-use Rattle.hm_store.specs.declared.record.Pass.{Pass}
+use Rattle.hm_shared.specs.declared.passes.Pass.{Pass}
 
 -- the number of the worker that makes its calls with it
 abbrev pub worker_of : {L : Type 0} {J : Naming.Ghosts L} → Pass L J → ℕ

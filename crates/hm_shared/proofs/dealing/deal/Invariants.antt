@@ -1,7 +1,7 @@
 use Rattle.std.proofs.Common.{◌≡◌, ℕ, ◌<◌, ◌+◌, [], All, vec_len}
 use Rattle.std.specs.Prelude.{slice_index_or}
-use Rattle.hm_store.specs.Passes.{calls_of, room_of, seen_of, share_of, worker_of}
-use Rattle.hm_store.proofs.dealing.deal.Given as goal
+use Rattle.hm_shared.specs.Passes.{calls_of, room_of, seen_of, share_of, worker_of}
+use Rattle.hm_shared.proofs.dealing.deal.Given as goal
 
 abbrev pub invariant-loop-worker : goal.invariant-loop-worker
 invariant-loop-worker g l = record {
