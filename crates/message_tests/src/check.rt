@@ -2,7 +2,7 @@
 ghost use Rattle.std.specs.Prelude.{All};
 ghost use Rattle.hm_sources.specs.Watching.{IsFresh};
 
-use hm_build::{Explain, Options, run, run_explained};
+use hm_build::{Explain, Explaining, Options, Outputs, run, run_explained};
 use hm_messages::Paint;
 use hm_sources::{RunFault, Status, Watched};
 use std::alloc::{AllocError, Global};
@@ -35,15 +35,18 @@ fn ran<T: AllocGlobal + Threads + Wait + Sync, R: Read, W: Write>(
 fn ran_explained<T: AllocGlobal + Threads + Wait + Sync, R: Read, W: Write, E: Write>(
     rt: &T,
     readers: &mut [Watched<R>],
-    writer: &mut Watched<W>,
-    errors: &mut Watched<E>,
+    outputs: &mut Outputs<W, E>,
     explain: Explain,
 ) -> Result<Status, RunFault>
     requires readers { All IsFresh readers.old }
-    requires writer { IsFresh writer.old }
-    requires errors { IsFresh errors.old }
+    requires writer { IsFresh outputs.old.writer }
+    requires errors { IsFresh outputs.old.errors }
 {
-    run_explained(rt, rt.alloc(), readers, writer, OPTIONS, errors, explain)
+    let wanted = Explaining {
+        options: OPTIONS,
+        explain,
+    };
+    run_explained(rt, rt.alloc(), readers, outputs, wanted)
 }
 
 /// The name of the file, and no colours.
@@ -79,16 +82,12 @@ fn printed_explained(
     let explain = plainly(alloc)?;
     let mut readers = [Watched::new(source)];
     let mut printed = Vec::new(alloc);
-    let mut writer = Watched::new(&mut printed);
     let mut told = Vec::new(alloc);
-    let mut errors = Watched::new(&mut told);
-    let ended = ran_explained(
-        rt,
-        readers.as_mut_slice(),
-        &mut writer,
-        &mut errors,
-        explain,
-    );
+    let mut outputs = Outputs {
+        writer: Watched::new(&mut printed),
+        errors: Watched::new(&mut told),
+    };
+    let ended = ran_explained(rt, readers.as_mut_slice(), &mut outputs, explain);
     assert_eq!(rt; ended, Ok(status));
     Ok((printed, told))
 }

@@ -54,26 +54,44 @@ fn are_classes(graph: &Digraph, groups: &[Vec<usize>]) -> Result<bool, AllocErro
     Ok(count == graph.len())
 }
 
+/// Whether a graph's groups are these classes.
+fn has_classes(graph: &Digraph) -> Result<bool, AllocError> {
+    are_classes(graph, &graph.groups()?)
+}
+
+/// Whether those of such a graph are.
+fn are_grouped(alloc: Global, nodes: usize, edges: usize, seed: u64) -> Result<bool, AllocError> {
+    has_classes(&some_graph(alloc, nodes, edges, seed)?)
+}
+
 #[test]
 fn groups_are_classes(rt: HostRuntime) -> Result<(), AllocError> {
-    let alloc = rt.alloc();
     for round in 0..300usize {
-        let graph = some_graph(alloc, 1 + round % 9, (round / 9) % 14, round as u64)?;
-        assert!(rt; are_classes(&graph, &graph.groups()?)?);
+        assert!(rt; are_grouped(rt.alloc(), 1 + round % 9, (round / 9) % 14, round as u64)?);
     }
     Ok(())
 }
 
-// A walk of all pairs of nodes would take ten thousand times as long.
-#[test]
-fn one_long_ring(rt: HostRuntime) -> Result<(), AllocError> {
-    let count = 200_000usize;
-    let mut graph = Digraph::new(rt.alloc(), count)?;
+/// A graph of so many nodes, each with an edge to the next, and the last to the first.
+fn ring(alloc: Global, count: usize) -> Result<Digraph, AllocError> {
+    let mut graph = Digraph::new(alloc, count)?;
     for node in 0..count {
         if !graph.is_empty() {
             graph.add(node % graph.len(), (node + 1) % graph.len())?;
         }
     }
-    assert_eq!(rt; graph.groups()?.len(), 1);
+    Ok(graph)
+}
+
+/// How many groups a graph has.
+fn group_count(graph: &Digraph) -> Result<usize, AllocError> {
+    Ok(graph.groups()?.len())
+}
+
+// A walk of all pairs of nodes would take ten thousand times as long.
+#[test]
+fn one_long_ring(rt: HostRuntime) -> Result<(), AllocError> {
+    let graph = ring(rt.alloc(), 200_000)?;
+    assert!(rt; group_count(&graph)? == 1);
     Ok(())
 }

@@ -106,7 +106,7 @@ fn is_copied(alloc: Global, interface: &Interface) -> Result<bool, AllocError> {
 
 /// Whether the interface of Prelude has this text.
 fn prelude_has_text(alloc: Global, wanted: &str) -> Result<bool, AllocError> {
-    Ok(has_text(alloc, &prelude(alloc)?, wanted)?)
+    has_text(alloc, &prelude(alloc)?, wanted)
 }
 
 #[test]
@@ -116,22 +116,26 @@ fn the_text_of_prelude(rt: HostRuntime) -> Result<(), Fail> {
     Ok(())
 }
 
+/// Whether an interface has the name of Prelude's, and as many entries of each kind.
+fn has_size_of_prelude(interface: &Interface) -> bool {
+    interface.name() == "Prelude"
+        && interface.types().len() == 6
+        && interface.synonyms().len() == 1
+        && interface.constructors().len() == 9
+        && interface.values().len() == 55
+}
+
 #[test]
 fn copies_are_the_same(rt: HostRuntime) -> Result<(), Fail> {
     let interface = prelude(rt.alloc())?;
-    assert!(rt; is_copied(rt.alloc(), &interface)?);
-    assert_eq!(rt; interface.name(), "Prelude");
-    assert_eq!(rt; interface.types().len(), 6);
-    assert_eq!(rt; interface.synonyms().len(), 1);
-    assert_eq!(rt; interface.constructors().len(), 9);
-    assert_eq!(rt; interface.values().len(), 55);
+    assert!(rt; is_copied(rt.alloc(), &interface)? && has_size_of_prelude(&interface));
     Ok(())
 }
 
 fn text(alloc: Global, name: &str) -> Result<Text, AllocError>
     ensures { IfOk result (λ text. text ≡ name.now) }
 {
-    Ok(Text::new(String::from_str(alloc, name)?))
+    Ok(Text::new(String::from_str(alloc, name)?)?)
 }
 
 /// The interface of a module with one synonym, whose second parameter doesn't occur.
@@ -163,12 +167,19 @@ fn is_prelude(alloc: Global, interface: &Interface) -> Result<bool, AllocError> 
     Ok(interface.is_same(&prelude(alloc)?))
 }
 
+/// Whether an interface has this text, is copied as it is, and isn't that of Prelude.
+fn is_told(alloc: Global, interface: &Interface, wanted: &str) -> Result<bool, AllocError> {
+    Ok(
+        has_text(alloc, interface, wanted)?
+            && is_copied(alloc, interface)?
+            && !is_prelude(alloc, interface)?,
+    )
+}
+
 #[test]
 fn unused_parameters_are_counted(rt: HostRuntime) -> Result<(), Fail> {
     let interface = with_phantom(rt.alloc())?;
     let wanted = "module B\n  syn Phantom/2 = A.Phantom :: [a]\n";
-    assert!(rt; has_text(rt.alloc(), &interface, wanted)?);
-    assert!(rt; is_copied(rt.alloc(), &interface)?);
-    assert!(rt; !is_prelude(rt.alloc(), &interface)?);
+    assert!(rt; is_told(rt.alloc(), &interface, wanted)?);
     Ok(())
 }

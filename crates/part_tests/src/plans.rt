@@ -2,7 +2,7 @@ ghost use Rattle.std.specs.Prelude.{◌≡◌, ◌<◌, length};
 
 use hm_graph::{Dependents, Digraph, Plan, PlanFault, import_plan};
 use hm_lex::Place;
-use hm_syntax::{Header, Import, List, Name, Row};
+use hm_syntax::{Header, Import, ImportList, Name, Row};
 use std::alloc::{AllocError, Global};
 
 /// A module's name, and the names of its imports.
@@ -23,27 +23,43 @@ fn import_of(alloc: Global, text: &str) -> Result<Import, AllocError> {
         qualified: false,
         name,
         alias: None,
-        list: List::Every,
+        list: ImportList::Every,
     })
 }
 
-fn header_of(alloc: Global, text: &str, imported: &[&str]) -> Result<Header, AllocError> {
-    let name = name_of(alloc, text)?;
+fn imports_of(alloc: Global, imported: &[&str]) -> Result<Row<Import>, AllocError> {
     let mut items = Vec::new(alloc);
     for other in imported {
         items.push(import_of(alloc, other)?)?;
     }
+    Ok(Row { items })
+}
+
+fn header_of(alloc: Global, text: &str, imported: &[&str]) -> Result<Header, AllocError> {
+    let name = name_of(alloc, text)?;
+    let imports = imports_of(alloc, imported)?;
     Ok(Header {
         name,
         exports: None,
-        imports: Row { items },
+        imports,
     })
+}
+
+/// Adds the header of a module with this name and these imports.
+fn add_header(
+    alloc: Global,
+    headers: &mut Vec<Header>,
+    text: &str,
+    imported: &[&str],
+) -> Result<(), AllocError> {
+    headers.push(header_of(alloc, text, imported)?)?;
+    Ok(())
 }
 
 fn headers_of(alloc: Global, outlines: &[Outline]) -> Result<Vec<Header>, AllocError> {
     let mut headers = Vec::new(alloc);
     for (name, imported) in outlines {
-        headers.push(header_of(alloc, name, imported)?)?;
+        add_header(alloc, &mut headers, name, imported)?;
     }
     Ok(headers)
 }
@@ -57,19 +73,42 @@ fn plan_of(alloc: Global, headers: &[Header]) -> Result<Plan, PlanFault> {
     import_plan(alloc, &lent)
 }
 
-#[test]
-fn a_graph_of_three(rt: HostRuntime) -> Result<(), AllocError> {
-    let mut graph = Digraph::new(rt.alloc(), 3)?;
+/// Adds three edges to a graph of three nodes.
+fn add_three_edges(graph: &mut Digraph) -> Result<(), AllocError>
+    requires { length graph.old ≡ 3 }
+    ensures { length graph.new ≡ 3 }
+{
     graph.add(0, 1)?;
     graph.add(1, 0)?;
     graph.add(2, 0)?;
-    assert_eq!(rt; graph.len(), 3);
-    assert!(rt; graph.reaches(0, 0)?);
-    assert!(rt; !graph.reaches(0, 2)?);
-    let groups = graph.groups()?;
-    assert_eq!(rt; groups.len(), 2);
-    assert!(rt; groups[0].as_slice() == [0, 1].as_slice());
-    assert!(rt; groups[1].as_slice() == [2].as_slice());
+    Ok(())
+}
+
+/// Whether the first of the three nodes reaches itself, and the last is not reached from it.
+fn has_paths(graph: &Digraph) -> Result<bool, AllocError>
+    requires { length graph.now ≡ 3 }
+{
+    Ok(graph.len() == 3 && graph.reaches(0, 0)? && !graph.reaches(0, 2)?)
+}
+
+/// Whether the groups are the first two nodes and the last.
+fn are_two(groups: &[Vec<usize>]) -> bool {
+    groups.len() == 2
+        && groups[0].as_slice() == [0, 1].as_slice()
+        && groups[1].as_slice() == [2].as_slice()
+}
+
+/// Whether those of a graph are.
+fn has_two_groups(graph: &Digraph) -> Result<bool, AllocError> {
+    Ok(are_two(&graph.groups()?))
+}
+
+#[test]
+fn a_graph_of_three(rt: HostRuntime) -> Result<(), AllocError> {
+    let mut graph = Digraph::new(rt.alloc(), 3)?;
+    add_three_edges(&mut graph)?;
+    assert!(rt; has_paths(&graph)?);
+    assert!(rt; has_two_groups(&graph)?);
     Ok(())
 }
 
@@ -99,11 +138,15 @@ fn is_refused(alloc: Global, headers: &[Header], fault: &PlanFault) -> bool {
     matches!(plan_of(alloc, headers), Err(found) if found == *fault)
 }
 
+/// Whether such modules have none.
+fn are_refused(alloc: Global, outlines: &[Outline], fault: &PlanFault) -> Result<bool, AllocError> {
+    Ok(is_refused(alloc, &headers_of(alloc, outlines)?, fault))
+}
+
 #[test]
 fn refused_sets(rt: HostRuntime) -> Result<(), AllocError> {
     for (outlines, fault) in &REFUSED {
-        let headers = headers_of(rt.alloc(), outlines)?;
-        assert!(rt; is_refused(rt.alloc(), &headers, fault));
+        assert!(rt; are_refused(rt.alloc(), outlines, fault)?);
     }
     Ok(())
 }
@@ -113,17 +156,26 @@ fn many_headers(alloc: Global, count: usize) -> Result<Vec<Header>, AllocError> 
     let mut headers = Vec::new(alloc);
     for number in 0..count {
         let text = format!(in alloc; "M{number}")?;
-        headers.push(header_of(alloc, text.as_str(), &["Prelude"])?)?;
+        add_header(alloc, &mut headers, text.as_str(), &["Prelude"])?;
     }
     Ok(headers)
+}
+
+/// Whether these headers have the longest plan.
+fn have_longest_plan(alloc: Global, headers: &[Header]) -> bool {
+    plan_of(alloc, headers).is_ok_and(|plan| plan.len() == 4096)
+}
+
+/// Whether these headers are one more than there may be.
+fn are_one_too_many(alloc: Global, headers: &[Header]) -> bool {
+    let most = &headers[..4096.min(headers.len())];
+    is_refused(alloc, headers, &PlanFault::TooMany) && have_longest_plan(alloc, most)
 }
 
 #[test]
 fn the_most_modules(rt: HostRuntime) -> Result<(), AllocError> {
     let headers = many_headers(rt.alloc(), 4097)?;
-    assert!(rt; is_refused(rt.alloc(), &headers, &PlanFault::TooMany));
-    let most = &headers[..4096.min(headers.len())];
-    assert!(rt; plan_of(rt.alloc(), most).is_ok_and(|plan| plan.len() == 4096));
+    assert!(rt; are_one_too_many(rt.alloc(), &headers));
     Ok(())
 }
 
@@ -156,10 +208,15 @@ fn finds_dependents(alloc: Global, plan: &Plan) -> Result<bool, AllocError> {
     Ok(of_second && dependents.marks() == [true, false, false].as_slice())
 }
 
+/// The plan of the three modules.
+fn plan_of_three(alloc: Global) -> Result<Plan, PlanFault> {
+    let headers = headers_of(alloc, &THREE)?;
+    plan_of(alloc, &headers)
+}
+
 #[test]
 fn the_order_of_first_imports(rt: HostRuntime) -> Result<(), PlanFault> {
-    let headers = headers_of(rt.alloc(), &THREE)?;
-    let plan = plan_of(rt.alloc(), &headers)?;
+    let plan = plan_of_three(rt.alloc())?;
     assert!(rt; has_order(&plan));
     assert!(rt; finds_dependents(rt.alloc(), &plan)?);
     Ok(())

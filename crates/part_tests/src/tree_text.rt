@@ -2,41 +2,94 @@
 //! parentheses, a tuple or a list behind its word.
 use hm_parse::parse;
 use hm_syntax::{
-    Alt, Constr, Decl, DeclKind, Expr, ExprKind, Import, Item, List, Literal, LiteralKind, Module,
-    Name, Pat, PatKind, Rhs, Subs, TypeExpr, TypeKind,
+    Alt, Constr, Decl, DeclKind, Expr, ExprKind, Import, ImportItem, ImportList, Literal,
+    LiteralKind, Module, Name, Pat, PatKind, Rhs, SubItems, TypeExpr, TypeKind,
 };
 use std::alloc::{AllocError, Global};
 
-/// What is still to be written.
+/// What is still to be written. Of several types, patterns or expressions each stands behind a space.
 #[derive(Clone, Copy, Drop)]
 enum Piece<'a> {
     Text(&'static str),
+    Column(usize),
     Name(&'a Name),
-    /// Names, each behind a space.
     Names(&'a [Name]),
     Literal(&'a Literal),
     Type(&'a TypeExpr),
+    Types(&'a [TypeExpr]),
     Pat(&'a Pat),
+    Pats(&'a [Pat]),
     Expr(&'a Expr),
+    Exprs(&'a [Expr]),
     Alt(&'a Alt),
-    /// A right side, and the mark before its expressions.
+    Alts(&'a [Alt]),
+    /// A right side, and the words round each of its expressions.
     Rhs(&'a Rhs, &'static str),
     Constr(&'a Constr),
+    Constrs(&'a [Constr]),
     Decl(&'a Decl),
     Decls(&'a [Decl]),
     Import(&'a Import),
-    Items(&'a [Item]),
-    Subs(&'a Subs),
+    Choice(&'a ImportList),
+    Items(&'a [ImportItem]),
+    Subs(&'a SubItems),
 }
 
 type Pieces<'a> = Vec<Piece<'a>>;
 
-/// Puts these pieces before all others, the first in front.
-fn before<'a>(pieces: &mut Pieces<'a>, new: &[Piece<'a>]) -> Result<(), AllocError> {
-    for piece in new.iter().rev() {
-        pieces.push(*piece)?;
+/// What stands before the first hole of words with holes, and what stands behind it.
+fn cut(words: &'static str) -> (&'static str, &'static str) {
+    match words.split_once('%') {
+        Some((before, behind)) => (before, behind),
+        None => (words, ""),
     }
+}
+
+/// Puts words with a piece in their hole before all others.
+fn one<'a>(
+    pieces: &mut Pieces<'a>,
+    words: &'static str,
+    piece: Piece<'a>,
+) -> Result<(), AllocError> {
+    let (before, behind) = cut(words);
+    pieces.push(Piece::Text(behind))?;
+    pieces.push(piece)?;
+    pieces.push(Piece::Text(before))?;
     Ok(())
+}
+
+/// The same with two pieces in two holes.
+fn two<'a>(
+    pieces: &mut Pieces<'a>,
+    words: &'static str,
+    first: Piece<'a>,
+    second: Piece<'a>,
+) -> Result<(), AllocError> {
+    let (before, behind) = cut(words);
+    one(pieces, behind, second)?;
+    pieces.push(first)?;
+    pieces.push(Piece::Text(before))?;
+    Ok(())
+}
+
+/// The same with three.
+fn three<'a>(
+    pieces: &mut Pieces<'a>,
+    words: &'static str,
+    first: Piece<'a>,
+    second: Piece<'a>,
+    third: Piece<'a>,
+) -> Result<(), AllocError> {
+    let (before, behind) = cut(words);
+    two(pieces, behind, second, third)?;
+    pieces.push(first)?;
+    pieces.push(Piece::Text(before))?;
+    Ok(())
+}
+
+/// The words between an element of a list and those behind it, if there are any.
+fn between(is_last: bool, words: &'static str) -> &'static str {
+    if is_last { "%%" } else { words }
 }
 
 fn literal_text(literal: &Literal) -> &str {
@@ -63,405 +116,343 @@ fn put_names(text: &mut String, names: &[Name]) -> Result<(), AllocError> {
     Ok(())
 }
 
-/// Puts the types before all other pieces, each behind a space.
-fn before_types<'a>(pieces: &mut Pieces<'a>, types: &'a [TypeExpr]) -> Result<(), AllocError> {
-    for ty in types.iter().rev() {
-        before(pieces, &[Piece::Text(" "), Piece::Type(ty)])?;
+fn types_pieces<'a>(pieces: &mut Pieces<'a>, types: &'a [TypeExpr]) -> Result<(), AllocError> {
+    match types.split_first() {
+        Some((first, rest)) => two(pieces, " %%", Piece::Type(first), Piece::Types(rest)),
+        None => Ok(()),
     }
-    Ok(())
 }
 
-fn before_pats<'a>(pieces: &mut Pieces<'a>, pats: &'a [Pat]) -> Result<(), AllocError> {
-    for pat in pats.iter().rev() {
-        before(pieces, &[Piece::Text(" "), Piece::Pat(pat)])?;
+fn pats_pieces<'a>(pieces: &mut Pieces<'a>, pats: &'a [Pat]) -> Result<(), AllocError> {
+    match pats.split_first() {
+        Some((first, rest)) => two(pieces, " %%", Piece::Pat(first), Piece::Pats(rest)),
+        None => Ok(()),
     }
-    Ok(())
 }
 
-fn before_exprs<'a>(pieces: &mut Pieces<'a>, exprs: &'a [Expr]) -> Result<(), AllocError> {
-    for expr in exprs.iter().rev() {
-        before(pieces, &[Piece::Text(" "), Piece::Expr(expr)])?;
+fn exprs_pieces<'a>(pieces: &mut Pieces<'a>, exprs: &'a [Expr]) -> Result<(), AllocError> {
+    match exprs.split_first() {
+        Some((first, rest)) => two(pieces, " %%", Piece::Expr(first), Piece::Exprs(rest)),
+        None => Ok(()),
     }
-    Ok(())
+}
+
+fn alts_pieces<'a>(pieces: &mut Pieces<'a>, alts: &'a [Alt]) -> Result<(), AllocError> {
+    match alts.split_first() {
+        Some((first, rest)) => {
+            let words = between(rest.is_empty(), "% ; %");
+            two(pieces, words, Piece::Alt(first), Piece::Alts(rest))
+        }
+        None => Ok(()),
+    }
+}
+
+fn constrs_pieces<'a>(pieces: &mut Pieces<'a>, constrs: &'a [Constr]) -> Result<(), AllocError> {
+    match constrs.split_first() {
+        Some((first, rest)) => {
+            let words = between(rest.is_empty(), "% | %");
+            two(pieces, words, Piece::Constr(first), Piece::Constrs(rest))
+        }
+        None => Ok(()),
+    }
+}
+
+fn decls_pieces<'a>(pieces: &mut Pieces<'a>, decls: &'a [Decl]) -> Result<(), AllocError> {
+    match decls.split_first() {
+        Some((first, rest)) => {
+            let words = between(rest.is_empty(), "% ; %");
+            two(pieces, words, Piece::Decl(first), Piece::Decls(rest))
+        }
+        None => Ok(()),
+    }
+}
+
+fn items_pieces<'a>(pieces: &mut Pieces<'a>, items: &'a [ImportItem]) -> Result<(), AllocError> {
+    let Some((first, rest)) = items.split_first() else {
+        return Ok(());
+    };
+    let words = between(rest.is_empty(), "%, %");
+    match first {
+        ImportItem::Var(name) => two(pieces, words, Piece::Name(name), Piece::Items(rest)),
+        ImportItem::Con(name, subs) => {
+            two(pieces, words, Piece::Subs(subs), Piece::Items(rest))?;
+            one(pieces, "%", Piece::Name(name))
+        }
+    }
+}
+
+/// A name with what stands behind it, in parentheses unless that is nothing.
+fn named<'a>(
+    pieces: &mut Pieces<'a>,
+    is_alone: bool,
+    name: &'a Name,
+    arguments: Piece<'a>,
+) -> Result<(), AllocError> {
+    if is_alone {
+        return one(pieces, "%", Piece::Name(name));
+    }
+    two(pieces, "(%%)", Piece::Name(name), arguments)
 }
 
 fn type_pieces<'a>(pieces: &mut Pieces<'a>, ty: &'a TypeExpr) -> Result<(), AllocError> {
     match &ty.kind {
-        TypeKind::Var(name) => before(pieces, &[Piece::Name(name)]),
-        TypeKind::Con(name, args) => {
-            if args.is_empty() {
-                return before(pieces, &[Piece::Name(name)]);
-            }
-            pieces.push(Piece::Text(")"))?;
-            before_types(pieces, args)?;
-            before(pieces, &[Piece::Text("("), Piece::Name(name)])
-        }
-        TypeKind::Arrow(from, to) => before(
-            pieces,
-            &[
-                Piece::Text("("),
-                Piece::Type(from),
-                Piece::Text(" -> "),
-                Piece::Type(to),
-                Piece::Text(")"),
-            ],
-        ),
-        TypeKind::Tuple(types) => {
-            pieces.push(Piece::Text(")"))?;
-            before_types(pieces, types)?;
-            before(pieces, &[Piece::Text("(tuple")])
-        }
-        TypeKind::List(element) => before(
-            pieces,
-            &[
-                Piece::Text("(list "),
-                Piece::Type(element),
-                Piece::Text(")"),
-            ],
-        ),
-        TypeKind::Unit => before(pieces, &[Piece::Text("()")]),
+        TypeKind::Var(name) => one(pieces, "%", Piece::Name(name)),
+        TypeKind::Con(name, args) => named(pieces, args.is_empty(), name, Piece::Types(args)),
+        TypeKind::Arrow(from, to) => two(pieces, "(% -> %)", Piece::Type(from), Piece::Type(to)),
+        TypeKind::Tuple(types) => one(pieces, "(tuple%)", Piece::Types(types)),
+        TypeKind::List(element) => one(pieces, "(list %)", Piece::Type(element)),
+        TypeKind::Unit => one(pieces, "%", Piece::Text("()")),
     }
 }
 
 fn pat_pieces<'a>(pieces: &mut Pieces<'a>, pat: &'a Pat) -> Result<(), AllocError> {
     match &pat.kind {
-        PatKind::Var(name) => before(pieces, &[Piece::Name(name)]),
-        PatKind::Bound(name, pat) => before(
-            pieces,
-            &[
-                Piece::Text("("),
-                Piece::Name(name),
-                Piece::Text(" @ "),
-                Piece::Pat(pat),
-                Piece::Text(")"),
-            ],
-        ),
-        PatKind::Con(name, args) => {
-            if args.is_empty() {
-                return before(pieces, &[Piece::Name(name)]);
-            }
-            pieces.push(Piece::Text(")"))?;
-            before_pats(pieces, args)?;
-            before(pieces, &[Piece::Text("("), Piece::Name(name)])
-        }
-        PatKind::Literal(literal) => before(pieces, &[Piece::Literal(literal)]),
-        PatKind::Wild => before(pieces, &[Piece::Text("_")]),
-        PatKind::Tuple(pats) => {
-            pieces.push(Piece::Text(")"))?;
-            before_pats(pieces, pats)?;
-            before(pieces, &[Piece::Text("(tuple")])
-        }
-        PatKind::List(pats) => {
-            pieces.push(Piece::Text(")"))?;
-            before_pats(pieces, pats)?;
-            before(pieces, &[Piece::Text("(list")])
-        }
-        PatKind::Lazy(pat) => before(
-            pieces,
-            &[Piece::Text("(~ "), Piece::Pat(pat), Piece::Text(")")],
-        ),
+        PatKind::Var(name) => one(pieces, "%", Piece::Name(name)),
+        PatKind::Bound(name, pat) => two(pieces, "(% @ %)", Piece::Name(name), Piece::Pat(pat)),
+        PatKind::Con(name, args) => named(pieces, args.is_empty(), name, Piece::Pats(args)),
+        PatKind::Literal(literal) => one(pieces, "%", Piece::Literal(literal)),
+        PatKind::Wild => one(pieces, "%", Piece::Text("_")),
+        PatKind::Tuple(pats) => one(pieces, "(tuple%)", Piece::Pats(pats)),
+        PatKind::List(pats) => one(pieces, "(list%)", Piece::Pats(pats)),
+        PatKind::Lazy(pat) => one(pieces, "(~ %)", Piece::Pat(pat)),
     }
+}
+
+fn if_pieces<'a>(
+    pieces: &mut Pieces<'a>,
+    condition: &'a Expr,
+    first: &'a Expr,
+    second: &'a Expr,
+) -> Result<(), AllocError> {
+    three(
+        pieces,
+        "(if % then % else %)",
+        Piece::Expr(condition),
+        Piece::Expr(first),
+        Piece::Expr(second),
+    )
 }
 
 fn expr_pieces<'a>(pieces: &mut Pieces<'a>, expr: &'a Expr) -> Result<(), AllocError> {
     match &expr.kind {
-        ExprKind::Var(name) | ExprKind::Con(name) => before(pieces, &[Piece::Name(name)]),
-        ExprKind::Literal(literal) => before(pieces, &[Piece::Literal(literal)]),
-        ExprKind::Apply(function, argument) => before(
+        ExprKind::Var(name) | ExprKind::Con(name) => one(pieces, "%", Piece::Name(name)),
+        ExprKind::Literal(literal) => one(pieces, "%", Piece::Literal(literal)),
+        ExprKind::Apply(function, argument) => two(
             pieces,
-            &[
-                Piece::Text("("),
-                Piece::Expr(function),
-                Piece::Text(" "),
-                Piece::Expr(argument),
-                Piece::Text(")"),
-            ],
+            "(% %)",
+            Piece::Expr(function),
+            Piece::Expr(argument),
         ),
-        ExprKind::Lambda(pats, body) => {
-            before(
-                pieces,
-                &[Piece::Text(" -> "), Piece::Expr(body), Piece::Text(")")],
-            )?;
-            before_pats(pieces, pats)?;
-            before(pieces, &[Piece::Text("(\\")])
-        }
-        ExprKind::Let(decls, body) => before(
+        ExprKind::Lambda(pats, body) => two(
             pieces,
-            &[
-                Piece::Text("(let { "),
-                Piece::Decls(decls),
-                Piece::Text(" } in "),
-                Piece::Expr(body),
-                Piece::Text(")"),
-            ],
+            "(\\% -> %)",
+            Piece::Pats(pats),
+            Piece::Expr(body),
         ),
-        ExprKind::If(condition, first, second) => before(
+        ExprKind::Let(decls, body) => two(
             pieces,
-            &[
-                Piece::Text("(if "),
-                Piece::Expr(condition),
-                Piece::Text(" then "),
-                Piece::Expr(first),
-                Piece::Text(" else "),
-                Piece::Expr(second),
-                Piece::Text(")"),
-            ],
+            "(let { % } in %)",
+            Piece::Decls(decls),
+            Piece::Expr(body),
         ),
-        ExprKind::Case(of, alts) => case_pieces(pieces, of, alts),
-        ExprKind::Tuple(exprs) => {
-            pieces.push(Piece::Text(")"))?;
-            before_exprs(pieces, exprs)?;
-            before(pieces, &[Piece::Text("(tuple")])
-        }
-        ExprKind::List(exprs) => {
-            pieces.push(Piece::Text(")"))?;
-            before_exprs(pieces, exprs)?;
-            before(pieces, &[Piece::Text("(list")])
-        }
-        ExprKind::Typed(expr, ty) => before(
+        ExprKind::If(condition, first, second) => if_pieces(pieces, condition, first, second),
+        ExprKind::Case(of, alts) => two(
             pieces,
-            &[
-                Piece::Text("("),
-                Piece::Expr(expr),
-                Piece::Text(" :: "),
-                Piece::Type(ty),
-                Piece::Text(")"),
-            ],
+            "(case % of { % })",
+            Piece::Expr(of),
+            Piece::Alts(alts),
         ),
+        ExprKind::Tuple(exprs) => one(pieces, "(tuple%)", Piece::Exprs(exprs)),
+        ExprKind::List(exprs) => one(pieces, "(list%)", Piece::Exprs(exprs)),
+        ExprKind::Typed(expr, ty) => two(pieces, "(% :: %)", Piece::Expr(expr), Piece::Type(ty)),
     }
 }
 
-fn case_pieces<'a>(
-    pieces: &mut Pieces<'a>,
-    of: &'a Expr,
-    alts: &'a [Alt],
-) -> Result<(), AllocError> {
-    pieces.push(Piece::Text(" })"))?;
-    for place in (0..alts.len()).rev() {
-        pieces.push(Piece::Alt(&alts[place]))?;
-        if place > 0 {
-            pieces.push(Piece::Text(" ; "))?;
-        }
+/// The declarations behind `where`, if there are any.
+fn local_pieces<'a>(pieces: &mut Pieces<'a>, local: &'a [Decl]) -> Result<(), AllocError> {
+    if local.is_empty() {
+        return Ok(());
     }
-    before(
-        pieces,
-        &[
-            Piece::Text("(case "),
-            Piece::Expr(of),
-            Piece::Text(" of { "),
-        ],
-    )
+    one(pieces, " where { % }", Piece::Decls(local))
 }
 
 fn rhs_pieces<'a>(
     pieces: &mut Pieces<'a>,
     rhs: &'a Rhs,
-    mark: &'static str,
+    words: &'static str,
 ) -> Result<(), AllocError> {
-    if !rhs.local.is_empty() {
-        before(
-            pieces,
-            &[
-                Piece::Text(" where { "),
-                Piece::Decls(&rhs.local),
-                Piece::Text(" }"),
-            ],
-        )?;
-    }
+    local_pieces(pieces, &rhs.local)?;
     for (guard, body) in rhs.parts.iter().rev() {
-        before(pieces, &[Piece::Text(mark), Piece::Expr(body)])?;
+        one(pieces, words, Piece::Expr(body))?;
         if let Some(guard) = guard {
-            before(pieces, &[Piece::Text(" | "), Piece::Expr(guard)])?;
+            one(pieces, " | %", Piece::Expr(guard))?;
         }
     }
     Ok(())
 }
 
-fn decl_pieces<'a>(
-    pieces: &mut Pieces<'a>,
-    text: &mut String,
-    decl: &'a Decl,
-) -> Result<(), AllocError> {
+fn decl_pieces<'a>(pieces: &mut Pieces<'a>, decl: &'a Decl) -> Result<(), AllocError> {
     match &decl.kind {
         DeclKind::DataType {
             name,
             params,
             constrs,
-        } => {
-            for place in (0..constrs.len()).rev() {
-                pieces.push(Piece::Constr(&constrs[place]))?;
-                if place > 0 {
-                    pieces.push(Piece::Text(" | "))?;
-                }
-            }
-            before(
-                pieces,
-                &[
-                    Piece::Text("data "),
-                    Piece::Name(name),
-                    Piece::Names(params),
-                    Piece::Text(" = "),
-                ],
-            )
-        }
+        } => three(
+            pieces,
+            "data %% = %",
+            Piece::Name(name),
+            Piece::Names(params),
+            Piece::Constrs(constrs),
+        ),
         DeclKind::Newtype {
             name,
             params,
             constr,
-        } => before(
+        } => three(
             pieces,
-            &[
-                Piece::Text("newtype "),
-                Piece::Name(name),
-                Piece::Names(params),
-                Piece::Text(" = "),
-                Piece::Constr(constr),
-            ],
+            "newtype %% = %",
+            Piece::Name(name),
+            Piece::Names(params),
+            Piece::Constr(constr),
         ),
-        DeclKind::Synonym { name, params, ty } => before(
+        DeclKind::Synonym { name, params, ty } => three(
             pieces,
-            &[
-                Piece::Text("type "),
-                Piece::Name(name),
-                Piece::Names(params),
-                Piece::Text(" = "),
-                Piece::Type(ty),
-            ],
+            "type %% = %",
+            Piece::Name(name),
+            Piece::Names(params),
+            Piece::Type(ty),
         ),
-        DeclKind::Signature { names, ty } => before(
+        DeclKind::Signature { names, ty } => two(
             pieces,
-            &[
-                Piece::Text("signature"),
-                Piece::Names(names),
-                Piece::Text(" :: "),
-                Piece::Type(ty),
-            ],
+            "signature% :: %",
+            Piece::Names(names),
+            Piece::Type(ty),
         ),
-        DeclKind::Clause { name, pats, rhs } => {
-            pieces.push(Piece::Rhs(rhs, " = "))?;
-            before_pats(pieces, pats)?;
-            before(pieces, &[Piece::Name(name)])
-        }
-        DeclKind::Pattern { place, pat, rhs } => {
-            write!(text, "binding@{} ", place.column)?;
-            before(pieces, &[Piece::Pat(pat), Piece::Rhs(rhs, " = ")])
-        }
+        DeclKind::Clause { name, pats, rhs } => three(
+            pieces,
+            "%%%",
+            Piece::Name(name),
+            Piece::Pats(pats),
+            Piece::Rhs(rhs, " = %"),
+        ),
+        DeclKind::Pattern { place, pat, rhs } => three(
+            pieces,
+            "binding@% %%",
+            Piece::Column(place.column),
+            Piece::Pat(pat),
+            Piece::Rhs(rhs, " = %"),
+        ),
+    }
+}
+
+fn choice_pieces<'a>(pieces: &mut Pieces<'a>, list: &'a ImportList) -> Result<(), AllocError> {
+    match list {
+        ImportList::Every => Ok(()),
+        ImportList::Only(items) => one(pieces, " (%)", Piece::Items(&items.items)),
+        ImportList::Hiding(items) => one(pieces, " hiding (%)", Piece::Items(&items.items)),
     }
 }
 
 fn import_pieces<'a>(pieces: &mut Pieces<'a>, import: &'a Import) -> Result<(), AllocError> {
-    match &import.list {
-        List::Every => {}
-        List::Only(items) => before(
+    match &import.alias {
+        Some(alias) => two(
             pieces,
-            &[
-                Piece::Text(" ("),
-                Piece::Items(&items.items),
-                Piece::Text(")"),
-            ],
+            " as %%",
+            Piece::Name(alias),
+            Piece::Choice(&import.list),
         )?,
-        List::Hiding(items) => before(
-            pieces,
-            &[
-                Piece::Text(" hiding ("),
-                Piece::Items(&items.items),
-                Piece::Text(")"),
-            ],
-        )?,
+        None => one(pieces, "%", Piece::Choice(&import.list))?,
     }
-    if let Some(alias) = &import.alias {
-        before(pieces, &[Piece::Text(" as "), Piece::Name(alias)])?;
-    }
-    pieces.push(Piece::Name(&import.name))?;
-    pieces.push(Piece::Text(if import.qualified {
-        "import qualified "
+    let words = if import.qualified {
+        "import qualified %"
     } else {
-        "import "
-    }))?;
-    Ok(())
+        "import %"
+    };
+    one(pieces, words, Piece::Name(&import.name))
 }
 
-fn items_pieces<'a>(pieces: &mut Pieces<'a>, items: &'a [Item]) -> Result<(), AllocError> {
-    for place in (0..items.len()).rev() {
-        match &items[place] {
-            Item::Var(name) => pieces.push(Piece::Name(name))?,
-            Item::Con(name, subs) => before(pieces, &[Piece::Name(name), Piece::Subs(subs)])?,
-        }
-        if place > 0 {
-            pieces.push(Piece::Text(", "))?;
-        }
-    }
-    Ok(())
-}
-
-fn subs_pieces<'a>(pieces: &mut Pieces<'a>, subs: &'a Subs) -> Result<(), AllocError> {
+fn subs_pieces<'a>(pieces: &mut Pieces<'a>, subs: &'a SubItems) -> Result<(), AllocError> {
     match subs {
-        Subs::None => Ok(()),
-        Subs::All => before(pieces, &[Piece::Text("(..)")]),
-        Subs::Some(names) => before(
-            pieces,
-            &[
-                Piece::Text("("),
-                Piece::Names(&names.items),
-                Piece::Text(" )"),
-            ],
-        ),
+        SubItems::None => Ok(()),
+        SubItems::All => one(pieces, "%", Piece::Text("(..)")),
+        SubItems::Some(names) => one(pieces, "(% )", Piece::Names(&names.items)),
     }
-}
-
-fn decls_pieces<'a>(pieces: &mut Pieces<'a>, decls: &'a [Decl]) -> Result<(), AllocError> {
-    for place in (0..decls.len()).rev() {
-        pieces.push(Piece::Decl(&decls[place]))?;
-        if place > 0 {
-            pieces.push(Piece::Text(" ; "))?;
-        }
-    }
-    Ok(())
 }
 
 /// Writes a piece, or puts its parts before all others.
 fn put<'a>(text: &mut String, pieces: &mut Pieces<'a>, piece: Piece<'a>) -> Result<(), AllocError> {
     match piece {
         Piece::Text(part) => text.push_str(part),
+        Piece::Column(column) => write!(text, "{column}"),
         Piece::Name(name) => put_name(text, name),
         Piece::Names(names) => put_names(text, names),
         Piece::Literal(literal) => text.push_str(literal_text(literal)),
         Piece::Type(ty) => type_pieces(pieces, ty),
+        Piece::Types(types) => types_pieces(pieces, types),
         Piece::Pat(pat) => pat_pieces(pieces, pat),
+        Piece::Pats(pats) => pats_pieces(pieces, pats),
         Piece::Expr(expr) => expr_pieces(pieces, expr),
-        Piece::Alt(alt) => before(
+        Piece::Exprs(exprs) => exprs_pieces(pieces, exprs),
+        Piece::Alt(alt) => two(
             pieces,
-            &[Piece::Pat(&alt.pat), Piece::Rhs(&alt.rhs, " -> ")],
+            "%%",
+            Piece::Pat(&alt.pat),
+            Piece::Rhs(&alt.rhs, " -> %"),
         ),
-        Piece::Rhs(rhs, mark) => rhs_pieces(pieces, rhs, mark),
-        Piece::Constr(constr) => {
-            before_types(pieces, &constr.args)?;
-            before(pieces, &[Piece::Name(&constr.name)])
-        }
-        Piece::Decl(decl) => decl_pieces(pieces, text, decl),
+        Piece::Alts(alts) => alts_pieces(pieces, alts),
+        Piece::Rhs(rhs, words) => rhs_pieces(pieces, rhs, words),
+        Piece::Constr(constr) => two(
+            pieces,
+            "%%",
+            Piece::Name(&constr.name),
+            Piece::Types(&constr.args),
+        ),
+        Piece::Constrs(constrs) => constrs_pieces(pieces, constrs),
+        Piece::Decl(decl) => decl_pieces(pieces, decl),
         Piece::Decls(decls) => decls_pieces(pieces, decls),
         Piece::Import(import) => import_pieces(pieces, import),
+        Piece::Choice(list) => choice_pieces(pieces, list),
         Piece::Items(items) => items_pieces(pieces, items),
         Piece::Subs(subs) => subs_pieces(pieces, subs),
     }
 }
 
-/// The text of a module's imports and declarations.
-fn module_text(alloc: Global, module: &Module) -> Result<String, AllocError> {
-    let mut text = String::new(alloc);
-    let mut pieces = Vec::new(alloc);
+/// Puts the pieces of a module's imports and declarations, the first in front.
+fn begin<'a>(pieces: &mut Pieces<'a>, module: &'a Module) -> Result<(), AllocError> {
     pieces.push(Piece::Decls(&module.decls.items))?;
     for import in module.header.imports.items.iter().rev() {
-        before(&mut pieces, &[Piece::Import(import)])?;
+        pieces.push(Piece::Import(import))?;
     }
+    Ok(())
+}
+
+/// Writes all pieces.
+fn put_all(text: &mut String, pieces: &mut Pieces<'_>) -> Result<(), AllocError> {
     // No row has so many pieces.
     for _ in 0..1000 {
         let Some(piece) = pieces.pop() else {
             break;
         };
-        put(&mut text, &mut pieces, piece)?;
+        put(text, pieces, piece)?;
     }
+    Ok(())
+}
+
+/// The text of a module's imports and declarations.
+fn module_text(alloc: Global, module: &Module) -> Result<String, AllocError> {
+    let mut pieces = Vec::new(alloc);
+    begin(&mut pieces, module)?;
+    let mut text = String::new(alloc);
+    put_all(&mut text, &mut pieces)?;
     Ok(text)
+}
+
+/// Whether this is one module, with this text.
+fn is_one_module(alloc: Global, modules: &[Module], wanted: &str) -> Result<bool, AllocError> {
+    if modules.len() != 1 {
+        return Ok(false);
+    }
+    Ok(module_text(alloc, &modules[0])?.as_str() == wanted)
 }
 
 /// Whether the source has one module, with this text.
@@ -472,9 +463,5 @@ pub(crate) fn is_spelled(alloc: Global, source: &[u8], wanted: &str) -> Result<b
     let Ok(modules) = parse(alloc, source, &tokens) else {
         return Ok(false);
     };
-    if modules.len() != 1 {
-        return Ok(false);
-    }
-    let text = module_text(alloc, &modules[0])?;
-    Ok(text.as_str() == wanted)
+    is_one_module(alloc, &modules, wanted)
 }

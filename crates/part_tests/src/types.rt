@@ -7,9 +7,8 @@ ghost use Rattle.hm_types.specs.Monotypes.{arguments_of};
 ghost use Rattle.hm_types.specs.Shape.{type_of, types_of};
 ghost use Rattle.hm_types.specs.Schemes.{AllHaveArities, AllHaveNoRigid, HasArities, HasNoRigid};
 
-use hm_types::{
-    Entity, Head, Scheme, Text, Ty, Types, canonical, instance_of, instantiate, scheme_text,
-};
+use hm_instances::{canonical, instance_of, instantiate};
+use hm_types::{Entity, Head, Scheme, Text, Ty, Types, scheme_text};
 use std::alloc::{AllocError, Global};
 use std::test::Fail;
 
@@ -19,8 +18,8 @@ fn named(alloc: Global, module: &str, name: &str, arguments: Vec<Ty>) -> Result<
     ensures not_rigid { IfOk result (λ t. HasNoRigid (type_of t)) }
     ensures arities { IfOk result (λ t. HasArities (type_of t)) }
 {
-    let module = Text::new(String::from_str(alloc, module)?);
-    let name = Text::new(String::from_str(alloc, name)?);
+    let module = Text::new(String::from_str(alloc, module)?)?;
+    let name = Text::new(String::from_str(alloc, name)?)?;
     Ok(Ty::App(Head::Named(Entity { module, name }), Types::new(arguments)))
 }
 
@@ -85,6 +84,54 @@ fn of_integers(alloc: Global) -> Result<Ty, AllocError>
     Ok(Ty::function(alloc, argument, outcome)?)
 }
 
+/// A function from the function of two variables to a third.
+fn of_function(alloc: Global) -> Result<Ty, AllocError>
+    ensures not_rigid { IfOk result (λ t. HasNoRigid (type_of t)) }
+    ensures arities { IfOk result (λ t. HasArities (type_of t)) }
+{
+    let argument = chain(alloc, 0, 1)?;
+    Ok(Ty::function(alloc, argument, Ty::Var(2))?)
+}
+
+/// A type of Prelude's with one argument.
+fn maybe(alloc: Global, t: Ty) -> Result<Ty, AllocError>
+    requires not_rigid { HasNoRigid (type_of t) }
+    requires arities { HasArities (type_of t) }
+    ensures not_rigid { IfOk result (λ t. HasNoRigid (type_of t)) }
+    ensures arities { IfOk result (λ t. HasArities (type_of t)) }
+{
+    let arguments = one(alloc, t)?;
+    Ok(named(alloc, "Prelude", "Maybe", arguments)?)
+}
+
+/// The same twice, of a variable.
+fn maybe_twice(alloc: Global) -> Result<Ty, AllocError>
+    ensures not_rigid { IfOk result (λ t. HasNoRigid (type_of t)) }
+    ensures arities { IfOk result (λ t. HasArities (type_of t)) }
+{
+    let inner = maybe(alloc, Ty::Var(5))?;
+    Ok(maybe(alloc, inner)?)
+}
+
+/// A function from a variable to the function between modules.
+fn to_modules(alloc: Global) -> Result<Ty, AllocError>
+    ensures not_rigid { IfOk result (λ t. HasNoRigid (type_of t)) }
+    ensures arities { IfOk result (λ t. HasArities (type_of t)) }
+{
+    let outcome = between_modules(alloc)?;
+    Ok(Ty::function(alloc, Ty::Var(1), outcome)?)
+}
+
+/// A list of a variable beside the unit.
+fn list_and_unit(alloc: Global) -> Result<Ty, AllocError>
+    ensures not_rigid { IfOk result (λ t. HasNoRigid (type_of t)) }
+    ensures arities { IfOk result (λ t. HasArities (type_of t)) }
+{
+    let list = list(alloc, Ty::Var(9))?;
+    let unit = Ty::App(Head::Unit, Types::new(Vec::new(alloc)));
+    Ok(pair(alloc, list, unit)?)
+}
+
 /// The types of the worked rows, by number.
 fn example(alloc: Global, row: usize) -> Result<Ty, AllocError>
     ensures not_rigid { IfOk result (λ t. HasNoRigid (type_of t)) }
@@ -92,24 +139,11 @@ fn example(alloc: Global, row: usize) -> Result<Ty, AllocError>
 {
     match row {
         0 => chain(alloc, 0, 26),
-        1 => {
-            let argument = chain(alloc, 0, 1)?;
-            Ok(Ty::function(alloc, argument, Ty::Var(2))?)
-        }
-        2 => {
-            let inner = named(alloc, "Prelude", "Maybe", one(alloc, Ty::Var(5))?)?;
-            Ok(named(alloc, "Prelude", "Maybe", one(alloc, inner)?)?)
-        }
+        1 => of_function(alloc),
+        2 => maybe_twice(alloc),
         3 => Ok(Ty::function(alloc, Ty::Var(7), Ty::Var(2))?),
-        4 => {
-            let outcome = between_modules(alloc)?;
-            Ok(Ty::function(alloc, Ty::Var(1), outcome)?)
-        }
-        5 => {
-            let list = list(alloc, Ty::Var(9))?;
-            let unit = Ty::App(Head::Unit, Types::new(Vec::new(alloc)));
-            Ok(pair(alloc, list, unit)?)
-        }
+        4 => to_modules(alloc),
+        5 => list_and_unit(alloc),
         6 => of_integers(alloc),
         _ => Ok(Ty::function(alloc, Ty::Var(3), Ty::Var(3))?),
     }
@@ -117,7 +151,7 @@ fn example(alloc: Global, row: usize) -> Result<Ty, AllocError>
 
 /// The canonical scheme of the type of a worked row.
 fn scheme_of(alloc: Global, row: usize) -> Result<Scheme, AllocError> {
-    Ok(canonical(alloc, &example(alloc, row)?)?)
+    canonical(alloc, &example(alloc, row)?)
 }
 
 /// The texts of the canonical schemes, and how many variables each has.
@@ -146,21 +180,32 @@ fn is_copied(alloc: Global, scheme: &Scheme) -> Result<bool, AllocError> {
     Ok(scheme.body().is_same(copied.body()) && scheme.vars() == copied.vars())
 }
 
+/// Whether a scheme has this text and so many variables, and is copied as it is.
+fn is_as_told(alloc: Global, scheme: &Scheme, text: &str, vars: usize) -> Result<bool, AllocError> {
+    Ok(scheme.vars() == vars && has_text(alloc, scheme, text)? && is_copied(alloc, scheme)?)
+}
+
+/// The same of the scheme of a worked row.
+fn is_row_as_told(alloc: Global, row: usize, text: &str, vars: usize) -> Result<bool, AllocError> {
+    is_as_told(alloc, &scheme_of(alloc, row)?, text, vars)
+}
+
 #[test]
 fn texts_of_canonical_schemes(rt: HostRuntime) -> Result<(), Fail> {
     for (row, (text, vars)) in TEXTS.iter().enumerate() {
-        let scheme = scheme_of(rt.alloc(), row)?;
-        assert!(rt; scheme.vars() == *vars && has_text(rt.alloc(), &scheme, text)?);
-        assert!(rt; is_copied(rt.alloc(), &scheme)?);
+        assert!(rt; is_row_as_told(rt.alloc(), row, text, *vars)?);
     }
     Ok(())
 }
 
+/// Whether a scheme is an instance of that of a worked row.
+fn is_instance_of(alloc: Global, special: &Scheme, general: usize) -> Result<bool, AllocError> {
+    instance_of(alloc, special, &scheme_of(alloc, general)?)
+}
+
 /// Whether the scheme of the first row is an instance of that of the second.
 fn is_instance(alloc: Global, special: usize, general: usize) -> Result<bool, AllocError> {
-    let special = scheme_of(alloc, special)?;
-    let general = scheme_of(alloc, general)?;
-    Ok(instance_of(alloc, &special, &general)?)
+    is_instance_of(alloc, &scheme_of(alloc, special)?, general)
 }
 
 /// Rows, and whether the scheme of the first is an instance of that of the second.
@@ -186,24 +231,47 @@ fn is_rigid(alloc: Global, t: &Ty) -> Result<bool, AllocError> {
     Ok(t.is_same(&wanted))
 }
 
-/// Whether types are put for the variables of a scheme, by either call.
-fn puts_types(alloc: Global, scheme: &Scheme, types: &[Ty]) -> Result<bool, AllocError> {
-    if types.len() != scheme.vars() || !is_rigid(alloc, &instantiate(alloc, scheme, types)?)? {
+/// Whether `instantiate` puts types for the variables of a scheme.
+fn instantiates(alloc: Global, scheme: &Scheme, types: &[Ty]) -> Result<bool, AllocError> {
+    if types.len() != scheme.vars() {
         return Ok(false);
     }
-    Ok(is_rigid(alloc, &scheme.body().replace_all(alloc, types)?)?)
+    is_rigid(alloc, &instantiate(alloc, scheme, types)?)
+}
+
+/// Whether `replace_all` puts types for the variables of a scheme's body.
+fn replaces(alloc: Global, scheme: &Scheme, types: &[Ty]) -> Result<bool, AllocError> {
+    is_rigid(alloc, &scheme.body().replace_all(alloc, types)?)
+}
+
+/// Whether types are put for the variables of a scheme, by either call.
+fn puts_types(alloc: Global, scheme: &Scheme, types: &[Ty]) -> Result<bool, AllocError> {
+    Ok(instantiates(alloc, scheme, types)? && replaces(alloc, scheme, types)?)
+}
+
+/// The same of the scheme of a worked row.
+fn puts_types_for(alloc: Global, row: usize, types: &[Ty]) -> Result<bool, AllocError> {
+    puts_types(alloc, &scheme_of(alloc, row)?, types)
 }
 
 #[test]
 fn instances_by_types(rt: HostRuntime) -> Result<(), Fail> {
-    let scheme = scheme_of(rt.alloc(), 3)?;
-    assert!(rt; puts_types(rt.alloc(), &scheme, &[Ty::Rigid(0), Ty::Rigid(1)])?);
+    assert!(rt; puts_types_for(rt.alloc(), 3, &[Ty::Rigid(0), Ty::Rigid(1)])?);
     Ok(())
+}
+
+/// Whether the first variable alone occurs in a type.
+fn has_first(t: &Ty) -> bool {
+    t.contains(0) && !t.contains(1)
+}
+
+/// Whether it does in the function from it to the second rigid variable.
+fn occurs_in_function(alloc: Global) -> Result<bool, AllocError> {
+    Ok(has_first(&Ty::function(alloc, Ty::Var(0), Ty::Rigid(1))?))
 }
 
 #[test]
 fn occurrences(rt: HostRuntime) -> Result<(), Fail> {
-    let t = Ty::function(rt.alloc(), Ty::Var(0), Ty::Rigid(1))?;
-    assert!(rt; t.contains(0) && !t.contains(1));
+    assert!(rt; occurs_in_function(rt.alloc())?);
     Ok(())
 }
