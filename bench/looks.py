@@ -1,16 +1,20 @@
 #!/usr/bin/env python3
 """Builds the program bench/looks over hm_store and hm_check, in a copy of the crates that it needs, and runs it.
 
-`looks.py [--seconds N]`: it prints how many looks a second four workers make at published interfaces, 1,000,000 in all, beside one that
-publishes: without the lock, and under one. Three rounds of each. The program is not proved: `rt try` runs it, with the checks of a trial run,
-which slow both kinds of looks. What the workers without a lock saw is compared with the journal. Ends with the status of the program.
+`looks.py [--seconds N] [--trial]`: it prints how many looks a second four workers make at published interfaces, 1,000,000 in all, beside one that
+publishes: without the lock, and under one. Three rounds of each. The program is not proved: it is built natively (native.py), or with --trial
+run by `rt try`, whose checks cost more than either kind of look. What the workers without a lock saw is compared with the journal. Ends
+with the status of the program.
 """
 import argparse
 import os
+import pathlib
 import shutil
 import subprocess
 import sys
 import tempfile
+
+import native
 
 TOP = os.path.dirname(os.path.dirname(os.path.abspath(__file__)))
 USED = ["hm_syntax", "hm_types", "hm_sources", "hm_outcomes", "hm_check", "hm_published", "hm_store", "hm_shared"]
@@ -36,7 +40,8 @@ def below(lines, names):
 def main():
     words = argparse.ArgumentParser(description=__doc__, formatter_class=argparse.RawDescriptionHelpFormatter)
     words.add_argument("--seconds", type=int, default=600)
-    seconds = words.parse_args().seconds
+    words.add_argument("--trial", action="store_true")
+    options = words.parse_args()
     lines = lines_of_crates()
     needed = below(lines, USED)
     with tempfile.TemporaryDirectory() as work:
@@ -49,7 +54,10 @@ def main():
         with open(os.path.join(work, "crates.txt"), "w", encoding="utf-8") as file:
             file.write("".join(line for name, line in lines.items() if name in needed))
             file.write("looks: " + " ".join(USED) + " anyhow\n")
-        sys.exit(subprocess.run(["rt", "try", "--seconds", str(seconds)], cwd=program).returncode)
+        if options.trial:
+            sys.exit(subprocess.run(["rt", "try", "--seconds", str(options.seconds)], cwd=program).returncode)
+        native.build(os.path.join(work, "looks"), "looks", pathlib.Path(work))
+        sys.exit(subprocess.run([os.path.join(work, "looks")], timeout=options.seconds).returncode)
 
 
 if __name__ == "__main__":
