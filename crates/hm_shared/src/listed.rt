@@ -108,7 +108,9 @@ impl<J: Naming> Listed<J> {
             return Err((Refusal::Memory, publication.outcome));
         };
         self.front = front;
-        self.store.publish(worker, number, publication.outcome)
+        self.store
+            .publish_fitting(worker, number, publication.outcome);
+        Ok(())
     }
 
     /// What look-ups see of it.

@@ -5,7 +5,7 @@ ghost use Rattle.std.specs.Option.{option_copied};
 ghost use Rattle.hm_graph.specs.Digraph.{Reaches};
 ghost use Rattle.hm_verdicts.specs.Sets.{IsLawfulSet};
 ghost use Rattle.hm_outcomes.specs.Outcomes.{IsGood, verdict_of};
-ghost use Rattle.hm_store.specs.Builds.{IsAllSettled, IsLegal, IsNew, Settles, after_claim, after_stop, interface_at, kept_at, state_of, status_by};
+ghost use Rattle.hm_store.specs.Builds.{IsAllSettled, IsLegal, IsNew, Refuses, Settles, after_claim, after_stop, interface_at, kept_at, state_of, status_by, with_kept};
 ghost use Rattle.hm_store.specs.Objects.{is_publication, publications, reply_of, status_at};
 ghost use Rattle.hm_store.specs.declared.object.Claimed.TheVariants.{Done};
 ghost use Rattle.hm_store.specs.declared.object.Entry.TheVariants.{Fail, Publish};
@@ -205,23 +205,32 @@ impl Store {
         match self.refusal(worker, number, &outcome) {
             Some(refusal) => Err((refusal, outcome)),
             None => {
-                self.statuses[number] = status_by(outcome.verdict());
-                self.outcomes[number] = Some(outcome);
-                self.claimed -= 1;
-                let importers = self.plan.importers(number);
-                close_imports(
-                    &mut self.open_imports,
-                    &self.statuses,
-                    &mut self.ready,
-                    importers,
-                );
-                self.journal.push_reserved(Entry::Publish {
-                    worker,
-                    module: number,
-                });
+                self.publish_fitting(worker, number, outcome);
                 Ok(())
             }
         }
+    }
+
+    /// Publishes the interface of a module, where `refusal` has nothing against it. No tree is compared again.
+    pub fn publish_fitting(&mut self, worker: usize, number: usize, outcome: Outcome)
+        requires good { IsGood outcome.verdict }
+        requires fits { Refuses self.old worker number outcome None }
+        ensures { self.new ≡ with_kept self.old number outcome (Publish worker number) }
+    {
+        self.statuses[number] = status_by(outcome.verdict());
+        self.outcomes[number] = Some(outcome);
+        self.claimed -= 1;
+        let importers = self.plan.importers(number);
+        close_imports(
+            &mut self.open_imports,
+            &self.statuses,
+            &mut self.ready,
+            importers,
+        );
+        self.journal.push_reserved(Entry::Publish {
+            worker,
+            module: number,
+        });
     }
 
     /// Tells that a module that this worker has claimed is faulty. The modules that depend on it are skipped.

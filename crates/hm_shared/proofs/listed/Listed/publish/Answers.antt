@@ -1,4 +1,4 @@
-use Rattle.std.proofs.Common.{◌++◌, ◌∷◌, [], None, ap, ◌∙◌}
+use Rattle.std.proofs.Common.{◌++◌, ◌∷◌, [], None, Ok, ap, ◌∙◌}
 use Rattle.hm_store.specs.Builds.{Refuses}
 use Rattle.hm_shared.proofs.JobImports.{same_settled}
 use Rattle.hm_shared.proofs.Listing.{may_follow, listed_settled, publication}
@@ -17,4 +17,4 @@ invariant_of-self g c =
     let ps = c.self.inside.front in
     let accepted : Refuses b c.args.worker c.args.number c.args.outcome None = c.in_default.ensures in
     let more = c.in-Ok.ensures.ok ∙ ap (λ n. ps ++ publication c.args.number n c.args.outcome ∷ []) c.entries-place.ensures.is in
-    (rw more (listed_settled b ps c.args.worker c.args.number c.args.outcome c.entries-place.ensures.legal accepted c.self.invariant.0 c.publish-2.new.self c.publish-2.result c.publish-2.ensures), same_settled b c.publish-2.new.self c.args.worker c.args.number c.args.outcome _ c.publish-2.result c.publish-2.ensures c.self.invariant.1)
+    (rw more (listed_settled b ps c.args.worker c.args.number c.args.outcome c.entries-place.ensures.legal accepted c.self.invariant.0 c.publish_fitting.new.self (Ok tt) (accepted, c.publish_fitting.ensures)), same_settled b c.publish_fitting.new.self c.args.worker c.args.number c.args.outcome _ (Ok tt) (accepted, c.publish_fitting.ensures) c.self.invariant.1)
