@@ -4,6 +4,7 @@ ghost use Rattle.std.specs.Prelude.{◌≡◌, []};
 use crate::sources::module_of;
 use crate::stores::{IMPORTED, IMPORTER, OTHER, outcome_of, store_of};
 use hm_check::{CheckFault, check_module_within};
+use hm_prelude::SharedPrelude;
 use hm_published::{Naming, Opened};
 use hm_shared::{Brands, Crew, Pass, Shared};
 use hm_store::{Entry, Record, Refusal, Status, Store, Turn};
@@ -48,7 +49,8 @@ fn worker_of(step: &Step) -> usize {
 /// Whether the check of a source's module is refused for want of memory, where no type may have a level.
 fn lacks_memory(alloc: Global, source: &[u8]) -> Result<bool, Fail> {
     let module = module_of(alloc, source)?;
-    Ok(check_module_within(alloc, &module, &[], 0).err() == Some(CheckFault::Memory))
+    let prelude = SharedPrelude::new(alloc)?;
+    Ok(check_module_within(alloc, &prelude, &module, &[], 0).err() == Some(CheckFault::Memory))
 }
 
 /// Publishes the outcome of a source, and tells why that is refused, if it is.

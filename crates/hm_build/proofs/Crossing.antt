@@ -39,6 +39,7 @@ use Rattle.hm_store.proofs.object.Entry.TheSendSync as Entry
 use Rattle.hm_store.proofs.object.Status.TheSendSync as Status
 use Rattle.hm_build.specs.contracts.finished_build.Finished as Finished
 use Rattle.hm_build.specs.contracts.workers.Work as Work
+use Rattle.hm_prelude.specs.contracts.shared_prelude.SharedPrelude as SharedPrelude
 use Rattle.core.specs.declared.ledger.Ledger.{Ghosts}
 use Rattle.hm_published.proofs.history.Front.TheSendSync as FrontFacts
 use Rattle.logbook.proofs.word.Word.TheSendSync as Word
@@ -64,6 +65,9 @@ interface_send = search (types, parts_of_types, crosses, sendable) depth 30 fits
 
 pub interface_sync : IsSync Interface.the_row
 interface_sync = search (types, parts_of_types, crosses, sendable) depth 30 fits 5000
+
+pub prelude_sync : IsSync SharedPrelude.the_row
+prelude_sync = search (interface_send, interface_sync, crosses, sendable) depth 30 fits 5000
 
 pub verdict_field_send : IsSend Verdict.the_field.row
 verdict_field_send = search (interface_send, interface_sync, Fault.the_send, crosses, sendable) depth 30 fits 5000
@@ -135,7 +139,7 @@ module _ (L : RattleType) (l : Ghosts L.Denot) (j : Names L.Denot) (send : IsSen
                 search (module_send, module_sync, crosses, sendable) depth 30 fits 5000,
                 (
                   search (crosses, sendable) depth 30,
-                  (search (gate, sendable) depth 30, (search (crosses, sendable) depth 30, tt)),
+                  (search (gate, sendable) depth 30, (search (crosses, sendable) depth 30, (search (prelude_sync, sendable) depth 30, tt))),
                 ),
               ),
             ),

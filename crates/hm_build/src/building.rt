@@ -15,6 +15,7 @@ use crate::{BuildFault, Finished, Gate};
 use core::thread::Stack;
 use hm_graph::Plan;
 use hm_modules::set_modules_by;
+use hm_prelude::SharedPrelude;
 use hm_published::{Naming, Opened};
 use hm_reports::may_work;
 use hm_shared::{Brands, Crew, Shared};
@@ -37,6 +38,7 @@ struct Fresh {
     modules: Vec<Arc<Module>>,
     imports: Vec<Vec<usize>>,
     store: Store,
+    prelude: SharedPrelude,
 }
 
 /// A build that is to be made: so many workers check the modules of these sources, each behind this gate.
@@ -89,6 +91,7 @@ fn set_up(alloc: Global, modules: Vec<Module>, plan: Plan) -> Result<Fresh, Allo
     ensures same { IfOk result (λ f. map arc_value f.modules.items ≡ f.store.modules) }
     ensures empty { IfOk result (λ f. f.store.journal ≡ []) }
 {
+    let prelude = SharedPrelude::new(alloc)?;
     let modules = shared_modules(alloc, modules)?;
     let imports = import_rows(alloc, &plan)?;
     let store = Store::new(alloc, lend_all(alloc, modules.as_slice())?, plan)?;
@@ -96,6 +99,7 @@ fn set_up(alloc: Global, modules: Vec<Module>, plan: Plan) -> Result<Fresh, Allo
         modules,
         imports,
         store,
+        prelude,
     })
 }
 
@@ -152,6 +156,7 @@ fn worked<L: Ledger + Naming + Send + Sync, G: Gate + Sync, R: Threads + Wait + 
         modules,
         imports,
         store,
+        prelude,
     } = fresh;
     let workers = task.workers;
     let room = room_for(imports.as_slice());
@@ -164,6 +169,7 @@ fn worked<L: Ledger + Naming + Send + Sync, G: Gate + Sync, R: Threads + Wait + 
         imports: imports.as_slice(),
         gate: task.gate,
         depth: depth_limit(task.sources),
+        prelude: &prelude,
     };
     let stack = worker_stack_size(task.sources);
     run_workers(rt, &work, passes.as_mut_slice(), stack)?;

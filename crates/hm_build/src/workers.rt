@@ -3,6 +3,7 @@
 use crate::{BuildFault, Gate};
 use hm_check::{CheckFault, check_module_within};
 use hm_outcomes::Outcome;
+use hm_prelude::SharedPrelude;
 use hm_published::{LookFault, Naming, Published, Step};
 use hm_shared::{Pass, Shared};
 use hm_store::{Refusal, Turn};
@@ -56,6 +57,7 @@ where
     pub gate: &'a G,
     /// How many levels a type may have.
     pub depth: usize,
+    pub prelude: &'a SharedPrelude,
 }
 
 /// The published interfaces of these modules. No lock is taken.
@@ -115,6 +117,7 @@ fn check_one<L: Ledger + Naming, G: Gate, W: Wait + Drop, R: Wait>(
     work.gate.enter(pass.worker(), number);
     match check_module_within(
         work.alloc,
+        work.prelude,
         &work.modules[number],
         interfaces.as_slice(),
         work.depth,

@@ -17,6 +17,7 @@ use hm_infer::{InferFault, infer_within};
 use hm_interfaces::export;
 use hm_names::{Core, Schemes, ScopeFault};
 use hm_outcomes::{Outcome, Verdict};
+use hm_prelude::SharedPrelude;
 use hm_scope::scope_within;
 use hm_syntax::{Module, Row};
 use hm_types::Interface;
@@ -72,6 +73,7 @@ fn core_verdict(alloc: Global, core: &Core, depth: usize) -> Result<Verdict, All
 /// The verdict of a module for the interfaces that it asks for.
 fn module_verdict(
     alloc: Global,
+    prelude: &SharedPrelude,
     module: &Module,
     imports: &[Arc<Interface>],
     depth: usize,
@@ -79,7 +81,7 @@ fn module_verdict(
     requires { AreImportsOf «module».now (map arc_value imports.now) }
     ensures { IfOk result (λ v. IsVerdict «module».now (prelude_interface ∷ map arc_value imports.now) (verdict_of v)) }
 {
-    match scope_within(alloc, module, imports, depth) {
+    match scope_within(alloc, prelude, module, imports, depth) {
         Ok(core) => Ok(core_verdict(alloc, &core, depth)?),
         Err(ScopeFault::Faults(found)) => Ok(Verdict::Faulty(found)),
         Err(ScopeFault::Memory) => Err(AllocError),
@@ -110,12 +112,15 @@ pub fn check_module(
     ensures imports { IfOk result (λ o. o.imports ≡ map arc_value imports.now) }
     ensures right { IfOk result (λ o. IsVerdict (arc_value «module».now) (prelude_interface ∷ map arc_value imports.now) o.verdict) }
 {
-    check_module_within(alloc, module, imports, MOST_LEVELS)
+    let prelude = SharedPrelude::new(alloc)?;
+    check_module_within(alloc, &prelude, module, imports, MOST_LEVELS)
 }
 
-/// The same, where no type has more than `depth` levels. What would need one is refused for want of memory.
+/// The same, with a Prelude that was made before, and where no type has more than `depth` levels. What would need one is refused for want of
+/// memory.
 pub fn check_module_within(
     alloc: Global,
+    prelude: &SharedPrelude,
     module: &Arc<Module>,
     imports: &[Arc<Interface>],
     depth: usize,
@@ -129,7 +134,7 @@ pub fn check_module_within(
     if !are_imports_of(alloc, module, imports)? {
         return Err(CheckFault::Imports);
     }
-    let verdict = module_verdict(alloc, module, imports, depth)?;
+    let verdict = module_verdict(alloc, prelude, module, imports, depth)?;
     let imports = shared(alloc, imports)?;
     Ok(Outcome::new(module.clone()?, imports, verdict))
 }

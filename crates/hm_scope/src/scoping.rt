@@ -24,7 +24,7 @@ use hm_import_faults::import_faults;
 use hm_imports::{interfaces_of, scope_of};
 use hm_names::{Core, Exported, Fault, Namespace, ScopeFault};
 use hm_phases::{TreeFaults, by_phases, first_faults, phase_answer};
-use hm_prelude::prelude;
+use hm_prelude::SharedPrelude;
 use hm_resolve::{Walked, walk};
 use hm_synonyms::{OwnSynonyms, own_synonyms, reference_graph, synonym_faults};
 use hm_syntax::{Decl, Module, Row};
@@ -333,15 +333,16 @@ fn outcome_of(
 /// The core of a module, or its faults, where there is memory.
 fn core_or_faults(
     alloc: Global,
+    prelude: &SharedPrelude,
     module: &Module,
     imports: &[Arc<Interface>],
     depth: usize,
 ) -> Result<Result<Core, Row<Fault>>, AllocError>
     ensures { IfOk result (IsOutcome «module».now (prelude_interface ∷ map arc_value imports.now)) }
 {
-    let prelude = Arc::new(alloc, prelude(alloc)?)?;
-    let answer = phases_answer(alloc, module, &prelude, imports, depth)?;
-    outcome_of(alloc, module, &prelude, imports, answer)
+    let prelude = prelude.interface();
+    let answer = phases_answer(alloc, module, prelude, imports, depth)?;
+    outcome_of(alloc, module, prelude, imports, answer)
 }
 
 /// The core of a module for the interfaces of its imports but Prelude, each once, in order of first import; or all faults of the first phase
@@ -351,12 +352,17 @@ pub fn scope(alloc: Global, module: &Module, imports: &[Arc<Interface>]) -> Resu
     ensures core { IfOk result (λ c. IsCore «module».now (prelude_interface ∷ map arc_value imports.now) c) }
     ensures faults { IfErr result (λ e. IsFaulty «module».now (prelude_interface ∷ map arc_value imports.now) e) }
 {
-    scope_within(alloc, module, imports, MOST_LEVELS)
+    match SharedPrelude::new(alloc) {
+        Ok(prelude) => scope_within(alloc, &prelude, module, imports, MOST_LEVELS),
+        Err(AllocError) => Err(ScopeFault::Memory),
+    }
 }
 
-/// The same, where no synonym stands for a type of more than `depth` levels. What would need one is refused for want of memory.
+/// The same, with a Prelude that was made before, and where no synonym stands for a type of more than `depth` levels. What would need one is
+/// refused for want of memory.
 pub fn scope_within(
     alloc: Global,
+    prelude: &SharedPrelude,
     module: &Module,
     imports: &[Arc<Interface>],
     depth: usize,
@@ -365,7 +371,7 @@ pub fn scope_within(
     ensures core { IfOk result (λ c. IsCore «module».now (prelude_interface ∷ map arc_value imports.now) c) }
     ensures faults { IfErr result (λ e. IsFaulty «module».now (prelude_interface ∷ map arc_value imports.now) e) }
 {
-    match core_or_faults(alloc, module, imports, depth) {
+    match core_or_faults(alloc, prelude, module, imports, depth) {
         Err(AllocError) => Err(ScopeFault::Memory),
         Ok(Err(found)) => Err(ScopeFault::Faults(found)),
         Ok(Ok(core)) => Ok(core),

@@ -1,4 +1,4 @@
-use Rattle.std.proofs.Common.{◌∷◌, ◌∙◌, map, subst}
+use Rattle.std.proofs.Common.{◌∷◌, map, subst}
 use Rattle.std.specs.Arc.{arc_value}
 use Rattle.std.specs.Result.{IfOk}
 use Rattle.hm_types.specs.Interfaces.{Exports as Interface}
@@ -10,4 +10,4 @@ pub outcome_of-requires : goal.outcome_of-requires
 outcome_of-requires c = subst (λ (p : Interface). IsAnswer c.args.module.now (p ∷ map arc_value c.args.imports.now) c.in_ok-answer.answer) c.deref.ensures c.in_ok-answer.ensures
 
 pub returns : goal.returns
-returns c = subst (λ (p : Interface). IfOk c.outcome_of.result (IsOutcome c.args.module.now (p ∷ map arc_value c.args.imports.now))) (c.in_ok-prelude-2.ensures.ok ∙ c.in_ok-prelude.ensures) c.outcome_of.ensures
+returns c = subst (λ (p : Interface). IfOk c.outcome_of.result (IsOutcome c.args.module.now (p ∷ map arc_value c.args.imports.now))) c.interface-prelude.ensures c.outcome_of.ensures
