@@ -1,8 +1,8 @@
 #!/usr/bin/env python3
 """Runs the program, and tests of single calls, with each of their allocations refused in turn.
 
-`refuse_allocations.py [--program PROGRAM] [--tests TESTS]`: without words, the proved program beside this folder; with TESTS, the tests
-of the crate `acceptance` too whose names are `refused::..` (`crates/acceptance/out/acceptance_tests`, after `rt ci`). A run of the
+`refuse_allocations.py [--program PROGRAM] [--tests TESTS..]`: without words, the proved program beside this folder; with TESTS, the tests
+of the crates `call_tests` and `acceptance` too whose names are `refused::..` (`crates/NAME/out/NAME_tests`, after `rt ci`). A run of the
 program, with 1 and with 4 workers, must print the right text and end with the right status, or print nothing, say `hmc: no memory` and
 end with 3, or, where a thread could not be started, say `hmc: no worker` and end with 6. Of a set whose types grow, the first, second,
 fourth, eighth .. allocation is refused. A test must pass or end for want of memory, and the call that
@@ -123,11 +123,15 @@ def refuse_in_program(refusing, program):
     return well
 
 
-def refuse_in_tests(refusing, tests):
+def names_of(tests):
     listed = subprocess.run([tests, "--list"], capture_output=True, text=True).stdout
-    names = [line.split(": test")[0] for line in listed.splitlines() if line.startswith("refused::") and line.endswith(": test")]
-    well = {f"refused::{each}_alone" for each in TESTS} <= set(names)
-    for name in names:
+    return [line.split(": test")[0] for line in listed.splitlines() if line.startswith("refused::") and line.endswith(": test")]
+
+
+def refuse_in_tests(refusing, programs):
+    found_tests = [(tests, name) for tests in programs for name in names_of(tests)]
+    well = {f"refused::{each}_alone" for each in TESTS} <= {name for _, name in found_tests}
+    for tests, name in found_tests:
         passes = ending_of_test(refusing.run([tests, name], b"", 0)) == "right"
         total = refusing.total()
         found = collections.Counter()
@@ -154,12 +158,12 @@ def ending_of_test(ran):
 def main():
     words = argparse.ArgumentParser(description=__doc__, formatter_class=argparse.RawDescriptionHelpFormatter)
     words.add_argument("--program", default=os.path.join(TOP, "crates", "hmc", "out", "hmc"))
-    words.add_argument("--tests")
+    words.add_argument("--tests", nargs="+", default=[])
     given = words.parse_args()
     with tempfile.TemporaryDirectory() as work:
         refusing = Refusing(work)
         well = refuse_in_program(refusing, os.path.abspath(given.program))
-        well &= given.tests is None or refuse_in_tests(refusing, os.path.abspath(given.tests))
+        well &= not given.tests or refuse_in_tests(refusing, [os.path.abspath(tests) for tests in given.tests])
     print("as they must be" if well else "NOT as they must be")
     return 0 if well else 1
 

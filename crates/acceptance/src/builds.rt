@@ -15,11 +15,11 @@ use std::thread::Threads;
 const TWO: &[u8] = b"module A where { import B ; x = y }\nmodule B where { y = 'c' }";
 
 /// Modules of which two are skipped.
-const SKIPPED: &[u8] =
+pub(crate) const SKIPPED: &[u8] =
     b"module A where { x = y }\nmodule B where { import A ; import C }\nmodule C where { f x = x x }\nmodule D where { import B }";
 
 /// What is reported of them.
-const SKIPPED_REPORT: &[u8] =
+pub(crate) const SKIPPED_REPORT: &[u8] =
     b"faulty A\n  1:22 unbound y\nskipped B\n  by A\n  by C\nfaulty C\n  3:18 type f\nskipped D\n  by B\n4 modules: 0 good, 2 faulty, 2 skipped\n";
 
 /// Six modules.

@@ -10,20 +10,10 @@ mod checks;
 #[cfg(test)]
 mod devices;
 #[cfg(test)]
-mod equal;
-#[cfg(test)]
 mod hostile;
-#[cfg(test)]
-mod modules;
-#[cfg(test)]
-mod passes;
 #[cfg(test)]
 mod refused;
 #[cfg(test)]
 mod reports;
-#[cfg(test)]
-mod sources;
-#[cfg(test)]
-mod stores;
 #[cfg(test)]
 mod transfers;

@@ -1,4 +1,4 @@
-use Rattle.acceptance.proofs.refused.publish_alone.Given as goal
+use Rattle.call_tests.proofs.refused.publish_alone.Given as goal
 
 abbrev pub ghosts-published-L-Ledger : goal.ghosts-published-L-Ledger
 ghosts-published-L-Ledger g a = record { name = a.blank.name; parts = a.blank.parts }

@@ -1,4 +1,4 @@
-use Rattle.acceptance.proofs.refused.shared_alone.Given as goal
+use Rattle.call_tests.proofs.refused.shared_alone.Given as goal
 
 abbrev pub ghosts-shared_and_back-L-Ledger : goal.ghosts-shared_and_back-L-Ledger
 ghosts-shared_and_back-L-Ledger g a = record { name = a.blank.name; parts = a.blank.parts }

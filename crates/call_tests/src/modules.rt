@@ -1,6 +1,6 @@
 //! What `check_module` answers for single modules: the rows of the tables of runs that have one module without imports, and what it does with
 //! interfaces that it is handed.
-use crate::checks::{DECLARED, ILL_FORMED, TYPED, UNTYPED};
+use crate::rows::{DECLARED, ILL_FORMED, TYPED, UNTYPED};
 use crate::sources::module_of;
 use hm_check::{CheckFault, check_module};
 use hm_names::{Fault, Kind};
