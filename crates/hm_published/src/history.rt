@@ -1,6 +1,6 @@
 //! The list of all publications. It stands in the proofs alone: what threads share is a word, its length, and a front is a beginning of the list
 //! that was seen.
-ghost use Rattle.std.specs.Prelude.{◌≡◌, ◌+◌, ◌==◌, ◌<◌, ◌≤◌, ◌^◌, ◌++◌, ◌∷◌, ◌⊎◌, [], length, MatchBool};
+ghost use Rattle.std.specs.Prelude.{◌≡◌, ◌+◌, ◌==◌, ◌<◌, ◌≤◌, ◌^◌, ◌++◌, ◌∷◌, ◌⊎◌, [], false, length, MatchBool};
 ghost use mathlib.Core.List.{IsPrefix};
 ghost use Rattle.hm_published.specs.Publications.{IsLawful, MayFollow};
 ghost use Rattle.hm_published.specs.Rules.{head_of};
@@ -192,7 +192,8 @@ impl<J: Naming> Front<J> {
     pub fn add(&mut self, history: &History<J>, publication: &Publication) -> bool
         requires room { length self.old < 2 ^ 62 }
         requires lawful { MayFollow self.old publication.now }
-        ensures { MatchBool result (self.new ≡ self.old ++ publication.now ∷ []) (IsPrefix self.old self.new) }
+        ensures seen { MatchBool result (self.new ≡ self.old ++ publication.now ∷ []) (IsPrefix self.old self.new) }
+        ensures longer { result ≡ false → length self.old < length self.new }
     {
         let mut offer: Offer<Publication, u64, Law, Nothing> = self
             .seen

@@ -1,5 +1,5 @@
 //! What readers take: the published interfaces by the numbers of their modules.
-ghost use Rattle.std.specs.Prelude.{◌≡◌, [], ◌∷◌, ◌++◌, ◌^◌, ◌<◌, ◌≤◌, IfOk, None, length, option_map, replicate};
+ghost use Rattle.std.specs.Prelude.{◌≡◌, [], ◌∷◌, ◌++◌, ◌^◌, ◌<◌, ◌≤◌, IfErr, IfOk, IsErrOf, None, length, option_map, replicate};
 ghost use Rattle.std.specs.Arc.{arc_value};
 ghost use mathlib.Core.List.{IsPrefix};
 ghost use Rattle.hm_published.specs.Publications.{IsLawful, MayFollow, entries_of, interface_in};
@@ -143,6 +143,8 @@ impl<J: Naming> Published<J> {
         ensures interface { IfOk result (λ s. option_map arc_value s.interface ≡ interface_in s.front number) }
         ensures entries { IfOk result (λ s. s.entries ≡ entries_of s.front) }
         ensures few { IfOk result (λ s. s.entries ≤ 2 ^ 62) }
+        // No entry is answered only where these copies are behind what the reader was told.
+        ensures behind { IsErrOf result LookFault.NoEntry → length self.now < length seen.now }
     {
         if self.front.len() < seen.len() {
             return Err(LookFault::NoEntry);
@@ -160,7 +162,8 @@ impl<J: Naming> Published<J> {
 }
 
 fn copy(interface: &Arc<Interface>) -> Result<Arc<Interface>, LookFault>
-    ensures { IfOk result (λ f. arc_value f ≡ arc_value interface.now) }
+    ensures ok { IfOk result (λ f. arc_value f ≡ arc_value interface.now) }
+    ensures err { IfErr result (λ e. e ≡ LookFault.Memory) }
 {
     match Arc::try_clone(interface) {
         Ok(interface) => Ok(interface),
