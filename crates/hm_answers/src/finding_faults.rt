@@ -2,7 +2,7 @@
 //! those without types of which all that they refer to outside has types.
 
 ghost use Rattle.std.specs.Prelude.{◌≡◌, ◌<◌, ℕ, All, IfOk, OnOk, List, [], false, length, slice_index_or};
-ghost use Rattle.hm_graph.specs.Digraph.{lists};
+ghost use Rattle.hm_components.specs.Digraph.{lists};
 ghost use Rattle.hm_typing.specs.Names.{IsOneOf};
 ghost use Rattle.hm_groups.specs.Members.{AreRows};
 ghost use Rattle.hm_groups.specs.Nodes.{AllShown};

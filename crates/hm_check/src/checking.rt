@@ -99,6 +99,39 @@ fn shared(alloc: Global, interfaces: &[Arc<Interface>]) -> Result<Row<Arc<Interf
     Ok(Row { items })
 }
 
+/// Refuses interfaces that aren't those that a module asks for.
+fn expect_imports(
+    alloc: Global,
+    module: &Arc<Module>,
+    imports: &[Arc<Interface>],
+) -> Result<(), CheckFault>
+    ensures asked { IfOk result (λ _. AreImportsOf (arc_value «module».now) (map arc_value imports.now)) }
+    ensures refused { IfErr result (IsRefused (arc_value «module».now) (map arc_value imports.now)) }
+{
+    if are_imports_of(alloc, module, imports)? {
+        return Ok(());
+    }
+    Err(CheckFault::Imports)
+}
+
+/// What a module came to, for the interfaces that it asks for.
+fn checked(
+    alloc: Global,
+    prelude: &SharedPrelude,
+    module: &Arc<Module>,
+    imports: &[Arc<Interface>],
+    depth: usize,
+) -> Result<Outcome, AllocError>
+    requires { AreImportsOf (arc_value «module».now) (map arc_value imports.now) }
+    ensures module { IfOk result (λ o. o.«module» ≡ arc_value «module».now) }
+    ensures imports { IfOk result (λ o. o.imports ≡ map arc_value imports.now) }
+    ensures right { IfOk result (λ o. IsVerdict (arc_value «module».now) (prelude_interface ∷ map arc_value imports.now) o.verdict) }
+{
+    let verdict = module_verdict(alloc, prelude, module, imports, depth)?;
+    let imports = shared(alloc, imports)?;
+    Ok(Outcome::new(module.clone()?, imports, verdict))
+}
+
 /// Checks a module: its verdict for Prelude's interface and those of its imports. The latter are given but Prelude's, each once, in order of
 /// first import; where they aren't, the answer is `Imports`.
 pub fn check_module(
@@ -112,8 +145,9 @@ pub fn check_module(
     ensures imports { IfOk result (λ o. o.imports ≡ map arc_value imports.now) }
     ensures right { IfOk result (λ o. IsVerdict (arc_value «module».now) (prelude_interface ∷ map arc_value imports.now) o.verdict) }
 {
+    expect_imports(alloc, module, imports)?;
     let prelude = SharedPrelude::new(alloc)?;
-    check_module_within(alloc, &prelude, module, imports, MOST_LEVELS)
+    Ok(checked(alloc, &prelude, module, imports, MOST_LEVELS)?)
 }
 
 /// The same, with a Prelude that was made before, and where no type has more than `depth` levels. What would need one is refused for want of
@@ -131,10 +165,6 @@ pub fn check_module_within(
     ensures imports { IfOk result (λ o. o.imports ≡ map arc_value imports.now) }
     ensures right { IfOk result (λ o. IsVerdict (arc_value «module».now) (prelude_interface ∷ map arc_value imports.now) o.verdict) }
 {
-    if !are_imports_of(alloc, module, imports)? {
-        return Err(CheckFault::Imports);
-    }
-    let verdict = module_verdict(alloc, prelude, module, imports, depth)?;
-    let imports = shared(alloc, imports)?;
-    Ok(Outcome::new(module.clone()?, imports, verdict))
+    expect_imports(alloc, module, imports)?;
+    Ok(checked(alloc, prelude, module, imports, depth)?)
 }

@@ -1,7 +1,7 @@
 //! The units of a declaration list (Haskell 98 Report, section 4.5.1), in an order in which each comes after those that it depends on.
 
 ghost use Rattle.std.specs.Prelude.{◌≡◌, ℕ, IfOk, Err, length};
-ghost use Rattle.hm_graph.specs.Digraph.{AreGroups, Graph, lists};
+ghost use Rattle.hm_components.specs.Digraph.{AreGroups, Graph, lists};
 ghost use Rattle.hm_syntax.specs.Lists.{declarations};
 ghost use Rattle.hm_groups.specs.Nodes.{IsGraphOf, list_nodes, owners};
 ghost use Rattle.hm_groups.specs.Members.{AreRows};

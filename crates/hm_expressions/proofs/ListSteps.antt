@@ -2,8 +2,8 @@
 use Rattle.std.proofs.lemmas.Bool.Decides.{nat_tests}
 use Rattle.std.proofs.Common.{◌≡◌, ◌==◌, ℕ, zero, suc, ◌+◌, ◌<◌, ◌≤◌, ◌||◌, List, [], ◌∷◌, ◌++◌, map, take, drop, length, get_or, replicate, All, Vec, Global, Bool, true, Result, Ok, Err, IsErrAnd, inl, inr, ⊎_elim, ◌↔◌, refl, sym, ap, ◌∙◌, subst, arith}
 use Rattle.std.proofs.lemmas.List.{length-map, take_all, get_or_default}
-use Rattle.hm_graph.specs.Digraph.{lists}
-use Rattle.hm_graph.proofs.Rows.{row_at}
+use Rattle.hm_components.specs.Digraph.{lists}
+use Rattle.hm_components.proofs.Rows.{row_at}
 use Rattle.hm_assumptions.proofs.Extended.{extended}
 use Rattle.hm_expressions.proofs.Naming.{in_place}
 use Rattle.hm_typing.specs.Names.{Identifier, IsOneOf, IsDistinct}

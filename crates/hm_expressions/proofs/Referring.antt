@@ -10,7 +10,7 @@ use Rattle.hm_groups.specs.Walks.{IsNodeWith}
 use Rattle.hm_groups.specs.declared.members.Member.{Member}
 use Rattle.hm_groups.proofs.MemberLists.{one_pushed}
 use Rattle.hm_expressions.specs.Dependences.{IsMarked, IsReferred, TellsMembers, TellsNodes}
-use Rattle.hm_graph.specs.Digraph.{lists}
+use Rattle.hm_components.specs.Digraph.{lists}
 use Rattle.hm_groups.specs.GroupMembers.{AreMembersOf}
 use Rattle.hm_names.specs.Syntax.{Known}
 use Rattle.hm_expressions.specs.Stages.{IsListFound}

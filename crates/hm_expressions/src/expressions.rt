@@ -6,7 +6,7 @@ ghost use Rattle.hm_types.specs.Shape.{type_of};
 ghost use Rattle.hm_types.specs.Types.{Var, put};
 ghost use Rattle.hm_types.specs.Monotypes.{var};
 ghost use Rattle.hm_syntax.specs.Lists.{expressions, body, bodies, alternatives, patterns, declarations};
-ghost use Rattle.hm_graph.specs.Digraph.{lists};
+ghost use Rattle.hm_components.specs.Digraph.{lists};
 ghost use Rattle.hm_syntax.specs.Trees.{no_bodies, typed_expression, Declarations};
 ghost use Rattle.hm_typing.specs.Assumptions.{assumptions_put};
 ghost use Rattle.hm_typing.specs.Schemes.{arrow, Monotype};

@@ -12,7 +12,7 @@ ghost use Rattle.hm_assumptions.specs.Environments.{Extends, AreAssumed, Assumed
 ghost use Rattle.hm_schemes.specs.Generalisations.{IsSolution, KeepsEach, KeepsNone};
 ghost use Rattle.hm_expressions.specs.GroupQuestions.{AreGivenTypes};
 ghost use Rattle.hm_expressions.specs.OpenGroups.{AreUpTo, ChangesOnly, IsOpenGroup, IsClosedGroup};
-ghost use Rattle.hm_graph.specs.Digraph.{lists};
+ghost use Rattle.hm_components.specs.Digraph.{lists};
 ghost use Rattle.hm_unify.specs.declared.faults.UnifyFault.TheVariants.{Memory};
 ghost use Rattle.hm_names.specs.Syntax.{Known};
 ghost use Rattle.hm_syntax.specs.Trees.{Declarations};

@@ -1,7 +1,7 @@
 //! The binding groups of a declaration list, as inference asks for them.
 
 ghost use Rattle.std.specs.Prelude.{◌≡◌, IfOk, Err, length};
-ghost use Rattle.hm_graph.specs.Digraph.{lists};
+ghost use Rattle.hm_components.specs.Digraph.{lists};
 ghost use Rattle.hm_syntax.specs.Lists.{declarations};
 ghost use Rattle.hm_groups.specs.Nodes.{list_nodes};
 ghost use Rattle.hm_groups.specs.Members.{AreRows};

@@ -1,11 +1,11 @@
 //! The modules that reach a module through imports, marked in space that is taken beforehand.
 
 ghost use Rattle.std.specs.Prelude.{◌≡◌, ◌<◌, ◌^◌, ◌↔◌, ℕ, IfOk, length};
-ghost use Rattle.hm_graph.specs.Digraph.{Reaches};
-ghost use Rattle.hm_graph.specs.Marks.{IsMarked};
+ghost use Rattle.hm_components.specs.Digraph.{Reaches};
+ghost use Rattle.hm_components.specs.Marks.{IsMarked};
 
-use crate::directed::mark_reached;
 use crate::planning::Plan;
+use hm_components::mark_reached;
 use std::alloc::{AllocError, Global};
 use std::marker::Model;
 

@@ -1,7 +1,7 @@
 -- The places of the declarations of each node's binding, from the last declaration to the first.
 use Rattle.std.proofs.Common.{◌≡◌, ℕ, ◌+◌, ◌-◌, ◌<◌, ◌≤◌, ◌⊎◌, ⊎_elim, inl, inr, List, [], ◌∷◌, ◌++◌, set, length, get_or, drop, replicate, Option, Some, None, refl, sym, ap, ◌∙◌, subst, arith, ◌↔◌, Vec, Global}
-use Rattle.hm_graph.specs.Digraph.{Graph, Edge, lists}
-use Rattle.hm_graph.proofs.Rows.{AddsEdge-rows, Edge-replicate}
+use Rattle.hm_components.specs.Digraph.{Graph, Edge, lists}
+use Rattle.hm_components.proofs.Rows.{AddsEdge-rows, Edge-replicate}
 use Rattle.hm_syntax.specs.Trees.{Declaration}
 use Rattle.hm_syntax.specs.Lists.{declarations}
 use Rattle.hm_groups.specs.Nodes.{owner, AddsEdges}

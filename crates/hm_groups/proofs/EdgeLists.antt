@@ -4,8 +4,8 @@ use Rattle.std.proofs.lemmas.List.{length-map, take_all, get_or_append_left}
 use Rattle.std.proofs.Math.Seq.{get_or-append_seam}
 use Rattle.std.proofs.lemmas.List.Elements.{Contains-get_or}
 use Rattle.std.proofs.lemmas.Option.{slice_get_within}
-use Rattle.hm_graph.specs.Digraph.{Graph, Edge, AddsEdge}
-use Rattle.hm_graph.proofs.Members.{Contains-take_cases, Contains-take_old, Contains-take_new}
+use Rattle.hm_components.specs.Digraph.{Graph, Edge, AddsEdge}
+use Rattle.hm_components.proofs.Members.{Contains-take_cases, Contains-take_old, Contains-take_new}
 use Rattle.hm_syntax.specs.Trees.{Declaration, data_declaration, newtype_declaration, synonym_declaration, signature, clause, pattern_binding, Declarations, no_declarations, more_declarations}
 use Rattle.hm_syntax.specs.Lists.{declarations}
 use Rattle.hm_names.specs.Syntax.{is_continued}

@@ -2,8 +2,8 @@
 use Rattle.std.proofs.Common.{◌≡◌, ℕ, zero, suc, ◌<◌, List, [], ◌∷◌, ◌++◌, length, get_or, take, Contains, ◌⊎◌, ⊎_elim, inl, inr, refl, sym, ap, ◌∙◌, subst, ◌↔◌, arith, length-append, append_assoc}
 use Rattle.std.specs.List.{concat}
 use Rattle.std.proofs.Math.Seq.{take-append_seam, get_or-append_seam}
-use Rattle.hm_graph.specs.Digraph.{Graph, Reaches, IsNext, AreGroups}
-use Rattle.hm_graph.proofs.Members.{concat_push}
+use Rattle.hm_components.specs.Digraph.{Graph, Reaches, IsNext, AreGroups}
+use Rattle.hm_components.proofs.Members.{concat_push}
 use Rattle.hm_typing.specs.Names.{Identifier, IsOneOf}
 use Rattle.hm_typing.specs.Syntax.{Bindings}
 use Rattle.hm_typing.specs.Units.{Reaches as DependsOn_}

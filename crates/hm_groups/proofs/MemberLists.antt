@@ -1,9 +1,9 @@
 -- The members of a group, row after row.
 use Rattle.std.proofs.Common.{◌≡◌, ℕ, zero, suc, ◌+◌, ◌<◌, ◌≤◌, ◌⊎◌, ⊎_elim, inl, inr, List, [], ◌∷◌, ◌++◌, take, length, get_or, Contains, All, refl, sym, ap, ◌∙◌, subst, arith, ◌↔◌, Vec, Global}
 use Rattle.std.proofs.lemmas.List.{take_more, take_all}
-use Rattle.hm_graph.specs.Digraph.{Edge, lists}
-use Rattle.hm_graph.proofs.Rows.{row_at}
-use Rattle.hm_graph.proofs.Members.{Contains-take_cases, Contains-take_old, Contains-take_new}
+use Rattle.hm_components.specs.Digraph.{Edge, lists}
+use Rattle.hm_components.proofs.Rows.{row_at}
+use Rattle.hm_components.proofs.Members.{Contains-take_cases, Contains-take_old, Contains-take_new}
 use Rattle.hm_typing.specs.Names.{IsOneOf}
 use Rattle.hm_groups.specs.declared.members.Member.{Member}
 use Rattle.hm_groups.specs.GroupMembers.{AddsRow, AreMembersOf}

@@ -2,8 +2,8 @@
 use Rattle.std.proofs.Common.{◌≡◌, ℕ, zero, suc, ◌+◌, ◌<◌, Bool, true, false, cond, List, [], ◌∷◌, ◌++◌, map, length, Option, Some, None, is_some, ◌⊎◌, ⊎_elim, inl, inr, refl, sym, ap, ◌∙◌, subst, arith}
 use Rattle.std.specs.List.{slice_get}
 use Rattle.std.proofs.lemmas.Option.{slice_get_within, get_or_from_slice_get, slice_get-get_or}
-use Rattle.hm_graph.specs.Closure.{Closure, one, more}
-use Rattle.hm_graph.specs.Digraph.{Graph, Edge, AreGroups}
+use Rattle.hm_components.specs.Closure.{Closure, one, more}
+use Rattle.hm_components.specs.Digraph.{Graph, Edge, AreGroups}
 use Rattle.hm_typing.specs.Names.{Identifier, local, global, binding, IsOneOf, IsDistinct}
 use Rattle.hm_typing.specs.Schemes.{Monotype}
 use Rattle.hm_typing.specs.Syntax as typed

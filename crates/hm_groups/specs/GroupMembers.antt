@@ -1,7 +1,7 @@
 -- The declarations of a binding group. Only this crate's functions and those of the inference cite it.
 use Rattle.std.specs.Prelude.{◌≡◌, ℕ, ◌⊎◌, ◌↔◌, List, Contains}
 use Rattle.hm_typing.specs.Names.{IsOneOf}
-use Rattle.hm_graph.specs.Digraph.{Edge}
+use Rattle.hm_components.specs.Digraph.{Edge}
 use Rattle.hm_groups.specs.declared.members.Member.{Member}
 
 -- the declarations of a node were added

@@ -6,7 +6,7 @@ use Rattle.std.specs.Borrow.{Bor}
 use Rattle.std.specs.declared.hash.FoldHasher.{FoldHasher}
 use Rattle.std.specs.declared.hash.BuildHasherDefault.{BuildHasherDefault}
 use Rattle.indexmap.specs.IndexSet.{IndexSet, contains_by}
-use Rattle.hm_graph.specs.Digraph.{Graph, Edge}
+use Rattle.hm_components.specs.Digraph.{Graph, Edge}
 use Rattle.hm_syntax.specs.Trees.{Declaration, data_declaration, newtype_declaration, synonym_declaration, signature, clause, pattern_binding, Declarations, no_declarations, more_declarations}
 use Rattle.hm_names.specs.Syntax.{is_continued, signature_of}
 use Rattle.hm_variables.specs.Variables.{Variable, variable_of}

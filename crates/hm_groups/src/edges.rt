@@ -1,7 +1,7 @@
 //! The graph of a list.
 
 ghost use Rattle.std.specs.Prelude.{◌≡◌, ℕ, [], ◌<◌, ◌⊎◌, IfOk, OnOk, Some, length, Contains, All};
-ghost use Rattle.hm_graph.specs.Digraph.{Edge};
+ghost use Rattle.hm_components.specs.Digraph.{Edge};
 ghost use Rattle.hm_syntax.specs.Lists.{declarations};
 ghost use Rattle.hm_groups.specs.Nodes.{AllShown, AddsEdges, DeclarationEdge, IsGraphOf, Star, list_nodes, owners};
 

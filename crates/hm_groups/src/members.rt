@@ -1,7 +1,7 @@
 //! The declarations of a binding group.
 
 ghost use Rattle.std.specs.Prelude.{◌≡◌, ℕ, ◌<◌, All, IfOk, OnOk, length};
-ghost use Rattle.hm_graph.specs.Digraph.{lists};
+ghost use Rattle.hm_components.specs.Digraph.{lists};
 ghost use Rattle.hm_groups.specs.GroupMembers.{AreMembersOf, AddsRow};
 
 use std::alloc::{AllocError, Global};

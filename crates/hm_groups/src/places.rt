@@ -1,7 +1,7 @@
 //! The declarations of each node's binding.
 
 ghost use Rattle.std.specs.Prelude.{◌≡◌, ℕ, ◌<◌, [], IfOk, OnOk, Some, length, replicate};
-ghost use Rattle.hm_graph.specs.Digraph.{lists};
+ghost use Rattle.hm_components.specs.Digraph.{lists};
 ghost use Rattle.hm_syntax.specs.Lists.{declarations};
 ghost use Rattle.hm_groups.specs.Members.{AreRows};
 ghost use Rattle.hm_groups.specs.Nodes.{AddsEdges, list_nodes, owners};

@@ -3,7 +3,7 @@ use Rattle.std.proofs.Common.{◌≡◌, ℕ, zero, suc, ◌<◌, List, [], ◌�
 use Rattle.std.specs.List.{slice_get}
 use Rattle.std.specs.Bool.{Decides}
 use Rattle.std.proofs.lemmas.Option.{get_or_from_slice_get, slice_get_within, slice_get-get_or}
-use Rattle.hm_graph.specs.Closure.{Closure, one, more}
+use Rattle.hm_components.specs.Closure.{Closure, one, more}
 use Rattle.hm_typing.specs.Names.{Identifier, local, IsOneOf}
 use Rattle.hm_typing.specs.Units.{BindingMentions, IsUnsigned, RefersTo, directly, SameUnit}
 use Rattle.hm_typing.specs.Orders.{IsNext, Layout}

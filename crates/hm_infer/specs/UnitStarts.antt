@@ -1,6 +1,6 @@
 -- Where the units of a list that are type faults begin. No public clause names these.
 use Rattle.std.specs.Prelude.{◌≡◌, ℕ, ◌<◌, ◌++◌, Bool, true, false, List, [], ◌∷◌, Option, length, slice_index_or}
-use Rattle.hm_graph.specs.Digraph.{Edge}
+use Rattle.hm_components.specs.Digraph.{Edge}
 use Rattle.hm_typing.specs.Assumptions.{Assumptions}
 use Rattle.hm_typing.specs.Names.{Identifier as Name, IsOneOf}
 use Rattle.hm_typing.specs.Syntax.{names}

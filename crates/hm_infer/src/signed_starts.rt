@@ -2,7 +2,7 @@
 //! sections 4.4.1 and 4.5.1).
 
 ghost use Rattle.std.specs.Prelude.{◌≡◌, IfOk, length};
-ghost use Rattle.hm_graph.specs.Digraph.{lists};
+ghost use Rattle.hm_components.specs.Digraph.{lists};
 ghost use Rattle.hm_syntax.specs.Lists.{declarations};
 ghost use Rattle.hm_assumptions.specs.Constructors.{known_of};
 ghost use Rattle.hm_assumptions.specs.Environments.{AreAssumed};

@@ -1,7 +1,7 @@
 //! The units of a core that are type faults (Haskell 98 Report, section 4.5.1).
 
 ghost use Rattle.std.specs.Prelude.{◌≡◌, ℕ, List, IfOk, length};
-ghost use Rattle.hm_graph.specs.Digraph.{lists};
+ghost use Rattle.hm_components.specs.Digraph.{lists};
 ghost use Rattle.hm_syntax.specs.Lists.{declarations};
 ghost use Rattle.hm_typing.specs.BindingLists.{HasSchemes};
 ghost use Rattle.hm_typing.specs.Names.{Identifier as UnitName, IsDistinct, IsOneOf};

@@ -6,9 +6,9 @@ use Rattle.std.proofs.lemmas.List.{take_more, get_or_default, length-map}
 use Rattle.std.proofs.lemmas.List.Elements.{Contains-push_cases, Contains-get_or}
 use Rattle.hm_types.specs.declared.Entity.{Entity}
 use Rattle.hm_types.specs.Interfaces.{Exports as Interface}
-use Rattle.hm_graph.specs.Closure.{Closure, one, more}
-use Rattle.hm_graph.specs.Digraph.{Graph, Edge}
-use Rattle.hm_graph.specs.Digraph.{Reaches as GraphReaches}
+use Rattle.hm_components.specs.Closure.{Closure, one, more}
+use Rattle.hm_components.specs.Digraph.{Graph, Edge}
+use Rattle.hm_components.specs.Digraph.{Reaches as GraphReaches}
 use Rattle.hm_syntax.specs.Names.{Identifier}
 use Rattle.hm_syntax.specs.Trees.{TypeTree, Declaration, data_declaration, newtype_declaration, synonym_declaration, signature, clause, pattern_binding}
 use Rattle.hm_syntax.specs.Lists.{declarations}
@@ -31,7 +31,7 @@ use Rattle.hm_tables.specs.KnownTables.{KnownTables, AreTablesOf, imported_of, i
 use Rattle.hm_names.specs.Faults.Lists.{Repeats, type_names, second_type}
 use Rattle.hm_names.specs.Faults.Arities.{RefersTo, refers, Reaches}
 use Rattle.hm_names.specs.Faults.Phases.{IsWellFormed, Declaring, fault}
-use Rattle.hm_graph.specs.NodeOrders.{IsOrder}
+use Rattle.hm_components.specs.NodeOrders.{IsOrder}
 use Rattle.hm_names.specs.DeclaredSynonyms.{IsSound}
 use Rattle.hm_synonyms.specs.Synonyms.{AreOwnSynonyms, IsReferenceGraph, IsSettled, IsExpandable, Finishes, AreResolved}
 use Rattle.hm_names.proofs.Members.{none_in, cases, first, rest, name_discrete, optional_synonym_discrete, same_entity-Decides}

@@ -1,7 +1,7 @@
 -- What a worker that got a job has seen: an interface of each import.
 use Rattle.std.proofs.Common.{◌≡◌, ℕ, List, Bool, true, false, Some, Result, Ok, Err, ap, sym, ◌∙◌, subst}
 use mathlib.Core.List.{IsPrefix}
-use Rattle.hm_graph.specs.Digraph.{Edge}
+use Rattle.hm_components.specs.Digraph.{Edge}
 use Rattle.hm_outcomes.specs.Outcomes.{Checked}
 use Rattle.hm_published.specs.declared.publication.Publication.{Publication}
 use Rattle.hm_published.specs.Publications.{IsPublishedIn, interface_in}

@@ -5,7 +5,7 @@ use Rattle.std.specs.Coded.{codes}
 use Rattle.hm_syntax.specs.Codes.{coded_declaration}
 use Rattle.hm_types.specs.Interfaces.{coded_exports}
 use Rattle.hm_syntax.specs.declared.ast.Module.{Module}
-use Rattle.hm_graph.specs.Digraph.{Edge}
+use Rattle.hm_components.specs.Digraph.{Edge}
 use Rattle.hm_outcomes.specs.Outcomes.{Checked}
 use Rattle.hm_published.specs.declared.publication.Publication.{Publication}
 use Rattle.hm_published.specs.Publications.{IsPublishedIn, interface_in, entries_of}

@@ -63,8 +63,7 @@ impl<L: Ledger + Naming, R: Wait + Drop> Locked<L, R> {
         ensures reply { replied result ≡ reply_of self.old.listed.build.given (state_of self.old.listed.build) }
         ensures step { self.new.listed ≡ record {
           build = after_claim self.old.listed.build (worker_of pass.old) (replied result);
-          published =
-              self.old.listed.published;
+          published = self.old.listed.published;
         } }
         ensures imports { IfSome result (λ t. HasImports L.plan t self.new.listed.published) }
         ensures none { IfNone result (pass.new ≡ pass.old) }
@@ -150,8 +149,7 @@ impl<L: Ledger + Naming, R: Wait + Drop> Locked<L, R> {
         ensures reply { result ≡ not (state_of self.old.listed.build).stopped }
         ensures step { self.new.listed ≡ record {
           build = after_stop self.old.listed.build (worker_of pass.old) result;
-          published =
-              self.old.listed.published;
+          published = self.old.listed.published;
         } }
         ensures adds { AddsAt (length self.old.listed.build.journal) (calls_of pass.old) (Stop result) (calls_of pass.new) }
         ensures worker { worker_of pass.new ≡ worker_of pass.old }
@@ -176,8 +174,7 @@ impl<L: Ledger + Naming, R: Wait + Drop> Locked<L, R> {
         ensures reply { replied result ≡ reply_of self.old.listed.build.given (state_of self.old.listed.build) }
         ensures step { self.new.listed ≡ record {
           build = after_claim self.old.listed.build (worker_of pass.old) (replied result);
-          published =
-              self.old.listed.published;
+          published = self.old.listed.published;
         } }
         ensures imports { IfSome result (λ t. HasImports L.plan t (seen_of pass.new)) }
         ensures none { IfNone result (pass.new ≡ pass.old) }
@@ -256,8 +253,7 @@ impl<L: Ledger + Naming, R: Wait + Drop> Locked<L, R> {
         ensures reply { result ≡ not (state_of self.old.listed.build).stopped }
         ensures step { self.new.listed ≡ record {
           build = after_stop self.old.listed.build (worker_of pass.old) result;
-          published =
-              self.old.listed.published;
+          published = self.old.listed.published;
         } }
         ensures adds { AddsAt (length self.old.listed.build.journal) (calls_of pass.old) (Stop result) (calls_of pass.new) }
         ensures worker { worker_of pass.new ≡ worker_of pass.old }

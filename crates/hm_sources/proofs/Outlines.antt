@@ -2,7 +2,7 @@
 use Rattle.std.proofs.Common.{◌≡◌, ℕ, ◌+◌, ◌<◌, ◌≤◌, List, [], ◌∷◌, ◌++◌, length, map, take, get_or, arith, sym, ap, ◌∙◌}
 use Rattle.std.proofs.lemmas.List.{get_or-map, length-map, map-append, take_more, take_all}
 use Rattle.std.specs.Borrow.{Bor}
-use Rattle.hm_graph.specs.Closure.{one, more}
+use Rattle.hm_components.specs.Closure.{one, more}
 use Rattle.hm_graph.specs.Imports.{Modules, ImportReaches, imports_at, name_at}
 use Rattle.hm_graph.specs.Outline.{outline, lent_outlines}
 use Rattle.hm_graph.specs.Refusal.{IsFirstInCycle}

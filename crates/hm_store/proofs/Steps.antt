@@ -3,7 +3,7 @@ use Rattle.std.proofs.Common.{◌≡◌, ℕ, ◌+◌, ◌<◌, Bool, true, fals
 use Rattle.std.specs.Prelude.{sum_by}
 use Rattle.std.proofs.lemmas.List.{length-set}
 use Rattle.std.proofs.lemmas.List.Sums.{sum_by-set}
-use Rattle.hm_graph.specs.Digraph.{Reaches}
+use Rattle.hm_components.specs.Digraph.{Reaches}
 use Rattle.hm_types.specs.StandardPrelude.{prelude_interface}
 use Rattle.hm_verdicts.specs.ModuleVerdicts.{IsVerdict}
 use Rattle.hm_outcomes.specs.Outcomes.{Checked, IsGood}

@@ -2,7 +2,7 @@
 ghost use Rattle.std.specs.Prelude.{◌≡◌, ◌↔◌, ◌⊎◌, ◌<◌, ◌≤◌, ◌^◌, ℕ, IfOk, IsSome, None, OnOk, count_by, length, map, not, false, option_map, replicate};
 ghost use Rattle.std.specs.Arc.{arc_value};
 ghost use Rattle.std.specs.Option.{option_copied};
-ghost use Rattle.hm_graph.specs.Digraph.{Reaches};
+ghost use Rattle.hm_components.specs.Digraph.{Reaches};
 ghost use Rattle.hm_verdicts.specs.Sets.{IsLawfulSet};
 ghost use Rattle.hm_outcomes.specs.Outcomes.{IsGood, verdict_of};
 ghost use Rattle.hm_store.specs.Builds.{IsAllSettled, IsLegal, IsNew, Refuses, Settles, after_claim, after_stop, interface_at, kept_at, state_of, status_by, with_kept};

@@ -5,8 +5,8 @@ use Rattle.std.specs.Prelude.{slice_index_or}
 use Rattle.std.proofs.lemmas.List.{get_or_default}
 use Rattle.hm_types.specs.Interfaces.{Exports as Interface}
 use Rattle.hm_syntax.specs.declared.ast.Module.{Module}
-use Rattle.hm_graph.specs.Closure.{Closure, one, more}
-use Rattle.hm_graph.specs.Digraph.{Graph, Edge}
+use Rattle.hm_components.specs.Closure.{Closure, one, more}
+use Rattle.hm_components.specs.Digraph.{Graph, Edge}
 use Rattle.hm_names.specs.Faults.Arities.{RefersTo, refers, Reaches, directly, through}
 use Rattle.hm_synonyms.specs.Synonyms.{DeclaresSynonym, AreSynonyms, IsReferenceGraph}
 

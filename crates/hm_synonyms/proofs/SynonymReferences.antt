@@ -11,7 +11,7 @@ use Rattle.hm_types.specs.declared.Entity.{Entity}
 use Rattle.hm_syntax.specs.Names.{Identifier}
 use Rattle.hm_syntax.specs.Trees.{TypeTree, Declaration, synonym_declaration}
 use Rattle.hm_syntax.specs.declared.ast.Module.{Module}
-use Rattle.hm_graph.specs.Digraph.{Graph, Edge, AddsEdge}
+use Rattle.hm_components.specs.Digraph.{Graph, Edge, AddsEdge}
 use Rattle.hm_names.specs.declared.namespace.Namespace.TheVariants.{Types}
 use Rattle.hm_synonyms.specs.declared.declared_synonyms.OwnSynonym.{OwnSynonym}
 use Rattle.hm_synonyms.specs.declared.declared_synonyms.OwnSynonyms.{OwnSynonyms}
@@ -19,7 +19,7 @@ use Rattle.hm_names.specs.Texts.{same_text, is_text_among}
 use Rattle.hm_names.specs.Variables.{constructors_in}
 use Rattle.hm_names.specs.Entities.{own}
 use Rattle.hm_names.specs.Scope.{Means, IsUnbound, IsAmbiguous}
-use Rattle.hm_graph.specs.Digraph.{Reaches as GraphReaches}
+use Rattle.hm_components.specs.Digraph.{Reaches as GraphReaches}
 use Rattle.hm_names.specs.declared.faults.Kind.{Kind}
 use Rattle.hm_names.specs.declared.faults.Kind.TheVariants.{Recursive}
 use Rattle.hm_names.specs.declared.faults.Fault.{Fault}

@@ -4,7 +4,7 @@ use Rattle.hm_types.specs.Interfaces.{Exports as Interface}
 use Rattle.hm_syntax.specs.Names.{Identifier}
 use Rattle.hm_syntax.specs.Trees.{TypeTree, Declaration, synonym_declaration}
 use Rattle.hm_syntax.specs.declared.ast.Module.{Module}
-use Rattle.hm_graph.specs.Digraph.{Graph, Edge}
+use Rattle.hm_components.specs.Digraph.{Graph, Edge}
 use Rattle.hm_types.specs.declared.Entity.{Entity}
 use Rattle.hm_synonyms.specs.declared.declared_synonyms.OwnSynonym.{OwnSynonym}
 use Rattle.hm_synonyms.specs.declared.declared_synonyms.OwnSynonyms.{OwnSynonyms}

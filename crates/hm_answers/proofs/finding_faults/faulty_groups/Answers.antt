@@ -1,6 +1,6 @@
 use Rattle.std.proofs.Common.{◌≡◌, ◌∙◌, ◌<◌, ◌≤◌, length, get_or, ap, sym, subst, arith}
 use Rattle.std.proofs.lemmas.List.{length-map}
-use Rattle.hm_graph.specs.Digraph.{lists}
+use Rattle.hm_components.specs.Digraph.{lists}
 use Rattle.hm_groups.specs.Nodes.{AllShown}
 use Rattle.hm_typing.specs.Names.{IsOneOf}
 use Rattle.hm_expressions.proofs.ListSteps.{group_at, rows_long, written_to}

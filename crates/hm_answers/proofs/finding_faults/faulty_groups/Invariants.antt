@@ -1,5 +1,5 @@
 use Rattle.std.proofs.Common.{◌≡◌, length, take}
-use Rattle.hm_graph.specs.Digraph.{lists}
+use Rattle.hm_components.specs.Digraph.{lists}
 use Rattle.hm_groups.specs.Nodes.{AllShown}
 use Rattle.hm_answers.specs.UnitFaults.{AreGroupsTold, IsSameTable}
 use Rattle.hm_answers.proofs.finding_faults.faulty_groups.Given as goal

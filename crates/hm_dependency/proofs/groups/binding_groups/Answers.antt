@@ -1,7 +1,7 @@
 use Rattle.std.proofs.Common.{◌≡◌, ℕ, Err, Some, length, sym, ap, subst}
 use Rattle.hm_groups.proofs.Distinct.{passed_on, repeated_nodes}
 use Rattle.std.specs.List.{slice_get}
-use Rattle.hm_graph.specs.Digraph.{lists}
+use Rattle.hm_components.specs.Digraph.{lists}
 use Rattle.hm_typing.specs.Orders.{AreNumberedGroups}
 use Rattle.hm_syntax.specs.Lists.{declarations}
 use Rattle.hm_names.specs.Syntax.{bindings_of}

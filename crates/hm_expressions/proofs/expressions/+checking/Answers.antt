@@ -24,7 +24,7 @@ use Rattle.hm_expressions.proofs.Derived.{AnswersExpression, Checks, ChecksFunct
 use Rattle.hm_expressions.proofs.Choices.{choices_none, choices_more, choices_refused, choices_all, choices_moved, case_answers, case_refused, expression_positive, size_of_part, size_of_choice}
 use Rattle.hm_groups.proofs.Rows.{declaration_falls}
 use Rattle.hm_assumptions.proofs.Outcomes.{SolvedBy, solved_nothing}
-use Rattle.hm_graph.specs.Digraph.{lists}
+use Rattle.hm_components.specs.Digraph.{lists}
 use Rattle.hm_expressions.specs.OpenGroups.{AreUpTo, IsOpenGroup, IsClosedGroup}
 use Rattle.hm_expressions.proofs.ListSteps.{GroupsInferred, is_zero, list_refused, group_below, group_some, zeroes_up_to, group_at, rows_long, written_to, listed_passed, next_stage}
 use Rattle.std.proofs.lemmas.List.{length-map}

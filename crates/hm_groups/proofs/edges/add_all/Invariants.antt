@@ -1,5 +1,5 @@
 use Rattle.std.proofs.Common.{◌≡◌, ℕ, ◌-◌, ◌↔◌, length, drop}
-use Rattle.hm_graph.specs.Digraph.{Edge}
+use Rattle.hm_components.specs.Digraph.{Edge}
 use Rattle.hm_syntax.specs.Lists.{declarations}
 use Rattle.hm_groups.specs.Nodes.{AllShown, ListEdge}
 use Rattle.hm_groups.proofs.edges.add_all.Given as goal

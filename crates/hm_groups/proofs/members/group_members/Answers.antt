@@ -1,4 +1,4 @@
-use Rattle.hm_graph.specs.Digraph.{lists}
+use Rattle.hm_components.specs.Digraph.{lists}
 use Rattle.hm_groups.proofs.MemberLists.{members_step, members_all}
 use Rattle.hm_groups.proofs.members.group_members.Goals as goal
 

@@ -1,6 +1,6 @@
 use Rattle.std.proofs.Common.{ℕ, List, [], None, get_or, refl, length, ap, ◌∙◌, arith}
 use Rattle.std.proofs.lemmas.List.{length-map, length-replicate, get_or_default}
-use Rattle.hm_graph.specs.Digraph.{lists}
+use Rattle.hm_components.specs.Digraph.{lists}
 use Rattle.hm_syntax.specs.Lists.{declarations}
 use Rattle.hm_groups.specs.Nodes.{list_nodes}
 use Rattle.hm_groups.proofs.EdgeLists.{own_below, owner_read, length-owners}

@@ -1,5 +1,5 @@
 use Rattle.std.proofs.Common.{◌≡◌, ℕ, ◌+◌, ◌<◌, ◌≤◌, ◌↔◌, length, drop, Some}
-use Rattle.hm_graph.specs.Digraph.{Edge, lists}
+use Rattle.hm_components.specs.Digraph.{Edge, lists}
 use Rattle.hm_syntax.specs.Lists.{declarations}
 use Rattle.hm_groups.specs.Nodes.{owner}
 use Rattle.hm_groups.proofs.places.rows_of.Given as goal

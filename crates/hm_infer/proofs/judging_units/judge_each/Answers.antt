@@ -1,6 +1,6 @@
 use Rattle.std.proofs.Common.{◌≡◌, ◌<◌, ◌≤◌, ◌++◌, ◌∙◌, length, get_or, refl, sym, ap, subst, arith, append_assoc}
 use Rattle.std.proofs.lemmas.List.{length-map}
-use Rattle.hm_graph.specs.Digraph.{lists}
+use Rattle.hm_components.specs.Digraph.{lists}
 use Rattle.hm_groups.specs.Groups.{node_name}
 use Rattle.hm_groups.specs.Nodes.{AllShown}
 use Rattle.hm_syntax.specs.Lists.{declarations}

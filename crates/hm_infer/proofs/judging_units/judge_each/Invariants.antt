@@ -1,5 +1,5 @@
 use Rattle.std.proofs.Common.{◌≡◌, ◌++◌, List, length}
-use Rattle.hm_graph.specs.Digraph.{lists}
+use Rattle.hm_components.specs.Digraph.{lists}
 use Rattle.hm_groups.specs.Nodes.{AllShown}
 use Rattle.hm_assumptions.specs.Environments.{Extends, AreAssumed, Assumed}
 use Rattle.hm_assumptions.specs.Constructors.{known_of}

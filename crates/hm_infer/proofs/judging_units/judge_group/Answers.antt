@@ -1,7 +1,7 @@
 use Rattle.std.proofs.Common.{sym, ap, refl, subst}
 use Rattle.hm_assumptions.specs.Constructors.{known_of}
 use Rattle.hm_expressions.specs.Dependences.{TellsMembers, skipped, untyped, typed}
-use Rattle.hm_graph.specs.Digraph.{lists}
+use Rattle.hm_components.specs.Digraph.{lists}
 use Rattle.hm_expressions.proofs.JudgedGroups.{judges_clash}
 use Rattle.hm_expressions.proofs.Referring.{members_at, member_places}
 use Rattle.hm_assumptions.proofs.Extended.{kept_same}

@@ -1,5 +1,5 @@
 use Rattle.std.proofs.Common.{◌≡◌, ◌∙◌, ap, false, length, replicate, rules, subst, sym}
-use Rattle.hm_graph.specs.Digraph.{lists}
+use Rattle.hm_components.specs.Digraph.{lists}
 use Rattle.hm_assumptions.specs.Constructors.{known_of}
 use Rattle.hm_infer.specs.JudgedUnits.{UnitsJudged}
 use Rattle.hm_expressions.proofs.ListSteps.{written_to}

@@ -1,4 +1,4 @@
-use Rattle.hm_graph.specs.Digraph.{lists}
+use Rattle.hm_components.specs.Digraph.{lists}
 use Rattle.hm_syntax.specs.Lists.{declarations}
 use Rattle.hm_assumptions.specs.Constructors.{known_of}
 use Rattle.hm_infer.proofs.SignedStarts.{tells_signed}

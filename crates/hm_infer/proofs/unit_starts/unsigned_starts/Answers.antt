@@ -1,5 +1,5 @@
 use Rattle.std.proofs.Common.{◌≡◌, ◌<◌, All, length, get_or, false, refl, sym, subst, arith}
-use Rattle.hm_graph.specs.Digraph.{lists}
+use Rattle.hm_components.specs.Digraph.{lists}
 use Rattle.hm_infer.specs.UnitStarts.{AddsStart, HasMember}
 use Rattle.hm_expressions.proofs.ListSteps.{group_at, rows_long}
 use Rattle.hm_answers.proofs.FaultyGroups.{one_at}

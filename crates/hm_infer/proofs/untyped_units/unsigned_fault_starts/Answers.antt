@@ -1,6 +1,6 @@
 use Rattle.std.proofs.Common.{◌≡◌, ◌∙◌, ◌<◌, All, length, sym, subst, ap}
 use Rattle.std.proofs.lemmas.List.{length-map}
-use Rattle.hm_graph.specs.Digraph.{lists}
+use Rattle.hm_components.specs.Digraph.{lists}
 use Rattle.hm_infer.specs.UnitStarts.{AreGroupStarts}
 use Rattle.hm_infer.proofs.CoreStarts.{told_long}
 use Rattle.hm_answers.proofs.FaultyGroups.{below_all}

@@ -1,0 +1,16 @@
+pub mod Members
+pub mod Closures
+pub mod Orders
+pub mod Searches
+pub mod Rows
+pub mod Unique
+pub mod Limits
+pub mod Orderings
+pub mod Graphs
+pub mod NodeOrders
+pub mod Checked
+pub mod ChecksSoFar
+pub mod Reversing
+pub mod Walks
+pub mod Cycles
+pub mod LoneNode

@@ -1,0 +1,6 @@
+pub mod Closure
+pub mod Digraph
+pub mod Marks
+pub mod NodeOrders
+pub mod Checks
+pub mod Reversed
