@@ -17,7 +17,7 @@ use hm_names::Fault;
 use hm_sources::Status;
 use hm_store::Store;
 use hm_syntax::Module;
-use hm_types::interface_text;
+use hm_type_texts::interface_text;
 use std::alloc::{AllocError, Global};
 use std::sync::Arc;
 

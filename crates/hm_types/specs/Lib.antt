@@ -7,8 +7,7 @@ pub mod Substitution
 pub mod Schemes
 pub mod Synonyms
 pub mod Interfaces
-pub mod InterfaceTexts
 pub mod StandardPrelude
 pub mod Numbers
-pub mod Texts
+pub mod Names
 pub mod Laws

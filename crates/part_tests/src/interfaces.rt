@@ -3,7 +3,8 @@
 ghost use Rattle.std.specs.Prelude.{◌≡◌, IfOk};
 
 use hm_prelude::prelude;
-use hm_types::{Entity, Head, Interface, Synonym, SynonymEntry, Text, Ty, Types, interface_text};
+use hm_type_texts::interface_text;
+use hm_types::{Entity, Head, Interface, Synonym, SynonymEntry, Text, Ty, Types};
 use std::alloc::{AllocError, Global};
 use std::test::Fail;
 

@@ -8,7 +8,8 @@ ghost use Rattle.hm_types.specs.Shape.{type_of, types_of};
 ghost use Rattle.hm_types.specs.Schemes.{AllHaveArities, AllHaveNoRigid, HasArities, HasNoRigid};
 
 use hm_instances::{canonical, instance_of, instantiate};
-use hm_types::{Entity, Head, Scheme, Text, Ty, Types, scheme_text};
+use hm_type_texts::scheme_text;
+use hm_types::{Entity, Head, Scheme, Text, Ty, Types};
 use std::alloc::{AllocError, Global};
 use std::test::Fail;
 
