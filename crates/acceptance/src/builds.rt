@@ -1,8 +1,7 @@
 //! Builds by several workers: journals, records, and that checks run at the same time.
-use crate::check::check_run_by;
-use hm_build::{BuildFault, Finished, Gate, Open, Options, build, journal_text, report};
-use hm_sources::Status;
+use hm_build::{BuildFault, Finished, Gate, Open, build, journal_text, report};
 use hm_store::{Act, Record};
+use source_tests::chains::chain;
 use std::alloc::{AllocError, Global};
 use std::process::Abort;
 use std::sync::Wait;
@@ -60,6 +59,15 @@ fn reported<G: Gate + Sync>(
     Ok(report(rt.alloc(), &finished)?)
 }
 
+/// The journal of a build of the modules of one source by one worker.
+fn journal_of(
+    rt: &(impl AllocGlobal + Threads + Wait + Sync),
+    text: &[u8],
+) -> Result<String, Fail> {
+    let finished = built(rt, text, 1, &Open)?;
+    Ok(journal_text(rt.alloc(), &finished)?)
+}
+
 /// The calls of a record, each with its place.
 fn calls_of(alloc: Global, record: &Record) -> Result<String, AllocError> {
     let mut text = String::new(alloc);
@@ -82,8 +90,7 @@ fn calls_of(alloc: Global, record: &Record) -> Result<String, AllocError> {
 
 #[test]
 fn the_report_of_one_worker(rt: HostRuntime) -> Result<(), Fail> {
-    let finished = built(&rt, TWO, 1, &Open)?;
-    let printed = report(rt.alloc(), &finished)?;
+    let printed = reported(&rt, TWO, 1, &Open)?;
     assert_eq!(rt;
         printed.as_str(),
         "module A\n  val x = A.x :: Char\nmodule B\n  val y = B.y :: Char\n2 modules: 2 good, 0 faulty, 0 skipped\n"
@@ -93,8 +100,7 @@ fn the_report_of_one_worker(rt: HostRuntime) -> Result<(), Fail> {
 
 #[test]
 fn the_journal_of_one_worker(rt: HostRuntime) -> Result<(), Fail> {
-    let finished = built(&rt, TWO, 1, &Open)?;
-    let journal = journal_text(rt.alloc(), &finished)?;
+    let journal = journal_of(&rt, TWO)?;
     assert_eq!(rt;
         journal.as_str(),
         "claim 0 B\npublish 0 B 0\nclaim 0 A\npublish 0 A 1\n"
@@ -107,8 +113,7 @@ const THREE: &[u8] = b"module A where { import B }\nmodule B where { }\nmodule C
 
 #[test]
 fn the_least_module_that_is_ready_comes_first(rt: HostRuntime) -> Result<(), Fail> {
-    let finished = built(&rt, THREE, 1, &Open)?;
-    let journal = journal_text(rt.alloc(), &finished)?;
+    let journal = journal_of(&rt, THREE)?;
     assert_eq!(rt;
         journal.as_str(),
         "claim 0 B\npublish 0 B 0\nclaim 0 A\npublish 0 A 1\nclaim 0 C\npublish 0 C 2\n"
@@ -116,34 +121,20 @@ fn the_least_module_that_is_ready_comes_first(rt: HostRuntime) -> Result<(), Fai
     Ok(())
 }
 
-/// So many modules, each of which imports the next.
-pub(crate) fn chain(alloc: Global, count: usize) -> Result<String, AllocError> {
-    let mut text = String::new(alloc);
-    for number in 1..count {
-        let importer = number - 1;
-        write!(text, "module M{importer} where {{ import M{number} }}\n")?;
-    }
-    let last = count.saturating_sub(1);
-    write!(text, "module M{last} where {{ }}\n")?;
-    Ok(text)
-}
-
-/// The number of entries of the journal of a chain by one worker, and its text.
+/// The journal of a chain of so many modules by one worker.
 fn chain_journal(
     rt: &(impl AllocGlobal + Threads + Wait + Sync),
     count: usize,
-) -> Result<(usize, String), Fail> {
+) -> Result<String, Fail> {
     let source = chain(rt.alloc(), count)?;
-    let finished = built(rt, source.as_bytes(), 1, &Open)?;
-    let entries = finished.store.journal().len();
-    Ok((entries, journal_text(rt.alloc(), &finished)?))
+    journal_of(rt, source.as_bytes())
 }
 
 #[test]
 fn the_journal_of_a_short_chain(rt: HostRuntime) -> Result<(), Fail> {
-    let (entries, journal) = chain_journal(&rt, 256)?;
+    let journal = chain_journal(&rt, 256)?;
     let text = journal.as_bytes();
-    assert_eq!(rt; entries, 512);
+    assert_eq!(rt; journal.lines().count(), 512);
     assert!(rt; text.starts_with(b"claim 0 M255\npublish 0 M255 0\nclaim 0 M254\n"));
     assert!(rt; text.ends_with(b"claim 0 M0\npublish 0 M0 255\n"));
     Ok(())
@@ -151,9 +142,9 @@ fn the_journal_of_a_short_chain(rt: HostRuntime) -> Result<(), Fail> {
 
 #[test]
 fn the_journal_of_the_longest_chain(rt: HostRuntime) -> Result<(), Fail> {
-    let (entries, journal) = chain_journal(&rt, 4096)?;
+    let journal = chain_journal(&rt, 4096)?;
     let text = journal.as_bytes();
-    assert_eq!(rt; entries, 8192);
+    assert_eq!(rt; journal.lines().count(), 8192);
     assert!(rt; text.starts_with(b"claim 0 M4095\npublish 0 M4095 0\nclaim 0 M4094\n"));
     assert!(rt; text.ends_with(b"claim 0 M0\npublish 0 M0 4095\n"));
     Ok(())
@@ -186,55 +177,6 @@ fn records_are_compared_with_the_journal(rt: HostRuntime) -> Result<(), Fail> {
     assert!(rt; store.audit(rt.alloc(), records.as_slice())?);
     shorten(&mut records)?;
     assert!(rt; !store.audit(rt.alloc(), records.as_slice())?);
-    Ok(())
-}
-
-#[test]
-fn journals_of_one_worker(rt: HostRuntime) -> Result<(), Fail> {
-    let options = Options {
-        workers: 1,
-        journal: true,
-    };
-    check_run_by(
-        &rt,
-        b"",
-        options,
-        Status::Good,
-        b"0 modules: 0 good, 0 faulty, 0 skipped\n",
-    )?;
-    check_run_by(
-        &rt,
-        TWO,
-        options,
-        Status::Good,
-        b"module A\n  val x = A.x :: Char\nmodule B\n  val y = B.y :: Char\n2 modules: 2 good, 0 faulty, 0 skipped\nclaim 0 B\npublish 0 B 0\nclaim 0 A\npublish 0 A 1\n",
-    )?;
-    check_run_by(
-        &rt,
-        SKIPPED,
-        options,
-        Status::Faulty,
-        b"faulty A\n  1:22 unbound y\nskipped B\n  by A\n  by C\nfaulty C\n  3:18 type f\nskipped D\n  by B\n4 modules: 0 good, 2 faulty, 2 skipped\nclaim 0 A\nfail 0 A\nclaim 0 C\nfail 0 C\n",
-    )?;
-    check_run_by(
-        &rt,
-        b"module A where { import A }",
-        options,
-        Status::Refused,
-        b"refused: module A in a cycle\n",
-    )?;
-    Ok(())
-}
-
-#[test]
-fn one_report_for_all_numbers_of_workers(rt: HostRuntime) -> Result<(), Fail> {
-    for workers in 1..17usize {
-        let options = Options {
-            workers,
-            journal: false,
-        };
-        check_run_by(&rt, SKIPPED, options, Status::Faulty, SKIPPED_REPORT)?;
-    }
     Ok(())
 }
 

@@ -1,6 +1,6 @@
 use Rattle.std.proofs.Common.{[], ◌∷◌, refl}
 use Rattle.hm_types.proofs.Ordered.{ordered_by_test, apart_by_test}
-use Rattle.part_tests.proofs.interfaces.with_phantom.Goals as goal
+use Rattle.type_tests.proofs.interfaces.with_phantom.Goals as goal
 
 pub new-requires-6 : goal.new-requires-6
 new-requires-6 c =

@@ -1,8 +1,8 @@
 //! Hostile text and failing devices, each by a whole run.
 use crate::check::{check_run_by, ran};
-use crate::devices::{Never, Short, Slow, Then};
 use hm_build::Options;
 use hm_sources::{RunFault, Status, Watched};
+use source_tests::devices::{Never, Short, Slow, Then};
 use std::alloc::{AllocError, Global};
 use std::process::Abort;
 use std::sync::Wait;
@@ -17,10 +17,10 @@ const REPORT: &[u8] =
     b"module A\n  val f = A.f :: Bool -> Int\n  val g = A.g :: Int -> Int\n  val h = A.h :: Char\n1 modules: 1 good, 0 faulty, 0 skipped\n";
 
 /// Faulty and skipped modules, and their report.
-const SKIPPED: &[u8] =
+pub(crate) const SKIPPED: &[u8] =
     b"module A where { x = y }\nmodule B where { import A ; import C }\nmodule C where { f x = x x }\nmodule D where { import B }";
 
-const SKIPPED_REPORT: &[u8] =
+pub(crate) const SKIPPED_REPORT: &[u8] =
     b"faulty A\n  1:22 unbound y\nskipped B\n  by A\n  by C\nfaulty C\n  3:18 type f\nskipped D\n  by B\n4 modules: 0 good, 2 faulty, 2 skipped\n";
 
 /// Bytes that are no text, or begin none.

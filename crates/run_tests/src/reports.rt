@@ -1,9 +1,9 @@
 //! How `run` ends at its bounds, and where its devices fail.
-use crate::builds::chain;
 use crate::check::{check_run, check_run_of, ran};
-use crate::devices::{Short, Slow, Then};
 use hm_build::Options;
 use hm_sources::{RunFault, Status, Watched};
+use source_tests::chains::chain;
+use source_tests::devices::{Short, Slow, Then};
 use std::alloc::{AllocError, Global};
 use std::sync::Wait;
 use std::test::Fail;

@@ -1,0 +1,5 @@
+//! Tests of what names mean.
+#![tactic(auto)]
+
+#[cfg(test)]
+mod scopes;
