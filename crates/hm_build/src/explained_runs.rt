@@ -3,13 +3,14 @@ ghost use Rattle.std.specs.Prelude.{◌≡◌, ◌<◌, ◌⊎◌, ◌↔◌, �
 ghost use Rattle.std.specs.Io.KnownBytes.{Appends};
 ghost use Rattle.hm_telling.specs.Explained.{IsExplained, IsToldTo};
 ghost use Rattle.hm_telling.specs.JournalledRuns.{IsRun};
-ghost use Rattle.hm_sources.specs.Sources.{AreReadUp, Stops, StopsAtFault, Tell, WritesPrefix, held_of};
+ghost use Rattle.hm_devices.specs.Sources.{AreReadUp, Stops, StopsAtFault, Tell, WritesPrefix, held_of};
 ghost use Rattle.hm_sources.specs.declared.status.Status.{Status};
-ghost use Rattle.hm_sources.specs.Watching.{device_of, failures_of, HasReadFault, HasWriteFault, IsFlushedBehind, IsFresh, IsReadWithin, IsWritten, IsWrittenOnce};
+ghost use Rattle.hm_devices.specs.Watching.{device_of, failures_of, HasReadFault, HasWriteFault, IsFlushedBehind, IsFresh, IsReadWithin, IsWritten, IsWrittenOnce};
 
 use crate::Explaining;
 use crate::reading::read_and_check;
-use hm_sources::{RunFault, Status, Watched, write_text};
+use hm_devices::{RunFault, Watched, write_text};
+use hm_sources::Status;
 use hm_telling::Wanted;
 use std::alloc::Global;
 use std::io::{Read, Write};

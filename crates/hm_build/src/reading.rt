@@ -2,12 +2,12 @@
 ghost use Rattle.std.specs.Prelude.{◌≡◌, ◌<◌, ◌⊎◌, ◌↔◌, ℕ, List, All, Any, IfOk, IfErr, IfSome, IsErrOf, OnOk, map, string_bytes};
 ghost use Rattle.hm_telling.specs.Explained.{IsExplained};
 ghost use Rattle.hm_telling.specs.JournalledRuns.{IsRun};
-ghost use Rattle.hm_sources.specs.Sources.{AreReadUp, Stops, StopsAtFault, Tell, held_of};
-ghost use Rattle.hm_sources.specs.Watching.{device_of, failures_of, HasReadFault, IsFresh, IsReadWithin};
+ghost use Rattle.hm_devices.specs.Sources.{AreReadUp, Stops, StopsAtFault, Tell, held_of};
+ghost use Rattle.hm_devices.specs.Watching.{device_of, failures_of, HasReadFault, IsFresh, IsReadWithin};
 
 use crate::stacks::build_answer_on_thread;
+use hm_devices::{RunFault, Watched, read_all};
 use hm_reports::may_work;
-use hm_sources::{RunFault, Watched, read_all};
 use hm_telling::{Explained, Wanted};
 use std::alloc::Global;
 use std::io::Read;

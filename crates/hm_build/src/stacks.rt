@@ -5,7 +5,8 @@ ghost use Rattle.hm_telling.specs.JournalledRuns.{IsRun};
 
 use crate::answers::build_answer;
 use core::thread::Stack;
-use hm_sources::{RunFault, stack_size};
+use hm_devices::RunFault;
+use hm_sources::stack_size;
 use hm_telling::{Explained, Wanted};
 use std::alloc::Global;
 use std::snapshot::Snapshot;
@@ -24,7 +25,7 @@ impl Promise<Result<Explained, RunFault>> for RunOf {
     ghost use Rattle.std.specs.Prelude.{◌≡◌, ◌⊎◌, IfErr, IfOk, IfSome, map, string_bytes};
     ghost use Rattle.hm_telling.specs.Explained.{IsExplained};
     ghost use Rattle.hm_telling.specs.JournalledRuns.{IsRun};
-    ghost use Rattle.hm_sources.specs.declared.faults.RunFault.TheVariants.{Memory, NoWorker, Mixed};
+    ghost use Rattle.hm_devices.specs.declared.faults.RunFault.TheVariants.{Memory, NoWorker, Mixed};
 
     ghost kept_by = { λ p r. IfOk r (λ a. IsRun p.wanted.value.options.workers p.wanted.value.options.journal (map (λ s. s.items) p.sources.value.items) a.answer.status (string_bytes a.answer.text)) × (IfOk r (λ a. IfSome p.wanted.value.explain (λ e. IsExplained e.paint (map (λ s. s.items) e.names.items) (map (λ s. s.items) p.sources.value.items) a.answer.status (string_bytes a.answer.text) a.messages.items)) × IfErr r (λ e. (e ≡ Memory) ⊎ ((e ≡ NoWorker) ⊎ (e ≡ Mixed)))) };
 }

@@ -7,9 +7,9 @@ use crate::heading::{Paint, heading};
 use crate::pages::Page;
 use crate::sentences::sentence;
 use crate::topic::Topic;
+use hm_devices::RunFault;
 use hm_excerpts::add_excerpt;
 use hm_lex::Place;
-use hm_sources::RunFault;
 use std::alloc::{AllocError, Global};
 
 /// Why there is no message.
@@ -33,7 +33,7 @@ impl From<AllocError> for MessageFault {
 
 impl From<MessageFault> for RunFault {
     ghost use Rattle.std.specs.Prelude.{◌≡◌, ◌⊎◌};
-    ghost use Rattle.hm_sources.specs.declared.faults.RunFault.TheVariants.{Memory, Mixed};
+    ghost use Rattle.hm_devices.specs.declared.faults.RunFault.TheVariants.{Memory, Mixed};
 
     ghost from_gives = { λ _ fault. (fault ≡ Memory) ⊎ (fault ≡ Mixed) };
 

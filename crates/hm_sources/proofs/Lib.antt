@@ -3,7 +3,6 @@ pub mod Outlines
 pub mod Reading
 pub mod Origins
 pub mod Telling
-pub mod Transferring
 pub mod OneOrder
 pub mod OneText
 pub mod OneRefusal

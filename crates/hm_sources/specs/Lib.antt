@@ -1,4 +1,3 @@
-pub mod Counting
 pub mod Errors
 pub mod Laws
 pub mod Names
@@ -8,6 +7,4 @@ pub mod Plans
 pub mod Refusals
 pub mod Runs
 pub mod SourceModules
-pub mod Sources
 pub mod Views
-pub mod Watching

@@ -6,7 +6,8 @@ ghost use Rattle.hm_sources.specs.Runs.{IsPlanRun};
 use crate::plans::plan_text;
 use crate::refusals::refusal_text;
 use crate::sets::{SetError, headers_of, set_modules};
-use crate::{RunFault, SetFault, Status};
+use crate::{SetFault, Status};
+use hm_devices::RunFault;
 use std::alloc::{AllocError, Global};
 
 /// What is written, and how the run ends.

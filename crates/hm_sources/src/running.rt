@@ -2,15 +2,14 @@
 ghost use Rattle.std.specs.Prelude.{◌≡◌, ◌⊎◌, ℕ, List, All, Any, IfOk, IfErr, IsErrOf, OnErr, OnOk};
 ghost use Rattle.std.specs.Io.KnownBytes.{Appends};
 ghost use Rattle.hm_sources.specs.Runs.{IsPlanRun};
-ghost use Rattle.hm_sources.specs.Sources.{AreReadUp, Stops, StopsAtFault, Tell, WritesPrefix};
+ghost use Rattle.hm_devices.specs.Sources.{AreReadUp, Stops, StopsAtFault, Tell, WritesPrefix};
 ghost use Rattle.hm_sources.specs.declared.status.Status.{Status};
-ghost use Rattle.hm_sources.specs.Watching.{device_of, failures_of, HasReadFault, HasWriteFault, IsFlushedBehind, IsFresh, IsReadWithin, IsWritten, IsWrittenOnce};
+ghost use Rattle.hm_devices.specs.Watching.{device_of, failures_of, HasReadFault, HasWriteFault, IsFlushedBehind, IsFresh, IsReadWithin, IsWritten, IsWrittenOnce};
 
+use crate::Status;
 use crate::answers::Answer;
-use crate::output::write_text;
-use crate::source::read_all;
 use crate::stacks::plan_on_thread;
-use crate::{RunFault, Status, Watched};
+use hm_devices::{RunFault, Watched, read_all, write_text};
 use std::alloc::Global;
 use std::io::{Read, Write};
 use std::thread::Threads;

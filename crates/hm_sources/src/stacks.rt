@@ -2,8 +2,8 @@
 ghost use Rattle.std.specs.Prelude.{◌≡◌, IfErr, IfOk, map, string_bytes};
 ghost use Rattle.hm_sources.specs.Runs.{IsPlanRun};
 
-use crate::RunFault;
 use crate::answers::{Answer, plan_answer};
+use hm_devices::RunFault;
 use std::alloc::Global;
 use std::snapshot::Snapshot;
 use std::thread::{Builder, Promise, Threads};
@@ -62,7 +62,7 @@ struct PlanOf(Snapshot<Vec<Vec<u8>>>);
 impl Promise<Result<Answer, RunFault>> for PlanOf {
     ghost use Rattle.std.specs.Prelude.{◌≡◌, IfErr, IfOk, map, string_bytes};
     ghost use Rattle.hm_sources.specs.Runs.{IsPlanRun};
-    ghost use Rattle.hm_sources.specs.declared.faults.RunFault.TheVariants.{Memory};
+    ghost use Rattle.hm_devices.specs.declared.faults.RunFault.TheVariants.{Memory};
 
     ghost kept_by = { λ p r. IfOk r (λ a. IsPlanRun (map (λ s. s.items) p.0.value.items) a.status (string_bytes a.text)) × IfErr r (λ e. e ≡ Memory) };
 }

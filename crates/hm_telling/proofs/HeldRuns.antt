@@ -5,7 +5,7 @@ use Rattle.hm_syntax.specs.declared.ast.Module.{Module}
 use Rattle.hm_telling.specs.Checks.{IsChecked, IsCheckRun}
 use Rattle.hm_telling.specs.JournalledRuns.{Follows, IsRun, IsWritten}
 use Rattle.hm_reports.specs.Journals.{MayEnd}
-use Rattle.hm_sources.specs.Sources.{held_of}
+use Rattle.hm_devices.specs.Sources.{held_of}
 use Rattle.hm_sources.specs.SourceModules.{AreModulesOf, HasModules}
 use Rattle.hm_sources.specs.declared.status.Status.{Status}
 use Rattle.hm_sources.specs.declared.status.Status.TheVariants.{Good, Faulty, Refused}

@@ -4,7 +4,7 @@ use Rattle.std.specs.Prelude.{Option, Some, None, IfSome, Result, Ok, Err, OnErr
 use Rattle.std.specs.Io.KnownBytes.{Appends}
 use Rattle.hm_sources.specs.Refusals.{Refusal, refusal_text}
 use Rattle.hm_sources.specs.Runs.{IsRefusalOf, IsRefused}
-use Rattle.hm_sources.specs.Sources.{WritesPrefix}
+use Rattle.hm_devices.specs.Sources.{WritesPrefix}
 use Rattle.hm_sources.specs.declared.status.Status.{Status}
 use Rattle.hm_sources.specs.declared.status.Status.TheVariants.{Good, Faulty, Refused}
 use Rattle.hm_messages.specs.declared.heading.Paint.{Paint}

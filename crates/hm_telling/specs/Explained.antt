@@ -9,7 +9,7 @@ use Rattle.hm_messages.specs.Refused.{IsRefusalTold}
 use Rattle.hm_messages.specs.declared.heading.Paint.{Paint}
 use Rattle.hm_sources.specs.Refusals.{Refusal}
 use Rattle.hm_sources.specs.Runs.{IsRefusalOf}
-use Rattle.hm_sources.specs.Sources.{WritesPrefix}
+use Rattle.hm_devices.specs.Sources.{WritesPrefix}
 use Rattle.hm_sources.specs.SourceModules.{AreModulesOf}
 use Rattle.hm_sources.specs.declared.status.Status.{Status}
 use Rattle.hm_sources.specs.declared.status.Status.TheVariants.{Good, Faulty, Refused}

@@ -1,7 +1,7 @@
 -- The table of exit statuses. Status 0 is that of help and of the version too, 2 that of words that are refused, and 4 that of a source that can't be opened.
 use Rattle.std.specs.Prelude.{ℕ}
-use Rattle.hm_sources.specs.declared.faults.RunFault.{RunFault}
-use Rattle.hm_sources.specs.declared.faults.RunFault.TheVariants.{Read, Write, Memory, NoWorker, Mixed, Workers}
+use Rattle.hm_devices.specs.declared.faults.RunFault.{RunFault}
+use Rattle.hm_devices.specs.declared.faults.RunFault.TheVariants.{Read, Write, Memory, NoWorker, Mixed, Workers}
 use Rattle.hm_sources.specs.declared.status.Status.{Status}
 use Rattle.hm_sources.specs.declared.status.Status.TheVariants.{Good, Faulty, Refused}
 

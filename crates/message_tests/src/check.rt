@@ -1,10 +1,11 @@
 //! One run, and the messages that it must write.
 ghost use Rattle.std.specs.Prelude.{All};
-ghost use Rattle.hm_sources.specs.Watching.{IsFresh};
+ghost use Rattle.hm_devices.specs.Watching.{IsFresh};
 
 use hm_build::{Explain, Explaining, Options, Outputs, run, run_explained};
+use hm_devices::{RunFault, Watched};
 use hm_messages::Paint;
-use hm_sources::{RunFault, Status, Watched};
+use hm_sources::Status;
 use std::alloc::{AllocError, Global};
 use std::io::{Read, Write};
 use std::process::Abort;

@@ -1,9 +1,10 @@
 //! One run, and what it must print.
 ghost use Rattle.std.specs.Prelude.{All};
-ghost use Rattle.hm_sources.specs.Watching.{IsFresh};
+ghost use Rattle.hm_devices.specs.Watching.{IsFresh};
 
 use hm_build::{Options, run};
-use hm_sources::{RunFault, Status, Watched};
+use hm_devices::{RunFault, Watched};
+use hm_sources::Status;
 use std::alloc::{AllocError, Global};
 use std::io::{Read, Write};
 use std::process::Abort;

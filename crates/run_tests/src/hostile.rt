@@ -1,7 +1,8 @@
 //! Hostile text and failing devices, each by a whole run.
 use crate::check::{check_run_by, ran};
 use hm_build::Options;
-use hm_sources::{RunFault, Status, Watched};
+use hm_devices::{RunFault, Watched};
+use hm_sources::Status;
 use source_tests::devices::{Never, Short, Slow, Then};
 use std::alloc::{AllocError, Global};
 use std::process::Abort;

@@ -1,7 +1,8 @@
 //! How `run` ends at its bounds, and where its devices fail.
 use crate::check::{check_run, check_run_of, ran};
 use hm_build::Options;
-use hm_sources::{RunFault, Status, Watched};
+use hm_devices::{RunFault, Watched};
+use hm_sources::Status;
 use source_tests::chains::chain;
 use source_tests::devices::{Short, Slow, Then};
 use std::alloc::{AllocError, Global};

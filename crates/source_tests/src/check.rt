@@ -1,8 +1,9 @@
 //! One run of the plan, and what it must print.
 ghost use Rattle.std.specs.Prelude.{All};
-ghost use Rattle.hm_sources.specs.Watching.{IsFresh};
+ghost use Rattle.hm_devices.specs.Watching.{IsFresh};
 
-use hm_sources::{RunFault, Status, Watched, run_plan};
+use hm_devices::{RunFault, Watched};
+use hm_sources::{Status, run_plan};
 use std::alloc::{AllocError, Global};
 use std::io::{Read, Write};
 use std::process::Abort;

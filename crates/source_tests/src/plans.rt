@@ -1,6 +1,7 @@
 //! What `run_plan` prints of sources.
 use crate::check::{check, planned};
-use hm_sources::{Status, Watched};
+use hm_devices::Watched;
+use hm_sources::Status;
 use std::test::Fail;
 
 /// A source, how the run ends, and what it prints.

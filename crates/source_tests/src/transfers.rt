@@ -1,7 +1,8 @@
 //! Readers and writers that fail or are slow.
 use crate::check::planned;
 use crate::devices::{Never, Short, Slow, Then};
-use hm_sources::{RunFault, Status, Watched};
+use hm_devices::{RunFault, Watched};
+use hm_sources::Status;
 use std::io;
 use std::io::{ErrorKind, Read, Write};
 use std::test::Fail;

@@ -1,8 +1,8 @@
 use Rattle.std.proofs.Common.{rules, ◌≡◌, Err, inl, inr, ⊎_elim, string_bytes}
 use Rattle.hm_telling.proofs.Telling.{told_to}
 use Rattle.hm_build.proofs.RunFaults.{no_failure, passed_back, passed_on}
-use Rattle.hm_sources.specs.Watching.{failures_of}
-use Rattle.hm_sources.specs.declared.faults.RunFault.TheVariants as fault
+use Rattle.hm_devices.specs.Watching.{failures_of}
+use Rattle.hm_devices.specs.declared.faults.RunFault.TheVariants as fault
 use Rattle.hm_build.proofs.explained_runs.run_explained.Goals as goal
 
 pub returns-in_err-explained-clause-read_up_before_a_build : goal.returns-in_err-explained-clause-read_up_before_a_build

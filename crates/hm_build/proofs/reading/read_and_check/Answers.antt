@@ -3,8 +3,8 @@ use Rattle.hm_telling.specs.Explained.{IsExplained}
 use Rattle.hm_telling.specs.JournalledRuns.{IsRun}
 use Rattle.hm_telling.proofs.HeldRuns.{build_held}
 use Rattle.hm_build.proofs.RunFaults.{no_failure, only_read_faults}
-use Rattle.hm_sources.specs.Watching.{failures_of}
-use Rattle.hm_sources.specs.declared.faults.RunFault.TheVariants as fault
+use Rattle.hm_devices.specs.Watching.{failures_of}
+use Rattle.hm_devices.specs.declared.faults.RunFault.TheVariants as fault
 use Rattle.hm_build.proofs.reading.read_and_check.Goals as goal
 
 pub returns-clause-ok : goal.returns-clause-ok

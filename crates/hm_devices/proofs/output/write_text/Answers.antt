@@ -1,6 +1,6 @@
 use Rattle.std.proofs.Common.{rules}
-use Rattle.hm_sources.proofs.Transferring.{sends_more}
-use Rattle.hm_sources.proofs.output.write_text.Goals as goal
+use Rattle.hm_devices.proofs.Transferring.{sends_more}
+use Rattle.hm_devices.proofs.output.write_text.Goals as goal
 
 pub loop-rest-preserved-in-Ok : goal.loop-rest-preserved-in-Ok
 loop-rest-preserved-in-Ok g c =

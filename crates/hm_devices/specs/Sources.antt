@@ -1,8 +1,8 @@
 -- What is read of the readers and written to the writer.
 use Rattle.std.specs.Prelude.{◌≡◌, ℕ, ◌<◌, List, [], ◌∷◌, ◌++◌, Option, Some, IfSome, drop, get_or, length, take}
 use Rattle.std.specs.Io.KnownBytes.{Appends}
-use Rattle.hm_sources.specs.declared.watched.Watched.{Watched}
-use Rattle.hm_sources.specs.Watching.{HasReadFault}
+use Rattle.hm_devices.specs.declared.watched.Watched.{Watched}
+use Rattle.hm_devices.specs.Watching.{HasReadFault}
 
 -- what is held of a reader's bytes: all, or as many as show that a source is too long
 abbrev pub held_of : List ℕ → List ℕ

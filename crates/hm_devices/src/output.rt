@@ -1,8 +1,8 @@
 //! Writing the text.
 ghost use Rattle.std.specs.Prelude.{◌≡◌, IfErr, OnErr, OnOk};
 ghost use Rattle.std.specs.Io.KnownBytes.{Appends};
-ghost use Rattle.hm_sources.specs.Sources.{WritesPrefix};
-ghost use Rattle.hm_sources.specs.Watching.{device_of, HasWriteFault, IsFlushedBehind, IsFresh, IsWritten, IsWrittenOnce};
+ghost use Rattle.hm_devices.specs.Sources.{WritesPrefix};
+ghost use Rattle.hm_devices.specs.Watching.{device_of, HasWriteFault, IsFlushedBehind, IsFresh, IsWritten, IsWrittenOnce};
 
 use crate::{RunFault, Watched};
 use std::io::{ErrorKind, Write};

@@ -2,8 +2,8 @@
 ghost use Rattle.std.specs.Prelude.{◌≡◌, ◌<◌, false, IfErr, IfOk, IsTrue, OnOk, OnErr};
 ghost use Rattle.std.specs.Io.{ReadsAtMost, WritesAtMost};
 ghost use Rattle.std.specs.Io.KnownBytes.{Keeps, ReadConsumes, WriteAppends};
-ghost use Rattle.hm_sources.specs.Counting.{more, one_more, CountsError};
-ghost use Rattle.hm_sources.specs.Watching.{device_of, reads_of, bytes_of, interrupts_of, failures_of, flushes_of, is_flushed_of, IsFresh};
+ghost use Rattle.hm_devices.specs.Counting.{more, one_more, CountsError};
+ghost use Rattle.hm_devices.specs.Watching.{device_of, reads_of, bytes_of, interrupts_of, failures_of, flushes_of, is_flushed_of, IsFresh};
 
 use std::io;
 use std::io::{ErrorKind, Read, Write};

@@ -1,10 +1,10 @@
 use Rattle.std.proofs.Common.{rules, ◌≡◌, ◌++◌, ◌∷◌, [], map, take, get_or, sym, ap, subst, ◌∙◌, arith, IfSome, inl, inr, ◌≤◌, vec_len}
 use Rattle.std.proofs.lemmas.List.{take_all, map-append, places, get_or_default}
 use Rattle.std.proofs.lemmas.Result.{err_from_is_err_and}
-use Rattle.hm_sources.specs.Watching.{device_of, failures_of, HasReadFault, IsReadWithin}
-use Rattle.hm_sources.specs.Sources.{IsReadUp, Tell, held_of}
-use Rattle.hm_sources.proofs.Telling.{all_more, all_set, answered, found_set, read_up_more, set_past, stops, stops_at, told_more}
-use Rattle.hm_sources.proofs.source.read_all.Goals as goal
+use Rattle.hm_devices.specs.Watching.{device_of, failures_of, HasReadFault, IsReadWithin}
+use Rattle.hm_devices.specs.Sources.{IsReadUp, Tell, held_of}
+use Rattle.hm_devices.proofs.ReadUp.{all_more, all_set, answered, found_set, read_up_more, set_past, stops, stops_at, told_more}
+use Rattle.hm_devices.proofs.reading.read_all.Goals as goal
 
 pub returns-in_err-source-clause-read : goal.returns-in_err-source-clause-read
 returns-in_err-source-clause-read g c e =

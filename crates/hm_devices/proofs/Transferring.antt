@@ -5,7 +5,7 @@ use Rattle.std.proofs.KnownBytes.{Consumes-trans, Appends-trans}
 use lib.Seq.{take-append-le}
 use Rattle.std.proofs.lemmas.List.{drop_all, take_all, take-append-drop, length-drop}
 use Rattle.std.proofs.Math.Seq.{drop-append_seam}
-use Rattle.hm_sources.specs.Sources.{IsReadUp}
+use Rattle.hm_devices.specs.Sources.{IsReadUp}
 use Rattle.std.proofs.Common.{◌-◌}
 
 -- one more read

@@ -1,6 +1,6 @@
 use Rattle.std.proofs.Common.{rules}
-use Rattle.hm_sources.proofs.Transferring.{consumes_more, held_at_end, held_at_limit, left_at_end, left_at_limit}
-use Rattle.hm_sources.proofs.source.read_source.Goals as goal
+use Rattle.hm_devices.proofs.Transferring.{consumes_more, held_at_end, held_at_limit, left_at_end, left_at_limit}
+use Rattle.hm_devices.proofs.reading.read_source.Goals as goal
 
 pub returns-in-Some-eq0-clause-bytes : goal.returns-in-Some-eq0-clause-bytes
 returns-in-Some-eq0-clause-bytes g c =

@@ -1,7 +1,7 @@
 use Rattle.std.proofs.Common.{◌≡◌, ◌<◌, ◌+◌, ◌-◌, ◌++◌, ℕ, List, length}
 use Rattle.std.specs.Io.KnownBytes.{Appends}
-use Rattle.hm_sources.specs.Watching.{device_of, interrupts_of, failures_of, flushes_of}
-use Rattle.hm_sources.proofs.output.write_text.Given as goal
+use Rattle.hm_devices.specs.Watching.{device_of, interrupts_of, failures_of, flushes_of}
+use Rattle.hm_devices.proofs.output.write_text.Given as goal
 
 abbrev pub invariant-loop-rest : goal.invariant-loop-rest
 invariant-loop-rest g l = (failures_of l.writer ≡ 0) × (interrupts_of l.writer < 2097152)

@@ -1,7 +1,7 @@
 use Rattle.std.proofs.Common.{◌≡◌, ◌<◌, ◌≤◌, ◌-◌, vec_len}
 use Rattle.std.specs.Io.KnownBytes.{Consumes}
-use Rattle.hm_sources.specs.Watching.{device_of, reads_of, bytes_of, failures_of}
-use Rattle.hm_sources.proofs.source.read_source.Given as goal
+use Rattle.hm_devices.specs.Watching.{device_of, reads_of, bytes_of, failures_of}
+use Rattle.hm_devices.proofs.reading.read_source.Given as goal
 
 abbrev pub invariant-loop-reader : goal.invariant-loop-reader
 invariant-loop-reader g l = (failures_of l.reader ≡ 0) × (reads_of l.reader ≤ 2097152) × (vec_len l.held < 1048577) × (bytes_of l.reader ≡ vec_len l.held)

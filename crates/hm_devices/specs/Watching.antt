@@ -1,6 +1,6 @@
 -- What a clause reads of a watched device.
 use Rattle.std.specs.Prelude.{◌≡◌, ℕ, ◌<◌, ◌≤◌, ◌⊎◌, Bool, false, true}
-use Rattle.hm_sources.specs.declared.watched.Watched.{Watched}
+use Rattle.hm_devices.specs.declared.watched.Watched.{Watched}
 
 -- the device inside
 abbrev pub device_of : {D : Type 0} → Watched D → D

@@ -1,9 +1,9 @@
 //! Reading the sources.
 ghost use Rattle.std.specs.Prelude.{All, Any, map, ◌≡◌, ℕ, List, ◌⊎◌, ◌+◌, ◌++◌, ◌<◌, ◌≤◌, Some, Ok, IfErr, IfOk, IfSome, IsErrOf, OnErr, OnOk, vec_len};
 ghost use Rattle.std.specs.Io.KnownBytes.{Consumes, IsAtEnd};
-ghost use Rattle.hm_sources.specs.Counting.{one_more};
-ghost use Rattle.hm_sources.specs.Sources.{held_of, AreReadUp, IsReadUp, Stops, StopsAtFault, Tell};
-ghost use Rattle.hm_sources.specs.Watching.{device_of, reads_of, bytes_of, failures_of, HasReadFault, IsFresh, IsReadWithin};
+ghost use Rattle.hm_devices.specs.Counting.{one_more};
+ghost use Rattle.hm_devices.specs.Sources.{held_of, AreReadUp, IsReadUp, Stops, StopsAtFault, Tell};
+ghost use Rattle.hm_devices.specs.Watching.{device_of, reads_of, bytes_of, failures_of, HasReadFault, IsFresh, IsReadWithin};
 
 use crate::{RunFault, Watched};
 use std::alloc::Global;

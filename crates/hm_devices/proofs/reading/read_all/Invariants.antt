@@ -1,8 +1,8 @@
 use Rattle.std.proofs.Common.{◌≡◌, ◌<◌, ◌≤◌, ℕ, List, length, map, take, get_or, vec_len}
 use Rattle.std.specs.Prelude.{All}
-use Rattle.hm_sources.specs.Watching.{device_of, failures_of, IsReadWithin}
-use Rattle.hm_sources.specs.Sources.{held_of, IsReadUp, Tell}
-use Rattle.hm_sources.proofs.source.read_all.Given as goal
+use Rattle.hm_devices.specs.Watching.{device_of, failures_of, IsReadWithin}
+use Rattle.hm_devices.specs.Sources.{held_of, IsReadUp, Tell}
+use Rattle.hm_devices.proofs.reading.read_all.Given as goal
 
 abbrev pub invariant-loop-index : goal.invariant-loop-index
 invariant-loop-index g l = ((k : ℕ) (d : _) → l.index ≤ k → k < length l.readers → get_or l.readers k d ≡ get_or l.initial.readers k d)

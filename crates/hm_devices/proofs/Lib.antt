@@ -1,0 +1,2 @@
+pub mod ReadUp
+pub mod Transferring
