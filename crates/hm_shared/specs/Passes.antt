@@ -8,11 +8,11 @@ use Rattle.hm_shared.specs.declared.passes.Pass.{Pass}
 
 -- the number of the worker that makes its calls with it
 abbrev pub worker_of : {L : Type 0} {J : Naming.Ghosts L} → Pass L J → ℕ
-worker_of p = p.worker
+worker_of p = p.record.worker
 
 -- the calls that were answered, in order
 abbrev pub calls_of : {L : Type 0} {J : Naming.Ghosts L} → Pass L J → List Call
-calls_of p = p.calls.items
+calls_of p = p.record.calls.items
 
 -- how many calls can still be made with it
 abbrev pub room_of : {L : Type 0} {J : Naming.Ghosts L} → Pass L J → ℕ

@@ -14,19 +14,18 @@ use std::alloc::{AllocError, Global};
 use std::sync::Arc;
 use std::sync::ledger::{Book, Ledger, Share};
 
-/// What a worker makes its calls with: its number, its record so far, and the room for calls that it has left.
+/// What a worker makes its calls with: its record so far, and the room for calls that it has left.
 #[derive(Drop)]
 pub struct Pass<L: Ledger + Naming> {
-    worker: usize,
-    calls: Vec<Call>,
+    record: Record,
     room: usize,
     known: usize,
     share: Share<L>,
     reader: Reader<L>,
-    ghost reserved: { vec_len calls + room ≤ vec_capacity calls },
-    ghost ordered: { rises 0 calls.items ≡ true },
-    ghost knowing: { known ≡ knows 0 calls.items },
-    ghost counted: { share.amount ≡ wrote_in calls.items },
+    ghost reserved: { vec_len record.calls + room ≤ vec_capacity record.calls },
+    ghost ordered: { rises 0 record.calls.items ≡ true },
+    ghost knowing: { known ≡ knows 0 record.calls.items },
+    ghost counted: { share.amount ≡ wrote_in record.calls.items },
     ghost backed: { 0 < share.parts },
     ghost bounded: { known + room < 2 ^ 63 },
     ghost small: { room < 2 ^ 62 },
@@ -51,10 +50,9 @@ impl<L: Ledger + Naming> Pass<L> {
         ensures parts { IfOk result (λ p. (share_of p).parts ≡ share.parts) }
         ensures seen { IfOk result (λ p. seen_of p ≡ reader) }
     {
-        let calls = Vec::with_capacity(alloc, room)?;
+        let record = Record::new(alloc, worker, room)?;
         Ok(Pass {
-            worker,
-            calls,
+            record,
             room,
             known: 0,
             share,
@@ -77,7 +75,7 @@ impl<L: Ledger + Naming> Pass<L> {
     {
         let at = entries.max(self.known);
         book.add(&mut self.share, 1);
-        self.calls.push_reserved(Call { at, act });
+        self.record.calls.push_reserved(Call { at, act });
         self.known = at + 1;
         self.room -= 1;
     }
@@ -95,7 +93,7 @@ impl<L: Ledger + Naming> Pass<L> {
         ensures seen { seen_of self.new ≡ seen_of self.old }
     {
         let at = entries.max(self.known);
-        self.calls.push_reserved(Call { at, act });
+        self.record.calls.push_reserved(Call { at, act });
         self.known = at;
         self.room -= 1;
     }
@@ -141,7 +139,7 @@ impl<L: Ledger + Naming> Pass<L> {
     pub fn worker(&self) -> usize
         ensures { result ≡ worker_of self.now }
     {
-        self.worker
+        self.record.worker
     }
 
     /// How many calls can still be made with it.
@@ -160,14 +158,13 @@ impl<L: Ledger + Naming> Pass<L> {
         ensures parts { result.1.parts ≡ (share_of self).parts }
     {
         let Pass {
-            worker,
-            calls,
+            record,
             room: _,
             known: _,
             share,
             reader: _reader,
         } = self;
-        (Record { worker, calls }, share)
+        (record, share)
     }
 }
 

@@ -1,6 +1,9 @@
 //! What a worker writes down of its calls.
 
+ghost use Rattle.std.specs.Prelude.{◌≡◌, ◌≤◌, [], IfOk, vec_capacity};
+
 use hm_types::Interface;
+use std::alloc::{AllocError, Global};
 use std::sync::Arc;
 
 /// A call that was answered, with its reply.
@@ -32,4 +35,16 @@ pub struct Call {
 pub struct Record {
     pub worker: usize,
     pub calls: Vec<Call>,
+}
+
+impl Record {
+    /// The record of a worker that has made no call, with room for so many.
+    pub fn new(alloc: Global, worker: usize, room: usize) -> Result<Record, AllocError>
+        ensures worker { IfOk result (λ r. r.worker ≡ worker) }
+        ensures empty { IfOk result (λ r. r.calls.items ≡ []) }
+        ensures room { IfOk result (λ r. room ≤ vec_capacity r.calls) }
+    {
+        let calls = Vec::with_capacity(alloc, room)?;
+        Ok(Record { worker, calls })
+    }
 }
