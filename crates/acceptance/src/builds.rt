@@ -1,7 +1,7 @@
 //! Builds by several workers: journals, records, and that checks run at the same time.
+use crate::chains::chain;
 use hm_build::{BuildFault, Finished, Gate, Open, build, journal_text, report};
 use hm_store::{Act, Record};
-use source_tests::chains::chain;
 use std::alloc::{AllocError, Global};
 use std::process::Abort;
 use std::sync::Wait;
@@ -11,7 +11,7 @@ use std::thread;
 use std::thread::Threads;
 
 /// A module behind the one that it imports.
-const TWO: &[u8] = b"module A where { import B ; x = y }\nmodule B where { y = 'c' }";
+pub(crate) const TWO: &[u8] = b"module A where { import B ; x = y }\nmodule B where { y = 'c' }";
 
 /// Modules of which two are skipped.
 pub(crate) const SKIPPED: &[u8] =

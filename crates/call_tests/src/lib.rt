@@ -1,15 +1,10 @@
-//! Tests of single calls below a build, and the tables of what runs print, which `acceptance` runs too.
+//! Tests of single calls below a build.
 #![tactic(auto)]
 
-#[cfg(test)]
-mod equal;
-#[cfg(test)]
-mod modules;
 #[cfg(test)]
 mod passes;
 #[cfg(test)]
 mod refused;
-pub mod rows;
 #[cfg(test)]
 mod sources;
 #[cfg(test)]

@@ -1,77 +1,12 @@
+//! Graphs and plans: each public call once.
 ghost use Rattle.std.specs.Prelude.{◌≡◌, ◌<◌, length};
 
 use hm_graph::{Dependents, Digraph, Plan, PlanFault, import_plan};
-use hm_lex::Place;
-use hm_syntax::{Header, Import, ImportList, Name, Row};
+use hm_lex::lex;
+use hm_parse::parse;
+use hm_syntax::Module;
 use std::alloc::{AllocError, Global};
-
-/// A module's name, and the names of its imports.
-type Outline = (&'static str, &'static [&'static str]);
-
-fn name_of(alloc: Global, text: &str) -> Result<Name, AllocError> {
-    let text = String::from_str(alloc, text)?;
-    Ok(Name {
-        qualifier: None,
-        text,
-        place: Place { line: 1, column: 1 },
-    })
-}
-
-fn import_of(alloc: Global, text: &str) -> Result<Import, AllocError> {
-    let name = name_of(alloc, text)?;
-    Ok(Import {
-        qualified: false,
-        name,
-        alias: None,
-        list: ImportList::Every,
-    })
-}
-
-fn imports_of(alloc: Global, imported: &[&str]) -> Result<Row<Import>, AllocError> {
-    let mut items = Vec::new(alloc);
-    for other in imported {
-        items.push(import_of(alloc, other)?)?;
-    }
-    Ok(Row { items })
-}
-
-fn header_of(alloc: Global, text: &str, imported: &[&str]) -> Result<Header, AllocError> {
-    let name = name_of(alloc, text)?;
-    let imports = imports_of(alloc, imported)?;
-    Ok(Header {
-        name,
-        exports: None,
-        imports,
-    })
-}
-
-/// Adds the header of a module with this name and these imports.
-fn add_header(
-    alloc: Global,
-    headers: &mut Vec<Header>,
-    text: &str,
-    imported: &[&str],
-) -> Result<(), AllocError> {
-    headers.push(header_of(alloc, text, imported)?)?;
-    Ok(())
-}
-
-fn headers_of(alloc: Global, outlines: &[Outline]) -> Result<Vec<Header>, AllocError> {
-    let mut headers = Vec::new(alloc);
-    for (name, imported) in outlines {
-        add_header(alloc, &mut headers, name, imported)?;
-    }
-    Ok(headers)
-}
-
-/// The plan of these headers.
-fn plan_of(alloc: Global, headers: &[Header]) -> Result<Plan, PlanFault> {
-    let mut lent = Vec::new(alloc);
-    for header in headers {
-        lent.push(header)?;
-    }
-    import_plan(alloc, &lent)
-}
+use std::test::Fail;
 
 /// Adds three edges to a graph of three nodes.
 fn add_three_edges(graph: &mut Digraph) -> Result<(), AllocError>
@@ -112,79 +47,9 @@ fn a_graph_of_three(rt: HostRuntime) -> Result<(), AllocError> {
     Ok(())
 }
 
-/// Sets of modules, and why each has no plan.
-const REFUSED: [(&[Outline], PlanFault); 5] = [
-    (
-        &[("A", &["B"]), ("B", &["A"])],
-        PlanFault::Cycle { module: 0 },
-    ),
-    (&[("A", &["A"])], PlanFault::Cycle { module: 0 }),
-    (&[("Prelude", &[])], PlanFault::Duplicate { module: 0 }),
-    (
-        &[("A", &["Z"]), ("A", &[])],
-        PlanFault::Duplicate { module: 1 },
-    ),
-    (
-        &[("A", &["A", "Z"])],
-        PlanFault::Missing {
-            module: 0,
-            import: 1,
-        },
-    ),
-];
-
-/// Whether these headers have no plan for this reason.
-fn is_refused(alloc: Global, headers: &[Header], fault: &PlanFault) -> bool {
-    matches!(plan_of(alloc, headers), Err(found) if found == *fault)
-}
-
-/// Whether such modules have none.
-fn are_refused(alloc: Global, outlines: &[Outline], fault: &PlanFault) -> Result<bool, AllocError> {
-    Ok(is_refused(alloc, &headers_of(alloc, outlines)?, fault))
-}
-
-#[test]
-fn refused_sets(rt: HostRuntime) -> Result<(), AllocError> {
-    for (outlines, fault) in &REFUSED {
-        assert!(rt; are_refused(rt.alloc(), outlines, fault)?);
-    }
-    Ok(())
-}
-
-/// The headers of so many modules, each of which imports Prelude.
-fn many_headers(alloc: Global, count: usize) -> Result<Vec<Header>, AllocError> {
-    let mut headers = Vec::new(alloc);
-    for number in 0..count {
-        let text = format!(in alloc; "M{number}")?;
-        add_header(alloc, &mut headers, text.as_str(), &["Prelude"])?;
-    }
-    Ok(headers)
-}
-
-/// Whether these headers have the longest plan.
-fn have_longest_plan(alloc: Global, headers: &[Header]) -> bool {
-    plan_of(alloc, headers).is_ok_and(|plan| plan.len() == 4096)
-}
-
-/// Whether these headers are one more than there may be.
-fn are_one_too_many(alloc: Global, headers: &[Header]) -> bool {
-    let most = &headers[..4096.min(headers.len())];
-    is_refused(alloc, headers, &PlanFault::TooMany) && have_longest_plan(alloc, most)
-}
-
-#[test]
-fn the_most_modules(rt: HostRuntime) -> Result<(), AllocError> {
-    let headers = many_headers(rt.alloc(), 4097)?;
-    assert!(rt; are_one_too_many(rt.alloc(), &headers));
-    Ok(())
-}
-
 /// A set of three modules.
-const THREE: [Outline; 3] = [
-    ("A", &["C", "Prelude", "B", "C"]),
-    ("B", &[]),
-    ("C", &["B"]),
-];
+const THREE: &[u8] =
+    b"module A where { import C ; import Prelude ; import B ; import C }\nmodule B where { }\nmodule C where { import B }";
 
 /// Whether the plan of the three modules has their imports and importers.
 fn has_order(plan: &Plan) -> bool {
@@ -208,15 +73,29 @@ fn finds_dependents(alloc: Global, plan: &Plan) -> Result<bool, AllocError> {
     Ok(of_second && dependents.marks() == [true, false, false].as_slice())
 }
 
-/// The plan of the three modules.
-fn plan_of_three(alloc: Global) -> Result<Plan, PlanFault> {
-    let headers = headers_of(alloc, &THREE)?;
-    plan_of(alloc, &headers)
+/// The plan of these modules.
+fn plan_of(alloc: Global, modules: &[Module]) -> Result<Plan, PlanFault> {
+    let mut headers = Vec::new(alloc);
+    for module in modules {
+        headers.push(&module.header)?;
+    }
+    import_plan(alloc, &headers)
+}
+
+/// The plan of the modules of a source.
+fn planned(alloc: Global, source: &[u8]) -> Result<Plan, Fail> {
+    let Ok(tokens) = lex(alloc, source) else {
+        return Err(Fail::from("no tokens"));
+    };
+    let Ok(modules) = parse(alloc, source, &tokens) else {
+        return Err(Fail::from("no modules"));
+    };
+    plan_of(alloc, &modules).map_err(|_| Fail::from("no plan"))
 }
 
 #[test]
-fn the_order_of_first_imports(rt: HostRuntime) -> Result<(), PlanFault> {
-    let plan = plan_of_three(rt.alloc())?;
+fn the_order_of_first_imports(rt: HostRuntime) -> Result<(), Fail> {
+    let plan = planned(rt.alloc(), THREE)?;
     assert!(rt; has_order(&plan));
     assert!(rt; finds_dependents(rt.alloc(), &plan)?);
     Ok(())

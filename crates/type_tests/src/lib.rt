@@ -1,8 +1,6 @@
-//! Tests of types, their texts, interfaces and unification.
+//! Tests of instances and of the levels of types.
 #![tactic(auto)]
 
-#[cfg(test)]
-mod interfaces;
 #[cfg(test)]
 mod types;
 #[cfg(test)]

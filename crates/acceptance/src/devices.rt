@@ -5,7 +5,7 @@ use std::io::{ErrorKind, Read, Write};
 
 /// Gives one byte a read, each after an interrupted read, and fails at one read for good.
 #[derive(Drop)]
-pub struct Slow {
+pub(crate) struct Slow {
     bytes: &'static [u8],
     is_ready: bool,
     asked: u64,
@@ -14,7 +14,7 @@ pub struct Slow {
 
 impl Slow {
     /// Reads are counted from 1, so 0 never fails.
-    pub fn new(bytes: &'static [u8], fails_at: u64) -> Slow {
+    pub(crate) fn new(bytes: &'static [u8], fails_at: u64) -> Slow {
         Slow {
             bytes,
             is_ready: false,
@@ -47,7 +47,7 @@ impl Read for Slow {
 
 /// Is interrupted at each read.
 #[derive(Drop)]
-pub struct Never;
+pub(crate) struct Never;
 
 impl Read for Never {
     fn read(&mut self, _buf: &mut [u8]) -> io::Result<usize> {
@@ -57,7 +57,7 @@ impl Read for Never {
 
 /// What a writer does once it has taken its bytes.
 #[derive(Clone, Copy)]
-pub enum Then {
+pub(crate) enum Then {
     Fails,
     TakesNone,
     IsInterrupted,
@@ -66,14 +66,14 @@ pub enum Then {
 
 /// Takes some bytes, one a write, and then no more.
 #[derive(Drop)]
-pub struct Short {
-    pub taken: Vec<u8>,
+pub(crate) struct Short {
+    pub(crate) taken: Vec<u8>,
     room: usize,
     then: Then,
 }
 
 impl Short {
-    pub fn new(alloc: Global, room: usize, then: Then) -> Short {
+    pub(crate) fn new(alloc: Global, room: usize, then: Then) -> Short {
         let taken = Vec::new(alloc);
         Short { taken, room, then }
     }

@@ -1,12 +1,27 @@
-//! Readers and writers that fail or are slow.
-use crate::check::planned;
+//! Plans of readers and to writers that fail or are slow.
+ghost use Rattle.std.specs.Prelude.{All};
+ghost use Rattle.hm_devices.specs.Watching.{IsFresh};
+
 use crate::devices::{Never, Short, Slow, Then};
 use hm_devices::{RunFault, Watched};
-use hm_sources::Status;
+use hm_sources::{Status, run_plan};
 use std::io;
 use std::io::{ErrorKind, Read, Write};
 use std::test::Fail;
 use std::thread::Threads;
+
+/// A run that prints the plan. It promises nothing, since the tests look at what comes of it: so their proofs don't carry the promises of
+/// `run_plan`.
+fn planned<T: AllocGlobal + Threads, R: Read, W: Write>(
+    rt: &T,
+    readers: &mut [Watched<R>],
+    writer: &mut Watched<W>,
+) -> Result<Status, RunFault>
+    requires readers { All IsFresh readers.old }
+    requires writer { IsFresh writer.old }
+{
+    run_plan(rt, rt.alloc(), readers, writer)
+}
 
 /// The kind of an error; none where there is no error.
 fn kind_of<T: Copy>(answer: io::Result<T>) -> Option<ErrorKind> {

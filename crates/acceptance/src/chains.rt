@@ -2,7 +2,7 @@
 use std::alloc::{AllocError, Global};
 
 /// So many modules, each of which imports the next.
-pub fn chain(alloc: Global, count: usize) -> Result<String, AllocError> {
+pub(crate) fn chain(alloc: Global, count: usize) -> Result<String, AllocError> {
     let mut text = String::new(alloc);
     for number in 1..count {
         let importer = number - 1;

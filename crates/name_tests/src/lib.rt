@@ -1,5 +1,0 @@
-//! Tests of what names mean.
-#![tactic(auto)]
-
-#[cfg(test)]
-mod scopes;

@@ -1,0 +1,169 @@
+#!/usr/bin/env python3
+"""Runs the program on each row of the tables in tests/rows and on sources made here, and compares its status and what it prints.
+
+`printed.py [PROGRAM]`: without a word, the script `hmc` beside this folder is run. Prints each run that differs, and last how many were as
+wanted; ends with 1 where one differs.
+"""
+import os
+import re
+import subprocess
+import sys
+import tempfile
+
+from rows import messages, plans, reports
+
+TOP = os.path.dirname(os.path.dirname(os.path.abspath(__file__)))
+PROGRAM = os.path.abspath(sys.argv[1]) if len(sys.argv) > 1 else os.path.join(TOP, "hmc")
+GOOD, FAULTY, REFUSED = 0, 1, 2
+LONGEST = 1_048_576
+MOST = 4096
+REPORTS = [
+    *reports.TYPED,
+    *reports.DECLARED,
+    *reports.EXPORTED,
+    *reports.UNTYPED,
+    *reports.ILL_FORMED,
+    *reports.SETS,
+    *reports.WRITTEN,
+    *reports.PRELUDE,
+]
+# a good module of most forms of expressions
+FORMS = plans.READ[1]
+SKIPPED = "module A where { x = y }\nmodule B where { import A ; import C }\nmodule C where { f x = x x }\nmodule D where { import B }"
+BEHIND = "module A where { import B ; x = y }\nmodule B where { y = 'c' }"
+USED = "module A where { f x = x }"
+USER = "module B where { import A ; g = f ; h = f True }"
+
+
+def report_of(source):
+    """The status and the report of a source of the tables."""
+    return next(row[1:] for row in REPORTS if row[0] == source)
+
+
+def tables():
+    """The rows of tests/rows but for those of messages: words, sources, status and what is printed."""
+    for source, status, text in REPORTS:
+        yield ["--jobs", "4"], [source], status, text
+    for source, why in plans.REFUSED:
+        yield [], [source], REFUSED, f"refused: {why}\n"
+        yield ["--plan"], [source], REFUSED, f"refused: {why}\n"
+    for source, place in plans.NO_QUOTES:
+        yield ["--plan"], [source], REFUSED, f"refused: source 1 at {place}: lexeme\n"
+    for source in plans.READ:
+        yield ["--plan"], [source], GOOD, "module A\n1 modules\n"
+    for source, place in plans.NOT_READ:
+        yield ["--plan"], [source], REFUSED, f"refused: source 1 at {place}: syntax\n"
+    for source, text in plans.PLANNED:
+        yield ["--plan"], [source], GOOD, text
+
+
+def hostile():
+    """Each prefix of a good source, and the byte 255 in the place of each of its bytes, are refused by a line."""
+    for words in ([], ["--plan"]):
+        for length in range(1, len(FORMS)):
+            yield words, [FORMS[:length]], REFUSED, re.compile(r"refused: source 1 at 1:\d+: [a-z ]+\n")
+    source = FORMS.encode()
+    for place in range(len(source)):
+        yield [], [source[:place] + b"\xff" + source[place + 1 :]], REFUSED, re.compile(r"refused: source 1 at 1:\d+: lexeme\n")
+
+
+def bounds():
+    """Sources of the greatest length and depth, the most modules of a set, and one more of each."""
+    for depth, status, text in ((199, GOOD, "module A\n1 modules\n"), (200, REFUSED, "refused: source 1 at 1:221: too deep\n")):
+        yield ["--plan"], ["module A where { x = " + "(" * depth + "1" + ")" * depth + "}"], status, text
+    for words, text in (([], "0 modules: 0 good, 0 faulty, 0 skipped\n"), (["--plan"], "0 modules\n")):
+        yield words, [" " * LONGEST], GOOD, text
+        yield words, [" " * (LONGEST + 1)], REFUSED, "refused: source 1 too long\n"
+    apart = "".join(f"module M{number} where {{ }}\n" for number in range(MOST))
+    chain = "".join(f"module M{number - 1} where {{ import M{number} }}\n" for number in range(1, MOST)) + f"module M{MOST - 1} where {{ }}\n"
+    names = "".join(f"module {name}\n" for name in sorted(f"M{number}" for number in range(MOST)))
+    for source in (apart, chain):
+        for workers in ("1", "4", "16"):
+            yield ["--jobs", workers], [source], GOOD, f"{names}{MOST} modules: {MOST} good, 0 faulty, 0 skipped\n"
+    yield ["--plan"], [apart], GOOD, f"{names}{MOST} modules\n"
+    for words in ([], ["--plan"]):
+        yield words, [apart + f"module M{MOST} where {{ }}\n"], REFUSED, "refused: too many modules\n"
+
+
+def sources():
+    """Sets of several sources, in either order, and refusals that name one of many."""
+    report = "module A\n  val f = A.f :: a -> a\nmodule B\n  val g = B.g :: a -> a\n  val h = B.h :: Bool\n2 modules: 2 good, 0 faulty, 0 skipped\n"
+    yield [], [USER, USED], GOOD, report
+    yield [], [USED, USER], GOOD, report
+    whole = "".join(f"module M{number} where {{ }}\n" for number in range(3))
+    faults = {"\n\nmodule N where { # }": "lexeme", "\n\nmodule N where { {- }": "open comment", "\n\nmodule N where { }}": "syntax"}
+    places = {"lexeme": "3:18", "open comment": "3:18", "syntax": "3:19"}
+    for fault, why in faults.items():
+        for number in (1, 2, 10, 123):
+            yield ["--plan"], [""] * (number - 1) + [fault, whole], REFUSED, f"refused: source {number} at {places[why]}: {why}\n"
+    yield ["--plan"], [whole, "\n\n" + " " * 17 + "(" * 201], REFUSED, "refused: source 2 at 3:218: too deep\n"
+    yield ["--plan"], [whole, "x", " " * (LONGEST + 1)], REFUSED, "refused: source 2 at 1:1: syntax\n"
+    yield ["--plan"], [whole, " " * (LONGEST + 1), "x"], REFUSED, "refused: source 2 too long\n"
+
+
+def workers():
+    """One worker with its journal, and one report for any number of workers."""
+    alone = ["--jobs", "1", "--journal"]
+    yield alone, [""], GOOD, "0 modules: 0 good, 0 faulty, 0 skipped\n"
+    yield alone, [BEHIND], GOOD, report_of(BEHIND)[1] + "claim 0 B\npublish 0 B 0\nclaim 0 A\npublish 0 A 1\n"
+    yield alone, [SKIPPED], FAULTY, report_of(SKIPPED)[1] + "claim 0 A\nfail 0 A\nclaim 0 C\nfail 0 C\n"
+    yield alone, ["module A where { import A }"], REFUSED, "refused: module A in a cycle\n"
+    for count in range(1, 17):
+        yield ["--jobs", str(count)], [SKIPPED], *report_of(SKIPPED)
+
+
+def long_scheme():
+    """Principal types may be long: that of `e` has 65,536 leaves."""
+    source = "module A where { a x = (x, x) ; b x = a (a x) ; c x = b (b x) ; d x = c (c x) ; e x = d (d x) }"
+    lines, pair, depth = [], "a", 0
+    for name, levels in (("a", 1), ("b", 2), ("c", 4), ("d", 8), ("e", 16)):
+        while depth < levels:
+            pair, depth = f"({pair}, {pair})", depth + 1
+        lines.append(f"  val {name} = A.{name} :: a -> {pair}\n")
+    yield [], [source], GOOD, "module A\n" + "".join(lines) + "1 modules: 1 good, 0 faulty, 0 skipped\n"
+
+
+def ran(folder, words, given):
+    """Runs the program on sources: one alone is its standard input, and several are files."""
+    files, given = [], [it.encode() if isinstance(it, str) else it for it in given]
+    if len(given) > 1:
+        files = [f"{number}.hs" for number in range(len(given))]
+        for name, source in zip(files, given):
+            with open(os.path.join(folder, name), "wb") as it:
+                it.write(source)
+    return subprocess.run([PROGRAM, *words, *files], cwd=folder, input=b"" if files else given[0], capture_output=True)
+
+
+def is_wanted(told, wanted):
+    text = told.decode(errors="surrogateescape")
+    return text == wanted if isinstance(wanted, str) else bool(wanted.fullmatch(text))
+
+
+def explained(folder, source):
+    """Runs the program on a file M.hs without messages and with them."""
+    with open(os.path.join(folder, "M.hs"), "wb") as it:
+        it.write(source.encode() if isinstance(source, str) else source)
+    return [subprocess.run([PROGRAM, *words, "M.hs"], cwd=folder, stdin=subprocess.DEVNULL, capture_output=True) for words in ([], ["--explain"])]
+
+
+def main():
+    differing, count = [], 0
+    with tempfile.TemporaryDirectory() as folder:
+        for made in (tables, hostile, bounds, sources, workers, long_scheme):
+            for words, given, status, text in made():
+                run, count = ran(folder, words, given), count + 1
+                if run.returncode != status or not is_wanted(run.stdout, text) or run.stderr:
+                    differing.append((words, given, run))
+        for source, status, text in [*messages.KINDS, *messages.REASONS, *messages.EXCERPTS]:
+            (alone, run), count = explained(folder, source), count + 1
+            wanted = text.encode() if isinstance(text, str) else text
+            if (alone.returncode, run.returncode) != (status, status) or run.stdout != alone.stdout or run.stderr != wanted:
+                differing.append((["--explain"], [source], run))
+    for words, given, run in differing:
+        print(f"{words} {str(given)[:300]}: status {run.returncode}, {run.stdout[:1000]!r}, {run.stderr[:1000]!r}")
+    print(f"{count - len(differing)} of {count} runs as wanted")
+    return bool(differing)
+
+
+if __name__ == "__main__":
+    sys.exit(main())
