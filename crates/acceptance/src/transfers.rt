@@ -1,4 +1,4 @@
-//! Plans of readers and to writers that fail or are slow.
+//! Plans from readers and to writers that fail or are slow.
 ghost use Rattle.std.specs.Prelude.{All};
 ghost use Rattle.hm_devices.specs.Watching.{IsFresh};
 

@@ -7,8 +7,8 @@ use hm_check::{CheckFault, check_module_within};
 use hm_prelude::SharedPrelude;
 use hm_published::{Naming, Opened};
 use hm_shared::{Brands, Crew, Pass, Shared};
-use hm_store::{Entry, Record, Refusal, Status, Store, Turn};
-use std::alloc::Global;
+use hm_store::{Entry, Record, Refusal, Store, Turn};
+use std::alloc::{AllocError, Global};
 use std::marker::Brand;
 use std::process::Abort;
 use std::sync::Wait;
@@ -92,6 +92,33 @@ fn answers<L: Ledger + Naming, W: Wait + Drop, R: AllocGlobal + Wait>(
     }
 }
 
+/// Makes the calls of four workers, each of which must be answered as it tells.
+fn make_calls<L: Ledger + Naming, R: Abort + AllocGlobal + Wait>(
+    rt: &R,
+    shared: &Shared<L, &R>,
+    passes: &mut [Pass<L>],
+    steps: &[Step],
+) -> Result<(), Fail> {
+    for step in steps {
+        let pass = passes.get_mut(worker_of(step)).ok_or("no pass")?;
+        assert!(rt; answers(rt, shared, pass, step)?);
+    }
+    Ok(())
+}
+
+/// The records of passes.
+fn records_of<L: Ledger + Naming>(
+    alloc: Global,
+    passes: Vec<Pass<L>>,
+) -> Result<Vec<Record>, AllocError> {
+    let mut records = Vec::new(alloc);
+    for pass in passes {
+        let (record, _share) = pass.into_record();
+        records.push(record)?;
+    }
+    Ok(records)
+}
+
 /// Makes the calls of four workers on a store that no worker has touched; what came of it, and their records.
 fn called<L: Ledger + Naming, R: Abort + AllocGlobal + Wait>(
     rt: &R,
@@ -106,38 +133,36 @@ fn called<L: Ledger + Naming, R: Abort + AllocGlobal + Wait>(
     requires plan { store.given.imports ≡ L.plan }
     requires empty { store.journal ≡ [] }
 {
-    let (shared, mut passes) = Shared::<L, &R>::new(
-        rt.alloc(),
-        rt,
-        store,
-        FOUR,
-        Brands { blank, opened },
-    )?;
-    for step in steps {
-        let pass = passes.get_mut(worker_of(step)).ok_or("no pass")?;
-        assert!(rt; answers(rt, &shared, pass, step)?);
-    }
+    let brands = Brands { blank, opened };
+    let (shared, mut passes) = Shared::<L, &R>::new(rt.alloc(), rt, store, FOUR, brands)?;
+    make_calls(rt, &shared, &mut passes, steps)?;
+    let records = records_of(rt.alloc(), passes)?;
     let (store, _book) = shared.into_store();
-    let mut records = Vec::new(rt.alloc());
-    for pass in passes {
-        let (record, _share) = pass.into_record();
-        records.push(record)?;
-    }
     Ok((store, records))
 }
 
-/// Makes the calls of four workers on a store for the modules of sources; what came of it, and their records, which the store accepts.
-fn called_on<R: Abort + AllocGlobal + Wait>(
+/// Whether a store has this journal and accepts the records.
+fn is_journal(
+    alloc: Global,
+    store: &Store,
+    records: &[Record],
+    journal: &[Entry],
+) -> Result<bool, AllocError> {
+    Ok(store.journal() == journal && store.audit(alloc, records)?)
+}
+
+/// Makes the calls of four workers on a store for the modules of sources: this journal must come of them, with records that agree with it.
+fn check_calls<R: Abort + AllocGlobal + Wait>(
     rt: &R,
     texts: &[&[u8]],
     steps: &[Step],
-) -> Result<(Store, Vec<Record>), Fail> {
+    journal: &[Entry],
+) -> Result<(), Fail> {
     let store = store_of(rt.alloc(), texts)?;
     let blank = Blank::new(4);
     let (store, records) = called::<Brand, R>(rt, store, blank, Opened::new(), steps)?;
-    assert_eq!(rt; records.len(), 4);
-    assert!(rt; store.audit(rt.alloc(), records.as_slice())?);
-    Ok((store, records))
+    assert!(rt; is_journal(rt.alloc(), &store, &records, journal)?);
+    Ok(())
 }
 
 /// A claim, as the journal has it.
@@ -164,11 +189,8 @@ const STOPPED: [Step; 8] = [
 
 #[test]
 fn one_of_four_workers_stops_a_build(rt: HostRuntime) -> Result<(), Fail> {
-    let (store, _records) = called_on(&rt, &[IMPORTER, IMPORTED], &STOPPED)?;
     let journal = [claimed(0, 1), Entry::Stop { worker: 2 }, publication(0, 1)];
-    assert!(rt; store.is_stopped());
-    assert!(rt; store.journal() == journal.as_slice());
-    Ok(())
+    check_calls(&rt, &[IMPORTER, IMPORTED], &STOPPED, &journal)
 }
 
 /// Modules of which none imports another.
@@ -199,7 +221,6 @@ const CHECK_REFUSED: [Step; 13] = [
 
 #[test]
 fn a_check_without_memory_stops_a_build(rt: HostRuntime) -> Result<(), Fail> {
-    let (store, _records) = called_on(&rt, &[FIRST, SECOND, THIRD, FOURTH], &CHECK_REFUSED)?;
     let journal = [
         claimed(0, 0),
         claimed(1, 1),
@@ -210,9 +231,12 @@ fn a_check_without_memory_stops_a_build(rt: HostRuntime) -> Result<(), Fail> {
         publication(1, 1),
         publication(3, 3),
     ];
-    assert!(rt; store.journal() == journal.as_slice());
-    assert!(rt; store.modules().len() == 4 && store.status(2) == Status::Claimed(2));
-    Ok(())
+    check_calls(
+        &rt,
+        &[FIRST, SECOND, THIRD, FOURTH],
+        &CHECK_REFUSED,
+        &journal,
+    )
 }
 
 /// One worker publishes, and another, which nothing has told of it, finds the interface by looking.
@@ -225,18 +249,10 @@ const LOOKED: [Step; 6] = [
     Step::Look(1, 1, true),
 ];
 
-/// After how many entries of the journal the second worker's calls had their replies.
-const PLACES: [usize; 4] = [0, 2, 2, 3];
-
 #[test]
 fn a_look_finds_what_another_worker_published(rt: HostRuntime) -> Result<(), Fail> {
-    let (_store, records) = called_on(&rt, &[IMPORTER, IMPORTED], &LOOKED)?;
-    let record = records.get(1).ok_or("no record")?;
-    assert_eq!(rt; record.calls.len(), PLACES.len());
-    for (call, place) in record.calls.iter().zip(PLACES.iter()) {
-        assert_eq!(rt; call.at, *place);
-    }
-    Ok(())
+    let journal = [claimed(0, 1), publication(0, 1), claimed(1, 0)];
+    check_calls(&rt, &[IMPORTER, IMPORTED], &LOOKED, &journal)
 }
 
 /// What isn't a worker's own is refused, and looks don't see it; nor does a look find what isn't published, or no module.
@@ -258,8 +274,6 @@ const REFUSED: [Step; 13] = [
 
 #[test]
 fn looks_do_not_see_what_is_refused(rt: HostRuntime) -> Result<(), Fail> {
-    let (store, _records) = called_on(&rt, &[IMPORTER, IMPORTED], &REFUSED)?;
     let journal = [claimed(0, 1), publication(0, 1), Entry::Stop { worker: 1 }];
-    assert!(rt; store.journal() == journal.as_slice());
-    Ok(())
+    check_calls(&rt, &[IMPORTER, IMPORTED], &REFUSED, &journal)
 }

@@ -1,4 +1,4 @@
-use Rattle.call_tests.proofs.passes.called_on.Given as goal
+use Rattle.call_tests.proofs.passes.check_calls.Given as goal
 
 abbrev pub ghosts-called-L-Ledger : goal.ghosts-called-L-Ledger
 ghosts-called-L-Ledger g a = record { name = a.blank.name; parts = a.blank.parts }
