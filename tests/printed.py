@@ -31,6 +31,8 @@ REPORTS = [
 FORMS = plans.READ[1]
 SKIPPED = "module A where { x = y }\nmodule B where { import A ; import C }\nmodule C where { f x = x x }\nmodule D where { import B }"
 BEHIND = "module A where { import B ; x = y }\nmodule B where { y = 'c' }"
+# the least of the modules that are ready comes first
+LEAST = "module A where { import B }\nmodule B where { }\nmodule C where { }"
 USED = "module A where { f x = x }"
 USER = "module B where { import A ; g = f ; h = f True }"
 
@@ -67,6 +69,11 @@ def hostile():
         yield [], [source[:place] + b"\xff" + source[place + 1 :]], REFUSED, re.compile(r"refused: source 1 at 1:\d+: lexeme\n")
 
 
+def chain_of(count):
+    """So many modules, each of which imports the next."""
+    return "".join(f"module M{number - 1} where {{ import M{number} }}\n" for number in range(1, count)) + f"module M{count - 1} where {{ }}\n"
+
+
 def bounds():
     """Sources of the greatest length and depth, the most modules of a set, and one more of each."""
     for depth, status, text in ((199, GOOD, "module A\n1 modules\n"), (200, REFUSED, "refused: source 1 at 1:221: too deep\n")):
@@ -74,8 +81,7 @@ def bounds():
     for words, text in (([], "0 modules: 0 good, 0 faulty, 0 skipped\n"), (["--plan"], "0 modules\n")):
         yield words, [" " * LONGEST], GOOD, text
         yield words, [" " * (LONGEST + 1)], REFUSED, "refused: source 1 too long\n"
-    apart = "".join(f"module M{number} where {{ }}\n" for number in range(MOST))
-    chain = "".join(f"module M{number - 1} where {{ import M{number} }}\n" for number in range(1, MOST)) + f"module M{MOST - 1} where {{ }}\n"
+    apart, chain = "".join(f"module M{number} where {{ }}\n" for number in range(MOST)), chain_of(MOST)
     names = "".join(f"module {name}\n" for name in sorted(f"M{number}" for number in range(MOST)))
     for source in (apart, chain):
         for workers in ("1", "4", "16"):
@@ -108,6 +114,12 @@ def workers():
     yield alone, [BEHIND], GOOD, report_of(BEHIND)[1] + "claim 0 B\npublish 0 B 0\nclaim 0 A\npublish 0 A 1\n"
     yield alone, [SKIPPED], FAULTY, report_of(SKIPPED)[1] + "claim 0 A\nfail 0 A\nclaim 0 C\nfail 0 C\n"
     yield alone, ["module A where { import A }"], REFUSED, "refused: module A in a cycle\n"
+    least = "claim 0 B\npublish 0 B 0\nclaim 0 A\npublish 0 A 1\nclaim 0 C\npublish 0 C 2\n"
+    yield alone, [LEAST], GOOD, "module A\nmodule B\nmodule C\n3 modules: 3 good, 0 faulty, 0 skipped\n" + least
+    for count in (256, MOST):
+        names = "".join(f"module {name}\n" for name in sorted(f"M{number}" for number in range(count)))
+        steps = "".join(f"claim 0 M{number}\npublish 0 M{number} {count - 1 - number}\n" for number in reversed(range(count)))
+        yield alone, [chain_of(count)], GOOD, f"{names}{count} modules: {count} good, 0 faulty, 0 skipped\n{steps}"
     for count in range(1, 17):
         yield ["--jobs", str(count)], [SKIPPED], *report_of(SKIPPED)
 
@@ -123,44 +135,52 @@ def long_scheme():
     yield [], [source], GOOD, "module A\n" + "".join(lines) + "1 modules: 1 good, 0 faulty, 0 skipped\n"
 
 
-def ran(folder, words, given):
+def run(folder, words, given):
     """Runs the program on sources: one alone is its standard input, and several are files."""
-    files, given = [], [it.encode() if isinstance(it, str) else it for it in given]
-    if len(given) > 1:
-        files = [f"{number}.hs" for number in range(len(given))]
-        for name, source in zip(files, given):
-            with open(os.path.join(folder, name), "wb") as it:
-                it.write(source)
-    return subprocess.run([PROGRAM, *words, *files], cwd=folder, input=b"" if files else given[0], capture_output=True)
+    given = [it.encode() if isinstance(it, str) else it for it in given]
+    if len(given) == 1:
+        return subprocess.run([PROGRAM, *words], cwd=folder, input=given[0], capture_output=True)
+    files = [f"{number}.hs" for number in range(len(given))]
+    for name, source in zip(files, given):
+        with open(os.path.join(folder, name), "wb") as it:
+            it.write(source)
+    return subprocess.run([PROGRAM, *words, *files], cwd=folder, stdin=subprocess.DEVNULL, capture_output=True)
 
 
-def is_wanted(told, wanted):
-    text = told.decode(errors="surrogateescape")
-    return text == wanted if isinstance(wanted, str) else bool(wanted.fullmatch(text))
+def is_wanted(done, status, wanted):
+    """Whether a run ended so and printed this text, or one of this form, and nothing else."""
+    text = done.stdout.decode(errors="surrogateescape")
+    is_text = text == wanted if isinstance(wanted, str) else wanted.fullmatch(text)
+    return done.returncode == status and is_text and not done.stderr
 
 
-def explained(folder, source):
-    """Runs the program on a file M.hs without messages and with them."""
+def explain(folder, source):
+    """Runs the program on a file M.hs without messages, and with them."""
     with open(os.path.join(folder, "M.hs"), "wb") as it:
         it.write(source.encode() if isinstance(source, str) else source)
     return [subprocess.run([PROGRAM, *words, "M.hs"], cwd=folder, stdin=subprocess.DEVNULL, capture_output=True) for words in ([], ["--explain"])]
+
+
+def is_explained(alone, told, status, wanted):
+    """Whether messages change nothing of what is printed, and are these."""
+    text = wanted.encode() if isinstance(wanted, str) else wanted
+    return alone.returncode == told.returncode == status and told.stdout == alone.stdout and told.stderr == text
 
 
 def main():
     differing, count = [], 0
     with tempfile.TemporaryDirectory() as folder:
         for made in (tables, hostile, bounds, sources, workers, long_scheme):
-            for words, given, status, text in made():
-                run, count = ran(folder, words, given), count + 1
-                if run.returncode != status or not is_wanted(run.stdout, text) or run.stderr:
-                    differing.append((words, given, run))
-        for source, status, text in [*messages.KINDS, *messages.REASONS, *messages.EXCERPTS]:
-            (alone, run), count = explained(folder, source), count + 1
-            wanted = text.encode() if isinstance(text, str) else text
-            if (alone.returncode, run.returncode) != (status, status) or run.stdout != alone.stdout or run.stderr != wanted:
-                differing.append((["--explain"], [source], run))
-    for words, given, run in differing:
-        print(f"{words} {str(given)[:300]}: status {run.returncode}, {run.stdout[:1000]!r}, {run.stderr[:1000]!r}")
+            for words, given, status, wanted in made():
+                done, count = run(folder, words, given), count + 1
+                if not is_wanted(done, status, wanted):
+                    differing.append((words, given, done))
+        for source, status, wanted in [*messages.KINDS, *messages.REASONS, *messages.EXCERPTS]:
+            (alone, told), count = explain(folder, source), count + 1
+            if not is_explained(alone, told, status, wanted):
+                differing.append((["--explain"], [source], told))
+    for words, given, done in differing:
+        print(f"{words} {str(given)[:300]}: status {done.returncode}, {done.stdout[:1000]!r}, {done.stderr[:1000]!r}")
     print(f"{count - len(differing)} of {count} runs as wanted")
     return bool(differing)
 

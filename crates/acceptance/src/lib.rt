@@ -1,10 +1,8 @@
-//! Tests of builds and runs: journals, records, devices that fail, and what comes of refused calls.
+//! Tests of builds and runs: gates, devices that fail, messages one by one, and what comes of refused calls.
 #![tactic(auto)]
 
 #[cfg(test)]
 mod builds;
-#[cfg(test)]
-mod chains;
 #[cfg(test)]
 mod devices;
 #[cfg(test)]

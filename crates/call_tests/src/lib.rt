@@ -2,8 +2,6 @@
 #![tactic(auto)]
 
 #[cfg(test)]
-mod passes;
-#[cfg(test)]
 mod refused;
 #[cfg(test)]
 mod sources;

@@ -13,7 +13,7 @@ use hm_imports::are_imports_of;
 use hm_names::{Kind, ScopeFault};
 use hm_outcomes::{Outcome, Verdict};
 use hm_parse::{ParseFault, parse};
-use hm_published::{Naming, Opened};
+use hm_published::{LookFault, Naming, Opened};
 use hm_scope::scope;
 use hm_shared::{Brands, Crew, Pass, Shared, SharedFault};
 use hm_store::{Entry, Refusal, Status, Store, Turn};
@@ -226,8 +226,8 @@ fn publishes<L: Ledger + Naming, R: AllocGlobal + Wait>(
     }
 }
 
-/// Claims module 0, publishes it, and stops the build, as the first: whether it was published.
-fn claimed_and_stopped<L: Ledger + Naming, R: Abort + AllocGlobal + Wait>(
+/// Claims module 0 and publishes it: whether it was published.
+fn claims_and_publishes<L: Ledger + Naming, R: Abort + AllocGlobal + Wait>(
     rt: &R,
     shared: &Shared<L, &R>,
     pass: &mut Pass<L>,
@@ -236,15 +236,54 @@ fn claimed_and_stopped<L: Ledger + Naming, R: Abort + AllocGlobal + Wait>(
         return Err(Fail::from("no room"));
     }
     assert!(rt; shared.claim(rt, pass) == Turn::Job(0));
-    let done = publishes(rt, shared, pass)?;
+    publishes(rt, shared, pass)
+}
+
+/// Whether a worker finds the interface of module 0 by a look, of which nobody has told it.
+fn finds<L: Ledger + Naming, R: Wait>(
+    shared: &Shared<L, &R>,
+    pass: &mut Pass<L>,
+) -> Result<bool, Fail> {
     if pass.room() == 0 {
         return Err(Fail::from("no room"));
     }
-    assert!(rt; shared.stop(rt, pass));
+    match shared.look(pass, 0) {
+        Ok(found) => Ok(found.is_some()),
+        Err(LookFault::Memory) => Err(Fail::from(NO_MEMORY)),
+        Err(_) => Err(Fail::from("no look")),
+    }
+}
+
+/// Whether a worker's stop is the first.
+fn stops<L: Ledger + Naming, R: Wait>(
+    rt: &R,
+    shared: &Shared<L, &R>,
+    pass: &mut Pass<L>,
+) -> Result<bool, Fail> {
+    if pass.room() == 0 {
+        return Err(Fail::from("no room"));
+    }
+    Ok(shared.stop(rt, pass))
+}
+
+/// The first worker claims a module and publishes it, and the second finds it, and finds nothing before; the third stops the build. Whether the
+/// module was published.
+fn by_three<L: Ledger + Naming, R: Abort + AllocGlobal + Wait>(
+    rt: &R,
+    shared: &Shared<L, &R>,
+    passes: &mut [Pass<L>],
+) -> Result<bool, Fail> {
+    let [first, second, third, _] = passes else {
+        return Err(Fail::from("other passes"));
+    };
+    assert!(rt; !finds(shared, second)?);
+    let done = claims_and_publishes(rt, shared, first)?;
+    assert!(rt; finds(shared, second)? == done);
+    assert!(rt; stops(rt, shared, third)?);
     Ok(done)
 }
 
-/// One of four workers claims and publishes: the store, and whether the module was published.
+/// Four workers make these calls on a store that none has touched: the store, and whether the module was published.
 fn published<L: Ledger + Naming, R: Abort + AllocGlobal + Wait>(
     rt: &R,
     store: Store,
@@ -257,15 +296,9 @@ fn published<L: Ledger + Naming, R: Abort + AllocGlobal + Wait>(
     requires plan { store.given.imports ≡ L.plan }
     requires empty { store.journal ≡ [] }
 {
-    let (shared, mut passes) = Shared::<L, &R>::new(
-        rt.alloc(),
-        rt,
-        store,
-        FOUR,
-        Brands { blank, opened },
-    )?;
-    let pass = passes.get_mut(0).ok_or("no pass")?;
-    let is_published = claimed_and_stopped(rt, &shared, pass)?;
+    let brands = Brands { blank, opened };
+    let (shared, mut passes) = Shared::<L, &R>::new(rt.alloc(), rt, store, FOUR, brands)?;
+    let is_published = by_three(rt, &shared, &mut passes)?;
     let (store, _book) = shared.into_store();
     Ok((store, is_published))
 }
@@ -283,7 +316,7 @@ const PUBLISHED: Entry = Entry::Publish {
 };
 
 /// The last one.
-const STOPPED: Entry = Entry::Stop { worker: 0 };
+const STOPPED: Entry = Entry::Stop { worker: 2 };
 
 #[test]
 fn publish_alone(rt: HostRuntime) -> Result<(), Fail> {
