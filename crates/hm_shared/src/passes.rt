@@ -8,7 +8,7 @@ ghost use Rattle.hm_store.specs.Records.{AddsAt, knows, rises, wrote, wrote_in};
 ghost use Rattle.hm_store.specs.declared.record.Act.TheVariants.{Look};
 
 use hm_published::{Found, Front, LookFault, Naming, Reader};
-use hm_store::{Act, Call, Record};
+use hm_store::{Act, Call, Record, noted};
 use hm_types::Interface;
 use std::alloc::{AllocError, Global};
 use std::sync::Arc;
@@ -127,7 +127,7 @@ impl<L: Ledger + Naming> Pass<L> {
             Ok(found) => found,
             Err(fault) => return Err(fault),
         };
-        let noted = match again(&interface) {
+        let noted = match noted(&interface) {
             Ok(noted) => noted,
             Err(AllocError) => return Err(LookFault::Memory),
         };
@@ -165,15 +165,5 @@ impl<L: Ledger + Naming> Pass<L> {
             reader: _reader,
         } = self;
         (record, share)
-    }
-}
-
-/// A second owner of an interface that was found.
-fn again(found: &Option<Arc<Interface>>) -> Result<Option<Arc<Interface>>, AllocError>
-    ensures { IfOk result (λ o. option_map arc_value o ≡ option_map arc_value found.now) }
-{
-    match found {
-        Some(interface) => Ok(Some(Arc::try_clone(interface)?)),
-        None => Ok(None),
     }
 }

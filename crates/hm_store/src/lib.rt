@@ -8,5 +8,5 @@ mod record;
 mod store;
 
 pub use crate::object::{Claimed, Entry, Refusal, Status, Turn};
-pub use crate::record::{Act, Call, Record};
+pub use crate::record::{Act, Call, Record, noted};
 pub use crate::store::Store;

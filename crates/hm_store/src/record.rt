@@ -1,6 +1,7 @@
 //! What a worker writes down of its calls.
 
-ghost use Rattle.std.specs.Prelude.{◌≡◌, ◌≤◌, [], IfOk, vec_capacity};
+ghost use Rattle.std.specs.Prelude.{◌≡◌, ◌≤◌, [], IfOk, option_map, vec_capacity};
+ghost use Rattle.std.specs.Arc.{arc_value};
 
 use hm_types::Interface;
 use std::alloc::{AllocError, Global};
@@ -46,5 +47,15 @@ impl Record {
     {
         let calls = Vec::with_capacity(alloc, room)?;
         Ok(Record { worker, calls })
+    }
+}
+
+/// What a look-up writes down of what it found: the interface has a second owner.
+pub fn noted(found: &Option<Arc<Interface>>) -> Result<Option<Arc<Interface>>, AllocError>
+    ensures { IfOk result (λ o. option_map arc_value o ≡ option_map arc_value found.now) }
+{
+    match found {
+        Some(interface) => Ok(Some(Arc::try_clone(interface)?)),
+        None => Ok(None),
     }
 }
