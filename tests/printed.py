@@ -30,7 +30,6 @@ REPORTS = [
 # a good module of most forms of expressions
 FORMS = plans.READ[1]
 SKIPPED = "module A where { x = y }\nmodule B where { import A ; import C }\nmodule C where { f x = x x }\nmodule D where { import B }"
-BEHIND = "module A where { import B ; x = y }\nmodule B where { y = 'c' }"
 # the least of the modules that are ready comes first
 LEAST = "module A where { import B }\nmodule B where { }\nmodule C where { }"
 USED = "module A where { f x = x }"
@@ -111,7 +110,6 @@ def workers():
     """One worker with its journal, and one report for any number of workers."""
     alone = ["--jobs", "1", "--journal"]
     yield alone, [""], GOOD, "0 modules: 0 good, 0 faulty, 0 skipped\n"
-    yield alone, [BEHIND], GOOD, report_of(BEHIND)[1] + "claim 0 B\npublish 0 B 0\nclaim 0 A\npublish 0 A 1\n"
     yield alone, [SKIPPED], FAULTY, report_of(SKIPPED)[1] + "claim 0 A\nfail 0 A\nclaim 0 C\nfail 0 C\n"
     yield alone, ["module A where { import A }"], REFUSED, "refused: module A in a cycle\n"
     least = "claim 0 B\npublish 0 B 0\nclaim 0 A\npublish 0 A 1\nclaim 0 C\npublish 0 C 2\n"
