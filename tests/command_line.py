@@ -3,12 +3,14 @@
 
 `command_line.py [PROGRAM]`: without a word, the script `hmc` beside this folder is run. Ends with 1 where a row differs.
 """
+import contextlib
 import os
 import pty
 import resource
 import subprocess
 import sys
 import tempfile
+import time
 
 TOP = os.path.dirname(os.path.dirname(os.path.abspath(__file__)))
 PROGRAM = os.path.abspath(sys.argv[1]) if len(sys.argv) > 1 else os.path.join(TOP, "hmc")
@@ -265,6 +267,16 @@ def unreadable(folder):
         yield "a file that may not be read", run(folder, ["locked.hs"], ""), (4, "", "hmc: cannot open locked.hs\n")
 
 
+def until_open(child, path):
+    """Returns once the program has the file open, or has ended, or a minute is over."""
+    descriptors, end = f"/proc/{child.pid}/fd", time.monotonic() + 60
+    while child.poll() is None and time.monotonic() < end:
+        with contextlib.suppress(OSError):
+            if any(os.path.realpath(os.path.join(descriptors, name)) == os.path.realpath(path) for name in os.listdir(descriptors)):
+                return
+        time.sleep(0.001)
+
+
 def vanishing(folder):
     """A named pipe that is gone, and has other bytes, as soon as it is open; its bytes come by and by."""
     path = os.path.join(folder, "pipe.hs")
@@ -281,13 +293,13 @@ def vanishing(folder):
     with open(path, "w", encoding="utf-8") as it:
         it.write(A)
     child = subprocess.Popen([PROGRAM, "--plan", "wait.hs", "late.hs"], cwd=folder, stdout=subprocess.PIPE, stderr=subprocess.PIPE)
-    with open(os.path.join(folder, "wait.hs"), "wb", buffering=0) as it:
+    # (a program that ended before it was written to is told of by its row)
+    with open(os.path.join(folder, "wait.hs"), "wb", buffering=0) as it, contextlib.suppress(BrokenPipeError):
+        until_open(child, path)
         os.remove(path)
         it.write(B.encode())
     out, err = child.communicate()
-    ran = subprocess.CompletedProcess([], child.returncode, out, err)
-    # the second file was open before it was removed, or it was not
-    yield "a file that is removed before it is read", ran, (0, PLAN, "") if ran.returncode == 0 else (4, "", "hmc: cannot open late.hs\n")
+    yield "a file that is removed once it is open", subprocess.CompletedProcess([], child.returncode, out, err), (0, PLAN, "")
 
 
 def told(output, wanted):
