@@ -49,11 +49,20 @@ pub struct Entry<'a> {
 /// The constructors that a module uses, with their schemes. Of the entries of one constructor the
 /// first counts, whose place a table has. The special ones, as those of tuples, have theirs without
 /// an entry.
-#[derive(Drop)]
 pub struct Constructors<'a> {
     home: Text,
     entries: Vec<Entry<'a>>,
     places: IndexMap<LentName<'a>, usize>,
+}
+
+impl Drop for Constructors<'_> {
+    fn drop(self) {
+        let Constructors {
+            home: _home,
+            entries: _entries,
+            places: _places,
+        } = self;
+    }
 }
 
 impl<'a> Model for Constructors<'a> {

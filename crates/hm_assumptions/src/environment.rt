@@ -58,10 +58,18 @@ pub struct Binding<'a> {
 
 /// What is assumed of names, which are lent by the trees and interfaces of a core. Contracts see a
 /// list, the innermost first. A table has the place of the innermost assumption of each name.
-#[derive(Drop)]
 pub struct Environment<'a> {
     items: Vec<Binding<'a>>,
     innermost: IndexMap<LentName<'a>, usize>,
+}
+
+impl Drop for Environment<'_> {
+    fn drop(self) {
+        let Environment {
+            items: _items,
+            innermost: _innermost,
+        } = self;
+    }
 }
 
 impl<'a> Model for Environment<'a> {

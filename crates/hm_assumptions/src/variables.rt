@@ -24,11 +24,20 @@ pub struct Variable<'a> {
 
 /// The variables of patterns, with their types. Contracts see them as a list, the last first. A
 /// table has a place of each name.
-#[derive(Drop)]
 pub struct Variables<'a> {
     alloc: Global,
     items: Vec<Variable<'a>>,
     places: IndexMap<LentName<'a>, usize>,
+}
+
+impl Drop for Variables<'_> {
+    fn drop(self) {
+        let Variables {
+            alloc: _,
+            items: _items,
+            places: _places,
+        } = self;
+    }
 }
 
 impl<'a> Model for Variables<'a> {

@@ -17,7 +17,6 @@ use indexmap::IndexSet;
 use std::alloc::{AllocError, Global};
 
 /// The units of a list without signatures.
-#[derive(Drop)]
 pub struct BindingGroups<'a> {
     /// The nodes: the variables and pattern bindings without signatures.
     pub numbers: Numbers<'a>,
@@ -25,6 +24,16 @@ pub struct BindingGroups<'a> {
     pub rows: Vec<Vec<usize>>,
     /// The groups of nodes in order.
     pub groups: Vec<Vec<usize>>,
+}
+
+impl Drop for BindingGroups<'_> {
+    fn drop(self) {
+        let BindingGroups {
+            numbers: _numbers,
+            rows: _rows,
+            groups: _groups,
+        } = self;
+    }
 }
 
 /// The names of a list are distinct, those with signatures too; where they aren't the answer is `Repeated`.

@@ -12,6 +12,7 @@ use hm_grammar::{ParseFault, Symbol};
 use hm_lex::Place;
 use hm_syntax::{Alt, Decl, DeclKind, Expr, ExprKind, Name, Pat, PatKind, Rhs};
 use std::alloc::{AllocError, Global};
+use std::mem;
 
 impl Parser<'_> {
     /// An expression. A type may stand behind it, where it is closed.
@@ -562,22 +563,30 @@ impl Parser<'_> {
 }
 
 /// A pattern binding whose first token has this place; of a lone variable, its clause.
-fn binding_of(alloc: Global, place: Place, pat: Pat, rhs: Rhs) -> Decl
+fn binding_of(alloc: Global, place: Place, mut pat: Pat, rhs: Rhs) -> Decl
     ensures { result ≡ binding_of place.line place.column pat rhs }
 {
-    let kind = match pat.kind {
+    let kind = match &mut pat.kind {
         PatKind::Var(name) => DeclKind::Clause {
-            name,
+            name: taken(alloc, name),
             pats: Vec::new(alloc),
             rhs,
         },
-        kind => DeclKind::Pattern {
-            place,
-            pat: Pat { kind },
-            rhs,
-        },
+        _ => DeclKind::Pattern { place, pat, rhs },
     };
     Decl { kind }
+}
+
+/// A name out of what is dropped without it.
+fn taken(alloc: Global, name: &mut Name) -> Name
+    ensures { result ≡ name.old }
+{
+    let nothing = Name {
+        qualifier: None,
+        text: String::new(alloc),
+        place: name.place,
+    };
+    mem::replace(name, nothing)
 }
 
 /// The operands, each with the colon behind it, before the last: colons group to the right.

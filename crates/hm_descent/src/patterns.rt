@@ -13,6 +13,7 @@ use crate::types::MAX_COMPONENTS;
 use hm_grammar::{ParseFault, Symbol};
 use hm_syntax::{Literal, LiteralKind, Name, Pat, PatKind};
 use std::alloc::{AllocError, Global};
+use std::mem;
 
 /// How many commas the constructor of a tuple may have.
 const MAX_COMMAS: usize = 14;
@@ -33,10 +34,10 @@ fn tuple_text(alloc: Global, commas: usize) -> Result<String, AllocError>
 }
 
 /// The text of a name, whose other parts are dropped.
-fn into_text(name: Name) -> String
+fn into_text(alloc: Global, mut name: Name) -> String
     ensures { string_bytes result ≡ name.text }
 {
-    name.text
+    mem::replace(&mut name.text, String::new(alloc))
 }
 
 impl Parser<'_> {
@@ -138,19 +139,19 @@ impl Parser<'_> {
             Symbol::Integer => {
                 let name = self.module_name(alloc)?;
                 Ok(Literal {
-                    kind: LiteralKind::Integer(into_text(name)),
+                    kind: LiteralKind::Integer(into_text(alloc, name)),
                 })
             }
             Symbol::Character => {
                 let name = self.module_name(alloc)?;
                 Ok(Literal {
-                    kind: LiteralKind::Character(into_text(name)),
+                    kind: LiteralKind::Character(into_text(alloc, name)),
                 })
             }
             Symbol::Text => {
                 let name = self.module_name(alloc)?;
                 Ok(Literal {
-                    kind: LiteralKind::Text(into_text(name)),
+                    kind: LiteralKind::Text(into_text(alloc, name)),
                 })
             }
             _ => Err(ParseFault::Syntax(self.place())),

@@ -21,13 +21,24 @@ use std::marker::Model;
 
 /// What is known of type constructors, synonyms and constructors. A type that a synonym stands for has at most `depth` levels, which
 /// may grow exponentially with the synonyms: what would need more is refused for want of memory.
-#[derive(Drop)]
 pub struct Tables<'a> {
     types: IndexMap<EntityKey<'a>, usize>,
     constructors: IndexMap<EntityKey<'a>, usize>,
     imported: IndexMap<EntityKey<'a>, &'a Synonym>,
     own: IndexMap<EntityKey<'a>, Synonym>,
     depth: usize,
+}
+
+impl Drop for Tables<'_> {
+    fn drop(self) {
+        let Tables {
+            types: _types,
+            constructors: _constructors,
+            imported: _imported,
+            own: _own,
+            depth: _,
+        } = self;
+    }
 }
 
 impl<'a> Model for Tables<'a> {

@@ -15,10 +15,18 @@ use std::marker::Model;
 
 /// The nodes of a declaration list in order: its variables without signatures, and its pattern bindings, which have no name in a source.
 /// Contracts see a list in which a pattern binding is None.
-#[derive(Drop)]
 pub struct Numbers<'a> {
     nodes: Vec<Option<LentName<'a>>>,
     table: IndexMap<LentName<'a>, usize>,
+}
+
+impl Drop for Numbers<'_> {
+    fn drop(self) {
+        let Numbers {
+            nodes: _nodes,
+            table: _table,
+        } = self;
+    }
 }
 
 impl<'a> Model for Numbers<'a> {

@@ -82,11 +82,20 @@ fn forget_all(depths: &mut HashMap<String, usize>, names: &[Name], depth: usize)
 
 /// The local names at a place, each list of them by itself. Contracts see the innermost first. A table has, for each text, the depth of the
 /// outermost list with a name of this text, so that nesting costs a look-up nothing.
-#[derive(Drop)]
 pub struct Locals {
     alloc: Global,
     groups: Vec<Group>,
     depths: HashMap<String, usize>,
+}
+
+impl Drop for Locals {
+    fn drop(self) {
+        let Locals {
+            alloc: _,
+            groups: _groups,
+            depths: _depths,
+        } = self;
+    }
 }
 
 impl Model for Locals {

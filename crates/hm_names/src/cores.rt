@@ -13,7 +13,6 @@ pub struct Exported {
 
 /// A module whose names are resolved. In its trees a qualified name is an entity, by its module and its name there; a bare name is a local
 /// variable, a type variable or a special constructor. No type has a synonym.
-#[derive(Drop)]
 pub struct Core {
     pub name: Text,
     pub decls: Row<Decl>,
@@ -22,6 +21,19 @@ pub struct Core {
     pub exported_types: Row<Exported>,
     pub exported_constructors: Row<Exported>,
     pub exported_values: Row<Exported>,
+}
+
+impl Drop for Core {
+    fn drop(self) {
+        let Core {
+            name: _name,
+            decls: _decls,
+            interfaces: _interfaces,
+            exported_types: _exported_types,
+            exported_constructors: _exported_constructors,
+            exported_values: _exported_values,
+        } = self;
+    }
 }
 
 impl Model for Core {

@@ -10,10 +10,18 @@ use std::alloc::{AllocError, Global};
 use std::marker::Model;
 
 /// Schemes of variables, by name. Of a name that was put twice the last scheme counts.
-#[derive(Drop)]
 pub struct Schemes {
     alloc: Global,
     table: IndexMap<String, Scheme>,
+}
+
+impl Drop for Schemes {
+    fn drop(self) {
+        let Schemes {
+            alloc: _,
+            table: _table,
+        } = self;
+    }
 }
 
 impl Model for Schemes {

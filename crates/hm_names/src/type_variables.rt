@@ -13,10 +13,18 @@ use std::alloc::{AllocError, Global};
 use std::marker::Model;
 
 /// The texts of type variables, in order, each perhaps several times.
-#[derive(Drop)]
 pub struct TypeVariables<'a> {
     texts: Vec<&'a str>,
     first: IndexMap<&'a str, usize>,
+}
+
+impl Drop for TypeVariables<'_> {
+    fn drop(self) {
+        let TypeVariables {
+            texts: _texts,
+            first: _first,
+        } = self;
+    }
 }
 
 impl<'a> Model for TypeVariables<'a> {

@@ -9,9 +9,14 @@ use std::alloc::{AllocError, Global};
 use std::marker::Model;
 
 /// Names, lent.
-#[derive(Drop)]
 pub struct LentNames<'a> {
     names: Vec<&'a Name>,
+}
+
+impl Drop for LentNames<'_> {
+    fn drop(self) {
+        let LentNames { names: _names } = self;
+    }
 }
 
 impl<'a> Model for LentNames<'a> {

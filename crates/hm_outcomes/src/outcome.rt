@@ -22,11 +22,20 @@ pub enum Verdict {
 }
 
 /// A module, the interfaces of its imports, and its verdict for Prelude's interface and these.
-#[derive(Drop)]
 pub struct Outcome {
     module: Arc<Module>,
     imports: Row<Arc<Interface>>,
     verdict: Verdict,
+}
+
+impl Drop for Outcome {
+    fn drop(self) {
+        let Outcome {
+            module: _module,
+            imports: _imports,
+            verdict: _verdict,
+        } = self;
+    }
 }
 
 impl Model for Outcome {

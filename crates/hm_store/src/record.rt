@@ -32,10 +32,18 @@ pub struct Call {
 }
 
 /// The answered calls of a worker, in order.
-#[derive(Drop)]
 pub struct Record {
     pub worker: usize,
     pub calls: Vec<Call>,
+}
+
+impl Drop for Record {
+    fn drop(self) {
+        let Record {
+            worker: _,
+            calls: _calls,
+        } = self;
+    }
 }
 
 impl Record {

@@ -32,7 +32,6 @@ mod refusing;
 /// A build: its modules, which module imports which, the journal, and what came of each module. Its type keeps that the journal is legal, that
 /// the statuses are those after the journal, that each outcome is right for the published interfaces of its module's imports, and that the counts
 /// of open imports and the set of the modules that are ready are those of the statuses.
-#[derive(Drop)]
 pub struct Store {
     modules: Vec<Arc<Module>>,
     plan: Plan,
@@ -47,6 +46,23 @@ pub struct Store {
     outcomes: Vec<Option<Outcome>>,
     journal: Vec<Entry>,
     stopped: bool,
+}
+
+impl Drop for Store {
+    fn drop(self) {
+        let Store {
+            modules: _modules,
+            plan: _plan,
+            search: _search,
+            statuses: _statuses,
+            open_imports: _open_imports,
+            ready: _ready,
+            claimed: _,
+            outcomes: _outcomes,
+            journal: _journal,
+            stopped: _,
+        } = self;
+    }
 }
 
 impl Model for Store {

@@ -3,19 +3,30 @@
 //!
 //! The special constructors are names like others: `()`, `[]`, `:`, `(,)`, `(,,)` and so on, without a qualifier,
 //! at the place of their first token.
+//!
+//! What drops a tree is written out and not derived, so that it is proved here once, and not again in each crate that drops one.
 ghost use Rattle.std.specs.Prelude.{◌≡◌};
 
 use hm_lex::Place;
 use std::marker::Model;
 
 /// A name as it is written, with the place of its first byte.
-#[derive(Drop)]
 pub struct Name {
     /// What stands before the last dot; a module's name has none, and its whole text in `text`.
     pub qualifier: Option<String>,
     /// What stands behind the last dot, or the whole.
     pub text: String,
     pub place: Place,
+}
+
+impl Drop for Name {
+    fn drop(self) {
+        let Name {
+            qualifier: _qualifier,
+            text: _text,
+            place: _,
+        } = self;
+    }
 }
 
 impl Model for Name {
@@ -34,12 +45,21 @@ pub struct Literal {
 }
 
 /// The kinds of literals, each with its text, quotes included (Report, sections 2.5 and 2.6).
-#[derive(Drop)]
 pub enum LiteralKind {
     Integer(String),
     Character(String),
     /// A string literal.
     Text(String),
+}
+
+impl Drop for LiteralKind {
+    fn drop(self) {
+        match self {
+            LiteralKind::Integer(_text) => {}
+            LiteralKind::Character(_text) => {}
+            LiteralKind::Text(_text) => {}
+        }
+    }
 }
 
 impl Model for Literal {
@@ -60,7 +80,6 @@ pub struct TypeExpr {
 }
 
 /// The kinds of types.
-#[derive(Drop)]
 #[cycle(types)]
 pub enum TypeKind {
     /// A type variable.
@@ -75,6 +94,20 @@ pub enum TypeKind {
     List(Box<TypeExpr>),
     /// The type `()`.
     Unit,
+}
+
+impl Drop for TypeKind {
+    #[cycle(type_drop)]
+    fn drop(self) {
+        match self {
+            TypeKind::Var(_name) => {}
+            TypeKind::Con(_name, _types) => {}
+            TypeKind::Arrow(_from, _to) => {}
+            TypeKind::Tuple(_types) => {}
+            TypeKind::List(_element) => {}
+            TypeKind::Unit => {}
+        }
+    }
 }
 
 impl Model for TypeExpr {
@@ -125,7 +158,6 @@ pub struct Pat {
 }
 
 /// The kinds of patterns. `p : q` is the constructor `:` with both.
-#[derive(Drop)]
 #[cycle(pats)]
 pub enum PatKind {
     /// A variable, which the pattern binds.
@@ -143,6 +175,22 @@ pub enum PatKind {
     List(Vec<Pat>),
     /// A pattern behind `~`.
     Lazy(Box<Pat>),
+}
+
+impl Drop for PatKind {
+    #[cycle(pat_drop)]
+    fn drop(self) {
+        match self {
+            PatKind::Var(_name) => {}
+            PatKind::Bound(_name, _pat) => {}
+            PatKind::Con(_name, _pats) => {}
+            PatKind::Literal(_literal) => {}
+            PatKind::Wild => {}
+            PatKind::Tuple(_pats) => {}
+            PatKind::List(_pats) => {}
+            PatKind::Lazy(_pat) => {}
+        }
+    }
 }
 
 impl Model for Pat {
@@ -174,7 +222,6 @@ pub struct Expr {
 }
 
 /// The kinds of expressions. `x : y` is the constructor `:` applied to both.
-#[derive(Drop)]
 #[cycle(exprs)]
 pub enum ExprKind {
     Var(Name),
@@ -198,6 +245,25 @@ pub enum ExprKind {
     Typed(Box<Expr>, TypeExpr),
 }
 
+impl Drop for ExprKind {
+    #[cycle(expr_drop)]
+    fn drop(self) {
+        match self {
+            ExprKind::Var(_name) => {}
+            ExprKind::Con(_name) => {}
+            ExprKind::Literal(_literal) => {}
+            ExprKind::Apply(_function, _argument) => {}
+            ExprKind::Lambda(_pats, _body) => {}
+            ExprKind::Let(_decls, _body) => {}
+            ExprKind::If(_test, _consequence, _alternative) => {}
+            ExprKind::Case(_subject, _alts) => {}
+            ExprKind::Tuple(_parts) => {}
+            ExprKind::List(_elements) => {}
+            ExprKind::Typed(_inner, _ty) => {}
+        }
+    }
+}
+
 /// An alternative of a `case` (Report, section 3.13).
 #[derive(Drop)]
 #[cycle(exprs)]
@@ -207,13 +273,22 @@ pub struct Alt {
 }
 
 /// The right side of a clause or an alternative (Report, sections 3.13 and 4.4.3).
-#[derive(Drop)]
 #[cycle(exprs)]
 pub struct Rhs {
     /// The expressions in order, at least one, each behind its guard: either one without a guard, or all with one.
     pub parts: Vec<(Option<Expr>, Expr)>,
     /// The declarations behind `where`, none where there is no `where`.
     pub local: Vec<Decl>,
+}
+
+impl Drop for Rhs {
+    #[cycle(expr_drop)]
+    fn drop(self) {
+        let Rhs {
+            parts: _parts,
+            local: _local,
+        } = self;
+    }
 }
 
 /// A declaration (Report, section 4).
@@ -224,7 +299,6 @@ pub struct Decl {
 }
 
 /// The kinds of declarations.
-#[derive(Drop)]
 #[cycle(exprs)]
 pub enum DeclKind {
     /// A data type (section 4.2.1), which stands at the top of a module alone.
@@ -262,6 +336,43 @@ pub enum DeclKind {
         pat: Pat,
         rhs: Rhs,
     },
+}
+
+impl Drop for DeclKind {
+    #[cycle(expr_drop)]
+    fn drop(self) {
+        match self {
+            DeclKind::DataType {
+                name: _name,
+                params: _params,
+                constrs: _constrs,
+            } => {}
+            DeclKind::Newtype {
+                name: _name,
+                params: _params,
+                constr: _constr,
+            } => {}
+            DeclKind::Synonym {
+                name: _name,
+                params: _params,
+                ty: _ty,
+            } => {}
+            DeclKind::Signature {
+                names: _names,
+                ty: _ty,
+            } => {}
+            DeclKind::Clause {
+                name: _name,
+                pats: _pats,
+                rhs: _rhs,
+            } => {}
+            DeclKind::Pattern {
+                place: _,
+                pat: _pat,
+                rhs: _rhs,
+            } => {}
+        }
+    }
 }
 
 impl Model for Expr {
@@ -367,13 +478,22 @@ pub struct Module {
 }
 
 /// What stands before a module's declarations.
-#[derive(Drop)]
 pub struct Header {
     /// The module's name: its whole text, dots included, and no qualifier.
     pub name: Name,
     /// None where the module has no export list.
     pub exports: Option<Row<Export>>,
     pub imports: Row<Import>,
+}
+
+impl Drop for Header {
+    fn drop(self) {
+        let Header {
+            name: _name,
+            exports: _exports,
+            imports: _imports,
+        } = self;
+    }
 }
 
 /// An item of an export list (Report, section 5.2).

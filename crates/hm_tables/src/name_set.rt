@@ -10,9 +10,14 @@ use std::alloc::{AllocError, Global};
 use std::marker::Model;
 
 /// A set of names, bare or qualified, each in a namespace. An entity has its module for a qualifier.
-#[derive(Drop)]
 pub struct NameSet<'a> {
     keys: IndexSet<Key<'a>>,
+}
+
+impl Drop for NameSet<'_> {
+    fn drop(self) {
+        let NameSet { keys: _keys } = self;
+    }
 }
 
 impl<'a> Model for NameSet<'a> {

@@ -34,10 +34,18 @@ pub enum Slot<'a> {
 }
 
 /// The scope of a module: its pairs of a name and an entity, and a table of what each name means.
-#[derive(Drop)]
 pub struct Scope<'a> {
     pairs: Vec<Binding<'a>>,
     table: IndexMap<Key<'a>, Slot<'a>>,
+}
+
+impl Drop for Scope<'_> {
+    fn drop(self) {
+        let Scope {
+            pairs: _pairs,
+            table: _table,
+        } = self;
+    }
 }
 
 impl<'a> Model for Scope<'a> {

@@ -8,9 +8,14 @@ use std::alloc::{AllocError, Global};
 use std::marker::Model;
 
 /// A set of texts, which contracts see in the order in which they came.
-#[derive(Drop)]
 pub struct TextSet<'a> {
     keys: IndexSet<&'a str>,
+}
+
+impl Drop for TextSet<'_> {
+    fn drop(self) {
+        let TextSet { keys: _keys } = self;
+    }
 }
 
 impl<'a> Model for TextSet<'a> {
