@@ -16,3 +16,4 @@ pub mod Extended
 pub mod Suffixes
 pub mod Placed
 pub mod ConstructorPlaces
+pub mod ClosedSchemes

@@ -37,7 +37,7 @@ use Rattle.hm_published.specs.contracts.reading.Reader as Reader
 use Rattle.hm_published.specs.declared.history.Naming.{Ghosts as Names}
 use Rattle.hm_store.proofs.object.Entry.TheSendSync as Entry
 use Rattle.hm_store.proofs.object.Status.TheSendSync as Status
-use Rattle.hm_build.specs.contracts.finished_build.Finished as Finished
+use Rattle.hm_stages.specs.contracts.finished_build.Finished as Finished
 use Rattle.hm_build.specs.contracts.workers.Work as Work
 use Rattle.hm_prelude.specs.contracts.shared_prelude.SharedPrelude as SharedPrelude
 use Rattle.core.specs.declared.ledger.Ledger.{Ghosts}

@@ -11,8 +11,8 @@ use Rattle.hm_store.specs.declared.object.Status.{Status}
 use Rattle.hm_store.specs.declared.object.Status.TheVariants.{Waiting, Claimed, Published, Failed, Skipped}
 use Rattle.hm_reports.specs.FinishedBuilds.{IsFinished}
 use Rattle.hm_build.specs.Headline.{HasVerdicts}
-use Rattle.hm_build.specs.declared.finished_build.Finished.{Finished}
-use Rattle.hm_build.specs.declared.faults.BuildFault.{BuildFault}
+use Rattle.hm_stages.specs.declared.finished_build.Finished.{Finished}
+use Rattle.hm_stages.specs.declared.faults.BuildFault.{BuildFault}
 
 has_interface : verdicts.Status → Bool
 has_interface (verdicts.Published f) = true

@@ -24,7 +24,7 @@ use Rattle.hm_telling.specs.Checks.{IsChecked, IsCheckRun}
 use Rattle.hm_build.specs.Headline.{HasVerdicts}
 use Rattle.hm_telling.specs.JournalledRuns.{Follows, IsRun}
 use Rattle.hm_reports.specs.Journals.{MayEnd, entry_line, entry_lines, journal_text, worker_of}
-use Rattle.hm_build.specs.Rooms.{room_of}
+use Rattle.hm_stages.specs.Rooms.{room_of}
 use Rattle.hm_build.specs.Worked.{IsOneWorkers, JournalRow, NothingRow, RoomRow, VerdictsRow, no_text, nothing, one_worker}
 use Rattle.hm_build.proofs.Headlines.{verdicts_of}
 use Rattle.hm_telling.proofs.OneRun.{one_check_status}

@@ -9,7 +9,7 @@ use Rattle.hm_store.specs.declared.object.Entry.TheVariants.{Claim, Publish, Fai
 use Rattle.hm_build.specs.Headline.{HasVerdicts}
 use Rattle.hm_telling.specs.JournalledRuns.{IsRun}
 use Rattle.hm_reports.specs.Journals.{MayEnd, entry_line, journal_text}
-use Rattle.hm_build.specs.Rooms.{room_of}
+use Rattle.hm_stages.specs.Rooms.{room_of}
 use Rattle.hm_sources.specs.declared.status.Status.TheVariants.{Good, Faulty, Refused}
 
 -- The worked set: A is good, B is faulty, C imports B

@@ -4,10 +4,10 @@ ghost use Rattle.hm_telling.specs.Explained.{IsExplained};
 ghost use Rattle.hm_telling.specs.JournalledRuns.{IsRun};
 
 use crate::building::build_here;
-use crate::dropping::drop_by_threads;
 use crate::{BuildFault, Open};
 use hm_devices::RunFault;
 use hm_sources::stack_size;
+use hm_stages::drop_by_threads;
 use hm_telling::{Explained, Wanted, finished_explained, refused_explained};
 use std::alloc::Global;
 use std::sync::Wait;

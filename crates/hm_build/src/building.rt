@@ -1,45 +1,29 @@
 //! A build: workers check the modules of sources, each for the published interfaces of its imports.
 ghost use Rattle.std.specs.Prelude.{◌≡◌, ◌⊎◌, ◌↔◌, ◌<◌, ◌≤◌, ◌^◌, ℕ, List, [], IfErr, IfOk, IsErrOf, map, min};
 ghost use Rattle.std.specs.Arc.{arc_value};
-ghost use Rattle.hm_graph.specs.Imports.{IsImportPlan, IsLawful};
-ghost use Rattle.hm_build.specs.Errors.{IsBuildError, IsBuildFault};
+ghost use Rattle.hm_stages.specs.Errors.{IsBuildError, IsBuildFault};
 ghost use Rattle.hm_reports.specs.FinishedBuilds.{IsFinished};
 ghost use Rattle.hm_build.specs.Headline.{HasVerdicts};
-ghost use Rattle.hm_build.specs.Rooms.{room_of};
-ghost use Rattle.hm_sources.specs.Names.{module_outlines};
 ghost use Rattle.hm_sources.specs.SourceModules.{AreModulesOf};
 
-use crate::finishing::{finished, records_of};
 use crate::workers::{Work, run_workers};
 use crate::{BuildFault, Finished, Gate};
 use core::thread::Stack;
-use hm_graph::Plan;
-use hm_modules::set_modules_by;
-use hm_prelude::SharedPrelude;
 use hm_published::{Naming, Opened};
 use hm_reports::may_work;
-use hm_shared::{Brands, Crew, Shared};
-use hm_sources::{SetError, depth_limit, stack_size, worker_stack_size};
-use hm_store::Store;
+use hm_shared::{Brands, Crew, Pass, Shared};
+use hm_sources::{depth_limit, stack_size, worker_stack_size};
+use hm_stages::{Fresh, finished, read, room_for};
+use hm_store::Record;
 use hm_store::laws::settled_builds_are_settled_sets;
-use hm_syntax::Module;
 use hm_verdicts::settled_modules_have_their_verdicts;
 use std::alloc::{AllocError, Global};
 use std::marker::Brand;
 use std::snapshot::Snapshot;
-use std::sync::ledger::{Blank, Ledger};
-use std::sync::{Arc, Wait};
+use std::sync::Wait;
+use std::sync::ledger::{Blank, Book, Ledger};
 use std::thread;
 use std::thread::{Promise, Threads};
-
-/// A set of modules that no worker has touched.
-#[derive(Drop)]
-struct Fresh {
-    modules: Vec<Arc<Module>>,
-    imports: Vec<Vec<usize>>,
-    store: Store,
-    prelude: SharedPrelude,
-}
 
 /// A build that is to be made: so many workers check the modules of these sources, each behind this gate.
 #[derive(Drop)]
@@ -49,88 +33,19 @@ struct Task<'a, G: Gate> {
     gate: &'a G,
 }
 
-/// Modules that threads can share.
-fn shared_modules(alloc: Global, modules: Vec<Module>) -> Result<Vec<Arc<Module>>, AllocError>
-    ensures { IfOk result (λ shared. map arc_value shared.items ≡ modules.items) }
-{
-    let mut shared = Vec::new(alloc);
-    for module in modules {
-        shared.push(Arc::new(alloc, module)?)?;
-    }
-    Ok(shared)
-}
-
-/// The same modules once more. No tree is copied.
-pub(crate) fn lend_all(
+/// The records of the workers, in the order of their passes.
+fn records_of<L: Ledger + Naming>(
     alloc: Global,
-    modules: &[Arc<Module>],
-) -> Result<Vec<Arc<Module>>, AllocError>
-    ensures { IfOk result (λ lent. map arc_value lent.items ≡ map arc_value modules.now) }
-{
-    let mut lent = Vec::new(alloc);
-    for module in modules {
-        lent.push(Arc::try_clone(module)?)?;
+    mut book: Book<L>,
+    passes: Vec<Pass<L>>,
+) -> Result<Vec<Record>, AllocError> {
+    let mut records = Vec::new(alloc);
+    for pass in passes {
+        let (record, mut share) = pass.into_record();
+        book.audit(&mut share);
+        records.push(record)?;
     }
-    Ok(lent)
-}
-
-/// The numbers of the modules that each module imports.
-fn import_rows(alloc: Global, plan: &Plan) -> Result<Vec<Vec<usize>>, AllocError> {
-    let mut rows = Vec::new(alloc);
-    for number in 0..plan.len() {
-        rows.push(Vec::from_slice(alloc, plan.imports(number))?)?;
-    }
-    Ok(rows)
-}
-
-/// A store for the modules of a lawful set.
-fn set_up(alloc: Global, modules: Vec<Module>, plan: Plan) -> Result<Fresh, AllocError>
-    requires lawful { IsLawful (module_outlines modules.items) }
-    requires planned { IsImportPlan (module_outlines modules.items) plan }
-    ensures modules { IfOk result (λ f. map arc_value f.modules.items ≡ modules.items) }
-    ensures same { IfOk result (λ f. map arc_value f.modules.items ≡ f.store.modules) }
-    ensures empty { IfOk result (λ f. f.store.journal ≡ []) }
-{
-    let prelude = SharedPrelude::new(alloc)?;
-    let modules = shared_modules(alloc, modules)?;
-    let imports = import_rows(alloc, &plan)?;
-    let store = Store::new(alloc, lend_all(alloc, modules.as_slice())?, plan)?;
-    Ok(Fresh {
-        modules,
-        imports,
-        store,
-        prelude,
-    })
-}
-
-/// A store for the modules of sources, which so many threads lex and parse.
-fn read<T: Threads + Wait + Sync>(
-    rt: &T,
-    alloc: Global,
-    sources: &[Vec<u8>],
-    threads: usize,
-) -> Result<Fresh, BuildFault>
-    ensures read { IfOk result (λ f. AreModulesOf (map (λ s. s.items) sources.now) (map arc_value f.modules.items)) }
-    ensures same { IfOk result (λ f. map arc_value f.modules.items ≡ f.store.modules) }
-    ensures empty { IfOk result (λ f. f.store.journal ≡ []) }
-    ensures err { IfErr result (IsBuildError (map (λ s. s.items) sources.now)) }
-{
-    match set_modules_by(rt, alloc, sources, threads) {
-        Ok((modules, plan)) => Ok(set_up(alloc, modules, plan)?),
-        Err(SetError::Refused(fault)) => Err(BuildFault::Refused(fault)),
-        Err(SetError::Memory) => Err(BuildFault::Memory),
-    }
-}
-
-/// The calls that a worker may make, and no more than fit into memory.
-fn room_for(imports: &[Vec<usize>]) -> usize
-    ensures { result ≡ min (room_of (map (λ row. row.items) imports.now)) (2 ^ 40) }
-{
-    let mut room = 2usize;
-    for row in imports {
-        room = room.saturating_add(row.len()).saturating_add(2);
-    }
-    room.min(1 << 40)
+    Ok(records)
 }
 
 /// Runs the workers on a store, and looks at what came of it. Stacks and types have room for the sources.
@@ -215,7 +130,7 @@ struct BuildOf {
 
 impl Promise<Result<Finished, BuildFault>> for BuildOf {
     ghost use Rattle.std.specs.Prelude.{IfErr, IfOk, map};
-    ghost use Rattle.hm_build.specs.Errors.{IsBuildError};
+    ghost use Rattle.hm_stages.specs.Errors.{IsBuildError};
     ghost use Rattle.hm_reports.specs.FinishedBuilds.{IsFinished};
     ghost use Rattle.hm_build.specs.Headline.{HasVerdicts};
 

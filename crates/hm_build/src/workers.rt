@@ -29,7 +29,7 @@ pub(crate) enum WorkFault {
 
 impl From<WorkFault> for BuildFault {
     ghost use Rattle.std.specs.Prelude.{◌≡◌, ◌⊎◌};
-    ghost use Rattle.hm_build.specs.declared.faults.BuildFault.TheVariants.{Memory, Mixed, NoWorker};
+    ghost use Rattle.hm_stages.specs.declared.faults.BuildFault.TheVariants.{Memory, Mixed, NoWorker};
 
     ghost from_gives = { λ _ fault. (fault ≡ NoWorker) ⊎ ((fault ≡ Memory) ⊎ (fault ≡ Mixed)) };
 

@@ -73,8 +73,7 @@ pub fn binding_groups<'a>(alloc: Global, decls: &'a [Decl]) -> Result<BindingGro
         → ¬ (IsDistinct (names (bindings_of k (declarations decls.now) (declarations decls.now)))) }
 {
     check_distinct(alloc, decls)?;
-    let signed = signed_texts(alloc, decls)?;
-    let list = node_list(alloc, &signed, decls)?;
+    let list = node_list(alloc, &signed_texts(alloc, decls)?, decls)?;
     list.numbers.has_each_once();
     let groups = groups_of(alloc, &list, decls)?;
     let NodeList { numbers, owners } = list;

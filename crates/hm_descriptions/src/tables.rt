@@ -308,8 +308,8 @@ fn known_types<'a>(
         ++ imported_types (map (λ f. f.now) interfaces.now)) (map known_arity known.types.entries) (map known_imported known.imported.entries)) }
 {
     let mut types = IndexMap::new(alloc);
-    let mut imported = IndexMap::new(alloc);
     add_declared_types(&mut types, home, decls)?;
+    let mut imported = IndexMap::new(alloc);
     add_imported_types(&mut types, &mut imported, interfaces)?;
     Ok(KnownTypes { types, imported })
 }

@@ -8,7 +8,7 @@ use Rattle.hm_types.proofs.Substitution.{bool_cases}
 use Rattle.hm_typing.proofs.Types.{In-put}
 use Rattle.hm_unify.specs.WellFormed.{IsWellFormed, AreWellFormed}
 use Rattle.hm_schemes.specs.Generalised.{IsClosing, closing}
-use Rattle.hm_expressions.proofs.CanonicalSchemes.{index}
+use Rattle.hm_assumptions.proofs.ClosedSchemes.{index}
 
 -- A type whose variables are below a number
 

@@ -1,5 +1,4 @@
 pub mod OwnSchemes
-pub mod CoreTables
 pub mod JudgedLists
 pub mod UnitSteps
 pub mod UnitStages

@@ -1,4 +1,3 @@
-pub mod Imported
 pub mod Faults
 pub mod JudgedUnits
 pub mod SignedFaults

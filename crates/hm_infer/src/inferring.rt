@@ -13,13 +13,12 @@ ghost use Rattle.hm_infer.specs.Faults.{IsUntypable};
 ghost use Rattle.hm_expressions.specs.PrincipalLists.{Inferred};
 ghost use Rattle.hm_expressions.specs.Stages.{list_of};
 
-use crate::assuming::imported_environment;
-use crate::declaring::known_constructors;
 use crate::untyped_units::untyped_units;
 use hm_answers::own_schemes;
 use hm_assumptions::{Constructors, Inference};
 use hm_expressions::check_bindings;
 use hm_names::{Core, Fault, Schemes};
+use hm_premises::{imported_environment, known_constructors};
 use hm_syntax::{Decl, Row};
 use hm_unify::{MOST_LEVELS, Solver, UnifyFault};
 use std::alloc::{AllocError, Global};

@@ -1,8 +1,6 @@
 //! The principal schemes of a module's bindings, or its units that have no type (Haskell 98 Report, section 4.5).
 #![tactic(auto)]
 
-mod assuming;
-mod declaring;
 mod inferring;
 mod judging_units;
 mod signed_faults;

@@ -19,7 +19,6 @@ ghost use Rattle.hm_expressions.specs.Stages.{IsListFound, list_of};
 ghost use Rattle.hm_answers.specs.UnitFaults.{ArePlainGroups};
 ghost use Rattle.hm_infer.specs.UnitStarts.{AreFaultStarts, AreUnsignedStarts, HasMember, IsCoreList};
 
-use crate::assuming::imported_environment;
 use crate::judging_units::judge_groups;
 use crate::signed_starts::signed_starts;
 use crate::telling::told_faults;
@@ -28,6 +27,7 @@ use hm_answers::faulty_groups;
 use hm_assumptions::{Constructors, Inference};
 use hm_expressions::{CheckedList, bind_signed, listed_groups, signatures_of};
 use hm_names::{Core, Fault};
+use hm_premises::imported_environment;
 use hm_syntax::{Decl, Row};
 use hm_unify::{Solver, UnifyFault};
 use std::alloc::{AllocError, Global};

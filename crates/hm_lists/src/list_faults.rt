@@ -36,17 +36,33 @@ pub fn add_list_faults(
 ) -> Result<(), AllocError>
     ensures { OnOk result (faults.new.items ≡ faults.old.items ++ list_faults (declarations decls.now)) }
 {
-    let types = type_names(alloc, decls)?;
-    add_repeated(alloc, faults, Kind::Duplicate, &types)?;
-    let constructors = constructor_names(alloc, decls)?;
-    add_repeated(alloc, faults, Kind::Duplicate, &constructors)?;
-    let bindings = binding_names(alloc, decls)?;
-    add_repeated(alloc, faults, Kind::Duplicate, &bindings)?;
+    add_repeated(alloc, faults, Kind::Duplicate, &type_names(alloc, decls)?)?;
+    add_repeated(
+        alloc,
+        faults,
+        Kind::Duplicate,
+        &constructor_names(alloc, decls)?,
+    )?;
+    add_repeated(
+        alloc,
+        faults,
+        Kind::Duplicate,
+        &binding_names(alloc, decls)?,
+    )?;
     let signed = signed_names(alloc, decls)?;
     add_repeated(alloc, faults, Kind::Duplicate, &signed)?;
-    let clauses = clause_names(alloc, decls)?;
-    add_outside(alloc, faults, Kind::NoBinding, &clauses, &signed)?;
-    let lengths = other_lengths(alloc, decls)?;
-    add_faults(alloc, faults, Kind::ClauseLength, &lengths)?;
+    add_outside(
+        alloc,
+        faults,
+        Kind::NoBinding,
+        &clause_names(alloc, decls)?,
+        &signed,
+    )?;
+    add_faults(
+        alloc,
+        faults,
+        Kind::ClauseLength,
+        &other_lengths(alloc, decls)?,
+    )?;
     Ok(())
 }

@@ -11,13 +11,22 @@ pub(crate) struct Step {
 }
 
 /// What is known while a way is looked for.
-#[derive(Drop)]
 struct Search<'a> {
     numbers: IndexMap<&'a str, usize>,
     /// For each module the step by which it was reached first.
     came: Vec<Option<Step>>,
     /// The modules that were reached, in order.
     reached: Vec<usize>,
+}
+
+impl Drop for Search<'_> {
+    fn drop(self) {
+        let Search {
+            numbers: _numbers,
+            came: _came,
+            reached: _reached,
+        } = self;
+    }
 }
 
 /// The number of each module under its name.

@@ -13,7 +13,7 @@ use Rattle.hm_dependency.proofs.groups.binding_groups.Goals as goal
 
 pub returns-clause-groups : goal.returns-clause-groups
 returns-clause-groups c = λ k.
-    let nodes : c.in_ok-list.list.numbers ≡ list_nodes (declarations c.args.decls.now) (declarations c.args.decls.now) = c.in_ok-list.ensures.nodes (declarations c.args.decls.now) c.in_ok-signed.ensures in
+    let nodes : c.in_ok-list.list.numbers ≡ list_nodes (declarations c.args.decls.now) (declarations c.args.decls.now) = c.in_ok-list.ensures.nodes (declarations c.args.decls.now) c.in_ok-signed_texts.ensures in
     subst (λ ns. AreNumberedGroups (bindings_of k (declarations c.args.decls.now) (declarations c.args.decls.now)) (node_name k (declarations c.args.decls.now)) (length ns) (lists c.in_ok-groups.groups.items)) (sym nodes)
     (are_numbered k (declarations c.args.decls.now)
     (subst (λ ns. (x : Variable) (i j : ℕ) → slice_get ns i ≡ Some (Some x) → slice_get ns j ≡ Some (Some x) → i ≡ j) nodes c.has_each_once.ensures)
@@ -25,4 +25,4 @@ returns-in_err-check_distinct-clause-repeated c = passed_on c.from_residual.resu
 pub returns-in_err-list-clause-repeated : goal.returns-in_err-list-clause-repeated
 returns-in_err-list-clause-repeated c =
     passed_on c.from_residual-in_err-list.result c.in_err-list.field-0.0 c.from_residual-in_err-list.ensures.1
-    (λ e k. repeated_nodes k (declarations c.args.decls.now) (declarations c.args.decls.now) (c.in_err-list.ensures.twice (ap Err e) (declarations c.args.decls.now) c.in_ok-signed.ensures))
+    (λ e k. repeated_nodes k (declarations c.args.decls.now) (declarations c.args.decls.now) (c.in_err-list.ensures.twice (ap Err e) (declarations c.args.decls.now) c.in_ok-signed_texts.ensures))

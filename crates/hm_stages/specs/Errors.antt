@@ -1,0 +1,21 @@
+-- Why there is no build, as the crate's own functions say it.
+use Rattle.std.specs.Prelude.{ℕ, List}
+use Rattle.hm_sources.specs.Runs.{IsRefusalOf}
+use Rattle.hm_stages.specs.declared.faults.BuildFault.{BuildFault}
+use Rattle.hm_stages.specs.declared.faults.BuildFault.TheVariants as build
+
+-- why there is no build of the modules of sources: refused sources have this fault
+abbrev pub IsBuildFault : List (List ℕ) → BuildFault → Type 0
+IsBuildFault sources (build.Refused fault) = IsRefusalOf sources fault
+IsBuildFault sources build.Workers = Unit {0}
+IsBuildFault sources build.NoWorker = Unit {0}
+IsBuildFault sources build.Memory = Unit {0}
+IsBuildFault sources build.Mixed = Unit {0}
+
+-- the same, where the workers are not too few or too many
+abbrev pub IsBuildError : List (List ℕ) → BuildFault → Type 0
+IsBuildError sources (build.Refused fault) = IsRefusalOf sources fault
+IsBuildError sources build.Workers = ⊥
+IsBuildError sources build.NoWorker = Unit {0}
+IsBuildError sources build.Memory = Unit {0}
+IsBuildError sources build.Mixed = Unit {0}

@@ -1,0 +1,53 @@
+//! The trees of a build are dropped by as many threads as checked them.
+
+use crate::Finished;
+use crate::setting_up::lend_all;
+use std::alloc::Global;
+use std::sync::Wait;
+use std::thread;
+use std::thread::{Builder, Threads};
+
+/// Drops these values: a part of them by each thread that can be started, and what is left by this one.
+fn drop_in_parts<T: Drop + Send, R: Threads + Wait + Sync>(
+    rt: &R,
+    alloc: Global,
+    mut values: Vec<T>,
+    threads: usize,
+    stack: usize,
+) {
+    let parts = threads.min(values.len());
+    let share = values.len() / parts.max(1);
+    thread::scope(thread::scope_env(), rt, move |scope| {
+        let Ok(mut others) = Vec::with_capacity(alloc, parts) else {
+            return;
+        };
+        for _ in 1..parts {
+            let left = values.len().saturating_sub(share);
+            if let Ok(part) = values.split_off(left) {
+                let thread = Builder::new().stack_size(stack);
+                if let Ok(other) = thread.spawn_scoped(scope, move || drop(part)) {
+                    let _ = others.push(other);
+                }
+            }
+        }
+        drop(values);
+        for other in others {
+            other.join(rt);
+        }
+    })
+}
+
+/// Drops a build, its trees by so many threads with stacks of this size. Where there is no memory for that, this thread drops all.
+pub fn drop_by_threads<R: Threads + Wait + Sync>(
+    rt: &R,
+    alloc: Global,
+    finished: Finished,
+    threads: usize,
+    stack: usize,
+) {
+    let Ok(modules) = lend_all(alloc, finished.modules()) else {
+        return;
+    };
+    drop(finished);
+    drop_in_parts(rt, alloc, modules, threads, stack);
+}

@@ -1,0 +1,48 @@
+//! Why there is no build.
+use hm_shared::SharedFault;
+use hm_sources::SetFault;
+use std::alloc::AllocError;
+use thiserror::Error;
+
+/// Why there is no build.
+#[derive(Debug, Drop, Error)]
+pub enum BuildFault {
+    /// The sources spell no lawful set of modules.
+    #[error("the sources are refused")]
+    Refused(SetFault),
+    #[error("workers not 1 to 16")]
+    Workers,
+    /// No thread could be started, or no reader was made for a worker.
+    #[error("no worker")]
+    NoWorker,
+    #[error("no memory")]
+    Memory,
+    /// The workers don't agree with the store or with one another.
+    #[error("mixed")]
+    Mixed,
+}
+
+impl From<AllocError> for BuildFault {
+    ghost use Rattle.std.specs.Prelude.{◌≡◌};
+    ghost use Rattle.hm_stages.specs.declared.faults.BuildFault.TheVariants.{Memory};
+
+    ghost from_gives = { λ _ fault. fault ≡ Memory };
+
+    fn from(_error: AllocError) -> BuildFault {
+        BuildFault::Memory
+    }
+}
+
+impl From<SharedFault> for BuildFault {
+    ghost use Rattle.std.specs.Prelude.{◌≡◌, ◌⊎◌};
+    ghost use Rattle.hm_stages.specs.declared.faults.BuildFault.TheVariants.{Memory, Mixed, NoWorker};
+
+    ghost from_gives = { λ _ fault. (fault ≡ NoWorker) ⊎ ((fault ≡ Memory) ⊎ (fault ≡ Mixed)) };
+
+    fn from(fault: SharedFault) -> BuildFault {
+        match fault {
+            SharedFault::Memory => BuildFault::Memory,
+            SharedFault::NoReader => BuildFault::NoWorker,
+        }
+    }
+}

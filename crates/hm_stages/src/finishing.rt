@@ -1,0 +1,26 @@
+//! What came of a build, once its workers are done.
+ghost use Rattle.std.specs.Prelude.{◌≡◌, ◌⊎◌, ℕ, List, IfErr, IfOk};
+ghost use Rattle.hm_reports.specs.FinishedBuilds.{IsFinished};
+ghost use Rattle.hm_sources.specs.SourceModules.{AreModulesOf};
+
+use crate::{BuildFault, Finished};
+use hm_reports::has_ended;
+use hm_store::{Record, Store};
+use std::alloc::Global;
+
+/// The build, where it ended and its records agree with its journal.
+pub fn finished(
+    alloc: Global,
+    store: Store,
+    records: Vec<Record>,
+    workers: usize,
+) -> Result<Finished, BuildFault>
+    ensures finished { IfOk result (λ f. (sources : List (List ℕ)) → AreModulesOf sources store.modules → IsFinished sources workers f.store f.records.items) }
+    ensures err { IfErr result (λ e. (e ≡ BuildFault.Memory) ⊎ (e ≡ BuildFault.Mixed)) }
+{
+    store.legal();
+    if !has_ended(alloc, &store, records.as_slice(), workers)? {
+        return Err(BuildFault::Mixed);
+    }
+    Ok(Finished { store, records })
+}

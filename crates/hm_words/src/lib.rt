@@ -1,0 +1,142 @@
+//! What the words of a command line ask for.
+//!
+//! The words are read by `clap`, whose contracts don't say what they mean; of the number of workers alone it is promised that it can be served.
+#![tactic(auto)]
+
+ghost use Rattle.std.specs.Prelude.{◌<◌, ◌≤◌, IfOk};
+
+use clap::builder::ValueParser;
+use clap::{Arg, ArgAction, ArgMatches, Command, Error};
+use std::alloc::{AllocError, Global};
+
+/// What the words of a command line ask for.
+#[derive(Debug, Drop)]
+pub struct Asked {
+    /// How many workers check modules, 1 to 16.
+    pub workers: usize,
+    /// Whether the journal is to follow the report.
+    pub journal: bool,
+    /// Whether the import plan is to be printed, and nothing checked.
+    pub plan: bool,
+    /// Whether messages that explain the report are to be written to standard error.
+    pub explain: bool,
+    /// The names of the sources, in order; none stands for standard input.
+    pub files: Vec<String>,
+}
+
+/// The most workers of a build.
+const MOST_WORKERS: usize = 16;
+
+/// How many workers there are where no word says it.
+const WORKERS: usize = 4;
+
+/// The program's version.
+const VERSION: &str = "0.1";
+
+/// Three sources with a module each, what is printed of them, and the exit statuses.
+const EXAMPLE: &str = "\
+Layout isn't read: write braces and semicolons. There are no classes.
+
+Example, of three files with a line each:
+  module A where { pair x = (x, x) }
+  module B where { twice f = f f }
+  module C where { import B ; y = twice }
+What is printed, with status 1:
+  module A
+    val pair = A.pair :: a -> (a, a)
+  faulty B
+    1:18 type twice
+  skipped C
+    by B
+  3 modules: 1 good, 1 faulty, 1 skipped
+
+Exit statuses:
+  0  all modules are good, or a plan, the help or the version was printed
+  1  a module is faulty or skipped
+  2  the sources or the words of the command line are refused
+  3  no memory
+  4  a source can't be opened or read, or the output can't be written
+  5  mixed: the workers' records contradict each other
+  6  no worker: no thread could be started";
+
+fn command<'a>(alloc: Global) -> Result<Command<'a>, AllocError> {
+    Command::new(alloc, "hmc")
+        .version(VERSION)
+        .about(
+            "Checks the names and types of modules of Haskell 98 with explicit braces, no classes",
+        )
+        .after_help(EXAMPLE)
+        .arg(
+            Arg::new(alloc, "jobs")
+                .long("jobs")
+                .value_name("N")
+                .value_parser(ValueParser::Unsigned(1, MOST_WORKERS as u64))
+                .help(
+                    "How many workers check modules at the same time, 1 to 16; 4 if it isn't given",
+                ),
+        )?
+        .arg(
+            Arg::new(alloc, "journal")
+                .long("journal")
+                .help("Print the journal of the build behind the report")
+                .action(ArgAction::SetTrue),
+        )?
+        .arg(
+            Arg::new(alloc, "plan")
+                .long("plan")
+                .help("Print the import plan and check nothing")
+                .action(ArgAction::SetTrue),
+        )?
+        .arg(
+            Arg::new(alloc, "explain")
+                .long("explain")
+                .help(
+                    "Write to standard error, for each fault, FILE:LINE:COLUMN, what is wrong in plain words, and the line with a mark",
+                )
+                .action(ArgAction::SetTrue),
+        )?
+        .arg(
+            Arg::new(alloc, "FILE")
+                .help(
+                    "A source each, of any number of modules and 1,048,576 bytes at most; without any, standard input is one",
+                )
+                .action(ArgAction::Append),
+        )
+}
+
+fn files(alloc: Global, matches: &ArgMatches<'_>) -> Result<Vec<String>, AllocError> {
+    let mut files = Vec::new(alloc);
+    if let Some(names) = matches.get_strs("FILE") {
+        for name in names {
+            files.push(String::from_str(alloc, name)?)?;
+        }
+    }
+    Ok(files)
+}
+
+/// How many workers are asked for. The parser of the words refuses other numbers.
+fn workers(matches: &ArgMatches<'_>) -> usize
+    ensures least { 0 < result }
+    ensures most { result ≤ 16 }
+{
+    matches
+        .get_one::<usize>("jobs")
+        .unwrap_or(WORKERS)
+        .clamp(1, MOST_WORKERS)
+}
+
+/// Reads the words of a command line, of which the first is the program's name. An error holds the help or the version where these were asked for,
+/// and why the words are refused where they are; want of memory is an error too.
+pub fn command_line(alloc: Global, words: &[String]) -> Result<Asked, Error>
+    ensures least { IfOk result (λ asked. 0 < asked.workers) }
+    ensures most { IfOk result (λ asked. asked.workers ≤ 16) }
+{
+    let matches = command(alloc)?.try_get_matches_from(words)?;
+    Ok(Asked {
+        workers: workers(&matches),
+        journal: matches.get_flag("journal"),
+        plan: matches.get_flag("plan"),
+        explain: matches.get_flag("explain"),
+        files: files(alloc, &matches)?,
+    })
+}
