@@ -16,6 +16,7 @@ pub fn finished(
     workers: usize,
 ) -> Result<Finished, BuildFault>
     ensures finished { IfOk result (λ f. (sources : List (List ℕ)) → AreModulesOf sources store.modules → IsFinished sources workers f.store f.records.items) }
+    ensures given { IfOk result (λ f. (f.store ≡ store) × (f.records ≡ records)) }
     ensures err { IfErr result (λ e. (e ≡ BuildFault.Memory) ⊎ (e ≡ BuildFault.Mixed)) }
 {
     store.legal();

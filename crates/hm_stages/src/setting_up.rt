@@ -40,7 +40,10 @@ fn shared_modules(alloc: Global, modules: Vec<Module>) -> Result<Vec<Arc<Module>
 }
 
 /// The same modules once more. No tree is copied.
-pub(crate) fn lend_all(alloc: Global, modules: &[Arc<Module>]) -> Result<Vec<Arc<Module>>, AllocError>
+pub(crate) fn lend_all(
+    alloc: Global,
+    modules: &[Arc<Module>],
+) -> Result<Vec<Arc<Module>>, AllocError>
     ensures { IfOk result (λ lent. map arc_value lent.items ≡ map arc_value modules.now) }
 {
     let mut lent = Vec::new(alloc);
@@ -51,7 +54,9 @@ pub(crate) fn lend_all(alloc: Global, modules: &[Arc<Module>]) -> Result<Vec<Arc
 }
 
 /// The numbers of the modules that each module imports.
-fn import_rows(alloc: Global, plan: &Plan) -> Result<Vec<Vec<usize>>, AllocError> {
+fn import_rows(alloc: Global, plan: &Plan) -> Result<Vec<Vec<usize>>, AllocError>
+    ensures { IfOk result (λ rows. map (λ row. row.items) rows.items ≡ plan.now) }
+{
     let mut rows = Vec::new(alloc);
     for number in 0..plan.len() {
         rows.push(Vec::from_slice(alloc, plan.imports(number))?)?;
@@ -65,6 +70,7 @@ fn set_up(alloc: Global, modules: Vec<Module>, plan: Plan) -> Result<Fresh, Allo
     requires planned { IsImportPlan (module_outlines modules.items) plan }
     ensures modules { IfOk result (λ f. map arc_value f.modules.items ≡ modules.items) }
     ensures same { IfOk result (λ f. map arc_value f.modules.items ≡ f.store.modules) }
+    ensures imports { IfOk result (λ f. map (λ row. row.items) f.imports.items ≡ f.store.given.imports) }
     ensures empty { IfOk result (λ f. f.store.journal ≡ []) }
 {
     let prelude = SharedPrelude::new(alloc)?;
@@ -88,6 +94,7 @@ pub fn read<T: Threads + Wait + Sync>(
 ) -> Result<Fresh, BuildFault>
     ensures read { IfOk result (λ f. AreModulesOf (map (λ s. s.items) sources.now) (map arc_value f.modules.items)) }
     ensures same { IfOk result (λ f. map arc_value f.modules.items ≡ f.store.modules) }
+    ensures imports { IfOk result (λ f. map (λ row. row.items) f.imports.items ≡ f.store.given.imports) }
     ensures empty { IfOk result (λ f. f.store.journal ≡ []) }
     ensures err { IfErr result (IsBuildError (map (λ s. s.items) sources.now)) }
 {
