@@ -14,3 +14,4 @@ pub mod Reversing
 pub mod Walks
 pub mod Cycles
 pub mod LoneNode
+pub mod WorkedOrders

@@ -1,9 +1,11 @@
 -- An order of the nodes of a graph in which each stands behind those that it reaches.
-use Rattle.std.specs.Prelude.{ℕ, ◌<◌, ◌⊎◌, List, length, take, slice_index, Contains}
-use Rattle.hm_components.specs.Digraph.{Graph, Edge, Reaches}
+use Rattle.std.specs.Prelude.{ℕ, ◌≢◌, ◌<◌, ◌⊎◌, List, length, take, slice_index, Contains}
+use Rattle.std.specs.List.{AllPairs}
+use Rattle.hm_components.specs.Digraph.{Graph, Reaches}
 
--- each node stands in the order, behind all to which an edge leads from it, but for those that reach it
+-- each node stands in the order, once, behind all that it reaches, but for those that reach it
 pub record IsOrder (graph : Graph) (order : List ℕ) : Type 0 where
   pub all : (x : ℕ) → x < length graph → Contains order x
   pub nodes : (i : ℕ) → i < length order → slice_index order i < length graph
-  pub after : (i y : ℕ) → i < length order → Edge graph (slice_index order i) y → Contains (take i order) y ⊎ Reaches graph y (slice_index order i)
+  pub once : AllPairs (λ x y. x ≢ y) order
+  pub after : (i y : ℕ) → i < length order → Reaches graph (slice_index order i) y → Contains (take i order) y ⊎ Reaches graph y (slice_index order i)

@@ -242,7 +242,7 @@ module _ (m : Module) (fs : List Interface) (pairs : List Pair) (scope : IsScope
           let refer : RefersTo m fs (at (get_or order i 0)) (at place.0) =
           refers (are.stand s (Contains-get_or synonyms.declared.items (get_or order i 0) d within)) (declared_at (get_or order i 0) d within) c (subst (λ x. Means m fs Types o x) (it.is ∙ ap (own m) (sym to_is)) means) in
           let edge = (references.edges (get_or order i 0) place.0 from_inside place.1).1 refer in
-          elim (ordered.after i place.0 inside edge) [
+          elim (ordered.after i place.0 inside (one edge)) [
             | inl before ↦ inr (place.0, (before, (to_inside, it.is ∙ ap (own m) (sym (declared_at place.0 d to_inside ∙ to_is)))))
             | inr back ↦ absurd (not_back (get_or order i 0) place.0 from_inside edge back)
           ]

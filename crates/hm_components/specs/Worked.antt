@@ -1,0 +1,15 @@
+-- A worked graph, and what is said of the order of its nodes.
+use Rattle.std.specs.Prelude.{[], ◌∷◌}
+use Rattle.hm_components.specs.Digraph.{Graph}
+use Rattle.hm_components.specs.NodeOrders.{IsOrder}
+
+-- nodes 0 and 2 reach each other, and an edge leads from 2 to 1
+abbrev pub three : Graph
+three = (2 ∷ []) ∷ [] ∷ (0 ∷ 1 ∷ []) ∷ []
+
+-- node 1 comes first, and then 0 and 2 in either order; not behind 0, which reaches it through 2, and not twice
+pub record OrdersRow : Type 0 where
+  pub first : IsOrder three (1 ∷ 0 ∷ 2 ∷ [])
+  pub either : IsOrder three (1 ∷ 2 ∷ 0 ∷ [])
+  pub behind : ¬ (IsOrder three (0 ∷ 1 ∷ 2 ∷ []))
+  pub twice : ¬ (IsOrder three (1 ∷ 1 ∷ 0 ∷ 2 ∷ []))
