@@ -18,7 +18,7 @@ use Rattle.hm_names.specs.Scope.{Means, IsUnbound, IsAmbiguous}
 use Rattle.hm_names.specs.Special.{IsSpecial, special_of}
 use Rattle.hm_names.specs.Described.{TypeMeaning, algebraic, declared_synonym, imported_synonym, TypeDescription, type_meant}
 use Rattle.hm_names.specs.Walk.{Locals, Node, at_expression, at_pattern, Rule, InType, InTypes, InConstructor, InConstructors, InPattern, InPatterns, InExpression, InExpressions, InAlternatives, InRightSide, InBodies, InDeclarations, InDeclaration, with_patterns, with_list}
-use Rattle.hm_names.specs.Resolved.{Resolver, IsResolver, synonym_meant, type_with, types_with, Binders, unchanged, top, pattern_with, patterns_with, constructor_with, constructors_with, expression_with, expressions_with, alternatives_with, right_side_with, bodies_with, declarations_with, declaration_with, resolved}
+use Rattle.hm_names.specs.Resolved.{Resolver, IsResolver, synonym_meant, type_with, types_with, Binders, bare, top, pattern_with, patterns_with, constructor_with, constructors_with, expression_with, expressions_with, alternatives_with, right_side_with, bodies_with, declarations_with, declaration_with, resolved}
 use Rattle.hm_names.specs.Faults.Arities.{RefersTo, refers, Reaches, directly}
 use Rattle.hm_names.specs.Faults.Names.{IsLocal, Uses, a_variable, a_constructor, a_pattern, a_type_constructor, NameFault, unbound, ambiguous}
 use Rattle.hm_names.specs.Faults.Phases.{IsWellFormed, Naming, fault}
@@ -268,8 +268,8 @@ module _ (m : Module) (fs : List Interface) (r s : Resolver) (a : IsResolver m f
       expression_agree xs (constructor_expression n) h = ap constructor_expression (constructor_name_agree [] xs (at_expression (constructor_expression n)) n (λ p. a_constructor p) h)
       expression_agree xs (literal_expression l) h = refl
       expression_agree xs (application f e) h = ap₂ application (expression_agree xs f (λ g. h (inl g))) (expression_agree xs e (λ g. h (inr g)))
-      expression_agree xs (lambda ps e) h = ap₂ lambda (patterns_agree xs unchanged ps (λ g. h (inl (inr g)))) (expression_agree (with_patterns ps xs) e (λ g. h (inr g)))
-      expression_agree xs (let_expression ds e) h = ap₂ let_expression (declarations_agree unchanged (with_list ds xs) ds (λ g. h (inl (inr g)))) (expression_agree (with_list ds xs) e (λ g. h (inr g)))
+      expression_agree xs (lambda ps e) h = ap₂ lambda (patterns_agree xs bare ps (λ g. h (inl (inr g)))) (expression_agree (with_patterns ps xs) e (λ g. h (inr g)))
+      expression_agree xs (let_expression ds e) h = ap₂ let_expression (declarations_agree bare (with_list ds xs) ds (λ g. h (inl (inr g)))) (expression_agree (with_list ds xs) e (λ g. h (inr g)))
       expression_agree xs (if_expression a b c) h = λ i. if_expression (expression_agree xs a (λ g. h (inl g)) i) (expression_agree xs b (λ g. h (inr (inl g))) i) (expression_agree xs c (λ g. h (inr (inr g))) i)
       expression_agree xs (case_expression e bs) h = ap₂ case_expression (expression_agree xs e (λ g. h (inl g))) (alternatives_agree xs bs (λ g. h (inr g)))
       expression_agree xs (tuple_expression es) h = ap tuple_expression (expressions_agree xs es h)
@@ -283,10 +283,10 @@ module _ (m : Module) (fs : List Interface) (r s : Resolver) (a : IsResolver m f
       alternatives_agree : (xs : Locals) (bs : Alternatives) → ¬ (InAlternatives (Wrong m fs) xs bs) → alternatives_with r xs bs ≡ alternatives_with s xs bs
       alternatives_agree xs no_alternatives h = refl
       alternatives_agree xs (more_alternatives (alternative p q) bs) h =
-          λ i. more_alternatives (alternative (pattern_agree xs unchanged p (λ g. h (inl (inr (inl g)))) i) (right_side_agree (with_patterns (more_patterns p no_patterns) xs) q (λ g. h (inr (inl g))) i)) (alternatives_agree xs bs (λ g. h (inr (inr g))) i)
+          λ i. more_alternatives (alternative (pattern_agree xs bare p (λ g. h (inl (inr (inl g)))) i) (right_side_agree (with_patterns (more_patterns p no_patterns) xs) q (λ g. h (inr (inl g))) i)) (alternatives_agree xs bs (λ g. h (inr (inr g))) i)
 
       right_side_agree : (xs : Locals) (q : RightSide) → ¬ (InRightSide (Wrong m fs) xs q) → right_side_with r xs q ≡ right_side_with s xs q
-      right_side_agree xs (right_side gs ds) h = ap₂ right_side (bodies_agree (with_list ds xs) gs (λ g. h (inl g))) (declarations_agree unchanged (with_list ds xs) ds (λ g. h (inr (inr g))))
+      right_side_agree xs (right_side gs ds) h = ap₂ right_side (bodies_agree (with_list ds xs) gs (λ g. h (inl g))) (declarations_agree bare (with_list ds xs) ds (λ g. h (inr (inr g))))
 
       bodies_agree : (xs : Locals) (gs : Bodies) → ¬ (InBodies (Wrong m fs) xs gs) → bodies_with r xs gs ≡ bodies_with s xs gs
       bodies_agree xs no_bodies h = refl
@@ -302,7 +302,7 @@ module _ (m : Module) (fs : List Interface) (r s : Resolver) (a : IsResolver m f
       declaration_agree b xs (newtype_declaration n ps c) h = ap (newtype_declaration (b n) ps) (constructor_agree xs b c (λ g. h (inr g)))
       declaration_agree b xs (synonym_declaration n ps t) h = ap (synonym_declaration (b n) ps) (type_agree xs t (λ g. h (inr g)))
       declaration_agree b xs (signature ns t) h = ap (signature (map b ns)) (type_agree xs t h)
-      declaration_agree b xs (clause n ps q) h = ap₂ (clause (b n)) (patterns_agree xs unchanged ps (λ g. h (inl (inr g)))) (right_side_agree (with_patterns ps xs) q (λ g. h (inr g)))
+      declaration_agree b xs (clause n ps q) h = ap₂ (clause (b n)) (patterns_agree xs bare ps (λ g. h (inl (inr g)))) (right_side_agree (with_patterns ps xs) q (λ g. h (inr g)))
       declaration_agree b xs (pattern_binding l c p q) h = ap₂ (pattern_binding l c) (pattern_agree xs b p (λ g. h (inl (inr (inl g))))) (right_side_agree xs q (λ g. h (inr g)))
 
     list_agree : (b : Binders) (ds : List Declaration) → ¬ (InDeclarations (Wrong m fs) [] (declarations ds)) → map (declaration_with r b []) ds ≡ map (declaration_with s b []) ds

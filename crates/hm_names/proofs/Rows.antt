@@ -5,7 +5,7 @@ use Rattle.hm_syntax.specs.Trees.{TypeTree, Pattern, DataConstructor, Expression
 use Rattle.hm_syntax.specs.Lists.{types, patterns, constructors, expressions, declarations, alternatives, bodies}
 use Rattle.hm_syntax.specs.Sizes.{type_size, types_size, pattern_size, patterns_size, expression_size, expressions_size, declaration_size, declarations_size, alternative_size, alternatives_size, bodies_size}
 use Rattle.hm_names.specs.declared.faults.Fault.{Fault}
-use Rattle.hm_names.specs.Resolved.{Resolver, type_with, types_with, pattern_with, patterns_with, constructor_with, constructors_with, expression_with, expressions_with, alternatives_with, Binders, unchanged, bodies_with, declaration_with, declarations_with}
+use Rattle.hm_names.specs.Resolved.{Resolver, type_with, types_with, pattern_with, patterns_with, constructor_with, constructors_with, expression_with, expressions_with, alternatives_with, Binders, bare, bodies_with, declaration_with, declarations_with}
 use Rattle.hm_names.specs.Walk.{Locals}
 use Rattle.hm_names.specs.Variables.{type_count, pattern_count}
 use Rattle.hm_names.specs.Found.{Walking, Lookups, noting, locals_of, resolver_of, binder_of, alternative_with, part_with, parts_faults, bodies_faults, expression_faults, guard_size}
@@ -121,5 +121,5 @@ module _ {X : Type 0} (f : Lookups → Locals → X → X) (g : Lookups → Loca
       ap (noting (G rest)) (state ∙ ap (λ fs. noting fs w) noted) ∙ (noting_more (g start.known (locals_of start) d) (G rest) w ∙ (ap (λ fs. noting fs w) (sym (ap G (unrolled row i d h e) ∙ opens start.known (locals_of start) d rest)) ∙ l))
 
 pub listed : (w after : Walking) (fs : List Fault) (ds done : List Declaration) → after ≡ noting fs w
-    → done ≡ map (declaration_with (resolver_of after.known) (binder_of None) (locals_of after)) ds → done ≡ map (declaration_with (resolver_of w.known) unchanged (locals_of w)) ds
-listed w after fs ds done e q = q ∙ ap (λ (v : Walking). map (declaration_with (resolver_of v.known) unchanged (locals_of v)) ds) e
+    → done ≡ map (declaration_with (resolver_of after.known) (binder_of None) (locals_of after)) ds → done ≡ map (declaration_with (resolver_of w.known) bare (locals_of w)) ds
+listed w after fs ds done e q = q ∙ ap (λ (v : Walking). map (declaration_with (resolver_of v.known) bare (locals_of v)) ds) e

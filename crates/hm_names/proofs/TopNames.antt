@@ -10,7 +10,7 @@ use Rattle.hm_names.specs.Texts.{same_text}
 use Rattle.hm_names.specs.Variables.{pattern_variables, patterns_variables}
 use Rattle.hm_names.specs.Entities.{own}
 use Rattle.hm_names.specs.Syntax.{Known, pattern_of, patterns_of, bindings_of, is_continued, add_clause, bound_by, declaration_count}
-use Rattle.hm_names.specs.Resolved.{Resolver, top, unchanged, pattern_with, patterns_with, declaration_with}
+use Rattle.hm_names.specs.Resolved.{Resolver, top, bare, pattern_with, patterns_with, declaration_with}
 use Rattle.hm_names.specs.Faults.Lists.{has_patterns}
 
 -- the names of a module's binding list, by its declarations
@@ -57,7 +57,7 @@ mutual
   names_of_patterns k r m (more_patterns p ps) =
       ap₂ (λ a b. a ++ b) (names_of_pattern k r m p) (names_of_patterns k r m ps) ∙ sym (map-++ (λ n. global (own m n.text)) (pattern_variables p) (patterns_variables ps))
 
-patterns_kept : (r : Resolver) (ps : Patterns) → has_patterns (patterns_with r unchanged ps) ≡ has_patterns ps
+patterns_kept : (r : Resolver) (ps : Patterns) → has_patterns (patterns_with r bare ps) ≡ has_patterns ps
 patterns_kept r no_patterns = refl
 patterns_kept r (more_patterns p ps) = refl
 
@@ -65,7 +65,7 @@ module _ (m : Module) (r : Resolver) where
   abbrev resolved_list : List Declaration → Declarations
   resolved_list ds = declarations (map (declaration_with r (top m) []) ds)
 
-  continued_kept : (x : List ℕ) (ps : Patterns) (ds : List Declaration) → is_continued x (patterns_with r unchanged ps) (resolved_list ds) ≡ is_continued x ps (declarations ds)
+  continued_kept : (x : List ℕ) (ps : Patterns) (ds : List Declaration) → is_continued x (patterns_with r bare ps) (resolved_list ds) ≡ is_continued x ps (declarations ds)
   continued_kept x ps [] = refl
   continued_kept x ps (data_declaration n qs cs ∷ ds) = refl
   continued_kept x ps (newtype_declaration n qs c ∷ ds) = refl
@@ -85,7 +85,7 @@ module _ (m : Module) (r : Resolver) where
   names_of_list k all (synonym_declaration n ps t ∷ ds) h = names_of_list k all ds h
   names_of_list k all (signature ns t ∷ ds) h = names_of_list k all ds h
   names_of_list k all (clause n ps q ∷ ds) h =
-      names-either (is_continued n.text (patterns_with r unchanged ps) (resolved_list ds)) _ (global (own m n.text)) _ _ (bindings_of k all (resolved_list ds)) (heads m ds) (names_of_list k all ds h)
+      names-either (is_continued n.text (patterns_with r bare ps) (resolved_list ds)) _ (global (own m n.text)) _ _ (bindings_of k all (resolved_list ds)) (heads m ds) (names_of_list k all ds h)
       ∙ ap (λ b. cond b (heads m ds) (global (own m n.text) ∷ heads m ds)) (continued_kept n.text ps ds)
   names_of_list k all (pattern_binding l c p q ∷ ds) h =
       λ i. (names_of_pattern k r m p i ++ (binding (h i) (count_kept ds i) ∷ [])) ++ names_of_list k all ds h i

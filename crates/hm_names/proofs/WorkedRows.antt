@@ -101,6 +101,12 @@ expansion n t u = refl
 pub pattern : Worked.PatternRow
 pattern c a = names_of_core Worked.with_pattern Worked.prelude_alone c a
 
+pub binder : Worked.BinderRow
+binder m fs r a = ap (λ v. Worked.lambda_of (at 19 x) v) (a.local (x ∷ []) (at 26 x) (refl, first x []))
+
+pub no_capture : Worked.NoCaptureRow
+no_capture m fs r e a h = ap (λ v. Worked.lambda_of (at 19 x) v) (a.value (x ∷ []) Worked.x_of_B e (λ l. let z : Some (codes "B") ≡ None = l.0 in cc) h)
+
 -- Types of a module beside Prelude alone
 
 -- no entry has the name

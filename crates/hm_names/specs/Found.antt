@@ -18,7 +18,7 @@ use Rattle.hm_names.specs.Walk.{Locals, with_patterns, with_list}
 use Rattle.hm_names.specs.Faults.Lists.{type_names, constructor_names, binding_names, signed_names, other_lengths}
 use Rattle.hm_names.specs.Faults.Phases.{fault}
 use Rattle.hm_names.specs.Expansion.{as_entity}
-use Rattle.hm_names.specs.Resolved.{Resolver, Binders, unchanged, expression_with, pattern_with, right_side_with}
+use Rattle.hm_names.specs.Resolved.{Resolver, Binders, bare, expression_with, pattern_with, right_side_with}
 use Rattle.hm_names.specs.Bindings.{Pair, MeaningOf, unbound, ambiguous, entity, meaning_in}
 
 -- a synonym with its entity
@@ -76,7 +76,7 @@ resolver_of k = record { name = resolved_name k.pairs; synonym = synonym_among k
 
 -- what names become that are bound in the list of a module, or in another
 abbrev pub binder_of : Option (List ℕ) → Binders
-binder_of None n = n
+binder_of None n = bare n
 binder_of (Some m) n = as_entity n (named m n.text)
 
 -- the faults of a name that is looked up
@@ -267,7 +267,7 @@ leaving w = record w { groups = rest_of w.groups }
 -- The expressions of a right side, each behind its guard, if it has one.
 
 unfoldable pub alternative_with : Resolver → Locals → Alternative → Alternative
-alternative_with r xs (alternative p g) = alternative (pattern_with r unchanged p) (right_side_with r (with_patterns (alone p) xs) g)
+alternative_with r xs (alternative p g) = alternative (pattern_with r bare p) (right_side_with r (with_patterns (alone p) xs) g)
 
 abbrev pub guard_with : Resolver → Locals → Option Expression → Option Expression
 guard_with r xs None = None

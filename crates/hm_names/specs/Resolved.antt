@@ -50,12 +50,13 @@ pub record IsResolver (m : Module) (fs : List Interface) (r : Resolver) : Type 0
   pub type : (xs : Locals) (n : Identifier) (e : Entity) → Means m fs Types n e → r.name Types xs n ≡ as_entity n e
   pub synonym : (e : Entity) (d : TypeDescription) → type_meant m.header.name.text m.decls fs e ≡ Some d → r.synonym e ≡ synonym_meant r d.meaning
 
--- Binders: what a name becomes that is bound there. Local ones stay as they are, those of a module's own list become entities
+-- Binders: what a name becomes that is bound there. Local ones are bare, since a qualified name is never local; those of a module's own list
+-- become entities
 abbrev pub Binders : Type 0
 Binders = Identifier → Identifier
 
-abbrev pub unchanged : Binders
-unchanged n = n
+abbrev pub bare : Binders
+bare n = record n { qualifier = None }
 
 abbrev pub top : Module → Binders
 top m n = as_entity n (own m n.text)
@@ -88,8 +89,8 @@ abbrev mutual
   expression_with r xs (constructor_expression n) = constructor_expression (r.name Constructors [] n)
   expression_with r xs (literal_expression l) = literal_expression l
   expression_with r xs (application f e) = application (expression_with r xs f) (expression_with r xs e)
-  expression_with r xs (lambda ps e) = lambda (patterns_with r unchanged ps) (expression_with r (with_patterns ps xs) e)
-  expression_with r xs (let_expression ds e) = let_expression (declarations_with r unchanged (with_list ds xs) ds) (expression_with r (with_list ds xs) e)
+  expression_with r xs (lambda ps e) = lambda (patterns_with r bare ps) (expression_with r (with_patterns ps xs) e)
+  expression_with r xs (let_expression ds e) = let_expression (declarations_with r bare (with_list ds xs) ds) (expression_with r (with_list ds xs) e)
   expression_with r xs (if_expression a b c) = if_expression (expression_with r xs a) (expression_with r xs b) (expression_with r xs c)
   expression_with r xs (case_expression e bs) = case_expression (expression_with r xs e) (alternatives_with r xs bs)
   expression_with r xs (tuple_expression es) = tuple_expression (expressions_with r xs es)
@@ -103,10 +104,10 @@ abbrev mutual
   pub alternatives_with : Resolver → Locals → Alternatives → Alternatives
   alternatives_with r xs no_alternatives = no_alternatives
   alternatives_with r xs (more_alternatives (alternative p g) bs) =
-      more_alternatives (alternative (pattern_with r unchanged p) (right_side_with r (with_patterns (more_patterns p no_patterns) xs) g)) (alternatives_with r xs bs)
+      more_alternatives (alternative (pattern_with r bare p) (right_side_with r (with_patterns (more_patterns p no_patterns) xs) g)) (alternatives_with r xs bs)
 
   pub right_side_with : Resolver → Locals → RightSide → RightSide
-  right_side_with r xs (right_side gs ds) = right_side (bodies_with r (with_list ds xs) gs) (declarations_with r unchanged (with_list ds xs) ds)
+  right_side_with r xs (right_side gs ds) = right_side (bodies_with r (with_list ds xs) gs) (declarations_with r bare (with_list ds xs) ds)
 
   pub bodies_with : Resolver → Locals → Bodies → Bodies
   bodies_with r xs no_bodies = no_bodies
@@ -122,7 +123,7 @@ abbrev mutual
   declaration_with r b xs (newtype_declaration n ps c) = newtype_declaration (b n) ps (constructor_with r b c)
   declaration_with r b xs (synonym_declaration n ps t) = synonym_declaration (b n) ps (type_with r t)
   declaration_with r b xs (signature ns t) = signature (map b ns) (type_with r t)
-  declaration_with r b xs (clause n ps g) = clause (b n) (patterns_with r unchanged ps) (right_side_with r (with_patterns ps xs) g)
+  declaration_with r b xs (clause n ps g) = clause (b n) (patterns_with r bare ps) (right_side_with r (with_patterns ps xs) g)
   declaration_with r b xs (pattern_binding line column p g) = pattern_binding line column (pattern_with r b p) (right_side_with r xs g)
 
 -- a module's declarations, resolved

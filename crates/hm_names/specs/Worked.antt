@@ -8,7 +8,7 @@ use Rattle.hm_types.specs.Types.{App, done}
 use Rattle.hm_typing.specs.Names.{global, binding}
 use Rattle.hm_typing.specs.Syntax.{names}
 use Rattle.hm_syntax.specs.Names.{Identifier, integer}
-use Rattle.hm_syntax.specs.Trees.{TypeTree, variable_type, constructor_type, tuple_type, no_types, more_types, data_constructor, no_constructors, more_constructors, Pattern, variable_pattern, tuple_pattern, no_patterns, more_patterns, Expression, variable_expression, constructor_expression, literal_expression, RightSide, right_side, no_bodies, plain_body, Declaration, data_declaration, synonym_declaration, signature, clause, pattern_binding, no_declarations}
+use Rattle.hm_syntax.specs.Trees.{TypeTree, variable_type, constructor_type, tuple_type, no_types, more_types, data_constructor, no_constructors, more_constructors, Pattern, variable_pattern, tuple_pattern, no_patterns, more_patterns, Expression, variable_expression, constructor_expression, literal_expression, lambda, RightSide, right_side, no_bodies, plain_body, Declaration, data_declaration, synonym_declaration, signature, clause, pattern_binding, no_declarations}
 use Rattle.hm_syntax.specs.declared.ast.Module.{Module}
 use Rattle.hm_syntax.specs.declared.ast.Import.{Import}
 use Rattle.hm_syntax.specs.declared.ast.Export.{Export}
@@ -21,7 +21,9 @@ use Rattle.hm_names.specs.declared.faults.Kind.TheVariants.{NotExported, Duplica
 use Rattle.hm_names.specs.declared.namespace.Namespace.TheVariants.{Values}
 use Rattle.hm_names.specs.Entities.{named}
 use Rattle.hm_names.specs.Exports.{IsExported}
-use Rattle.hm_names.specs.Expansion.{expanded}
+use Rattle.hm_names.specs.Expansion.{as_entity, expanded}
+use Rattle.hm_names.specs.Scope.{Means}
+use Rattle.hm_names.specs.Resolved.{Resolver, IsResolver, expression_with}
 use Rattle.hm_names.specs.Types.{synonym_of}
 use Rattle.hm_names.specs.ModuleCores.{ModuleCore}
 use Rattle.hm_names.specs.Cores.{IsCore, syntax_of}
@@ -181,3 +183,17 @@ with_pattern = a_module (pattern_binding 1 18 (pair_of (at 19 x) (at 22 (codes "
 
 abbrev pub PatternRow : Type 0
 PatternRow = (c : ModuleCore) → IsCore with_pattern prelude_alone c → names (syntax_of c) ≡ global (named (codes "A") x) ∷ global (named (codes "A") (codes "y")) ∷ binding (codes "A") 1 ∷ global (named (codes "A") (codes "z")) ∷ []
+
+-- Local binders: \B.x -> x, which no source spells, binds the bare x, and not what B.x means
+abbrev pub x_of_B : Identifier
+x_of_B = record { qualifier = Some (codes "B"); text = x; line = 1; column = 19 }
+
+abbrev pub lambda_of : Identifier → Identifier → Expression
+lambda_of n v = lambda (more_patterns (variable_pattern n) no_patterns) (variable_expression v)
+
+abbrev pub BinderRow : Type 0
+BinderRow = (m : Module) (fs : List Interface) (r : Resolver) → IsResolver m fs r → expression_with r [] (lambda_of x_of_B (at 26 x)) ≡ lambda_of (at 19 x) (at 26 x)
+
+abbrev pub NoCaptureRow : Type 0
+NoCaptureRow = (m : Module) (fs : List Interface) (r : Resolver) (e : Entity) → IsResolver m fs r → Means m fs Values x_of_B e →
+    expression_with r [] (lambda_of x_of_B x_of_B) ≡ lambda_of (at 19 x) (as_entity x_of_B e)

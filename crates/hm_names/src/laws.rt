@@ -3,12 +3,14 @@
 ghost use Rattle.hm_names.specs.Worked.{
   AmbiguousRow,
   ArityRow,
+  BinderRow,
   ClashRow,
   ClauseLengthRow,
   DuplicateRow,
   ExpansionRow,
   HiddenRow,
   NoBindingRow,
+  NoCaptureRow,
   NoDuplicateRow,
   NonLinearRow,
   NotExportedRow,
@@ -74,7 +76,8 @@ pub fn expansion_of_synonyms()
 {}
 
 /// Worked modules have the faults that they should, each at its place; what an import hides is unbound; what is in scope only qualified isn't
-/// exported with its module; a synonym puts its arguments in the order of its parameters; a pattern binding binds its variables and itself.
+/// exported with its module; a synonym puts its arguments in the order of its parameters; a pattern binding binds its variables and itself; a local binder with a
+/// qualifier binds the bare name, and captures no entity.
 pub fn worked_modules()
     ensures not_exported { NotExportedRow }
     ensures duplicate { DuplicateRow }
@@ -92,6 +95,8 @@ pub fn worked_modules()
     ensures recursive { RecursiveRow }
     ensures expansion { ExpansionRow }
     ensures pattern { PatternRow }
+    ensures binder { BinderRow }
+    ensures no_capture { NoCaptureRow }
 {}
 
 /// What the walk notes of a module are the faults that stand somewhere in its trees.

@@ -19,4 +19,6 @@ returns c = record {
   recursive = rows.recursive;
   expansion = rows.expansion;
   pattern = rows.pattern;
+  binder = rows.binder;
+  no_capture = rows.no_capture;
 }
