@@ -16,6 +16,7 @@ mod monotypes;
 mod namespace;
 mod scheme_table;
 mod special;
+mod type_limits;
 mod type_variables;
 mod variables;
 
@@ -29,6 +30,7 @@ pub use crate::monotypes::monotype;
 pub use crate::namespace::Namespace;
 pub use crate::scheme_table::Schemes;
 pub use crate::special::tuple_arity;
+pub use crate::type_limits::{TypeLimits, WIDE_LIMITS};
 pub use crate::type_variables::TypeVariables;
 pub use crate::variables::{
     LentNames, add_all_bound, add_constructor, add_constructors, add_pattern, add_patterns,
