@@ -2,7 +2,7 @@
 """Builds the program bench/looks over hm_store and hm_check, in a copy of the crates that it needs, and runs it.
 
 `looks.py [--seconds N] [--trial]`: it prints how many looks a second four workers make at published interfaces, 1,000,000 in all, beside one that
-publishes: without the lock, and under one. Three rounds of each. The program is not proved: it is built natively (native.py), or with --trial
+publishes: without the lock, and under one. Three rounds of each. The program is not proved: it is built natively (build/unproved.py), or with --trial
 run by `rt try`, whose checks cost more than either kind of look. What the workers without a lock saw is compared with the journal. Ends
 with the status of the program.
 """
@@ -14,9 +14,10 @@ import subprocess
 import sys
 import tempfile
 
-import native
-
 TOP = os.path.dirname(os.path.dirname(os.path.abspath(__file__)))
+sys.path.insert(0, os.path.join(TOP, "build"))
+import unproved  # noqa: E402
+
 USED = ["hm_syntax", "hm_types", "hm_sources", "hm_outcomes", "hm_check", "hm_published", "hm_store", "hm_shared"]
 
 
@@ -56,7 +57,7 @@ def main():
             file.write("looks: " + " ".join(USED) + " anyhow\n")
         if options.trial:
             sys.exit(subprocess.run(["rt", "try", "--seconds", str(options.seconds)], cwd=program).returncode)
-        native.build(os.path.join(work, "looks"), "looks", pathlib.Path(work))
+        unproved.build(os.path.join(work, "looks"), "looks", pathlib.Path(work), is_bare=True)
         sys.exit(subprocess.run([os.path.join(work, "looks")], timeout=options.seconds).returncode)
 
 
