@@ -3,8 +3,8 @@
 
 `small_machines.py [PROGRAM]`: without PROGRAM, the proved program beside this folder is run. Under each limit each set is checked and planned.
 Wanted is the answer that is given without a limit, or `hmc: no memory` with status 3, or `hmc: no worker` with status 6, and never a signal.
-Prints for each limit how many runs ended in each way, and the least addresses that one worker needs for a source of 1 KB. Ends with 1 where
-an answer is wrong.
+Prints for each limit how many runs ended in each way, and the least addresses that one worker needs for usual sources of 1 KB, 30 KB, 300 KB and 1 MB.
+Ends with 1 if an answer is wrong, or if one of these needs more than 1 GB.
 """
 import collections
 import os
@@ -18,11 +18,31 @@ PROGRAM = os.path.abspath(sys.argv[1]) if len(sys.argv) > 1 else os.path.join(TO
 MEGABYTE = 1 << 20
 NOBODY = 65534
 
+# What a limit of 1,000,000 KB allows.
+MOST_MEGABYTES = 976
+
+
+# A declaration of a usual program; # is its number.
+USUAL = """f# x y = case x of {
+    (a, b) : r -> let { g z = [(z, a), (y, b)] } in if null r then g y else g (fst (head r)) ; -- the rest
+    [] -> h# (\\z -> z) }
+  where { h# k = [(k y, y)] } ;
+"""
+
+
+def usual(size):
+    """A module of about so many bytes, whose declarations nest as those of a usual program do."""
+    return "module A where {\n" + "".join(USUAL.replace("#", str(n)) for n in range(size // len(USUAL))) + "}"
+
+
 PAIRS = "module A where { a x = (x, x) ; b x = a (a x) ; c x = b (b x) ; d x = c (c x) ; e x = d (d x) }"
 LINES = "module A where { x = y }\nmodule B where { import A ; import C }\nmodule C where { f x = x x }\nmodule D where { import B }"
 SETS = {
     "nothing": "",
-    "a source of 1 KB": "module A where { " + " ; ".join(f"f{n} x = x" for n in range(80)) + " }",
+    "a source of 1 KB": usual(1_000),
+    "a source of 30 KB": usual(30_000),
+    "a source of 300 KB": usual(300_000),
+    "a source of 1 MB": usual(1_000_000),
     "faulty and skipped modules": LINES,
     "types that double": PAIRS,
     "a chain of 200 modules": "\n".join(f"module M{n} where {{ {f'import M{n - 1} ; ' if n else ''}x = 1 }}" for n in range(200)),
@@ -73,12 +93,12 @@ def run(program, words, text, before=None):
     return child.returncode, child.stdout, child.stderr
 
 
-def least_addresses(program):
-    """The least megabytes of addresses in which one worker checks the source of 1 KB."""
+def least_addresses(program, text):
+    """The least megabytes of addresses in which one worker checks a source."""
     low, high = 1, 8192
     while low < high:
         middle = (low + high) // 2
-        if run(program, ["--jobs", "1"], SETS["a source of 1 KB"], addresses(middle * MEGABYTE))[0] == 0:
+        if run(program, ["--jobs", "1"], text, addresses(middle * MEGABYTE))[0] == 0:
             high = middle
         else:
             low = middle + 1
@@ -106,7 +126,10 @@ def main():
                         failed += 1
                         print(f"{limit}, {name}, {' '.join(words)}: status {answer[0]}, {answer[1][-80:]!r}, {answer[2][-200:]!r}")
             print(f"{limit}: " + ", ".join(f"{count} {way}" for way, count in sorted(ways.items())), flush=True)
-        print(f"one worker checks a source of 1 KB in {least_addresses(program)} MB of addresses")
+        for name in (name for name in SETS if name.startswith("a source of ")):
+            least = least_addresses(program, SETS[name])
+            failed += least > MOST_MEGABYTES
+            print(f"one worker checks {name} in {least} MB of addresses")
     sys.exit(1 if failed else 0)
 
 

@@ -69,6 +69,13 @@ module A where { import B ; x = y }
                         ^
 """
 
+FOLDER = "hmc: read fault\nhmc: folder: is a directory\n"
+
+
+def cannot_open(name, why="entity not found"):
+    return f"hmc: cannot open {name}\nhmc: {name}: {why}\n"
+
+
 # name: words, standard input, status, standard output, standard error
 ROWS = {
     "a plan of standard input": (["--plan"], A + B, 0, PLAN, ""),
@@ -81,8 +88,8 @@ ROWS = {
     "a check of files": (["a.hs", "b.hs"], "", 0, REPORT, ""),
     "a check of a file alone": (["a.hs"], B, 2, "refused: module A imports missing B\n", ""),
     "a check with a fault in the second file": (["a.hs", "bad.hs"], "", 2, "refused: source 2 at 1:18: syntax\n", ""),
-    "a check of no such file": (["none.hs"], "", 4, "", "hmc: cannot open none.hs\n"),
-    "a check of a folder": (["folder"], "", 4, "", "hmc: read fault\n"),
+    "a check of no such file": (["none.hs"], "", 4, "", cannot_open("none.hs")),
+    "a check of a folder": (["folder"], "", 4, "", FOLDER),
     "the example of the help": (["pair.hs", "twice.hs", "user.hs"], "", 1, EXAMPLE, ""),
     "messages of a faulty set": (
         ["--explain", "pair.hs", "twice.hs", "user.hs"],
@@ -122,10 +129,10 @@ ROWS = {
         "errors: 0, skipped modules: 0\n",
     ),
     "messages of a plan": (["--plan", "--explain"], A + B, 0, PLAN, ""),
-    "messages of no such file": (["--explain", "none.hs"], "", 4, "", "hmc: cannot open none.hs\n"),
+    "messages of no such file": (["--explain", "none.hs"], "", 4, "", cannot_open("none.hs")),
     "messages twice": (["--explain", "--explain"], "", 2, "", None),
-    "no such file": (["--plan", "a.hs", "none.hs"], "", 4, "", "hmc: cannot open none.hs\n"),
-    "a folder": (["--plan", "folder"], "", 4, "", "hmc: read fault\n"),
+    "no such file": (["--plan", "a.hs", "none.hs"], "", 4, "", cannot_open("none.hs")),
+    "a folder": (["--plan", "folder"], "", 4, "", FOLDER),
     "one worker and its journal": (["--jobs", "1", "--journal"], BEHIND, 0, JOURNAL, ""),
     "a journal of nothing": (["--journal"], "", 0, "0 modules: 0 good, 0 faulty, 0 skipped\n", ""),
     "a refused set with a journal": (["--journal"], "module A where { import A }", 2, "refused: module A in a cycle\n", ""),
@@ -154,19 +161,19 @@ ROWS = {
     "a word that is cut": (["--jo", "1"], "", 2, "", None),
     "an unknown word before no such file": (["--nothing", "none.hs"], "", 2, "", None),
     # files
-    "a file of no name": ([""], "", 4, "", "hmc: cannot open \n"),
+    "a file of no name": ([""], "", 4, "", cannot_open("")),
     "a file behind the end of the words": (["--plan", "--", "--plan.hs"], "", 0, "module B\n1 modules\n", ""),
-    "no such file behind the end of the words": (["--", "--plan"], "", 4, "", "hmc: cannot open --plan\n"),
+    "no such file behind the end of the words": (["--", "--plan"], "", 4, "", cannot_open("--plan")),
     "a file twice": (["--plan", "b.hs", "b.hs"], "", 2, "refused: module B twice\n", ""),
     "an empty file": (["--plan", "empty.hs", "b.hs"], "", 0, "module B\n1 modules\n", ""),
-    "no such folder": (["none/a.hs"], "", 4, "", "hmc: cannot open none/a.hs\n"),
-    "a file as a folder": (["a.hs/b.hs"], "", 4, "", "hmc: cannot open a.hs/b.hs\n"),
-    "a link to nothing": (["nowhere.hs"], "", 4, "", "hmc: cannot open nowhere.hs\n"),
-    "a link to itself": (["round.hs"], "", 4, "", "hmc: cannot open round.hs\n"),
+    "no such folder": (["none/a.hs"], "", 4, "", cannot_open("none/a.hs")),
+    "a file as a folder": (["a.hs/b.hs"], "", 4, "", cannot_open("a.hs/b.hs", "not a directory")),
+    "a link to nothing": (["nowhere.hs"], "", 4, "", cannot_open("nowhere.hs")),
+    "a link to itself": (["round.hs"], "", 4, "", cannot_open("round.hs", "filesystem loop or indirection limit (e.g. symlink loop)")),
     "a link to a file": (["--plan", "link.hs"], "", 0, "module B\n1 modules\n", ""),
-    "a name that is too long": (["a" * 5000], "", 4, "", "hmc: cannot open " + "a" * 5000 + "\n"),
-    "a fault before what can't be opened": (["bad.hs", "none.hs"], "", 4, "", "hmc: cannot open none.hs\n"),
-    "a folder behind a fault": (["bad.hs", "folder"], "", 4, "", "hmc: read fault\n"),
+    "a name that is too long": (["a" * 5000], "", 4, "", cannot_open("a" * 5000, "invalid filename")),
+    "a fault before what can't be opened": (["bad.hs", "none.hs"], "", 4, "", cannot_open("none.hs")),
+    "a folder behind a fault": (["bad.hs", "folder"], "", 4, "", FOLDER),
     "a device of no bytes": (["--plan", "/dev/null"], "", 0, "0 modules\n", ""),
     "a device without an end": (["--plan", "/dev/zero"], "", 2, "refused: source 1 too long\n", ""),
     "a device without an end behind a file": (["a.hs", "/dev/zero"], "", 2, "refused: source 2 too long\n", ""),
@@ -262,9 +269,9 @@ def unreadable(folder):
     os.chmod(path, 0)
     if os.access(path, os.R_OK) and os.geteuid() == 0:
         os.chmod(folder, 0o755)
-        yield "a file that may not be read", run(folder, ["locked.hs"], "", before=lambda: os.setuid(65534)), (4, "", "hmc: cannot open locked.hs\n")
+        yield "a file that may not be read", run(folder, ["locked.hs"], "", before=lambda: os.setuid(65534)), (4, "", cannot_open("locked.hs", "permission denied"))
     else:
-        yield "a file that may not be read", run(folder, ["locked.hs"], ""), (4, "", "hmc: cannot open locked.hs\n")
+        yield "a file that may not be read", run(folder, ["locked.hs"], ""), (4, "", cannot_open("locked.hs", "permission denied"))
 
 
 def until_open(child, path):

@@ -3,10 +3,10 @@ ghost use Rattle.std.specs.Prelude.{◌≡◌, ◌⊎◌, ◌<◌, ◌≤◌, If
 ghost use Rattle.hm_telling.specs.Explained.{IsExplained};
 ghost use Rattle.hm_telling.specs.JournalledRuns.{IsRun};
 
-use crate::building::build_here;
+use crate::building::{Task, build_here};
 use crate::{BuildFault, Open};
 use hm_devices::RunFault;
-use hm_sources::stack_size;
+use hm_sources::Nesting;
 use hm_stages::drop_by_threads;
 use hm_telling::{Explained, Wanted, finished_explained, refused_explained};
 use std::alloc::Global;
@@ -19,6 +19,7 @@ pub(crate) fn build_answer<'a, T: Threads + Wait + Sync>(
     alloc: Global,
     sources: &'a [Vec<u8>],
     wanted: &'a Wanted,
+    nesting: Nesting,
 ) -> Result<Explained, RunFault>
     requires { (0 < wanted.now.options.workers) × (wanted.now.options.workers ≤ 16) }
     ensures ok { IfOk result (λ a. IsRun wanted.now.options.workers wanted.now.options.journal (map (λ s.
@@ -28,11 +29,16 @@ pub(crate) fn build_answer<'a, T: Threads + Wait + Sync>(
         s.items) sources.now) a.answer.status (string_bytes a.answer.text) a.messages.items)) }
     ensures err { IfErr result (λ e. (e ≡ RunFault.Memory) ⊎ ((e ≡ RunFault.NoWorker) ⊎ (e ≡ RunFault.Mixed))) }
 {
-    match build_here(rt, alloc, sources, wanted.options.workers, &Open) {
+    let workers = wanted.options.workers;
+    let task = Task {
+        workers,
+        gate: &Open,
+        nesting,
+    };
+    match build_here(rt, alloc, sources, task) {
         Ok(finished) => {
             let explained = finished_explained(alloc, &finished.store, sources, wanted)?;
-            let workers = wanted.options.workers;
-            drop_by_threads(rt, alloc, finished, workers, stack_size(sources));
+            drop_by_threads(rt, alloc, finished, workers, nesting.stack_size());
             Ok(explained)
         }
         Err(BuildFault::Refused(fault)) => Ok(refused_explained(alloc, sources, &fault, wanted)?),

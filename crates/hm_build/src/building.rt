@@ -9,10 +9,11 @@ ghost use Rattle.hm_sources.specs.SourceModules.{AreModulesOf};
 use crate::workers::{Work, run_workers};
 use crate::{BuildFault, Finished, Gate};
 use core::thread::Stack;
+use hm_modules::Pool;
 use hm_published::{Naming, Opened};
 use hm_reports::may_work;
 use hm_shared::{Brands, Crew, Pass, Shared};
-use hm_sources::{depth_limit, stack_size, worker_stack_size};
+use hm_sources::Nesting;
 use hm_stages::{Fresh, finished, read, room_for};
 use hm_store::Record;
 use hm_store::laws::settled_builds_are_settled_sets;
@@ -25,12 +26,13 @@ use std::sync::ledger::{Blank, Book, Ledger};
 use std::thread;
 use std::thread::{Promise, Threads};
 
-/// A build that is to be made: so many workers check the modules of these sources, each behind this gate.
+/// A build that is to be made: so many workers check the modules of sources, each behind this gate.
 #[derive(Drop)]
-struct Task<'a, G: Gate> {
-    sources: &'a [Vec<u8>],
-    workers: usize,
-    gate: &'a G,
+pub(crate) struct Task<'a, G: Gate> {
+    pub workers: usize,
+    pub gate: &'a G,
+    /// How deep the sources nest, for which stacks and types have room.
+    pub nesting: Nesting,
 }
 
 /// The records of the workers, in the order of their passes.
@@ -83,10 +85,10 @@ fn worked<L: Ledger + Naming + Send + Sync, G: Gate + Sync, R: Threads + Wait + 
         modules: modules.as_slice(),
         imports: imports.as_slice(),
         gate: task.gate,
-        depth: depth_limit(task.sources),
+        depth: task.nesting.depth_limit(),
         prelude: &prelude,
     };
-    let stack = worker_stack_size(task.sources);
+    let stack = task.nesting.worker_stack_size();
     run_workers(rt, &work, passes.as_mut_slice(), stack)?;
     let (store, book) = shared.into_store();
     let records = records_of(alloc, book, passes)?;
@@ -98,24 +100,22 @@ pub(crate) fn build_here<T: Threads + Wait + Sync, G: Gate + Sync>(
     rt: &T,
     alloc: Global,
     sources: &[Vec<u8>],
-    workers: usize,
-    gate: &G,
+    task: Task<'_, G>,
 ) -> Result<Finished, BuildFault>
-    requires { (0 < workers) × (workers ≤ 16) }
-    ensures finished { IfOk result (λ f. IsFinished (map (λ s. s.items) sources.now) workers f.store f.records.items) }
+    requires { (0 < task.workers) × (task.workers ≤ 16) }
+    ensures finished { IfOk result (λ f. IsFinished (map (λ s. s.items) sources.now) task.entry.workers f.store f.records.items) }
     ensures verdicts { IfOk result (λ f. HasVerdicts f.store) }
     ensures err { IfErr result (IsBuildError (map (λ s. s.items) sources.now)) }
 {
     settled_builds_are_settled_sets();
     settled_modules_have_their_verdicts();
-    let fresh = read(rt, alloc, sources, workers)?;
-    let task = Task {
-        sources,
-        workers,
-        gate,
+    let pool = Pool {
+        threads: task.workers,
+        stack: task.nesting.stack_size(),
     };
+    let fresh = read(rt, alloc, sources, pool)?;
     let brands = Brands {
-        blank: Blank::new(workers as u64),
+        blank: Blank::new(task.workers as u64),
         opened: Opened::new(),
     };
     worked::<Brand, G, T>(rt, alloc, fresh, &task, brands)
@@ -163,10 +163,18 @@ fn build_on_thread<T: Threads + Wait + Sync, G: Gate + Sync>(
                 sources: Snapshot::of(&sources),
                 workers,
             };
-            let thread = Stack::new().stack_size(stack_size(&sources));
+            let nesting = Nesting::of(&sources);
+            let thread = Stack::new().stack_size(nesting.stack_size());
             let work = move ||
                 requires { (0 < workers) × (workers ≤ 16) }
-            { build_here(rt, alloc, &sources, workers, gate) };
+            {
+                let task = Task {
+                    workers,
+                    gate,
+                    nesting,
+                };
+                build_here(rt, alloc, &sources, task)
+            };
             match thread.spawn_scoped_with(scope, promise, work) {
                 Ok(builder) => builder.join(rt),
                 Err(_) => Err(BuildFault::NoWorker),

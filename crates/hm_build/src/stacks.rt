@@ -1,4 +1,4 @@
-//! A build is run on a thread of its own, whose stack is large enough for the longest of its sources.
+//! A build is run on a thread of its own, whose stack is large enough for the source that nests deepest.
 ghost use Rattle.std.specs.Prelude.{◌≡◌, ◌⊎◌, ◌<◌, ◌≤◌, IfErr, IfOk, IfSome, map, string_bytes};
 ghost use Rattle.hm_telling.specs.Explained.{IsExplained};
 ghost use Rattle.hm_telling.specs.JournalledRuns.{IsRun};
@@ -6,7 +6,7 @@ ghost use Rattle.hm_telling.specs.JournalledRuns.{IsRun};
 use crate::answers::build_answer;
 use core::thread::Stack;
 use hm_devices::RunFault;
-use hm_sources::stack_size;
+use hm_sources::Nesting;
 use hm_telling::{Explained, Wanted};
 use std::alloc::Global;
 use std::snapshot::Snapshot;
@@ -61,10 +61,11 @@ pub(crate) fn build_answer_on_thread<T: Threads + Wait + Sync>(
                 sources: Snapshot::of(&sources),
                 wanted: Snapshot::of(&wanted),
             };
-            let thread = Stack::new().stack_size(stack_size(&sources));
+            let nesting = Nesting::of(&sources);
+            let thread = Stack::new().stack_size(nesting.stack_size());
             let work = move ||
                 requires { (0 < wanted.options.workers) × (wanted.options.workers ≤ 16) }
-            { build_answer(rt, alloc, &sources, &wanted) };
+            { build_answer(rt, alloc, &sources, &wanted, nesting) };
             match thread.spawn_scoped_with(scope, promise, work) {
                 Ok(builder) => builder.join(rt),
                 Err(_) => Err(RunFault::NoWorker),

@@ -6,6 +6,8 @@ mod joining;
 mod making;
 mod parsing;
 mod parts;
+mod pool;
 mod runs;
 
 pub use crate::making::set_modules_by;
+pub use crate::pool::Pool;

@@ -6,12 +6,13 @@ ghost use Rattle.hm_sources.specs.Names.{module_outlines};
 ghost use Rattle.hm_sources.specs.Parts.{FailsBehind, Follow};
 ghost use Rattle.hm_sources.specs.SourceModules.{AreModulesOf};
 
+use crate::Pool;
 use crate::joining::joined;
 use crate::parsing::modules_of;
 use crate::parts::{Part, bytes_of_part, part_end};
 use core::thread::Stack;
 use hm_graph::Plan;
-use hm_sources::{SetError, modules_between, planned, stack_size};
+use hm_sources::{SetError, modules_between, planned};
 use hm_syntax::Module;
 use std::alloc::Global;
 use std::sync::Wait;
@@ -55,13 +56,15 @@ fn made_by_threads<'s, E, R: Threads>(
         sources: rest.sources,
         from: rest.from,
         to: end,
+        stack: rest.stack,
     };
     let behind = Part {
         sources: rest.sources,
         from: end,
         to: rest.to,
+        stack: rest.stack,
     };
-    let thread = Stack::new().stack_size(stack_size(rest.sources));
+    let thread = Stack::new().stack_size(rest.stack);
     let work = move ||
         requires { (front.from ≤ front.to) × (front.to ≤ length front.sources.now) }
     { made(alloc, front) };
@@ -73,13 +76,13 @@ fn made_by_threads<'s, E, R: Threads>(
     }
 }
 
-/// All modules of the sources, in order of appearance, in parts of so many bytes.
+/// All modules of the sources, in order of appearance, in as many parts as there are threads.
 fn made_of_all<'s, E, R: Threads>(
     rt: &R,
     scope: &Scope<'s, E>,
     alloc: Global,
     sources: &'s [Vec<u8>],
-    bytes: usize,
+    pool: Pool,
 ) -> Result<Vec<Module>, SetError>
     ensures ok { IfOk result (λ modules. AreModulesOf (map (λ s. s.items) sources.now) modules.items) }
     ensures err { IfErr result (IsSetError (map (λ s. s.items) sources.now)) }
@@ -88,60 +91,61 @@ fn made_of_all<'s, E, R: Threads>(
         sources,
         from: 0,
         to: sources.len(),
+        stack: pool.stack,
     };
+    let bytes = bytes_of_part(sources, pool.threads);
     made_by_threads(rt, scope, alloc, rest, bytes)
 }
 
-/// All modules of several sources, in order of appearance, made by so many threads. This thread is one of them.
+/// All modules of several sources, in order of appearance, made by a pool. This thread is one of its threads.
 fn modules_of_all<T: Threads + Wait + Sync>(
     rt: &T,
     alloc: Global,
     sources: &[Vec<u8>],
-    threads: usize,
+    pool: Pool,
 ) -> Result<Vec<Module>, SetError>
     ensures ok { IfOk result (λ modules. AreModulesOf (map (λ s. s.items) sources.now) modules.items) }
     ensures err { IfErr result (IsSetError (map (λ s. s.items) sources.now)) }
 {
-    let bytes = bytes_of_part(sources, threads);
     thread::scope(
         thread::scope_env(),
         rt,
         |scope| -> Result<Vec<Module>, SetError>
             ensures ok { IfOk result (λ modules. AreModulesOf (map (λ s. s.items) sources.entry.now) modules.items) }
             ensures err { IfErr result (IsSetError (map (λ s. s.items) sources.entry.now)) }
-        { made_of_all(rt, scope, alloc, sources, bytes) },
+        { made_of_all(rt, scope, alloc, sources, pool) },
     )
 }
 
-/// All modules of the sources, in order of appearance, made by so many threads: of several sources each by one of them, of one alone by all.
+/// All modules of the sources, in order of appearance, made by a pool: of several sources each by one thread, of one alone by all.
 fn source_modules<T: Threads + Wait + Sync>(
     rt: &T,
     alloc: Global,
     sources: &[Vec<u8>],
-    threads: usize,
+    pool: Pool,
 ) -> Result<Vec<Module>, SetError>
     ensures ok { IfOk result (λ modules. AreModulesOf (map (λ s. s.items) sources.now) modules.items) }
     ensures err { IfErr result (IsSetError (map (λ s. s.items) sources.now)) }
 {
     if sources.len() == 1 {
-        modules_of(rt, alloc, sources[0].as_slice(), threads)
+        modules_of(rt, alloc, sources[0].as_slice(), pool)
     } else {
-        modules_of_all(rt, alloc, sources, threads)
+        modules_of_all(rt, alloc, sources, pool)
     }
 }
 
-/// The modules and the plan of a set of sources, made by so many threads, or by as many as can be started.
+/// The modules and the plan of a set of sources, made by a pool, or by as many of its threads as can be started.
 pub fn set_modules_by<T: Threads + Wait + Sync>(
     rt: &T,
     alloc: Global,
     sources: &[Vec<u8>],
-    threads: usize,
+    pool: Pool,
 ) -> Result<(Vec<Module>, Plan), SetError>
     ensures read { IfOk result (λ set. AreModulesOf (map (λ s. s.items) sources.now) set.0.items) }
     ensures lawful { IfOk result (λ set. IsLawful (module_outlines set.0.items)) }
     ensures planned { IfOk result (λ set. IsImportPlan (module_outlines set.0.items) set.1) }
     ensures err { IfErr result (λ e. IsPlanError (map (λ s. s.items) sources.now) e) }
 {
-    let modules = source_modules(rt, alloc, sources, threads)?;
+    let modules = source_modules(rt, alloc, sources, pool)?;
     Ok(planned(alloc, modules)?)
 }

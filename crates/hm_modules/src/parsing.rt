@@ -6,12 +6,13 @@ ghost use Rattle.hm_grammar.specs.Grammar.Modules.{Spells};
 ghost use Rattle.hm_sources.specs.Errors.{IsSourceError};
 ghost use Rattle.hm_sources.specs.SourceModules.{HasModules};
 
-use crate::runs::{Run, bytes_of_run, joined_runs, run_end};
+use crate::Pool;
+use crate::runs::{Run, joined_runs, run_end};
 use core::thread::Stack;
 use hm_lex::Token;
 use hm_lex::laws::token_texts;
 use hm_parse::parse_run;
-use hm_sources::{SetError, source_tokens, spelled_modules, stack_for};
+use hm_sources::{SetError, source_tokens, spelled_modules};
 use hm_syntax::Module;
 use std::alloc::{AllocError, Global};
 use std::sync::Wait;
@@ -46,12 +47,14 @@ fn parsed_by_threads<'s, E, R: Threads>(
     let front = Run {
         text: rest.text,
         tokens: first,
+        stack: rest.stack,
     };
     let behind = Run {
         text: rest.text,
         tokens: later,
+        stack: rest.stack,
     };
-    let thread = Stack::new().stack_size(stack_for(bytes_of_run(front)));
+    let thread = Stack::new().stack_size(rest.stack);
     let work = move ||
         requires { All (LiesIn front.text.now) front.tokens.now }
     { parsed(alloc, front) };
@@ -63,25 +66,33 @@ fn parsed_by_threads<'s, E, R: Threads>(
     }
 }
 
-/// The modules that the tokens of a source spell, cut into as many runs as there are threads; none where a run spells none.
+/// The modules that the tokens of a source spell, cut into as many runs as there are threads; none if a run spells none.
 fn parsed_in_runs<T: Threads + Wait + Sync>(
     rt: &T,
     alloc: Global,
     text: &[u8],
     tokens: &[Token],
-    threads: usize,
+    pool: Pool,
 ) -> Result<Option<Vec<Module>>, AllocError>
     requires { All (LiesIn text.now) tokens.now }
     ensures { IfOk result (λ found. IfSome found (λ modules. Spells modules.items text.now tokens.now)) }
 {
-    let least = (tokens.len() / threads.max(1)).saturating_add(1);
+    let least = (tokens.len() / pool.threads.max(1)).saturating_add(1);
+    let stack = pool.stack;
     thread::scope(
         thread::scope_env(),
         rt,
         |scope| -> Result<Option<Vec<Module>>, AllocError>
             requires { All (LiesIn text.now) tokens.now }
             ensures { IfOk result (λ found. IfSome found (λ modules. Spells modules.items text.entry.now tokens.entry.now)) }
-        { parsed_by_threads(rt, scope, alloc, Run { text, tokens }, least) },
+        {
+            let all = Run {
+                text,
+                tokens,
+                stack,
+            };
+            parsed_by_threads(rt, scope, alloc, all, least)
+        },
     )
 }
 
@@ -91,7 +102,7 @@ pub(crate) fn modules_of<T: Threads + Wait + Sync>(
     rt: &T,
     alloc: Global,
     text: &[u8],
-    threads: usize,
+    pool: Pool,
 ) -> Result<Vec<Module>, SetError>
     ensures ok { IfOk result (λ modules. HasModules text.now modules.items) }
     ensures err { IfErr result (IsSourceError 1 text.now) }
@@ -101,7 +112,7 @@ pub(crate) fn modules_of<T: Threads + Wait + Sync>(
         Ok(tokens) => tokens,
         Err(fault) => return Err(fault),
     };
-    match parsed_in_runs(rt, alloc, text, tokens.as_slice(), threads) {
+    match parsed_in_runs(rt, alloc, text, tokens.as_slice(), pool) {
         Ok(Some(modules)) => Ok(modules),
         Ok(None) => spelled_modules(alloc, 1, text, tokens.as_slice()),
         Err(AllocError) => Err(SetError::Memory),

@@ -11,6 +11,8 @@ pub(crate) struct Part<'a> {
     pub sources: &'a [Vec<u8>],
     pub from: usize,
     pub to: usize,
+    /// How many bytes of stack a thread has that makes modules of them.
+    pub stack: usize,
 }
 
 /// What a thread promises of the modules of a part.

@@ -15,6 +15,8 @@ use std::thread::Promise;
 pub(crate) struct Run<'a> {
     pub text: &'a [u8],
     pub tokens: &'a [Token],
+    /// How many bytes of stack a thread has that parses it.
+    pub stack: usize,
 }
 
 /// What a thread promises of the modules of a run.
@@ -23,14 +25,6 @@ impl<'a> Promise<Result<Option<Vec<Module>>, AllocError>> for Run<'a> {
     ghost use Rattle.hm_grammar.specs.Grammar.Modules.{Spells};
 
     ghost kept_by = { λ p r. IfOk r (λ found. IfSome found (λ modules. Spells modules.items p.text.now p.tokens.now)) };
-}
-
-/// How many bytes of its source a run goes over.
-pub(crate) fn bytes_of_run(run: Run<'_>) -> usize {
-    match (run.tokens.first(), run.tokens.last()) {
-        (Some(first), Some(last)) => last.end.saturating_sub(first.start),
-        _ => 0,
-    }
 }
 
 /// Whether a module may begin with a token that stands behind another one: both are so where a module has ended.

@@ -9,7 +9,7 @@ ghost use Rattle.hm_stages.specs.Rooms.{room_of};
 
 use crate::BuildFault;
 use hm_graph::Plan;
-use hm_modules::set_modules_by;
+use hm_modules::{Pool, set_modules_by};
 use hm_prelude::SharedPrelude;
 use hm_sources::SetError;
 use hm_store::Store;
@@ -85,12 +85,12 @@ fn set_up(alloc: Global, modules: Vec<Module>, plan: Plan) -> Result<Fresh, Allo
     })
 }
 
-/// A store for the modules of sources, which so many threads lex and parse.
+/// A store for the modules of sources, which a pool lexes and parses.
 pub fn read<T: Threads + Wait + Sync>(
     rt: &T,
     alloc: Global,
     sources: &[Vec<u8>],
-    threads: usize,
+    pool: Pool,
 ) -> Result<Fresh, BuildFault>
     ensures read { IfOk result (λ f. AreModulesOf (map (λ s. s.items) sources.now) (map arc_value f.modules.items)) }
     ensures same { IfOk result (λ f. map arc_value f.modules.items ≡ f.store.modules) }
@@ -98,7 +98,7 @@ pub fn read<T: Threads + Wait + Sync>(
     ensures empty { IfOk result (λ f. f.store.journal ≡ []) }
     ensures err { IfErr result (IsBuildError (map (λ s. s.items) sources.now)) }
 {
-    match set_modules_by(rt, alloc, sources, threads) {
+    match set_modules_by(rt, alloc, sources, pool) {
         Ok((modules, plan)) => Ok(set_up(alloc, modules, plan)?),
         Err(SetError::Refused(fault)) => Err(BuildFault::Refused(fault)),
         Err(SetError::Memory) => Err(BuildFault::Memory),

@@ -1,8 +1,10 @@
-//! Tests of tokens, trees, graphs and plans of imports.
+//! Tests of tokens, trees, how deep sources nest, graphs and plans of imports.
 #![tactic(auto)]
 
 #[cfg(test)]
 mod groups;
+#[cfg(test)]
+mod nesting;
 #[cfg(test)]
 mod plans;
 #[cfg(test)]

@@ -7,4 +7,4 @@ use Rattle.hm_build.proofs.building.build_here.Goals as goal
 pub returns-clause-verdicts : goal.returns-clause-verdicts
 returns-clause-verdicts g c =
     finished_have_verdicts c.settled_builds_are_settled_sets.ensures c.settled_modules_have_their_verdicts.ensures.verdicts c.settled_modules_have_their_verdicts.ensures.accepted c.settled_modules_have_their_verdicts.ensures.principal
-    (map (λ s. s.items) c.args.sources.now) c.args.workers (λ s. AreModulesOf s (map arc_value c.in_ok-fresh.fresh.modules.items)) c.worked.result c.worked.ensures.finished c.in_ok-fresh.ensures.read
+    (map (λ s. s.items) c.args.sources.now) c.args.task.workers (λ s. AreModulesOf s (map arc_value c.in_ok-fresh.fresh.modules.items)) c.worked.result c.worked.ensures.finished c.in_ok-fresh.ensures.read
