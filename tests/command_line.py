@@ -214,6 +214,50 @@ def doubling(folder):
             yield f"{kind} whose levels double {count} times", ran, wanted
 
 
+def in_a_gigabyte():
+    resource.setrlimit(resource.RLIMIT_AS, (1 << 30, 1 << 30))
+
+
+def growing(folder):
+    """Nodes of types that double: the last report has this many commas, or there is no memory. All in 1 GB of addresses."""
+    for count, good in ((3, True), (16, True), (19, False), (30, False), (150, False)):
+        nested = "D (" * count + "Int" + ")" * count
+        synonyms = f"type D a = (a, a) ; x :: {nested} ; x = x"
+        values = " ; ".join(["p x = (x, x) ; q f = 1 ; a0 = 1"] + [f"a{n} = p a{n - 1}" for n in range(1, count + 1)])
+        commas = 2**count - 1
+        for kind, text, wanted in (("synonyms", synonyms, 1 + commas), ("values", values, 1 + sum(2**n - 1 for n in range(1, count + 1)))):
+            ran = run(folder, ["--jobs", "1"], "module A where { " + text + " }", before=in_a_gigabyte)
+            ran.stdout = f"{ran.stdout.count(b', ') - 2 if ran.stdout else 0} commas".encode()
+            yield f"{kind} whose size doubles {count} times", ran, (0, f"{wanted} commas", "") if good else (3, "0 commas", "hmc: no memory\n")
+    # what isn't written out isn't printed, and takes part in no type
+    squared = " ; ".join(["f0 x = (x, x)"] + [f"f{n} x = f{n - 1} (f{n - 1} x)" for n in range(1, 6)])
+    unused = " ; ".join(["type S0 = Int"] + [f"type S{n} = (S{n - 1}, S{n - 1})" for n in range(1, 31)])
+    many = "p x = (x, x) ; a0 = 1 ; " + " ; ".join(f"a{n} = p a{n - 1}" for n in range(1, 17))
+    named = many + " ; " + "@".join(f"b{n}" for n in range(200)) + "@_ = a16"
+    copied = many + " ; " + " ; ".join(f"b{n} = a16" for n in range(100))
+    signed = "type D a = (a, a) ; " + ", ".join(f"a{n}" for n in range(100)) + " :: " + "D (" * 16 + "Int" + ")" * 16 + " ; " + " ; ".join(f"a{n} = a{n}" for n in range(100))
+    long = "data " + "T" * 400 + " = C ; " + many.replace("a0 = 1", "a0 = C")
+    for kind, text in (("squared values", squared), ("synonyms of no use", unused), ("names of one value", named), ("copies", copied), ("names of one signature", signed), ("types of a long name", long)):
+        ran = run(folder, ["--jobs", "1"], "module A where { " + text + " }", before=in_a_gigabyte)
+        yield kind + " that are too large", ran, (3, "", "hmc: no memory\n")
+    # each module by itself is small enough
+    shared = "module A where { " + " ; ".join(["a x = (x, x)"] + [f"{after} x = {before} ({before} x)" for before, after in ("ab", "bc", "cd", "de")]) + " }\n"
+    ran = run(folder, ["--jobs", "1"], shared + "".join(f"module B{n} where {{ import A ; b = e }}\n" for n in range(26)), before=in_a_gigabyte)
+    yield "a set whose types add up", ran, (3, "", "hmc: no memory\n")
+
+
+def faulty_and_growing(folder):
+    """A module whose synonyms stand for types that are too large is told of its faults, and so are the others."""
+    nested = "D (" * 30 + "Int" + ")" * 30
+    for kind, synonym, at, fault in (("an unbound name", "(a, a)", 156, "unbound y"), ("a recursive synonym", "(D a, a)", 23, "recursive D")):
+        body = f"type D a = {synonym} ; x :: {nested} ; x = {'y' if 'unbound' in fault else 'x'}"
+        text = f"module A where {{ {body} }}\nmodule B where {{ z = 1 }}\n"
+        place = text.index("= y") + 3 if "unbound" in fault else at
+        ran = run(folder, ["--jobs", "1"], text, before=in_a_gigabyte)
+        wanted = f"faulty A\n  1:{place} {fault}\nmodule B\n  val z = B.z :: Int\n2 modules: 1 good, 1 faulty, 0 skipped\n"
+        yield f"{kind} beside types that are too large", ran, (1, wanted, "")
+
+
 def refused_check(folder):
     """Of four modules one needs a type of too many levels: its worker stops the build, and nothing is printed, whatever the others came to."""
     values = " ; ".join(["c f g = \\x -> f (g x) ; f0 x = [x]"] + [f"f{n} = c f{n - 1} f{n - 1}" for n in range(1, 17)])
@@ -359,6 +403,8 @@ def main():
         runs.append(("a small check in little memory", run(folder, [], "", before=limit(SMALL)), (0, "0 modules: 0 good, 0 faulty, 0 skipped\n", "")))
         runs.append(("one worker in 200 MB", run(folder, ["--jobs", "1"], A + B, before=limit(LITTLE)), (0, REPORT, "")))
         runs.extend(doubling(folder))
+        runs.extend(growing(folder))
+        runs.extend(faulty_and_growing(folder))
         runs.extend(many_messages(folder))
         runs.extend(on_a_terminal(folder))
         runs.extend(refused_check(folder))

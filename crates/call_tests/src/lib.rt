@@ -2,6 +2,8 @@
 #![tactic(auto)]
 
 #[cfg(test)]
+mod binders;
+#[cfg(test)]
 mod refused;
 #[cfg(test)]
 mod sources;

@@ -6,6 +6,7 @@ ghost use Rattle.hm_reports.specs.FinishedBuilds.{IsFinished};
 ghost use Rattle.hm_build.specs.Headline.{HasVerdicts};
 ghost use Rattle.hm_sources.specs.SourceModules.{AreModulesOf};
 
+use crate::limits::type_limits;
 use crate::workers::{Work, run_workers};
 use crate::{BuildFault, Finished, Gate};
 use core::thread::Stack;
@@ -85,7 +86,7 @@ fn worked<L: Ledger + Naming + Send + Sync, G: Gate + Sync, R: Threads + Wait + 
         modules: modules.as_slice(),
         imports: imports.as_slice(),
         gate: task.gate,
-        depth: task.nesting.depth_limit(),
+        limits: type_limits(task.nesting, modules.len()),
         prelude: &prelude,
     };
     let stack = task.nesting.worker_stack_size();

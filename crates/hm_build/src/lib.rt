@@ -6,6 +6,7 @@ mod building;
 mod explained_runs;
 mod gate;
 pub mod laws;
+mod limits;
 mod reading;
 mod running;
 mod stacks;

@@ -2,6 +2,7 @@
 
 use crate::{BuildFault, Gate};
 use hm_check::{CheckFault, check_module_within};
+use hm_names::TypeLimits;
 use hm_outcomes::Outcome;
 use hm_prelude::SharedPrelude;
 use hm_published::{LookFault, Naming, Published, Step};
@@ -55,8 +56,8 @@ where
     /// The numbers of the modules that each imports, in order of first import.
     pub imports: &'a [Vec<usize>],
     pub gate: &'a G,
-    /// How many levels a type may have.
-    pub depth: usize,
+    /// How large the types of a module may grow.
+    pub limits: TypeLimits,
     pub prelude: &'a SharedPrelude,
 }
 
@@ -120,7 +121,7 @@ fn check_one<L: Ledger + Naming, G: Gate, W: Wait + Drop, R: Wait>(
         work.prelude,
         &work.modules[number],
         interfaces.as_slice(),
-        work.depth,
+        work.limits,
     ) {
         Ok(outcome) => settle(rt, work, pass, number, outcome),
         Err(CheckFault::Memory) => Err(WorkFault::Memory),

@@ -15,13 +15,12 @@ ghost use Rattle.hm_check.specs.Refusals.{IsRefused};
 use hm_imports::are_imports_of;
 use hm_infer::{InferFault, infer_within};
 use hm_interfaces::export;
-use hm_names::{Core, Schemes, ScopeFault};
+use hm_names::{Core, Schemes, ScopeFault, TypeLimits, WIDE_LIMITS};
 use hm_outcomes::{Outcome, Verdict};
 use hm_prelude::SharedPrelude;
 use hm_scope::scope_within;
 use hm_syntax::{Module, Row};
 use hm_types::Interface;
-use hm_unify::MOST_LEVELS;
 use std::alloc::{AllocError, AllocFailed, Global};
 use std::sync::Arc;
 use thiserror::Error;
@@ -59,11 +58,11 @@ fn good(alloc: Global, core: &Core, schemes: &Schemes) -> Result<Verdict, AllocE
 }
 
 /// The verdict of a well-formed module, by its core.
-fn core_verdict(alloc: Global, core: &Core, depth: usize) -> Result<Verdict, AllocError>
+fn core_verdict(alloc: Global, core: &Core, limits: TypeLimits) -> Result<Verdict, AllocError>
     requires { IsSomeCore core.now }
     ensures { IfOk result (λ v. (m : ModuleTree) (fs : List Exports) → IsCore m fs core.now → IsVerdict m fs (verdict_of v)) }
 {
-    match infer_within(alloc, core, depth) {
+    match infer_within(alloc, core, limits) {
         Ok(schemes) => Ok(good(alloc, core, &schemes)?),
         Err(InferFault::Untypable(found)) => Ok(Verdict::Faulty(found)),
         Err(InferFault::Memory) => Err(AllocError),
@@ -76,13 +75,13 @@ fn module_verdict(
     prelude: &SharedPrelude,
     module: &Module,
     imports: &[Arc<Interface>],
-    depth: usize,
+    limits: TypeLimits,
 ) -> Result<Verdict, AllocError>
     requires { AreImportsOf «module».now (map arc_value imports.now) }
     ensures { IfOk result (λ v. IsVerdict «module».now (prelude_interface ∷ map arc_value imports.now) (verdict_of v)) }
 {
-    match scope_within(alloc, prelude, module, imports, depth) {
-        Ok(core) => Ok(core_verdict(alloc, &core, depth)?),
+    match scope_within(alloc, prelude, module, imports, limits) {
+        Ok(core) => Ok(core_verdict(alloc, &core, limits)?),
         Err(ScopeFault::Faults(found)) => Ok(Verdict::Faulty(found)),
         Err(ScopeFault::Memory) => Err(AllocError),
     }
@@ -120,14 +119,14 @@ fn checked(
     prelude: &SharedPrelude,
     module: &Arc<Module>,
     imports: &[Arc<Interface>],
-    depth: usize,
+    limits: TypeLimits,
 ) -> Result<Outcome, AllocError>
     requires { AreImportsOf (arc_value «module».now) (map arc_value imports.now) }
     ensures module { IfOk result (λ o. o.«module» ≡ arc_value «module».now) }
     ensures imports { IfOk result (λ o. o.imports ≡ map arc_value imports.now) }
     ensures right { IfOk result (λ o. IsVerdict (arc_value «module».now) (prelude_interface ∷ map arc_value imports.now) o.verdict) }
 {
-    let verdict = module_verdict(alloc, prelude, module, imports, depth)?;
+    let verdict = module_verdict(alloc, prelude, module, imports, limits)?;
     let imports = shared(alloc, imports)?;
     Ok(Outcome::new(module.clone()?, imports, verdict))
 }
@@ -147,17 +146,16 @@ pub fn check_module(
 {
     expect_imports(alloc, module, imports)?;
     let prelude = SharedPrelude::new(alloc)?;
-    Ok(checked(alloc, &prelude, module, imports, MOST_LEVELS)?)
+    Ok(checked(alloc, &prelude, module, imports, WIDE_LIMITS)?)
 }
 
-/// The same, with a Prelude that was made before, and where no type has more than `depth` levels. What would need one is refused for want of
-/// memory.
+/// The same, with a Prelude that was made before, and limits of the module's types. What would pass one is refused for want of memory.
 pub fn check_module_within(
     alloc: Global,
     prelude: &SharedPrelude,
     module: &Arc<Module>,
     imports: &[Arc<Interface>],
-    depth: usize,
+    limits: TypeLimits,
 ) -> Result<Outcome, CheckFault>
     ensures asked { IfOk result (λ _. AreImportsOf (arc_value «module».now) (map arc_value imports.now)) }
     ensures refused { IfErr result (IsRefused (arc_value «module».now) (map arc_value imports.now)) }
@@ -166,5 +164,5 @@ pub fn check_module_within(
     ensures right { IfOk result (λ o. IsVerdict (arc_value «module».now) (prelude_interface ∷ map arc_value imports.now) o.verdict) }
 {
     expect_imports(alloc, module, imports)?;
-    Ok(checked(alloc, prelude, module, imports, depth)?)
+    Ok(checked(alloc, prelude, module, imports, limits)?)
 }

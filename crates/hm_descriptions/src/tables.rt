@@ -12,21 +12,24 @@ ghost use Rattle.hm_syntax.specs.Names.{Identifier};
 ghost use Rattle.hm_names.specs.Found.{KnownSynonym, arity_among, synonym_among};
 ghost use Rattle.hm_tables.specs.KnownTables.{entity_at, known_arity, known_imported, noted, type_description, synonym_description, constructor_description, KnowsTypes, KnowsConstructors, AreTablesOf};
 
+use hm_names::TypeLimits;
 use hm_syntax::{Constr, Decl, DeclKind, Module, Name};
 use hm_tables::{EntityKey, EntityRef};
 use hm_types::{ConstructorEntry, Interface, Synonym, SynonymEntry, TypeEntry};
 use indexmap::IndexMap;
 use std::alloc::{AllocError, Global};
+use std::cell::Cell;
 use std::marker::Model;
 
-/// What is known of type constructors, synonyms and constructors. A type that a synonym stands for has at most `depth` levels, which
-/// may grow exponentially with the synonyms: what would need more is refused for want of memory.
+/// What is known of type constructors, synonyms and constructors, and how many levels a type may have that a synonym stands for, and nodes all
+/// such types may still have.
 pub struct Tables<'a> {
     types: IndexMap<EntityKey<'a>, usize>,
     constructors: IndexMap<EntityKey<'a>, usize>,
     imported: IndexMap<EntityKey<'a>, &'a Synonym>,
     own: IndexMap<EntityKey<'a>, Synonym>,
-    depth: usize,
+    levels: usize,
+    nodes: Cell<usize>,
 }
 
 impl Drop for Tables<'_> {
@@ -36,7 +39,8 @@ impl Drop for Tables<'_> {
             constructors: _constructors,
             imported: _imported,
             own: _own,
-            depth: _,
+            levels: _,
+            nodes: _,
         } = self;
     }
 }
@@ -336,7 +340,7 @@ impl<'a> Tables<'a> {
         alloc: Global,
         program: &'a Module,
         interfaces: &[&'a Interface],
-        depth: usize,
+        limits: TypeLimits,
     ) -> Result<Tables<'a>, AllocError>
         ensures { IfOk result (λ tables. AreTablesOf program.now (map (λ f. f.now) interfaces.now) tables) }
     {
@@ -349,13 +353,42 @@ impl<'a> Tables<'a> {
             constructors,
             imported: known.imported,
             own: IndexMap::new(alloc),
-            depth,
+            levels: limits.levels,
+            nodes: Cell::new(limits.nodes),
         })
     }
 
+    /// The same without synonyms, so that none is expanded.
+    pub fn without_synonyms(self, alloc: Global) -> Tables<'a>
+        ensures types { result.types ≡ self.entry.types }
+        ensures constructors { result.constructors ≡ self.entry.constructors }
+    {
+        let Tables {
+            types,
+            constructors,
+            imported: _imported,
+            own: _own,
+            levels,
+            nodes,
+        } = self;
+        Tables {
+            types,
+            constructors,
+            imported: IndexMap::new(alloc),
+            own: IndexMap::new(alloc),
+            levels,
+            nodes,
+        }
+    }
+
     /// How many levels a type may have that a synonym stands for.
-    pub fn depth(&self) -> usize {
-        self.depth
+    pub fn levels(&self) -> usize {
+        self.levels
+    }
+
+    /// How many nodes types may still have that synonyms stand for. Whoever makes them counts them off.
+    pub fn nodes(&self) -> &Cell<usize> {
+        &self.nodes
     }
 
     /// Adds a synonym of the module, whose right side is finished.

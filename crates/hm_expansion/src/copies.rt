@@ -64,12 +64,16 @@ pub fn entity_name(alloc: Global, name: &Name, entity: &EntityRef<'_>) -> Result
     })
 }
 
-/// What a name becomes that is bound in the list of this module, or in another.
+/// What a name becomes that is bound in the list of this module, or in another: an entity, or the bare name.
 pub fn bound_name(alloc: Global, home: &Option<Text>, name: &Name) -> Result<Name, AllocError>
     ensures { IfOk result (λ copy. copy ≡ binder_of home.now name.now) }
 {
     match home {
-        None => Ok(copy_name(name)?),
+        None => Ok(Name {
+            qualifier: None,
+            text: name.text.clone()?,
+            place: name.place,
+        }),
         Some(module) => Ok(Name {
             qualifier: Some(String::from_str(alloc, module.as_str())?),
             text: name.text.clone()?,

@@ -9,17 +9,69 @@ use crate::copies::copy_name;
 use hm_syntax::{Name, TypeExpr, TypeKind};
 use hm_types::{Entity, Head, Ty};
 use std::alloc::{AllocError, Global};
+use std::cell::Cell;
 
-/// A copy of a type, if it has at most `depth` levels.
+/// How large a type may become in which synonyms are expanded. What would be larger is refused for want of memory.
+#[derive(Clone, Copy)]
+pub struct Room<'r> {
+    /// How many levels it may have.
+    pub levels: usize,
+    /// How many nodes may still be made, of this type and of all others.
+    pub nodes: &'r Cell<usize>,
+}
+
+impl<'r> Room<'r> {
+    /// Makes a node with a name of so many bytes. Answers the room for what stands below it. A node counts for a further one for each 64 bytes
+    /// of its name.
+    fn below(self, bytes: usize) -> Result<Room<'r>, AllocError> {
+        let needed = bytes / 64 + 1;
+        let left = self.nodes.get();
+        if self.levels == 0 || left < needed {
+            return Err(AllocError);
+        }
+        self.nodes.set(left - needed);
+        Ok(Room {
+            levels: self.levels - 1,
+            nodes: self.nodes,
+        })
+    }
+}
+
+/// How many bytes the name of a type constructor has.
+fn head_bytes(head: &Head) -> usize {
+    match head {
+        Head::Named(entity) => {
+            let home = entity.module.as_str().len();
+            home.saturating_add(entity.name.as_str().len())
+        }
+        _ => 0,
+    }
+}
+
+/// How many bytes a name has.
+fn name_bytes(name: &Name) -> usize {
+    match &name.qualifier {
+        None => name.text.len(),
+        Some(qualifier) => qualifier.len().saturating_add(name.text.len()),
+    }
+}
+
+/// How many bytes the name has that stands at a node of a type.
+fn node_bytes(ty: &TypeExpr) -> usize {
+    match &ty.kind {
+        TypeKind::Var(name) => name_bytes(name),
+        TypeKind::Con(name, _) => name_bytes(name),
+        _ => 0,
+    }
+}
+
+/// A copy of a type, if there is room for it.
 #[cycle(copies)]
 #[tactic(auto, using(hm_names::proofs::Rows::type_falls))]
-fn copy_type(alloc: Global, depth: usize, ty: &TypeExpr) -> Result<TypeExpr, AllocError>
+fn copy_type(alloc: Global, room: Room<'_>, ty: &TypeExpr) -> Result<TypeExpr, AllocError>
     ensures { IfOk result (λ copy. copy ≡ ty.now) }
 {
-    if depth == 0 {
-        return Err(AllocError);
-    }
-    let deeper = depth - 1;
+    let deeper = room.below(node_bytes(ty))?;
     match &ty.kind {
         TypeKind::Var(name) => Ok(TypeExpr {
             kind: TypeKind::Var(copy_name(name)?),
@@ -56,31 +108,31 @@ fn copy_type(alloc: Global, depth: usize, ty: &TypeExpr) -> Result<TypeExpr, All
     }
 }
 
-/// Copies of types in a row, if each has at most `depth` levels.
+/// Copies of types in a row, if there is room for each.
 #[cycle(copies)]
 #[tactic(auto, using(hm_names::proofs::Rows::type_falls))]
-fn copy_types(alloc: Global, depth: usize, row: &[TypeExpr]) -> Result<Vec<TypeExpr>, AllocError>
+fn copy_types(alloc: Global, room: Room<'_>, row: &[TypeExpr]) -> Result<Vec<TypeExpr>, AllocError>
     ensures { IfOk result (λ copies. copies.items ≡ row.now) }
 {
     let mut copies = Vec::new(alloc);
     'row: for ty in row {
-        copies.push(copy_type(alloc, depth, ty)?)?;
+        copies.push(copy_type(alloc, room, ty)?)?;
     }
     Ok(copies)
 }
 
-/// An argument by its number, if it has at most `depth` levels. A synonym that is used rightly has one for each parameter.
+/// An argument by its number, if there is room for it. A synonym that is used rightly has one for each parameter.
 #[tactic(auto, using(crate::proofs::Expanded::argument_at, crate::proofs::Expanded::argument_past))]
 fn argument(
     alloc: Global,
-    depth: usize,
+    room: Room<'_>,
     args: &[TypeExpr],
     number: usize,
 ) -> Result<TypeExpr, AllocError>
     ensures { IfOk result (λ t. t ≡ argument number (types args.now)) }
 {
     if number < args.len() {
-        return Ok(copy_type(alloc, depth, &args[number])?);
+        return Ok(copy_type(alloc, room, &args[number])?);
     }
     Ok(TypeExpr {
         kind: TypeKind::Unit,
@@ -146,29 +198,27 @@ fn applied(
     }
 }
 
-/// The right side of a synonym, with the arguments in the place of its parameters, if it has at most `depth` levels.
+/// The right side of a synonym, with the arguments in the place of its parameters, if there is room for it.
 #[tactic(auto, using(crate::proofs::Expanded::all_filled))]
 pub fn filled(
     alloc: Global,
-    depth: usize,
+    room: Room<'_>,
     name: &Name,
     args: &[TypeExpr],
     body: &Ty,
 ) -> Result<TypeExpr, AllocError>
     ensures { IfOk result (λ t. t ≡ filled_at name.now (types args.now) (type_of body.now)) }
 {
-    if depth == 0 {
-        return Err(AllocError);
-    }
     match body {
-        Ty::Var(number) => Ok(argument(alloc, depth, args, *number)?),
+        Ty::Var(number) => Ok(argument(alloc, room, args, *number)?),
         Ty::Rigid(_) => Ok(TypeExpr {
             kind: TypeKind::Unit,
         }),
         Ty::App(head, parts) => {
+            let deeper = room.below(head_bytes(head))?;
             let mut resolved = Vec::new(alloc);
             'parts: for part in parts.as_slice() {
-                resolved.push(filled(alloc, depth - 1, name, args, part)?)?;
+                resolved.push(filled(alloc, deeper, name, args, part)?)?;
             }
             Ok(applied(alloc, name, head, resolved)?)
         }

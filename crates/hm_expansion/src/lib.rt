@@ -8,4 +8,4 @@ pub use crate::copies::{
     bound_name, bound_names, copy_literal, copy_name, copy_names, entity_name, is_special,
     is_unqualified, owned_names, special_arity,
 };
-pub use crate::expansion::filled;
+pub use crate::expansion::{Room, filled};

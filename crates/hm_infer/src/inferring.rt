@@ -17,10 +17,10 @@ use crate::untyped_units::untyped_units;
 use hm_answers::own_schemes;
 use hm_assumptions::{Constructors, Inference};
 use hm_expressions::check_bindings;
-use hm_names::{Core, Fault, Schemes};
+use hm_names::{Core, Fault, Schemes, TypeLimits, WIDE_LIMITS};
 use hm_premises::{imported_environment, known_constructors};
 use hm_syntax::{Decl, Row};
-use hm_unify::{MOST_LEVELS, Solver, UnifyFault};
+use hm_unify::{Solver, UnifyFault};
 use std::alloc::{AllocError, Global};
 
 /// Why a core has no schemes.
@@ -61,13 +61,18 @@ pub(crate) fn infer_list<'a>(
 }
 
 /// The fault of a core whose list has no typing.
-fn untypable(alloc: Global, core: &Core, constructors: &Constructors, depth: usize) -> InferFault
+fn untypable(
+    alloc: Global,
+    core: &Core,
+    constructors: &Constructors,
+    limits: TypeLimits,
+) -> InferFault
     requires core { IsSomeCore core.now }
     requires known { known_of constructors.now ≡ known core.now }
     requires untyped { (B : Name → Scheme) → HasSchemes (assumptions_of core.now) (syntax_of core.now) B → ⊥ }
     ensures { IsUntypable core.now result }
 {
-    match untyped_units(alloc, core, constructors, depth) {
+    match untyped_units(alloc, core, constructors, limits) {
         Ok(found) => InferFault::Untypable(found),
         Err(_) => InferFault::Memory,
     }
@@ -79,18 +84,17 @@ pub fn infer(alloc: Global, core: &Core) -> Result<Schemes, InferFault>
     ensures schemes { IfOk result (λ schemes. ArePrincipal core.now (scheme_of schemes)) }
     ensures faults { IfErr result (IsUntypable core.now) }
 {
-    infer_within(alloc, core, MOST_LEVELS)
+    infer_within(alloc, core, WIDE_LIMITS)
 }
 
-/// The same, where no type has more than `depth` levels. What would need one is refused for want
-/// of memory.
-pub fn infer_within(alloc: Global, core: &Core, depth: usize) -> Result<Schemes, InferFault>
+/// The same, with limits of the types. What would pass one is refused for want of memory.
+pub fn infer_within(alloc: Global, core: &Core, limits: TypeLimits) -> Result<Schemes, InferFault>
     requires core { IsSomeCore core.now }
     ensures schemes { IfOk result (λ schemes. ArePrincipal core.now (scheme_of schemes)) }
     ensures faults { IfErr result (IsUntypable core.now) }
 {
     let constructors = known_constructors(alloc, core)?;
-    infer_with(alloc, core, &constructors, depth)
+    infer_with(alloc, core, &constructors, limits)
 }
 
 /// The same, by the constructors that are known in the core.
@@ -98,7 +102,7 @@ fn infer_with(
     alloc: Global,
     core: &Core,
     constructors: &Constructors,
-    depth: usize,
+    limits: TypeLimits,
 ) -> Result<Schemes, InferFault>
     requires core { IsSomeCore core.now }
     requires known { known_of constructors.now ≡ known core.now }
@@ -108,13 +112,13 @@ fn infer_with(
     let environment = imported_environment(alloc, core.interfaces.as_slice())?;
     let mut inference = Inference {
         alloc,
-        solver: Solver::with_depth(alloc, depth),
+        solver: Solver::with_limits(alloc, limits.levels, limits.nodes),
         environment,
     };
     let list = core.decls.as_slice();
     match infer_list(&mut inference, constructors, list) {
         Ok(()) => Ok(own_schemes(alloc, core.name.as_str(), &inference.environment)?),
-        Err(UnifyFault::Clash) => Err(untypable(alloc, core, constructors, depth)),
+        Err(UnifyFault::Clash) => Err(untypable(alloc, core, constructors, limits)),
         Err(UnifyFault::Memory) => Err(InferFault::Memory),
     }
 }

@@ -26,7 +26,7 @@ use crate::unit_starts::unsigned_starts;
 use hm_answers::faulty_groups;
 use hm_assumptions::{Constructors, Inference};
 use hm_expressions::{CheckedList, bind_signed, listed_groups, signatures_of};
-use hm_names::{Core, Fault};
+use hm_names::{Core, Fault, TypeLimits};
 use hm_premises::imported_environment;
 use hm_syntax::{Decl, Row};
 use hm_unify::{Solver, UnifyFault};
@@ -109,7 +109,7 @@ pub(crate) fn untyped_units(
     alloc: Global,
     core: &Core,
     constructors: &Constructors,
-    depth: usize,
+    limits: TypeLimits,
 ) -> Result<Row<Fault>, UnifyFault>
     requires core { IsSomeCore core.now }
     requires known { known_of constructors.now ≡ known core.now }
@@ -119,7 +119,7 @@ pub(crate) fn untyped_units(
     let environment = imported_environment(alloc, core.interfaces.as_slice())?;
     let mut inference = Inference {
         alloc,
-        solver: Solver::with_depth(alloc, depth),
+        solver: Solver::with_limits(alloc, limits.levels, limits.nodes),
         environment,
     };
     let decls = core.decls.as_slice();

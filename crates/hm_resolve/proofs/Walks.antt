@@ -3,12 +3,12 @@ use Rattle.std.proofs.Common.{◌≡◌, List, [], ◌++◌, map, None, sym, ap,
 use Rattle.hm_syntax.specs.Trees.{Pattern, Declaration}
 use Rattle.hm_syntax.specs.Lists.{declarations}
 use Rattle.hm_names.specs.declared.faults.Fault.{Fault}
-use Rattle.hm_names.specs.Resolved.{pattern_with, unchanged}
+use Rattle.hm_names.specs.Resolved.{pattern_with, bare}
 use Rattle.hm_names.specs.Found.{Walking, Lookups, noting, locals_of, resolver_of, binder_of, list_faults, declarations_faults}
 
 pub matched : (w after : Walking) (fs : List Fault) (ps done : List Pattern) → after ≡ noting fs w
-    → done ≡ map (pattern_with (resolver_of after.known) (binder_of None)) ps → done ≡ map (pattern_with (resolver_of w.known) unchanged) ps
-matched w after fs ps done e q = q ∙ ap (λ (v : Walking). map (pattern_with (resolver_of v.known) unchanged) ps) e
+    → done ≡ map (pattern_with (resolver_of after.known) (binder_of None)) ps → done ≡ map (pattern_with (resolver_of w.known) bare) ps
+matched w after fs ps done e q = q ∙ ap (λ (v : Walking). map (pattern_with (resolver_of v.known) bare) ps) e
 
 pub all_noted : (k : Lookups) (ds xs ys : List Declaration) (start mid last : Walking) (faults : List Fault) → start ≡ record { known = k; groups = []; faults = [] } → xs ≡ ds → ys ≡ ds
     → mid ≡ noting (list_faults (declarations xs)) start → last ≡ noting (declarations_faults mid.known (locals_of mid) (declarations ys)) mid → faults ≡ last.faults

@@ -3,7 +3,7 @@ ghost use Rattle.std.specs.Prelude.{◌≡◌, ◌++◌, IfOk, OnOk, map};
 ghost use Rattle.hm_syntax.specs.Lists.{patterns, expressions, alternatives, declarations};
 ghost use Rattle.hm_syntax.specs.Trees.{application, lambda, let_expression, if_expression, case_expression, typed_expression, clause, pattern_binding};
 ghost use Rattle.hm_names.specs.Variables.{texts, bound_names};
-ghost use Rattle.hm_names.specs.Resolved.{expression_with, right_side_with, declaration_with, unchanged};
+ghost use Rattle.hm_names.specs.Resolved.{expression_with, right_side_with, declaration_with, bare};
 ghost use Rattle.hm_names.specs.Found.{noting, entering, locals_of, resolver_of, binder_of, list_faults, expression_faults, expressions_faults, alternative_faults, alternatives_faults, right_side_faults, declaration_faults, declarations_faults, alternative_with, guard_with, part_with, guard_faults, part_faults, parts_faults};
 
 use crate::resolving::Resolving;
@@ -384,7 +384,7 @@ impl Resolving<'_> {
     #[cycle(exprs)]
     #[tactic(auto, using(hm_names::proofs::Rows::noting_more))]
     fn decl_list(&mut self, alloc: Global, decls: &[Decl]) -> Result<Vec<Decl>, AllocError>
-        ensures trees { IfOk result (λ ds. ds.items ≡ map (declaration_with (resolver_of self.old.known) unchanged (locals_of self.old)) decls.now) }
+        ensures trees { IfOk result (λ ds. ds.items ≡ map (declaration_with (resolver_of self.old.known) bare (locals_of self.old)) decls.now) }
         ensures state { OnOk result (self.new ≡ noting (list_faults (declarations decls.now)
             ++ declarations_faults self.old.known (locals_of self.old) (declarations decls.now)) self.old) }
     {

@@ -2,7 +2,7 @@
 ghost use Rattle.std.specs.Prelude.{◌≡◌, [], IfOk, OnOk, map};
 ghost use Rattle.hm_syntax.specs.Lists.{patterns};
 ghost use Rattle.hm_names.specs.Variables.{pattern_variables, patterns_variables};
-ghost use Rattle.hm_names.specs.Resolved.{pattern_with, unchanged};
+ghost use Rattle.hm_names.specs.Resolved.{pattern_with, bare};
 ghost use Rattle.hm_names.specs.Found.{noting, resolver_of, binder_of, pattern_faults, patterns_faults, head_faults, alone, non_linear};
 
 use crate::resolving::Resolving;
@@ -96,7 +96,7 @@ impl Resolving<'_> {
         alloc: Global,
         pats: &[Pat],
     ) -> Result<(Vec<Pat>, Vec<Name>), AllocError>
-        ensures trees { IfOk result (λ r. r.0.items ≡ map (pattern_with (resolver_of self.old.known) unchanged) pats.now) }
+        ensures trees { IfOk result (λ r. r.0.items ≡ map (pattern_with (resolver_of self.old.known) bare) pats.now) }
         ensures names { IfOk result (λ r. r.1.items ≡ patterns_variables (patterns pats.now)) }
         ensures state { OnOk result (self.new ≡ noting (head_faults self.old.known (patterns pats.now)) self.old) }
     {

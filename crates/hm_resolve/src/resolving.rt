@@ -13,7 +13,9 @@ ghost use Rattle.hm_syntax.specs.Lists.{types, patterns};
 ghost use Rattle.hm_names.specs.Variables.{texts, type_count, pattern_count};
 
 use hm_descriptions::Tables;
-use hm_expansion::{copy_name, entity_name, filled, is_special, is_unqualified, special_arity};
+use hm_expansion::{
+    Room, copy_name, entity_name, filled, is_special, is_unqualified, special_arity,
+};
 use hm_lists::Locals;
 use hm_names::{Fault, Kind, Namespace, fault_at};
 use hm_syntax::{Expr, ExprKind, Name, Pat, TypeExpr, TypeKind};
@@ -193,10 +195,30 @@ impl Resolving<'_> {
                 kind: TypeKind::Con(name, args),
             }),
             Some(synonym) => {
-                let depth = self.tables.depth();
-                Ok(filled(alloc, depth, &name, &args, synonym.body())?)
+                let room = Room {
+                    levels: self.tables.levels(),
+                    nodes: self.tables.nodes(),
+                };
+                Ok(filled(alloc, room, &name, &args, synonym.body())?)
             }
         }
+    }
+
+    /// How many nodes types may still have that synonyms stand for.
+    pub(crate) fn nodes_left(&self) -> usize {
+        self.tables.nodes().get()
+    }
+
+    /// Counts the nodes again that were made since so many were left, once for each further one of `count` names of one type.
+    pub(crate) fn count_again(&self, before: usize, count: usize) -> Result<(), AllocError> {
+        let left = self.nodes_left();
+        let made = before.saturating_sub(left);
+        let more = made.saturating_mul(count.saturating_sub(1));
+        if more > left {
+            return Err(AllocError);
+        }
+        self.tables.nodes().set(left - more);
+        Ok(())
     }
 
     /// A variable that stands as an expression.

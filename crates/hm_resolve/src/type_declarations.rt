@@ -207,7 +207,9 @@ impl Resolving<'_> {
         ensures state { OnOk result (self.new ≡ noting (declaration_faults self.old.known (locals_of self.old) (signature names.now ty.now)) self.old) }
     {
         let names = bound_names(alloc, home, names)?;
+        let before = self.nodes_left();
         let ty = self.type_expr(alloc, ty)?;
+        self.count_again(before, names.len())?;
         Ok(Decl {
             kind: DeclKind::Signature { names, ty },
         })

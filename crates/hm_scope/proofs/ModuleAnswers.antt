@@ -25,7 +25,8 @@ use Rattle.hm_names.specs.NodeFaults.{NodeFault, AreLookupsOf}
 use Rattle.hm_synonyms.specs.Synonyms.{HasSynonymFault, AreResolved}
 use Rattle.hm_names.specs.Faults.Phases.{Exporting, IsWellFormed}
 use Rattle.hm_phases.specs.Answers.{is_of_lists, is_of_names, is_of_numbers}
-use Rattle.hm_scope.specs.Answers.{AreTrees, AreWalked, IsResolvedModule, AreExportedRows, rows_in}
+use Rattle.hm_phases.specs.declared.phases.TreeFaults.{TreeFaults}
+use Rattle.hm_scope.specs.Answers.{AreNoted, AreTreeFaults, AreTrees, AreWalked, IsResolvedModule, AreExportedRows, rows_in}
 use Rattle.hm_names.proofs.Members.{none_in, cases, first, rest}
 use Rattle.hm_scope.proofs.OneEntity.{one_entity, bound_is_exported}
 use Rattle.hm_names.proofs.Resolves.{resolves}
@@ -89,6 +90,15 @@ filtered p (g ∷ gs) f = go (p g) refl (filtered p gs f)
       λ k. ⊎_elim (λ q. absurd (let z : true ≡ false = sym k.1 ∙ (ap p q ∙ e) in cc)) (λ o. h.1 (o, k.1)) (cases g gs f k.0),
     )
 
+-- lookups whose tables are those of the module for types and constructors, whatever synonyms are known
+pub are_lookups : (m : Module) (fs : List Interface) (pairs : List Pair) (start tables : KnownTables) → IsScopeOf m fs pairs → AreTablesOf m fs start → tables.types ≡ start.types → tables.constructors ≡ start.constructors
+    → AreLookupsOf m fs (lookups_of pairs tables)
+are_lookups m fs pairs start tables scope known types constructors = record {
+  scope = scope;
+  types = λ e. ap (λ l. Rattle.hm_names.specs.Found.arity_among l e) types ∙ known.types.arities e;
+  constructors = λ e. ap (λ l. Rattle.hm_names.specs.Found.arity_among l e) constructors ∙ known.constructors.arities e;
+}
+
 pub are_walked : (m : Module) (fs : List Interface) (pairs : List Pair) (start tables : KnownTables) (ds : List Declaration) (walked : List Fault) → IsScopeOf m fs pairs → AreTablesOf m fs start → tables.types ≡ start.types → tables.constructors ≡ start.constructors
     → (IsWellFormed m fs → AreResolved m fs (lookups_of pairs tables))
     → ((gs : List Interface) → AreLookupsOf m gs (lookups_of pairs tables) → (f : Fault) → Contains walked f ↔ Somewhere m (NodeFault m gs f))
@@ -102,30 +112,33 @@ are_walked m fs pairs start tables ds walked scope known types constructors fini
     k = lookups_of pairs tables
 
     looked : AreLookupsOf m fs (lookups_of pairs tables)
-    looked = record {
-      scope = scope;
-      types = λ e. ap (λ l. Rattle.hm_names.specs.Found.arity_among l e) types ∙ known.types.arities e;
-      constructors = λ e. ap (λ l. Rattle.hm_names.specs.Found.arity_among l e) constructors ∙ known.constructors.arities e;
-    }
+    looked = are_lookups m fs pairs start tables scope known types constructors
 
-pub are_trees : (m : Module) (fs : List Interface) (trees : Trees) (walked recursive : List Fault) → AreWalked m fs trees.decls.items walked
+-- the faults of a walk by phases, with those of synonyms
+pub are_tree_faults : (m : Module) (fs : List Interface) (trees : TreeFaults) (walked recursive : List Fault) → AreNoted m fs walked
     → trees.lists.items ≡ filter is_of_lists walked → trees.names.items ≡ filter is_of_names walked → trees.numbers.items ≡ filter is_of_numbers walked ++ recursive
-    → ((f : Fault) → Contains recursive f ↔ HasSynonymFault m fs f) → AreTrees m fs trees
-are_trees m fs trees walked recursive are lists names numbers cycles = record {
+    → ((f : Fault) → Contains recursive f ↔ HasSynonymFault m fs f) → AreTreeFaults m fs trees
+are_tree_faults m fs trees walked recursive noted lists names numbers cycles = record {
   lists = λ f. part is_of_lists trees.lists.items lists f (declaring m fs f);
   names = λ f. part is_of_names trees.names.items names f (naming m fs f);
   numbers = λ f. (
-    λ c. (counting m fs f).0 (⊎_elim (λ l. let k = (filtered is_of_numbers walked f).0 l in inl ((are.faults f).0 k.0, k.1)) (λ r. inr ((cycles f).0 r)) (Contains-append_cases (filter is_of_numbers walked) recursive f (subst (λ l. Contains l f) numbers c))),
-    λ h. subst (λ l. Contains l f) (sym numbers) (⊎_elim (λ l. Contains-append_left (filter is_of_numbers walked) recursive f ((filtered is_of_numbers walked f).1 ((are.faults f).1 l.0, l.1))) (λ r. Contains-append_right (filter is_of_numbers walked) recursive f ((cycles f).1 r)) ((counting m fs f).1 h)),
+    λ c. (counting m fs f).0 (⊎_elim (λ l. let k = (filtered is_of_numbers walked f).0 l in inl ((noted f).0 k.0, k.1)) (λ r. inr ((cycles f).0 r)) (Contains-append_cases (filter is_of_numbers walked) recursive f (subst (λ l. Contains l f) numbers c))),
+    λ h. subst (λ l. Contains l f) (sym numbers) (⊎_elim (λ l. Contains-append_left (filter is_of_numbers walked) recursive f ((filtered is_of_numbers walked f).1 ((noted f).1 l.0, l.1))) (λ r. Contains-append_right (filter is_of_numbers walked) recursive f ((cycles f).1 r)) ((counting m fs f).1 h)),
   );
-  are_resolved = are.are_resolved;
 }
   where
     part : (p : Fault → Bool) (l : List Fault) → l ≡ filter p walked → (f : Fault) → {H : Type 0} → (Somewhere m (NodeFault m fs f) × (p f ≡ true)) ↔ H → Contains l f ↔ H
     part p l is f says = (
-      λ c. let k = (filtered p walked f).0 (subst (λ z. Contains z f) is c) in says.0 ((are.faults f).0 k.0, k.1),
-      λ h. let k = says.1 h in subst (λ z. Contains z f) (sym is) ((filtered p walked f).1 ((are.faults f).1 k.0, k.1)),
+      λ c. let k = (filtered p walked f).0 (subst (λ z. Contains z f) is c) in says.0 ((noted f).0 k.0, k.1),
+      λ h. let k = says.1 h in subst (λ z. Contains z f) (sym is) ((filtered p walked f).1 ((noted f).1 k.0, k.1)),
     )
+
+pub are_trees : (m : Module) (fs : List Interface) (trees : Trees) (walked recursive : List Fault) → AreWalked m fs trees.decls.items walked
+    → trees.lists.items ≡ filter is_of_lists walked → trees.names.items ≡ filter is_of_names walked → trees.numbers.items ≡ filter is_of_numbers walked ++ recursive
+    → ((f : Fault) → Contains recursive f ↔ HasSynonymFault m fs f) → AreTrees m fs trees
+are_trees m fs trees walked recursive are lists names numbers cycles =
+    let parts = are_tree_faults m fs (record { lists = trees.lists; names = trees.names; numbers = trees.numbers }) walked recursive are.faults lists names numbers cycles in
+    record { lists = parts.lists; names = parts.names; numbers = parts.numbers; are_resolved = are.are_resolved }
 
 pub resolved_module : (m : Module) (fs : List Interface) (trees : Trees) (exports : ModuleExports) → AreTrees m fs trees → AreExportsOf m fs exports → IsWellFormed m fs → IsResolvedModule m fs trees.decls.items exports.given.items
 resolved_module m fs trees exports are given w = record {

@@ -17,6 +17,7 @@ use Rattle.hm_names.specs.Exports.{IsExported}
 use Rattle.hm_names.specs.Bindings.{Pair}
 use Rattle.hm_exports.specs.ExportedRows.{HaveOneEntity, IsBound}
 use Rattle.hm_phases.specs.Answers.{AreExact}
+use Rattle.hm_phases.specs.declared.phases.TreeFaults.{TreeFaults}
 use Rattle.hm_names.specs.Resolved.{Resolver, IsResolver, resolved}
 use Rattle.hm_names.specs.NodeFaults.{NodeFault}
 use Rattle.hm_names.specs.Walk.{Somewhere}
@@ -28,10 +29,20 @@ pub record AreResolvedTrees (m : Module) (fs : List Interface) (ds : List Declar
   pub resolves : IsResolver m fs resolver
   pub trees : ds ≡ resolved m resolver
 
+-- the faults that stand somewhere in the module's trees
+abbrev pub AreNoted : Module → List Interface → List Fault → Type 0
+AreNoted m fs found = (f : Fault) → Contains found f ↔ Somewhere m (NodeFault m fs f)
+
 -- what a walk over the module finds: the faults in its trees, and the trees where there are none
 pub record AreWalked (m : Module) (fs : List Interface) (ds : List Declaration) (found : List Fault) : Type 0 where
-  pub faults : (f : Fault) → Contains found f ↔ Somewhere m (NodeFault m fs f)
+  pub faults : AreNoted m fs found
   pub are_resolved : IsWellFormed m fs → AreResolvedTrees m fs ds
+
+-- the faults that are found in trees, by phases
+pub record AreTreeFaults (m : Module) (fs : List Interface) (found : TreeFaults) : Type 0 where
+  pub lists : AreExact m fs Declaring found.lists.items
+  pub names : AreExact m fs Naming found.names.items
+  pub numbers : AreExact m fs Counting found.numbers.items
 
 -- the faults that are found in trees, by phases, and the trees where there are none
 pub record AreTrees (m : Module) (fs : List Interface) (trees : Trees) : Type 0 where

@@ -7,8 +7,10 @@ ghost use Rattle.hm_types.specs.Interfaces.{Exports as Interface};
 ghost use Rattle.hm_types.specs.StandardPrelude.{prelude_interface};
 ghost use Rattle.hm_names.specs.declared.faults.Fault.{Fault};
 ghost use Rattle.hm_names.specs.declared.namespace.Namespace.{Namespace};
-ghost use Rattle.hm_scope.specs.Answers.{AreTrees, AreWalked, IsAnswer, IsAnswerBehind, AreExportedRows, rows_in};
-ghost use Rattle.hm_phases.specs.Answers.{is_of_lists, is_of_names, is_of_numbers};
+ghost use Rattle.hm_scope.specs.Answers.{AreNoted, AreTreeFaults, AreTrees, AreWalked, IsAnswer, IsAnswerBehind, AreExportedRows, rows_in};
+ghost use Rattle.hm_names.specs.Faults.Phases.{Exporting};
+ghost use Rattle.hm_exports.specs.ModuleExports.{AreExportsOf};
+ghost use Rattle.hm_phases.specs.Answers.{AreExact, is_of_lists, is_of_names, is_of_numbers};
 ghost use Rattle.hm_tables.specs.KnownTables.{AreTablesOf};
 ghost use Rattle.hm_synonyms.specs.Synonyms.{AreOwnSynonyms, HasSynonymFault, IsReferenceGraph};
 ghost use Rattle.hm_names.specs.Bindings.{IsScopeOf};
@@ -22,7 +24,7 @@ use hm_descriptions::Tables;
 use hm_exports::{ModuleExports, exported_in, module_exports};
 use hm_import_faults::import_faults;
 use hm_imports::{interfaces_of, scope_of};
-use hm_names::{Core, Exported, Fault, Namespace, ScopeFault};
+use hm_names::{Core, Exported, Fault, Namespace, ScopeFault, TypeLimits, WIDE_LIMITS};
 use hm_phases::{TreeFaults, by_phases, first_faults, phase_answer};
 use hm_prelude::SharedPrelude;
 use hm_resolve::{Walked, walk};
@@ -33,8 +35,11 @@ use hm_types::{Interface, Text};
 use std::alloc::{AllocError, Global};
 use std::sync::Arc;
 
-/// How many levels a type may have that a synonym stands for, where no other limit is told.
-const MOST_LEVELS: usize = 1 << 20;
+/// The limits of a walk that expands no synonym.
+const NO_SYNONYMS: TypeLimits = TypeLimits {
+    levels: 0,
+    nodes: 0,
+};
 
 /// The resolved declarations of a module, and the faults of its trees by phases: of declaration lists, of names, of numbers of arguments
 /// and of synonyms that are recursive.
@@ -94,7 +99,7 @@ fn walked_trees<'a>(
     alloc: Global,
     scoped: &ScopedModule<'_, 'a>,
     synonyms: &DeclaredSynonyms<'_, 'a>,
-    depth: usize,
+    limits: TypeLimits,
 ) -> Result<Walked, AllocError>
     requires scope { IsScopeOf scoped.now.program.now (map (λ f. f.now) scoped.now.interfaces.now) scoped.now.scope.now }
     requires synonyms { AreOwnSynonyms scoped.now.program.now.decls synonyms.now.own.now }
@@ -102,7 +107,7 @@ fn walked_trees<'a>(
     requires edges { IsReferenceGraph scoped.now.program.now (map (λ f. f.now) scoped.now.interfaces.now) synonyms.now.own.now.names synonyms.now.graph.now }
     ensures { IfOk result (λ walked. AreWalked scoped.now.program.now (map (λ f. f.now) scoped.now.interfaces.now) walked.decls.items walked.faults.items) }
 {
-    let mut tables = Tables::of(alloc, scoped.program, scoped.interfaces, depth)?;
+    let mut tables = Tables::of(alloc, scoped.program, scoped.interfaces, limits)?;
     walked_with(alloc, scoped.program, scoped.scope, &mut tables, synonyms)
 }
 
@@ -145,7 +150,7 @@ fn trees_with<'a>(
     alloc: Global,
     scoped: &ScopedModule<'_, 'a>,
     synonyms: &DeclaredSynonyms<'_, 'a>,
-    depth: usize,
+    limits: TypeLimits,
 ) -> Result<Trees, AllocError>
     requires scope { IsScopeOf scoped.now.program.now (map (λ f. f.now) scoped.now.interfaces.now) scoped.now.scope.now }
     requires synonyms { AreOwnSynonyms scoped.now.program.now.decls synonyms.now.own.now }
@@ -154,7 +159,7 @@ fn trees_with<'a>(
     ensures { IfOk result (AreTrees scoped.now.program.now (map (λ f. f.now) scoped.now.interfaces.now)) }
 {
     let recursive = synonym_faults(alloc, scoped.program, &synonyms.own.names, synonyms.graph)?;
-    let walked = walked_trees(alloc, scoped, synonyms, depth)?;
+    let walked = walked_trees(alloc, scoped, synonyms, limits)?;
     Ok(trees_of(alloc, walked, recursive)?)
 }
 
@@ -163,7 +168,7 @@ fn trees_over<'a>(
     alloc: Global,
     scoped: &ScopedModule<'_, 'a>,
     own: &OwnSynonyms<'a>,
-    depth: usize,
+    limits: TypeLimits,
 ) -> Result<Trees, AllocError>
     requires scope { IsScopeOf scoped.now.program.now (map (λ f. f.now) scoped.now.interfaces.now) scoped.now.scope.now }
     requires synonyms { AreOwnSynonyms scoped.now.program.now.decls own.now }
@@ -171,46 +176,127 @@ fn trees_over<'a>(
 {
     let graph = reference_graph(alloc, scoped.scope, scoped.program, &own.names)?;
     let synonyms = DeclaredSynonyms { own, graph: &graph };
-    trees_with(alloc, scoped, &synonyms, depth)
+    trees_with(alloc, scoped, &synonyms, limits)
 }
 
 /// The trees of a module, whose names are resolved where there are no faults.
 fn resolved_trees(
     alloc: Global,
     scoped: &ScopedModule<'_, '_>,
-    depth: usize,
+    limits: TypeLimits,
 ) -> Result<Trees, AllocError>
     requires { IsScopeOf scoped.now.program.now (map (λ f. f.now) scoped.now.interfaces.now) scoped.now.scope.now }
     ensures { IfOk result (AreTrees scoped.now.program.now (map (λ f. f.now) scoped.now.interfaces.now)) }
 {
     let own = own_synonyms(alloc, scoped.program.decls.as_slice())?;
-    trees_over(alloc, scoped, &own, depth)
+    trees_over(alloc, scoped, &own, limits)
 }
 
-/// The answer of the phases behind that of the imports.
-fn behind_imports<'a>(
+/// What the walk notes where it expands no synonym: the faults that stand somewhere in the trees of a module.
+fn noted_faults(alloc: Global, scoped: &ScopedModule<'_, '_>) -> Result<Vec<Fault>, AllocError>
+    requires { IsScopeOf scoped.now.program.now (map (λ f. f.now) scoped.now.interfaces.now) scoped.now.scope.now }
+    ensures { IfOk result (λ found. AreNoted scoped.now.program.now (map (λ f. f.now) scoped.now.interfaces.now) found.items) }
+{
+    let known = Tables::of(alloc, scoped.program, scoped.interfaces, NO_SYNONYMS)?;
+    let tables = known.without_synonyms(alloc);
+    let Walked {
+        decls: _decls,
+        faults,
+    } = walk(alloc, scoped.scope, &tables, scoped.program)?;
+    Ok(faults)
+}
+
+/// The faults of the trees of a module by phases, for which no synonym is expanded.
+fn faults_over(
+    alloc: Global,
+    scoped: &ScopedModule<'_, '_>,
+    own: &OwnSynonyms<'_>,
+) -> Result<TreeFaults, AllocError>
+    requires scope { IsScopeOf scoped.now.program.now (map (λ f. f.now) scoped.now.interfaces.now) scoped.now.scope.now }
+    requires synonyms { AreOwnSynonyms scoped.now.program.now.decls own.now }
+    ensures { IfOk result (AreTreeFaults scoped.now.program.now (map (λ f. f.now) scoped.now.interfaces.now)) }
+{
+    let graph = reference_graph(alloc, scoped.scope, scoped.program, &own.names)?;
+    let recursive = synonym_faults(alloc, scoped.program, &own.names, &graph)?;
+    let noted = noted_faults(alloc, scoped)?;
+    Ok(phases_of(alloc, noted, recursive)?)
+}
+
+/// The same, with the module's own synonyms.
+fn tree_faults(alloc: Global, scoped: &ScopedModule<'_, '_>) -> Result<TreeFaults, AllocError>
+    requires { IsScopeOf scoped.now.program.now (map (λ f. f.now) scoped.now.interfaces.now) scoped.now.scope.now }
+    ensures { IfOk result (AreTreeFaults scoped.now.program.now (map (λ f. f.now) scoped.now.interfaces.now)) }
+{
+    let own = own_synonyms(alloc, scoped.program.decls.as_slice())?;
+    faults_over(alloc, scoped, &own)
+}
+
+/// The answer of the phases behind that of the imports for a module whose synonyms can't be expanded: the faults of the first phase that has
+/// any, for which they needn't be. A module without faults is refused for want of memory.
+fn answer_without_trees<'a>(
     alloc: Global,
     scoped: &ScopedModule<'_, 'a>,
-    depth: usize,
+    exports: Vec<Fault>,
 ) -> Result<Answer<'a>, AllocError>
-    requires { IsScopeOf scoped.now.program.now (map (λ f. f.now) scoped.now.interfaces.now) scoped.now.scope.now }
+    requires scope { IsScopeOf scoped.now.program.now (map (λ f. f.now) scoped.now.interfaces.now) scoped.now.scope.now }
+    requires exports { AreExact scoped.now.program.now (map (λ f. f.now) scoped.now.interfaces.now) Exporting exports.items }
     ensures { IfOk result (λ answer. IsAnswerBehind scoped.now.program.now (map (λ f. f.now) scoped.now.interfaces.now) answer) }
 {
-    let ModuleExports { given, faults } = module_exports(
-        alloc,
-        scoped.program,
-        scoped.interfaces,
-        scoped.scope,
-    )?;
+    let TreeFaults {
+        lists,
+        names,
+        numbers,
+    } = tree_faults(alloc, scoped)?;
+    match first_faults(lists, exports, names, numbers)? {
+        Some(found) => Ok(Answer::Faulty(found)),
+        None => Err(AllocError),
+    }
+}
+
+/// The answer of the phases behind that of the imports for a module with these exports and trees.
+fn answer_with_trees<'a>(
+    exports: ModuleExports<'a>,
+    trees: Trees,
+    scoped: &ScopedModule<'_, 'a>,
+) -> Result<Answer<'a>, AllocError>
+    requires exports { AreExportsOf scoped.now.program.now (map (λ f. f.now) scoped.now.interfaces.now) exports }
+    requires trees { AreTrees scoped.now.program.now (map (λ f. f.now) scoped.now.interfaces.now) trees }
+    ensures { IfOk result (λ answer. IsAnswerBehind scoped.now.program.now (map (λ f. f.now) scoped.now.interfaces.now) answer) }
+{
+    let _ = scoped;
+    let ModuleExports { given, faults } = exports;
     let Trees {
         decls,
         lists,
         names,
         numbers,
-    } = resolved_trees(alloc, scoped, depth)?;
+    } = trees;
     match first_faults(lists, faults, names, numbers)? {
         Some(found) => Ok(Answer::Faulty(found)),
         None => Ok(Answer::Resolved(decls, given)),
+    }
+}
+
+/// The answer of the phases behind that of the imports. Synonyms may stand for types of any size: where their expansion is refused, the faults
+/// are looked for without it, so that a module with faults is told of these and not of want of memory.
+fn behind_imports<'a>(
+    alloc: Global,
+    scoped: &ScopedModule<'_, 'a>,
+    limits: TypeLimits,
+) -> Result<Answer<'a>, AllocError>
+    requires { IsScopeOf scoped.now.program.now (map (λ f. f.now) scoped.now.interfaces.now) scoped.now.scope.now }
+    ensures { IfOk result (λ answer. IsAnswerBehind scoped.now.program.now (map (λ f. f.now) scoped.now.interfaces.now) answer) }
+{
+    let exports = module_exports(alloc, scoped.program, scoped.interfaces, scoped.scope)?;
+    match resolved_trees(alloc, scoped, limits) {
+        Ok(trees) => answer_with_trees(exports, trees, scoped),
+        Err(AllocError) => {
+            let ModuleExports {
+                given: _given,
+                faults,
+            } = exports;
+            answer_without_trees(alloc, scoped, faults)
+        }
     }
 }
 
@@ -220,7 +306,7 @@ fn phases_answer<'a>(
     program: &'a Module,
     prelude: &'a Interface,
     imports: &'a [Arc<Interface>],
-    depth: usize,
+    limits: TypeLimits,
 ) -> Result<Answer<'a>, AllocError>
     ensures { IfOk result (IsAnswer program.now (prelude.now ∷ map arc_value imports.now)) }
 {
@@ -235,7 +321,7 @@ fn phases_answer<'a>(
         interfaces: &interfaces,
         scope: &scope,
     };
-    behind_imports(alloc, &scoped, depth)
+    behind_imports(alloc, &scoped, limits)
 }
 
 /// The interfaces for which a core was made, shared.
@@ -336,12 +422,12 @@ fn core_or_faults(
     prelude: &SharedPrelude,
     module: &Module,
     imports: &[Arc<Interface>],
-    depth: usize,
+    limits: TypeLimits,
 ) -> Result<Result<Core, Row<Fault>>, AllocError>
     ensures { IfOk result (IsOutcome «module».now (prelude_interface ∷ map arc_value imports.now)) }
 {
     let prelude = prelude.interface();
-    let answer = phases_answer(alloc, module, prelude, imports, depth)?;
+    let answer = phases_answer(alloc, module, prelude, imports, limits)?;
     outcome_of(alloc, module, prelude, imports, answer)
 }
 
@@ -353,25 +439,25 @@ pub fn scope(alloc: Global, module: &Module, imports: &[Arc<Interface>]) -> Resu
     ensures faults { IfErr result (λ e. IsFaulty «module».now (prelude_interface ∷ map arc_value imports.now) e) }
 {
     match SharedPrelude::new(alloc) {
-        Ok(prelude) => scope_within(alloc, &prelude, module, imports, MOST_LEVELS),
+        Ok(prelude) => scope_within(alloc, &prelude, module, imports, WIDE_LIMITS),
         Err(AllocError) => Err(ScopeFault::Memory),
     }
 }
 
-/// The same, with a Prelude that was made before, and where no synonym stands for a type of more than `depth` levels. What would need one is
-/// refused for want of memory.
+/// The same, with a Prelude that was made before, and limits of the types that synonyms stand for. What would pass one is refused for want of
+/// memory.
 pub fn scope_within(
     alloc: Global,
     prelude: &SharedPrelude,
     module: &Module,
     imports: &[Arc<Interface>],
-    depth: usize,
+    limits: TypeLimits,
 ) -> Result<Core, ScopeFault>
     requires imports { AreImportsOf «module».now (map arc_value imports.now) }
     ensures core { IfOk result (λ c. IsCore «module».now (prelude_interface ∷ map arc_value imports.now) c) }
     ensures faults { IfErr result (λ e. IsFaulty «module».now (prelude_interface ∷ map arc_value imports.now) e) }
 {
-    match core_or_faults(alloc, prelude, module, imports, depth) {
+    match core_or_faults(alloc, prelude, module, imports, limits) {
         Err(AllocError) => Err(ScopeFault::Memory),
         Ok(Err(found)) => Err(ScopeFault::Faults(found)),
         Ok(Ok(core)) => Ok(core),

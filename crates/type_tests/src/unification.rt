@@ -1,4 +1,4 @@
-//! Limits of the levels of types, of which no clause tells: where a type would have more, a solver answers as where memory runs out.
+//! Limits of the levels and nodes of types, of which no clause tells: where a type would have more, a solver answers as where memory runs out.
 
 ghost use Rattle.std.specs.Prelude.{◌≡◌, ◌<◌, IfOk, OnOk};
 ghost use Rattle.hm_types.specs.Shape.{type_of};
@@ -50,17 +50,17 @@ fn give_three(solver: &mut Solver) -> Result<(), AllocError>
     Ok(())
 }
 
-/// A solver whose types have at most `depth` levels, and which has given the variables 0 to 2.
-fn solver_within(alloc: Global, depth: usize) -> Result<Solver, AllocError>
+/// A solver whose types have at most so many levels, and in all so many nodes, and which has given the variables 0 to 2.
+fn solver_within(alloc: Global, levels: usize, nodes: usize) -> Result<Solver, AllocError>
     ensures { IfOk result (λ solver. solver.given ≡ 3) }
 {
-    let mut solver = Solver::with_depth(alloc, depth);
+    let mut solver = Solver::with_limits(alloc, levels, nodes);
     give_three(&mut solver)?;
     Ok(solver)
 }
 
-/// Whether the value of variable 0 has more levels than the limit, where it is a function of variable 1, and that one of variable 2: it has
-/// three, of which a constant is the third.
+/// Whether the value of variable 0 is refused, where it is a function of variable 1, and that one of variable 2: it has three levels, of which
+/// a constant is the third. Each equation goes through two arguments, and the value through four.
 fn has_long_value(alloc: Global, solver: &mut Solver) -> Result<Option<bool>, AllocError>
     requires { solver.old.given ≡ 3 }
 {
@@ -73,8 +73,17 @@ fn has_long_value(alloc: Global, solver: &mut Solver) -> Result<Option<bool>, Al
 #[test]
 fn no_value_has_more_levels_than_the_limit(rt: HostRuntime) -> Result<(), Fail> {
     for depth in 0..5 {
-        let mut solver = solver_within(rt.alloc(), depth)?;
+        let mut solver = solver_within(rt.alloc(), depth, 100)?;
         assert!(rt; has_long_value(rt.alloc(), &mut solver)? == Some(depth < 3));
+    }
+    Ok(())
+}
+
+#[test]
+fn no_value_has_more_nodes_than_are_left(rt: HostRuntime) -> Result<(), Fail> {
+    for nodes in 4..12 {
+        let mut solver = solver_within(rt.alloc(), 3, nodes)?;
+        assert!(rt; has_long_value(rt.alloc(), &mut solver)? == Some(nodes < 8));
     }
     Ok(())
 }
@@ -97,7 +106,7 @@ fn is_refused(alloc: Global, solver: &mut Solver) -> Result<Option<bool>, AllocE
 #[test]
 fn no_binding_has_more_levels_than_the_limit(rt: HostRuntime) -> Result<(), Fail> {
     for depth in 2..5 {
-        let mut solver = solver_within(rt.alloc(), depth)?;
+        let mut solver = solver_within(rt.alloc(), depth, 100)?;
         assert!(rt; is_refused(rt.alloc(), &mut solver)? == Some(depth < 3));
     }
     Ok(())

@@ -17,7 +17,7 @@ is_settled-requires t c =
 pub loop-argument-preserved : goal.loop-argument-preserved
 loop-argument-preserved t c = record {
   whole = c.loop-argument.invariant.whole;
-  done = settled_more (solution (equations_in c.args.self.now)) c.as_slice-argument-items.result.now c.loop-argument.argument-index c.argument-item.result c.loop-argument-test.true c.argument-item.is c.loop-argument.invariant.done (c.is_settled.ensures (search rules));
+  done = settled_more (solution (equations_in c.args.self.now)) c.as_slice-argument-items.result.now c.loop-argument.argument-index c.argument-item.result c.loop-argument-test.true c.argument-item.is c.loop-argument.invariant.done (c.in_ok-is_settled-in-App.ensures (search rules));
 }
 
 pub returns-in-None : goal.returns-in-None

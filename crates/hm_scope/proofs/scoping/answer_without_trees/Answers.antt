@@ -1,0 +1,13 @@
+use Rattle.std.proofs.Common.{List, Option, map, Bor, subst}
+use Rattle.hm_types.specs.Interfaces.{Exports as Interface}
+use Rattle.hm_names.specs.declared.faults.Fault.{Fault}
+use Rattle.hm_phases.specs.Answers.{AreFirstFaults}
+use Rattle.hm_scope.proofs.scoping.answer_without_trees.Goals as goal
+
+pub returns-in-Some : goal.returns-in-Some
+returns-in-Some c = λ i.
+    let m = c.args.scoped.now.program.now in
+    let fs = map (λ (f : Bor Interface). f.now) c.args.scoped.now.interfaces.now in
+    let parts = c.in_ok-lists.ensures in
+    let found = c.in_ok-found.ensures m fs parts.lists c.requires.exports parts.names parts.numbers i in
+    subst (λ (o : Option (List Fault)). AreFirstFaults m fs o) c.in-Some.is found
