@@ -240,14 +240,11 @@ fn claims_and_publishes<L: Ledger + Naming, R: Abort + AllocGlobal + Wait>(
 }
 
 /// Whether a worker finds the interface of module 0 by a look, of which nobody has told it.
-fn finds<L: Ledger + Naming, R: Wait>(
-    shared: &Shared<L, &R>,
-    pass: &mut Pass<L>,
-) -> Result<bool, Fail> {
+fn finds<L: Ledger + Naming>(pass: &mut Pass<L>) -> Result<bool, Fail> {
     if pass.room() == 0 {
         return Err(Fail::from("no room"));
     }
-    match shared.look(pass, 0) {
+    match pass.look(0) {
         Ok(found) => Ok(found.is_some()),
         Err(LookFault::Memory) => Err(Fail::from(NO_MEMORY)),
         Err(_) => Err(Fail::from("no look")),
@@ -276,9 +273,9 @@ fn by_three<L: Ledger + Naming, R: Abort + AllocGlobal + Wait>(
     let [first, second, third, _] = passes else {
         return Err(Fail::from("other passes"));
     };
-    assert!(rt; !finds(shared, second)?);
+    assert!(rt; !finds(second)?);
     let done = claims_and_publishes(rt, shared, first)?;
-    assert!(rt; finds(shared, second)? == done);
+    assert!(rt; finds(second)? == done);
     assert!(rt; stops(rt, shared, third)?);
     Ok(done)
 }

@@ -72,7 +72,7 @@ fn look_up<L: Ledger + Naming, G: Gate, W: Wait + Drop>(
         if pass.room() == 0 {
             return Err(WorkFault::Mixed);
         }
-        match work.shared.look(pass, *number) {
+        match pass.look(*number) {
             Ok(Some(interface)) => interfaces.push(interface).map_err(|_| WorkFault::Memory)?,
             Ok(None) | Err(LookFault::NoEntry) => return Err(WorkFault::Mixed),
             Err(LookFault::Memory) => return Err(WorkFault::Memory),

@@ -1,5 +1,6 @@
 -- Beginnings of one list.
-use Rattle.std.proofs.Common.{◌≡◌, ◌≤◌, List, [], ◌∷◌, ◌++◌, length, refl, ap, sym, ◌∙◌, arith, append_assoc}
+use Rattle.std.proofs.Common.{◌≡◌, ◌≤◌, ◌<◌, ◌⊎◌, inl, inr, List, [], ◌∷◌, ◌++◌, length, refl, ap, sym, ◌∙◌, subst, arith, append_assoc}
+use Rattle.std.proofs.lemmas.Bool.{cases_lt}
 use mathlib.Core.List.{IsPrefix}
 
 -- each list begins with itself
@@ -30,3 +31,10 @@ whole [] (y ∷ ys) p le = absurd (omega arith)
 whole (x ∷ xs) [] p le = absurd (cc (p.1))
 whole (x ∷ xs) (y ∷ ys) p le =
     let rest = whole xs ys (p.0, cc (p.1)) (omega arith) in cc (p.1, rest)
+
+-- of two lists and the longer of them, one of the two begins the other
+pub one_begins : {A : Type 0} (xs ys zs : List A) → (length ys ≤ length xs → zs ≡ xs) → (length xs < length ys → zs ≡ ys) → IsPrefix xs zs → IsPrefix ys zs → IsPrefix xs ys ⊎ IsPrefix ys xs
+one_begins xs ys zs this that p q = elim (cases_lt (length xs) (length ys)) [
+  | inl lt ↦ inl (subst (λ w. IsPrefix xs w) (that lt) p)
+  | inr le ↦ inr (subst (λ w. IsPrefix ys w) (this le) q)
+]

@@ -2,3 +2,4 @@ pub mod Beginnings
 pub mod Lawful
 pub mod Adding
 pub mod Showing
+pub mod WorkedLists

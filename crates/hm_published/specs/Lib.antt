@@ -1,2 +1,3 @@
 pub mod Publications
 pub mod Rules
+pub mod Worked

@@ -1,7 +1,8 @@
 -- What is published during a build: a list that only grows. Readers see beginnings of it.
-use Rattle.std.specs.Prelude.{◌≡◌, ◌==◌, ◌+◌, ◌≤◌, ℕ, cond, List, [], ◌∷◌, map, take, fold, Option, Some, None, All, Contains, slice_get}
+use Rattle.std.specs.Prelude.{◌≡◌, ◌==◌, ◌+◌, ◌≤◌, ℕ, cond, List, [], ◌∷◌, map, take, fold, Option, Some, None, Contains, slice_get, slice_index_or}
 use Rattle.hm_types.specs.Interfaces.{Exports as Interface}
 use Rattle.hm_types.specs.StandardPrelude.{prelude_interface}
+use Rattle.hm_syntax.specs.declared.ast.Module.{Module}
 use Rattle.hm_names.specs.Imports.{AreImportsOf}
 use Rattle.hm_verdicts.specs.ModuleVerdicts.{Verdict, Good, Faulty, IsVerdict}
 use Rattle.hm_published.specs.declared.publication.Publication.{Publication}
@@ -27,16 +28,18 @@ IsPublishedIn ps m = (f : Interface) × (interface_in ps m ≡ Some f)
 abbrev pub entries_of : List Publication → ℕ
 entries_of ps = fold (λ n p. p.place + 1) 0 ps
 
--- The next publication: of a module that none before is of, and later in the journal. Its interface is the verdict of the module for the
--- interfaces that it asks for, each of which was published before (Haskell 98 Report, section 5)
-pub record MayFollow (before : List Publication) (p : Publication) : Type 0 where
+-- The next publication: of a module that none before is of, and later in the journal. The outcome is that of the module with its number. Its
+-- interfaces are those that were published before of the modules that the plan says this one imports, and its verdict is the right one for
+-- them (Haskell 98 Report, section 5)
+pub record MayFollow (modules : List Module) (plan : List (List ℕ)) (before : List Publication) (p : Publication) : Type 0 where
   pub distinct : ¬ (Contains (map (λ q. q.number) before) p.number)
   pub later : entries_of before ≤ p.place
+  pub subject : slice_get modules p.number ≡ Some p.outcome.«module»
+  pub imports : map (λ f. Some f) p.outcome.imports ≡ map (interface_in before) (slice_index_or plan p.number [])
   pub good : (f : Interface) × (p.outcome.verdict ≡ Good f)
   pub asked : AreImportsOf p.outcome.«module» p.outcome.imports
   pub right : IsVerdict p.outcome.«module» (prelude_interface ∷ p.outcome.imports) p.outcome.verdict
-  pub imports : All (λ f. Contains (map published_interface before) (Some f)) p.outcome.imports
 
--- each publication may follow those before it
-pub record IsLawful (ps : List Publication) : Type 0 where
-  pub each : (k : ℕ) (p : Publication) → slice_get ps k ≡ Some p → MayFollow (take k ps) p
+-- each publication may follow those before it, in a build of these modules with this plan
+pub record IsLawful (modules : List Module) (plan : List (List ℕ)) (ps : List Publication) : Type 0 where
+  pub each : (k : ℕ) (p : Publication) → slice_get ps k ≡ Some p → MayFollow modules plan (take k ps) p

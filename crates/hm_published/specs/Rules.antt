@@ -3,19 +3,19 @@ use Rattle.std.specs.Prelude.{ℕ, ◌≡◌, ◌==◌, ◌+◌, ◌≤◌, ◌^
 use Rattle.logbook.specs.Pages.{Cell, Step, View, Book, Named}
 use Rattle.hm_published.specs.declared.publication.Publication.{Publication}
 use Rattle.hm_types.specs.Interfaces.{Exports as Interface}
-use Rattle.hm_published.specs.Publications.{IsLawful, published_interface, interface_in, entries_of}
+use Rattle.hm_published.specs.Publications.{published_interface, interface_in, entries_of}
 
--- the first word is the length of the list, which is lawful. A book has two words, of which this one leaves the second at 0
+-- the first word is the length of the list. A book has two words, of which this one leaves the second at 0. That the list is lawful for the
+-- modules of its build is kept by the type of its beginnings, since the list is made before it has a name
 pub record IsKept (cells : List Cell) (log : List Publication) : Type 0 where
   pub words : cells ≡ (length log, true) ∷ (0, true) ∷ []
-  pub lawful : IsLawful log
 
 abbrev pub head_of : Book → Named
 head_of b = record { tracked = true; key = 0; book = b }
 
 -- the publication was added to all that had been seen; or the list was longer, and was seen
 abbrev pub Adds : Step Publication → View Publication ℕ → ℕ → View Publication ℕ → Type 0
-Adds s v found w = MatchBool (found == s.old) ((w.0 ≡ v.0 ++ s.ask ∷ []) × IsLawful w.0) ((length w.0 ≡ found) × IsLawful w.0)
+Adds s v found w = MatchBool (found == s.old) (w.0 ≡ v.0 ++ s.ask ∷ []) (length w.0 ≡ found)
 
 -- what readers take tells of each module what was published of it, and up to which entry of the journal
 pub record Shows (ps : List Publication) (interfaces : List (Option Interface)) (entries : ℕ) : Type 0 where

@@ -1,6 +1,6 @@
 //! The list of all publications. It stands in the proofs alone: what threads share is a word, its length, and a front is a beginning of the list
 //! that was seen.
-ghost use Rattle.std.specs.Prelude.{◌≡◌, ◌+◌, ◌==◌, ◌<◌, ◌≤◌, ◌^◌, ◌++◌, ◌∷◌, ◌⊎◌, [], false, length, MatchBool};
+ghost use Rattle.std.specs.Prelude.{◌≡◌, ◌+◌, ◌==◌, ◌<◌, ◌≤◌, ◌^◌, ◌++◌, ◌∷◌, ◌⊎◌, [], length, MatchBool};
 ghost use mathlib.Core.List.{IsPrefix};
 ghost use Rattle.hm_published.specs.Publications.{IsLawful, MayFollow};
 ghost use Rattle.hm_published.specs.Rules.{head_of};
@@ -9,7 +9,7 @@ use crate::publication::Publication;
 use logbook::{Gain, Offer, Plain, Play, Rule, Seen, Start, Word};
 use std::marker::{Brand, Model, PhantomData};
 
-/// The rule of the list: it is lawful.
+/// The rule of the list: the word is its length.
 pub struct Law;
 
 impl Rule<Publication, u64> for Law {
@@ -148,14 +148,14 @@ impl<J: Naming> Model for Front<J> {
 
     ghost view = { λ f. f.seen.log };
 
-    ghost invariant = { λ f. (f.count ≡ length f.seen.log) × (f.seen.book ≡ J.book) × IsLawful f.seen.log };
+    ghost invariant = { λ f. (f.count ≡ length f.seen.log) × (f.seen.book ≡ J.book) × IsLawful J.modules J.plan f.seen.log };
 }
 
 impl<J: Naming> Front<J> {
     /// How many publications it has.
     pub fn len(&self) -> u64
         ensures length { result ≡ length self.now }
-        ensures lawful { IsLawful self.now }
+        ensures lawful { IsLawful J.modules J.plan self.now }
     {
         self.count
     }
@@ -177,7 +177,7 @@ impl<J: Naming> Front<J> {
         ensures that { length self.now < length that.now → result ≡ that.now }
         ensures begun { IsPrefix self.now result }
         ensures begun_by { IsPrefix that.now result }
-        ensures lawful { IsLawful result }
+        ensures lawful { IsLawful J.modules J.plan result }
     {
         let mut both = self.seen.again();
         both.learn(&that.seen);
@@ -188,13 +188,22 @@ impl<J: Naming> Front<J> {
         }
     }
 
-    /// Adds a publication to all that was seen, and says whether it did. It did not where the list is longer.
+    /// Compares two fronts: one of them begins the other.
+    #[tactic(auto, using(crate::proofs::Beginnings::one_begins))]
+    pub fn beside(&self, that: &Front<J>)
+        ensures { IsPrefix self.now that.now ⊎ IsPrefix that.now self.now }
+    {
+        let _longer = self.longer(that);
+    }
+
+    /// Adds a publication to all that was seen, and says whether it did. It did not where the list is longer, and nothing changes then.
+    #[tactic(auto, using(crate::proofs::Lawful::more_lawful))]
     pub fn add(&mut self, history: &History<J>, publication: &Publication) -> bool
         requires room { length self.old < 2 ^ 62 }
-        requires lawful { MayFollow self.old publication.now }
-        ensures seen { MatchBool result (self.new ≡ self.old ++ publication.now ∷ []) (IsPrefix self.old self.new) }
-        ensures longer { result ≡ false → length self.old < length self.new }
+        requires lawful { MayFollow J.modules J.plan self.old publication.now }
+        ensures seen { MatchBool result (self.new ≡ self.old ++ publication.now ∷ []) (self.new ≡ self.old) }
     {
+        let before = self.seen.again();
         let mut offer: Offer<Publication, u64, Law, Nothing> = self
             .seen
             .plain::<Nothing, Publication, Add>(publication);
@@ -209,7 +218,11 @@ impl<J: Naming> Front<J> {
                 &mut offer,
                 &mut pen,
             );
-        self.count = if found == count { count + 1 } else { found };
-        found == count
+        if found != count {
+            self.seen = before;
+            return false;
+        }
+        self.count = count + 1;
+        true
     }
 }

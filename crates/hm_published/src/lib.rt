@@ -3,6 +3,7 @@
 #![tactic(auto)]
 
 mod history;
+pub mod laws;
 pub mod pages;
 mod publication;
 mod published;

@@ -1,7 +1,7 @@
 //! The two copies of what readers take. One is read while the other is written.
-ghost use Rattle.std.specs.Prelude.{◌≡◌, ◌<◌, ◌^◌, ◌++◌, ◌∷◌, [], IfOk, IfErr};
+ghost use Rattle.std.specs.Prelude.{◌≡◌, ◌≢◌, ◌<◌, ◌^◌, ◌++◌, ◌∷◌, [], IfOk, IfErr};
 ghost use Rattle.hm_published.specs.Publications.{MayFollow};
-ghost use Rattle.left_right.specs.Handles.{published};
+ghost use Rattle.left_right.specs.Handles.{pending, published};
 
 use crate::history::{Front, History, Naming};
 use crate::publication::Publication;
@@ -10,9 +10,6 @@ use crate::reading::Reader;
 use left_right::WriteHandle;
 use std::alloc::{AllocError, Global};
 use std::sync::Wait;
-
-/// So many publications are never made.
-const MOST: u64 = 1 << 61;
 
 /// Copies in which nothing is published yet of so many modules, for so many readers.
 pub fn opened<J: Naming, R: Wait + Drop>(
@@ -32,8 +29,8 @@ pub fn opened<J: Naming, R: Wait + Drop>(
 }
 
 /// Publishes behind all that was published, and waits for readers that still see what was published before the last. Answers the list that ends
-/// with the publication. Where memory is refused nothing changes, and where it was refused once the list was made, each later publication is
-/// refused too.
+/// with the publication. Where memory is refused nothing that readers see changes. Where it was refused to the copies, the operation stays
+/// pending, and each later publication is refused too; so it is where it was refused to the operations, since the list is ahead then.
 pub fn publish<J: Naming, R: Wait + Drop>(
     pages: &mut WriteHandle<Published<J>, Step<J>, R>,
     history: &History<J>,
@@ -41,13 +38,16 @@ pub fn publish<J: Naming, R: Wait + Drop>(
     publication: &Publication,
 ) -> Result<Front<J>, AllocError>
     requires all { published pages.old ≡ front.now }
-    requires lawful { MayFollow front.now publication.now }
+    requires lawful { MayFollow J.modules J.plan front.now publication.now }
     requires place { publication.now.place < 2 ^ 62 }
     ensures ok { IfOk result (λ f. f ≡ front.now ++ publication.now ∷ []) }
     ensures all { IfOk result (λ f. published pages.new ≡ f) }
     ensures err { IfErr result (λ _. published pages.new ≡ published pages.old) }
+    // While an operation is pending each publication is refused, and the operation stays.
+    ensures ready { IfOk result (λ _. pending pages.old ≡ []) }
+    ensures stays { pending pages.old ≢ [] → pending pages.new ≡ pending pages.old }
 {
-    if pages.has_pending_operations() || front.len() >= MOST {
+    if pages.has_pending_operations() {
         return Err(AllocError);
     }
     let step = Step::next(history, front, publication)?;

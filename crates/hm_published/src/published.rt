@@ -17,7 +17,8 @@ use thiserror::Error;
 /// Why a look-up isn't answered. The first that applies is answered.
 #[derive(Clone, Copy, Debug, Error, PartialEq, Eq)]
 pub enum LookFault {
-    /// No entry was given to what is published.
+    /// No entry was given to what is published, or its copy is behind what the pass was told. A build meets neither: a publication is shown before
+    /// a pass is told of it.
     #[error("no entry")]
     NoEntry,
     /// Memory ran out.
@@ -88,21 +89,22 @@ impl<J: Naming> Model for Step<J> {
 
 impl<J: Naming> Step<J> {
     /// Adds a publication to the list of all publications, all of which were seen.
-    #[tactic(auto, using(crate::proofs::Showing::next_ends))]
+    #[tactic(auto, using(crate::proofs::Showing::next_ends, crate::proofs::Lawful::few_before))]
     pub fn next(
         history: &History<J>,
         front: &Front<J>,
         publication: &Publication,
     ) -> Result<Step<J>, AllocError>
-        requires room { length front.now < 2 ^ 62 }
         requires place { publication.now.place < 2 ^ 62 }
-        requires lawful { MayFollow front.now publication.now }
+        requires lawful { MayFollow J.modules J.plan front.now publication.now }
         ensures { IfOk result (λ s. s ≡ front.now ++ publication.now ∷ []) }
     {
         let Verdict::Good(interface) = publication.outcome.verdict() else {
-            return Err(AllocError);
+            unreachable!()
         };
         let interface = Arc::try_clone(interface)?;
+        // The list is lawful, so it has no more publications than the place of the next one.
+        let _count = front.len();
         let mut front = front.again();
         if !front.add(history, publication) {
             return Err(AllocError);
@@ -139,7 +141,7 @@ impl<J: Naming> Published<J> {
 
     /// Finds the interface of a module, for a reader that has seen this front.
     pub fn found(&self, seen: &Front<J>, number: usize) -> Result<Sight<J>, LookFault>
-        ensures list { IfOk result (λ s. (s.front ≡ self.now) × IsPrefix seen.now s.front × IsLawful s.front) }
+        ensures list { IfOk result (λ s. (s.front ≡ self.now) × IsPrefix seen.now s.front × IsLawful J.modules J.plan s.front) }
         ensures interface { IfOk result (λ s. option_map arc_value s.interface ≡ interface_in s.front number) }
         ensures entries { IfOk result (λ s. s.entries ≡ entries_of s.front) }
         ensures few { IfOk result (λ s. s.entries ≤ 2 ^ 62) }

@@ -1,5 +1,5 @@
 //! The readers of what is published.
-ghost use Rattle.std.specs.Prelude.{◌≡◌, ◌≤◌, ◌^◌, IfOk, IfErr, option_map};
+ghost use Rattle.std.specs.Prelude.{◌≡◌, ◌≤◌, ◌^◌, ◌⊎◌, IfOk, IfErr, option_map};
 ghost use Rattle.std.specs.Arc.{arc_value};
 ghost use mathlib.Core.List.{IsPrefix};
 ghost use Rattle.hm_published.specs.Publications.{IsLawful, entries_of, interface_in};
@@ -50,14 +50,24 @@ impl<J: Naming> Reader<J> {
     pub fn learn(&mut self, front: &Front<J>)
         ensures kept { IsPrefix self.old self.new }
         ensures told { IsPrefix front.now self.new }
-        ensures lawful { IsLawful self.new }
+        ensures lawful { IsLawful J.modules J.plan self.new }
+        // Nothing else is added: it has the longer of the two lists.
+        ensures exact { (self.new ≡ self.old) ⊎ (self.new ≡ front.now) }
     {
         self.seen = self.seen.longer(front);
     }
 
+    /// Compares what was seen with this front: one of the two begins the other.
+    pub fn beside(&self, front: &Front<J>)
+        ensures { IsPrefix self.now front.now ⊎ IsPrefix front.now self.now }
+    {
+        self.seen.beside(front);
+    }
+
     /// Looks for the interface of a module, and waits for nobody.
     pub fn look(&mut self, number: usize) -> Result<Found, LookFault>
-        ensures list { IfOk result (λ _. IsPrefix self.old self.new × IsLawful self.new) }
+        ensures list { IfOk result (λ _. IsPrefix self.old self.new) }
+        ensures lawful { IsLawful J.modules J.plan self.new }
         ensures interface { IfOk result (λ f. option_map arc_value f.interface ≡ interface_in self.new number) }
         ensures entries { IfOk result (λ f. f.entries ≡ entries_of self.new) }
         ensures few { IfOk result (λ f. f.entries ≤ 2 ^ 62) }
@@ -73,7 +83,10 @@ impl<J: Naming> Reader<J> {
                 self.seen = front;
                 Ok(Found { interface, entries })
             }
-            Err(fault) => Err(fault),
+            Err(fault) => {
+                let _count = self.seen.len();
+                Err(fault)
+            }
         }
     }
 }
@@ -84,7 +97,7 @@ fn enter<J: Naming>(
     seen: &Front<J>,
     number: usize,
 ) -> Result<Sight<J>, LookFault>
-    ensures list { IfOk result (λ s. IsPrefix seen.now s.front × IsLawful s.front) }
+    ensures list { IfOk result (λ s. IsPrefix seen.now s.front × IsLawful J.modules J.plan s.front) }
     ensures interface { IfOk result (λ s. option_map arc_value s.interface ≡ interface_in s.front number) }
     ensures entries { IfOk result (λ s. s.entries ≡ entries_of s.front) }
     ensures few { IfOk result (λ s. s.entries ≤ 2 ^ 62) }

@@ -1,5 +1,5 @@
 -- What a worker that got a job has seen: an interface of each import.
-use Rattle.std.proofs.Common.{◌≡◌, ℕ, List, Bool, true, false, Some, Result, Ok, Err, ap, sym, ◌∙◌, subst}
+use Rattle.std.proofs.Common.{◌≡◌, ℕ, ◌<◌, List, length, Bool, true, false, Some, Result, Ok, Err, ap, sym, ◌∙◌, subst}
 use mathlib.Core.List.{IsPrefix}
 use Rattle.hm_components.specs.Digraph.{Edge}
 use Rattle.hm_outcomes.specs.Outcomes.{Checked}
@@ -8,7 +8,7 @@ use Rattle.hm_published.specs.Publications.{IsPublishedIn, interface_in}
 use Rattle.hm_store.specs.Objects.{reply_of}
 use Rattle.hm_store.specs.Builds.{AgreesWith, Build, IsLegal, Settles, after_claim, after_stop, interface_at, interface_of, kept_at, state_of}
 use Rattle.hm_store.specs.Builds as builds
-use Rattle.hm_shared.specs.Listings.{HasImports, IsBuildOf, IsListed}
+use Rattle.hm_shared.specs.Listings.{HasImports, IsBuildOf, IsListed, IsWithin}
 use Rattle.hm_store.specs.declared.object.Status.TheVariants.{Published}
 use Rattle.hm_store.specs.declared.object.Claimed.TheVariants.{Job}
 use Rattle.hm_store.proofs.ReadyModules.{job_is_ready}
@@ -20,6 +20,7 @@ use Rattle.hm_store.specs.declared.object.Claimed.{Claimed as Reply}
 use Rattle.hm_store.specs.declared.object.Claimed.TheVariants.{Later, Done}
 use Rattle.hm_store.specs.Records.{replied}
 use Rattle.hm_syntax.specs.declared.ast.Module.{Module}
+use Rattle.hm_store.proofs.Finishing.{build_follows, statuses_length}
 use Rattle.hm_shared.proofs.Listing.{found_in_more}
 
 pub job_imports : (b : Build) (ps : List Publication) (m k : ℕ) → IsLegal b → IsListed b ps → reply_of b.given (state_of b) ≡ Job m → Edge b.given.imports m k → IsPublishedIn ps k
@@ -33,6 +34,15 @@ job_imports b ps m k legal listed job edge =
 pub turn_imports : (plan : List (List ℕ)) (b : Build) (ps : List Publication) (t : Turn) → IsLegal b → IsListed b ps → b.given.imports ≡ plan → replied (Some t) ≡ reply_of b.given (state_of b) → HasImports plan t ps
 turn_imports plan b ps (turn.Job m) legal listed same is = λ k edge. job_imports b ps m k legal listed (sym is) (subst (λ g. Edge g m k) (sym same) edge)
 turn_imports plan b ps turn.Done legal listed same is = tt
+
+-- and is one of the modules, with a row of the plan
+pub turn_within : (ms : List Module) (plan : List (List ℕ)) (b : Build) (t : Turn) → IsLegal b → IsBuildOf ms plan b → replied (Some t) ≡ reply_of b.given (state_of b) → IsWithin (length ms) t × IsWithin (length plan) t
+turn_within ms plan b (turn.Job m) legal of is =
+    let lt : m < length (state_of b).statuses = (job_is_ready b.given (state_of b) m (sym is)).0 in (
+      subst (λ n. m < n) (statuses_length b legal ∙ ap length of.modules) lt,
+      subst (λ n. m < n) ((build_follows b legal).len ∙ ap length of.imports) lt,
+    )
+turn_within ms plan b turn.Done legal of is = (tt, tt)
 
 -- and in each list that begins with it
 pub still_imports : (plan : List (List ℕ)) (t : Turn) (ps qs : List Publication) → IsPrefix ps qs → HasImports plan t ps → HasImports plan t qs

@@ -2,3 +2,6 @@ pub mod Calls
 pub mod Dealt
 pub mod JobImports
 pub mod Listing
+pub mod Refusing
+pub mod SeenImports
+pub mod WorkedListings

@@ -1,14 +1,15 @@
 -- The list of the publications of a build, and its next one.
-use Rattle.std.proofs.Common.{◌≡◌, ◌≢◌, ◌==◌, ℕ, zero, suc, ◌+◌, ◌<◌, Bool, true, false, cond, ◌⊎◌, inl, inr, ⊎_elim, replicate, List, [], ◌∷◌, ◌++◌, length, map, get_or, set, Option, Some, None, Result, Ok, Err, refl, sym, ap, subst, ◌∙◌, arith, length-append}
+use Rattle.std.proofs.Common.{◌≡◌, ◌≢◌, ◌==◌, ℕ, zero, suc, ◌+◌, ◌<◌, Bool, true, false, cond, ◌⊎◌, inl, inr, ⊎_elim, replicate, List, [], ◌∷◌, ◌++◌, length, map, get_or, set, Option, Some, None, Result, Ok, Err, slice_get, slice_index_or, refl, sym, ap, ap₂, subst, ◌∙◌, arith, length-append}
 use Rattle.std.specs.Prelude.{All, Contains}
 use Rattle.std.specs.Option.{option_map}
 use Rattle.std.proofs.lemmas.Bool.Decides.{nat_tests}
 use Rattle.std.proofs.lemmas.Bool.{cases_eq}
 use Rattle.std.proofs.lemmas.List.{append-nil, get_or-set_same, get_or-set_other, map-append}
-use Rattle.std.proofs.lemmas.List.Elements.{All-append}
+use Rattle.std.proofs.lemmas.List.Elements.{All-append, Contains-append_left, Contains-append_right}
 use Rattle.std.proofs.lemmas.Option.{get_or_from_slice_get}
 use mathlib.Core.List.{IsPrefix}
 use Rattle.hm_types.specs.Interfaces.{Exports as Interface}
+use Rattle.hm_syntax.specs.declared.ast.Module.{Module}
 use Rattle.hm_types.specs.StandardPrelude.{prelude_interface}
 use Rattle.hm_names.specs.Imports.{AreImportsOf}
 use Rattle.hm_verdicts.specs.ModuleVerdicts.{Verdict, Good, Faulty, IsVerdict}
@@ -18,12 +19,12 @@ use Rattle.hm_verdicts.specs.Sets.{module_at, imports_of, no_module}
 use Rattle.hm_verdicts.specs.Verdicts as verdicts
 use Rattle.hm_outcomes.specs.Outcomes.{Checked, IsGood}
 use Rattle.hm_published.specs.declared.publication.Publication.{Publication}
-use Rattle.hm_published.specs.Publications.{MayFollow, published_interface, interface_in, interface_of}
+use Rattle.hm_published.specs.Publications.{IsPublishedIn, MayFollow, published_interface, interface_in, interface_of}
 use Rattle.hm_published.proofs.Showing.{interface_in_more, entries_more}
 use Rattle.hm_store.specs.Objects.{status_at, state_after}
 use Rattle.hm_store.specs.Builds.{Build, IsLegal, IsOf, Refuses, Settles, AgreesWith, set_of, state_of, kept_at, interface_in as interface_of_kept, interface_at, with_entry, with_kept, after_claim, after_stop}
 use Rattle.hm_store.specs.Settlements.{settlement_by}
-use Rattle.hm_shared.specs.Listings.{IsListed, publications_in}
+use Rattle.hm_shared.specs.Listings.{FailsIn, IsBuildOf, IsListed, Listing, publications_in}
 use Rattle.hm_store.specs.declared.object.Entry.{Entry}
 use Rattle.hm_store.specs.declared.object.Entry.TheVariants.{Claim, Publish, Fail, Stop}
 use Rattle.hm_store.specs.declared.object.Claimed.{Claimed as Reply}
@@ -47,21 +48,10 @@ apart kept m [] all none (k, lt, is) = absurd (omega (arith, lt))
 apart kept m (p ∷ ps) all none (zero, lt, is) = let one : kept_at kept p.number ≡ Some p.outcome = all 0 p (omega arith) in let other : kept_at kept p.number ≡ None = ap (kept_at kept) is ∙ none in absurd (cc)
 apart kept m (p ∷ ps) all none (suc k, lt, is) = apart kept m ps (λ j d l. all (suc j) d (omega (arith, l))) none (k, omega (arith, lt), is)
 
--- an interface that is found in the list is published there
-found : (ps : List Publication) (m : ℕ) (f : Interface) → interface_in ps m ≡ Some f → Contains (map published_interface ps) (Some f)
-found [] m f is = absurd (cc)
-found (p ∷ ps) m f is = by (λ e. found ps m f e) (p.number == m) refl
-  where
-    by : (interface_in ps m ≡ Some f → Contains (map published_interface ps) (Some f)) → (b : Bool) → (p.number == m) ≡ b → Contains (map published_interface (p ∷ ps)) (Some f)
-    by later true e = (0, omega arith, subst (λ (x : Bool). cond x (published_interface p) (interface_in ps m) ≡ Some f) e is)
-    by later false e = let rest = later (subst (λ (x : Bool). cond x (published_interface p) (interface_in ps m) ≡ Some f) e is) in (suc rest.0, omega (arith, rest.1), rest.2)
-
-module _ (b : Build) (ps : List Publication) (listed : IsListed b ps) where
-  imports_found : (fs : List Interface) (ks : List ℕ) → map (λ f. Some f) fs ≡ map (interface_at b.kept) ks → All (λ f. Contains (map published_interface ps) (Some f)) fs
-  imports_found [] ks is k d lt = absurd (omega (arith, lt))
-  imports_found (f ∷ fs) [] is k d lt = absurd (cc)
-  imports_found (f ∷ fs) (m ∷ ks) is zero d lt = let here : interface_at b.kept m ≡ Some f = cc in found ps m f (listed.same m ∙ here)
-  imports_found (f ∷ fs) (m ∷ ks) is (suc k) d lt = imports_found fs ks (cc) k d (omega (arith, lt))
+-- the interfaces in the list are those that are kept
+pub same_found : (b : Build) (ps : List Publication) (listed : IsListed b ps) (ks : List ℕ) → map (interface_at b.kept) ks ≡ map (interface_in ps) ks
+same_found b ps listed [] = refl
+same_found b ps listed (k ∷ ks) = ap₂ (λ x xs. x ∷ xs) (sym (listed.same k)) (same_found b ps listed ks)
 
 -- what is settled so far in a legal build, but for skips: what is kept
 module _ (b : Build) (h : IsLegal b) where
@@ -118,15 +108,16 @@ claimed_within : (b : Build) (w m : ℕ) → IsLegal b → status_at (state_of b
 claimed_within b w m h claimed = subst (λ n. m < n) (statuses_length b h) (within (state_of b).statuses m (λ e. let f : Claimed w ≡ Skipped = sym claimed ∙ e in cc))
 
 -- what may be published may follow the publications so far
-pub may_follow : (b : Build) (ps : List Publication) (w m : ℕ) (c : Checked) → PublishedAreAskedFor → IsLegal b → IsListed b ps → Refuses b w m c None
-    → IsVerdict c.«module» (prelude_interface ∷ c.imports) c.verdict → IsGood c.verdict → MayFollow ps (publication m (length b.journal) c)
-may_follow b ps w m c law h listed accepted right good = record {
+pub may_follow : (modules : List Module) (plan : List (List ℕ)) (b : Build) (ps : List Publication) (w m : ℕ) (c : Checked) → PublishedAreAskedFor → IsLegal b → IsListed b ps → IsBuildOf modules plan b
+    → Refuses b w m c None → IsVerdict c.«module» (prelude_interface ∷ c.imports) c.verdict → IsGood c.verdict → MayFollow modules plan ps (publication m (length b.journal) c)
+may_follow modules plan b ps w m c law h listed build accepted right good = record {
   distinct = apart b.kept m ps listed.are.outcomes (none_kept b w m h accepted.0);
   later = listed.within;
+  subject = subst (λ ms. slice_get ms m ≡ Some c.«module») build.modules accepted.1.subject;
+  imports = accepted.1.imports ∙ (same_found b ps listed (imports_of (set_of b) m) ∙ ap (λ g. map (interface_in ps) (slice_index_or g m [])) build.imports);
   good = good_interface c.verdict good;
   asked = asked b h law m c (claimed_within b w m h accepted.0) accepted.1;
   right = right;
-  imports = imports_found b ps listed c.imports (imports_of (set_of b) m) accepted.1.imports;
 }
 
 -- Each step keeps the list
@@ -250,7 +241,7 @@ pub published_shown : (b : Build) (ps : List Publication) (w m : ℕ) (c : Check
     → interface_in (ps ++ publication m (length b.journal) c ∷ []) m ≡ interface_of c.verdict
 published_shown b ps w m c legal claimed h = (listed_publish b ps w m c legal claimed h).same m ∙ ap interface_of_kept (get_or-set_same b.kept m (Some c) None (kept_within b w m legal claimed))
 
-found_behind : (f : Interface) (b : Bool) (x y z : Option Interface) → (y ≡ Some f → z ≡ Some f) → cond b x y ≡ Some f → cond b x z ≡ Some f
+pub found_behind : (f : Interface) (b : Bool) (x y z : Option Interface) → (y ≡ Some f → z ≡ Some f) → cond b x y ≡ Some f → cond b x z ≡ Some f
 found_behind f true x y z later is = is
 found_behind f false x y z later is = later is
 
@@ -280,3 +271,29 @@ pub listed_failed : (b : Build) (ps : List Publication) (w m : ℕ) (c : Checked
     → IsListed after ps
 listed_failed b ps w m c legal faulty h after (Ok u) s = subst (λ x. IsListed x ps) (sym s.1) (listed_fail b ps w m c legal s.0.0 faulty h)
 listed_failed b ps w m c legal faulty h after (Err r) s = subst (λ x. IsListed x ps) (sym s.1) h
+
+-- a module that is published in what was seen is found in what is seen later
+pub found_if_published : (ps qs : List Publication) (m : ℕ) → IsPublishedIn ps m → IsPrefix ps qs → None ≡ interface_in qs m → ⊥
+found_if_published ps qs m h more is =
+    let found : interface_in qs m ≡ Some h.0 = subst (λ w. interface_in w m ≡ Some h.0) more.1 (found_in_more ps more.0 m h.0 h.1) in
+    let both : None ≡ Some h.0 = is ∙ found in absurd (cc both)
+
+-- and is the one that was published
+pub same_if_published : (ps qs : List Publication) (m : ℕ) (f : Interface) → IsPublishedIn ps m → IsPrefix ps qs → Some f ≡ interface_in qs m → interface_in ps m ≡ Some f
+same_if_published ps qs m f h more is =
+    let found : interface_in qs m ≡ Some h.0 = subst (λ w. interface_in w m ≡ Some h.0) more.1 (found_in_more ps more.0 m h.0 h.1) in
+    h.1 ∙ (sym found ∙ sym is)
+
+-- what is published in a list is published in each that it begins
+pub still_published : (ps qs : List Publication) (m : ℕ) → IsPublishedIn ps m → IsPrefix ps qs → IsPublishedIn qs m
+still_published ps qs m h more = (h.0, subst (λ w. interface_in w m ≡ Some h.0) more.1 (found_in_more ps more.0 m h.0 h.1))
+
+-- a failure isn't refused for memory
+pub fails_without_memory : (l : Listing) (w m : ℕ) (c : Checked) (l' : Listing) (r : Refusal × Checked) → FailsIn l w m c l' (Err r) → r.0 ≢ Memory
+fails_without_memory l w m c l' (NotYours, d) h e = absurd (cc e)
+fails_without_memory l w m c l' (Stranger, d) h e = absurd (cc e)
+fails_without_memory l w m c l' (Memory, d) h e = h.0
+
+-- the last publication of a beginning is in the list
+pub has_last : (ps qs : List Publication) (p : Publication) → IsPrefix (ps ++ p ∷ []) qs → Contains qs p
+has_last ps qs p more = subst (λ l. Contains l p) more.1 (Contains-append_left (ps ++ p ∷ []) more.0 p (Contains-append_right ps (p ∷ []) p (0, omega arith, refl)))

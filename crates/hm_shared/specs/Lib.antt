@@ -1,2 +1,4 @@
+pub mod Laws
 pub mod Listings
 pub mod Passes
+pub mod Worked

@@ -1,5 +1,5 @@
 -- The publications of a build as a list: what look-ups see of it.
-use Rattle.std.specs.Prelude.{◌≡◌, ℕ, suc, ◌≤◌, List, [], ◌∷◌, ◌++◌, length, map, Some, None, Result, Ok, Err, All}
+use Rattle.std.specs.Prelude.{◌≡◌, ℕ, suc, ◌<◌, ◌≤◌, List, [], ◌∷◌, ◌++◌, length, map, Option, Some, None, Result, Ok, Err, All, Contains, slice_get, slice_index_or}
 use base.Stored.{Coded, Coded-set}
 use Rattle.std.specs.Coded.{codes}
 use Rattle.hm_syntax.specs.Codes.{coded_declaration}
@@ -9,7 +9,7 @@ use Rattle.hm_components.specs.Digraph.{Edge}
 use Rattle.hm_outcomes.specs.Outcomes.{Checked}
 use Rattle.hm_published.specs.declared.publication.Publication.{Publication}
 use Rattle.hm_published.specs.Publications.{IsPublishedIn, interface_in, entries_of}
-use Rattle.hm_store.specs.Builds.{Build, Refuses, kept_at, interface_at, with_kept}
+use Rattle.hm_store.specs.Builds.{Build, IsLegal, Refuses, kept_at, interface_at, with_kept}
 use Rattle.hm_store.specs.declared.object.Turn.{Turn}
 use Rattle.hm_store.specs.declared.object.Turn.TheVariants as turn
 use Rattle.hm_store.specs.declared.object.Refusal.{Refusal}
@@ -50,6 +50,34 @@ pub record IsBuildOf (subjects : List Module) (plan : List (List ℕ)) (b : Buil
 abbrev pub HasImports : List (List ℕ) → Turn → List Publication → Type 0
 HasImports plan (turn.Job m) ps = (k : ℕ) → Edge plan m k → IsPublishedIn ps k
 HasImports plan turn.Done ps = Unit {0}
+
+-- the module that a claim got is one of so many
+abbrev pub IsWithin : ℕ → Turn → Type 0
+IsWithin n (turn.Job m) = m < n
+IsWithin n turn.Done = Unit {0}
+
+-- this publication is in the list
+abbrev pub HasPublication : List Publication → ℕ → ℕ → Checked → Type 0
+HasPublication ps m place c = Contains ps (record { number = m; place = place; outcome = c })
+
+-- the outcome is that of module m, for the interfaces that this list has of the modules that the plan says it imports
+pub record IsOfSeen (subjects : List Module) (plan : List (List ℕ)) (ps : List Publication) (m : ℕ) (c : Checked) : Type 0 where
+  pub subject : slice_get subjects m ≡ Some c.«module»
+  pub imports : map (λ f. Some f) c.imports ≡ map (interface_in ps) (slice_index_or plan m [])
+
+-- the reason that the build object has for an answer: for want of memory it has none
+abbrev pub reason_of : Result (Unit {0}) (Refusal × Checked) → Option Refusal
+reason_of (Ok _) = None
+reason_of (Err (NotYours, d)) = Some NotYours
+reason_of (Err (Stranger, d)) = Some Stranger
+reason_of (Err (Memory, d)) = None
+
+-- at one point of the build of these modules with this plan, its journal is legal, and the build object has this reason for the answer to worker w
+pub record IsAnswered (subjects : List Module) (plan : List (List ℕ)) (w m : ℕ) (c : Checked) (r : Result (Unit {0}) (Refusal × Checked)) : Type 0 where
+  pub build : Build
+  pub same : IsBuildOf subjects plan build
+  pub legal : IsLegal build
+  pub reason : Refuses build w m c (reason_of r)
 
 -- the listing after a publication
 abbrev pub published_after : Listing → ℕ → ℕ → Checked → Listing

@@ -1,8 +1,8 @@
 //! What a worker makes its calls with, and how these are written down.
-ghost use Rattle.std.specs.Prelude.{◌≡◌, ◌≤◌, ◌<◌, ◌+◌, true, [], ◌∷◌, ◌++◌, ◌^◌, max, IfOk, IfErr, Err, option_map, vec_len, vec_capacity};
+ghost use Rattle.std.specs.Prelude.{◌≡◌, ◌≤◌, ◌<◌, ◌+◌, ◌⊎◌, true, [], ◌∷◌, ◌++◌, ◌^◌, All, max, IfOk, IfErr, Err, Some, length, map, option_map, vec_len, vec_capacity};
 ghost use Rattle.std.specs.Arc.{arc_value};
 ghost use mathlib.Core.List.{IsPrefix};
-ghost use Rattle.hm_published.specs.Publications.{IsLawful, entries_of, interface_in};
+ghost use Rattle.hm_published.specs.Publications.{IsLawful, IsPublishedIn, entries_of, interface_in};
 ghost use Rattle.hm_published.specs.declared.published.LookFault.TheVariants.{NoEntry};
 ghost use Rattle.hm_store.specs.Records.{AddsAt, knows, rises, wrote, wrote_in};
 ghost use Rattle.hm_store.specs.declared.record.Act.TheVariants.{Look};
@@ -102,17 +102,33 @@ impl<L: Ledger + Naming> Pass<L> {
     pub(crate) fn learn(&mut self, front: &Front<L>)
         ensures kept { IsPrefix (seen_of self.old) (seen_of self.new) }
         ensures told { IsPrefix front.now (seen_of self.new) }
-        ensures lawful { IsLawful (seen_of self.new) }
+        ensures lawful { IsLawful L.modules L.plan (seen_of self.new) }
+        ensures exact { (seen_of self.new ≡ seen_of self.old) ⊎ (seen_of self.new ≡ front.now) }
         ensures record { (worker_of self.new ≡ worker_of self.old) × (calls_of self.new ≡ calls_of self.old) × (room_of self.new ≡ room_of self.old)
             × (share_of self.new ≡ share_of self.old) }
     {
         self.reader.learn(front);
     }
 
-    /// Looks for a published interface and writes down what is found. It waits for nobody.
-    pub(crate) fn look(&mut self, number: usize) -> Result<Option<Arc<Interface>>, LookFault>
+    /// Compares what the pass has seen with these publications: one of the two lists begins the other.
+    pub(crate) fn beside(&self, front: &Front<L>)
+        ensures { IsPrefix (seen_of self.now) front.now ⊎ IsPrefix front.now (seen_of self.now) }
+    {
+        self.reader.beside(front);
+    }
+
+    /// Looks for the interface of a module in what is published: in all that the pass has seen or was told of, and perhaps more. The answer is
+    /// `None` if the module isn't published there. The call is written down with what it found. It has no lock and no handle of the runtime
+    /// within reach, so it waits for nobody.
+    ///
+    /// # Errors
+    ///
+    /// - `NoEntry` if the reader isn't let in, or meets a copy that is behind what the pass was told. A build meets neither.
+    /// - `Memory` if the copy of an `Arc` was refused.
+    pub fn look(&mut self, number: usize) -> Result<Option<Arc<Interface>>, LookFault>
         requires { 0 < room_of self.old }
-        ensures list { IfOk result (λ _. IsPrefix (seen_of self.old) (seen_of self.new) × IsLawful (seen_of self.new)) }
+        ensures list { IsPrefix (seen_of self.old) (seen_of self.new) }
+        ensures lawful { IsLawful L.modules L.plan (seen_of self.new) }
         ensures reply { IfOk result (λ r. option_map arc_value r ≡ interface_in (seen_of self.new) number) }
         ensures ok { IfOk result (λ r. (o : _) × (option_map arc_value o ≡ option_map arc_value r)
             × AddsAt (entries_of (seen_of self.new)) (calls_of self.old) (Look number o) (calls_of self.new)) }
@@ -120,7 +136,7 @@ impl<L: Ledger + Naming> Pass<L> {
         ensures room { IfOk result (λ _. room_of self.new + 1 ≡ room_of self.old) }
         ensures parts { IfOk result (λ _. (share_of self.new).parts ≡ (share_of self.old).parts) }
         ensures err { IfErr result (λ _. (worker_of self.new ≡ worker_of self.old) × (calls_of self.new ≡ calls_of self.old)
-            × (room_of self.new ≡ room_of self.old) × (share_of self.new ≡ share_of self.old) × IsPrefix (seen_of self.old) (seen_of self.new)) }
+            × (room_of self.new ≡ room_of self.old) × (share_of self.new ≡ share_of self.old)) }
         ensures no_entry { result ≡ Err NoEntry → seen_of self.new ≡ seen_of self.old }
     {
         let Found { interface, entries } = match self.reader.look(number) {
@@ -133,6 +149,52 @@ impl<L: Ledger + Naming> Pass<L> {
         };
         self.read(entries, Act::Look(number, noted));
         Ok(interface)
+    }
+
+    /// Looks for the interface of a module whose publication the pass has seen, so there is one. It waits for nobody, and has the errors of
+    /// `look`.
+    #[tactic(auto, using(crate::proofs::Listing::found_if_published, crate::proofs::Listing::same_if_published))]
+    pub fn look_at_seen(&mut self, number: usize) -> Result<Arc<Interface>, LookFault>
+        requires room { 0 < room_of self.old }
+        requires published { IsPublishedIn (seen_of self.old) number }
+        ensures list { IsPrefix (seen_of self.old) (seen_of self.new) }
+        ensures lawful { IsLawful L.modules L.plan (seen_of self.new) }
+        ensures reply { IfOk result (λ i. interface_in (seen_of self.old) number ≡ Some (arc_value i)) }
+        ensures worker { worker_of self.new ≡ worker_of self.old }
+        ensures room { IfOk result (λ _. room_of self.new + 1 ≡ room_of self.old) }
+        ensures kept { IfErr result (λ _. room_of self.new ≡ room_of self.old) }
+    {
+        match self.look(number) {
+            Ok(Some(interface)) => Ok(interface),
+            Ok(None) => unreachable!(),
+            Err(fault) => Err(fault),
+        }
+    }
+
+    /// Looks for the interfaces of these modules, in order. The pass has seen the publication of each, so there is one. It waits for nobody, and
+    /// has the errors of `look`, with `Memory` also if the list can't grow.
+    pub fn look_at_all(
+        &mut self,
+        alloc: Global,
+        numbers: &[usize],
+    ) -> Result<Vec<Arc<Interface>>, LookFault>
+        requires room { length numbers.now ≤ room_of self.old }
+        requires published { All (IsPublishedIn (seen_of self.old)) numbers.now }
+        ensures list { IsPrefix (seen_of self.old) (seen_of self.new) }
+        ensures reply { IfOk result (λ v. map (λ i. Some (arc_value i)) v.items ≡ map (interface_in (seen_of self.old)) numbers.now) }
+        ensures worker { worker_of self.new ≡ worker_of self.old }
+        ensures room { IfOk result (λ _. room_of self.new + length numbers.now ≡ room_of self.old) }
+        ensures left { room_of self.old ≤ room_of self.new + length numbers.now }
+    {
+        let mut interfaces = Vec::new(alloc);
+        for number in numbers {
+            let interface = self.look_at_seen(*number)?;
+            match interfaces.push(interface) {
+                Ok(()) => {}
+                Err(_) => return Err(LookFault::Memory),
+            }
+        }
+        Ok(interfaces)
     }
 
     /// The worker's number.

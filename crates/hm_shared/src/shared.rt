@@ -1,29 +1,27 @@
 //! The store behind a lock, for workers that have a pass each.
-ghost use Rattle.std.specs.Prelude.{◌≡◌, ◌≤◌, ◌<◌, ◌+◌, ◌^◌, [], ◌∷◌, ◌++◌, All, Err, max, length, not, vec_len, IfOk, IfErr, IfSome, IfNone, ℕ, slice_index_or, option_map};
-ghost use Rattle.std.specs.Arc.{arc_value};
+ghost use Rattle.std.specs.Prelude.{◌≡◌, ◌≢◌, ◌≤◌, ◌<◌, ◌+◌, ◌^◌, ◌⊎◌, [], ◌∷◌, ◌++◌, All, max, length, not, vec_len, IfOk, IfErr, IfSome, IfNone, ℕ, slice_index_or};
 ghost use mathlib.Core.List.{IsPrefix};
 ghost use Rattle.hm_outcomes.specs.Outcomes.{IsGood};
-ghost use Rattle.hm_published.specs.Publications.{IsLawful, entries_of, interface_in, interface_of};
-ghost use Rattle.hm_published.specs.declared.published.LookFault.TheVariants.{NoEntry};
+ghost use Rattle.hm_published.specs.Publications.{IsLawful, interface_in, interface_of};
+ghost use Rattle.hm_store.specs.declared.object.Refusal.TheVariants.{Memory, Stranger};
 ghost use Rattle.left_right.specs.Handles.{published};
-ghost use Rattle.hm_store.specs.Builds.{after_claim, after_stop, state_of};
-ghost use Rattle.hm_shared.specs.Listings.{FailsIn, HasImports, Settled, one_way};
+ghost use Rattle.hm_store.specs.Builds.{IsLegal, after_claim, after_stop, state_of};
+ghost use Rattle.hm_shared.specs.Listings.{FailsIn, HasImports, HasPublication, IsAnswered, IsBuildOf, IsListed, IsOfSeen, IsWithin, Settled, one_way};
 ghost use Rattle.hm_store.specs.Objects.{reply_of};
 ghost use Rattle.hm_shared.specs.Passes.{calls_of, room_of, seen_of, share_of, worker_of};
 ghost use Rattle.hm_store.specs.Records.{Adds, AddsAt, act_of, replied};
-ghost use Rattle.hm_store.specs.declared.record.Act.TheVariants.{Publish, Fail, Stop, Look};
+ghost use Rattle.hm_store.specs.declared.record.Act.TheVariants.{Publish, Fail, Stop};
 
 use crate::dealing::{Crew, SharedFault, deal};
 use crate::listed::Listed;
 use crate::passes::Pass;
 use hm_outcomes::Outcome;
-use hm_published::{LookFault, Naming, Opened, Published, Step, pages};
+use hm_published::{Naming, Opened, Published, Step, pages};
 use hm_store::{Act, Claimed, Refusal, Store, Turn};
-use hm_types::Interface;
 use left_right::{Absorb, WriteHandle};
 use std::alloc::Global;
 use std::sync::ledger::{Blank, Book, Ledger};
-use std::sync::{Arc, Condvar, Mutex, Wait};
+use std::sync::{Condvar, Mutex, Wait};
 
 /// What the lock keeps: the store with the list of its publications, the book whose total is the number of its entries, and what look-ups read,
 /// in which that list is published.
@@ -46,7 +44,8 @@ pub struct Brands {
     pub opened: Opened,
 }
 
-/// The store behind a lock, shared by the workers of a build. Each call takes the lock, and is written down in the worker's pass.
+/// The store behind a lock, shared by the workers of a build. Each call takes the lock, and is written down in the worker's pass. Look-ups take
+/// no lock: they are calls of the pass alone.
 #[derive(Drop)]
 pub struct Shared<L: Ledger + Naming, R: Wait + Drop>
 where
@@ -57,6 +56,17 @@ where
 }
 
 impl<L: Ledger + Naming, R: Wait + Drop> Locked<L, R> {
+    /// What holds of the store and of a pass while the lock is held.
+    fn beside(&self, pass: &Pass<L>)
+        ensures legal { IsLegal self.now.listed.build }
+        ensures listed { IsListed self.now.listed.build self.now.listed.published }
+        ensures build { IsBuildOf L.modules L.plan self.now.listed.build }
+        ensures beside { IsPrefix (seen_of pass.now) self.now.listed.published ⊎ IsPrefix self.now.listed.published (seen_of pass.now) }
+    {
+        let _entries = self.listed.store().entries();
+        pass.beside(self.listed.front());
+    }
+
     /// Claims a module and writes it down; None where the worker has to wait.
     fn claim_next(&mut self, pass: &mut Pass<L>) -> Option<Turn>
         requires { 0 < room_of pass.old }
@@ -66,6 +76,7 @@ impl<L: Ledger + Naming, R: Wait + Drop> Locked<L, R> {
           published = self.old.listed.published;
         } }
         ensures imports { IfSome result (λ t. HasImports L.plan t self.new.listed.published) }
+        ensures within { IfSome result (λ t. IsWithin (length L.modules) t × IsWithin (length L.plan) t) }
         ensures none { IfNone result (pass.new ≡ pass.old) }
         ensures some { IfSome result (λ t. AddsAt (length self.old.listed.build.journal) (calls_of pass.old) (act_of t) (calls_of pass.new)) }
         ensures worker { IfSome result (λ _. worker_of pass.new ≡ worker_of pass.old) }
@@ -119,6 +130,7 @@ impl<L: Ledger + Naming, R: Wait + Drop> Locked<L, R> {
     }
 
     /// Tells of a failure and writes it down.
+    #[tactic(auto, using(crate::proofs::Listing::fails_without_memory))]
     fn fail_one(
         &mut self,
         pass: &mut Pass<L>,
@@ -128,6 +140,7 @@ impl<L: Ledger + Naming, R: Wait + Drop> Locked<L, R> {
         requires room { 0 < room_of pass.old }
         requires faulty { ¬ IsGood outcome.verdict }
         ensures settles { FailsIn self.old.listed (worker_of pass.old) number outcome self.new.listed result }
+        ensures refused { IfErr result (λ r. r.0 ≢ Memory) }
         ensures ok { IfOk result (λ _. AddsAt (length self.old.listed.build.journal) (calls_of pass.old) (Fail number) (calls_of pass.new)) }
         ensures worker { IfOk result (λ _. worker_of pass.new ≡ worker_of pass.old) }
         ensures room { IfOk result (λ _. room_of pass.new + 1 ≡ room_of pass.old) }
@@ -177,6 +190,7 @@ impl<L: Ledger + Naming, R: Wait + Drop> Locked<L, R> {
           published = self.old.listed.published;
         } }
         ensures imports { IfSome result (λ t. HasImports L.plan t (seen_of pass.new)) }
+        ensures within { IfSome result (λ t. IsWithin (length L.modules) t × IsWithin (length L.plan) t) }
         ensures none { IfNone result (pass.new ≡ pass.old) }
         ensures some { IfSome result (λ t. AddsAt (length self.old.listed.build.journal) (calls_of pass.old) (act_of t) (calls_of pass.new)) }
         ensures worker { IfSome result (λ _. worker_of pass.new ≡ worker_of pass.old) }
@@ -184,6 +198,7 @@ impl<L: Ledger + Naming, R: Wait + Drop> Locked<L, R> {
         ensures parts { IfSome result (λ _. (share_of pass.new).parts ≡ (share_of pass.old).parts) }
         ensures kept { IfSome result (λ _. IsPrefix (seen_of pass.old) (seen_of pass.new)) }
         ensures told { IfSome result (λ _. IsPrefix self.new.listed.published (seen_of pass.new)) }
+        ensures lawful { IfSome result (λ _. IsLawful L.modules L.plan (seen_of pass.new)) }
     {
         let turn = self.claim_next(pass)?;
         meet(self, pass);
@@ -208,8 +223,14 @@ impl<L: Ledger + Naming, R: Wait + Drop> Locked<L, R> {
         ensures returned { IfErr result (λ r. r.1 ≡ outcome) }
         ensures kept { IfOk result (λ _. IsPrefix (seen_of pass.old) (seen_of pass.new)) }
         ensures told { IfOk result (λ _. IsPrefix self.new.listed.published (seen_of pass.new)) }
+        ensures lawful { IfOk result (λ _. IsLawful L.modules L.plan (seen_of pass.new)) }
+        ensures publication { IfOk result (λ _. (place : ℕ) × AddsAt place (calls_of pass.old) (Publish number) (calls_of pass.new)
+            × HasPublication (seen_of pass.new) number place outcome) }
+        ensures answered { IsAnswered L.modules L.plan (worker_of pass.old) number outcome result }
+        ensures fits { IsOfSeen L.modules L.plan (seen_of pass.old) number outcome → IfErr result (λ r. r.0 ≢ Stranger) }
         ensures seen { IfOk result (λ _. interface_in (seen_of pass.new) number ≡ interface_of outcome.verdict) }
     {
+        self.beside(pass);
         match self.publish_one(pass, number, outcome) {
             Ok(()) => {
                 meet(self, pass);
@@ -229,6 +250,7 @@ impl<L: Ledger + Naming, R: Wait + Drop> Locked<L, R> {
         requires room { 0 < room_of pass.old }
         requires faulty { ¬ IsGood outcome.verdict }
         ensures settles { FailsIn self.old.listed (worker_of pass.old) number outcome self.new.listed result }
+        ensures refused { IfErr result (λ r. r.0 ≢ Memory) }
         ensures ok { IfOk result (λ _. AddsAt (length self.old.listed.build.journal) (calls_of pass.old) (Fail number) (calls_of pass.new)) }
         ensures worker { IfOk result (λ _. worker_of pass.new ≡ worker_of pass.old) }
         ensures room { IfOk result (λ _. room_of pass.new + 1 ≡ room_of pass.old) }
@@ -237,7 +259,11 @@ impl<L: Ledger + Naming, R: Wait + Drop> Locked<L, R> {
         ensures returned { IfErr result (λ r. r.1 ≡ outcome) }
         ensures kept { IfOk result (λ _. IsPrefix (seen_of pass.old) (seen_of pass.new)) }
         ensures told { IfOk result (λ _. IsPrefix self.new.listed.published (seen_of pass.new)) }
+        ensures lawful { IfOk result (λ _. IsLawful L.modules L.plan (seen_of pass.new)) }
+        ensures answered { IsAnswered L.modules L.plan (worker_of pass.old) number outcome result }
+        ensures fits { IsOfSeen L.modules L.plan (seen_of pass.old) number outcome → IfErr result (λ r. r.0 ≢ Stranger) }
     {
+        self.beside(pass);
         match self.fail_one(pass, number, outcome) {
             Ok(()) => {
                 meet(self, pass);
@@ -261,6 +287,7 @@ impl<L: Ledger + Naming, R: Wait + Drop> Locked<L, R> {
         ensures parts { (share_of pass.new).parts ≡ (share_of pass.old).parts }
         ensures kept { IsPrefix (seen_of pass.old) (seen_of pass.new) }
         ensures told { IsPrefix self.new.listed.published (seen_of pass.new) }
+        ensures lawful { IsLawful L.modules L.plan (seen_of pass.new) }
     {
         let first = self.stop_all(pass);
         meet(self, pass);
@@ -272,7 +299,9 @@ impl<L: Ledger + Naming, R: Wait + Drop> Locked<L, R> {
 pub fn meet<L: Ledger + Naming, R: Wait + Drop>(locked: &mut Locked<L, R>, pass: &mut Pass<L>)
     ensures kept { IsPrefix (seen_of pass.old) (seen_of pass.new) }
     ensures told { IsPrefix locked.old.listed.published (seen_of pass.new) }
-    ensures lawful { IsLawful (seen_of pass.new) }
+    ensures lawful { IsLawful L.modules L.plan (seen_of pass.new) }
+    // Nothing else is added: it has the longer of the two lists.
+    ensures exact { (seen_of pass.new ≡ seen_of pass.old) ⊎ (seen_of pass.new ≡ locked.old.listed.published) }
     ensures record { (worker_of pass.new ≡ worker_of pass.old) × (calls_of pass.new ≡ calls_of pass.old) × (room_of pass.new ≡ room_of pass.old)
         × (share_of pass.new ≡ share_of pass.old) }
     ensures same { locked.new ≡ locked.old }
@@ -329,7 +358,9 @@ impl<L: Ledger + Naming, R: Wait + Drop> Shared<L, R> {
         ensures room { room_of pass.new + 1 ≡ room_of pass.old }
         ensures parts { (share_of pass.new).parts ≡ (share_of pass.old).parts }
         ensures imports { HasImports L.plan result (seen_of pass.new) }
+        ensures within { IsWithin (length L.modules) result × IsWithin (length L.plan) result }
         ensures kept { IsPrefix (seen_of pass.old) (seen_of pass.new) }
+        ensures lawful { IsLawful L.modules L.plan (seen_of pass.new) }
     {
         let mut locked = self.locked.lock(rt);
         for _ in rt.forever() {
@@ -342,6 +373,14 @@ impl<L: Ledger + Naming, R: Wait + Drop> Shared<L, R> {
     }
 
     /// Publishes the interface of a module that this worker has claimed. Workers that wait look again.
+    ///
+    /// # Errors
+    ///
+    /// The outcome comes back, and neither store nor pass has changed. In this order:
+    /// - `NotYours` if the worker hasn't claimed the module.
+    /// - `Stranger` if the outcome isn't of that module, or isn't for the published interfaces of its imports.
+    /// - `Memory` if an allocation failed: the copy of an `Arc`, the log of operations, or the copies that readers take. If the log or the copies
+    ///   failed, each later publication that passes the first two tests returns `Memory` too.
     pub fn publish<W: Wait>(
         &self,
         rt: &W,
@@ -358,6 +397,14 @@ impl<L: Ledger + Naming, R: Wait + Drop> Shared<L, R> {
         ensures err { IfErr result (λ _. pass.new ≡ pass.old) }
         ensures returned { IfErr result (λ r. r.1 ≡ outcome) }
         ensures kept { IfOk result (λ _. IsPrefix (seen_of pass.old) (seen_of pass.new)) }
+        ensures lawful { IfOk result (λ _. IsLawful L.modules L.plan (seen_of pass.new)) }
+        // The pass sees this publication, with its outcome and its place in the journal, where the call is written down.
+        ensures publication { IfOk result (λ _. (place : ℕ) × AddsAt place (calls_of pass.old) (Publish number) (calls_of pass.new)
+            × HasPublication (seen_of pass.new) number place outcome) }
+        // At one point of the build, whose journal is legal, the build object has this reason for the answer; Memory is no reason of its own.
+        ensures answered { IsAnswered L.modules L.plan (worker_of pass.old) number outcome result }
+        // An outcome of the module, for the interfaces that the pass has seen of its imports, is no stranger.
+        ensures fits { IsOfSeen L.modules L.plan (seen_of pass.old) number outcome → IfErr result (λ r. r.0 ≢ Stranger) }
         ensures seen { IfOk result (λ _. interface_in (seen_of pass.new) number ≡ interface_of outcome.verdict) }
     {
         let reply = self.locked.lock(rt).publish(pass, number, outcome);
@@ -373,6 +420,7 @@ impl<L: Ledger + Naming, R: Wait + Drop> Shared<L, R> {
         ensures room { room_of pass.new + 1 ≡ room_of pass.old }
         ensures parts { (share_of pass.new).parts ≡ (share_of pass.old).parts }
         ensures kept { IsPrefix (seen_of pass.old) (seen_of pass.new) }
+        ensures lawful { IsLawful L.modules L.plan (seen_of pass.new) }
     {
         let first = self.locked.lock(rt).stop(pass);
         self.moved.notify_all();
@@ -380,6 +428,10 @@ impl<L: Ledger + Naming, R: Wait + Drop> Shared<L, R> {
     }
 
     /// Tells that a module that this worker has claimed is faulty. Workers that wait look again.
+    ///
+    /// # Errors
+    ///
+    /// `NotYours` or `Stranger`, as for `publish`. It never returns `Memory`.
     pub fn fail<W: Wait>(
         &self,
         rt: &W,
@@ -389,6 +441,7 @@ impl<L: Ledger + Naming, R: Wait + Drop> Shared<L, R> {
     ) -> Result<(), (Refusal, Outcome)>
         requires room { 0 < room_of pass.old }
         requires faulty { ¬ IsGood outcome.verdict }
+        ensures refused { IfErr result (λ r. r.0 ≢ Memory) }
         ensures ok { IfOk result (λ _. Adds (calls_of pass.old) (Fail number) (calls_of pass.new)) }
         ensures worker { IfOk result (λ _. worker_of pass.new ≡ worker_of pass.old) }
         ensures room { IfOk result (λ _. room_of pass.new + 1 ≡ room_of pass.old) }
@@ -396,32 +449,15 @@ impl<L: Ledger + Naming, R: Wait + Drop> Shared<L, R> {
         ensures err { IfErr result (λ _. pass.new ≡ pass.old) }
         ensures returned { IfErr result (λ r. r.1 ≡ outcome) }
         ensures kept { IfOk result (λ _. IsPrefix (seen_of pass.old) (seen_of pass.new)) }
+        ensures lawful { IfOk result (λ _. IsLawful L.modules L.plan (seen_of pass.new)) }
+        // At one point of the build, whose journal is legal, the build object has this reason for the answer; Memory is no reason of its own.
+        ensures answered { IsAnswered L.modules L.plan (worker_of pass.old) number outcome result }
+        // An outcome of the module, for the interfaces that the pass has seen of its imports, is no stranger.
+        ensures fits { IsOfSeen L.modules L.plan (seen_of pass.old) number outcome → IfErr result (λ r. r.0 ≢ Stranger) }
     {
         let reply = self.locked.lock(rt).fail(pass, number, outcome);
         self.moved.notify_all();
         reply
-    }
-
-    /// The published interface of a module, as far as publications are seen: all that the pass has seen or was told of, and perhaps more. None
-    /// where it isn't among them. It takes no lock and waits for nobody.
-    pub fn look(
-        &self,
-        pass: &mut Pass<L>,
-        number: usize,
-    ) -> Result<Option<Arc<Interface>>, LookFault>
-        requires { 0 < room_of pass.old }
-        ensures list { IfOk result (λ _. IsPrefix (seen_of pass.old) (seen_of pass.new) × IsLawful (seen_of pass.new)) }
-        ensures reply { IfOk result (λ r. option_map arc_value r ≡ interface_in (seen_of pass.new) number) }
-        ensures ok { IfOk result (λ r. (o : _) × (option_map arc_value o ≡ option_map arc_value r)
-            × AddsAt (entries_of (seen_of pass.new)) (calls_of pass.old) (Look number o) (calls_of pass.new)) }
-        ensures worker { IfOk result (λ _. worker_of pass.new ≡ worker_of pass.old) }
-        ensures room { IfOk result (λ _. room_of pass.new + 1 ≡ room_of pass.old) }
-        ensures parts { IfOk result (λ _. (share_of pass.new).parts ≡ (share_of pass.old).parts) }
-        ensures err { IfErr result (λ _. (worker_of pass.new ≡ worker_of pass.old) × (calls_of pass.new ≡ calls_of pass.old)
-            × (room_of pass.new ≡ room_of pass.old) × (share_of pass.new ≡ share_of pass.old) × IsPrefix (seen_of pass.old) (seen_of pass.new)) }
-        ensures no_entry { result ≡ Err NoEntry → seen_of pass.new ≡ seen_of pass.old }
-    {
-        pass.look(number)
     }
 
     /// The store, and the book whose total is the number of its entries.

@@ -16,3 +16,4 @@ pub mod Skipping
 pub mod Steps
 pub mod WorkedBuilds
 pub mod WorkedLegal
+pub mod WorkedSteps

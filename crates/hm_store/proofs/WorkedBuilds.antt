@@ -59,15 +59,17 @@ not_allowed = record {
   twice = λ a. let e : 1000 ≡ 1 = ap number a.1.0 in absurd (omega (arith, e));
 }
 
-not_by_one : status.Claimed 0 ≢ status.Claimed 1
+pub not_by_one : status.Claimed 0 ≢ status.Claimed 1
 unfolding claimant
 not_by_one h = let e : 0 ≡ 1 = ap claimant h in absurd (omega (arith, e))
 
 pub refusal : RefusalRow
+unfolding claimant
 refusal = record {
   not_yours = λ modules kept c. not_by_one;
   stranger = λ modules kept c h. not_by_one h.0;
   accepted = λ modules kept c h. not_by_one h.0;
+  out_of_range = λ modules kept c h. let e : 4000 ≡ 0 = ap claimant h in absurd (omega (arith, e));
 }
 
 -- Records

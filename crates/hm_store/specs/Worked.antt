@@ -1,5 +1,5 @@
 -- Worked builds, and what is said of them.
-use Rattle.std.specs.Prelude.{◌≡◌, ℕ, false, List, [], ◌∷◌, ◌++◌, Option, None, Some}
+use Rattle.std.specs.Prelude.{◌≡◌, ◌≢◌, ℕ, false, List, [], ◌∷◌, ◌++◌, Option, None, Some, Ok, Err, slice_get, slice_set}
 use Rattle.std.specs.Arc.{arc_value}
 use Rattle.std.specs.declared.alloc.Global.{Global}
 use Rattle.std.specs.declared.sync.Arc.{Arc}
@@ -9,10 +9,10 @@ use Rattle.hm_verdicts.specs.Reports.{IsReport}
 use Rattle.hm_verdicts.specs.Worked.{three_modules, three_texts}
 use Rattle.hm_outcomes.specs.Outcomes.{Checked}
 use Rattle.hm_store.specs.Agreement.{Agree}
-use Rattle.hm_store.specs.Builds.{Build, IsAllSettled, IsLegal, Refuses, interface_at, set_of, state_of}
-use Rattle.hm_store.specs.Objects.{IsAllowed, reply_of, state_after}
+use Rattle.hm_store.specs.Builds.{Build, IsAllSettled, IsLegal, IsNew, Refuses, Settles, interface_at, set_of, state_of}
+use Rattle.hm_store.specs.Objects.{IsAllowed, publications, reply_of, state_after}
 use Rattle.hm_store.specs.Plans.{Given, AreDependents}
-use Rattle.hm_store.specs.Records.{rises}
+use Rattle.hm_store.specs.Records.{Adds, AddsAt, knows, rises}
 use Rattle.hm_store.specs.Settlements.{settlement}
 use Rattle.hm_store.specs.declared.object.Claimed.{Claimed as Reply}
 use Rattle.hm_store.specs.declared.object.Claimed.TheVariants.{Job, Later, Done}
@@ -92,6 +92,32 @@ pub record RefusalRow : Type 0 where
   pub not_yours : (modules : List Module) (kept : List (Option Checked)) (c : Checked) → Refuses (begun modules kept) 1 1 c (Some NotYours)
   pub stranger : (modules : List Module) (kept : List (Option Checked)) (c : Checked) → ¬ (Refuses (begun modules kept) 1 1 c (Some Stranger))
   pub accepted : (modules : List Module) (kept : List (Option Checked)) (c : Checked) → ¬ (Refuses (begun modules kept) 1 1 c None)
+  pub out_of_range : (modules : List Module) (kept : List (Option Checked)) (c : Checked) → Refuses (begun modules kept) 0 7 c (Some NotYours)
+
+-- module 1 is published, and worker 0 has claimed module 0, which imports it
+abbrev pub behind_import : List Module → List (Option Checked) → Build
+behind_import modules kept = record { modules = modules; given = two; journal = Claim 0 1 ∷ Publish 0 1 ∷ Claim 0 0 ∷ []; kept = kept }
+
+-- Of a worker that has claimed the module: an outcome of that module for the published interfaces of its imports is accepted; one of another
+-- module isn't, nor one for an interface where nothing is imported, nor one for another interface than the published one
+pub record StrangerRow : Type 0 where
+  pub accepted : (modules : List Module) (kept : List (Option Checked)) (c : Checked) → slice_get modules 1 ≡ Some c.«module» → c.imports ≡ [] → Refuses (begun modules kept) 0 1 c None
+  pub of_another : (modules : List Module) (kept : List (Option Checked)) (c : Checked) → slice_get modules 1 ≢ Some c.«module» → Refuses (begun modules kept) 0 1 c (Some Stranger)
+  pub for_others : (modules : List Module) (kept : List (Option Checked)) (c : Checked) (f : Interface) → c.imports ≡ f ∷ [] → Refuses (begun modules kept) 0 1 c (Some Stranger)
+  pub with_import : (modules : List Module) (kept : List (Option Checked)) (c : Checked) (g : Interface) → interface_at kept 1 ≡ Some g → slice_get modules 0 ≡ Some c.«module» → c.imports ≡ g ∷ []
+      → Refuses (behind_import modules kept) 0 0 c None
+  pub with_another : (modules : List Module) (kept : List (Option Checked)) (c : Checked) (g h : Interface) → interface_at kept 1 ≡ Some g → g ≢ h → c.imports ≡ h ∷ [] → Refuses (behind_import modules kept) 0 0 c (Some Stranger)
+
+-- Steps
+
+-- A build is new until it has an entry. An outcome that is accepted is kept, with its entry; one that is refused comes back, and nothing changes
+pub record StepsRow : Type 0 where
+  pub first : (a b : Module) → IsNew (a ∷ b ∷ []) two.imports (record { modules = a ∷ b ∷ []; given = two; journal = []; kept = None ∷ None ∷ [] })
+  pub later : (modules : List Module) (kept : List (Option Checked)) → ¬ (IsNew modules two.imports (begun modules kept))
+  pub kept : (modules : List Module) (kept : List (Option Checked)) (c : Checked) → slice_get modules 1 ≡ Some c.«module» → c.imports ≡ []
+      → Settles (begun modules kept) 0 1 c (Publish 0 1) (record { modules = modules; given = two; journal = Claim 0 1 ∷ Publish 0 1 ∷ []; kept = slice_set kept 1 (Some c) }) (Ok tt)
+  pub refused : (modules : List Module) (kept : List (Option Checked)) (c : Checked) → Settles (begun modules kept) 1 1 c (Publish 1 1) (begun modules kept) (Err (NotYours, c))
+  pub unclaimed : (modules : List Module) (kept : List (Option Checked)) (c : Checked) (after : Build) → ¬ (Settles (begun modules kept) 1 1 c (Publish 1 1) after (Ok tt))
 
 -- Records
 
@@ -145,6 +171,21 @@ pub record TwoRecordsRow : Type 0 where
   pub both : (modules : List Module) (kept : List (Option Checked)) (f : Arc Interface Global) → interface_at kept 1 ≡ Some (arc_value f) → (r s : Record) → IsRecordOf 0 one_calls r → IsRecordOf 1 (other_calls f) s → Agree (done 1 modules kept) (r ∷ s ∷ [])
   pub exchanged : (modules : List Module) (kept : List (Option Checked)) (f : Arc Interface Global) (r s : Record) → IsRecordOf 1 one_calls r → IsRecordOf 0 (other_calls f) s → ¬ (Agree (done 1 modules kept) (r ∷ s ∷ []))
   pub behind : rises 0 (call 0 (act.Job 1) ∷ call 0 (act.Look 1 None) ∷ []) ≡ false
+
+-- Places
+
+-- Publications are counted before an entry. A worker knows of the entries that it wrote, and its next call isn't before them: it stands at what the
+-- worker knows where fewer entries are seen, else at the entries that are seen
+pub record PlacesRow : Type 0 where
+  pub none_before : publications (journal_by 0) 1 ≡ 0
+  pub one_before : publications (journal_by 0) 3 ≡ 1
+  pub both_before : publications (journal_by 0) 4 ≡ 2
+  pub known : knows 0 one_calls ≡ 2
+  pub at_known : AddsAt 1 one_calls act.Done (one_calls ++ call 2 act.Done ∷ [])
+  pub at_seen : AddsAt 4 one_calls act.Done (one_calls ++ call 4 act.Done ∷ [])
+  pub not_at_seen : ¬ (AddsAt 1 one_calls act.Done (one_calls ++ call 1 act.Done ∷ []))
+  pub behind : Adds one_calls act.Done (one_calls ++ call 3 act.Done ∷ [])
+  pub not_before : ¬ (Adds one_calls act.Done (one_calls ++ call 1 act.Done ∷ []))
 
 -- A legal build
 

@@ -1,7 +1,7 @@
 //! What holds of each legal build, and of what its workers wrote down, as contracts of functions that do nothing.
 ghost use Rattle.std.specs.Prelude.{◌≡◌, length};
 ghost use Rattle.hm_store.specs.Settlements.{SettledBuildIsSettled};
-ghost use Rattle.hm_store.specs.Worked.{DependentsRow, LeastRow, LegalRow, NotAllowedRow, RecordRow, RefusalRow, RepliesRow, SkipRow, StopRow, TwoRecordsRow};
+ghost use Rattle.hm_store.specs.Worked.{DependentsRow, LeastRow, LegalRow, NotAllowedRow, PlacesRow, RecordRow, RefusalRow, RepliesRow, SkipRow, StepsRow, StopRow, StrangerRow, TwoRecordsRow};
 
 use crate::store::Store;
 use std::sync::ledger::{Book, Ledger, Share};
@@ -13,7 +13,8 @@ pub fn settled_builds_are_settled_sets()
 {}
 
 /// Worked builds: which modules depend on which; what is replied to claims; what a stop changes; what is skipped with a failure; what isn't
-/// allowed; why an outcome is refused; which records agree with a journal; and a legal build with its report.
+/// allowed; why an outcome is refused, and what a step changes; where calls stand in a record; which records agree with a journal; and a legal
+/// build with its report.
 pub fn worked_builds()
     ensures dependents { DependentsRow }
     ensures replies { RepliesRow }
@@ -22,6 +23,9 @@ pub fn worked_builds()
     ensures skip { SkipRow }
     ensures not_allowed { NotAllowedRow }
     ensures refusal { RefusalRow }
+    ensures stranger { StrangerRow }
+    ensures steps { StepsRow }
+    ensures places { PlacesRow }
     ensures one_record { RecordRow }
     ensures two_records { TwoRecordsRow }
     ensures legal { LegalRow }

@@ -61,7 +61,7 @@ pub enum Entry {
 
 impl Entry {
     /// Whether a worker published an interface.
-    pub(crate) fn is_publication(self) -> bool
+    pub fn is_publication(self) -> bool
         ensures { result ≡ is_publication self }
     {
         matches!(

@@ -58,7 +58,7 @@ impl Record {
     }
 }
 
-/// What a look-up writes down of what it found: the interface has a second owner.
+/// Returns what a look-up writes down of what it found: the interface has a second owner. Passes call it.
 pub fn noted(found: &Option<Arc<Interface>>) -> Result<Option<Arc<Interface>>, AllocError>
     ensures { IfOk result (λ o. option_map arc_value o ≡ option_map arc_value found.now) }
 {

@@ -15,5 +15,5 @@ invariant_of-self g c =
     let longer : length qs ≡ suc (length ps) = omega (arith, c.len-else-operation-len.ensures.length, c.len-else-operation-len-2.ensures.length, c.if-len.false, some) in
     let out : c.longer.result ≡ qs = c.longer.ensures.that (omega (arith, longer)) in
     let begun : IsPrefix ps qs = subst (λ (w : List Publication). IsPrefix ps w) out c.longer.ensures.begun in
-    let lawful : IsLawful qs = subst IsLawful out c.longer.ensures.lawful in
-    rw out (shows_absorbed arc_value c.self.inside.interfaces.items c.in_ok-interface.interface ps qs c.operation.inside.number c.self.inside.entries c.operation.inside.entries (arc_value c.operation.inside.interface) c.self.invariant ends lawful begun longer (search rules) (search rules))
+    let lawful : IsLawful _ _ qs = subst (IsLawful _ _) out c.longer.ensures.lawful in
+    rw out (shows_absorbed _ _ arc_value c.self.inside.interfaces.items c.in_ok-interface.interface ps qs c.operation.inside.number c.self.inside.entries c.operation.inside.entries (arc_value c.operation.inside.interface) c.self.invariant ends lawful begun longer (search rules) (search rules))

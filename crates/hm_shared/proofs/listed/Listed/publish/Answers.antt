@@ -9,7 +9,7 @@ publish-requires-clause-lawful g c =
     let b = c.self.inside.store in
     let ps = c.self.inside.front in
     let accepted : Refuses b c.args.worker c.args.number c.args.outcome None = c.in_default.ensures in
-    rw c.entries-place.ensures.is (may_follow b ps c.args.worker c.args.number c.args.outcome c.steps_settle_a_set.ensures.asked c.entries-place.ensures.legal c.self.invariant.0 accepted c.verdict-right.ensures.right c.requires.good)
+    rw c.entries-place.ensures.is (may_follow _ _ b ps c.args.worker c.args.number c.args.outcome c.steps_settle_a_set.ensures.asked c.entries-place.ensures.legal c.self.invariant.0 c.self.invariant.1 accepted c.verdict-right.ensures.right c.requires.good)
 
 pub invariant_of-self : goal.invariant_of-self
 invariant_of-self g c =
