@@ -42,29 +42,29 @@ skipped C
 """
 
 # its messages
-UNTYPED = """:1:18: error: type twice
-No type fits, though all that it refers to has one.
+UNTYPED = """:1:18: error: type error in 'twice' [type]
+This definition has no type, though everything that it refers to has one.
 module B where { twice f = f f }
                  ^
 """
-BLAMED = """user.hs:1:25: note: skipped, since B is faulty
+BLAMED = """user.hs:1:25: note: skipped, since 'B' has errors
 module C where { import B ; y = twice }
                         ^
 """
-TOO_LONG = """<stdin>:1:1: error: too long
-A source has at most 1,048,576 bytes, and this one has more.
+TOO_LONG = """<stdin>:1:1: error: the source is too long [too-long]
+A source has at most 1,048,576 bytes.
 """ + "x" * 60 + """...
 ^
 errors: 1, skipped modules: 0
 """
-TOO_MANY = """<stdin>:4097:8: error: too many modules
-A set has at most 4,096 modules, and this one is one more.
+TOO_MANY = """<stdin>:4097:8: error: too many modules [too-many-modules]
+A set has at most 4,096 modules.
 module M4096 where { }
        ^
 errors: 1, skipped modules: 0
 """
-MISSING = """a.hs:1:25: error: missing B
-A module of this name was looked for, and the set has none.
+MISSING = """a.hs:1:25: error: no module 'B' is given [missing]
+An import names a module of the set or `Prelude`; there is no other library.
 module A where { import B ; x = y }
                         ^
 """
@@ -276,7 +276,7 @@ def many_messages(folder):
     ran = run(folder, ["--explain"], text)
     report, messages = ran.stdout.decode().splitlines(), ran.stderr.decode().splitlines()
     ran.stdout = f"{len(report)} lines, {report[-1]}".encode()
-    errors, notes = (sum(word in line for line in messages) for word in (": error: unbound y", ": note: skipped, since "))
+    errors, notes = (sum(word in line for line in messages) for word in (": error: 'y' isn't in scope [unbound]", ": note: skipped, since "))
     ran.stderr = f"{errors} errors and {notes} notes in {len(messages)} lines, {messages[-1]}".encode()
     wanted = "12002 lines, 1001 modules: 0 good, 1 faulty, 1000 skipped", "10000 errors and 1000 notes in 43001 lines, errors: 10000, skipped modules: 1000"
     yield "ten thousand faults and a thousand skipped modules", ran, (1, *wanted)

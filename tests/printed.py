@@ -160,9 +160,9 @@ def explain(folder, source):
 
 
 def is_explained(alone, told, status, wanted):
-    """Whether messages change nothing of what is printed, and are these."""
-    text = wanted.encode() if isinstance(wanted, str) else wanted
-    return alone.returncode == told.returncode == status and told.stdout == alone.stdout and told.stderr == text
+    """Whether messages change nothing of what is printed, and are these, or fit a pattern."""
+    is_told = wanted.fullmatch(told.stderr.decode()) if isinstance(wanted, re.Pattern) else told.stderr == (wanted.encode() if isinstance(wanted, str) else wanted)
+    return alone.returncode == told.returncode == status and told.stdout == alone.stdout and is_told
 
 
 def main():
@@ -173,7 +173,12 @@ def main():
                 done, count = run(folder, words, given), count + 1
                 if not is_wanted(done, status, wanted):
                     differing.append((words, given, done))
-        for source, status, wanted in [*messages.KINDS, *messages.REASONS, *messages.EXCERPTS]:
+        hints = [
+            (source, REFUSED, re.compile(rf"M\.hs:{place}: error: {re.escape(line)} \[{word}\]\n(.*\n)*"))
+            for word, rows in (("lexeme", messages.LEXEMES), ("syntax", messages.HINTS))
+            for source, place, line in rows
+        ]
+        for source, status, wanted in [*messages.KINDS, *messages.REASONS, *messages.EXCERPTS, *hints]:
             (alone, told), count = explain(folder, source), count + 1
             if not is_explained(alone, told, status, wanted):
                 differing.append((["--explain"], [source], told))

@@ -6,8 +6,8 @@ KINDS = [
         "module A where { x = 1 }\n"
         "module B where { import A (y) }",
         1,
-        "M.hs:2:28: error: not-exported y\n"
-        "The import lists this name, but the imported module doesn't export it.\n"
+        "M.hs:2:28: error: cannot import 'y' [not-exported]\n"
+        "The imported module doesn't export this name, or not as a constructor of this type.\n"
         "module B where { import A (y) }\n"
         "                           ^\n"
         "errors: 1, skipped modules: 0\n",
@@ -15,8 +15,8 @@ KINDS = [
     (
         "module M where { f = 1 ; g = 2 ; f = 3 }",
         1,
-        "M.hs:1:34: error: duplicate f\n"
-        "A name has one declaration, one signature and one parameter of a list, and this is a second one.\n"
+        "M.hs:1:34: error: a second declaration of 'f' [duplicate]\n"
+        "A name has one declaration, one signature and one parameter in a list; the clauses of a function must stand together.\n"
         "module M where { f = 1 ; g = 2 ; f = 3 }\n"
         "                                 ^\n"
         "errors: 1, skipped modules: 0\n",
@@ -24,8 +24,8 @@ KINDS = [
     (
         "module M where { f :: Int }",
         1,
-        "M.hs:1:18: error: no-binding f\n"
-        "Clauses of this variable were looked for beside its signature, and there are none.\n"
+        "M.hs:1:18: error: the signature of 'f' has no clauses [no-binding]\n"
+        "A variable with a signature needs clauses in the same list; a variable of a pattern can't have a signature.\n"
         "module M where { f :: Int }\n"
         "                 ^\n"
         "errors: 1, skipped modules: 0\n",
@@ -33,8 +33,8 @@ KINDS = [
     (
         "module M where { f = y }",
         1,
-        "M.hs:1:22: error: unbound y\n"
-        "What this name means was looked for, and nothing in scope has it.\n"
+        "M.hs:1:22: error: 'y' isn't in scope [unbound]\n"
+        "No declaration, import or parameter gives this name a meaning here.\n"
         "module M where { f = y }\n"
         "                     ^\n"
         "errors: 1, skipped modules: 0\n",
@@ -44,8 +44,8 @@ KINDS = [
         "module B where { x = 2 }\n"
         "module C where { import A ; import B ; y = x }",
         1,
-        "M.hs:3:44: error: ambiguous x\n"
-        "What this name means was looked for, and several things in scope have it.\n"
+        "M.hs:3:44: error: 'x' is ambiguous [ambiguous]\n"
+        "Several things in scope have this name: write a qualifier, or hide it in an import.\n"
         "module C where { import A ; import B ; y = x }\n"
         "                                           ^\n"
         "errors: 1, skipped modules: 0\n",
@@ -54,8 +54,8 @@ KINDS = [
         "module A (x, B.x) where { import qualified B ; x = 1 }\n"
         "module B where { x = 2 }",
         1,
-        "M.hs:1:14: error: export-clash x\n"
-        "This item exports a name that an item before it gives to something else.\n"
+        "M.hs:1:14: error: two different things are exported as 'x' [export-clash]\n"
+        "An export list gives each name to one thing.\n"
         "module A (x, B.x) where { import qualified B ; x = 1 }\n"
         "             ^\n"
         "errors: 1, skipped modules: 0\n",
@@ -63,8 +63,8 @@ KINDS = [
     (
         "module M (module N) where { }",
         1,
-        "M.hs:1:18: error: not-imported N\n"
-        "The export list exports what this module gives, but no import gives it this name.\n"
+        "M.hs:1:18: error: no import is called 'N' [not-imported]\n"
+        "`module N` in an export list exports what the imports called N give.\n"
         "module M (module N) where { }\n"
         "                 ^\n"
         "errors: 1, skipped modules: 0\n",
@@ -72,8 +72,8 @@ KINDS = [
     (
         "module M where { f x x = x }",
         1,
-        "M.hs:1:22: error: non-linear x\n"
-        "The patterns of a clause, lambda or alternative have a variable once, and this is a second one.\n"
+        "M.hs:1:22: error: 'x' occurs twice in these patterns [non-linear]\n"
+        "The patterns of one clause, lambda, alternative or binding have each variable once.\n"
         "module M where { f x x = x }\n"
         "                     ^\n"
         "errors: 1, skipped modules: 0\n",
@@ -81,8 +81,8 @@ KINDS = [
     (
         "module M where { f :: Maybe ; f = f }",
         1,
-        "M.hs:1:23: error: arity Maybe\n"
-        "A type, synonym or constructor wants as many arguments as it has, and here there is another number.\n"
+        "M.hs:1:23: error: wrong number of arguments for 'Maybe' [arity]\n"
+        "A type, synonym or constructor takes as many arguments as its declaration gives it.\n"
         "module M where { f :: Maybe ; f = f }\n"
         "                      ^\n"
         "errors: 1, skipped modules: 0\n",
@@ -90,8 +90,8 @@ KINDS = [
     (
         "module M where { f x = x ; f x y = x }",
         1,
-        "M.hs:1:28: error: clause-length f\n"
-        "All clauses of a binding have as many patterns as the first, and this one has another number.\n"
+        "M.hs:1:28: error: the clauses of 'f' have different numbers of patterns [clause-length]\n"
+        "Each clause of a function has as many patterns as the first one.\n"
         "module M where { f x = x ; f x y = x }\n"
         "                           ^\n"
         "errors: 1, skipped modules: 0\n",
@@ -99,8 +99,8 @@ KINDS = [
     (
         "module M where { twice f = f f }",
         1,
-        "M.hs:1:18: error: type twice\n"
-        "No type fits, though all that it refers to has one.\n"
+        "M.hs:1:18: error: type error in 'twice' [type]\n"
+        "This definition has no type, though everything that it refers to has one.\n"
         "module M where { twice f = f f }\n"
         "                 ^\n"
         "errors: 1, skipped modules: 0\n",
@@ -108,8 +108,8 @@ KINDS = [
     (
         "module M where { type S = S }",
         1,
-        "M.hs:1:23: error: recursive S\n"
-        "A synonym is replaced by its right side, and this one comes back there without an end.\n"
+        "M.hs:1:23: error: the type synonym 'S' is defined by itself [recursive]\n"
+        "A synonym is replaced by its right side, so that would never end; use `data` or `newtype`.\n"
         "module M where { type S = S }\n"
         "                      ^\n"
         "errors: 1, skipped modules: 0\n",
@@ -119,14 +119,14 @@ KINDS = [
         "module C where { import B ; y = twice }\n"
         "module D where { import C }",
         1,
-        "M.hs:1:18: error: type twice\n"
-        "No type fits, though all that it refers to has one.\n"
+        "M.hs:1:18: error: type error in 'twice' [type]\n"
+        "This definition has no type, though everything that it refers to has one.\n"
         "module B where { twice f = f f }\n"
         "                 ^\n"
-        "M.hs:2:25: note: skipped, since B is faulty\n"
+        "M.hs:2:25: note: skipped, since 'B' has errors\n"
         "module C where { import B ; y = twice }\n"
         "                        ^\n"
-        "M.hs:3:25: note: skipped, since C is skipped\n"
+        "M.hs:3:25: note: skipped, since 'C' is skipped\n"
         "module D where { import C }\n"
         "                        ^\n"
         "errors: 1, skipped modules: 2\n",
@@ -135,16 +135,16 @@ KINDS = [
         "module C where { c = x }\n"
         "module A where { a = y ; b = z }",
         1,
-        "M.hs:2:22: error: unbound y\n"
-        "What this name means was looked for, and nothing in scope has it.\n"
+        "M.hs:2:22: error: 'y' isn't in scope [unbound]\n"
+        "No declaration, import or parameter gives this name a meaning here.\n"
         "module A where { a = y ; b = z }\n"
         "                     ^\n"
-        "M.hs:2:30: error: unbound z\n"
-        "What this name means was looked for, and nothing in scope has it.\n"
+        "M.hs:2:30: error: 'z' isn't in scope [unbound]\n"
+        "No declaration, import or parameter gives this name a meaning here.\n"
         "module A where { a = y ; b = z }\n"
         "                             ^\n"
-        "M.hs:1:22: error: unbound x\n"
-        "What this name means was looked for, and nothing in scope has it.\n"
+        "M.hs:1:22: error: 'x' isn't in scope [unbound]\n"
+        "No declaration, import or parameter gives this name a meaning here.\n"
         "module C where { c = x }\n"
         "                     ^\n"
         "errors: 3, skipped modules: 0\n",
@@ -154,18 +154,18 @@ KINDS = [
         "module B where { b = x }\n"
         "module C where { c = y }",
         1,
-        "M.hs:2:22: error: unbound x\n"
-        "What this name means was looked for, and nothing in scope has it.\n"
+        "M.hs:2:22: error: 'x' isn't in scope [unbound]\n"
+        "No declaration, import or parameter gives this name a meaning here.\n"
         "module B where { b = x }\n"
         "                     ^\n"
-        "M.hs:3:22: error: unbound y\n"
-        "What this name means was looked for, and nothing in scope has it.\n"
+        "M.hs:3:22: error: 'y' isn't in scope [unbound]\n"
+        "No declaration, import or parameter gives this name a meaning here.\n"
         "module C where { c = y }\n"
         "                     ^\n"
-        "M.hs:1:36: note: skipped, since B is faulty\n"
+        "M.hs:1:36: note: skipped, since 'B' has errors\n"
         "module D where { import C ; import B }\n"
         "                                   ^\n"
-        "M.hs:1:25: note: skipped, since C is faulty\n"
+        "M.hs:1:25: note: skipped, since 'C' has errors\n"
         "module D where { import C ; import B }\n"
         "                        ^\n"
         "errors: 2, skipped modules: 1\n",
@@ -179,8 +179,8 @@ REASONS = [
     (
         "module M where { f = # }",
         2,
-        "M.hs:1:22: error: lexeme\n"
-        "A lexeme was looked for, and none can be completed that begins here.\n"
+        "M.hs:1:22: error: the operator '#' isn't supported: the only one is ':' [lexeme]\n"
+        "Define a function with a name, and write it before its arguments.\n"
         "module M where { f = # }\n"
         "                     ^\n"
         "errors: 1, skipped modules: 0\n",
@@ -188,8 +188,8 @@ REASONS = [
     (
         "module M where { {- }",
         2,
-        "M.hs:1:18: error: open comment\n"
-        "The end of this comment was looked for, and the source ends before it.\n"
+        "M.hs:1:18: error: this comment isn't closed [open-comment]\n"
+        "A comment ends with `-}`; a `{-` within it begins another one.\n"
         "module M where { {- }\n"
         "                 ^\n"
         "errors: 1, skipped modules: 0\n",
@@ -197,8 +197,8 @@ REASONS = [
     (
         "(" * 201,
         2,
-        "M.hs:1:201: error: too deep\n"
-        "At most 200 brackets may be open at once, and this one is one more.\n"
+        "M.hs:1:201: error: too many open brackets [too-deep]\n"
+        "At most 200 brackets may be open at once.\n"
         "...(((((((((((((((((((((((((((((((((((((((((((((((((((((((((((((\n"
         "                                                               ^\n"
         "errors: 1, skipped modules: 0\n",
@@ -206,8 +206,8 @@ REASONS = [
     (
         "module M where { f = }",
         2,
-        "M.hs:1:22: error: syntax\n"
-        "A module was read up to here, and none goes on with what stands here.\n"
+        "M.hs:1:22: error: unexpected '}' [syntax]\n"
+        "No module can go on with this here.\n"
         "module M where { f = }\n"
         "                     ^\n"
         "errors: 1, skipped modules: 0\n",
@@ -216,8 +216,8 @@ REASONS = [
         "module A where { }\n"
         "module A where { }",
         2,
-        "M.hs:2:8: error: twice A\n"
-        "Each module of a set has a name of its own that isn't Prelude, and this one is taken.\n"
+        "M.hs:2:8: error: the module name 'A' is taken [twice]\n"
+        "Each module of a set has a name of its own, and `Prelude` is built in.\n"
         "module A where { }\n"
         "       ^\n"
         "errors: 1, skipped modules: 0\n",
@@ -225,8 +225,8 @@ REASONS = [
     (
         "module Prelude where { }",
         2,
-        "M.hs:1:8: error: twice Prelude\n"
-        "Each module of a set has a name of its own that isn't Prelude, and this one is taken.\n"
+        "M.hs:1:8: error: the module name 'Prelude' is taken [twice]\n"
+        "Each module of a set has a name of its own, and `Prelude` is built in.\n"
         "module Prelude where { }\n"
         "       ^\n"
         "errors: 1, skipped modules: 0\n",
@@ -234,8 +234,8 @@ REASONS = [
     (
         "module A where { import B }",
         2,
-        "M.hs:1:25: error: missing B\n"
-        "A module of this name was looked for, and the set has none.\n"
+        "M.hs:1:25: error: no module 'B' is given [missing]\n"
+        "An import names a module of the set or `Prelude`; there is no other library.\n"
         "module A where { import B }\n"
         "                        ^\n"
         "errors: 1, skipped modules: 0\n",
@@ -243,11 +243,11 @@ REASONS = [
     (
         "module A where { import A }",
         2,
-        "M.hs:1:25: error: cycle A\n"
-        "A module is checked behind those that it imports, and this one imports itself in the end.\n"
+        "M.hs:1:25: error: the imports of module 'A' lead back to it [cycle]\n"
+        "Modules may not import each other in a circle.\n"
         "module A where { import A }\n"
         "                        ^\n"
-        "M.hs:1:25: note: A imports A\n"
+        "M.hs:1:25: note: 'A' imports 'A'\n"
         "errors: 1, skipped modules: 0\n",
     ),
     (
@@ -256,13 +256,13 @@ REASONS = [
         "module C where { import D ; import A }\n"
         "module D where { }",
         2,
-        "M.hs:1:25: error: cycle A\n"
-        "A module is checked behind those that it imports, and this one imports itself in the end.\n"
+        "M.hs:1:25: error: the imports of module 'A' lead back to it [cycle]\n"
+        "Modules may not import each other in a circle.\n"
         "module A where { import B }\n"
         "                        ^\n"
-        "M.hs:1:25: note: A imports B\n"
-        "M.hs:2:25: note: B imports C\n"
-        "M.hs:3:36: note: C imports A\n"
+        "M.hs:1:25: note: 'A' imports 'B'\n"
+        "M.hs:2:25: note: 'B' imports 'C'\n"
+        "M.hs:3:36: note: 'C' imports 'A'\n"
         "errors: 1, skipped modules: 0\n",
     ),
 ]
@@ -273,8 +273,8 @@ EXCERPTS = [
         "module M where {\n"
         "\tf = y }\n",
         1,
-        "M.hs:2:6: error: unbound y\n"
-        "What this name means was looked for, and nothing in scope has it.\n"
+        "M.hs:2:6: error: 'y' isn't in scope [unbound]\n"
+        "No declaration, import or parameter gives this name a meaning here.\n"
         "\tf = y }\n"
         "\t    ^\n"
         "errors: 1, skipped modules: 0\n",
@@ -282,8 +282,8 @@ EXCERPTS = [
     (
         "module M where { " + "".join(f"x{n:03} = 1 ; " for n in range(20)) + "f = y ; " + "".join(f"y{n:03} = 1 ; " for n in range(20)) + "}",
         1,
-        "M.hs:1:242: error: unbound y\n"
-        "What this name means was looked for, and nothing in scope has it.\n"
+        "M.hs:1:242: error: 'y' isn't in scope [unbound]\n"
+        "No declaration, import or parameter gives this name a meaning here.\n"
         "... x015 = 1 ; x016 = 1 ; x017 = 1 ; x018 = 1 ; x019 = 1 ; f = y ; y000 = 1 ; y001 = 1 ; y002 = 1 ; y003 = 1 ; y004 = 1 ; y...\n"
         "                                                               ^\n"
         "errors: 1, skipped modules: 0\n",
@@ -291,8 +291,8 @@ EXCERPTS = [
     (
         "module M where { {- " + "é" * 100 + " -}  f = y {- " + "é" * 100 + " -} }",
         1,
-        "M.hs:1:230: error: unbound y\n"
-        "What this name means was looked for, and nothing in scope has it.\n"
+        "M.hs:1:230: error: 'y' isn't in scope [unbound]\n"
+        "No declaration, import or parameter gives this name a meaning here.\n"
         "...ééééééééééééééééééééééééé -}  f = y {- ééééééééééééééééééééééééééé...\n"
         "                                     ^\n"
         "errors: 1, skipped modules: 0\n",
@@ -300,8 +300,8 @@ EXCERPTS = [
     (
         "module M where { {- é€𝄞 -} f = y }",
         1,
-        "M.hs:1:38: error: unbound y\n"
-        "What this name means was looked for, and nothing in scope has it.\n"
+        "M.hs:1:38: error: 'y' isn't in scope [unbound]\n"
+        "No declaration, import or parameter gives this name a meaning here.\n"
         "module M where { {- é€𝄞 -} f = y }\n"
         "                               ^\n"
         "errors: 1, skipped modules: 0\n",
@@ -309,8 +309,8 @@ EXCERPTS = [
     (
         "module M where { f = 1",
         2,
-        "M.hs:1:23: error: syntax\n"
-        "A module was read up to here, and none goes on with what stands here.\n"
+        "M.hs:1:23: error: expected '}' before the end of the source [syntax]\n"
+        "With it this can be read.\n"
         "module M where { f = 1\n"
         "                      ^\n"
         "errors: 1, skipped modules: 0\n",
@@ -318,8 +318,8 @@ EXCERPTS = [
     (
         "module M where { f = 1\n",
         2,
-        "M.hs:2:1: error: syntax\n"
-        "A module was read up to here, and none goes on with what stands here.\n"
+        "M.hs:2:1: error: expected '}' before the end of the source [syntax]\n"
+        "With it this can be read.\n"
         "\n"
         "^\n"
         "errors: 1, skipped modules: 0\n",
@@ -327,6 +327,54 @@ EXCERPTS = [
     (
         b"module M where { {- \xff -} }",
         2,
-        b"M.hs:1:18: error: lexeme\nA lexeme was looked for, and none can be completed that begins here.\nmodule M where { {- \xff -} }\n                 ^\nerrors: 1, skipped modules: 0\n",
+        b"M.hs:1:18: error: this comment isn't UTF-8 [lexeme]\nSave the file as UTF-8.\nmodule M where { {- \xff -} }\n                 ^\nerrors: 1, skipped modules: 0\n",
     ),
+]
+
+# what has no lexemes, with the place and the first line of its message, less its word
+LEXEMES = [
+    ("\ufeffmodule M where { }", "1:1", "the file begins with a byte order mark"),
+    ("module M where { x = f `g` y }", "1:24", "a function between backquotes isn't supported"),
+    ('module M where { s = "ab ;\n}', "1:22", "this string isn't closed on its line"),
+    ('module M where { s = "a\\q" }', "1:22", "this string has an escape or a character that isn't supported"),
+    ("module M where { c = 'ab' }", "1:22", "this isn't one character between single quotes"),
+    ("module M where { x = 3.14 }", "1:22", "numbers with a fraction or an exponent aren't supported"),
+    ("module M where { x = M.where }", "1:22", "a qualified name can't end in a reserved word"),
+    ("module M where { x = 1 } --| y", "1:26", "'--|' is an operator, and begins no comment"),
+    ("module M where { x = 1 + 2 }", "1:24", "the operator '+' isn't supported: the only one is ':'"),
+    ("module M where { x = xs ++ ys }", "1:25", "the operator '++' isn't supported: the only one is ':'"),
+    ("module M where { na\u00efve = 1 }", "1:20", "a character that isn't ASCII isn't allowed here"),
+    ("module M where { \0 }", "1:18", "this byte isn't allowed here"),
+]
+
+# what is read in no module, with the place and the first line of its message, less its word
+HINTS = [
+    ("x = 1", "1:1", "a file begins with 'module NAME where {'"),
+    ("module m where { }", "1:8", "'m' must begin with a capital letter here"),
+    ("module M wehre { }", "1:10", "expected 'where', found 'wehre'"),
+    ("module M where x = 1", "1:16", "expected '{' before 'x': layout isn't supported"),
+    ("module M where { x = 1 } }", "1:26", "the module ends at the '}' before this, and only another 'module' may follow"),
+    ("module M where { x = 1", "1:23", "expected '}' before the end of the source"),
+    ("module M where { class C a where { } }", "1:18", "classes aren't supported"),
+    ("module M where { instance C Int where { } }", "1:18", "instances aren't supported, because there are no classes"),
+    ("module M where { data T = A deriving Eq }", "1:29", "'deriving' isn't supported, because there are no classes"),
+    ("module M where { default (Int) }", "1:18", "'default' isn't supported, because there are no classes"),
+    ("module M where { infixl 5 x }", "1:18", "operators can't be defined"),
+    ("module M where { f :: C a => a ; f = f }", "1:27", "a type can't have a context, because there are no classes"),
+    ("module M where { x = do { } }", "1:22", "'do' isn't supported, because there is no IO and no monad"),
+    ("module M where { f x | True <- x = 1 }", "1:29", "'<-' isn't supported: a guard is an expression of type Bool"),
+    ("module M where { x = [y | y] }", "1:25", "list comprehensions aren't supported"),
+    ("module M where { x = [1 .. 2] }", "1:25", "'[a .. b]' isn't supported"),
+    ("module M where { data colour = Red }", "1:23", "'colour' must begin with a capital letter here"),
+    ("module M where { data P = P { x :: Int } }", "1:29", "fields with names aren't supported"),
+    ("module M where { x = case 1 of { } }", "1:34", "a 'case' needs at least one alternative"),
+    ("module M where { x = (1 ; y = 2 }", "1:25", "expected ')' before ';'"),
+    ("module M where { x = [1 ; y = 2 }", "1:25", "expected ']' before ';'"),
+    ("module M where { x = 1) }", "1:23", "unexpected ')'"),
+    ("module M where { x = 1\ny = 2 }", "2:3", "expected ';' before 'y'"),
+    ("module M where { x = \\y 1 }", "1:27", "expected '->' before '1'"),
+    ("module M where { x = \\y = 1 }", "1:25", "expected '->', found '='"),
+    ("module M where { x = if True then 1 2 }", "1:39", "expected 'else' before '2'"),
+    ("module M where { x = case 1 { y -> y } }", "1:29", "expected 'of' before '{'"),
+    ("module M where { x = let { y = 1 } y }", "1:36", "expected 'in' before 'y'"),
 ]

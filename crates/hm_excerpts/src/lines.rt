@@ -71,6 +71,13 @@ impl<'a> SourceLines<'a> {
         Ok(SourceLines { source, spans })
     }
 
+    /// The source.
+    pub fn source(&self) -> &'a [u8]
+        ensures { result.now ≡ self.now }
+    {
+        self.source
+    }
+
     /// What is shown at a place, if it lies in the source.
     pub fn excerpt(&self, place: Place) -> Option<Excerpt<'a>>
         ensures some { IfSome result (IsExcerptAt self.now place) }

@@ -1,3 +1,4 @@
 pub mod AtPage
 pub mod InOrder
 pub mod Ways
+mod Naming

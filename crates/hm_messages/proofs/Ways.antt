@@ -7,10 +7,8 @@ use Rattle.hm_messages.specs.Subjects.{Subject}
 use Rattle.hm_messages.specs.declared.heading.Paint.{Paint}
 use Rattle.hm_messages.proofs.InOrder.{each_more}
 
-pub alone : (paint : Paint) (files sources : List (List ℕ)) (number : ℕ) (place : Place) (subject : Subject) (text : List ℕ) → IsMessageAt paint files sources number place subject text → AreMessagesOf paint files sources subject text
+pub alone : (paint : Paint) (files sources : List (List ℕ)) (number : ℕ) (place : Place) (subject : Subject) (text : List ℕ) → IsMessageAt paint files sources number place subject text → AreMessagesOf paint files sources number place subject text
 alone paint files sources number place subject text h = record {
-  number = number;
-  place = place;
   first = text;
   told = h;
   ways = [];
@@ -19,11 +17,9 @@ alone paint files sources number place subject text h = record {
   whole = sym (append-nil text);
 }
 
-pub way_more : (paint : Paint) (files sources : List (List ℕ)) (subject : Subject) (text next line : List ℕ) (way : Way) → AreMessagesOf paint files sources subject text → IsWayTold paint files sources way line
-    → next ≡ text ++ line → AreMessagesOf paint files sources subject next
-way_more paint files sources subject text next line way h w e = record {
-  number = h.number;
-  place = h.place;
+pub way_more : (paint : Paint) (files sources : List (List ℕ)) (number : ℕ) (place : Place) (subject : Subject) (text next line : List ℕ) (way : Way) → AreMessagesOf paint files sources number place subject text → IsWayTold paint files sources way line
+    → next ≡ text ++ line → AreMessagesOf paint files sources number place subject next
+way_more paint files sources number place subject text next line way h w e = record {
   first = h.first;
   told = h.told;
   ways = h.ways ++ way ∷ [];

@@ -6,8 +6,10 @@ use Rattle.hm_messages.specs.declared.pages.Page.{Page}
 abbrev pub file_at : List (List ℕ) → ℕ → List ℕ
 file_at names k = slice_index_or names k (codes "<stdin>")
 
-abbrev pub AreFilesOf : List (List ℕ) → List (List ℕ) → Type 0
-AreFilesOf names files = (k : ℕ) → k < length files → slice_index_or files k [] ≡ file_at names k
+-- one name for each source, by their numbers
+pub record AreFilesOf (names sources files : List (List ℕ)) : Type 0 where
+  pub one_each : length files ≡ length sources
+  pub named : (k : ℕ) → k < length files → slice_index_or files k [] ≡ file_at names k
 
 abbrev pub files_in : List Page → List (List ℕ)
 files_in pages = map (λ p. p.file.now) pages

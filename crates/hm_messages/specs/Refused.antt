@@ -1,5 +1,11 @@
 -- What is told of a set that is refused.
-use Rattle.std.specs.Prelude.{◌≡◌, ℕ, ◌<◌, List, [], ◌++◌, length, slice_index_or}
+use Rattle.std.specs.Prelude.{◌≡◌, ℕ, ◌-◌, ◌<◌, ⊤, List, [], ◌++◌, length, slice_index_or, take}
+use Rattle.hm_excerpts.specs.Excerpts.{IsExcerptAt}
+use Rattle.hm_excerpts.specs.declared.excerpt.Excerpt.{Excerpt}
+use Rattle.hm_hints.specs.Advice.{IsAdviceAt}
+use Rattle.hm_hints.specs.LexemeHints.{IsLexemeHint}
+use Rattle.hm_hints.specs.declared.lexeme_hints.LexemeHint.{LexemeHint}
+use Rattle.hm_hints.specs.declared.syntax_hints.SyntaxHint.{SyntaxHint}
 use Rattle.hm_lex.specs.declared.token.Place.{Place}
 use Rattle.hm_lex.specs.declared.token.LexFault.TheVariants as lexing
 use Rattle.hm_grammar.specs.declared.fault.ParseFault.TheVariants as parsing
@@ -10,20 +16,46 @@ use Rattle.hm_messages.specs.Messages.{AreEach, IsHeadingAt, IsMessage}
 use Rattle.hm_messages.specs.Subjects.{Subject, too_long, lexeme, open_comment, too_deep, syntax_fault, too_many, twice, missing, cycle, step}
 use Rattle.hm_messages.specs.declared.heading.Paint.{Paint}
 
--- what the message of a refusal tells; want of memory refuses no set
-abbrev pub refused_subject : Refusal → Subject
-refused_subject (lex n lexing.TooLong) = too_long
-refused_subject (lex n (lexing.Lexeme p)) = lexeme
-refused_subject (lex n (lexing.OpenComment p)) = open_comment
-refused_subject (lex n (lexing.TooDeep p)) = too_deep
-refused_subject (lex n lexing.Memory) = too_long
-refused_subject (parse n (parsing.Syntax p)) = syntax_fault
-refused_subject (parse n parsing.Memory) = too_long
-refused_subject (plan planning.TooMany m i) = too_many
-refused_subject (plan (planning.Duplicate k) m i) = twice m
-refused_subject (plan (planning.Missing k j) m i) = missing i
-refused_subject (plan (planning.Cycle k) m i) = cycle m
-refused_subject (plan planning.Memory m i) = too_long
+-- the hint is so of what is shown from the place on, and the operator that it names is there
+pub record IsLexemeHintAt (source : List ℕ) (p : Place) (hint : LexemeHint) (name : List ℕ) : Type 0 where
+  pub shown : Excerpt
+  pub at : IsExcerptAt source p shown
+  pub holds : IsLexemeHint shown.right.now hint
+  pub len : ℕ
+  pub name_is : name ≡ take len shown.right.now
+
+-- what the message of a refusal may tell; want of memory refuses no set
+abbrev pub IsRefusedSubject : List (List ℕ) → Refusal → Subject → Type 0
+IsRefusedSubject sources (lex n lexing.TooLong) s = s ≡ too_long
+IsRefusedSubject sources (lex n (lexing.Lexeme p)) s = (hint : LexemeHint) × (name : List ℕ) × (s ≡ lexeme hint name) × IsLexemeHintAt (slice_index_or sources (n - 1) []) p hint name
+IsRefusedSubject sources (lex n (lexing.OpenComment p)) s = s ≡ open_comment
+IsRefusedSubject sources (lex n (lexing.TooDeep p)) s = s ≡ too_deep
+IsRefusedSubject sources (lex n lexing.Memory) s = s ≡ too_long
+IsRefusedSubject sources (parse n (parsing.Syntax p)) s = (hint : SyntaxHint) × (text : List ℕ) × (s ≡ syntax_fault hint text) × IsAdviceAt (slice_index_or sources (n - 1) []) p hint text
+IsRefusedSubject sources (parse n parsing.Memory) s = s ≡ too_long
+IsRefusedSubject sources (plan planning.TooMany m i) s = s ≡ too_many
+IsRefusedSubject sources (plan (planning.Duplicate k) m i) s = s ≡ twice m
+IsRefusedSubject sources (plan (planning.Missing k j) m i) s = s ≡ missing i
+IsRefusedSubject sources (plan (planning.Cycle k) m i) s = s ≡ cycle m
+IsRefusedSubject sources (plan planning.Memory m i) s = s ≡ too_long
+
+-- what is said of a fault of syntax is so; nothing is asked of what is said of other refusals
+abbrev pub IsAdvised : List (List ℕ) → Refusal → SyntaxHint → List ℕ → Type 0
+IsAdvised sources (lex n fault) hint text = ⊤
+IsAdvised sources (parse n (parsing.Syntax p)) hint text = IsAdviceAt (slice_index_or sources (n - 1) []) p hint text
+IsAdvised sources (parse n parsing.Memory) hint text = ⊤
+IsAdvised sources (plan fault m i) hint text = ⊤
+
+-- the source, counted from 0, and the place that the refusal tells; a source that is too long is told at its first place, and a plan tells none
+abbrev pub IsRefusedAt : Refusal → ℕ → Place → Type 0
+IsRefusedAt (lex n lexing.TooLong) number place = (number ≡ n - 1) × (place ≡ record { line = 1; column = 1 })
+IsRefusedAt (lex n (lexing.Lexeme p)) number place = (number ≡ n - 1) × (place ≡ p)
+IsRefusedAt (lex n (lexing.OpenComment p)) number place = (number ≡ n - 1) × (place ≡ p)
+IsRefusedAt (lex n (lexing.TooDeep p)) number place = (number ≡ n - 1) × (place ≡ p)
+IsRefusedAt (lex n lexing.Memory) number place = ⊥
+IsRefusedAt (parse n (parsing.Syntax p)) number place = (number ≡ n - 1) × (place ≡ p)
+IsRefusedAt (parse n parsing.Memory) number place = ⊥
+IsRefusedAt (plan fault m i) number place = ⊤
 
 -- a message at a place of the source with this number, counted from 0
 pub record IsMessageAt (paint : Paint) (files sources : List (List ℕ)) (number : ℕ) (place : Place) (subject : Subject) (text : List ℕ) : Type 0 where
@@ -41,9 +73,7 @@ abbrev pub IsWayTold : Paint → List (List ℕ) → List (List ℕ) → Way →
 IsWayTold paint files sources way text = (way.number < length sources) × IsHeadingAt paint (slice_index_or files way.number []) (slice_index_or sources way.number []) way.place (step way.name way.import) text
 
 -- one message at a place of a source, and behind it a line for each import of a cycle, if there is one
-pub record AreMessagesOf (paint : Paint) (files sources : List (List ℕ)) (subject : Subject) (text : List ℕ) : Type 0 where
-  pub number : ℕ
-  pub place : Place
+pub record AreMessagesOf (paint : Paint) (files sources : List (List ℕ)) (number : ℕ) (place : Place) (subject : Subject) (text : List ℕ) : Type 0 where
   pub first : List ℕ
   pub told : IsMessageAt paint files sources number place subject first
   pub ways : List Way
@@ -51,8 +81,17 @@ pub record AreMessagesOf (paint : Paint) (files sources : List (List ℕ)) (subj
   pub steps : AreEach (IsWayTold paint files sources) ways lines
   pub whole : text ≡ first ++ lines
 
+-- messages of what the refusal tells, at the place that it tells
+pub record AreRefusalMessages (paint : Paint) (files sources : List (List ℕ)) (refusal : Refusal) (text : List ℕ) : Type 0 where
+  pub subject : Subject
+  pub subject_is : IsRefusedSubject sources refusal subject
+  pub number : ℕ
+  pub place : Place
+  pub placed : IsRefusedAt refusal number place
+  pub messages : AreMessagesOf paint files sources number place subject text
+
 -- and behind them the counts: one error, and no module is skipped
 pub record IsRefusalTold (paint : Paint) (files sources : List (List ℕ)) (refusal : Refusal) (text : List ℕ) : Type 0 where
   pub messages : List ℕ
-  pub told : AreMessagesOf paint files sources (refused_subject refusal) messages
+  pub told : AreRefusalMessages paint files sources refusal messages
   pub whole : text ≡ messages ++ count_text 1 0

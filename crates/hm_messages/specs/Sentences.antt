@@ -1,35 +1,37 @@
--- The sentences of messages: what was looked for, and what stands in the way.
+-- The second line of messages: the rule that is broken, or a hint.
 use Rattle.std.specs.Prelude.{ℕ, List, [], codes}
+use Rattle.hm_hints.specs.LexemeTexts.{lexeme_help}
+use Rattle.hm_hints.specs.SyntaxTexts.{syntax_help}
 use Rattle.hm_names.specs.declared.faults.Kind.{Kind}
 use Rattle.hm_names.specs.declared.faults.Kind.TheVariants.{NotExported, Duplicate, NoBinding, Unbound, Ambiguous, ExportClash, NotImported, NonLinear, Arity, ClauseLength, Untyped, Recursive}
 use Rattle.hm_messages.specs.Subjects.{Subject, fault, faulty, skipped, too_long, lexeme, open_comment, too_deep, syntax_fault, too_many, twice, missing, cycle, step}
 
 abbrev pub fault_sentence : Kind → List ℕ
-fault_sentence NotExported = codes "The import lists this name, but the imported module doesn't export it.\n"
-fault_sentence Duplicate = codes "A name has one declaration, one signature and one parameter of a list, and this is a second one.\n"
-fault_sentence NoBinding = codes "Clauses of this variable were looked for beside its signature, and there are none.\n"
-fault_sentence Unbound = codes "What this name means was looked for, and nothing in scope has it.\n"
-fault_sentence Ambiguous = codes "What this name means was looked for, and several things in scope have it.\n"
-fault_sentence ExportClash = codes "This item exports a name that an item before it gives to something else.\n"
-fault_sentence NotImported = codes "The export list exports what this module gives, but no import gives it this name.\n"
-fault_sentence NonLinear = codes "The patterns of a clause, lambda or alternative have a variable once, and this is a second one.\n"
-fault_sentence Arity = codes "A type, synonym or constructor wants as many arguments as it has, and here there is another number.\n"
-fault_sentence ClauseLength = codes "All clauses of a binding have as many patterns as the first, and this one has another number.\n"
-fault_sentence Untyped = codes "No type fits, though all that it refers to has one.\n"
-fault_sentence Recursive = codes "A synonym is replaced by its right side, and this one comes back there without an end.\n"
+fault_sentence NotExported = codes "The imported module doesn't export this name, or not as a constructor of this type.\n"
+fault_sentence Duplicate = codes "A name has one declaration, one signature and one parameter in a list; the clauses of a function must stand together.\n"
+fault_sentence NoBinding = codes "A variable with a signature needs clauses in the same list; a variable of a pattern can't have a signature.\n"
+fault_sentence Unbound = codes "No declaration, import or parameter gives this name a meaning here.\n"
+fault_sentence Ambiguous = codes "Several things in scope have this name: write a qualifier, or hide it in an import.\n"
+fault_sentence ExportClash = codes "An export list gives each name to one thing.\n"
+fault_sentence NotImported = codes "`module N` in an export list exports what the imports called N give.\n"
+fault_sentence NonLinear = codes "The patterns of one clause, lambda, alternative or binding have each variable once.\n"
+fault_sentence Arity = codes "A type, synonym or constructor takes as many arguments as its declaration gives it.\n"
+fault_sentence ClauseLength = codes "Each clause of a function has as many patterns as the first one.\n"
+fault_sentence Untyped = codes "This definition has no type, though everything that it refers to has one.\n"
+fault_sentence Recursive = codes "A synonym is replaced by its right side, so that would never end; use `data` or `newtype`.\n"
 
 -- notes have none
 abbrev pub sentence : Subject → List ℕ
 sentence (fault k x) = fault_sentence k
 sentence (faulty x) = []
 sentence (skipped x) = []
-sentence too_long = codes "A source has at most 1,048,576 bytes, and this one has more.\n"
-sentence lexeme = codes "A lexeme was looked for, and none can be completed that begins here.\n"
-sentence open_comment = codes "The end of this comment was looked for, and the source ends before it.\n"
-sentence too_deep = codes "At most 200 brackets may be open at once, and this one is one more.\n"
-sentence syntax_fault = codes "A module was read up to here, and none goes on with what stands here.\n"
-sentence too_many = codes "A set has at most 4,096 modules, and this one is one more.\n"
-sentence (twice x) = codes "Each module of a set has a name of its own that isn't Prelude, and this one is taken.\n"
-sentence (missing x) = codes "A module of this name was looked for, and the set has none.\n"
-sentence (cycle x) = codes "A module is checked behind those that it imports, and this one imports itself in the end.\n"
+sentence too_long = codes "A source has at most 1,048,576 bytes.\n"
+sentence (lexeme h x) = lexeme_help h x
+sentence open_comment = codes "A comment ends with `-}`; a `{-` within it begins another one.\n"
+sentence too_deep = codes "At most 200 brackets may be open at once.\n"
+sentence (syntax_fault h x) = syntax_help h
+sentence too_many = codes "A set has at most 4,096 modules.\n"
+sentence (twice x) = codes "Each module of a set has a name of its own, and `Prelude` is built in.\n"
+sentence (missing x) = codes "An import names a module of the set or `Prelude`; there is no other library.\n"
+sentence (cycle x) = codes "Modules may not import each other in a circle.\n"
 sentence (step x y) = []

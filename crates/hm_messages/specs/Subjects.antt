@@ -1,5 +1,7 @@
 -- What a message tells, without where its names lie in memory.
 use Rattle.std.specs.Prelude.{ℕ, List}
+use Rattle.hm_hints.specs.declared.lexeme_hints.LexemeHint.{LexemeHint}
+use Rattle.hm_hints.specs.declared.syntax_hints.SyntaxHint.{SyntaxHint}
 use Rattle.hm_names.specs.declared.faults.Kind.{Kind}
 use Rattle.hm_messages.specs.declared.topic.Topic.{Topic}
 use Rattle.hm_messages.specs.declared.topic.Topic.TheVariants as topic
@@ -10,10 +12,10 @@ pub data Subject : Type 0 where
   faulty : List ℕ → Subject
   skipped : List ℕ → Subject
   too_long : Subject
-  lexeme : Subject
+  lexeme : LexemeHint → List ℕ → Subject
   open_comment : Subject
   too_deep : Subject
-  syntax_fault : Subject
+  syntax_fault : SyntaxHint → List ℕ → Subject
   too_many : Subject
   twice : List ℕ → Subject
   missing : List ℕ → Subject
@@ -25,10 +27,10 @@ subject_of (topic.Fault k x) = fault k x.now
 subject_of (topic.Faulty x) = faulty x.now
 subject_of (topic.Skipped x) = skipped x.now
 subject_of topic.TooLong = too_long
-subject_of topic.Lexeme = lexeme
+subject_of (topic.Lexeme h x) = lexeme h x.now
 subject_of topic.OpenComment = open_comment
 subject_of topic.TooDeep = too_deep
-subject_of topic.Syntax = syntax_fault
+subject_of (topic.Syntax a) = syntax_fault a.hint a.text.now
 subject_of topic.TooMany = too_many
 subject_of (topic.Twice x) = twice x.now
 subject_of (topic.Missing x) = missing x.now

@@ -30,7 +30,7 @@ pub struct Pages<'a> {
     pub items: Vec<Page<'a>>,
 }
 
-/// The sources with these names, as messages show them.
+/// Returns the sources with these names, as messages show them.
 pub fn pages_of<'a>(
     alloc: Global,
     paint: Paint,
@@ -39,7 +39,7 @@ pub fn pages_of<'a>(
 ) -> Result<Pages<'a>, AllocError>
     ensures paint { IfOk result (λ pages. pages.paint ≡ paint) }
     ensures texts { IfOk result (λ pages. texts_in pages.items.items ≡ map (λ s. s.items) sources.entry.now) }
-    ensures files { IfOk result (λ pages. AreFilesOf (map (λ s. s.items) names.entry.now) (files_in pages.items.items)) }
+    ensures files { IfOk result (λ pages. AreFilesOf (map (λ s. s.items) names.entry.now) (map (λ s. s.items) sources.entry.now) (files_in pages.items.items)) }
 {
     let mut items = Vec::new(alloc);
     for number in 0..sources.len() {

@@ -1,12 +1,11 @@
 //! The messages of a set that is refused.
-ghost use Rattle.std.specs.Prelude.{[], IfOk, map};
-ghost use Rattle.hm_graph.specs.declared.faults.PlanFault.{PlanFault as PlanReason};
+ghost use Rattle.std.specs.Prelude.{◌-◌, ℕ, [], IfOk, map, slice_index_or};
+ghost use Rattle.hm_lex.specs.declared.token.Place.{Place};
 ghost use Rattle.hm_sources.specs.Origins.{AreLocated};
-ghost use Rattle.hm_sources.specs.Refusals.{lex, plan};
-ghost use Rattle.hm_messages.specs.Messages.{AreEach};
+ghost use Rattle.hm_sources.specs.Refusals.{lex, parse, plan};
 ghost use Rattle.hm_messages.specs.Pages.{files_in, texts_in};
-ghost use Rattle.hm_messages.specs.Refused.{Way, AreMessagesOf, IsMessageAt, IsRefusalTold, IsWayTold, refused_subject};
-ghost use Rattle.hm_messages.specs.Subjects.{subject_of};
+ghost use Rattle.hm_messages.specs.Refused.{Way, AreMessagesOf, AreRefusalMessages, IsAdvised, IsLexemeHintAt, IsMessageAt, IsRefusalTold, IsWayTold};
+ghost use Rattle.hm_messages.specs.Subjects.{cycle, subject_of};
 
 use crate::counts::count_text;
 use crate::cycles::{Step, cycle_of};
@@ -15,6 +14,7 @@ use crate::pages::Pages;
 use crate::topic::Topic;
 use hm_grammar::ParseFault;
 use hm_graph::PlanFault;
+use hm_hints::{Advice, LexemeHint, lexeme_hint, operator_in};
 use hm_lex::{LexFault, Place};
 use hm_sources::{Located, SetError, SetFault, SetFaultKind, located_headers};
 use std::alloc::Global;
@@ -27,23 +27,6 @@ const MODULE_LIMIT: usize = 4096;
 struct Spot {
     source: usize,
     place: Place,
-}
-
-/// A place in the source with this number, counted from 1.
-fn spot_in(source: usize, place: Place) -> Option<Spot> {
-    let source = source.checked_sub(1)?;
-    Some(Spot { source, place })
-}
-
-/// Where a fault of lexemes shows.
-fn lex_spot(source: usize, fault: LexFault) -> Option<Spot> {
-    match fault {
-        LexFault::TooLong => spot_in(source, Place { line: 1, column: 1 }),
-        LexFault::Lexeme(place) => spot_in(source, place),
-        LexFault::OpenComment(place) => spot_in(source, place),
-        LexFault::TooDeep(place) => spot_in(source, place),
-        LexFault::Memory => None,
-    }
 }
 
 /// The place of a module's name.
@@ -86,35 +69,119 @@ fn message_at(
 fn spot_messages(
     alloc: Global,
     pages: &Pages<'_>,
-    spot: Option<Spot>,
+    spot: Spot,
     topic: &Topic<'_>,
 ) -> Result<Vec<u8>, MessageFault>
-    ensures { IfOk result (λ text. AreMessagesOf pages.now.paint (files_in pages.now.items.items) (texts_in pages.now.items.items)
-        (subject_of topic.now) text.items) }
+    ensures { IfOk result (λ text. AreMessagesOf pages.now.paint (files_in pages.now.items.items) (texts_in pages.now.items.items) spot.source
+        spot.place (subject_of topic.now) text.items) }
 {
-    match spot {
-        Some(spot) => Ok(message_at(alloc, pages, spot, topic)?),
-        None => Err(MessageFault::Place),
-    }
+    Ok(message_at(alloc, pages, spot, topic)?)
 }
 
-/// The message of a source without lexemes.
+/// The message of a source, counted from 1, that is refused at a place.
+fn source_messages(
+    alloc: Global,
+    pages: &Pages<'_>,
+    source: usize,
+    place: Place,
+    topic: &Topic<'_>,
+) -> Result<Vec<u8>, MessageFault>
+    ensures { IfOk result (λ text. AreMessagesOf pages.now.paint (files_in pages.now.items.items) (texts_in pages.now.items.items) (source - 1)
+        place (subject_of topic.now) text.items) }
+{
+    let Some(source) = source.checked_sub(1) else {
+        return Err(MessageFault::Place);
+    };
+    Ok(spot_messages(alloc, pages, Spot { source, place }, topic)?)
+}
+
+/// What is at a place of a source where no lexeme begins.
+#[derive(Clone, Copy)]
+struct LexemeAdvice<'a> {
+    hint: LexemeHint,
+    name: &'a str,
+}
+
+/// What is at a place of a source, counted from 1, where no lexeme begins.
+fn lexeme_advice<'a>(
+    pages: &Pages<'a>,
+    source: usize,
+    place: Place,
+) -> Result<LexemeAdvice<'a>, MessageFault>
+    ensures { IfOk result (λ a. IsLexemeHintAt (slice_index_or (texts_in pages.now.items.items) (source - 1) []) place a.hint a.name.now) }
+{
+    let Some(source) = source.checked_sub(1) else {
+        return Err(MessageFault::Place);
+    };
+    if source >= pages.items.len() {
+        return Err(MessageFault::Place);
+    }
+    let Some(excerpt) = pages.items[source].lines.excerpt(place) else {
+        return Err(MessageFault::Place);
+    };
+    let hint = lexeme_hint(excerpt.right);
+    let name = operator_in(excerpt.right, hint);
+    Ok(LexemeAdvice { hint, name })
+}
+
+/// The message of a source, counted from 1, without lexemes.
 fn lex_messages(
     alloc: Global,
     pages: &Pages<'_>,
     source: usize,
     fault: LexFault,
 ) -> Result<Vec<u8>, MessageFault>
-    ensures { IfOk result (λ text. AreMessagesOf pages.now.paint (files_in pages.now.items.items) (texts_in pages.now.items.items)
-        (refused_subject (lex source fault)) text.items) }
+    ensures { IfOk result (λ text. AreRefusalMessages pages.now.paint (files_in pages.now.items.items) (texts_in pages.now.items.items)
+        (lex source fault) text.items) }
 {
-    let spot = lex_spot(source, fault);
     match fault {
-        LexFault::TooLong => Ok(spot_messages(alloc, pages, spot, &Topic::TooLong)?),
-        LexFault::Lexeme(_) => Ok(spot_messages(alloc, pages, spot, &Topic::Lexeme)?),
-        LexFault::OpenComment(_) => Ok(spot_messages(alloc, pages, spot, &Topic::OpenComment)?),
-        LexFault::TooDeep(_) => Ok(spot_messages(alloc, pages, spot, &Topic::TooDeep)?),
+        LexFault::TooLong => {
+            let place = Place { line: 1, column: 1 };
+            Ok(source_messages(alloc, pages, source, place, &Topic::TooLong)?)
+        }
+        LexFault::Lexeme(place) => {
+            let LexemeAdvice { hint, name } = lexeme_advice(pages, source, place)?;
+            Ok(source_messages(alloc, pages, source, place, &Topic::Lexeme(hint, name))?)
+        }
+        LexFault::OpenComment(place) => Ok(source_messages(
+            alloc,
+            pages,
+            source,
+            place,
+            &Topic::OpenComment,
+        )?),
+        LexFault::TooDeep(place) => Ok(source_messages(
+            alloc,
+            pages,
+            source,
+            place,
+            &Topic::TooDeep,
+        )?),
         LexFault::Memory => Err(MessageFault::Memory),
+    }
+}
+
+/// The message of a source, counted from 1, that spells no modules.
+fn parse_messages(
+    alloc: Global,
+    pages: &Pages<'_>,
+    source: usize,
+    fault: ParseFault,
+    advice: Advice<'_>,
+) -> Result<Vec<u8>, MessageFault>
+    requires { IsAdvised (texts_in pages.now.items.items) (parse source fault) advice.hint advice.text.now }
+    ensures { IfOk result (λ text. AreRefusalMessages pages.now.paint (files_in pages.now.items.items) (texts_in pages.now.items.items)
+        (parse source fault) text.items) }
+{
+    match fault {
+        ParseFault::Syntax(place) => Ok(source_messages(
+            alloc,
+            pages,
+            source,
+            place,
+            &Topic::Syntax(advice),
+        )?),
+        ParseFault::Memory => Err(MessageFault::Memory),
     }
 }
 
@@ -158,14 +225,16 @@ fn cycle_messages(
     start: usize,
     name: &str,
 ) -> Result<Vec<u8>, MessageFault>
-    ensures { IfOk result (λ text. AreMessagesOf pages.now.paint (files_in pages.now.items.items) (texts_in pages.now.items.items)
-        (refused_subject (plan (PlanReason.Cycle start) name.now [])) text.items) }
+    ensures { IfOk result (λ text. (number : ℕ) × (place : Place) × AreMessagesOf pages.now.paint (files_in pages.now.items.items) (texts_in pages.now.items.items)
+        number place (cycle name.now) text.items) }
 {
     let steps = cycle_of(alloc, located, start)?;
     let Some(first) = steps.first() else {
         return Err(MessageFault::Place);
     };
-    let spot = import_spot(located, *first);
+    let Some(spot) = import_spot(located, *first) else {
+        return Err(MessageFault::Place);
+    };
     let mut text = spot_messages(alloc, pages, spot, &Topic::Cycle(name))?;
     for step in &steps {
         let line = step_line(alloc, pages, located, *step)?;
@@ -181,21 +250,27 @@ fn plan_messages(
     located: &[Located],
     refused: &Refused<'_>,
 ) -> Result<Vec<u8>, MessageFault>
-    ensures { IfOk result (λ text. AreMessagesOf pages.now.paint (files_in pages.now.items.items) (texts_in pages.now.items.items)
-        (refused_subject (plan refused.now.fault refused.now.module.now refused.now.import.now)) text.items) }
+    ensures { IfOk result (λ text. AreRefusalMessages pages.now.paint (files_in pages.now.items.items) (texts_in pages.now.items.items)
+        (plan refused.now.fault refused.now.module.now refused.now.import.now) text.items) }
 {
     let name = refused.module;
     match refused.fault {
         PlanFault::TooMany => {
-            let spot = module_spot(located, MODULE_LIMIT);
+            let Some(spot) = module_spot(located, MODULE_LIMIT) else {
+                return Err(MessageFault::Place);
+            };
             Ok(spot_messages(alloc, pages, spot, &Topic::TooMany)?)
         }
         PlanFault::Duplicate { module } => {
-            let spot = module_spot(located, module);
+            let Some(spot) = module_spot(located, module) else {
+                return Err(MessageFault::Place);
+            };
             Ok(spot_messages(alloc, pages, spot, &Topic::Twice(name))?)
         }
         PlanFault::Missing { module, import } => {
-            let spot = import_spot(located, Step { module, import });
+            let Some(spot) = import_spot(located, Step { module, import }) else {
+                return Err(MessageFault::Place);
+            };
             let topic = Topic::Missing(refused.import);
             Ok(spot_messages(alloc, pages, spot, &topic)?)
         }
@@ -221,19 +296,17 @@ fn set_messages(
     pages: &Pages<'_>,
     sources: &[Vec<u8>],
     fault: &SetFault,
+    advice: Advice<'_>,
 ) -> Result<Vec<u8>, MessageFault>
-    ensures { IfOk result (λ text. AreMessagesOf pages.now.paint (files_in pages.now.items.items) (texts_in pages.now.items.items)
-        (refused_subject fault.now) text.items) }
+    requires { IsAdvised (texts_in pages.now.items.items) fault.now advice.hint advice.text.now }
+    ensures { IfOk result (λ text. AreRefusalMessages pages.now.paint (files_in pages.now.items.items) (texts_in pages.now.items.items)
+        fault.now text.items) }
 {
     match &fault.kind {
         SetFaultKind::Lex { source, fault } => Ok(lex_messages(alloc, pages, *source, *fault)?),
-        SetFaultKind::Parse { source, fault } => match fault {
-            ParseFault::Syntax(place) => {
-                let spot = spot_in(*source, *place);
-                Ok(spot_messages(alloc, pages, spot, &Topic::Syntax)?)
-            }
-            ParseFault::Memory => Err(MessageFault::Memory),
-        },
+        SetFaultKind::Parse { source, fault } => {
+            Ok(parse_messages(alloc, pages, *source, *fault, advice)?)
+        }
         SetFaultKind::Plan {
             fault,
             module,
@@ -250,16 +323,19 @@ fn set_messages(
     }
 }
 
-/// The messages of a set that is refused: where its fault is, and behind them the counts.
+/// Returns the messages of a set that is refused: where its fault is, and after them the counts. The advice is what is said of
+/// a fault of syntax.
 pub fn refusal_messages(
     alloc: Global,
     pages: &Pages<'_>,
     sources: &[Vec<u8>],
     fault: &SetFault,
+    advice: Advice<'_>,
 ) -> Result<Vec<u8>, MessageFault>
+    requires { IsAdvised (texts_in pages.now.items.items) fault.now advice.hint advice.text.now }
     ensures { IfOk result (λ text. IsRefusalTold pages.now.paint (files_in pages.now.items.items) (texts_in pages.now.items.items) fault.now text.items) }
 {
-    let mut text = set_messages(alloc, pages, sources, fault)?;
+    let mut text = set_messages(alloc, pages, sources, fault, advice)?;
     let counts = count_text(alloc, 1, 0)?;
     text.extend_from_slice(counts.as_bytes())?;
     Ok(text)

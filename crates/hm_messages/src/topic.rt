@@ -1,4 +1,5 @@
 //! What a message tells.
+use hm_hints::{Advice, LexemeHint};
 use hm_names::Kind;
 
 /// What a message tells. Names are as they are written.
@@ -12,14 +13,14 @@ pub enum Topic<'a> {
     Skipped(&'a str),
     /// A source is too long.
     TooLong,
-    /// No lexeme can be completed.
-    Lexeme,
+    /// No lexeme can be completed: what is there, and the operator that it is about.
+    Lexeme(LexemeHint, &'a str),
     /// A comment isn't closed.
     OpenComment,
     /// Too many brackets are open.
     TooDeep,
-    /// No modules are spelled.
-    Syntax,
+    /// No modules are spelled: what is so where they end.
+    Syntax(Advice<'a>),
     /// A set has too many modules.
     TooMany,
     /// A module has a name that is taken.

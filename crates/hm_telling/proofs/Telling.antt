@@ -8,7 +8,9 @@ use Rattle.hm_devices.specs.Sources.{WritesPrefix}
 use Rattle.hm_sources.specs.declared.status.Status.{Status}
 use Rattle.hm_sources.specs.declared.status.Status.TheVariants.{Good, Faulty, Refused}
 use Rattle.hm_messages.specs.declared.heading.Paint.{Paint}
+use Rattle.hm_store.proofs.Settling.{settled_build}
 use Rattle.hm_store.specs.Builds.{Build, set_of}
+use Rattle.hm_verdicts.proofs.Composition.{settled_verdict}
 use Rattle.hm_store.specs.Settlements.{settlement}
 use Rattle.hm_store.specs.declared.record.Record.{Record}
 use Rattle.hm_telling.specs.BuildTexts.{HasReport, IsBehind}
@@ -37,6 +39,7 @@ tells paint names sources b records workers journal status text messages h eithe
       read = f.read;
       report = h.report;
       behind = behind.0;
+      verdicts = λ i l. settled_verdict (set_of b) f.legal.lawful (settlement b) (settled_build b f.legal f.settled) i l;
       reported = h.reported;
       whole = behind.1;
       files = m.files;

@@ -1,9 +1,9 @@
 -- A run with messages: what its messages have to do with what it prints.
-use Rattle.std.specs.Prelude.{◌≡◌, ◌⊎◌, ℕ, List, ◌++◌, Option}
+use Rattle.std.specs.Prelude.{◌≡◌, ◌<◌, ◌⊎◌, ℕ, List, ◌++◌, Option, length}
 use Rattle.std.specs.Io.KnownBytes.{Appends}
 use Rattle.hm_verdicts.specs.Reports.{IsReport}
 use Rattle.hm_verdicts.specs.Sets.{ModuleSet}
-use Rattle.hm_verdicts.specs.Verdicts.{Status as Settlement}
+use Rattle.hm_verdicts.specs.Verdicts.{Status as Settlement, IsVerdictIn}
 use Rattle.hm_messages.specs.Pages.{AreFilesOf}
 use Rattle.hm_messages.specs.Refused.{IsRefusalTold}
 use Rattle.hm_messages.specs.declared.heading.Paint.{Paint}
@@ -20,20 +20,21 @@ use Rattle.hm_telling.specs.Explanations.{IsTold}
 -- the messages tell what a build came to, from these sources with these names
 pub record AreMessagesOf (paint : Paint) (names sources : List (List ℕ)) (b : Build) (messages : List ℕ) : Type 0 where
   pub files : List (List ℕ)
-  pub named : AreFilesOf names files
+  pub named : AreFilesOf names sources files
   pub told : IsTold paint files sources (set_of b) (settlement b) messages
 
--- the messages tell the verdicts of the set whose report the text begins with
+-- the messages tell the verdicts of the modules of the sources, whose report the text begins with
 pub record TellsReport (paint : Paint) (names sources : List (List ℕ)) (text messages : List ℕ) : Type 0 where
   pub set : ModuleSet
   pub settled : ℕ → Settlement
   pub read : AreModulesOf sources set.modules
   pub report : List ℕ
   pub behind : List ℕ
+  pub verdicts : (i : ℕ) → i < length set.modules → IsVerdictIn set i (settled i)
   pub reported : IsReport set settled report
   pub whole : text ≡ report ++ behind
   pub files : List (List ℕ)
-  pub named : AreFilesOf names files
+  pub named : AreFilesOf names sources files
   pub told : IsTold paint files sources set settled messages
 
 -- the messages tell why the sources are refused
@@ -41,7 +42,7 @@ pub record TellsRefusal (paint : Paint) (names sources : List (List ℕ)) (messa
   pub refusal : Refusal
   pub because : IsRefusalOf sources refusal
   pub files : List (List ℕ)
-  pub named : AreFilesOf names files
+  pub named : AreFilesOf names sources files
   pub told : IsRefusalTold paint files sources refusal messages
 
 -- what the messages tell of a run with this status and this text; the names are those of the sources' files

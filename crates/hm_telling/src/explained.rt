@@ -2,6 +2,7 @@
 ghost use Rattle.std.specs.Prelude.{ℕ, List, IfOk, IfSome, map, string_bytes};
 ghost use Rattle.hm_store.specs.declared.record.Record.{Record};
 ghost use Rattle.hm_reports.specs.FinishedBuilds.{IsFinished};
+ghost use Rattle.hm_messages.specs.Refused.{IsAdvised};
 ghost use Rattle.hm_telling.specs.Explained.{AreMessagesOf, IsExplained, TellsRefusal};
 ghost use Rattle.hm_telling.specs.JournalledRuns.{IsRun};
 ghost use Rattle.hm_sources.specs.Runs.{IsRefusalOf};
@@ -9,11 +10,20 @@ ghost use Rattle.hm_sources.specs.Runs.{IsRefusalOf};
 use crate::answers::finished_answer;
 use crate::explaining::{Told, explanation};
 use crate::{Explain, Wanted};
+use hm_advice::advice_at;
+use hm_grammar::ParseFault;
+use hm_hints::{Advice, SyntaxHint};
 use hm_messages::{MessageFault, headers_in, pages_of, refusal_messages};
 use hm_reports::{settled_in, skipped_in};
-use hm_sources::{Answer, SetFault, refusal_answer};
+use hm_sources::{Answer, SetFault, SetFaultKind, refusal_answer};
 use hm_store::Store;
 use std::alloc::Global;
+
+/// What is said of a fault of which nothing is.
+const NO_ADVICE: Advice<'static> = Advice {
+    hint: SyntaxHint::Unexpected,
+    text: "",
+};
 
 /// What is written, and the messages that explain it: none where they aren't asked for.
 #[derive(Drop)]
@@ -81,6 +91,29 @@ pub fn finished_explained<'a>(
     Ok(Explained { answer, messages })
 }
 
+/// What is said of a fault of syntax; nothing of any other.
+fn advice_on<'a>(
+    alloc: Global,
+    sources: &'a [Vec<u8>],
+    fault: &SetFault,
+) -> Result<Advice<'a>, MessageFault>
+    ensures { IfOk result (λ a. IsAdvised (map (λ s. s.items) sources.entry.now) fault.now a.hint a.text.now) }
+{
+    let SetFaultKind::Parse { source, fault } = &fault.kind else {
+        return Ok(NO_ADVICE);
+    };
+    let ParseFault::Syntax(place) = *fault else {
+        return Ok(NO_ADVICE);
+    };
+    let Some(number) = source.checked_sub(1) else {
+        return Err(MessageFault::Place);
+    };
+    if number >= sources.len() {
+        return Err(MessageFault::Place);
+    }
+    Ok(advice_at(alloc, sources[number].as_slice(), place)?)
+}
+
 /// The messages of a set that is refused, where they are asked for.
 fn refused_messages<'a>(
     alloc: Global,
@@ -94,7 +127,8 @@ fn refused_messages<'a>(
     match &wanted.explain {
         Some(explain) => {
             let pages = pages_of(alloc, explain.paint, sources, &explain.names)?;
-            Ok(refusal_messages(alloc, &pages, sources, fault)?)
+            let advice = advice_on(alloc, sources, fault)?;
+            Ok(refusal_messages(alloc, &pages, sources, fault, advice)?)
         }
         None => Ok(Vec::new(alloc)),
     }

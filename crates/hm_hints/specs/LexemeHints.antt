@@ -1,0 +1,27 @@
+-- What is so where no lexeme begins.
+use Rattle.std.specs.Prelude.{◌≡◌, ◌≢◌, ℕ, ◌<◌, ◌≤◌, List, ◌∷◌, ⊤, All, length, slice_index, take}
+use Rattle.hm_hints.specs.declared.lexeme_hints.LexemeHint.{LexemeHint}
+use Rattle.hm_hints.specs.declared.lexeme_hints.LexemeHint.TheVariants.{ByteOrderMark, Backquote, OpenString, StringItem, Character, Fraction, ReservedName, Comment, Dashes, Operator, NotAscii, NoText}
+
+-- the first byte lies between these
+abbrev pub BeginsBetween : ℕ → ℕ → List ℕ → Type 0
+BeginsBetween low high rest = (b : ℕ) × (bs : List ℕ) × (rest ≡ b ∷ bs) × (low ≤ b) × (b ≤ high)
+
+-- the line at the front has so many bytes, and none of them is a double quote
+pub record IsOpenLine (text : List ℕ) (n : ℕ) : Type 0 where
+  pub quotes : All (λ b. b ≢ 34) (take n text)
+  pub end : n < length text → slice_index text n ≡ 10
+
+abbrev pub IsLexemeHint : List ℕ → LexemeHint → Type 0
+IsLexemeHint rest ByteOrderMark = (bs : List ℕ) × (rest ≡ 239 ∷ 187 ∷ 191 ∷ bs)
+IsLexemeHint rest Backquote = (bs : List ℕ) × (rest ≡ 96 ∷ bs)
+IsLexemeHint rest OpenString = (bs : List ℕ) × (n : ℕ) × (rest ≡ 34 ∷ bs) × IsOpenLine bs n
+IsLexemeHint rest StringItem = (bs : List ℕ) × (rest ≡ 34 ∷ bs)
+IsLexemeHint rest Character = (bs : List ℕ) × (rest ≡ 39 ∷ bs)
+IsLexemeHint rest Fraction = BeginsBetween 48 57 rest
+IsLexemeHint rest ReservedName = BeginsBetween 65 90 rest
+IsLexemeHint rest Comment = (bs : List ℕ) × (rest ≡ 123 ∷ bs)
+IsLexemeHint rest Dashes = (bs : List ℕ) × (rest ≡ 45 ∷ 45 ∷ bs)
+IsLexemeHint rest Operator = (b : ℕ) × (bs : List ℕ) × (rest ≡ b ∷ bs)
+IsLexemeHint rest NotAscii = BeginsBetween 128 255 rest
+IsLexemeHint rest NoText = ⊤

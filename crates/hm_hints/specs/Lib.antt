@@ -1,0 +1,9 @@
+pub mod Advice
+pub mod Brackets
+pub mod Features
+pub mod LexemeHints
+pub mod LexemeTexts
+pub mod Marks
+pub mod Repairs
+pub mod SyntaxHints
+pub mod SyntaxTexts

@@ -1,0 +1,23 @@
+//! What a fault of lexemes or of the grammar most likely is, and how it is told. A hint says only what is so of the bytes or the
+//! tokens at the place of the fault and before it.
+#![tactic(auto)]
+
+mod brackets;
+mod change;
+mod features;
+mod lexeme_hints;
+mod lexeme_texts;
+mod mark;
+mod syntax_hints;
+mod syntax_texts;
+#[cfg(test)]
+mod tests;
+
+pub use crate::brackets::open_bracket;
+pub use crate::change::{Change, Range, Repair, Scope};
+pub use crate::features::{Feature, feature_of};
+pub use crate::lexeme_hints::{LexemeHint, lexeme_hint, operator_in};
+pub use crate::lexeme_texts::{lexeme_help, lexeme_text};
+pub use crate::mark::Mark;
+pub use crate::syntax_hints::{Advice, SyntaxHint, syntax_hint};
+pub use crate::syntax_texts::{syntax_help, syntax_text};

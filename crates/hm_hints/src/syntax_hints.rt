@@ -1,0 +1,180 @@
+//! What is so at a fault of the grammar.
+ghost use Rattle.std.specs.Prelude.{◌≡◌, ◌-◌, length, slice_index_or, true};
+ghost use Rattle.hm_grammar.specs.declared.symbol.Symbol.TheVariants.{End, LeftBrace, Of};
+ghost use Rattle.hm_hints.specs.Brackets.{IsInnermost};
+ghost use Rattle.hm_hints.specs.SyntaxHints.{IsSyntaxHint, ends, is_partner, takes_capital, wants_brace};
+
+use crate::brackets::open_bracket;
+use crate::change::Repair;
+use crate::features::{Feature, feature_of};
+use hm_grammar::Symbol;
+
+/// What is so at the first token with which no source begins. Other tokens are given by their numbers, from 0.
+#[derive(Clone, Copy, Debug, PartialEq, Eq)]
+pub enum SyntaxHint {
+    /// Nothing is before it.
+    NoHeader,
+    /// A `}` is before it, and no bracket is open.
+    ModuleEnded,
+    /// `where`, `let` or `of` is before it, and it isn't `{`.
+    NoBrace,
+    /// A part of Haskell that isn't read begins with it.
+    LeftOut(Feature),
+    /// It is `|`, directly within the `[` with this number.
+    Comprehension(usize),
+    /// It is `..`, directly within the `[` with this number.
+    Range(usize),
+    /// It is a small name where only a capital one may be.
+    SmallName,
+    /// With this change of one token the source, or the declaration, can be read.
+    Repaired(Repair),
+    /// It can be only after something complete, and doesn't close the innermost open bracket, which has this number.
+    NotClosed(usize),
+    /// It is a `{` after a capital name.
+    Record,
+    /// It is a `}` right after `of {`.
+    NoAlternative,
+    Unexpected,
+}
+
+/// A hint at a fault of the grammar, and the text of the token that it is about, which is empty at the end of the source.
+#[derive(Clone, Copy, Debug)]
+pub struct Advice<'a> {
+    pub hint: SyntaxHint,
+    pub text: &'a str,
+}
+
+/// Whether `{` follows this in every source.
+fn wants_brace(symbol: Symbol) -> bool
+    ensures { result ≡ wants_brace symbol }
+{
+    match symbol {
+        Symbol::Where | Symbol::Let | Symbol::Of => true,
+        _ => false,
+    }
+}
+
+/// Whether only a capital name may follow this.
+fn takes_capital(symbol: Symbol) -> bool
+    ensures { result ≡ takes_capital symbol }
+{
+    match symbol {
+        Symbol::Module | Symbol::Data | Symbol::Newtype | Symbol::TypeWord => true,
+        _ => false,
+    }
+}
+
+/// Whether this is only after something that is complete.
+fn ends(symbol: Symbol) -> bool
+    ensures { result ≡ ends symbol }
+{
+    match symbol {
+        Symbol::Semicolon
+        | Symbol::Close
+        | Symbol::CloseSquare
+        | Symbol::RightBrace
+        | Symbol::End => true,
+        _ => false,
+    }
+}
+
+/// Whether these are an opening bracket and its closing one; a `;` may also be within braces.
+fn is_partner(bracket: Symbol, symbol: Symbol) -> bool
+    ensures { result ≡ is_partner bracket symbol }
+{
+    match bracket {
+        Symbol::Open => symbol.is(Symbol::Close),
+        Symbol::OpenSquare => symbol.is(Symbol::CloseSquare),
+        Symbol::LeftBrace => symbol.is(Symbol::RightBrace) || symbol.is(Symbol::Semicolon),
+        _ => false,
+    }
+}
+
+/// Whether these end with `of {`.
+fn ends_with_of(before: &[Symbol]) -> bool
+    ensures brace { result ≡ true → slice_index_or before.now (length before.now - 1) End ≡ LeftBrace }
+    ensures of { result ≡ true → slice_index_or before.now (length before.now - 2) End ≡ Of }
+{
+    if before.len() < 2 {
+        return false;
+    }
+    if !before[before.len() - 1].is(Symbol::LeftBrace) {
+        return false;
+    }
+    before[before.len() - 2].is(Symbol::Of)
+}
+
+/// The hint within an open bracket.
+fn bracket_hint(before: &[Symbol], at: usize, here: Symbol, text: &[u8]) -> SyntaxHint
+    requires { IsInnermost before.now at }
+    ensures { IsSyntaxHint before.now here text.now result }
+{
+    if at >= before.len() {
+        return SyntaxHint::Unexpected;
+    }
+    let bracket = before[at];
+    if bracket.is(Symbol::OpenSquare) && here.is(Symbol::Bar) {
+        return SyntaxHint::Comprehension(at);
+    }
+    if bracket.is(Symbol::OpenSquare) && here.is(Symbol::Dots) {
+        return SyntaxHint::Range(at);
+    }
+    if ends(here) && !is_partner(bracket, here) {
+        return SyntaxHint::NotClosed(at);
+    }
+    SyntaxHint::Unexpected
+}
+
+/// The hint behind these symbols, by the brackets that are open.
+fn open_hint(before: &[Symbol], last: Symbol, here: Symbol, text: &[u8]) -> SyntaxHint
+    requires { last ≡ slice_index_or before.now (length before.now - 1) End }
+    ensures { IsSyntaxHint before.now here text.now result }
+{
+    match open_bracket(before) {
+        Some(at) => bracket_hint(before, at, here, text),
+        None => {
+            if last.is(Symbol::RightBrace) {
+                SyntaxHint::ModuleEnded
+            } else {
+                SyntaxHint::Unexpected
+            }
+        }
+    }
+}
+
+/// Returns what is so of a token, with this text, that no source has after these: what they are to the grammar, without a
+/// change that repairs it.
+pub fn syntax_hint(before: &[Symbol], here: Symbol, text: &[u8]) -> SyntaxHint
+    ensures { IsSyntaxHint before.now here text.now result }
+{
+    if before.is_empty() {
+        return SyntaxHint::NoHeader;
+    }
+    let last = before[before.len() - 1];
+    if wants_brace(last) && !here.is(Symbol::LeftBrace) {
+        return SyntaxHint::NoBrace;
+    }
+    if let Some(feature) = feature_of(text) {
+        return SyntaxHint::LeftOut(feature);
+    }
+    if takes_capital(last) && here.is(Symbol::Var) {
+        return SyntaxHint::SmallName;
+    }
+    if last.is(Symbol::Con) && here.is(Symbol::LeftBrace) {
+        return SyntaxHint::Record;
+    }
+    if here.is(Symbol::RightBrace) && ends_with_of(before) {
+        return SyntaxHint::NoAlternative;
+    }
+    open_hint(before, last, here, text)
+}
+
+impl SyntaxHint {
+    /// Whether no change of one token is to be looked for: it says by itself what to do.
+    pub fn is_enough(self) -> bool {
+        !matches!(
+            self,
+            SyntaxHint::NotClosed(_) | SyntaxHint::Record | SyntaxHint::Unexpected
+        )
+    }
+}
