@@ -112,14 +112,15 @@ def message_fault(explained, text):
     lines = explained.err.split(b"\n")
     if lines[-1] or not re.fullmatch(rb"errors: \d+, skipped modules: \d+", lines[-2]):
         return "no counts of messages"
-    told = re.findall(rb"^[^:\n]*:(\d+:\d+): error: ([^\n]*)\n", explained.err, re.MULTILINE)
-    blamed = re.findall(rb"^[^:\n]*:\d+:\d+: note: skipped, since (\S*) is (?:faulty|skipped)\n", explained.err, re.MULTILINE)
+    told = re.findall(rb"^[^:\n]*:(\d+:\d+): error: ([^\n]*) \[([a-z-]+)\]\n", explained.err, re.MULTILINE)
+    blamed = re.findall(rb"^[^:\n]*:\d+:\d+: note: skipped, since '(\S*)' (?:has errors|is skipped)\n", explained.err, re.MULTILINE)
     if explained.status == 2:
         return None if len(told) == 1 and not blamed and lines[-2] == b"errors: 1, skipped modules: 0" else "the message of a refusal"
-    wanted = re.findall(rb"^  (\d+:\d+) ([a-z-]+ [^\n]*)\n", explained.out, re.MULTILINE)
+    wanted = re.findall(rb"^  (\d+:\d+) ([a-z-]+) ([^\n]*)\n", explained.out, re.MULTILINE)
+    are_told = len(told) == len(wanted) and all(p == q and word == kind and b"'%s'" % name in line for (p, line, word), (q, kind, name) in zip(told, wanted))
     by = re.findall(rb"^  by (\S*)\n", explained.out, re.MULTILINE)
     skipped = len(re.findall(rb"^skipped ", explained.out, re.MULTILINE))
-    if told != wanted or blamed != by or lines[-2] != b"errors: %d, skipped modules: %d" % (len(wanted), skipped):
+    if not are_told or blamed != by or lines[-2] != b"errors: %d, skipped modules: %d" % (len(wanted), skipped):
         return "the messages"
     return None
 

@@ -32,7 +32,7 @@ fn names_of_files_come_out_as_they_are(rt: HostRuntime) -> Result<(), Fail> {
     let text = told(alloc, Paint::Plain, names.as_slice(), b"ab", 2)?;
     assert!(&rt;
         text.as_slice()
-            == b"\xff\xc3.hs:1:2: error: missing N\nA module of this name was looked for, and the set has none.\nab\n ^\n".as_slice()
+            == b"\xff\xc3.hs:1:2: error: no module 'N' is given [missing]\nAn import names a module of the set or `Prelude`; there is no other library.\nab\n ^\n".as_slice()
     );
     Ok(())
 }
@@ -49,7 +49,7 @@ fn standard_input_has_a_name(rt: HostRuntime) -> Result<(), Fail> {
     )?;
     assert!(&rt;
         text.as_slice()
-            == b"<stdin>:1:5: error: missing N\nA module of this name was looked for, and the set has none.\na\xff\x80\xc3b\n    ^\n".as_slice()
+            == b"<stdin>:1:5: error: no module 'N' is given [missing]\nAn import names a module of the set or `Prelude`; there is no other library.\na\xff\x80\xc3b\n    ^\n".as_slice()
     );
     Ok(())
 }
@@ -60,7 +60,7 @@ fn labels_have_colours(rt: HostRuntime) -> Result<(), Fail> {
     let text = told(rt.alloc(), Paint::Coloured, names.as_slice(), b"", 1)?;
     assert!(&rt;
         text.as_slice()
-            == b"<stdin>:1:1: \x1b[1;31merror\x1b[0m: missing N\nA module of this name was looked for, and the set has none.\n\n^\n".as_slice()
+            == b"<stdin>:1:1: \x1b[1;31merror\x1b[0m: no module 'N' is given [missing]\nAn import names a module of the set or `Prelude`; there is no other library.\n\n^\n".as_slice()
     );
     Ok(())
 }

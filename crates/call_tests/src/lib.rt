@@ -9,3 +9,5 @@ mod refused;
 mod sources;
 #[cfg(test)]
 mod stores;
+#[cfg(test)]
+mod turns;

@@ -1,3 +1,4 @@
 mod Facts
 mod Numbered
 mod Trials
+mod WorkedHints

@@ -41,6 +41,7 @@ pub mark_more : (text rest : List ℕ) (mark : Mark) (t : Token) → IsMarkIn te
 mark_more text rest mark t h = record {
   lies = lies_more text rest t h.lies;
   is = range_more text rest t.start t.end h.lies.ordered h.lies.within ∙ h.is;
+  kind_is = h.kind_is;
 }
 
 pub all_more : (source rest : List ℕ) (ts : List Token) → All (LiesIn source) ts → All (LiesIn (source ++ rest)) ts

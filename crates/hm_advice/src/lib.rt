@@ -6,6 +6,7 @@
 
 mod advice;
 mod enclosing;
+pub mod laws;
 mod search;
 mod trial;
 

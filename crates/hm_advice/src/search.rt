@@ -74,11 +74,15 @@ const MOST_LINES: usize = 4;
 /// than the stack was made for; the stack of such a source has room for twice its depth.
 const LONGEST: usize = 1 << 17;
 
-/// What all trials of one search may cost: a byte of the source, or a sixteenth of a token that is read, is one.
-const MOST_COST: usize = 1 << 26;
+/// What the trials of one search may cost with a declaration, and what they may cost with all tokens. It bounds their time: a
+/// source of any form takes less than half a second.
+const MOST_COST: usize = 1 << 22;
 
 /// What a token that is read costs.
 const COST_OF_TOKEN: usize = 16;
+
+/// How many bytes of the source are copied at a cost of one.
+const BYTES_PER_COST: usize = 16;
 
 /// A change of the token with this number.
 #[derive(Clone, Copy)]
@@ -226,33 +230,57 @@ fn cost_of(source: &[u8], tokens: &[Token], scope: Scope) -> usize {
             .saturating_add(header.end.saturating_sub(header.start)),
     };
     read.saturating_mul(COST_OF_TOKEN)
-        .saturating_add(source.len())
+        .saturating_add(source.len() / BYTES_PER_COST)
 }
 
-/// The first of these changes with which this part of the tokens, or all of them, can be read.
+/// Tries a change, if what is left pays for it.
+fn tried(
+    alloc: Global,
+    source: &[u8],
+    tokens: &[Token],
+    repair: Repair,
+    left: &mut usize,
+) -> Result<Option<Repair>, AllocError>
+    requires { All (LiesIn source.now) tokens.now }
+    ensures { IfOk result (λ found. IfSome found (IsRepair source.now tokens.now)) }
+{
+    let Some(rest) = left.checked_sub(cost_of(source, tokens, repair.scope)) else {
+        return Ok(None);
+    };
+    *left = rest;
+    if is_read(alloc, source, tokens, repair)? {
+        return Ok(Some(repair));
+    }
+    Ok(None)
+}
+
+/// The first of these changes with which this part of the tokens, if there is one, or all of them can be read.
 fn first_read(
     alloc: Global,
     source: &[u8],
     tokens: &[Token],
     changes: &[Candidate],
-    scopes: &[Scope],
+    part: Option<Scope>,
 ) -> Result<Option<Repair>, AllocError>
     requires { All (LiesIn source.now) tokens.now }
     ensures { IfOk result (λ found. IfSome found (IsRepair source.now tokens.now)) }
 {
-    let mut left = MOST_COST;
+    let mut left_of_part = MOST_COST;
+    let mut left_of_all = MOST_COST;
     for candidate in changes {
         let Candidate { at, change } = *candidate;
-        for scope in scopes {
-            let scope = *scope;
-            let Some(rest) = left.checked_sub(cost_of(source, tokens, scope)) else {
-                return Ok(None);
-            };
-            left = rest;
+        if let Some(scope) = part {
             let repair = Repair { at, change, scope };
-            if is_read(alloc, source, tokens, repair)? {
-                return Ok(Some(repair));
+            match tried(alloc, source, tokens, repair, &mut left_of_part)? {
+                Some(found) => return Ok(Some(found)),
+                None => {}
             }
+        }
+        let scope = Scope::Whole;
+        let repair = Repair { at, change, scope };
+        match tried(alloc, source, tokens, repair, &mut left_of_all)? {
+            Some(found) => return Ok(Some(found)),
+            None => {}
         }
     }
     Ok(None)
@@ -276,14 +304,6 @@ pub fn repair_at(
     }
     let symbols = symbols_of(alloc, source, tokens)?;
     let changes = candidates(alloc, tokens, symbols.as_slice(), fault)?;
-    match declaration_at(symbols.as_slice(), fault) {
-        Some(scope) => first_read(
-            alloc,
-            source,
-            tokens,
-            changes.as_slice(),
-            &[scope, Scope::Whole],
-        ),
-        None => first_read(alloc, source, tokens, changes.as_slice(), &[Scope::Whole]),
-    }
+    let part = declaration_at(symbols.as_slice(), fault);
+    first_read(alloc, source, tokens, changes.as_slice(), part)
 }

@@ -1,5 +1,5 @@
 -- What a fault of a reader says of a run.
-use Rattle.std.proofs.Common.{◌≡◌, ◌⊎◌, ◌<◌, ◌≤◌, ℕ, List, All, IsErrOf, Result, Ok, Err, ⊎_elim, refl, sym, ap, ◌∙◌, arith}
+use Rattle.std.proofs.Common.{◌≡◌, ◌⊎◌, ◌<◌, ◌≤◌, ℕ, List, All, IsErrOf, Result, Ok, Err, ⊎_elim, sym, ap, ◌∙◌, arith}
 use Rattle.hm_devices.specs.declared.faults.RunFault.{RunFault}
 use Rattle.hm_devices.specs.declared.faults.RunFault.TheVariants.{Workers, Read, Write, Memory, NoWorker, Mixed}
 

@@ -1,20 +1,14 @@
 -- The worked runs and builds.
-use Rattle.std.proofs.Common.{◌≡◌, ℕ, zero, suc, ◌+◌, ◌*◌, ◌<◌, Bool, true, false, List, [], ◌∷◌, ◌++◌, length, None, Some, refl, sym, ap, subst, ◌∙◌, arith, codes, sum_by}
+use Rattle.std.proofs.Common.{◌≡◌, ℕ, ◌<◌, Bool, true, false, List, [], ◌∷◌, ◌++◌, length, None, Some, refl, sym, ap, subst, ◌∙◌, arith, codes}
 use Rattle.std.specs.Fmt.{decimal}
 use Rattle.std.proofs.lemmas.Fmt.{decimal_digit}
-use Rattle.std.proofs.lemmas.List.{append-nil}
-use Rattle.hm_types.specs.Interfaces.{Exports as Interface}
-use Rattle.hm_verdicts.specs.Reports.{IsAllGood}
-use Rattle.hm_verdicts.specs.Sets.{ModuleSet}
 use Rattle.hm_verdicts.specs.Verdicts.{IsGoodIn}
 use Rattle.hm_verdicts.specs.Worked.{no_modules, three_modules}
 use Rattle.hm_verdicts.proofs.Composition.{accepted_good, accepted_together, settled_verdict}
 use Rattle.hm_verdicts.proofs.Worked.{empty_lawful, empty_text}
-use Rattle.hm_store.specs.Builds.{Build, IsLegal, IsAllSettled, set_of, state_of}
-use Rattle.hm_store.specs.Objects.{State, status_at}
-use Rattle.hm_store.specs.declared.object.Entry.{Entry}
-use Rattle.hm_store.specs.declared.object.Entry.TheVariants.{Claim, Publish, Fail, Stop}
-use Rattle.hm_store.specs.declared.object.Status.{Status as ModuleStatus}
+use Rattle.hm_store.specs.Builds.{Build, IsLegal}
+use Rattle.hm_store.specs.Objects.{status_at}
+use Rattle.hm_store.specs.declared.object.Entry.TheVariants.{Stop}
 use Rattle.hm_store.specs.declared.object.Status.TheVariants as status
 use Rattle.hm_store.proofs.Settling.{settled_build}
 use Rattle.hm_store.proofs.WorkedLegal.{legal}
@@ -23,8 +17,7 @@ use Rattle.hm_sources.specs.declared.status.Status.TheVariants.{Good, Faulty, Re
 use Rattle.hm_telling.specs.Checks.{IsChecked, IsCheckRun}
 use Rattle.hm_build.specs.Headline.{HasVerdicts}
 use Rattle.hm_telling.specs.JournalledRuns.{Follows, IsRun}
-use Rattle.hm_reports.specs.Journals.{MayEnd, entry_line, entry_lines, journal_text, worker_of}
-use Rattle.hm_stages.specs.Rooms.{room_of}
+use Rattle.hm_reports.specs.Journals.{MayEnd, entry_lines}
 use Rattle.hm_build.specs.Worked.{IsOneWorkers, JournalRow, NothingRow, RoomRow, VerdictsRow, no_text, nothing, one_worker}
 use Rattle.hm_build.proofs.Headlines.{verdicts_of}
 use Rattle.hm_telling.proofs.OneRun.{one_check_status}

@@ -23,7 +23,7 @@ use std::alloc::{AllocError, Global};
 use std::marker::Brand;
 use std::snapshot::Snapshot;
 use std::sync::Wait;
-use std::sync::ledger::{Blank, Book, Ledger};
+use std::sync::ledger::{Blank, Ledger};
 use std::thread;
 use std::thread::{Promise, Threads};
 
@@ -39,19 +39,18 @@ pub(crate) struct Task<'a, G: Gate> {
 /// The records of the workers, in the order of their passes.
 fn records_of<L: Ledger + Naming>(
     alloc: Global,
-    mut book: Book<L>,
     passes: Vec<Pass<L>>,
 ) -> Result<Vec<Record>, AllocError> {
     let mut records = Vec::new(alloc);
     for pass in passes {
-        let (record, mut share) = pass.into_record();
-        book.audit(&mut share);
+        let (record, _share) = pass.into_record();
         records.push(record)?;
     }
     Ok(records)
 }
 
 /// Runs the workers on a store, and looks at what came of it. Stacks and types have room for the sources.
+#[tactic(auto, using(crate::proofs::JobRows::work_is, crate::proofs::BuildFaults::from_shared, crate::proofs::BuildFaults::from_work))]
 fn worked<L: Ledger + Naming + Send + Sync, G: Gate + Sync, R: Threads + Wait + Sync>(
     rt: &R,
     alloc: Global,
@@ -64,6 +63,7 @@ fn worked<L: Ledger + Naming + Send + Sync, G: Gate + Sync, R: Threads + Wait + 
     requires subjects { fresh.store.modules ≡ L.modules }
     requires same { map arc_value fresh.modules.items ≡ fresh.store.modules }
     requires plan { fresh.store.given.imports ≡ L.plan }
+    requires rows { map (λ row. row.items) fresh.imports.items ≡ fresh.store.given.imports }
     requires workers { (0 < task.now.workers) × (task.now.workers ≤ 16) }
     requires empty { fresh.store.journal ≡ [] }
     ensures finished { IfOk result (λ f. (sources : List (List ℕ)) → AreModulesOf sources (map arc_value fresh.modules.items)
@@ -76,6 +76,8 @@ fn worked<L: Ledger + Naming + Send + Sync, G: Gate + Sync, R: Threads + Wait + 
         store,
         prelude,
     } = fresh;
+    // The store's modules are a lawful set, which the workers need.
+    let _entries = store.entries();
     let workers = task.workers;
     let room = room_for(imports.as_slice());
     let crew = Crew { workers, room };
@@ -91,8 +93,8 @@ fn worked<L: Ledger + Naming + Send + Sync, G: Gate + Sync, R: Threads + Wait + 
     };
     let stack = task.nesting.worker_stack_size();
     run_workers(rt, &work, passes.as_mut_slice(), stack)?;
-    let (store, book) = shared.into_store();
-    let records = records_of(alloc, book, passes)?;
+    let (store, _book) = shared.into_store();
+    let records = records_of(alloc, passes)?;
     finished(alloc, store, records, workers)
 }
 

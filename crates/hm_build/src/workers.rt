@@ -1,4 +1,12 @@
 //! What the workers of a build do.
+ghost use Rattle.std.specs.Prelude.{◌≡◌, ◌≢◌, ◌<◌, ◌≤◌, ◌+◌, length, map};
+ghost use Rattle.std.specs.Arc.{arc_value};
+ghost use Rattle.hm_published.specs.Publications.{IsLawful};
+ghost use Rattle.hm_store.specs.declared.object.Refusal.TheVariants.{Stranger};
+ghost use Rattle.hm_store.specs.declared.object.Turn.TheVariants.{Job};
+ghost use Rattle.hm_shared.specs.Listings.{HasImports, IsOfSeen, IsWithin};
+ghost use Rattle.hm_shared.specs.Passes.{room_of, seen_of};
+ghost use Rattle.hm_build.specs.Workers.{IsWorkOf};
 
 use crate::{BuildFault, Gate};
 use hm_check::{CheckFault, check_module_within};
@@ -6,10 +14,10 @@ use hm_names::TypeLimits;
 use hm_outcomes::Outcome;
 use hm_prelude::SharedPrelude;
 use hm_published::{LookFault, Naming, Published, Step};
+use hm_shared::laws::seen_imports_are_asked_for;
 use hm_shared::{Pass, Shared};
 use hm_store::{Refusal, Turn};
 use hm_syntax::Module;
-use hm_types::Interface;
 use left_right::Absorb;
 use std::alloc::Global;
 use std::sync::ledger::Ledger;
@@ -29,10 +37,10 @@ pub(crate) enum WorkFault {
 }
 
 impl From<WorkFault> for BuildFault {
-    ghost use Rattle.std.specs.Prelude.{◌≡◌, ◌⊎◌};
-    ghost use Rattle.hm_stages.specs.declared.faults.BuildFault.TheVariants.{Memory, Mixed, NoWorker};
+    ghost use Rattle.std.specs.Prelude.{◌≡◌};
+    ghost use Rattle.hm_build.specs.Workers.{build_fault_of};
 
-    ghost from_gives = { λ _ fault. (fault ≡ NoWorker) ⊎ ((fault ≡ Memory) ⊎ (fault ≡ Mixed)) };
+    ghost from_gives = { λ given fault. fault ≡ build_fault_of given };
 
     fn from(fault: WorkFault) -> BuildFault {
         match fault {
@@ -61,60 +69,66 @@ where
     pub prelude: &'a SharedPrelude,
 }
 
-/// The published interfaces of these modules. No lock is taken.
-fn look_up<L: Ledger + Naming, G: Gate, W: Wait + Drop>(
-    work: &Work<'_, L, G, W>,
-    pass: &mut Pass<L>,
-    numbers: &[usize],
-) -> Result<Vec<Arc<Interface>>, WorkFault> {
-    let mut interfaces = Vec::new(work.alloc);
-    for number in numbers {
-        if pass.room() == 0 {
-            return Err(WorkFault::Mixed);
-        }
-        match pass.look(*number) {
-            Ok(Some(interface)) => interfaces.push(interface).map_err(|_| WorkFault::Memory)?,
-            Ok(None) | Err(LookFault::NoEntry) => return Err(WorkFault::Mixed),
-            Err(LookFault::Memory) => return Err(WorkFault::Memory),
-        }
+/// Why a worker ends early after this refusal of its outcome.
+fn fault_of(refusal: Refusal) -> WorkFault
+    requires { refusal ≢ Stranger }
+{
+    match refusal {
+        Refusal::Memory => WorkFault::Memory,
+        Refusal::NotYours => WorkFault::Mixed,
+        Refusal::Stranger => unreachable!(),
     }
-    Ok(interfaces)
 }
 
-/// Tells the store what a module came to.
+/// Tells the store what a module came to. The outcome is of that module, for the interfaces that the pass has seen of its imports.
 fn settle<L: Ledger + Naming, G: Gate, W: Wait + Drop, R: Wait>(
     rt: &R,
     work: &Work<'_, L, G, W>,
     pass: &mut Pass<L>,
     number: usize,
     outcome: Outcome,
-) -> Result<(), WorkFault> {
-    if pass.room() == 0 {
-        return Err(WorkFault::Mixed);
+) -> Result<(), WorkFault>
+    requires room { 0 < room_of pass.old }
+    requires fits { IsOfSeen L.modules L.plan (seen_of pass.old) number outcome }
+    ensures { room_of pass.old ≤ room_of pass.new + 1 }
+{
+    if outcome.is_good() {
+        return match work.shared.publish(rt, pass, number, outcome) {
+            Ok(()) => Ok(()),
+            Err((refusal, _)) => Err(fault_of(refusal)),
+        };
     }
-    let reply = if outcome.is_good() {
-        work.shared.publish(rt, pass, number, outcome)
-    } else {
-        work.shared.fail(rt, pass, number, outcome)
-    };
-    match reply {
+    match work.shared.fail(rt, pass, number, outcome) {
         Ok(()) => Ok(()),
-        Err((Refusal::Memory, _)) => Err(WorkFault::Memory),
-        Err((Refusal::NotYours | Refusal::Stranger, _)) => Err(WorkFault::Mixed),
+        Err((refusal, _)) => Err(fault_of(refusal)),
     }
 }
 
-/// Checks a module that was claimed.
+/// Checks a module that was claimed. Its imports are in what the pass has seen, so each is found, and they are those that the module asks for.
+/// There is room for a stop behind it.
 fn check_one<L: Ledger + Naming, G: Gate, W: Wait + Drop, R: Wait>(
     rt: &R,
     work: &Work<'_, L, G, W>,
     pass: &mut Pass<L>,
     number: usize,
-) -> Result<(), WorkFault> {
-    if number >= work.modules.len() || number >= work.imports.len() {
+) -> Result<(), WorkFault>
+    requires work { IsWorkOf L.modules L.plan (map arc_value work.now.modules.now) (map (λ row. row.items) work.now.imports.now) }
+    requires within { IsWithin (length L.modules) (Job number) × IsWithin (length L.plan) (Job number) }
+    requires imports { HasImports L.plan (Job number) (seen_of pass.old) }
+    requires lawful { IsLawful L.modules L.plan (seen_of pass.old) }
+    requires room { 0 < room_of pass.old }
+    ensures { 0 < room_of pass.new }
+{
+    seen_imports_are_asked_for();
+    let numbers = work.imports[number].as_slice();
+    if pass.room() < numbers.len() + 2 {
         return Err(WorkFault::Mixed);
     }
-    let interfaces = look_up(work, pass, work.imports[number].as_slice())?;
+    let interfaces = match pass.look_at_all(work.alloc, numbers) {
+        Ok(interfaces) => interfaces,
+        Err(LookFault::NoEntry) => return Err(WorkFault::Mixed),
+        Err(LookFault::Memory) => return Err(WorkFault::Memory),
+    };
     work.gate.enter(pass.worker(), number);
     match check_module_within(
         work.alloc,
@@ -125,18 +139,22 @@ fn check_one<L: Ledger + Naming, G: Gate, W: Wait + Drop, R: Wait>(
     ) {
         Ok(outcome) => settle(rt, work, pass, number, outcome),
         Err(CheckFault::Memory) => Err(WorkFault::Memory),
-        Err(CheckFault::Imports) => Err(WorkFault::Mixed),
+        Err(CheckFault::Imports) => unreachable!(),
     }
 }
 
-/// Claims and checks modules until there is none left.
+/// Claims and checks modules until there is none left. There is room for a stop behind it.
 fn check_all<L: Ledger + Naming, G: Gate, W: Wait + Drop, R: Wait>(
     rt: &R,
     work: &Work<'_, L, G, W>,
     pass: &mut Pass<L>,
-) -> Result<(), WorkFault> {
+) -> Result<(), WorkFault>
+    requires work { IsWorkOf L.modules L.plan (map arc_value work.now.modules.now) (map (λ row. row.items) work.now.imports.now) }
+    requires room { 0 < room_of pass.old }
+    ensures { 0 < room_of pass.new }
+{
     for _ in rt.forever() {
-        if pass.room() == 0 {
+        if pass.room() < 2 {
             return Err(WorkFault::Mixed);
         }
         match work.shared.claim(rt, pass) {
@@ -152,9 +170,14 @@ fn run_worker<L: Ledger + Naming, G: Gate, W: Wait + Drop, R: Wait>(
     rt: &R,
     work: &Work<'_, L, G, W>,
     pass: &mut Pass<L>,
-) -> Result<(), WorkFault> {
+) -> Result<(), WorkFault>
+    requires work { IsWorkOf L.modules L.plan (map arc_value work.now.modules.now) (map (λ row. row.items) work.now.imports.now) }
+{
+    if pass.room() == 0 {
+        return Err(WorkFault::Mixed);
+    }
     let ended = check_all(rt, work, pass);
-    if ended.is_err() && pass.room() > 0 {
+    if ended.is_err() {
         work.shared.stop(rt, pass);
     }
     ended
@@ -185,21 +208,34 @@ pub(crate) fn run_workers<
     G: Gate + Sync,
     W: Wait + Drop + Send,
     R: Threads + Wait + Sync,
->(rt: &R, work: &Work<'_, L, G, W>, passes: &mut [Pass<L>], stack: usize) -> Result<(), WorkFault> {
+>(rt: &R, work: &Work<'_, L, G, W>, passes: &mut [Pass<L>], stack: usize) -> Result<(), WorkFault>
+    requires { IsWorkOf L.modules L.plan (map arc_value work.now.modules.now) (map (λ row. row.items) work.now.imports.now) }
+{
     let count = passes.len();
-    thread::scope(thread::scope_env(), rt, move |scope| {
-        let Ok(mut workers) = Vec::with_capacity(work.alloc, count) else {
-            return Err(WorkFault::Memory);
-        };
-        for pass in passes.iter_mut() {
-            let thread = Builder::new().stack_size(stack);
-            if let Ok(worker) = thread.spawn_scoped(scope, move || run_worker(rt, work, pass)) {
-                let _ = workers.push(worker);
+    thread::scope(
+        thread::scope_env(),
+        rt,
+        move |scope| -> Result<(), WorkFault>
+            requires { IsWorkOf L.modules L.plan (map arc_value work.now.modules.now) (map (λ row. row.items) work.now.imports.now) }
+        {
+            let Ok(mut workers) = Vec::with_capacity(work.alloc, count) else {
+                return Err(WorkFault::Memory);
+            };
+            for pass in passes.iter_mut() {
+                let thread = Builder::new().stack_size(stack);
+                if let Ok(worker) = thread.spawn_scoped(
+                    scope,
+                    move || -> Result<(), WorkFault>
+                        requires { IsWorkOf L.modules L.plan (map arc_value work.now.modules.now) (map (λ row. row.items) work.now.imports.now) }
+                    { run_worker(rt, work, pass) },
+                ) {
+                    let _ = workers.push(worker);
+                }
             }
-        }
-        if workers.is_empty() {
-            return Err(WorkFault::NoWorker);
-        }
-        join_all(rt, workers)
-    })
+            if workers.is_empty() {
+                return Err(WorkFault::NoWorker);
+            }
+            join_all(rt, workers)
+        },
+    )
 }

@@ -1,6 +1,6 @@
 //! The tokens that a change puts in.
 ghost use Rattle.std.specs.Prelude.{◌≡◌};
-ghost use Rattle.hm_hints.specs.Marks.{mark_text};
+ghost use Rattle.hm_hints.specs.Marks.{mark_kind, mark_text};
 
 use hm_lex::Kind;
 
@@ -55,7 +55,9 @@ impl Mark {
     }
 
     /// What a lexeme with this text is.
-    pub fn kind(self) -> Kind {
+    pub fn kind(self) -> Kind
+        ensures { result ≡ mark_kind self }
+    {
         match self {
             Mark::Semicolon
             | Mark::Comma

@@ -4,3 +4,4 @@ pub mod Strict
 pub mod Reporting
 pub mod JournalLines
 pub mod RoundSteps
+pub mod WorkedRecords

@@ -4,7 +4,6 @@ ghost use Rattle.std.specs.Arc.{arc_value};
 ghost use Rattle.std.specs.Fmt.{decimal};
 ghost use Rattle.hm_verdicts.specs.Sets.{no_module};
 ghost use Rattle.hm_store.specs.Builds.{set_of};
-ghost use Rattle.hm_store.specs.Objects.{is_publication};
 ghost use Rattle.hm_reports.specs.Journals.{entry_line, journal_text as journal_bytes};
 
 use hm_store::{Entry, Store};
@@ -55,19 +54,6 @@ fn add_entry(
     }
 }
 
-/// Whether an entry is a publication.
-fn is_publication(entry: Entry) -> bool
-    ensures { result ≡ is_publication entry }
-{
-    matches!(
-        entry,
-        Entry::Publish {
-            worker: _,
-            module: _,
-        }
-    )
-}
-
 /// The text of the journal of a build: a line for each entry, in order.
 pub fn journal_text(alloc: Global, store: &Store) -> Result<String, AllocError>
     ensures { IfOk result (λ text. string_bytes text ≡ journal_bytes store.now) }
@@ -77,7 +63,7 @@ pub fn journal_text(alloc: Global, store: &Store) -> Result<String, AllocError>
     let mut publications: usize = 0;
     for entry in journal {
         add_entry(&mut text, store, publications, *entry)?;
-        if is_publication(*entry) {
+        if entry.is_publication() {
             publications += 1;
         }
     }

@@ -3,6 +3,7 @@
 
 mod ending;
 mod journals;
+pub mod laws;
 mod reports;
 mod rounds;
 mod statuses;

@@ -90,7 +90,10 @@ fn walked_with<'a>(
         → AreOwnSynonyms program.now.decls synonyms.now.own.now
         → IsReferenceGraph program.now fs synonyms.now.own.now.names synonyms.now.graph.now → AreWalked program.now fs walked.decls.items walked.faults.items) }
 {
+    let nodes = tables.nodes().get();
     add_synonyms(alloc, tables, scope, program, synonyms)?;
+    // what the synonyms took doesn't count for the walk
+    tables.nodes().set(nodes);
     Ok(walk(alloc, scope, tables, program)?)
 }
 

@@ -1,5 +1,7 @@
 -- Why there is no build, as the crate's own functions say it.
 use Rattle.std.specs.Prelude.{ℕ, List}
+use Rattle.hm_shared.specs.declared.dealing.SharedFault.{SharedFault}
+use Rattle.hm_shared.specs.declared.dealing.SharedFault.TheVariants as shared
 use Rattle.hm_sources.specs.Runs.{IsRefusalOf}
 use Rattle.hm_stages.specs.declared.faults.BuildFault.{BuildFault}
 use Rattle.hm_stages.specs.declared.faults.BuildFault.TheVariants as build
@@ -19,3 +21,8 @@ IsBuildError sources build.Workers = ⊥
 IsBuildError sources build.NoWorker = Unit {0}
 IsBuildError sources build.Memory = Unit {0}
 IsBuildError sources build.Mixed = Unit {0}
+
+-- why there is no build where its store can't be shared
+abbrev pub build_fault_of : SharedFault → BuildFault
+build_fault_of shared.Memory = build.Memory
+build_fault_of shared.NoReader = build.NoWorker

@@ -34,10 +34,10 @@ impl From<AllocError> for BuildFault {
 }
 
 impl From<SharedFault> for BuildFault {
-    ghost use Rattle.std.specs.Prelude.{◌≡◌, ◌⊎◌};
-    ghost use Rattle.hm_stages.specs.declared.faults.BuildFault.TheVariants.{Memory, Mixed, NoWorker};
+    ghost use Rattle.std.specs.Prelude.{◌≡◌};
+    ghost use Rattle.hm_stages.specs.Errors.{build_fault_of};
 
-    ghost from_gives = { λ _ fault. (fault ≡ NoWorker) ⊎ ((fault ≡ Memory) ⊎ (fault ≡ Mixed)) };
+    ghost from_gives = { λ given fault. fault ≡ build_fault_of given };
 
     fn from(fault: SharedFault) -> BuildFault {
         match fault {

@@ -27,9 +27,12 @@ with_import : (modules : List Module) (kept : List (Option Checked)) (c : Checke
 with_import modules kept c g here subject is = (refl, record { subject = subject; imports = ap some_of is ∙ ap (λ (x : Option Interface). x ∷ []) (sym here) })
 
 with_another : (modules : List Module) (kept : List (Option Checked)) (c : Checked) (g h : Interface) → interface_at kept 1 ≡ Some g → g ≢ h → c.imports ≡ h ∷ [] → Refuses (behind_import modules kept) 0 0 c (Some Stranger)
-with_another modules kept c g h here ne is = (refl, λ (of : IsOf (behind_import modules kept) 0 c).
-    let e : Some h ∷ [] ≡ Some g ∷ [] = sym (ap some_of is) ∙ (of.imports ∙ ap (λ (x : Option Interface). x ∷ []) here) in
-    let same : g ≡ h = cc e in ne same)
+with_another modules kept c g h here ne is = (
+  refl,
+  λ (of : IsOf (behind_import modules kept) 0 c).
+      let e : Some h ∷ [] ≡ Some g ∷ [] = sym (ap some_of is) ∙ (of.imports ∙ ap (λ (x : Option Interface). x ∷ []) here) in
+      let same : g ≡ h = cc e in ne same,
+)
 
 pub stranger : StrangerRow
 stranger = record {

@@ -65,7 +65,7 @@ fn the_deepest_of_several(rt: HostRuntime) -> Result<(), AllocError> {
     }
     let nesting = Nesting::of(sources.as_slice());
     assert_eq!(rt; nesting.levels(), 14);
-    assert_eq!(rt; nesting.longest(), 114);
+    assert_eq!(rt; nesting.longest(), 120);
     assert!(rt; nesting.stack_size() < nesting.worker_stack_size());
     Ok(())
 }

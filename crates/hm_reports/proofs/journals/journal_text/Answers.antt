@@ -1,7 +1,5 @@
-use Rattle.std.proofs.Common.{rules, ◌≡◌, ◌+◌, ◌++◌, ◌∙◌, sym, refl, cond, get_or, string_bytes}
+use Rattle.std.proofs.Common.{◌∙◌, sym, refl, string_bytes}
 use Rattle.hm_store.specs.Builds.{set_of}
-use Rattle.hm_store.specs.Objects.{is_publication}
-use Rattle.hm_reports.specs.Journals.{entry_line}
 use Rattle.hm_reports.proofs.JournalLines.{counted_same, counted_up, next_step}
 use Rattle.hm_reports.proofs.journals.journal_text.Goals as goal
 use Rattle.hm_reports.proofs.journals.journal_text.Goals.{then-is_publication, else-is_publication}

@@ -3,10 +3,8 @@ use mir.Syntax.{named}
 use denote.Exit.{no}
 use denote.Array.{Array}
 use denote.Param.{param}
-use denote.Param.Send.{arg_send, mut_send, param_send, param_sync, shr_send}
-use denote.Ref.{MutRef, NamedLft, ShrRef}
-use Rattle.hm_shared.specs.contracts.passes.Pass as Pass
-use Rattle.hm_build.specs.contracts.workers.Work as Work
+use denote.Param.Send.{IsSend, IsSync, arg_send, mut_send, param_send, shr_send}
+use denote.Ref.{NamedLft}
 use Rattle.hm_published.specs.contracts.publication.Publication as Publication
 use Rattle.hm_published.specs.contracts.published.PublishedAbsorbStep.TheImpl as Absorbs
 use Rattle.hm_build.proofs.Crossing.{captures_send, pass_send, work_sync}
@@ -15,11 +13,12 @@ use Rattle.hm_build.proofs.workers.fn.run_workers.scope.Goals as goal
 -- a worker's closure has the handle, the work and a pass
 pub spawn_scoped-requires-send-F : goal.spawn_scoped-requires-send-F
 spawn_scoped-requires-send-F g c κs within =
-    let send = param_send 0 g.row.L c.requires.1.1.1.1.0 in
-    let held = param_send 2 g.row.W c.requires.1.1.1.1.1 in
-    let sync = param_sync 0 g.row.L c.requires.1.1.1.1.2 in
-    let gate = param_sync 1 g.row.G c.requires.1.1.1.1.3 in
-    let rt = param_sync 3 g.row.R c.requires.1.1.1.1.4 in
+    let given = c.requires-raw.1.1.1.1 in
+    let send : IsSend (param 0 g.row.L) = given.0 in
+    let held : IsSend (param 2 g.row.W) = given.1.0 in
+    let sync : IsSync (param 0 g.row.L) = given.1.1.0 in
+    let gate : IsSync (param 1 g.row.G) = given.1.1.1.0 in
+    let rt : IsSync (param 3 g.row.R) = given.1.1.1.1.0 in
     let inner : NamedLft = record { mir = named 7; lft = κs.1.1.1.1.1.1.1.0 } in
     let S = Array Publication.the_row 0 in
     let absorbs = Absorbs.ghosts (param 0 g.row.L) g.L.Naming g.L.Naming-dict in

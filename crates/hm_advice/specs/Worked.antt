@@ -1,0 +1,43 @@
+-- Worked hints and changes, and what is said of them.
+use Rattle.std.specs.Prelude.{List, ℕ, [], ◌∷◌, codes}
+use Rattle.hm_lex.specs.declared.token.Token.{Token}
+use Rattle.hm_grammar.specs.declared.symbol.Symbol.{Symbol}
+use Rattle.hm_grammar.specs.declared.symbol.Symbol.TheVariants.{Close, CloseSquare, Con, LeftBrace, Module, Open, OpenSquare, Semicolon, Var, Where}
+use Rattle.hm_hints.specs.Brackets.{IsInnermost, IsOpen}
+use Rattle.hm_hints.specs.Marks.{IsMarkIn}
+use Rattle.hm_hints.specs.Repairs.{IsRepair}
+use Rattle.hm_hints.specs.SyntaxHints.{IsSyntaxHint}
+use Rattle.hm_hints.specs.declared.change.Change.TheVariants.{Remove}
+use Rattle.hm_hints.specs.declared.change.Repair.{Repair}
+use Rattle.hm_hints.specs.declared.change.Scope.TheVariants.{Whole}
+use Rattle.hm_hints.specs.declared.mark.Mark.TheVariants.{RightBrace}
+use Rattle.hm_hints.specs.declared.syntax_hints.SyntaxHint.TheVariants.{NoBrace, NotClosed}
+
+-- { ( ) [ x
+abbrev pub brackets : List Symbol
+brackets = LeftBrace ∷ Open ∷ Close ∷ OpenSquare ∷ Var ∷ []
+
+-- The square bracket is the innermost open one. The brace is open around it, and the round bracket is closed
+pub record BracketsRow : Type 0 where
+  pub innermost : IsInnermost brackets 3
+  pub around : ¬ (IsInnermost brackets 0)
+  pub closed : ¬ (IsOpen brackets 1)
+
+-- module M where
+abbrev pub head : List Symbol
+head = Module ∷ Con ∷ Where ∷ []
+
+-- A name after `where` has no brace before it, and a brace there needs none. A `;` leaves the square bracket open, and a `]` closes it
+pub record FactsRow : Type 0 where
+  pub layout : IsSyntaxHint head Var (codes "x") NoBrace
+  pub brace : ¬ (IsSyntaxHint head LeftBrace (codes "{") NoBrace)
+  pub left_open : IsSyntaxHint brackets Semicolon (codes ";") (NotClosed 3)
+  pub shut : ¬ (IsSyntaxHint brackets CloseSquare (codes "]") (NotClosed 3))
+
+abbrev pub without_first : Repair
+without_first = record { at = 0; change = Remove; scope = Whole }
+
+-- Without its one token a source that is a lone `}` can be read. With two of them one is left, and no module is spelled
+pub record ChangesRow : Type 0 where
+  pub lone : (t : Token) → IsMarkIn (codes "}") RightBrace t → IsRepair (codes "}") (t ∷ []) without_first
+  pub two : (t : Token) → IsMarkIn (codes "}") RightBrace t → ¬ (IsRepair (codes "}") (t ∷ t ∷ []) without_first)
