@@ -1,0 +1,100 @@
+#!/usr/bin/env python3
+"""Measures the sentences of README.md and docs/, and searches them for words that readers stumble over.
+
+`documents.py` ends with 1 if a document has more long sentences than LONG allows, or one of the words of PLAIN outside of
+code. `documents.py --list` prints each long sentence as well.
+
+A sentence has at most 25 words. A piece of code in backquotes counts as one word. Each cell of a table and each item of a
+list is a text of its own. Blocks of code aren't read.
+"""
+import pathlib
+import re
+import sys
+
+TOP = pathlib.Path(__file__).resolve().parent.parent
+MOST_WORDS = 25
+# How many sentences of a document may be longer.
+LONG = {}
+# What to write in place of a word: the words as a regular expression, and the advice.
+PLAIN = {
+    r"want of (memory|room)|refused (for )?memory|refused for want": "runs out of memory, an allocation failed",
+    r"answers|answered": "returns, replies",
+    r"tells|telling|told": "reports, says",
+    r"stands? (on|in|at|beside|alone|there|before|ready)|stood": "depends on, is in, is",
+    r"lent|lends?|given away|lending": "borrowed, by value",
+    r"behind": "after",
+    r"ends? well": "returns `Ok`",
+    r"no less than|but for|save for|save where": "at least, except",
+    r"met|meets": "occurred, reached",
+    r"made of|c[ao]mes? to|comes of|came of": "consists of, resulted in",
+    r"knows|wants|asks|asked for": "has, needs, requires",
+    r"whoever|nobody|of one's own|for ever|beside": "plain words",
+    r"hand(s|ed)? (on|over|back)": "passes, returns",
+    r"dear|dearest|the like": "costly",
+}
+STUMBLES = [(re.compile(rf"\b(?:{words})\b", re.I), advice) for words, advice in PLAIN.items()]
+STARTS = re.compile(r"^(?:Where|That|What|Of) ")
+
+
+def texts(page):
+    """Returns the texts of a page with the line of each: paragraphs, items of lists and cells of tables."""
+    found, text, start, fenced = [], [], 0, False
+    for number, line in enumerate([*page.read_text().splitlines(), ""], 1):
+        if line.startswith("```"):
+            fenced = not fenced
+        row = line.startswith("|")
+        begins = re.match(r"\s*(?:[-*]|\d+\.) |#+ ", line)
+        if text and (fenced or row or begins or not line.strip()):
+            found.append((start, " ".join(text)))
+            text = []
+        if fenced or line.startswith("```") or not line.strip():
+            continue
+        if row:
+            found += [(number, cell) for cell in re.split(r"(?<!\\)\|", line)[1:-1] if not re.fullmatch(r"\s*-+\s*", cell)]
+            continue
+        if not text:
+            start = number
+        text.append(line[begins.end():] if begins else line.strip())
+    return found
+
+
+def sentences(text):
+    """Returns the sentences of a text, in which each piece of code is the one word CODE."""
+    plain = re.sub(r"`` .*? ``|``.*?``|`[^`]*`", "CODE", text)
+    plain = re.sub(r"\]\([^)]*\)", "]", plain)
+    return [it.strip() for it in re.split(r"(?<=[.?!:])(?:\*\*|\))*\s+(?=[A-Z*`\"(])", plain) if it.strip()]
+
+
+def long_sentences(page):
+    return [(line, it) for line, text in texts(page) for it in sentences(text) if len(it.split()) > MOST_WORDS]
+
+
+def stumbles(page):
+    """Returns the places of words to avoid, and of sentences that begin with a clause in place of a subject."""
+    found = []
+    for line, text in texts(page):
+        for it in sentences(text):
+            found += [(line, word[0], advice) for rule, advice in STUMBLES for word in rule.finditer(it)]
+            if STARTS.match(it) and "?" not in it:
+                found.append((line, " ".join(it.split()[:4]), "begin with the subject"))
+    return found
+
+
+def main():
+    listing, bad = sys.argv[1:] == ["--list"], False
+    for page in [TOP / "README.md", *sorted((TOP / "docs").glob("*.md"))]:
+        name = str(page.relative_to(TOP))
+        count, long, found = sum(len(sentences(text)) for _, text in texts(page)), long_sentences(page), stumbles(page)
+        if listing or len(long) > LONG.get(name, 0):
+            for line, it in long:
+                print(f"{name}:{line}: {len(it.split())} words: {it}")
+        for line, word, advice in found:
+            print(f"{name}:{line}: \"{word}\": {advice}")
+        print(f"{name}: {count} sentences, {len(long)} of more than {MOST_WORDS} words ({LONG.get(name, 0)} allowed), {len(found)} words to avoid")
+        bad |= len(long) > LONG.get(name, 0) or bool(found)
+    print(f"the documents are plain: {'no' if bad else 'yes'}")
+    return bad
+
+
+if __name__ == "__main__":
+    sys.exit(main())
