@@ -25,10 +25,10 @@ PLAIN = {
     r"behind": "after",
     r"ends? well": "returns `Ok`",
     r"no less than|but for|save for|save where": "at least, except",
-    r"met|meets": "occurred, reached",
+    r"no test has met|is met|was met": "occurred, reached",
     r"made of|c[ao]mes? to|comes of|came of": "consists of, resulted in",
     r"knows|wants|asks|asked for": "has, needs, requires",
-    r"whoever|nobody|of one's own|for ever|beside": "plain words",
+    r"whoever|nobody|of one's own|for ever": "plain words",
     r"hand(s|ed)? (on|over|back)": "passes, returns",
     r"dear|dearest|the like": "costly",
 }
@@ -75,7 +75,7 @@ def stumbles(page):
     for line, text in texts(page):
         for it in sentences(text):
             found += [(line, word[0], advice) for rule, advice in STUMBLES for word in rule.finditer(it)]
-            if STARTS.match(it) and "?" not in it:
+            if STARTS.match(it) and it.endswith((".", ":")):
                 found.append((line, " ".join(it.split()[:4]), "begin with the subject"))
     return found
 
