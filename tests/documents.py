@@ -2,16 +2,20 @@
 """Measures the sentences of README.md and docs/, and searches them for words that readers stumble over.
 
 `documents.py` ends with 1 if a document has more long sentences than LONG allows, or one of the words of PLAIN outside of
-code. `documents.py --list` prints each long sentence as well.
+code. `documents.py --list` prints each long sentence as well. `documents.py --program PROGRAM` runs the documents' examples
+instead: each command after `$ ` must print what follows it, and each module in a block of Haskell must be good.
 
 A sentence has at most 25 words. A piece of code in backquotes counts as one word. Each cell of a table and each item of a
 list is a text of its own. Blocks of code aren't read.
 """
 import pathlib
 import re
+import subprocess
 import sys
+import tempfile
 
 TOP = pathlib.Path(__file__).resolve().parent.parent
+PAGES = [TOP / "README.md", *sorted((TOP / "docs").glob("*.md"))]
 MOST_WORDS = 25
 # How many sentences of a document may be longer.
 LONG = {}
@@ -22,7 +26,7 @@ PLAIN = {
     r"tells|telling|told": "reports, says",
     r"stands? (on|in|at|beside|alone|there|before|ready)|stood": "depends on, is in, is",
     r"lent|lends?|given away|lending": "borrowed, by value",
-    r"behind": "after",
+    r"behind(?! (?:a|the|its) (?:lock|gate|reference))": "after",
     r"ends? well": "returns `Ok`",
     r"no less than|but for|save for|save where": "at least, except",
     r"no test has met|is met|was met": "occurred, reached",
@@ -33,7 +37,7 @@ PLAIN = {
     r"dear|dearest|the like": "costly",
 }
 STUMBLES = [(re.compile(rf"\b(?:{words})\b", re.I), advice) for words, advice in PLAIN.items()]
-STARTS = re.compile(r"^(?:Where|That|What|Of) ")
+STARTS = re.compile(r"^(?:Where|What|Of|That (?:an?|the|it|this|these|those|each|no|both|all|such)) ")
 
 
 def texts(page):
@@ -62,7 +66,7 @@ def sentences(text):
     """Returns the sentences of a text, in which each piece of code is the one word CODE."""
     plain = re.sub(r"`` .*? ``|``.*?``|`[^`]*`", "CODE", text)
     plain = re.sub(r"\]\([^)]*\)", "]", plain)
-    return [it.strip() for it in re.split(r"(?<=[.?!:])(?:\*\*|\))*\s+(?=[A-Z*`\"(])", plain) if it.strip()]
+    return [it.strip() for it in re.split(r"(?<=[.?!:])(?:\*\*|\))*\s+(?=[A-Z*`\"(]|hmc )", plain) if it.strip()]
 
 
 def long_sentences(page):
@@ -80,9 +84,39 @@ def stumbles(page):
     return found
 
 
+def shown_examples(page):
+    """Returns the commands of a page's blocks of code, each with what the page says that it prints, and its blocks of Haskell."""
+    blocks = re.findall(r"^```(\w*)\n(.*?)^```", page.read_text(), re.M | re.S)
+    shells = [re.split(r"^\$ ", text, flags=re.M)[1:] for _, text in blocks if text.startswith("$ ")]
+    return [[it.partition("\n")[::2] for it in shell] for shell in shells], [text for kind, text in blocks if kind == "haskell"]
+
+
+def run_examples(program):
+    """Runs the examples of all documents. Returns those that print something else."""
+    faults, count = [], 0
+    for page in PAGES:
+        shells, modules = shown_examples(page)
+        for shell in shells + [[("cat A.hs", text), ("./hmc A.hs >/dev/null", "")] for text in modules]:
+            with tempfile.TemporaryDirectory() as room:
+                (pathlib.Path(room) / "hmc").symlink_to(program)
+                for command, wanted in shell:
+                    if command.startswith("cat "):
+                        (pathlib.Path(room) / command[4:]).write_text(wanted)
+                        continue
+                    ran = subprocess.run(command, shell=True, cwd=room, stdout=subprocess.PIPE, stderr=subprocess.STDOUT, text=True)
+                    count += 1
+                    if ran.stdout != wanted or (not wanted and ran.returncode):
+                        faults.append(f"{page.relative_to(TOP)}: {command} prints\n{ran.stdout}in place of\n{wanted}")
+    print(*faults, sep="\n", end="\n" if faults else "")
+    print(f"{count} examples of the documents, {len(faults)} differ")
+    return bool(faults) or not count
+
+
 def main():
+    if sys.argv[1:2] == ["--program"]:
+        return run_examples(pathlib.Path(sys.argv[2]).resolve())
     listing, bad = sys.argv[1:] == ["--list"], False
-    for page in [TOP / "README.md", *sorted((TOP / "docs").glob("*.md"))]:
+    for page in PAGES:
         name = str(page.relative_to(TOP))
         count, long, found = sum(len(sentences(text)) for _, text in texts(page)), long_sentences(page), stumbles(page)
         if listing or len(long) > LONG.get(name, 0):
