@@ -2,14 +2,18 @@
 """Checks that what is written down beside the code agrees with it, in seconds and without a proof.
 
 `repository.py` ends with 1 where something differs; `repository.py --write` rewrites the columns of
-docs/ARCHITECTURE.md that say what each crate stands on.
+docs/ARCHITECTURE.md that say what each crate depends on.
 
-1. The table of crates in docs/ARCHITECTURE.md has each crate of crates.txt once. What it says a crate
-   stands on are the crates of this repository that crates.txt lists for it, but for those on which
-   another of them stands.
+1. The tables of crates in docs/ARCHITECTURE.md have each crate of crates.txt once. What they say a crate
+   depends on are the crates of this repository that crates.txt lists for it, except those on which
+   another of them depends.
 2. Each generator (crates/NAME/gen/*.py) writes the very files that are checked in.
-3. Each edit in a folder must-fail/ changes a text that stands once in the file that it names, and names in one line
+3. Each edit in a folder must-fail/ changes a text that occurs once in the file that it names, and names in one line
    the goal that it is refused at.
+4. Each file that README.md or a document names by its path exists. If they say "`f` of `hm_c`", the sources or definitions
+   of `hm_c` have the word `f`. In PROMISES each file of a table, also by its short name, is a file of a crate that its
+   section names, and each name with an underscore is a word of the crates.
+5. Each piece of Rust in docs/EMBEDDING.md is a part of the example program.
 """
 import pathlib
 import re
@@ -33,7 +37,7 @@ def closure(crates, name):
 
 
 def directly(crates, name):
-    """Returns on what a crate stands, without that on which something else of it stands."""
+    """Returns the crates that a crate depends on, without those that another of them depends on."""
     return [it for it in crates[name] if not any(it in closure(crates, other) for other in crates[name] if other != it)]
 
 
@@ -49,7 +53,7 @@ def table_faults(write):
     faults = [f"docs/ARCHITECTURE.md has {names.count(name)} rows of {name}" for name in crates if names.count(name) != 1]
     for name, said in rows:
         if said.strip() != wanted[name]:
-            faults.append(f"docs/ARCHITECTURE.md says that {name} stands on {said}, and crates.txt {wanted[name]}")
+            faults.append(f"docs/ARCHITECTURE.md says that {name} depends on {said}, and crates.txt {wanted[name]}")
     return faults
 
 
@@ -91,9 +95,59 @@ def edit_faults():
     return faults
 
 
+def is_file(path):
+    """Whether a file or folder exists, perhaps with the ending of a source or a definition."""
+    return any((path.parent / (path.name + ending)).exists() for ending in ("", ".antt", ".rt"))
+
+
+def words_of(crate):
+    """Returns the words of a crate's sources, definitions and proofs."""
+    files = [it for part in ("src", "specs", "proofs") for it in (TOP / "crates" / crate / part).rglob("*") if it.is_file()]
+    return set().union(*(re.findall(r"\w+", it.read_text()) for it in files)) if files else set()
+
+
+def cited_faults():
+    crates, faults, words = listed(), [], {}
+    for page in [TOP / "README.md", *sorted((TOP / "docs").glob("*.md"))]:
+        text, name = page.read_text(), page.relative_to(TOP)
+        for cited in set(re.findall(r"(?:crates/)?(\w+/(?:src|specs|proofs|gen)/[\w+/]+(?:\.\w+)?)", text)):
+            if cited.split("/")[0] in crates and not is_file(TOP / "crates" / cited):
+                faults.append(f"{name} names {cited}, which doesn't exist")
+        for cited in set(re.findall(r"\b((?:tests|bench|build|docs|\.ci)/\w[\w/]*(?:\.\w+)?)", text)):
+            if not is_file(TOP / cited):
+                faults.append(f"{name} names {cited}, which doesn't exist")
+        for word, crate in set(re.findall(r"`(\w+)`(?: and `\w+`)? of `(\w+)`", text) + re.findall(r"`(\w+)` of `(\w+)`", text)):
+            if crate in crates and word not in words.setdefault(crate, words_of(crate)):
+                faults.append(f"{name} speaks of {word} of {crate}, which has no such word")
+    return faults
+
+
+def promise_faults():
+    """Returns the files and names in PROMISES that no crate of their section has."""
+    crates, faults = listed(), []
+    everything = set().union(*map(words_of, crates))
+    for section in re.split(r"^## ", (TOP / "docs" / "PROMISES.md").read_text(), flags=re.M)[1:]:
+        heading, near = section.split("\n")[0], [it for it in dict.fromkeys(re.findall(r"\b\w+\b", section)) if it in crates]
+        for row in re.findall(r"^\|.*\|([^|]*)\|$", section, re.M):
+            for cited in re.findall(r"`([A-Z]\w*(?:/\w+)*)`", row):
+                if not any(is_file(TOP / "crates" / it / "specs" / cited) or is_file(TOP / "crates" / it / "specs" / "Faults" / cited) for it in near):
+                    faults.append(f"docs/PROMISES.md, {heading}: no crate has specs/{cited}")
+        for word in set(re.findall(r"`([a-z0-9]+_\w+)`", section)):
+            if word not in everything and word not in crates:
+                faults.append(f"docs/PROMISES.md, {heading}: no crate has the word {word}")
+    return faults
+
+
+def example_faults():
+    """Returns the pieces of Rust in EMBEDDING that the example program doesn't have."""
+    program = (TOP / "crates" / "hm_example" / "src" / "main.rt").read_text()
+    pieces = re.findall(r"^```rust\n(.*?)^```", (TOP / "docs" / "EMBEDDING.md").read_text(), re.M | re.S)
+    return [f"docs/EMBEDDING.md shows what hm_example doesn't have:\n{it}" for it in pieces if it not in program]
+
+
 def main():
     write = sys.argv[1:] == ["--write"]
-    faults = table_faults(write) + generated_faults() + edit_faults()
+    faults = table_faults(write) + generated_faults() + edit_faults() + cited_faults() + promise_faults() + example_faults()
     print(*faults, sep="\n", end="\n" if faults else "")
     print(f"the repository agrees with itself: {'no' if faults else 'yes'}")
     return bool(faults)
