@@ -26,6 +26,7 @@ PLAIN = {
     r"tells|telling|told": "reports, says",
     r"stands? (on|in|at|beside|alone|there|before|ready)|stood": "depends on, is in, is",
     r"lent|lends?|given away|lending": "borrowed, by value",
+    r"(?<=[,;] )since": "because",
     r"behind(?! (?:a|the|its) (?:lock|gate|reference))": "after",
     r"ends? well": "returns `Ok`",
     r"no less than|but for|save for|save where": "at least, except",
