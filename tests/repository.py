@@ -6,7 +6,7 @@ docs/ARCHITECTURE.md that say what each crate depends on.
 
 1. The tables of crates in docs/ARCHITECTURE.md have each crate of crates.txt once. What they say a crate
    depends on are the crates of this repository that crates.txt lists for it, except those on which
-   another of them depends.
+   another of them depends. Each crate comes after those that it depends on.
 2. Each generator (crates/NAME/gen/*.py) writes the very files that are checked in.
 3. Each edit in a folder must-fail/ changes a text that occurs once in the file that it names, and names in one line
    the goal that it is refused at.
@@ -51,6 +51,8 @@ def table_faults(write):
     rows = [(it[1], it[3]) for it in ROW.finditer(text) if it[1] in crates]
     names = [name for name, _ in rows]
     faults = [f"docs/ARCHITECTURE.md has {names.count(name)} rows of {name}" for name in crates if names.count(name) != 1]
+    order = {name: place for place, name in enumerate(names)}
+    faults += [f"docs/ARCHITECTURE.md has {name} before {it}, on which it depends" for name in names for it in crates[name] if order.get(it, 0) > order[name]]
     for name, said in rows:
         if said.strip() != wanted[name]:
             faults.append(f"docs/ARCHITECTURE.md says that {name} depends on {said}, and crates.txt {wanted[name]}")
