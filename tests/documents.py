@@ -1,9 +1,11 @@
 #!/usr/bin/env python3
 """Measures the sentences of README.md and docs/, and searches them for words that readers stumble over.
 
-`documents.py` ends with 1 if a document has more than MOST_LONG long sentences, or one of the words of PLAIN outside of
-code. `documents.py --list` prints each long sentence as well. `documents.py --program PROGRAM` runs the documents' examples
-instead: each command after `$ ` must print what follows it, and each module in a block of Haskell must be good.
+`documents.py` ends with 1 if a document has more than MOST_LONG long sentences, a paragraph of more than 100 words, or one
+of the words of PLAIN outside of code. `documents.py --list` prints each long sentence as well.
+
+`documents.py --program PROGRAM` runs the documents' examples instead: each command after `$ ` must print what follows it,
+and each module in a block of Haskell must be good.
 
 A sentence has at most 25 words. A piece of code in backquotes counts as one word. Each cell of a table and each item of a
 list is a text of its own. Blocks of code aren't read.
@@ -16,7 +18,7 @@ import tempfile
 
 TOP = pathlib.Path(__file__).resolve().parent.parent
 PAGES = [TOP / "README.md", *sorted((TOP / "docs").glob("*.md"))]
-MOST_WORDS = 25
+MOST_WORDS, MOST_OF_PARAGRAPH = 25, 100
 # How many sentences of a document may be longer.
 MOST_LONG = 3
 # What to write in place of a word: the words as a regular expression, and the advice.
@@ -125,10 +127,13 @@ def main():
         if listing or len(long) > MOST_LONG:
             for line, it in long:
                 print(f"{name}:{line}: {len(it.split())} words: {it}")
+        wide = [line for line, text in texts(page) if sum(len(it.split()) for it in sentences(text)) > MOST_OF_PARAGRAPH]
+        for line in wide:
+            print(f"{name}:{line}: a paragraph of more than {MOST_OF_PARAGRAPH} words")
         for line, word, advice in found:
             print(f"{name}:{line}: \"{word}\": {advice}")
         print(f"{name}: {count} sentences, {len(long)} of more than {MOST_WORDS} words ({MOST_LONG} allowed), {len(found)} words to avoid")
-        bad |= len(long) > MOST_LONG or bool(found)
+        bad |= len(long) > MOST_LONG or bool(found) or bool(wide) or not count
     print(f"the documents are plain: {'no' if bad else 'yes'}")
     return bad
 
