@@ -1,5 +1,5 @@
 -- The worked records.
-use Rattle.std.proofs.Common.{◌≡◌, ◌<◌, ◌∙◌, ℕ, zero, suc, Bool, true, false, List, [], ◌∷◌, ◌++◌, inl, None, map, length, refl, sym, ap, arith}
+use Rattle.std.proofs.Common.{◌≡◌, ◌<◌, ◌∙◌, ℕ, zero, suc, Bool, true, false, List, [], ◌∷◌, ◌++◌, All, inl, inr, Option, None, map, length, refl, sym, ap, subst, arith}
 use Rattle.std.proofs.lemmas.Bool.{false≢true}
 use Rattle.std.proofs.lemmas.List.{append_assoc}
 use Rattle.std.specs.List.{flat_map}
@@ -7,12 +7,16 @@ use Rattle.std.specs.Prelude.{cond, slice_index_or}
 use Rattle.std.specs.declared.alloc.Global.{Global}
 use Rattle.std.specs.declared.sync.Arc.{Arc}
 use Rattle.hm_types.specs.declared.interfaces.Interface.{Interface}
-use Rattle.hm_store.specs.Worked.{begins, call, found}
+use Rattle.hm_syntax.specs.declared.ast.Module.{Module}
+use Rattle.hm_outcomes.specs.Outcomes.{Checked}
+use Rattle.hm_store.specs.Builds.{Build, IsAllSettled}
+use Rattle.hm_store.specs.Worked.{begins, begun, call, done, found}
 use Rattle.hm_store.specs.declared.record.Act.TheVariants.{Publish, Done, Look}
 use Rattle.hm_store.specs.declared.record.Record.{Record}
 use Rattle.hm_reports.specs.FinishedBuilds.{AreNumbered}
-use Rattle.hm_reports.specs.Rounds.{Deed, Claimed, Found, Settled, Left, Other, deed, round, IsWorked}
-use Rattle.hm_reports.specs.Worked.{plan, RoundsRow, NumberedRow}
+use Rattle.hm_reports.specs.Rounds.{Deed, Claimed, Found, Settled, Left, Other, deed, round, IsInRounds, IsWorked}
+use Rattle.hm_store.proofs.WorkedBuilds as builds
+use Rattle.hm_reports.specs.Worked.{plan, FinishedRow, OneWorkerFinishes, RoundsRow, NumberedRow}
 
 -- two deeds that a truth value tells apart, and lists that have one
 is_left : Deed → Bool
@@ -103,4 +107,39 @@ numbered = record {
   both = both;
   exchanged = λ r s first h. let e : 1 ≡ 0 = sym first ∙ h.each 0 r (omega arith) in absurd (omega (arith, e));
   missing = λ r h. let e : 1 ≡ 2 = h.len in absurd (omega (arith, e));
+}
+
+settled : (modules : List Module) (kept : List (Option Checked)) → IsAllSettled (done 0 modules kept)
+settled modules kept zero lt = refl
+settled modules kept (suc zero) lt = refl
+settled modules kept (suc (suc m)) lt = refl
+
+alone : (P : Record → Type 0) (r : Record) → P r → All P (r ∷ [])
+alone P r p zero d lt = p
+alone P r p (suc k) d lt = absurd (omega (arith, lt))
+
+first : (r : Record) → r.worker ≡ 0 → AreNumbered 1 (r ∷ [])
+first r is = record { len = refl; each = each }
+  where
+    each : (k : ℕ) (d : Record) → k < 1 → (slice_index_or (r ∷ []) k d).worker ≡ k
+    each zero d lt = is
+    each (suc k) d lt = absurd (omega (arith, lt))
+
+whole : OneWorkerFinishes
+whole sources modules kept f r read legal here is = record {
+  read = read;
+  legal = legal;
+  running = refl;
+  settled = settled modules kept;
+  agree = builds.one_record.whole modules kept f here r is;
+  numbered = first r is.0;
+  rounds = alone (IsInRounds plan) r (inr (subst (IsWorked plan) (sym is.1) (rounds.worked f)));
+}
+
+pub finished : FinishedRow
+finished = record {
+  whole = whole;
+  claimed = λ sources workers a b kept rs h. let e : false ≡ true = h.settled 0 (omega arith) in false≢true e;
+  stopped = λ sources workers modules kept rs h. let e : true ≡ false = h.running in false≢true (sym e);
+  missing = λ sources b r h. let e : 1 ≡ 2 = h.numbered.len in absurd (omega (arith, e));
 }

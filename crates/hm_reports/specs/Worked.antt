@@ -1,12 +1,18 @@
 -- Worked records of workers, and what is said of them.
-use Rattle.std.specs.Prelude.{◌≡◌, ℕ, List, [], ◌∷◌, ◌++◌, None}
+use Rattle.std.specs.Prelude.{◌≡◌, ℕ, List, [], ◌∷◌, ◌++◌, Option, None, Some}
+use Rattle.std.specs.Arc.{arc_value}
 use Rattle.std.specs.declared.alloc.Global.{Global}
 use Rattle.std.specs.declared.sync.Arc.{Arc}
 use Rattle.hm_types.specs.declared.interfaces.Interface.{Interface}
-use Rattle.hm_store.specs.Worked.{begins, call, found}
+use Rattle.hm_syntax.specs.declared.ast.Module.{Module}
+use Rattle.hm_outcomes.specs.Outcomes.{Checked}
+use Rattle.hm_sources.specs.SourceModules.{AreModulesOf}
+use Rattle.hm_store.specs.Builds.{Build, IsLegal, interface_at, with_entry}
+use Rattle.hm_store.specs.Worked.{IsRecordOf, begins, begun, call, done, found}
+use Rattle.hm_store.specs.declared.object.Entry.TheVariants.{Stop}
 use Rattle.hm_store.specs.declared.record.Act.TheVariants.{Publish, Done, Look}
 use Rattle.hm_store.specs.declared.record.Record.{Record}
-use Rattle.hm_reports.specs.FinishedBuilds.{AreNumbered}
+use Rattle.hm_reports.specs.FinishedBuilds.{AreNumbered, IsFinished}
 use Rattle.hm_reports.specs.Rounds.{IsInRounds, IsWorked}
 
 -- module 0 imports module 1
@@ -28,3 +34,17 @@ pub record NumberedRow : Type 0 where
   pub both : (r s : Record) → r.worker ≡ 0 → s.worker ≡ 1 → AreNumbered 2 (r ∷ s ∷ [])
   pub exchanged : (r s : Record) → r.worker ≡ 1 → ¬ (AreNumbered 2 (r ∷ s ∷ []))
   pub missing : (r : Record) → ¬ (AreNumbered 2 (r ∷ []))
+
+-- A finished build of two modules, of which 0 imports 1, by one worker: the sources spell the modules, the build is legal, and the worker's record
+-- has its calls in rounds
+abbrev pub OneWorkerFinishes : Type 0
+OneWorkerFinishes = (sources : List (List ℕ)) (modules : List Module) (kept : List (Option Checked)) (f : Arc Interface Global) (r : Record)
+    → AreModulesOf sources modules → IsLegal (done 0 modules kept) → interface_at kept 1 ≡ Some (arc_value f)
+    → IsRecordOf 0 (begins ++ (found f ∷ call 3 (Publish 0) ∷ call 4 Done ∷ [])) r → IsFinished sources 1 (done 0 modules kept) (r ∷ [])
+
+-- A build isn't finished while a module is claimed, after a stop, or where a worker has no record
+pub record FinishedRow : Type 0 where
+  pub whole : OneWorkerFinishes
+  pub claimed : (sources : List (List ℕ)) (workers : ℕ) (a b : Module) (kept : List (Option Checked)) (rs : List Record) → ¬ (IsFinished sources workers (begun (a ∷ b ∷ []) kept) rs)
+  pub stopped : (sources : List (List ℕ)) (workers : ℕ) (modules : List Module) (kept : List (Option Checked)) (rs : List Record) → ¬ (IsFinished sources workers (with_entry (done 0 modules kept) (Stop 0)) rs)
+  pub missing : (sources : List (List ℕ)) (b : Build) (r : Record) → ¬ (IsFinished sources 2 b (r ∷ []))
