@@ -1,0 +1,33 @@
+-- Worked holes, parts and verdicts.
+use Rattle.std.specs.Prelude.{◌≡◌, ℕ, List, [], ◌∷◌, codes}
+use Rattle.hm_lex.specs.declared.token.Place.{Place}
+use Rattle.hm_types.specs.Interfaces.{Exports as Interface}
+use Rattle.hm_names.specs.declared.faults.Fault.{Fault}
+use Rattle.hm_names.specs.declared.faults.Kind.{Kind}
+use Rattle.hm_names.specs.declared.faults.Kind.TheVariants.{Arity, Untyped}
+use Rattle.hm_verdicts.specs.ModuleVerdicts.{Good, Faulty}
+use Rattle.hm_explain.specs.Holes.{AreTyped, IsPartOf, with_hole}
+
+-- with the hole for x, and for nothing, in front of it
+pub record HolesRow : Type 0 where
+  pub argument : with_hole (codes "f x") 2 3 ≡ codes "f (let { h = h } in h)"
+  pub nothing : ¬ (with_hole (codes "f x") 2 2 ≡ codes "f (let { h = h } in h)")
+
+abbrev pub at_column : ℕ → Place
+at_column column = record { line = 1; column = column }
+
+-- x is the part from byte 2 to byte 3, and what ends where it begins is no part
+pub record PartsRow : Type 0 where
+  pub argument : IsPartOf (codes "f x") (record { from = 2; to = 3; start = at_column 3; end = at_column 3 })
+  pub empty : ¬ (IsPartOf (codes "f x") (record { from = 2; to = 2; start = at_column 3; end = at_column 2 }))
+
+abbrev pub told_by : Kind → List ℕ → Fault
+told_by kind name = record { place = at_column 18; kind = kind; name = name }
+
+-- f has a type where the module is good, or has a type fault of g alone; it has none where f is a type fault, and nothing is said where g has a fault of
+-- another kind
+pub record VerdictsRow : Type 0 where
+  pub good : (f : Interface) → AreTyped (codes "f" ∷ []) (Good f)
+  pub elsewhere : AreTyped (codes "f" ∷ []) (Faulty (told_by Untyped (codes "g") ∷ []))
+  pub here : ¬ (AreTyped (codes "f" ∷ []) (Faulty (told_by Untyped (codes "f") ∷ [])))
+  pub of_names : ¬ (AreTyped (codes "f" ∷ []) (Faulty (told_by Arity (codes "g") ∷ [])))

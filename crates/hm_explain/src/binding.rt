@@ -1,0 +1,147 @@
+//! The tokens of a definition, and the names that it mentions.
+ghost use Rattle.std.specs.Prelude.{All};
+ghost use Rattle.hm_lex.specs.Texts.{LiesIn};
+
+use crate::tokens::Outline;
+use hm_grammar::{Symbol, text_of};
+use hm_lex::{Kind, Place, Token};
+use hm_names::Fault;
+use std::alloc::{AllocError, Global};
+
+/// How many different names a definition may mention that is explained.
+const MOST_NAMES: usize = 256;
+
+/// A run of tokens: from one number up to another.
+#[derive(Clone, Copy)]
+pub(crate) struct Run {
+    pub start: usize,
+    pub end: usize,
+}
+
+/// The number of the token at a place.
+fn number_at(tokens: &[Token], place: Place) -> Option<usize> {
+    for number in 0..tokens.len() {
+        if tokens[number].place == place {
+            return Some(number);
+        }
+    }
+    None
+}
+
+/// Where the declaration ends that begins here: at its `;`, or at the `}` of its list.
+fn declaration_end(outline: &Outline, start: usize) -> usize {
+    let mut next = start;
+    for at in start..outline.len() {
+        if at == next {
+            next = outline.past(at);
+            match outline.symbol(at) {
+                Symbol::Semicolon | Symbol::RightBrace => return at,
+                _ => {}
+            }
+        }
+    }
+    outline.len()
+}
+
+/// The first token from this one on that is no `;`.
+fn past_semicolons(outline: &Outline, start: usize) -> usize {
+    for at in start..outline.len() {
+        if !outline.symbol(at).is(Symbol::Semicolon) {
+            return at;
+        }
+    }
+    outline.len()
+}
+
+/// Whether what begins with this token is a clause of the variable that the other one is.
+fn is_clause_of(
+    source: &[u8],
+    tokens: &[Token],
+    outline: &Outline,
+    at: usize,
+    variable: usize,
+) -> bool
+    requires { All (LiesIn source.now) tokens.now }
+{
+    if at >= tokens.len() || variable >= tokens.len() {
+        return false;
+    }
+    if !outline.symbol(at).is(Symbol::Var) || !outline.symbol(variable).is(Symbol::Var) {
+        return false;
+    }
+    let behind = outline.symbol(at.saturating_add(1));
+    if behind.begins_signature() || behind.continues_pattern() {
+        return false;
+    }
+    text_of(source, &tokens[at]) == text_of(source, &tokens[variable])
+}
+
+/// The tokens of the definition whose first one is at a place: all clauses that stand together, or one pattern binding.
+pub(crate) fn binding_at(
+    source: &[u8],
+    tokens: &[Token],
+    outline: &Outline,
+    place: Place,
+) -> Option<Run>
+    requires { All (LiesIn source.now) tokens.now }
+{
+    let start = number_at(tokens, place)?;
+    let mut end = declaration_end(outline, start);
+    if !is_clause_of(source, tokens, outline, start, start) {
+        return Some(Run { start, end });
+    }
+    for _ in start..tokens.len() {
+        let next = past_semicolons(outline, end);
+        if !is_clause_of(source, tokens, outline, next, start) {
+            return Some(Run { start, end });
+        }
+        end = declaration_end(outline, next);
+    }
+    Some(Run { start, end })
+}
+
+/// Whether a name is among others.
+fn is_among(names: &[&str], name: &str) -> bool {
+    names.iter().any(|other| *other == name)
+}
+
+/// Whether a fault is told by a name.
+fn is_fault(faults: &[Fault], name: &str) -> bool {
+    faults.iter().any(|fault| fault.name.as_str() == name)
+}
+
+/// The text of a token.
+fn name_at<'a>(source: &'a [u8], token: &Token) -> &'a str
+    requires { LiesIn source.now token.now }
+{
+    match std::str::from_utf8(text_of(source, token)) {
+        Ok(text) => text,
+        Err(_) => "",
+    }
+}
+
+/// The variables that a definition mentions, each once, but those by which faults are told; none where there are too many.
+pub(crate) fn names_in<'a>(
+    alloc: Global,
+    source: &'a [u8],
+    tokens: &[Token],
+    run: Run,
+    faults: &[Fault],
+) -> Result<Option<Vec<&'a str>>, AllocError>
+    requires { All (LiesIn source.now) tokens.now }
+{
+    let mut names = Vec::new(alloc);
+    for at in run.start..run.end.min(tokens.len()) {
+        let token = &tokens[at];
+        if token.kind == Kind::VarId {
+            let name = name_at(source, token);
+            if !is_among(names.as_slice(), name) && !is_fault(faults, name) {
+                names.push(name)?;
+            }
+        }
+        if names.len() > MOST_NAMES {
+            return Ok(None);
+        }
+    }
+    Ok(Some(names))
+}

@@ -1,0 +1,127 @@
+//! The tokens of a source as the grammar sees them. Nothing is claimed of the parts that are found in them but that looking for them ends:
+//! a trial alone decides what is to blame.
+ghost use Rattle.std.specs.Prelude.{All};
+ghost use Rattle.hm_lex.specs.Texts.{LiesIn};
+
+use hm_grammar::{Symbol, symbol_of, text_of};
+use hm_lex::Token;
+use std::alloc::{AllocError, Global};
+
+/// What tokens are to the grammar, and where each bracket is closed.
+#[derive(Drop)]
+pub(crate) struct Outline {
+    symbols: Vec<Symbol>,
+    /// For a bracket that opens, the number of the token that closes it; for any other token its own.
+    closing: Vec<usize>,
+}
+
+/// What each token is to the grammar.
+fn symbols_of(alloc: Global, source: &[u8], tokens: &[Token]) -> Result<Vec<Symbol>, AllocError>
+    requires { All (LiesIn source.now) tokens.now }
+{
+    let mut symbols = Vec::with_capacity(alloc, tokens.len())?;
+    for token in tokens {
+        symbols.push(symbol_of(token.kind, text_of(source, token)))?;
+    }
+    Ok(symbols)
+}
+
+/// Where each bracket is closed.
+fn closing_of(alloc: Global, symbols: &[Symbol]) -> Result<Vec<usize>, AllocError> {
+    let mut closing = Vec::with_capacity(alloc, symbols.len())?;
+    let mut open = Vec::new(alloc);
+    for (at, symbol) in symbols.iter().enumerate() {
+        closing.push(at)?;
+        match symbol {
+            Symbol::Open | Symbol::OpenSquare | Symbol::LeftBrace => open.push(at)?,
+            Symbol::Close | Symbol::CloseSquare | Symbol::RightBrace => {
+                if let Some(start) = open.pop() {
+                    if start < closing.len() {
+                        closing[start] = at;
+                    }
+                }
+            }
+            _ => {}
+        }
+    }
+    Ok(closing)
+}
+
+impl Outline {
+    /// The outline of the tokens of a source.
+    pub fn of(alloc: Global, source: &[u8], tokens: &[Token]) -> Result<Outline, AllocError>
+        requires { All (LiesIn source.now) tokens.now }
+    {
+        let symbols = symbols_of(alloc, source, tokens)?;
+        let closing = closing_of(alloc, symbols.as_slice())?;
+        Ok(Outline { symbols, closing })
+    }
+
+    /// How many tokens there are.
+    pub fn len(&self) -> usize {
+        self.symbols.len()
+    }
+
+    /// What the token with this number is; `End` behind the last one.
+    pub fn symbol(&self, at: usize) -> Symbol {
+        if at >= self.symbols.len() {
+            return Symbol::End;
+        }
+        self.symbols[at]
+    }
+
+    /// The number of the token that closes the bracket which opens here; of any other token its own.
+    pub fn closing(&self, at: usize) -> usize {
+        if at >= self.closing.len() {
+            return at;
+        }
+        self.closing[at]
+    }
+
+    /// The number of the token behind this one, and behind the brackets that it opens.
+    pub fn past(&self, at: usize) -> usize {
+        self.closing(at).saturating_add(1)
+    }
+
+    /// The first of these tokens, outside brackets that open among them, that is a symbol.
+    pub fn find(&self, start: usize, end: usize, symbol: Symbol) -> Option<usize> {
+        let mut next = start;
+        for at in start..end {
+            if at == next {
+                next = self.past(at);
+                if self.symbol(at).is(symbol) {
+                    return Some(at);
+                }
+            }
+        }
+        None
+    }
+
+    /// The word `last` of the form that begins here with `first`: as `else` of `if`, or `of` of `case`. Forms of the same kind may nest.
+    pub fn find_word(
+        &self,
+        start: usize,
+        end: usize,
+        first: Symbol,
+        last: Symbol,
+    ) -> Option<usize> {
+        let mut next = start;
+        let mut nested = 0usize;
+        for at in start..end {
+            if at == next {
+                next = self.past(at);
+                let symbol = self.symbol(at);
+                if symbol.is(first) {
+                    nested = nested.saturating_add(1);
+                }
+                if symbol.is(last) {
+                    nested = nested.saturating_sub(1);
+                    if nested == 0 {
+                        return Some(at);
+                    }
+                }
+            }
+        }
+        None
+    }
+}

@@ -1,0 +1,193 @@
+//! A trial: whether a definition has a type where a part of its source is replaced by a hole.
+ghost use Rattle.std.specs.Prelude.{◌≡◌, ◌≤◌, ◌∷◌, IfOk, IfSome, Contains, All, length, map, true};
+ghost use Rattle.std.specs.Arc.{arc_value};
+ghost use Rattle.hm_names.specs.Imports.{AreImportsOf};
+ghost use Rattle.hm_outcomes.specs.Outcomes.{verdict_of};
+ghost use Rattle.hm_sources.specs.SourceModules.{HasModules};
+ghost use Rattle.hm_explain.specs.Holes.{AreTyped, HasTypesIn, IsElsewhere, IsModuleIn, with_hole};
+
+use hm_check::{CheckFault, check_module_within};
+use hm_lex::{LexFault, lex};
+use hm_names::{Fault, Kind, TypeLimits};
+use hm_outcomes::{Outcome, Verdict};
+use hm_parse::{ParseFault, parse};
+use hm_prelude::SharedPrelude;
+use hm_syntax::Module;
+use hm_types::Interface;
+use std::alloc::{AllocError, Global};
+use std::sync::Arc;
+
+/// An expression of every type.
+const HOLE: &str = "(let { h = h } in h)";
+
+/// How many levels a type may have in a trial.
+const MOST_LEVELS: usize = 1 << 12;
+
+/// How many nodes types may have in a trial, whatever the source is.
+const LEAST_NODES: usize = 1 << 15;
+
+/// How many further nodes they may have for each byte of the source.
+const NODES_PER_BYTE: usize = 16;
+
+/// What stays the same from trial to trial.
+#[derive(Clone, Copy)]
+pub struct Question<'a> {
+    /// The source of the module.
+    pub source: &'a [u8],
+    /// The name of the module. The source may spell others too.
+    pub name: &'a str,
+    /// The interfaces of its imports but Prelude, each once, in order of first import.
+    pub imports: &'a [Arc<Interface>],
+    pub prelude: &'a SharedPrelude,
+}
+
+/// How large types may grow in a trial. A type has few levels, since a trial runs on a stack that is made for trees.
+fn limits_of(source: &[u8]) -> TypeLimits {
+    TypeLimits {
+        levels: MOST_LEVELS,
+        nodes: source
+            .len()
+            .saturating_mul(NODES_PER_BYTE)
+            .saturating_add(LEAST_NODES),
+    }
+}
+
+/// The source with the hole in place of a range of its bytes.
+fn with_hole(alloc: Global, source: &[u8], from: usize, to: usize) -> Result<Vec<u8>, AllocError>
+    requires ordered { from ≤ to }
+    requires within { to ≤ length source.now }
+    ensures { IfOk result (λ made. made.items ≡ with_hole source.now from to) }
+{
+    let mut made = Vec::from_slice(alloc, &source[..from])?;
+    made.extend_from_slice(HOLE.as_bytes())?;
+    made.extend_from_slice(&source[to..])?;
+    Ok(made)
+}
+
+/// The modules that a source spells; none where it spells none.
+fn modules_in(alloc: Global, source: &[u8]) -> Result<Option<Vec<Module>>, AllocError>
+    ensures { IfOk result (λ found. IfSome found (λ modules. HasModules source.now modules.items)) }
+{
+    let tokens = match lex(alloc, source) {
+        Ok(tokens) => tokens,
+        Err(LexFault::Memory) => return Err(AllocError),
+        Err(_) => return Ok(None),
+    };
+    match parse(alloc, source, tokens.as_slice()) {
+        Ok(modules) => Ok(Some(modules)),
+        Err(ParseFault::Memory) => Err(AllocError),
+        Err(_) => Ok(None),
+    }
+}
+
+/// The first of these modules that has a name.
+fn first_named(modules: Vec<Module>, name: &str) -> Option<Module>
+    ensures among { IfSome result (λ m. Contains modules.items m) }
+    ensures named { IfSome result (λ m. m.header.name.text ≡ name.now) }
+{
+    for module in modules {
+        if module.header.name.as_str() == name {
+            return Some(module);
+        }
+    }
+    None
+}
+
+/// The module of this name that a source spells.
+fn module_in(alloc: Global, source: &[u8], name: &str) -> Result<Option<Module>, AllocError>
+    ensures { IfOk result (λ found. IfSome found (IsModuleIn source.now name.now)) }
+{
+    match modules_in(alloc, source)? {
+        Some(modules) => Ok(first_named(modules, name)),
+        None => Ok(None),
+    }
+}
+
+/// What the module of a question comes to in a changed source; none where that spells no such module, or one with other imports.
+fn judged(
+    alloc: Global,
+    question: &Question<'_>,
+    changed: &[u8],
+) -> Result<Option<Outcome>, AllocError>
+    ensures spelled { IfOk result (λ found. IfSome found (λ o. IsModuleIn changed.now question.now.name.now o.«module»)) }
+    ensures imports { IfOk result (λ found. IfSome found (λ o. o.imports ≡ map arc_value question.now.imports.now)) }
+    ensures asked { IfOk result (λ found. IfSome found (λ o. AreImportsOf o.«module» (map arc_value question.now.imports.now))) }
+{
+    let Some(module) = module_in(alloc, changed, question.name)? else {
+        return Ok(None);
+    };
+    let module = Arc::new(alloc, module)?;
+    match check_module_within(
+        alloc,
+        question.prelude,
+        &module,
+        question.imports,
+        limits_of(changed),
+    ) {
+        Ok(outcome) => Ok(Some(outcome)),
+        Err(CheckFault::Imports) => Ok(None),
+        Err(CheckFault::Memory) => Err(AllocError),
+    }
+}
+
+/// Whether a name is none of these.
+fn is_none_of(names: &[&str], name: &str) -> bool
+    ensures { result ≡ true → All (λ n. ¬ (n.now ≡ name.now)) names.now }
+{
+    names.iter().all(|other| *other != name)
+}
+
+/// Whether a fault is a type fault that is told by none of these names.
+fn is_elsewhere(fault: &Fault, definition: &str, others: &[&str]) -> bool
+    ensures { result ≡ true → IsElsewhere (definition.now ∷ map (λ n. n.now) others.now) fault.now }
+{
+    if fault.kind != Kind::Untyped {
+        return false;
+    }
+    let name = fault.name.as_str();
+    if name == definition {
+        return false;
+    }
+    is_none_of(others, name)
+}
+
+/// Whether all faults are type faults that are told by none of these names.
+fn are_elsewhere(faults: &[Fault], definition: &str, others: &[&str]) -> bool
+    ensures { result ≡ true → All (IsElsewhere (definition.now ∷ map (λ n. n.now) others.now)) faults.now }
+{
+    faults
+        .iter()
+        .all(|fault| is_elsewhere(fault, definition, others))
+}
+
+/// Whether a verdict has type faults at most, and none of these definitions.
+fn are_typed(verdict: &Verdict, definition: &str, others: &[&str]) -> bool
+    ensures { result ≡ true → AreTyped (definition.now ∷ map (λ n. n.now) others.now) (verdict_of verdict.now) }
+{
+    match verdict {
+        Verdict::Good(_) => true,
+        Verdict::Faulty(found) => are_elsewhere(found.as_slice(), definition, others),
+    }
+}
+
+/// Whether a definition and others are no type faults where the hole stands in place of a range of bytes of the source, and the module
+/// has type faults at most. Where they are, or where the changed source can't be read, the answer is `false`.
+pub(crate) fn types_without(
+    alloc: Global,
+    question: &Question<'_>,
+    from: usize,
+    to: usize,
+    definition: &str,
+    others: &[&str],
+) -> Result<bool, AllocError>
+    requires ordered { from ≤ to }
+    requires within { to ≤ length question.now.source.now }
+    ensures { IfOk result (λ yes. yes ≡ true → HasTypesIn (with_hole question.now.source.now from to) question.now.name.now
+        (map arc_value question.now.imports.now) (definition.now ∷ map (λ n. n.now) others.now)) }
+{
+    let changed = with_hole(alloc, question.source, from, to)?;
+    match judged(alloc, question, changed.as_slice())? {
+        Some(outcome) => Ok(are_typed(outcome.verdict(), definition, others)),
+        None => Ok(false),
+    }
+}
