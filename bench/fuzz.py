@@ -2,14 +2,15 @@
 """Runs `hmc` on random sources that no friend would write, and looks for a run that doesn't end as docs/LANGUAGE.md says.
 
 `fuzz.py [--seed N] [--sources N] [--first N] [--kind KIND] [--processes N] [--keep FOLDER] [PROGRAM]`: without PROGRAM, the proved program
-beside this folder is run. Each source is checked by 1 and by 4 workers with `--journal`, by 4 with `--explain`, and planned. Wanted of each run: a status of the
-table, nothing on standard error but the line of that status and, with `--explain`, a message for each line of a fault and for each blamed import, in
-the report's order, one answer whatever the workers, a journal that is legal, an end within 10 s of
+beside this folder is run. Each source is checked by 1 and by 4 workers with `--journal`, by 4 with `--explain` and with `--message-format json`, and
+planned. Wanted of each run: a status of the table, nothing on standard error but the line of that status and, with `--explain`, a message for each line
+of a fault and for each blamed import, in the report's order, with JSON the same messages as objects of tests/message.schema.json, one answer whatever the workers, a journal that is legal, an end within 10 s of
 processor time, so that other work on the machine finds nothing, and at most 1 GB; a source of more than 100,000 bytes may take 60 s and 2 GB. Each finding is printed, and its files are put into FOLDER.
 A source is a function of its seed and number. Ends with 1 where something was found.
 """
 import argparse
 import collections
+import json
 import multiprocessing
 import os
 import random
@@ -18,10 +19,17 @@ import shutil
 import signal
 import sys
 import tempfile
+import unicodedata
 
 from hostile_sources import KINDS, hostile
 
 TOP = os.path.dirname(os.path.dirname(os.path.abspath(__file__)))
+sys.path.insert(0, os.path.join(TOP, "tests"))
+sys.dont_write_bytecode = True
+from json_messages import HEADING, differs  # noqa: E402
+
+with open(os.path.join(TOP, "tests", "message.schema.json"), encoding="utf-8") as it:
+    SCHEMA = json.load(it)
 LARGE = 100_000
 MESSAGES = {0: b"", 1: b"", 2: b""}
 Run = collections.namedtuple("Run", "status out err seconds megabytes")
@@ -109,27 +117,56 @@ def message_fault(explained, text):
     """What is wrong with the messages of a run that prints this text, or nothing."""
     if explained.out.decode() != text:
         return "another text with messages"
-    lines = explained.err.split(b"\n")
-    if lines[-1] or not re.fullmatch(rb"errors: \d+, skipped modules: \d+", lines[-2]):
+    err = explained.err.decode()
+    if any(unicodedata.category(each) in ("Cc", "Cf", "Co", "Zl", "Zp") and each != "\n" for each in err):
+        return "messages with characters that aren't escaped"
+    if explained.status == 0:
+        return "messages of good modules" if err else None
+    lines = err.split("\n")
+    if lines[-1] or not re.fullmatch(r"errors: \d+, skipped modules: \d+", lines[-2]):
         return "no counts of messages"
-    told = re.findall(rb"^[^:\n]*:(\d+:\d+): error: ([^\n]*) \[([a-z-]+)\]\n", explained.err, re.MULTILINE)
-    blamed = re.findall(rb"^[^:\n]*:\d+:\d+: note: skipped, since '(\S*)' (?:has errors|is skipped)\n", explained.err, re.MULTILINE)
+    told = re.findall(r"^[^:\n]*:(\d+):(\d+): error: ([^\n]*) \[([a-z-]+)\]$", err, re.MULTILINE)
+    blamed = re.findall(r"^[^:\n]*:\d+:\d+: note: skipped, since '(\S*)' (?:has errors|is skipped)$", err, re.MULTILINE)
     if explained.status == 2:
-        return None if len(told) == 1 and not blamed and lines[-2] == b"errors: 1, skipped modules: 0" else "the message of a refusal"
-    wanted = re.findall(rb"^  (\d+:\d+) ([a-z-]+) ([^\n]*)\n", explained.out, re.MULTILINE)
-    are_told = len(told) == len(wanted) and all(p == q and word == kind and b"'%s'" % name in line for (p, line, word), (q, kind, name) in zip(told, wanted))
-    by = re.findall(rb"^  by (\S*)\n", explained.out, re.MULTILINE)
-    skipped = len(re.findall(rb"^skipped ", explained.out, re.MULTILINE))
-    if not are_told or blamed != by or lines[-2] != b"errors: %d, skipped modules: %d" % (len(wanted), skipped):
+        # only missing imports have a message each
+        is_one = len(told) == 1 or told and {word for *_, word in told} == {"missing"}
+        return None if is_one and not blamed and lines[-2] == f"errors: {len(told)}, skipped modules: 0" else "the message of a refusal"
+    wanted = re.findall(r"^  (\d+):(\d+) ([a-z-]+) ([^\n]*)$", text, re.MULTILINE)
+    # a message's column counts characters, the report's bytes
+    are_told = len(told) == len(wanted) and all(
+        line == at and int(column) <= int(byte) and word == kind and f"'{name}'" in title
+        for (line, column, title, word), (at, byte, kind, name) in zip(told, wanted)
+    )
+    by = re.findall(r"^  by (\S*)$", text, re.MULTILINE)
+    skipped = len(re.findall(r"^skipped ", text, re.MULTILINE))
+    if not are_told or blamed != by or lines[-2] != f"errors: {len(wanted)}, skipped modules: {skipped}":
         return "the messages"
     return None
 
 
+def object_fault(objects, explained):
+    """What is wrong with the objects of a run whose messages these are, or nothing."""
+    if (objects.status, objects.out) != (explained.status, explained.out):
+        return "another report with objects"
+    lines = objects.err.decode().split("\n")
+    values = [json.loads(line) for line in lines[:-1]]
+    for value in values:
+        if why := differs(value, SCHEMA, SCHEMA):
+            return why
+    if lines[-1] or not values or values[-1]["level"] != "end":
+        return "no end of the objects"
+    told = [(each["line"], each["column"], each["level"], each["text"]) for each in HEADING.finditer(explained.err.decode())]
+    said = [(str(value["start"]["line"]), str(value["start"]["character"]), value["level"], value["text"]) for value in values[:-1]]
+    if [each[:3] for each in told] != [each[:3] for each in said] or any(title != text for (*_, title), (*_, text) in zip(told, said) if text.isprintable()):
+        return "the objects"
+    return None if values[-1]["errors"] == sum(level == "error" for _, _, level, _ in told) else "the counts of the objects"
+
+
 def finding(runs, wanted, large):
-    """What is wrong with the runs by one worker, by four, of the plan and with messages, or nothing."""
-    one, four, plan, explained = runs
+    """What is wrong with the runs by one worker, by four, of the plan and with messages and objects, or nothing."""
+    one, four, plan, explained, objects = runs
     for each in runs:
-        if each.status not in MESSAGES or each is not explained and each.err != MESSAGES[each.status]:
+        if each.status not in MESSAGES or not any(each is it for it in (explained, objects)) and each.err != MESSAGES[each.status]:
             return f"status {each.status}, {each.err[:200]!r}"
         if each.seconds > (60 if large else 10) or each.megabytes > (2000 if large else 1000):
             return f"{each.seconds:.1f} s, {each.megabytes} MB"
@@ -156,7 +193,7 @@ def finding(runs, wanted, large):
             return wrong
     if wanted is not None and wanted not in text[-300:]:
         return f"not {wanted!r}"
-    return message_fault(explained, text)
+    return message_fault(explained, text) or object_fault(objects, explained)
 
 
 def fuzzed(task):
@@ -171,7 +208,7 @@ def fuzzed(task):
             paths.append(os.path.join(folder, f"{place}.hs"))
             with open(paths[-1], "wb") as it:
                 it.write(data)
-        runs = [run(options.program, folder, words, paths, 900) for words in (["--jobs", "1", "--journal"], ["--jobs", "4", "--journal"], ["--plan"], ["--explain"])]
+        runs = [run(options.program, folder, words, paths, 900) for words in (["--jobs", "1", "--journal"], ["--jobs", "4", "--journal"], ["--plan"], ["--explain"], ["--message-format", "json"])]
         try:
             found = finding(runs, wanted, large)
         except (ValueError, KeyError, AttributeError, IndexError, UnicodeDecodeError) as error:

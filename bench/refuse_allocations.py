@@ -4,14 +4,16 @@
 `refuse_allocations.py [--program PROGRAM] [--tests TESTS..]`: without words, the proved program beside this folder; with TESTS, the tests
 of the crates `call_tests` and `acceptance` too whose names are `refused::..` (`crates/NAME/out/NAME_tests`, after `rt ci`). A run of the
 program, with 1 and with 4 workers, must print the right text and end with the right status, or print nothing, say `hmc: no memory` and
-end with 3, or, where a thread could not be started, say `hmc: no worker` and end with 6. Of a set whose types grow, the first, second,
-fourth, eighth .. allocation is refused. A test must pass or end for want of memory, and the call that
+end with 3, or, where a thread could not be started, say `hmc: no worker` and end with 6. With messages, for readers and for programs, it may also
+leave the note of a type fault out, or name the module whose check was refused before it says `hmc: no memory`. Of a set whose types grow, the first,
+second, fourth, eighth .. allocation is refused, and of a run with messages one in some. A test must pass or end for want of memory, and the call that
 it is about must have been refused by some of the refusals. Ends with 1 where anything else came of a refusal.
 """
 import argparse
 import collections
 import concurrent.futures
 import os
+import re
 import subprocess
 import sys
 import tempfile
@@ -35,6 +37,20 @@ skipped D
 """
 IMPORTED = b"module A where { import B ; x = y }\nmodule B where { y = 'c' }\n"
 IMPORTED_REPORT = b"module A\n  val x = A.x :: Char\nmodule B\n  val y = B.y :: Char\n2 modules: 2 good, 0 faulty, 0 skipped\n"
+FAULTY = b"""module A where { twice f = f f }
+module B where { n = lenght [] }
+module C where { import A }
+"""
+FAULTY_REPORT = b"""faulty A
+  1:18 type twice
+faulty B
+  2:22 unbound lenght
+skipped C
+  by A
+3 modules: 0 good, 2 faulty, 1 skipped
+"""
+# How many runs with messages have an allocation refused, at least.
+EXPLAINED_RUNS = 1000
 # What a test prints first that ends for want of memory: before the call that it is about, or at that call.
 ERRORS = {
     'error: "no memory"': "no memory",
@@ -89,6 +105,24 @@ def numbers(total, doubles):
     return [2**k for k in range(total.bit_length()) if 2**k <= total] if doubles else range(1, total + 1)
 
 
+def without_notes(messages):
+    """The messages without the note of a type fault: three lines for readers, and one for programs."""
+    lines = messages.splitlines(True)
+    notes = [number for number, line in enumerate(lines) if b"has a type with another expression here" in line]
+    lost = {number + more for number in notes for more in range(1 if lines[number].startswith(b"{") else 3)}
+    return b"".join(line for number, line in enumerate(lines) if number not in lost)
+
+
+def ending_of_explained(ran, messages):
+    """What came of a run with messages, which are these where nothing is refused; none where it may not end so."""
+    if (ran.returncode, ran.stdout) == (1, FAULTY_REPORT):
+        return {messages: "right", without_notes(messages): "no note"}.get(ran.stderr)
+    names_a_module = re.match(rb"(<stdin>:[12]:8: error: there is no memory to check module '[AB]' \[no-memory\]\n(.*\n){3}|\{.*\"no-memory\".*\}\n)hmc: no memory\n\Z", ran.stderr)
+    if (ran.returncode, ran.stdout) == (3, b"") and names_a_module:
+        return "no memory, with the module"
+    return ending(ran, 1, None)
+
+
 def ending(ran, status, report):
     """What came of a run of the program; none where it may not end so."""
     found = ran.returncode, ran.stdout, ran.stderr
@@ -120,6 +154,25 @@ def refuse_in_program(refusing, program):
                     print(f"{name}, {workers} workers, allocation {number}: status {ran.returncode}: {ran.stderr[:200]!r}")
             well &= first == "right" and not found["WRONG"]
             print(f"{name}, {workers} workers: {total} allocations: {dict(found)}", flush=True)
+    return well
+
+
+def refuse_in_messages(refusing, program):
+    well = True
+    for words in (["--explain"], ["--message-format", "json"]):
+        for workers in ("1", "4"):
+            command = [program, "--jobs", workers, *words]
+            first = refusing.run(command, FAULTY, 0)
+            total = refusing.total()
+            found = collections.Counter()
+            for number, ran in refusing.runs(command, FAULTY, range(1, total + 1, max(1, total // EXPLAINED_RUNS))):
+                end = ending_of_explained(ran, first.stderr)
+                found[end or "WRONG"] += 1
+                if end is None:
+                    print(f"{' '.join(words)}, {workers} workers, allocation {number}: status {ran.returncode}: {ran.stderr[:300]!r}")
+            is_right = (first.returncode, first.stdout) == (1, FAULTY_REPORT) and without_notes(first.stderr) != first.stderr
+            well &= is_right and not found["WRONG"] and bool(found["no note"] and found["no memory, with the module"])
+            print(f"{' '.join(words)}, {workers} workers: {total} allocations: {dict(found)}", flush=True)
     return well
 
 
@@ -162,7 +215,9 @@ def main():
     given = words.parse_args()
     with tempfile.TemporaryDirectory() as work:
         refusing = Refusing(work)
-        well = refuse_in_program(refusing, os.path.abspath(given.program))
+        program = os.path.abspath(given.program)
+        well = refuse_in_program(refusing, program)
+        well &= refuse_in_messages(refusing, program)
         well &= not given.tests or refuse_in_tests(refusing, [os.path.abspath(tests) for tests in given.tests])
     print("as they must be" if well else "NOT as they must be")
     return 0 if well else 1

@@ -41,32 +41,45 @@ skipped C
 3 modules: 1 good, 1 faulty, 1 skipped
 """
 
-# its messages
-UNTYPED = """:1:18: error: type error in 'twice' [type]
+
+def untyped(file):
+    """Its message in the source that has this name."""
+    return f"""{file}:1:18: error: type error in 'twice' [type]
 This definition has no type, though everything that it refers to has one.
-module B where { twice f = f f }
-                 ^
+module B where {{ twice f = f f }}
+                 ^^^^^
+{file}:1:30: note: 'twice' has a type with another expression here (up to 1:30)
+module B where {{ twice f = f f }}
+                             ^
 """
+
+
 BLAMED = """user.hs:1:25: note: skipped, since 'B' has errors
 module C where { import B ; y = twice }
                         ^
 """
 TOO_LONG = """<stdin>:1:1: error: the source is too long [too-long]
 A source has at most 1,048,576 bytes.
-""" + "x" * 60 + """...
-^
+""" + "x" * 80 + "...\n" + "^" * 80 + """
 errors: 1, skipped modules: 0
 """
 TOO_MANY = """<stdin>:4097:8: error: too many modules [too-many-modules]
 A set has at most 4,096 modules.
 module M4096 where { }
-       ^
+       ^^^^^
 errors: 1, skipped modules: 0
 """
 MISSING = """a.hs:1:25: error: no module 'B' is given [missing]
 An import names a module of the set or `Prelude`; there is no other library.
 module A where { import B ; x = y }
                         ^
+"""
+
+# the same as objects
+OBJECTS = """{"end":{"byte":23,"character":23,"line":1,"utf16":23},"file":"twice.hs","hint":"This definition has no type, though everything that it refers to has one.","kind":"type","level":"error","module":"B","name":"twice","start":{"byte":18,"character":18,"line":1,"utf16":18},"text":"type error in 'twice'"}
+{"end":{"byte":31,"character":31,"line":1,"utf16":31},"file":"twice.hs","hint":null,"kind":"replaceable","level":"note","module":"B","name":"twice","start":{"byte":30,"character":30,"line":1,"utf16":30},"text":"'twice' has a type with another expression here (up to 1:30)"}
+{"end":{"byte":26,"character":26,"line":1,"utf16":26},"file":"user.hs","hint":null,"kind":"skipped","level":"note","module":"C","name":"B","start":{"byte":25,"character":25,"line":1,"utf16":25},"text":"skipped, since 'B' has errors"}
+{"errors":1,"level":"end","skipped":1}
 """
 
 FOLDER = "hmc: read fault\nhmc: folder: is a directory\n"
@@ -96,14 +109,14 @@ ROWS = {
         "",
         1,
         EXAMPLE,
-        "twice.hs" + UNTYPED + BLAMED + "errors: 1, skipped modules: 1\n",
+        untyped("twice.hs") + BLAMED + "errors: 1, skipped modules: 1\n",
     ),
     "messages of standard input": (
         ["--explain"],
         TWICE,
         1,
         "faulty B\n  1:18 type twice\n1 modules: 0 good, 1 faulty, 0 skipped\n",
-        "<stdin>" + UNTYPED + "errors: 1, skipped modules: 0\n",
+        untyped("<stdin>") + "errors: 1, skipped modules: 0\n",
     ),
     "messages of a refused set": (
         ["--explain", "a.hs"],
@@ -120,16 +133,41 @@ ROWS = {
         "refused: too many modules\n",
         TOO_MANY,
     ),
-    "messages of a good set": (["a.hs", "--explain", "b.hs"], "", 0, REPORT, "errors: 0, skipped modules: 0\n"),
+    "messages of a good set": (["a.hs", "--explain", "b.hs"], "", 0, REPORT, ""),
     "messages and a journal": (
         ["--jobs", "1", "--journal", "--explain"],
         BEHIND,
         0,
         JOURNAL,
-        "errors: 0, skipped modules: 0\n",
+        "",
     ),
     "messages of a plan": (["--plan", "--explain"], A + B, 0, PLAN, ""),
     "messages of no such file": (["--explain", "none.hs"], "", 4, "", cannot_open("none.hs")),
+    "a name for standard input": (
+        ["--explain", "--stdin-name", "B.hs"],
+        TWICE,
+        1,
+        "faulty B\n  1:18 type twice\n1 modules: 0 good, 1 faulty, 0 skipped\n",
+        untyped("B.hs") + "errors: 1, skipped modules: 0\n",
+    ),
+    "standard input among files": (["--explain", "pair.hs", "-", "--stdin-name", "twice.hs", "user.hs"], TWICE, 1, EXAMPLE, untyped("twice.hs") + BLAMED + "errors: 1, skipped modules: 1\n"),
+    "standard input among files without a name": (["--explain", "pair.hs", "-", "user.hs"], TWICE, 1, EXAMPLE, untyped("<stdin>") + BLAMED + "errors: 1, skipped modules: 1\n"),
+    "standard input twice": (["--plan", "-", "-"], B, 0, "module B\n1 modules\n", ""),
+    "a name for standard input that isn't read": (["--explain", "a.hs", "b.hs", "--stdin-name", "C.hs"], "", 0, REPORT, ""),
+    "standard input without a name behind the word": (["--stdin-name"], "", 2, "", None),
+    "messages as objects": (["--message-format", "json", "pair.hs", "twice.hs", "user.hs"], "", 1, EXAMPLE, OBJECTS),
+    "messages as objects, of a name with marks": (
+        ["--message-format=json", "--stdin-name", 'a "b"\n\x1b.hs'],
+        TWICE,
+        1,
+        "faulty B\n  1:18 type twice\n1 modules: 0 good, 1 faulty, 0 skipped\n",
+        "".join(OBJECTS.splitlines(True)[:2]).replace("twice.hs", 'a \\"b\\"\\n\\u001b.hs') + '{"errors":1,"level":"end","skipped":0}\n',
+    ),
+    "objects of a good set": (["--message-format", "json", "a.hs", "b.hs"], "", 0, REPORT, '{"errors":0,"level":"end","skipped":0}\n'),
+    "messages for readers": (["--message-format", "human", "--explain", "twice.hs", "user.hs", "pair.hs"], "", 1, EXAMPLE, untyped("twice.hs") + BLAMED + "errors: 1, skipped modules: 1\n"),
+    "a format alone": (["--message-format", "human", "pair.hs", "twice.hs", "user.hs"], "", 1, EXAMPLE, ""),
+    "a format that isn't there": (["--message-format", "xml", "a.hs"], "", 2, "", None),
+    "objects of a folder": (["--message-format", "json", "folder"], "", 4, "", FOLDER),
     "messages twice": (["--explain", "--explain"], "", 2, "", None),
     "no such file": (["--plan", "a.hs", "none.hs"], "", 4, "", cannot_open("none.hs")),
     "a folder": (["--plan", "folder"], "", 4, "", FOLDER),
@@ -258,6 +296,13 @@ def faulty_and_growing(folder):
         yield f"{kind} beside types that are too large", ran, (1, wanted, "")
 
 
+NO_ROOM_FOR_C = """\
+<stdin>:3:8: error: there is no memory to check module 'C' [no-memory]
+Its types grow too large, or the machine has no more memory.
+hmc: no memory
+"""
+
+
 def refused_check(folder):
     """Of four modules one needs a type of too many levels: its worker stops the build, and nothing is printed, whatever the others came to."""
     values = " ; ".join(["c f g = \\x -> f (g x) ; f0 x = [x]"] + [f"f{n} = c f{n - 1} f{n - 1}" for n in range(1, 17)])
@@ -267,6 +312,11 @@ def refused_check(folder):
         for words in ([], ["--journal"]):
             ran = run(folder, ["--jobs", workers, *words], text)
             yield f"a check without memory, {workers} workers {words}", ran, (3, "", "hmc: no memory\n")
+        # the message names the module, in front of the line of the status
+        ran = run(folder, ["--jobs", workers, "--explain"], text)
+        told = ran.stderr.decode().split("\n")
+        ran.stderr = "\n".join(told[:2] + told[-2:]).encode()
+        yield f"the message of a check without memory, {workers} workers", ran, (3, "", NO_ROOM_FOR_C)
 
 
 def many_messages(folder):
@@ -284,7 +334,7 @@ def many_messages(folder):
 
 def on_a_terminal(folder):
     """Where standard error is a terminal `error` and `note` have a colour, unless NO_COLOR is set and not empty."""
-    plain = "twice.hs" + UNTYPED + BLAMED + "errors: 1, skipped modules: 1\n"
+    plain = untyped("twice.hs") + BLAMED + "errors: 1, skipped modules: 1\n"
     coloured = plain.replace(" error: ", " \x1b[1;31merror\x1b[0m: ").replace(" note: ", " \x1b[1;36mnote\x1b[0m: ")
     for name, colour, wanted in (("without NO_COLOR", None, coloured), ("with an empty NO_COLOR", "", coloured), ("with NO_COLOR", "1", plain)):
         words = {word: value for word, value in os.environ.items() if word != "NO_COLOR"}
@@ -391,9 +441,9 @@ def main():
             )
         )
         input_closed = lambda: os.close(0)
-        runs.append(("a plan of a closed input", run(folder, ["--plan"], "", before=input_closed), (4, "", "hmc: read fault\n")))
+        runs.append(("a plan of a closed input", run(folder, ["--plan"], "", before=input_closed), (4, "", "hmc: read fault\nhmc: <stdin>: uncategorized error\n")))
         runs.append(("a plan of files on a closed input", run(folder, ["--plan", "b.hs"], "", before=input_closed), (0, "module B\n1 modules\n", "")))
-        runs.append(("a folder as input", run_of(folder, "folder"), (4, "", "hmc: read fault\n")))
+        runs.append(("a folder as input", run_of(folder, "folder"), (4, "", "hmc: read fault\nhmc: <stdin>: is a directory\n")))
         runs.append(("a check whose reader is gone", run(folder, ["a.hs", "b.hs"], "", stdout=broken_pipe()), (4, "", "hmc: write fault\n")))
         runs.extend(unreadable(folder))
         runs.extend(vanishing(folder))

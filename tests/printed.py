@@ -178,7 +178,11 @@ def main():
             for word, rows in (("lexeme", messages.LEXEMES), ("syntax", messages.HINTS))
             for source, place, line in rows
         ]
-        for source, status, wanted in [*messages.KINDS, *messages.REASONS, *messages.EXCERPTS, *hints]:
+        details = [
+            (f"module M where {{ {items} }}", FAULTY, re.compile(rf"M\.hs:{place}: error: {re.escape(line)}\n(.*\n)*"))
+            for items, place, line in messages.DETAILS
+        ]
+        for source, status, wanted in [*messages.KINDS, *messages.REASONS, *messages.EXCERPTS, *hints, *details]:
             (alone, told), count = explain(folder, source), count + 1
             if not is_explained(alone, told, status, wanted):
                 differing.append((["--explain"], [source], told))

@@ -115,7 +115,7 @@ def cited_faults():
         for cited in set(re.findall(r"(?:crates/)?(\w+/(?:src|specs|proofs|gen)/[\w+/]+(?:\.\w+)?)", text)):
             if cited.split("/")[0] in crates and not is_file(TOP / "crates" / cited):
                 faults.append(f"{name} names {cited}, which doesn't exist")
-        for cited in set(re.findall(r"\b((?:tests|bench|build|docs|\.ci)/\w[\w/]*(?:\.\w+)?)", text)):
+        for cited in set(re.findall(r"\b((?:tests|bench|build|docs|\.ci)/\w[\w/]*(?:\.\w+)*)", text)):
             if not is_file(TOP / cited):
                 faults.append(f"{name} names {cited}, which doesn't exist")
         for word, crate in set(re.findall(r"`(\w+)`(?: and `\w+`)? of `(\w+)`", text) + re.findall(r"`(\w+)` of `(\w+)`", text)):

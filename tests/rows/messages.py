@@ -44,7 +44,7 @@ KINDS = [
         "module B where { x = 2 }\n"
         "module C where { import A ; import B ; y = x }",
         1,
-        "M.hs:3:44: error: 'x' is ambiguous [ambiguous]\n"
+        "M.hs:3:44: error: 'x' is ambiguous: 'A.x' or 'B.x' [ambiguous]\n"
         "Several things in scope have this name: write a qualifier, or hide it in an import.\n"
         "module C where { import A ; import B ; y = x }\n"
         "                                           ^\n"
@@ -57,7 +57,7 @@ KINDS = [
         "M.hs:1:14: error: two different things are exported as 'x' [export-clash]\n"
         "An export list gives each name to one thing.\n"
         "module A (x, B.x) where { import qualified B ; x = 1 }\n"
-        "             ^\n"
+        "             ^^^\n"
         "errors: 1, skipped modules: 0\n",
     ),
     (
@@ -84,7 +84,7 @@ KINDS = [
         "M.hs:1:23: error: wrong number of arguments for 'Maybe' [arity]\n"
         "A type, synonym or constructor takes as many arguments as its declaration gives it.\n"
         "module M where { f :: Maybe ; f = f }\n"
-        "                      ^\n"
+        "                      ^^^^^\n"
         "errors: 1, skipped modules: 0\n",
     ),
     (
@@ -102,7 +102,60 @@ KINDS = [
         "M.hs:1:18: error: type error in 'twice' [type]\n"
         "This definition has no type, though everything that it refers to has one.\n"
         "module M where { twice f = f f }\n"
+        "                 ^^^^^\n"
+        "M.hs:1:30: note: 'twice' has a type with another expression here (up to 1:30)\n"
+        "module M where { twice f = f f }\n"
+        "                             ^\n"
+        "errors: 1, skipped modules: 0\n",
+    ),
+    # either branch would do: the last of two equals is told
+    (
+        "module M where { f x = if x then 1 else (2 : []) }",
+        1,
+        "M.hs:1:18: error: type error in 'f' [type]\n"
+        "This definition has no type, though everything that it refers to has one.\n"
+        "module M where { f x = if x then 1 else (2 : []) }\n"
         "                 ^\n"
+        "M.hs:1:41: note: 'f' has a type with another expression here (up to 1:48)\n"
+        "module M where { f x = if x then 1 else (2 : []) }\n"
+        "                                        ^\n"
+        "errors: 1, skipped modules: 0\n",
+    ),
+    # no expression is to blame
+    (
+        "module M where { f True = 1 ; f 'c' = 2 }",
+        1,
+        "M.hs:1:18: error: type error in 'f' [type]\n"
+        "This definition has no type, though everything that it refers to has one.\n"
+        "module M where { f True = 1 ; f 'c' = 2 }\n"
+        "                 ^\n"
+        "errors: 1, skipped modules: 0\n",
+    ),
+    # an imported variable
+    (
+        "module A where { k :: Int ; k = 1 }\n"
+        "module B where { import A ; y = not k }",
+        1,
+        "M.hs:2:29: error: type error in 'y' [type]\n"
+        "This definition has no type, though everything that it refers to has one.\n"
+        "module B where { import A ; y = not k }\n"
+        "                            ^\n"
+        "M.hs:2:37: note: 'y' has a type with another expression here (up to 2:37)\n"
+        "module B where { import A ; y = not k }\n"
+        "                                    ^\n"
+        "errors: 1, skipped modules: 0\n",
+    ),
+    # in a list below a local binding: the last element
+    (
+        "module M where { f x = g where { g = (x, h) ; h = [x, [x]] } }",
+        1,
+        "M.hs:1:18: error: type error in 'f' [type]\n"
+        "This definition has no type, though everything that it refers to has one.\n"
+        "module M where { f x = g where { g = (x, h) ; h = [x, [x]] } }\n"
+        "                 ^\n"
+        "M.hs:1:56: note: 'f' has a type with another expression here (up to 1:56)\n"
+        "module M where { f x = g where { g = (x, h) ; h = [x, [x]] } }\n"
+        "                                                       ^\n"
         "errors: 1, skipped modules: 0\n",
     ),
     (
@@ -122,7 +175,10 @@ KINDS = [
         "M.hs:1:18: error: type error in 'twice' [type]\n"
         "This definition has no type, though everything that it refers to has one.\n"
         "module B where { twice f = f f }\n"
-        "                 ^\n"
+        "                 ^^^^^\n"
+        "M.hs:1:30: note: 'twice' has a type with another expression here (up to 1:30)\n"
+        "module B where { twice f = f f }\n"
+        "                             ^\n"
         "M.hs:2:25: note: skipped, since 'B' has errors\n"
         "module C where { import B ; y = twice }\n"
         "                        ^\n"
@@ -170,12 +226,31 @@ KINDS = [
         "                        ^\n"
         "errors: 2, skipped modules: 1\n",
     ),
-    ("module M where { f = 1 }", 0, "errors: 0, skipped modules: 0\n"),
-    ("", 0, "errors: 0, skipped modules: 0\n"),
+    ("module M where { f = 1 }", 0, ""),
+    ("", 0, ""),
 ]
 
 # each reason for a refusal once, with the messages
 REASONS = [
+    # each import that names no module, and no other one
+    (
+        "module A where { import B ; import Prelude ; import C }\n"
+        "module D where { import A ; import B }",
+        2,
+        "M.hs:1:25: error: no module 'B' is given [missing]\n"
+        "An import names a module of the set or `Prelude`; there is no other library.\n"
+        "module A where { import B ; import Prelude ; import C }\n"
+        "                        ^\n"
+        "M.hs:1:53: error: no module 'C' is given [missing]\n"
+        "An import names a module of the set or `Prelude`; there is no other library.\n"
+        "module A where { import B ; import Prelude ; import C }\n"
+        "                                                    ^\n"
+        "M.hs:2:36: error: no module 'B' is given [missing]\n"
+        "An import names a module of the set or `Prelude`; there is no other library.\n"
+        "module D where { import A ; import B }\n"
+        "                                   ^\n"
+        "errors: 3, skipped modules: 0\n",
+    ),
     (
         "module M where { f = # }",
         2,
@@ -199,8 +274,8 @@ REASONS = [
         2,
         "M.hs:1:201: error: too many open brackets [too-deep]\n"
         "At most 200 brackets may be open at once.\n"
-        "...(((((((((((((((((((((((((((((((((((((((((((((((((((((((((((((\n"
-        "                                                               ^\n"
+        "...(((((((((((((((((((((((((((((((((((((((((((((((((((((((((((((((((((((((((((((((((\n"
+        "                                                                                   ^\n"
         "errors: 1, skipped modules: 0\n",
     ),
     (
@@ -228,7 +303,7 @@ REASONS = [
         "M.hs:1:8: error: the module name 'Prelude' is taken [twice]\n"
         "Each module of a set has a name of its own, and `Prelude` is built in.\n"
         "module Prelude where { }\n"
-        "       ^\n"
+        "       ^^^^^^^\n"
         "errors: 1, skipped modules: 0\n",
     ),
     (
@@ -275,8 +350,8 @@ EXCERPTS = [
         1,
         "M.hs:2:6: error: 'y' isn't in scope [unbound]\n"
         "No declaration, import or parameter gives this name a meaning here.\n"
-        "\tf = y }\n"
-        "\t    ^\n"
+        "    f = y }\n"
+        "        ^\n"
         "errors: 1, skipped modules: 0\n",
     ),
     (
@@ -284,26 +359,46 @@ EXCERPTS = [
         1,
         "M.hs:1:242: error: 'y' isn't in scope [unbound]\n"
         "No declaration, import or parameter gives this name a meaning here.\n"
-        "... x015 = 1 ; x016 = 1 ; x017 = 1 ; x018 = 1 ; x019 = 1 ; f = y ; y000 = 1 ; y001 = 1 ; y002 = 1 ; y003 = 1 ; y004 = 1 ; y...\n"
-        "                                                               ^\n"
+        "...013 = 1 ; x014 = 1 ; x015 = 1 ; x016 = 1 ; x017 = 1 ; x018 = 1 ; x019 = 1 ; f = y ; y000 = 1 ; y001 = 1 ; y002 = 1 ; y003 = 1 ; y004 = 1 ; y005 = 1 ; y006 = 1 ;...\n"
+        "                                                                                   ^\n"
         "errors: 1, skipped modules: 0\n",
     ),
     (
         "module M where { {- " + "é" * 100 + " -}  f = y {- " + "é" * 100 + " -} }",
         1,
-        "M.hs:1:230: error: 'y' isn't in scope [unbound]\n"
+        "M.hs:1:130: error: 'y' isn't in scope [unbound]\n"
         "No declaration, import or parameter gives this name a meaning here.\n"
-        "...ééééééééééééééééééééééééé -}  f = y {- ééééééééééééééééééééééééééé...\n"
-        "                                     ^\n"
+        "...ééééééééééééééééééééééééééééééééééé -}  f = y {- ééééééééééééééééééééééééééééééééééééé...\n"
+        "                                               ^\n"
         "errors: 1, skipped modules: 0\n",
     ),
     (
         "module M where { {- é€𝄞 -} f = y }",
         1,
-        "M.hs:1:38: error: 'y' isn't in scope [unbound]\n"
+        "M.hs:1:32: error: 'y' isn't in scope [unbound]\n"
         "No declaration, import or parameter gives this name a meaning here.\n"
         "module M where { {- é€𝄞 -} f = y }\n"
         "                               ^\n"
+        "errors: 1, skipped modules: 0\n",
+    ),
+    (
+        # two columns for each of these characters, none for the combining one
+        "module M where { {- 日本 e\u0301 -} f = lenght }\r\n",
+        1,
+        "M.hs:1:34: error: 'lenght' isn't in scope (did you mean 'length'?) [unbound]\n"
+        "No declaration, import or parameter gives this name a meaning here.\n"
+        "module M where { {- 日本 e\u0301 -} f = lenght }\n"
+        "                                  ^^^^^^\n"
+        "errors: 1, skipped modules: 0\n",
+    ),
+    (
+        # what would turn the reading order
+        "module M where { {- \u202e -} f = A.lenght }",
+        1,
+        "M.hs:1:30: error: 'A.lenght' isn't in scope [unbound]\n"
+        "No declaration, import or parameter gives this name a meaning here.\n"
+        "module M where { {- \\u{202e} -} f = A.lenght }\n"
+        "                                    ^^^^^^^^\n"
         "errors: 1, skipped modules: 0\n",
     ),
     (
@@ -327,8 +422,29 @@ EXCERPTS = [
     (
         b"module M where { {- \xff -} }",
         2,
-        b"M.hs:1:18: error: this comment isn't UTF-8 [lexeme]\nSave the file as UTF-8.\nmodule M where { {- \xff -} }\n                 ^\nerrors: 1, skipped modules: 0\n",
+        b"M.hs:1:18: error: this comment isn't UTF-8 [lexeme]\nSave the file as UTF-8.\nmodule M where { {- \\xff -} }\n                 ^\nerrors: 1, skipped modules: 0\n",
     ),
+]
+
+# a module of these imports and declarations, with the place of its one fault and the first line of its message
+DETAILS = [
+    ("f xs = lenght xs", "1:25", "'lenght' isn't in scope (did you mean 'length'?) [unbound]"),
+    ("filtre = 1 ; f = filter1", "1:35", "'filter1' isn't in scope (did you mean 'filter'?) [unbound]"),
+    ("f = Prelude.mpa", "1:22", "'Prelude.mpa' isn't in scope (did you mean 'Prelude.map'?) [unbound]"),
+    ("x :: Mabye Int ; x = Nothing", "1:23", "'Mabye' isn't in scope (did you mean 'Maybe'?) [unbound]"),
+    ("x = Noting", "1:22", "'Noting' isn't in scope (did you mean 'Nothing'?) [unbound]"),
+    # a name of two letters is near dozens
+    ("x = ie", "1:22", "'ie' isn't in scope [unbound]"),
+    # two edits are too many, and a capital letter isn't a small one
+    ("f = mpas", "1:22", "'mpas' isn't in scope [unbound]"),
+    ("f = Maps", "1:22", "'Maps' isn't in scope [unbound]"),
+    # what is hidden isn't in scope
+    ("import Prelude hiding (length) ; f = lenght", "1:55", "'lenght' isn't in scope [unbound]"),
+    ("f = putStrLn", "1:22", "'putStrLn' isn't in scope: this Prelude leaves it out [unbound]"),
+    ("x :: Integer ; x = 1", "1:23", "'Integer' isn't in scope: this Prelude leaves it out [unbound]"),
+    ("filter = 1 ; f = filter", "1:35", "'filter' is ambiguous: 'M.filter' or 'Prelude.filter' [ambiguous]"),
+    ("data T = Left ; f = Left", "1:38", "'Left' is ambiguous: 'M.Left' or 'Prelude.Left' [ambiguous]"),
+    ("data Int = I ; f :: Int ; f = 1", "1:38", "'Int' is ambiguous: 'M.Int' or 'Prelude.Int' [ambiguous]"),
 ]
 
 # what has no lexemes, with the place and the first line of its message, less its word

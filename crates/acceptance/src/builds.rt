@@ -1,5 +1,5 @@
 //! Builds by several workers: their checks run at the same time, and each module is checked once.
-use hm_build::{Finished, Gate, Open, build, report};
+use hm_build::{BuildFault, Finished, Gate, Open, build, report};
 use std::alloc::{AllocError, Global};
 use std::process::Abort;
 use std::sync::Wait;
@@ -26,6 +26,10 @@ const SIX: &[u8] =
 /// Four modules without imports.
 const FOUR: &[u8] =
     b"module A where { x = 1 }\nmodule B where { x = 1 }\nmodule C where { x = 1 }\nmodule D where { x = 1 }";
+
+/// Three modules, of which the second has a type of 2^40 parts.
+const TOO_LARGE: &[u8] =
+    b"module A where { d x = (x, x) ; e x = d (d x) ; f x = e (e x) }\nmodule B where { import A ; g x = f (f x) ; h x = g (g x) ; i x = h (h x) ; k = i (h 1) }\nmodule C where { x = 1 }";
 
 /// One source.
 fn source_of(alloc: Global, text: &[u8]) -> Result<Vec<Vec<u8>>, AllocError> {
@@ -139,5 +143,18 @@ fn each_module_is_checked_once(rt: HostRuntime) -> Result<(), Fail> {
     }
     assert_eq!(rt; finished.store.journal().len(), 12);
     assert_eq!(rt; finished.records.len(), 4);
+    Ok(())
+}
+
+#[test]
+fn a_module_that_there_is_no_memory_to_check_is_told(rt: HostRuntime) -> Result<(), Fail> {
+    for workers in 1..4 {
+        let sources = source_of(rt.alloc(), TOO_LARGE)?;
+        let told = match build(&rt, rt.alloc(), sources, workers, &Open) {
+            Err(BuildFault::Exhausted(number)) => Some(number),
+            _ => None,
+        };
+        assert_eq!(rt; told, Some(1));
+    }
     Ok(())
 }

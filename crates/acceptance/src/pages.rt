@@ -14,7 +14,7 @@ fn told(
 ) -> Result<Vec<u8>, AllocError> {
     let mut sources = Vec::new(alloc);
     sources.push(Vec::from_slice(alloc, source)?)?;
-    let pages = pages_of(alloc, paint, sources.as_slice(), names)?;
+    let pages = pages_of(alloc, paint, sources.as_slice(), names, &[])?;
     let place = Place { line: 1, column };
     let topic = Topic::Missing("N");
     match message(alloc, paint, &pages.items[0], place, &topic) {
@@ -25,14 +25,14 @@ fn told(
 }
 
 #[test]
-fn names_of_files_come_out_as_they_are(rt: HostRuntime) -> Result<(), Fail> {
+fn names_of_files_are_escaped(rt: HostRuntime) -> Result<(), Fail> {
     let alloc = rt.alloc();
     let mut names = Vec::new(alloc);
     names.push(Vec::from_slice(alloc, b"\xff\xc3.hs")?)?;
     let text = told(alloc, Paint::Plain, names.as_slice(), b"ab", 2)?;
     assert!(&rt;
         text.as_slice()
-            == b"\xff\xc3.hs:1:2: error: no module 'N' is given [missing]\nAn import names a module of the set or `Prelude`; there is no other library.\nab\n ^\n".as_slice()
+            == b"\\xff\\xc3.hs:1:2: error: no module 'N' is given [missing]\nAn import names a module of the set or `Prelude`; there is no other library.\nab\n ^\n".as_slice()
     );
     Ok(())
 }
@@ -49,7 +49,7 @@ fn standard_input_has_a_name(rt: HostRuntime) -> Result<(), Fail> {
     )?;
     assert!(&rt;
         text.as_slice()
-            == b"<stdin>:1:5: error: no module 'N' is given [missing]\nAn import names a module of the set or `Prelude`; there is no other library.\na\xff\x80\xc3b\n    ^\n".as_slice()
+            == b"<stdin>:1:4: error: no module 'N' is given [missing]\nAn import names a module of the set or `Prelude`; there is no other library.\na\\xff\\x80\\xc3b\n             ^\n".as_slice()
     );
     Ok(())
 }

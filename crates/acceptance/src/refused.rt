@@ -21,7 +21,9 @@ fn built(rt: &(impl AllocGlobal + Threads + Wait + Sync), text: &[u8]) -> Result
     sources.push(Vec::from_slice(alloc, text)?)?;
     match build(rt, alloc, sources, 2, &Open) {
         Ok(finished) => Ok(finished),
-        Err(BuildFault::Memory) | Err(BuildFault::NoWorker) => Err(Fail::from(NO_MEMORY)),
+        Err(BuildFault::Memory | BuildFault::Exhausted(_) | BuildFault::NoWorker) => {
+            Err(Fail::from(NO_MEMORY))
+        }
         Err(_) => Err(Fail::from("the build is refused")),
     }
 }

@@ -1,5 +1,5 @@
 -- What a fault of a reader says of a run.
-use Rattle.std.proofs.Common.{◌≡◌, ◌⊎◌, ◌<◌, ◌≤◌, ℕ, List, All, IsErrOf, Result, Ok, Err, ⊎_elim, sym, ap, ◌∙◌, arith}
+use Rattle.std.proofs.Common.{◌≡◌, ◌⊎◌, ◌<◌, ◌≤◌, ℕ, List, All, IfErr, IfSome, IsErrOf, Option, Some, None, Result, Ok, Err, inl, inr, ⊎_elim, sym, ap, subst, ◌∙◌, arith}
 use Rattle.hm_devices.specs.declared.faults.RunFault.{RunFault}
 use Rattle.hm_devices.specs.declared.faults.RunFault.TheVariants.{Workers, Read, Write, Memory, NoWorker, Mixed}
 
@@ -35,3 +35,37 @@ passed_on r e f is at = ap Err (ap fault_of (sym is ∙ at))
 pub passed_back : {S T : Type 0} (r : Result S RunFault) (e f : RunFault) → r ≡ Err e → IsErrOf {T = T} {E = RunFault} (Err e) f → IsErrOf r f
 unfolding fault_of
 passed_back r e f is at = is ∙ ap Err (ap fault_of at)
+
+-- a fault of the checks is none of a reader
+pub not_of_reading : {T : Type 0} (e : RunFault) → (e ≡ Memory) ⊎ ((e ≡ NoWorker) ⊎ (e ≡ Mixed)) → ¬ (IsErrOf {T = T} (Err e) Read)
+unfolding number fault_of
+not_of_reading e why is =
+    let at : e ≡ Read = ap fault_of is in
+    ⊎_elim (λ q. let z : 3 ≡ 1 = ap number (sym q ∙ at) in absurd (omega (arith, z)))
+    (λ w. ⊎_elim (λ q. let z : 4 ≡ 1 = ap number (sym q ∙ at) in absurd (omega (arith, z))) (λ q. let z : 5 ≡ 1 = ap number (sym q ∙ at) in absurd (omega (arith, z))) w) why
+
+-- what comes before a write is no fault of it
+pub not_of_writing : {T : Type 0} (e : RunFault) → (e ≡ Workers) ⊎ ((e ≡ Read) ⊎ ((e ≡ Memory) ⊎ ((e ≡ NoWorker) ⊎ (e ≡ Mixed)))) → ¬ (IsErrOf {T = T} (Err e) Write)
+unfolding number fault_of
+not_of_writing e why is =
+    let at : e ≡ Write = ap fault_of is in
+    ⊎_elim (λ q. let z : 0 ≡ 2 = ap number (sym q ∙ at) in absurd (omega (arith, z)))
+    (λ v. ⊎_elim (λ q. let z : 1 ≡ 2 = ap number (sym q ∙ at) in absurd (omega (arith, z)))
+    (λ u. ⊎_elim (λ q. let z : 3 ≡ 2 = ap number (sym q ∙ at) in absurd (omega (arith, z)))
+    (λ w. ⊎_elim (λ q. let z : 4 ≡ 2 = ap number (sym q ∙ at) in absurd (omega (arith, z))) (λ q. let z : 5 ≡ 2 = ap number (sym q ∙ at) in absurd (omega (arith, z))) w) u) v) why
+
+-- what follows from what is so of something holds of it where there is something
+pub some_more : {X : Type 0} {P Q : X → Type 0} (o : Option X) → ((x : X) → P x → Q x) → IfSome o P → IfSome o Q
+some_more (Some x) f h = f x h
+some_more None f h = tt
+
+-- what holds where there is something holds of it
+pub some_at : {X : Type 0} (P : X → Type 0) (o : Option X) (x : X) → o ≡ Some x → IfSome o P → P x
+some_at P o x is h = subst (λ p. IfSome p P) is h
+
+-- a fault that comes before a write is one of all
+pub one_of_all : {T : Type 0} (r : Result T RunFault) (e : RunFault) → r ≡ Err e → (e ≡ Workers) ⊎ ((e ≡ Read) ⊎ ((e ≡ Memory) ⊎ ((e ≡ NoWorker) ⊎ (e ≡ Mixed))))
+    → IfErr r (λ f. (f ≡ Workers) ⊎ ((f ≡ Read) ⊎ ((f ≡ Write) ⊎ ((f ≡ Memory) ⊎ ((f ≡ NoWorker) ⊎ (f ≡ Mixed))))))
+one_of_all r e is why =
+    subst (λ q. IfErr q (λ f. (f ≡ Workers) ⊎ ((f ≡ Read) ⊎ ((f ≡ Write) ⊎ ((f ≡ Memory) ⊎ ((f ≡ NoWorker) ⊎ (f ≡ Mixed))))))) (sym is)
+    (⊎_elim (λ a. inl a) (λ b. inr (⊎_elim (λ a. inl a) (λ d. inr (inr d)) b)) why)

@@ -1,5 +1,5 @@
 -- What the workers of a build are given, and why they ended early. No public clause names these.
-use Rattle.std.specs.Prelude.{◌≡◌, ℕ, List}
+use Rattle.std.specs.Prelude.{◌≡◌, ◌<◌, ◌≤◌, ℕ, List}
 use Rattle.hm_syntax.specs.declared.ast.Module.{Module}
 use Rattle.hm_verdicts.specs.Sets.{IsLawfulSet}
 use Rattle.hm_stages.specs.declared.faults.BuildFault.{BuildFault}
@@ -13,8 +13,18 @@ pub record IsWorkOf (modules : List Module) (plan : List (List ℕ)) (given : Li
   pub rows_are : rows ≡ plan
   pub lawful : IsLawfulSet (record { modules = modules; plan = plan })
 
--- why there is no build where its workers ended so
-abbrev pub build_fault_of : WorkFault → BuildFault
-build_fault_of work.NoWorker = build.NoWorker
-build_fault_of work.Memory = build.Memory
-build_fault_of work.Mixed = build.Mixed
+-- why there is no build of so many modules where its workers ended so; a module that there is none of is not named
+abbrev pub Becomes : ℕ → WorkFault → BuildFault → Type 0
+Becomes count work.NoWorker fault = fault ≡ build.NoWorker
+Becomes count work.Memory fault = fault ≡ build.Memory
+Becomes count (work.Exhausted m) fault = (m < count → fault ≡ build.Exhausted m) × (count ≤ m → fault ≡ build.Memory)
+Becomes count work.Mixed fault = fault ≡ build.Mixed
+
+-- why workers leave no build of so many modules
+abbrev pub IsWorkError : ℕ → BuildFault → Type 0
+IsWorkError count (build.Refused fault) = ⊥
+IsWorkError count build.Workers = ⊥
+IsWorkError count build.NoWorker = Unit {0}
+IsWorkError count build.Memory = Unit {0}
+IsWorkError count (build.Exhausted m) = m < count
+IsWorkError count build.Mixed = Unit {0}

@@ -1,17 +1,50 @@
 //! What a run of the checker writes, its status, and its messages.
-ghost use Rattle.std.specs.Prelude.{◌≡◌, ◌⊎◌, ◌<◌, ◌≤◌, IfOk, IfErr, IfSome, map, string_bytes};
-ghost use Rattle.hm_telling.specs.Explained.{IsExplained};
+ghost use Rattle.std.specs.Prelude.{◌≡◌, ◌⊎◌, ◌<◌, ◌≤◌, None, IfOk, IfErr, IfSome, map, string_bytes};
+ghost use Rattle.hm_telling.specs.Explained.{IsExplained, TellsExhaustion};
 ghost use Rattle.hm_telling.specs.JournalledRuns.{IsRun};
 
 use crate::building::{Task, build_here};
 use crate::{BuildFault, Open};
 use hm_devices::RunFault;
+use hm_messages::MessageFault;
 use hm_sources::Nesting;
 use hm_stages::drop_by_threads;
-use hm_telling::{Explained, Wanted, finished_explained, refused_explained};
+use hm_telling::{Explained, Wanted, exhausted_message, finished_explained, refused_explained};
 use std::alloc::Global;
 use std::sync::Wait;
 use std::thread::Threads;
+
+/// Why a run writes nothing.
+#[derive(Drop)]
+pub(crate) struct Unanswered {
+    pub fault: RunFault,
+    /// The message of the module that there was no memory to check.
+    pub message: Option<Vec<u8>>,
+}
+
+impl From<MessageFault> for Unanswered {
+    ghost use Rattle.std.specs.Prelude.{◌≡◌, ◌⊎◌, None};
+    ghost use Rattle.hm_devices.specs.declared.faults.RunFault.TheVariants.{Memory, Mixed};
+
+    ghost from_gives = { λ _ unanswered. ((unanswered.fault ≡ Memory) ⊎ (unanswered.fault ≡ Mixed)) × (unanswered.message ≡ None) };
+
+    fn from(fault: MessageFault) -> Unanswered {
+        Unanswered::of(RunFault::from(fault))
+    }
+}
+
+impl Unanswered {
+    /// A fault that no module is named for.
+    pub(crate) fn of(fault: RunFault) -> Unanswered
+        ensures fault { result.fault ≡ fault }
+        ensures message { result.message ≡ None }
+    {
+        Unanswered {
+            fault,
+            message: None,
+        }
+    }
+}
 
 /// The report of a build of sources, or why they are refused, with messages where they are asked for.
 pub(crate) fn build_answer<'a, T: Threads + Wait + Sync>(
@@ -20,14 +53,17 @@ pub(crate) fn build_answer<'a, T: Threads + Wait + Sync>(
     sources: &'a [Vec<u8>],
     wanted: &'a Wanted,
     nesting: Nesting,
-) -> Result<Explained, RunFault>
+) -> Result<Explained, Unanswered>
     requires { (0 < wanted.now.options.workers) × (wanted.now.options.workers ≤ 16) }
     ensures ok { IfOk result (λ a. IsRun wanted.now.options.workers wanted.now.options.journal (map (λ s.
         s.items) sources.now) a.answer.status (string_bytes a.answer.text)) }
     ensures told { IfOk result (λ a. IfSome wanted.now.explain (λ e.
         IsExplained e.paint (map (λ s. s.items) e.names.items) (map (λ s.
         s.items) sources.now) a.answer.status (string_bytes a.answer.text) a.messages.items)) }
-    ensures err { IfErr result (λ e. (e ≡ RunFault.Memory) ⊎ ((e ≡ RunFault.NoWorker) ⊎ (e ≡ RunFault.Mixed))) }
+    ensures err { IfErr result (λ e. (e.fault ≡ RunFault.Memory) ⊎ ((e.fault ≡ RunFault.NoWorker) ⊎ (e.fault ≡ RunFault.Mixed))) }
+    ensures exhausted { IfErr result (λ e. IfSome e.message (λ m. IfSome wanted.now.explain (λ x.
+        TellsExhaustion x.paint (map (λ s. s.items) x.names.items) (map (λ s. s.items) sources.now) m.items))) }
+    ensures silent { IfErr result (λ e. (e.fault ≡ RunFault.Memory) ⊎ (e.message ≡ None)) }
 {
     let workers = wanted.options.workers;
     let task = Task {
@@ -42,9 +78,13 @@ pub(crate) fn build_answer<'a, T: Threads + Wait + Sync>(
             Ok(explained)
         }
         Err(BuildFault::Refused(fault)) => Ok(refused_explained(alloc, sources, &fault, wanted)?),
+        Err(BuildFault::Exhausted(number)) => Err(Unanswered {
+            fault: RunFault::Memory,
+            message: exhausted_message(alloc, sources, wanted, number),
+        }),
         Err(BuildFault::Workers) => unreachable!(),
-        Err(BuildFault::NoWorker) => Err(RunFault::NoWorker),
-        Err(BuildFault::Memory) => Err(RunFault::Memory),
-        Err(BuildFault::Mixed) => Err(RunFault::Mixed),
+        Err(BuildFault::NoWorker) => Err(Unanswered::of(RunFault::NoWorker)),
+        Err(BuildFault::Memory) => Err(Unanswered::of(RunFault::Memory)),
+        Err(BuildFault::Mixed) => Err(Unanswered::of(RunFault::Mixed)),
     }
 }

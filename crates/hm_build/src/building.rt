@@ -1,13 +1,14 @@
 //! A build: workers check the modules of sources, each for the published interfaces of its imports.
-ghost use Rattle.std.specs.Prelude.{◌≡◌, ◌⊎◌, ◌↔◌, ◌<◌, ◌≤◌, ◌^◌, ℕ, List, [], IfErr, IfOk, IsErrOf, map, min};
+ghost use Rattle.std.specs.Prelude.{◌≡◌, ◌⊎◌, ◌↔◌, ◌<◌, ◌≤◌, ◌^◌, ℕ, List, [], IfErr, IfOk, IsErrOf, length, map, min};
 ghost use Rattle.std.specs.Arc.{arc_value};
 ghost use Rattle.hm_stages.specs.Errors.{IsBuildError, IsBuildFault};
 ghost use Rattle.hm_reports.specs.FinishedBuilds.{IsFinished};
 ghost use Rattle.hm_build.specs.Headline.{HasVerdicts};
+ghost use Rattle.hm_build.specs.Workers.{IsWorkError};
 ghost use Rattle.hm_sources.specs.SourceModules.{AreModulesOf};
 
 use crate::limits::type_limits;
-use crate::workers::{Work, run_workers};
+use crate::workers::{Work, build_fault, run_workers};
 use crate::{BuildFault, Finished, Gate};
 use core::thread::Stack;
 use hm_modules::Pool;
@@ -50,7 +51,7 @@ fn records_of<L: Ledger + Naming>(
 }
 
 /// Runs the workers on a store, and looks at what came of it. Stacks and types have room for the sources.
-#[tactic(auto, using(crate::proofs::JobRows::work_is, crate::proofs::BuildFaults::from_shared, crate::proofs::BuildFaults::from_work))]
+#[tactic(auto, using(crate::proofs::JobRows::work_is, crate::proofs::BuildFaults::from_shared, crate::proofs::BuildFaults::from_work, crate::proofs::BuildFaults::from_memory, crate::proofs::BuildFaults::from_end))]
 fn worked<L: Ledger + Naming + Send + Sync, G: Gate + Sync, R: Threads + Wait + Sync>(
     rt: &R,
     alloc: Global,
@@ -68,7 +69,7 @@ fn worked<L: Ledger + Naming + Send + Sync, G: Gate + Sync, R: Threads + Wait + 
     requires empty { fresh.store.journal ≡ [] }
     ensures finished { IfOk result (λ f. (sources : List (List ℕ)) → AreModulesOf sources (map arc_value fresh.modules.items)
         → IsFinished sources task.now.workers f.store f.records.items) }
-    ensures err { IfErr result (λ e. (e ≡ BuildFault.NoWorker) ⊎ ((e ≡ BuildFault.Memory) ⊎ (e ≡ BuildFault.Mixed))) }
+    ensures err { IfErr result (IsWorkError (length fresh.modules.items)) }
 {
     let Fresh {
         modules,
@@ -92,7 +93,10 @@ fn worked<L: Ledger + Naming + Send + Sync, G: Gate + Sync, R: Threads + Wait + 
         prelude: &prelude,
     };
     let stack = task.nesting.worker_stack_size();
-    run_workers(rt, &work, passes.as_mut_slice(), stack)?;
+    match run_workers(rt, &work, passes.as_mut_slice(), stack) {
+        Ok(()) => {}
+        Err(fault) => return Err(build_fault(fault, modules.len())),
+    }
     let (store, _book) = shared.into_store();
     let records = records_of(alloc, passes)?;
     finished(alloc, store, records, workers)

@@ -1,7 +1,7 @@
 //! From readers to two writers: the report of the verdicts, and messages that explain it.
 ghost use Rattle.std.specs.Prelude.{◌≡◌, ◌<◌, ◌⊎◌, ◌↔◌, ℕ, List, All, Any, IfOk, IfErr, IsErrOf, OnErr, OnOk, map};
 ghost use Rattle.std.specs.Io.KnownBytes.{Appends};
-ghost use Rattle.hm_telling.specs.Explained.{IsExplained, IsToldTo};
+ghost use Rattle.hm_telling.specs.Explained.{IsExplained, IsToldTo, TellsExhaustion};
 ghost use Rattle.hm_telling.specs.JournalledRuns.{IsRun};
 ghost use Rattle.hm_devices.specs.Sources.{AreReadUp, Stops, StopsAtFault, Tell, WritesPrefix, held_of};
 ghost use Rattle.hm_sources.specs.declared.status.Status.{Status};
@@ -27,7 +27,8 @@ pub struct Outputs<W, E> {
 }
 
 /// Runs as `run` does, and then writes messages to the second writer: one for each fault and for each import that a module is skipped for, in the
-/// report's order, or why the sources are refused. Nothing that happens to that writer is a fault of the run.
+/// report's order, or why the sources are refused. Where memory runs out in the check of a module, a message names the module; which one depends on
+/// the schedule if there are several. Nothing that happens to that writer is a fault of the run.
 pub fn run_explained<T: Threads + Wait + Sync, R: Read, W: Write, E: Write>(
     rt: &T,
     alloc: Global,
@@ -45,8 +46,13 @@ pub fn run_explained<T: Threads + Wait + Sync, R: Read, W: Write, E: Write>(
         s.items) wanted.explain.names.items) (map held_of sources) status text messages
         × Appends (W.contents (device_of outputs.old.writer)) (W.contents (device_of outputs.new.writer)) text
         × IsToldTo (E.contents (device_of outputs.old.errors)) (E.contents (device_of outputs.new.errors)) messages (HasWriteFault outputs.new.errors)) }
-    // Without a report there are no messages.
-    ensures untold { OnErr result (outputs.new.errors ≡ outputs.old.errors) }
+    // Without a report there are no messages, but for one where memory ran out.
+    ensures untold { OnErr result ((outputs.new.errors ≡ outputs.old.errors) ⊎ IsErrOf result RunFault.Memory) }
+    // It says of a module of the sources that there is no memory to check it. It was written, or so much that its writer failed.
+    ensures exhausted { IsErrOf result RunFault.Memory → (sources : List (List ℕ)) → Tell (λ r. R.remaining (device_of r)) readers.old sources
+        → (outputs.new.errors ≡ outputs.old.errors) ⊎ ((message : List ℕ) × TellsExhaustion wanted.explain.paint (map (λ s.
+        s.items) wanted.explain.names.items) (map held_of sources) message
+        × IsToldTo (E.contents (device_of outputs.old.errors)) (E.contents (device_of outputs.new.errors)) message (HasWriteFault outputs.new.errors)) }
 
     // All else is what `run` promises.
 
@@ -94,7 +100,17 @@ pub fn run_explained<T: Threads + Wait + Sync, R: Read, W: Write, E: Write>(
 {
     let Explaining { options, explain } = wanted;
     let explain = Some(explain);
-    let explained = read_and_check(rt, alloc, readers, Wanted { options, explain })?;
+    let mut note = None;
+    let wanted = Wanted { options, explain };
+    let explained = match read_and_check(rt, alloc, readers, wanted, &mut note) {
+        Ok(explained) => explained,
+        Err(fault) => {
+            if let Some(message) = note {
+                let _ = write_text(&mut outputs.errors, message.as_slice());
+            }
+            return Err(fault);
+        }
+    };
     write_text(&mut outputs.writer, explained.answer.text.as_bytes())?;
     let _ = write_text(&mut outputs.errors, explained.messages.as_slice());
     Ok(explained.answer.status)

@@ -1,6 +1,6 @@
 //! From readers to what is written.
-ghost use Rattle.std.specs.Prelude.{◌≡◌, ◌<◌, ◌⊎◌, ◌↔◌, ℕ, List, All, Any, IfOk, IfErr, IfSome, IsErrOf, OnOk, map, string_bytes};
-ghost use Rattle.hm_telling.specs.Explained.{IsExplained};
+ghost use Rattle.std.specs.Prelude.{◌≡◌, ◌<◌, ◌⊎◌, ◌↔◌, ℕ, List, None, All, Any, IfOk, IfErr, IfSome, IsErrOf, OnOk, map, string_bytes};
+ghost use Rattle.hm_telling.specs.Explained.{IsExplained, TellsExhaustion};
 ghost use Rattle.hm_telling.specs.JournalledRuns.{IsRun};
 ghost use Rattle.hm_devices.specs.Sources.{AreReadUp, Stops, StopsAtFault, Tell, held_of};
 ghost use Rattle.hm_devices.specs.Watching.{device_of, failures_of, HasReadFault, IsFresh, IsReadWithin};
@@ -15,19 +15,25 @@ use std::sync::Wait;
 use std::thread::Threads;
 
 /// Reads the sources and checks their modules, as many at a time as there are workers: the text of the report or of the refusal, the status,
-/// and messages where they are asked for. Its clauses are those of `run` that speak of readers.
+/// and messages where they are asked for; or why there is none. Where memory runs out in the check of a module, `note` gets the module's message, if messages are asked for. The clauses
+/// are those of `run` that speak of readers.
 pub(crate) fn read_and_check<T: Threads + Wait + Sync, R: Read>(
     rt: &T,
     alloc: Global,
     readers: &mut [Watched<R>],
     wanted: Wanted,
+    note: &mut Option<Vec<u8>>,
 ) -> Result<Explained, RunFault>
-    requires { All IsFresh readers.old }
+    requires readers { All IsFresh readers.old }
+    requires note { note.old ≡ None }
     ensures ok { IfOk result (λ a. (sources : List (List ℕ)) → Tell (λ r. R.remaining (device_of r)) readers.old sources
         → IsRun wanted.options.workers wanted.options.journal sources a.answer.status (string_bytes a.answer.text)) }
     ensures told { IfOk result (λ a. (sources : List (List ℕ)) → Tell (λ r. R.remaining (device_of r)) readers.old sources
         → IfSome wanted.explain (λ e. IsExplained e.paint (map (λ s.
         s.items) e.names.items) (map held_of sources) a.answer.status (string_bytes a.answer.text) a.messages.items)) }
+    ensures exhausted { IfSome note.new (λ m. (sources : List (List ℕ)) → Tell (λ r. R.remaining (device_of r)) readers.old sources
+        → IfSome wanted.explain (λ e. TellsExhaustion e.paint (map (λ s. s.items) e.names.items) (map held_of sources) m.items)) }
+    ensures silent { IsErrOf result RunFault.Memory ⊎ (note.new ≡ None) }
     ensures unread { IsErrOf result RunFault.Workers → readers.new ≡ readers.old }
     ensures read_up { OnOk result (AreReadUp (λ r. R.remaining (device_of r)) readers.old readers.new) }
     ensures read_up_before_a_build { (IsErrOf result RunFault.NoWorker ⊎ IsErrOf result RunFault.Mixed)
@@ -46,5 +52,11 @@ pub(crate) fn read_and_check<T: Threads + Wait + Sync, R: Read>(
         return Err(RunFault::Workers);
     }
     let sources = read_all(alloc, readers)?;
-    Ok(build_answer_on_thread(rt, alloc, sources, wanted)?)
+    match build_answer_on_thread(rt, alloc, sources, wanted) {
+        Ok(explained) => Ok(explained),
+        Err(unanswered) => {
+            *note = unanswered.message;
+            Err(unanswered.fault)
+        }
+    }
 }

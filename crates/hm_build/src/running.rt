@@ -71,7 +71,8 @@ pub fn run<T: Threads + Wait + Sync, R: Read, W: Write>(
         ⊎ ((e ≡ RunFault.Read) ⊎ ((e ≡ RunFault.Write) ⊎ ((e ≡ RunFault.Memory) ⊎ ((e ≡ RunFault.NoWorker) ⊎ (e ≡ RunFault.Mixed)))))) }
 {
     let explain = None;
-    let explained = read_and_check(rt, alloc, readers, Wanted { options, explain })?;
+    let mut note = None;
+    let explained = read_and_check(rt, alloc, readers, Wanted { options, explain }, &mut note)?;
     write_text(writer, explained.answer.text.as_bytes())?;
     Ok(explained.answer.status)
 }

@@ -1,9 +1,9 @@
 //! A build is run on a thread of its own, whose stack is large enough for the source that nests deepest.
-ghost use Rattle.std.specs.Prelude.{◌≡◌, ◌⊎◌, ◌<◌, ◌≤◌, IfErr, IfOk, IfSome, map, string_bytes};
-ghost use Rattle.hm_telling.specs.Explained.{IsExplained};
+ghost use Rattle.std.specs.Prelude.{◌≡◌, ◌⊎◌, ◌<◌, ◌≤◌, None, IfErr, IfOk, IfSome, map, string_bytes};
+ghost use Rattle.hm_telling.specs.Explained.{IsExplained, TellsExhaustion};
 ghost use Rattle.hm_telling.specs.JournalledRuns.{IsRun};
 
-use crate::answers::build_answer;
+use crate::answers::{Unanswered, build_answer};
 use core::thread::Stack;
 use hm_devices::RunFault;
 use hm_sources::Nesting;
@@ -21,13 +21,13 @@ struct RunOf {
     wanted: Snapshot<Wanted>,
 }
 
-impl Promise<Result<Explained, RunFault>> for RunOf {
-    ghost use Rattle.std.specs.Prelude.{◌≡◌, ◌⊎◌, IfErr, IfOk, IfSome, map, string_bytes};
-    ghost use Rattle.hm_telling.specs.Explained.{IsExplained};
+impl Promise<Result<Explained, Unanswered>> for RunOf {
+    ghost use Rattle.std.specs.Prelude.{◌≡◌, ◌⊎◌, None, IfErr, IfOk, IfSome, map, string_bytes};
+    ghost use Rattle.hm_telling.specs.Explained.{IsExplained, TellsExhaustion};
     ghost use Rattle.hm_telling.specs.JournalledRuns.{IsRun};
     ghost use Rattle.hm_devices.specs.declared.faults.RunFault.TheVariants.{Memory, NoWorker, Mixed};
 
-    ghost kept_by = { λ p r. IfOk r (λ a. IsRun p.wanted.value.options.workers p.wanted.value.options.journal (map (λ s. s.items) p.sources.value.items) a.answer.status (string_bytes a.answer.text)) × (IfOk r (λ a. IfSome p.wanted.value.explain (λ e. IsExplained e.paint (map (λ s. s.items) e.names.items) (map (λ s. s.items) p.sources.value.items) a.answer.status (string_bytes a.answer.text) a.messages.items)) × IfErr r (λ e. (e ≡ Memory) ⊎ ((e ≡ NoWorker) ⊎ (e ≡ Mixed)))) };
+    ghost kept_by = { λ p r. IfOk r (λ a. IsRun p.wanted.value.options.workers p.wanted.value.options.journal (map (λ s. s.items) p.sources.value.items) a.answer.status (string_bytes a.answer.text)) × (IfOk r (λ a. IfSome p.wanted.value.explain (λ e. IsExplained e.paint (map (λ s. s.items) e.names.items) (map (λ s. s.items) p.sources.value.items) a.answer.status (string_bytes a.answer.text) a.messages.items)) × (IfErr r (λ e. (e.fault ≡ Memory) ⊎ ((e.fault ≡ NoWorker) ⊎ (e.fault ≡ Mixed))) × (IfErr r (λ e. IfSome e.message (λ m. IfSome p.wanted.value.explain (λ x. TellsExhaustion x.paint (map (λ s. s.items) x.names.items) (map (λ s. s.items) p.sources.value.items) m.items))) × IfErr r (λ e. (e.fault ≡ Memory) ⊎ (e.message ≡ None))))) };
 }
 
 /// The report of a build of sources, or why they are refused, with messages where they are asked for.
@@ -36,26 +36,32 @@ pub(crate) fn build_answer_on_thread<T: Threads + Wait + Sync>(
     alloc: Global,
     sources: Vec<Vec<u8>>,
     wanted: Wanted,
-) -> Result<Explained, RunFault>
+) -> Result<Explained, Unanswered>
     requires { (0 < wanted.options.workers) × (wanted.options.workers ≤ 16) }
     ensures ok { IfOk result (λ a. IsRun wanted.options.workers wanted.options.journal (map (λ s.
         s.items) sources.items) a.answer.status (string_bytes a.answer.text)) }
     ensures told { IfOk result (λ a. IfSome wanted.explain (λ e.
         IsExplained e.paint (map (λ s. s.items) e.names.items) (map (λ s.
         s.items) sources.items) a.answer.status (string_bytes a.answer.text) a.messages.items)) }
-    ensures err { IfErr result (λ e. (e ≡ RunFault.Memory) ⊎ ((e ≡ RunFault.NoWorker) ⊎ (e ≡ RunFault.Mixed))) }
+    ensures err { IfErr result (λ e. (e.fault ≡ RunFault.Memory) ⊎ ((e.fault ≡ RunFault.NoWorker) ⊎ (e.fault ≡ RunFault.Mixed))) }
+    ensures exhausted { IfErr result (λ e. IfSome e.message (λ m. IfSome wanted.explain (λ x.
+        TellsExhaustion x.paint (map (λ s. s.items) x.names.items) (map (λ s. s.items) sources.items) m.items))) }
+    ensures silent { IfErr result (λ e. (e.fault ≡ RunFault.Memory) ⊎ (e.message ≡ None)) }
 {
     thread::scope(
         thread::scope_env(),
         rt,
-        move |scope| -> Result<Explained, RunFault>
+        move |scope| -> Result<Explained, Unanswered>
             requires { (0 < wanted.options.workers) × (wanted.options.workers ≤ 16) }
             ensures ok { IfOk result (λ a. IsRun wanted.options.workers wanted.options.journal (map (λ s.
                 s.items) sources.items) a.answer.status (string_bytes a.answer.text)) }
             ensures told { IfOk result (λ a. IfSome wanted.explain (λ e.
                 IsExplained e.paint (map (λ s. s.items) e.names.items) (map (λ s.
                 s.items) sources.items) a.answer.status (string_bytes a.answer.text) a.messages.items)) }
-            ensures err { IfErr result (λ e. (e ≡ RunFault.Memory) ⊎ ((e ≡ RunFault.NoWorker) ⊎ (e ≡ RunFault.Mixed))) }
+            ensures err { IfErr result (λ e. (e.fault ≡ RunFault.Memory) ⊎ ((e.fault ≡ RunFault.NoWorker) ⊎ (e.fault ≡ RunFault.Mixed))) }
+            ensures exhausted { IfErr result (λ e. IfSome e.message (λ m. IfSome wanted.explain (λ x.
+                TellsExhaustion x.paint (map (λ s. s.items) x.names.items) (map (λ s. s.items) sources.items) m.items))) }
+            ensures silent { IfErr result (λ e. (e.fault ≡ RunFault.Memory) ⊎ (e.message ≡ None)) }
         {
             let promise = RunOf {
                 sources: Snapshot::of(&sources),
@@ -68,7 +74,7 @@ pub(crate) fn build_answer_on_thread<T: Threads + Wait + Sync>(
             { build_answer(rt, alloc, &sources, &wanted, nesting) };
             match thread.spawn_scoped_with(scope, promise, work) {
                 Ok(builder) => builder.join(rt),
-                Err(_) => Err(RunFault::NoWorker),
+                Err(_) => Err(Unanswered::of(RunFault::NoWorker)),
             }
         },
     )

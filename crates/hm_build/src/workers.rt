@@ -6,7 +6,7 @@ ghost use Rattle.hm_store.specs.declared.object.Refusal.TheVariants.{Stranger};
 ghost use Rattle.hm_store.specs.declared.object.Turn.TheVariants.{Job};
 ghost use Rattle.hm_shared.specs.Listings.{HasImports, IsOfSeen, IsWithin};
 ghost use Rattle.hm_shared.specs.Passes.{room_of, seen_of};
-ghost use Rattle.hm_build.specs.Workers.{IsWorkOf};
+ghost use Rattle.hm_build.specs.Workers.{Becomes, IsWorkOf};
 
 use crate::{BuildFault, Gate};
 use hm_check::{CheckFault, check_module_within};
@@ -30,24 +30,37 @@ use std::thread::{Builder, JoinHandle, Threads};
 pub(crate) enum WorkFault {
     /// No thread could be started for them.
     NoWorker,
-    /// There was no memory for a look, for a check or for a publication.
+    /// There was no memory for a look, for a publication or for the workers themselves.
     Memory,
+    /// There was no memory to check the module with this number.
+    Exhausted(usize),
     /// The store or the checker refused what a worker does.
     Mixed,
 }
 
-impl From<WorkFault> for BuildFault {
-    ghost use Rattle.std.specs.Prelude.{◌≡◌};
-    ghost use Rattle.hm_build.specs.Workers.{build_fault_of};
-
-    ghost from_gives = { λ given fault. fault ≡ build_fault_of given };
-
-    fn from(fault: WorkFault) -> BuildFault {
-        match fault {
-            WorkFault::NoWorker => BuildFault::NoWorker,
-            WorkFault::Memory => BuildFault::Memory,
-            WorkFault::Mixed => BuildFault::Mixed,
+impl WorkFault {
+    /// Of two faults the one that is told: a refusal of the store or the checker comes before want of memory, and of two modules the first.
+    fn or(self, other: WorkFault) -> WorkFault {
+        match (self, other) {
+            (WorkFault::Mixed, _) | (_, WorkFault::Mixed) => WorkFault::Mixed,
+            (WorkFault::Exhausted(one), WorkFault::Exhausted(two)) => {
+                WorkFault::Exhausted(one.min(two))
+            }
+            (WorkFault::Exhausted(one), _) => WorkFault::Exhausted(one),
+            (_, other) => other,
         }
+    }
+}
+
+/// Why there is no build of so many modules where its workers ended so.
+pub(crate) fn build_fault(fault: WorkFault, modules: usize) -> BuildFault
+    ensures { Becomes modules fault result }
+{
+    match fault {
+        WorkFault::NoWorker => BuildFault::NoWorker,
+        WorkFault::Exhausted(number) if number < modules => BuildFault::Exhausted(number),
+        WorkFault::Memory | WorkFault::Exhausted(_) => BuildFault::Memory,
+        WorkFault::Mixed => BuildFault::Mixed,
     }
 }
 
@@ -138,7 +151,7 @@ fn check_one<L: Ledger + Naming, G: Gate, W: Wait + Drop, R: Wait>(
         work.limits,
     ) {
         Ok(outcome) => settle(rt, work, pass, number, outcome),
-        Err(CheckFault::Memory) => Err(WorkFault::Memory),
+        Err(CheckFault::Memory) => Err(WorkFault::Exhausted(number)),
         Err(CheckFault::Imports) => unreachable!(),
     }
 }
@@ -183,7 +196,7 @@ fn run_worker<L: Ledger + Naming, G: Gate, W: Wait + Drop, R: Wait>(
     ended
 }
 
-/// Waits for all workers. A refusal of the store or the checker comes before want of memory.
+/// Waits for all workers.
 fn join_all<R: Threads>(
     rt: &R,
     workers: Vec<JoinHandle<Result<(), WorkFault>>>,
@@ -193,9 +206,10 @@ fn join_all<R: Threads>(
         match worker.join(rt) {
             Ok(()) => {}
             Err(fault) => {
-                if all != Err(WorkFault::Mixed) {
-                    all = Err(fault);
-                }
+                all = match all {
+                    Ok(()) => Err(fault),
+                    Err(other) => Err(other.or(fault)),
+                };
             }
         }
     }

@@ -1,3 +1,5 @@
 pub mod Appending
+pub mod Around
+pub mod Counting
+pub mod Escaping
 pub mod Places
-pub mod Shown

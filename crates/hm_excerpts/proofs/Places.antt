@@ -1,5 +1,5 @@
 -- The lines of a source, one after the other, and the places in them.
-use Rattle.std.proofs.Common.{◌≡◌, ℕ, suc, ◌+◌, ◌-◌, ◌<◌, ◌≤◌, Bool, false, true, List, [], ◌∷◌, ◌++◌, All, length, take, drop, get_or, refl, sym, ap, subst, ◌∙◌, arith, inl, inr}
+use Rattle.std.proofs.Common.{◌≡◌, ℕ, ◌+◌, ◌-◌, ◌<◌, ◌≤◌, false, List, [], ◌∷◌, ◌++◌, length, take, drop, get_or, refl, sym, ap, subst, ◌∙◌, arith, inl, inr}
 use Rattle.std.proofs.lemmas.Bool.{cases_lt}
 use Rattle.std.proofs.lemmas.List.{take-append-drop, take-take, drop-take, length-take-le, length-drop, length-append, length_push, get_or-drop, get_or_append_left, get_or_push, take_at, take_more, get_or_default}
 use Rattle.std.proofs.lemmas.List.Elements.{All-take, recursion_from_All}
@@ -52,8 +52,8 @@ place_behind source start len number within line column plain end =
 -- one more line
 pub lines_more : (source : List ℕ) (spans news : List Span) (start len : ℕ) → start + len ≤ length source → AreLinesBefore source spans start
     → (place_after (take start source)).line ≡ length spans + 1 → (place_after (take start source)).column ≡ 1 → IsWithout is_line_end (take len (drop start source))
-    → news ≡ spans ++ (record { start = start; end = start + len }) ∷ [] → AreLinesBefore source news (start + len + 1)
-lines_more source spans news start len within lines line column plain pushed =
+    → (start + len < length source → get_or source (start + len) 0 ≡ 10) → news ≡ spans ++ (record { start = start; end = start + len }) ∷ [] → AreLinesBefore source news (start + len + 1)
+lines_more source spans news start len within lines line column plain ends pushed =
     let span : Span = record { start = start; end = start + len } in
     let long : length news ≡ length spans + 1 = ap length pushed ∙ length_push spans span in
     let old : (k : ℕ) (d : Span) → k < length spans → get_or spans k d ≡ get_or news k d = λ k d low. sym (ap (λ (l : List Span). get_or l k d) pushed ∙ get_or_append_left spans (span ∷ []) d k low) in
@@ -64,6 +64,7 @@ lines_more source spans news start len within lines line column plain pushed =
       line = line;
       column = column;
       plain = subst (λ n. IsWithout is_line_end (take n (drop start source))) (omega arith) plain;
+      ends = ends;
     } in
     record {
       each = λ k d low. elim (cases_lt k (length spans)) [

@@ -1,37 +1,34 @@
--- The text of an excerpt: the line, and a mark below it.
-use Rattle.std.specs.Prelude.{ℕ, suc, zero, ◌==◌, ◌-◌, Bool, true, false, ◌&&◌, List, [], ◌∷◌, ◌++◌, codes, if◌then◌else◌}
-use Rattle.std.specs.Int.{is_in_range}
-use Rattle.hm_excerpts.specs.Excerpts.{continues}
+-- The text of an excerpt: the line, and a mark below what stands at the place.
+use Rattle.std.specs.Prelude.{ℕ, ◌-◌, ◌==◌, max, Bool, true, false, List, [], ◌++◌, codes, length, replicate, slice_index, take, if◌then◌else◌}
+use Rattle.hm_excerpts.specs.Escapes.{shown, width}
+use Rattle.hm_excerpts.specs.Marks.{marked}
 use Rattle.hm_excerpts.specs.declared.excerpt.Excerpt.{Excerpt}
 
--- what stands where a line is cut, and what stands below
+-- what stands where a line is cut
 abbrev pub dots : Bool → List ℕ
 dots false = []
 dots true = codes "..."
 
+-- what stands below these
 abbrev pub indent : Bool → List ℕ
 indent false = []
 indent true = codes "   "
 
--- a tab stands below a tab
-abbrev pub blank : ℕ → ℕ
-blank b = if b == 9 then 9 else 32
+-- the text without a carriage return at its end
+abbrev pub without_return : List ℕ → List ℕ
+without_return text = if slice_index text (length text - 1) == 13 then take (length text - 1) text else text
 
--- how many more bytes a character of UTF-8 has that begins with this one
-abbrev pub following : ℕ → ℕ
-following b = if is_in_range 194 223 b then 1 else (if is_in_range 224 239 b then 2 else (if is_in_range 240 244 b then 3 else 0))
+-- how many columns the mark takes: those of what is marked, and one where nothing is
+abbrev pub mark_width : List ℕ → ℕ
+mark_width right = max 1 (width (take (marked right) right))
 
--- the byte goes on with a character of which so many bytes are missing
-abbrev pub goes_on : ℕ → ℕ → Bool
-goes_on zero b = false
-goes_on (suc n) b = continues b
+-- the line as it is shown
+abbrev pub line_text : Excerpt → List ℕ
+line_text e = dots e.is_cut_left ++ shown e.left.now ++ shown (without_return e.right.now) ++ dots e.is_cut_right
 
--- what stands below a text: a blank for each character, and for each byte that is in none
-abbrev pub padding : ℕ → List ℕ → List ℕ
-padding missing [] = []
-padding missing (b ∷ bs) = if goes_on missing b then padding (missing - 1) bs else blank b ∷ padding (following b) bs
+-- the mark, below what stands at the place
+abbrev pub mark_text : Excerpt → List ℕ
+mark_text e = indent e.is_cut_left ++ replicate (width e.left.now) 32 ++ replicate (mark_width e.right.now) 94
 
 abbrev pub excerpt_text : Excerpt → List ℕ
-excerpt_text e =
-    dots e.is_cut_left ++ e.left.now ++ e.right.now ++ dots e.is_cut_right ++ codes "\n"
-    ++ indent e.is_cut_left ++ padding 0 e.left.now ++ codes "^\n"
+excerpt_text e = line_text e ++ codes "\n" ++ mark_text e ++ codes "\n"

@@ -1,5 +1,5 @@
 -- Places in a source, and what is shown of the line there.
-use Rattle.std.specs.Prelude.{◌≡◌, ℕ, ◌≤◌, Bool, true, false, List, [], ◌++◌, length}
+use Rattle.std.specs.Prelude.{◌≡◌, ℕ, ◌+◌, ◌≤◌, ◌<◌, Bool, true, false, List, [], ◌++◌, length, slice_index}
 use Rattle.std.specs.Int.{is_in_range}
 use Rattle.hm_lex.specs.declared.token.Place.{Place}
 use Rattle.hm_lex.specs.Cut.{is_line_end, place_after}
@@ -13,15 +13,26 @@ pub record IsPlaceIn (source : List ℕ) (place : Place) : Type 0 where
   pub whole : source ≡ before ++ after
   pub placed : place ≡ place_after before
 
+-- the line at the place, without its end: what stands before the place, and what from it on
+pub record IsLineAround (source : List ℕ) (place : Place) (front back : List ℕ) : Type 0 where
+  pub before : List ℕ
+  pub after : List ℕ
+  pub whole : source ≡ before ++ (front ++ (back ++ after))
+  pub placed : place ≡ place_after (before ++ front)
+  pub begins : (place_after before).column ≡ 1
+  pub ends : 0 < length after → slice_index after 0 ≡ 10
+  pub front_plain : IsWithout is_line_end front
+  pub back_plain : IsWithout is_line_end back
+
 -- the byte stands inside a character of UTF-8
 abbrev pub continues : ℕ → Bool
 continues b = is_in_range 128 191 b
 
 -- how many bytes are shown on each side of a place
 abbrev pub most_shown : ℕ
-most_shown = 60
+most_shown = 80
 
--- what is shown of a line with these bytes before a place and behind it: of long ones the part at the place
+-- what is shown of a line with these bytes before a place and behind it: of a longer side so many bytes, or up to three fewer, so that no character is cut
 pub record IsShownRound (front back : List ℕ) (e : Excerpt) : Type 0 where
   pub before : List ℕ
   pub after : List ℕ
@@ -29,14 +40,14 @@ pub record IsShownRound (front back : List ℕ) (e : Excerpt) : Type 0 where
   pub back_is : back ≡ e.right.now ++ after
   pub whole_left : e.is_cut_left ≡ false → before ≡ []
   pub whole_right : e.is_cut_right ≡ false → after ≡ []
+  pub long_left : e.is_cut_left ≡ true → most_shown ≤ length e.left.now + 3
+  pub long_right : e.is_cut_right ≡ true → most_shown ≤ length e.right.now + 3
   pub short_left : length e.left.now ≤ most_shown
   pub short_right : length e.right.now ≤ most_shown
 
--- the excerpt is a part of the line at the place: the place is that behind the left part, and no line ends in it
+-- the excerpt is what is shown of the line at the place
 pub record IsExcerptAt (source : List ℕ) (place : Place) (e : Excerpt) : Type 0 where
-  pub before : List ℕ
-  pub after : List ℕ
-  pub whole : source ≡ before ++ (e.left.now ++ (e.right.now ++ after))
-  pub placed : place ≡ place_after (before ++ e.left.now)
-  pub left_plain : IsWithout is_line_end e.left.now
-  pub right_plain : IsWithout is_line_end e.right.now
+  pub front : List ℕ
+  pub back : List ℕ
+  pub line : IsLineAround source place front back
+  pub cut : IsShownRound front back e

@@ -1,3 +1,6 @@
+pub mod Columns
 pub mod Drawing
+pub mod Escapes
 pub mod Excerpts
 pub mod Lines
+pub mod Marks

@@ -1,14 +1,17 @@
 //! How much of a long line is shown.
-ghost use Rattle.std.specs.Prelude.{◌≡◌, ◌≤◌, ◌+◌, length, drop, take};
+ghost use Rattle.std.specs.Prelude.{◌≡◌, ◌<◌, ◌≤◌, ◌+◌, length, drop, take};
 ghost use Rattle.hm_excerpts.specs.Excerpts.{IsShownRound, continues, most_shown};
 
 use crate::excerpt::Excerpt;
 
 /// How many bytes are shown on each side of a place.
-const MOST_SHOWN: usize = 60;
+const MOST_SHOWN: usize = 80;
+
+/// How many bytes a character of UTF-8 has behind its first one, at most.
+const LONGEST_REST: usize = 3;
 
 /// Whether a byte stands inside a character of UTF-8.
-pub(crate) fn continues(byte: u8) -> bool
+fn continues(byte: u8) -> bool
     ensures { result ≡ continues byte }
 {
     matches!(byte, 0x80..=0xBF)
@@ -18,30 +21,35 @@ pub(crate) fn continues(byte: u8) -> bool
 fn first_shown(front: &[u8]) -> usize
     ensures within { result ≤ length front.now }
     ensures short { length front.now ≤ result + most_shown }
+    ensures long { 0 < result → result + most_shown ≤ length front.now + 3 }
 {
     if front.len() <= MOST_SHOWN {
         return 0;
     }
-    let mut start = front.len() - MOST_SHOWN;
-    while start < front.len() && continues(front[start]) {
-        start += 1;
+    let start = front.len() - MOST_SHOWN;
+    for skipped in 0..LONGEST_REST {
+        if !continues(front[start + skipped]) {
+            return start + skipped;
+        }
     }
-    start
+    start + LONGEST_REST
 }
 
 /// Where what is shown behind a place ends: at a whole character.
 fn shown_end(back: &[u8]) -> usize
     ensures within { result ≤ length back.now }
     ensures short { result ≤ most_shown }
+    ensures long { result < length back.now → most_shown ≤ result + 3 }
 {
     if back.len() <= MOST_SHOWN {
         return back.len();
     }
-    let mut end = MOST_SHOWN;
-    while end > 0 && continues(back[end]) {
-        end -= 1;
+    for skipped in 0..LONGEST_REST {
+        if !continues(back[MOST_SHOWN - skipped]) {
+            return MOST_SHOWN - skipped;
+        }
     }
-    end
+    MOST_SHOWN - LONGEST_REST
 }
 
 /// What is shown of a line that has these bytes before a place and behind it.

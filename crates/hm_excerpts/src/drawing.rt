@@ -1,10 +1,11 @@
 //! An excerpt as text: what is shown of the line, and a mark in a line below.
-ghost use Rattle.std.specs.Prelude.{◌≡◌, ◌++◌, OnOk};
-ghost use Rattle.hm_excerpts.specs.Drawing.{blank, dots, excerpt_text, following, goes_on, indent, padding};
+ghost use Rattle.std.specs.Prelude.{◌≡◌, ◌++◌, IfOk, OnOk, replicate};
+ghost use Rattle.hm_excerpts.specs.Drawing.{dots, excerpt_text, indent, line_text, mark_text, mark_width, without_return};
 
-use crate::cutting::continues;
+use crate::escapes::{shown, shown_width};
 use crate::excerpt::Excerpt;
-use std::alloc::AllocError;
+use crate::marks::marked;
+use std::alloc::{AllocError, Global};
 
 /// What stands where a line is cut.
 fn dots(is_cut: bool) -> &'static [u8]
@@ -20,59 +21,68 @@ fn indent(is_cut: bool) -> &'static [u8]
     if is_cut { b"   " } else { b"" }
 }
 
-/// What stands below a byte: a tab below a tab, so that both lines go on at one column.
-fn blank(byte: u8) -> u8
-    ensures { result ≡ blank byte }
+/// A text without a carriage return at its end.
+fn without_return(text: &[u8]) -> &[u8]
+    ensures { result.now ≡ without_return text.now }
 {
-    if byte == b'\t' { b'\t' } else { b' ' }
-}
-
-/// How many more bytes a character of UTF-8 has that begins with this one.
-fn following(byte: u8) -> usize
-    ensures { result ≡ following byte }
-{
-    match byte {
-        0xC2..=0xDF => 1,
-        0xE0..=0xEF => 2,
-        0xF0..=0xF4 => 3,
-        _ => 0,
+    match text.last() {
+        Some(b'\r') => &text[..text.len() - 1],
+        _ => text,
     }
 }
 
-/// Whether a byte goes on with the character before it, of which so many bytes are missing.
-fn goes_on(missing: usize, byte: u8) -> bool
-    ensures { result ≡ goes_on missing byte }
+/// Appends so many copies of a byte.
+fn add_copies(text: &mut Vec<u8>, byte: u8, count: usize) -> Result<(), AllocError>
+    ensures { OnOk result (text.new.items ≡ text.old.items ++ replicate count byte) }
 {
-    missing > 0 && continues(byte)
-}
-
-/// Appends what stands below a text: a blank for each character, and for each byte that is in none.
-fn add_padding(text: &mut Vec<u8>, left: &[u8]) -> Result<(), AllocError>
-    ensures { OnOk result (text.new.items ≡ text.old.items ++ padding 0 left.now) }
-{
-    let mut missing = 0usize;
-    for byte in left {
-        if goes_on(missing, *byte) {
-            missing -= 1;
-        } else {
-            text.push(blank(*byte))?;
-            missing = following(*byte);
-        }
+    for _ in 0..count {
+        text.push(byte)?;
     }
     Ok(())
 }
 
-/// Appends an excerpt: the line, and below it a mark under the character at the place.
-pub fn add_excerpt(text: &mut Vec<u8>, excerpt: &Excerpt<'_>) -> Result<(), AllocError>
-    ensures { OnOk result (text.new.items ≡ text.old.items ++ excerpt_text excerpt.now) }
+/// How many columns the mark takes below what stands at the place.
+fn mark_width(alloc: Global, right: &[u8]) -> Result<usize, AllocError>
+    ensures { IfOk result (λ columns. columns ≡ mark_width right.now) }
+{
+    let columns = shown_width(alloc, &right[..marked(right)])?;
+    Ok(columns.max(1))
+}
+
+/// Appends the line of an excerpt, without its end.
+fn add_line(alloc: Global, text: &mut Vec<u8>, excerpt: &Excerpt<'_>) -> Result<(), AllocError>
+    ensures { OnOk result (text.new.items ≡ text.old.items ++ line_text excerpt.now) }
 {
     text.extend_from_slice(dots(excerpt.is_cut_left))?;
-    text.extend_from_slice(excerpt.left)?;
-    text.extend_from_slice(excerpt.right)?;
+    text.extend_from_slice(shown(alloc, excerpt.left)?.as_bytes())?;
+    text.extend_from_slice(shown(alloc, without_return(excerpt.right))?.as_bytes())?;
     text.extend_from_slice(dots(excerpt.is_cut_right))?;
-    text.extend_from_slice(b"\n")?;
+    Ok(())
+}
+
+/// Appends the mark, below what stands at the place.
+fn add_mark(alloc: Global, text: &mut Vec<u8>, excerpt: &Excerpt<'_>) -> Result<(), AllocError>
+    ensures { OnOk result (text.new.items ≡ text.old.items ++ mark_text excerpt.now) }
+{
+    let blanks = shown_width(alloc, excerpt.left)?;
+    let marks = mark_width(alloc, excerpt.right)?;
     text.extend_from_slice(indent(excerpt.is_cut_left))?;
-    add_padding(text, excerpt.left)?;
-    text.extend_from_slice(b"^\n")?;
+    add_copies(text, b' ', blanks)?;
+    add_copies(text, b'^', marks)?;
+    Ok(())
+}
+
+/// Appends an excerpt: the line, and below it a mark under what stands at the place.
+pub fn add_excerpt(
+    alloc: Global,
+    text: &mut Vec<u8>,
+    excerpt: &Excerpt<'_>,
+) -> Result<(), AllocError>
+    ensures { OnOk result (text.new.items ≡ text.old.items ++ excerpt_text excerpt.now) }
+{
+    add_line(alloc, text, excerpt)?;
+    text.extend_from_slice(b"\n")?;
+    add_mark(alloc, text, excerpt)?;
+    text.extend_from_slice(b"\n")?;
     Ok(())
 }

@@ -1,11 +1,16 @@
-//! Excerpts of sources: the line round a place, with a mark below it.
+//! Excerpts of sources: the line round a place, with a mark below it, and the columns of a place.
 #![tactic(auto)]
 
+mod columns;
 mod cutting;
 mod drawing;
+mod escapes;
 mod excerpt;
 mod lines;
+mod marks;
 
+pub use crate::columns::Columns;
 pub use crate::drawing::add_excerpt;
+pub use crate::escapes::shown;
 pub use crate::excerpt::Excerpt;
 pub use crate::lines::SourceLines;

@@ -1,11 +1,14 @@
 //! The lines of a source, by their numbers.
 ghost use Rattle.std.specs.Prelude.{◌≡◌, ◌≤◌, ◌<◌, ◌+◌, All, IfNone, IfOk, IfSome, length, slice_index, take};
 ghost use Rattle.hm_lex.specs.Cut.{is_line_end};
-ghost use Rattle.hm_excerpts.specs.Excerpts.{IsExcerptAt, IsPlaceIn};
-ghost use Rattle.hm_excerpts.specs.Lines.{AreLinesOf, IsWithout};
+ghost use Rattle.hm_excerpts.specs.Columns.{AreColumnsAt, IsMarkEnd};
+ghost use Rattle.hm_excerpts.specs.Excerpts.{IsExcerptAt, IsLineAround, IsPlaceIn};
+ghost use Rattle.hm_excerpts.specs.Lines.{AreLinesOf, IsSpotOf, IsWithout};
 
+use crate::columns::{Columns, Units, columns_at, units_table};
 use crate::cutting::shown_round;
 use crate::excerpt::Excerpt;
+use crate::marks::marked;
 use hm_lex::Place;
 use std::alloc::{AllocError, Global};
 use std::marker::Model;
@@ -22,17 +25,27 @@ struct Span {
 pub struct SourceLines<'a> {
     source: &'a [u8],
     spans: Vec<Span>,
+    units: Vec<Units>,
+}
+
+/// A place in a source: the line `source[start..end]`, and so many bytes of it before the place.
+#[derive(Clone, Copy)]
+struct Spot {
+    start: usize,
+    end: usize,
+    offset: usize,
 }
 
 impl<'a> Model for SourceLines<'a> {
     ghost use Rattle.std.specs.Prelude.{List, ℕ};
+    ghost use Rattle.hm_excerpts.specs.Columns.{AreUnitsOf};
     ghost use Rattle.hm_excerpts.specs.Lines.{AreLinesOf};
 
     ghost Value = { List ℕ };
 
     ghost view = { λ s. s.source.now };
 
-    ghost invariant = { λ s. AreLinesOf s.source.now s.spans.items };
+    ghost invariant = { λ s. AreLinesOf s.source.now s.spans.items × AreUnitsOf s.source.now s.units.items };
 }
 
 /// The length of the line at the front.
@@ -68,7 +81,12 @@ impl<'a> SourceLines<'a> {
         ensures { IfOk result (λ lines. lines ≡ source.entry.now) }
     {
         let spans = spans_of(alloc, source)?;
-        Ok(SourceLines { source, spans })
+        let units = units_table(alloc, source)?;
+        Ok(SourceLines {
+            source,
+            spans,
+            units,
+        })
     }
 
     /// The source.
@@ -78,9 +96,9 @@ impl<'a> SourceLines<'a> {
         self.source
     }
 
-    /// What is shown at a place, if it lies in the source.
-    pub fn excerpt(&self, place: Place) -> Option<Excerpt<'a>>
-        ensures some { IfSome result (IsExcerptAt self.now place) }
+    /// Where a place is, if it lies in the source.
+    fn spot(&self, place: Place) -> Option<Spot>
+        ensures some { IfSome result (λ s. IsSpotOf self.now place s) }
         ensures none { IfNone result (IsPlaceIn self.now place → ⊥) }
     {
         if place.line == 0 {
@@ -93,11 +111,46 @@ impl<'a> SourceLines<'a> {
             return None;
         }
         let Span { start, end } = self.spans[place.line - 1];
-        let column = place.column - 1;
-        if column > end - start {
+        let offset = place.column - 1;
+        if offset > end - start {
             return None;
         }
-        let (front, back) = self.source[start..end].split_at(column);
+        Some(Spot { start, end, offset })
+    }
+
+    /// What is shown at a place, if it lies in the source.
+    pub fn excerpt(&self, place: Place) -> Option<Excerpt<'a>>
+        ensures some { IfSome result (IsExcerptAt self.now place) }
+        ensures none { IfNone result (IsPlaceIn self.now place → ⊥) }
+    {
+        let Spot { start, end, offset } = self.spot(place)?;
+        let (front, back) = self.source[start..end].split_at(offset);
         Some(shown_round(front, back))
+    }
+
+    /// The columns of a place, if it lies in the source.
+    pub fn columns(&self, place: Place) -> Option<Columns>
+        ensures some { IfSome result (AreColumnsAt self.now place) }
+        ensures none { IfNone result (IsPlaceIn self.now place → ⊥) }
+    {
+        let Spot {
+            start,
+            end: _end,
+            offset,
+        } = self.spot(place)?;
+        Some(columns_at(self.source, &self.units, start, offset))
+    }
+
+    /// The place behind what is marked at a place, if it lies in the source.
+    pub fn mark_end(&self, place: Place) -> Option<Place>
+        ensures some { IfSome result (IsMarkEnd self.now place) }
+        ensures none { IfNone result (IsPlaceIn self.now place → ⊥) }
+    {
+        let Spot { start, end, offset } = self.spot(place)?;
+        let len = marked(&self.source[start + offset..end]);
+        Some(Place {
+            line: place.line,
+            column: place.column + len,
+        })
     }
 }

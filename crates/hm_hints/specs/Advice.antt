@@ -1,5 +1,5 @@
 -- What is said of a fault of syntax at a place of a source.
-use Rattle.std.specs.Prelude.{◌≡◌, ℕ, ◌<◌, ◌≤◌, ⊤, zero, suc, List, [], ◌∷◌, length, map, take, get_or}
+use Rattle.std.specs.Prelude.{◌≡◌, ℕ, ◌<◌, ◌≤◌, zero, suc, List, [], ◌∷◌, length, map, take, get_or}
 use Rattle.hm_lex.specs.declared.token.Place.{Place}
 use Rattle.hm_lex.specs.declared.token.Token.{Token}
 use Rattle.hm_lex.specs.Faults.{AreTokensOf}

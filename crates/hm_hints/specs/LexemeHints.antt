@@ -1,5 +1,6 @@
 -- What is so where no lexeme begins.
-use Rattle.std.specs.Prelude.{◌≡◌, ◌≢◌, ℕ, ◌<◌, ◌≤◌, List, ◌∷◌, ⊤, All, length, slice_index, take}
+use Rattle.std.specs.Prelude.{◌≡◌, ◌≢◌, ℕ, ◌<◌, ◌≤◌, List, [], ◌∷◌, ⊤, All, length, slice_index, take, take_while}
+use Rattle.hm_lex.specs.Bytes.{is_symbol}
 use Rattle.hm_hints.specs.declared.lexeme_hints.LexemeHint.{LexemeHint}
 use Rattle.hm_hints.specs.declared.lexeme_hints.LexemeHint.TheVariants.{ByteOrderMark, Backquote, OpenString, StringItem, Character, Fraction, ReservedName, Comment, Dashes, Operator, NotAscii, NoText}
 
@@ -25,3 +26,18 @@ IsLexemeHint rest Dashes = (bs : List ℕ) × (rest ≡ 45 ∷ 45 ∷ bs)
 IsLexemeHint rest Operator = (b : ℕ) × (bs : List ℕ) × (rest ≡ b ∷ bs)
 IsLexemeHint rest NotAscii = BeginsBetween 128 255 rest
 IsLexemeHint rest NoText = ⊤
+
+-- the operator that a hint is about: all symbols at the front (Report, section 2.2); any other hint is about none
+abbrev pub operator_in : List ℕ → LexemeHint → List ℕ
+operator_in rest ByteOrderMark = []
+operator_in rest Backquote = []
+operator_in rest OpenString = []
+operator_in rest StringItem = []
+operator_in rest Character = []
+operator_in rest Fraction = []
+operator_in rest ReservedName = []
+operator_in rest Comment = []
+operator_in rest Dashes = take_while is_symbol rest
+operator_in rest Operator = take_while is_symbol rest
+operator_in rest NotAscii = []
+operator_in rest NoText = []

@@ -4,7 +4,6 @@ use Rattle.hm_lex.specs.declared.token.Token.{Token}
 use Rattle.hm_grammar.specs.Grammar.Modules.{Spells}
 use Rattle.hm_syntax.specs.declared.ast.Module.{Module}
 use Rattle.hm_hints.specs.Marks.{IsMarkIn}
-use Rattle.hm_hints.specs.declared.mark.Mark.{Mark}
 use Rattle.hm_hints.specs.declared.mark.Mark.TheVariants.{RightBrace}
 use Rattle.hm_hints.specs.declared.change.Change.{Change}
 use Rattle.hm_hints.specs.declared.change.Change.TheVariants.{Insert, Replace, Remove}

@@ -1,5 +1,5 @@
 -- What is so at a token, after others, with which no source begins.
-use Rattle.std.specs.Prelude.{◌≡◌, ℕ, ◌-◌, ⊤, Bool, true, false, ◌||◌, List, [], length, slice_index_or, Option, Some}
+use Rattle.std.specs.Prelude.{◌≡◌, ℕ, ◌-◌, ⊤, Bool, true, false, ◌||◌, List, [], length, slice_index_or, Some}
 use Rattle.hm_grammar.specs.Symbols.{same}
 use Rattle.hm_grammar.specs.declared.symbol.Symbol.{Symbol}
 use Rattle.hm_grammar.specs.declared.symbol.Symbol.TheVariants.{Module, Data, Newtype, TypeWord, Open, OpenSquare, LeftBrace, Close, CloseSquare, RightBrace, Semicolon, Where, Let, Of, Bar, Dots, Var, Con, End}

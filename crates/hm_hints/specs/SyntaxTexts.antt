@@ -2,7 +2,6 @@
 use Rattle.std.specs.Prelude.{ℕ, List, [], ◌++◌, codes}
 use Rattle.hm_hints.specs.Features.{feature_help, feature_text}
 use Rattle.hm_hints.specs.Marks.{mark_text}
-use Rattle.hm_hints.specs.declared.mark.Mark.{Mark}
 use Rattle.hm_hints.specs.declared.change.Change.{Change}
 use Rattle.hm_hints.specs.declared.change.Change.TheVariants.{Insert, Replace, Remove}
 use Rattle.hm_hints.specs.declared.syntax_hints.SyntaxHint.{SyntaxHint}

@@ -1,6 +1,8 @@
 //! What is so of a text at which no lexeme begins.
-ghost use Rattle.std.specs.Prelude.{◌≡◌, ℕ, ◌∷◌, IfSome, take};
-ghost use Rattle.hm_hints.specs.LexemeHints.{IsLexemeHint, IsOpenLine};
+ghost use Rattle.std.specs.Prelude.{◌≡◌, ◌<◌, ◌≤◌, ℕ, true, ◌∷◌, IfSome, length, slice_index, take_while};
+ghost use Rattle.std.specs.List.{prefix_len};
+ghost use Rattle.hm_lex.specs.Bytes.{is_symbol};
+ghost use Rattle.hm_hints.specs.LexemeHints.{IsLexemeHint, IsOpenLine, operator_in};
 
 /// What is where no lexeme can be completed.
 #[derive(Clone, Copy, Debug, PartialEq, Eq)]
@@ -30,29 +32,24 @@ pub enum LexemeHint {
     NoText,
 }
 
-/// Whether operators are made of this byte.
-fn is_symbol(byte: u8) -> bool {
+/// Whether operators are made of this byte (Report, section 2.2).
+#[tactic(auto, unfolding(hm_lex::specs::Bytes::class_of))]
+fn is_symbol(byte: u8) -> bool
+    ensures symbol { result ≡ is_symbol byte }
+    ensures ascii { result ≡ true → byte < 128 }
+{
     matches!(
         byte,
-        b'!' | b'#'
-            | b'$'
-            | b'%'
-            | b'&'
+        b'!' | b'#'..=b'&'
             | b'*'
             | b'+'
-            | b'.'
-            | b'/'
-            | b'<'
-            | b'='
-            | b'>'
-            | b'?'
-            | b'@'
+            | b'-'..=b'/'
+            | b':'
+            | b'<'..=b'@'
             | b'\\'
             | b'^'
             | b'|'
-            | b'-'
             | b'~'
-            | b':'
     )
 }
 
@@ -110,26 +107,35 @@ pub fn lexeme_hint(rest: &[u8]) -> LexemeHint
     }
 }
 
-/// Returns the operator at the front of a text, if the hint there is about one.
-pub fn operator_in<'a>(rest: &'a [u8], hint: LexemeHint) -> &'a str
-    ensures { (n : ℕ) × (result.now ≡ take n rest.entry.now) }
+/// How many symbols are at the front.
+fn symbols_len(text: &[u8]) -> usize
+    ensures run { result ≡ prefix_len is_symbol text.now }
+    ensures within { result ≤ length text.now }
+    ensures ascii { (k : ℕ) → k < result → slice_index text.now k < 128 }
 {
-    let len = match hint {
-        LexemeHint::Operator | LexemeHint::Dashes => symbols_len(rest),
-        _ => 0,
-    };
-    match std::str::from_utf8(&rest[..len.min(rest.len())]) {
-        Ok(text) => text,
-        Err(_) => "",
+    let mut len = 0;
+    while len < text.len() && is_symbol(text[len]) {
+        len += 1;
+    }
+    len
+}
+
+/// The symbols at the front.
+fn symbols_in(text: &[u8]) -> &str
+    ensures { result.now ≡ take_while is_symbol text.entry.now }
+{
+    match std::str::from_utf8(&text[..symbols_len(text)]) {
+        Ok(symbols) => symbols,
+        Err(_) => unreachable!(),
     }
 }
 
-/// How many symbols are at the front.
-fn symbols_len(text: &[u8]) -> usize {
-    for at in 0..text.len() {
-        if !is_symbol(text[at]) {
-            return at;
-        }
+/// Returns the operator at the front of a text, if the hint there is about one; no text, if it isn't.
+pub fn operator_in(rest: &[u8], hint: LexemeHint) -> &str
+    ensures { result.now ≡ operator_in rest.entry.now hint }
+{
+    match hint {
+        LexemeHint::Operator | LexemeHint::Dashes => symbols_in(rest),
+        _ => "",
     }
-    text.len()
 }

@@ -2,3 +2,4 @@ pub mod AtPage
 pub mod InOrder
 pub mod Ways
 mod Naming
+mod Gathering

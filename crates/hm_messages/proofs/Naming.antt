@@ -1,5 +1,5 @@
 -- One name for each source.
-use Rattle.std.proofs.Common.{◌≡◌, ℕ, ◌<◌, List, [], length, map, get_or, sym, ap, ◌∙◌}
+use Rattle.std.proofs.Common.{◌≡◌, ℕ, ◌<◌, List, [], length, get_or, sym, ap, ◌∙◌}
 use Rattle.std.proofs.lemmas.List.{length-map}
 use Rattle.hm_messages.specs.Pages.{AreFilesOf, file_at, files_in, texts_in}
 use Rattle.hm_messages.specs.declared.pages.Page.{Page}

@@ -1,7 +1,6 @@
 -- The messages of a refusal, with one more import of a cycle.
 use Rattle.std.proofs.Common.{◌≡◌, ℕ, List, [], ◌∷◌, ◌++◌, refl, sym, ap, ◌∙◌, append_assoc, append-nil}
 use Rattle.hm_lex.specs.declared.token.Place.{Place}
-use Rattle.hm_messages.specs.Messages.{AreEach}
 use Rattle.hm_messages.specs.Refused.{Way, AreMessagesOf, IsMessageAt, IsWayTold}
 use Rattle.hm_messages.specs.Subjects.{Subject}
 use Rattle.hm_messages.specs.declared.heading.Paint.{Paint}

@@ -1,61 +1,125 @@
 -- The first line of a message behind its file's name, and the line of counts.
-use Rattle.std.specs.Prelude.{ℕ, List, [], ◌∷◌, ◌++◌, codes}
+use Rattle.std.specs.Prelude.{ℕ, ◌==◌, ◌&&◌, List, [], ◌∷◌, ◌++◌, Option, Some, None, codes, if◌then◌else◌}
 use Rattle.std.specs.Fmt.{decimal}
+use Rattle.hm_excerpts.specs.Escapes.{shown}
+use Rattle.hm_json.specs.Objects.{counts_text}
+use Rattle.hm_json.specs.declared.message.Level.{Level}
+use Rattle.hm_json.specs.declared.message.Level.TheVariants.{Error, Note}
+use Rattle.hm_details.specs.Details.{Known, nothing, near, of_report, either}
 use Rattle.hm_hints.specs.LexemeTexts.{lexeme_text}
 use Rattle.hm_hints.specs.SyntaxTexts.{syntax_text}
 use Rattle.hm_lex.specs.declared.token.Place.{Place}
 use Rattle.hm_names.specs.declared.faults.Kind.{Kind}
 use Rattle.hm_names.specs.declared.faults.Kind.TheVariants.{NotExported, Duplicate, NoBinding, Unbound, Ambiguous, ExportClash, NotImported, NonLinear, Arity, ClauseLength, Untyped, Recursive}
+use Rattle.hm_names.specs.Faults.Phases.{written_in}
 use Rattle.hm_verdicts.specs.Reports.{kind_word}
-use Rattle.hm_messages.specs.Subjects.{Subject, fault, faulty, skipped, too_long, lexeme, open_comment, too_deep, syntax_fault, too_many, twice, missing, cycle, step}
-use Rattle.hm_messages.specs.declared.heading.Label.{Label}
-use Rattle.hm_messages.specs.declared.heading.Label.TheVariants.{Error, Note}
+use Rattle.hm_messages.specs.Subjects.{Subject, fault, replaceable, faulty, skipped, too_long, lexeme, open_comment, too_deep, syntax_fault, too_many, twice, missing, cycle, exhausted, step}
 use Rattle.hm_messages.specs.declared.heading.Paint.{Paint}
-use Rattle.hm_messages.specs.declared.heading.Paint.TheVariants.{Plain, Coloured}
+use Rattle.hm_messages.specs.declared.heading.Paint.TheVariants.{Plain, Coloured, Json}
 
-abbrev pub label_of : Subject → Label
-label_of (faulty x) = Note
-label_of (skipped x) = Note
-label_of (step x y) = Note
-label_of (fault k x) = Error
-label_of too_long = Error
-label_of (lexeme h x) = Error
-label_of open_comment = Error
-label_of too_deep = Error
-label_of (syntax_fault h x) = Error
-label_of too_many = Error
-label_of (twice x) = Error
-label_of (missing x) = Error
-label_of (cycle x) = Error
+abbrev pub level_of : Subject → Level
+level_of (replaceable x p) = Note
+level_of (faulty x) = Note
+level_of (skipped x) = Note
+level_of (step x y) = Note
+level_of (fault k x known) = Error
+level_of too_long = Error
+level_of (lexeme h x) = Error
+level_of open_comment = Error
+level_of too_deep = Error
+level_of (syntax_fault h x) = Error
+level_of too_many = Error
+level_of (twice x) = Error
+level_of (missing x) = Error
+level_of (cycle x) = Error
+level_of (exhausted x) = Error
 
--- a coloured label stands between two escapes, which begin with byte 27
-abbrev pub begin : Paint → Label → List ℕ
+-- the report's word for what is wrong, or the word for a sort of note
+abbrev pub kind_of : Subject → List ℕ
+kind_of (fault k x known) = kind_word k
+kind_of (replaceable x p) = codes "replaceable"
+kind_of (faulty x) = codes "skipped"
+kind_of (skipped x) = codes "skipped"
+kind_of too_long = codes "too-long"
+kind_of (lexeme h x) = codes "lexeme"
+kind_of open_comment = codes "open-comment"
+kind_of too_deep = codes "too-deep"
+kind_of (syntax_fault h x) = codes "syntax"
+kind_of too_many = codes "too-many-modules"
+kind_of (twice x) = codes "twice"
+kind_of (missing x) = codes "missing"
+kind_of (cycle x) = codes "cycle"
+kind_of (exhausted x) = codes "no-memory"
+kind_of (step x y) = codes "import"
+
+-- the name that it is about, if it is about one
+abbrev pub name_in : Subject → Option (List ℕ)
+name_in (fault k x known) = Some x
+name_in (replaceable x p) = Some x
+name_in (faulty x) = Some x
+name_in (skipped x) = Some x
+name_in too_long = None
+name_in (lexeme h x) = None
+name_in open_comment = None
+name_in too_deep = None
+name_in (syntax_fault h x) = None
+name_in too_many = None
+name_in (twice x) = Some x
+name_in (missing x) = Some x
+name_in (cycle x) = Some x
+name_in (exhausted x) = Some x
+name_in (step x y) = Some y
+
+-- a coloured word stands between two escapes, which begin with byte 27
+abbrev pub begin : Paint → Level → List ℕ
 begin Plain Error = codes "error"
 begin Plain Note = codes "note"
+begin Json Error = codes "error"
+begin Json Note = codes "note"
 begin Coloured Error = 27 ∷ codes "[1;31merror"
 begin Coloured Note = 27 ∷ codes "[1;36mnote"
 
 abbrev pub end : Paint → List ℕ
 end Plain = []
+end Json = []
 end Coloured = 27 ∷ codes "[0m"
 
--- what is wrong with a module, in a few words
-abbrev pub fault_title : Kind → List ℕ → List ℕ
-fault_title NotExported x = codes "cannot import '" ++ x ++ codes "'"
-fault_title Duplicate x = codes "a second declaration of '" ++ x ++ codes "'"
-fault_title NoBinding x = codes "the signature of '" ++ x ++ codes "' has no clauses"
-fault_title Unbound x = codes "'" ++ x ++ codes "' isn't in scope"
-fault_title Ambiguous x = codes "'" ++ x ++ codes "' is ambiguous"
-fault_title ExportClash x = codes "two different things are exported as '" ++ x ++ codes "'"
-fault_title NotImported x = codes "no import is called '" ++ x ++ codes "'"
-fault_title NonLinear x = codes "'" ++ x ++ codes "' occurs twice in these patterns"
-fault_title Arity x = codes "wrong number of arguments for '" ++ x ++ codes "'"
-fault_title ClauseLength x = codes "the clauses of '" ++ x ++ codes "' have different numbers of patterns"
-fault_title Untyped x = codes "type error in '" ++ x ++ codes "'"
-fault_title Recursive x = codes "the type synonym '" ++ x ++ codes "' is defined by itself"
+-- what is wrong with a module, in a few words, by the kind and the name
+abbrev pub kind_title : Kind → List ℕ → List ℕ
+kind_title NotExported x = codes "cannot import '" ++ x ++ codes "'"
+kind_title Duplicate x = codes "a second declaration of '" ++ x ++ codes "'"
+kind_title NoBinding x = codes "the signature of '" ++ x ++ codes "' has no clauses"
+kind_title Unbound x = codes "'" ++ x ++ codes "' isn't in scope"
+kind_title Ambiguous x = codes "'" ++ x ++ codes "' is ambiguous"
+kind_title ExportClash x = codes "two different things are exported as '" ++ x ++ codes "'"
+kind_title NotImported x = codes "no import is called '" ++ x ++ codes "'"
+kind_title NonLinear x = codes "'" ++ x ++ codes "' occurs twice in these patterns"
+kind_title Arity x = codes "wrong number of arguments for '" ++ x ++ codes "'"
+kind_title ClauseLength x = codes "the clauses of '" ++ x ++ codes "' have different numbers of patterns"
+kind_title Untyped x = codes "type error in '" ++ x ++ codes "'"
+kind_title Recursive x = codes "the type synonym '" ++ x ++ codes "' is defined by itself"
+
+-- a name that one may be meant for
+abbrev pub near_text : Option (List ℕ) → List ℕ → List ℕ
+near_text q x = codes " (did you mean '" ++ written_in q x ++ codes "'?)"
+
+-- what is known beyond the kind and the name
+abbrev pub detail_text : Known → List ℕ
+detail_text nothing = []
+detail_text (near q x) = near_text q x
+detail_text of_report = codes ": this Prelude leaves it out"
+detail_text (either d e) = codes ": '" ++ d.«module» ++ codes "." ++ d.name ++ codes "' or '" ++ e.«module» ++ codes "." ++ e.name ++ codes "'"
+
+abbrev pub fault_title : Kind → List ℕ → Known → List ℕ
+fault_title k x known = kind_title k x ++ detail_text known
+
+-- what is said of an expression that ends at this place
+abbrev pub replaceable_title : List ℕ → Place → List ℕ
+replaceable_title x p = codes "'" ++ x ++ codes "' has a type with another expression here (up to " ++ decimal p.line ++ codes ":" ++ decimal p.column ++ codes ")"
 
 abbrev pub title : Subject → List ℕ
-title (fault k x) = fault_title k x
+title (fault k x known) = fault_title k x known
+title (replaceable x p) = replaceable_title x p
 title (faulty x) = codes "skipped, since '" ++ x ++ codes "' has errors"
 title (skipped x) = codes "skipped, since '" ++ x ++ codes "' is skipped"
 title too_long = codes "the source is too long"
@@ -67,26 +131,27 @@ title too_many = codes "too many modules"
 title (twice x) = codes "the module name '" ++ x ++ codes "' is taken"
 title (missing x) = codes "no module '" ++ x ++ codes "' is given"
 title (cycle x) = codes "the imports of module '" ++ x ++ codes "' lead back to it"
+title (exhausted x) = codes "there is no memory to check module '" ++ x ++ codes "'"
 title (step x y) = codes "'" ++ x ++ codes "' imports '" ++ y ++ codes "'"
 
--- behind an error stands the report's word for it, between brackets
-abbrev pub tag : Subject → List ℕ
-tag (fault k x) = codes " [" ++ kind_word k ++ codes "]"
-tag (faulty x) = []
-tag (skipped x) = []
-tag too_long = codes " [too-long]"
-tag (lexeme h x) = codes " [lexeme]"
-tag open_comment = codes " [open-comment]"
-tag too_deep = codes " [too-deep]"
-tag (syntax_fault h x) = codes " [syntax]"
-tag too_many = codes " [too-many-modules]"
-tag (twice x) = codes " [twice]"
-tag (missing x) = codes " [missing]"
-tag (cycle x) = codes " [cycle]"
-tag (step x y) = []
+-- behind an error stands its word, between brackets
+abbrev pub tag : Level → List ℕ → List ℕ
+tag Error kind = codes " [" ++ kind ++ codes "]"
+tag Note kind = []
 
 abbrev pub heading : Paint → Place → Subject → List ℕ
-heading paint p subject = codes ":" ++ decimal p.line ++ codes ":" ++ decimal p.column ++ codes ": " ++ begin paint (label_of subject) ++ end paint ++ codes ": " ++ title subject ++ tag subject ++ codes "\n"
+heading paint p subject =
+    codes ":" ++ decimal p.line ++ codes ":" ++ decimal p.column ++ codes ": " ++ begin paint (level_of subject) ++ end paint ++ codes ": "
+    ++ shown (title subject) ++ tag (level_of subject) (kind_of subject) ++ codes "\n"
 
-abbrev pub count_text : ℕ → ℕ → List ℕ
-count_text errors skips = codes "errors: " ++ decimal errors ++ codes ", skipped modules: " ++ decimal skips ++ codes "\n"
+abbrev pub some_counts : ℕ → ℕ → List ℕ
+some_counts errors skips = codes "errors: " ++ decimal errors ++ codes ", skipped modules: " ++ decimal skips ++ codes "\n"
+
+-- readers are told no counts where nothing is wrong
+abbrev pub prose_counts : ℕ → ℕ → List ℕ
+prose_counts errors skips = if (errors == 0) && (skips == 0) then [] else some_counts errors skips
+
+abbrev pub count_text : Paint → ℕ → ℕ → List ℕ
+count_text Plain errors skips = prose_counts errors skips
+count_text Coloured errors skips = prose_counts errors skips
+count_text Json errors skips = counts_text errors skips

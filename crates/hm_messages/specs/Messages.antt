@@ -1,29 +1,89 @@
 -- One message, and messages in a row.
-use Rattle.std.specs.Prelude.{◌≡◌, ℕ, List, [], ◌∷◌, ◌++◌}
+use Rattle.std.specs.Prelude.{◌≡◌, ℕ, List, [], ◌∷◌, ◌++◌, Option, Some, None, encode_utf8, option_map}
+use Rattle.std.specs.Str.Lossy.{utf8_lossy}
 use Rattle.hm_lex.specs.declared.token.Place.{Place}
 use Rattle.hm_names.specs.declared.faults.Fault.{Fault}
-use Rattle.hm_excerpts.specs.declared.excerpt.Excerpt.{Excerpt}
-use Rattle.hm_excerpts.specs.Excerpts.{IsExcerptAt, IsPlaceIn}
+use Rattle.hm_details.specs.Details.{Known}
+use Rattle.hm_excerpts.specs.Columns.{AreColumnsAt, IsMarkEnd}
 use Rattle.hm_excerpts.specs.Drawing.{excerpt_text}
-use Rattle.hm_messages.specs.Headings.{heading}
+use Rattle.hm_excerpts.specs.Escapes.{shown}
+use Rattle.hm_excerpts.specs.Excerpts.{IsExcerptAt}
+use Rattle.hm_excerpts.specs.declared.columns.Columns.{Columns}
+use Rattle.hm_excerpts.specs.declared.excerpt.Excerpt.{Excerpt}
+use Rattle.hm_json.specs.Objects.{message_text}
+use Rattle.hm_json.specs.declared.message.Message.{Message}
+use Rattle.hm_json.specs.declared.message.Position.{Position}
+use Rattle.hm_messages.specs.Headings.{heading, kind_of, level_of, name_in, title}
 use Rattle.hm_messages.specs.Sentences.{sentence}
 use Rattle.hm_messages.specs.Subjects.{Subject, fault}
 use Rattle.hm_messages.specs.declared.heading.Paint.{Paint}
+use Rattle.hm_messages.specs.declared.heading.Paint.TheVariants.{Plain, Coloured, Json}
+
+-- the place as readers count it, its column in characters
+abbrev pub reader_place : Place → Columns → Place
+reader_place p columns = record { line = p.line; column = columns.characters }
 
 -- the text tells the subject at a place, which lies in the source: the file, the place, what is wrong, a sentence, and the line with a mark at the place
-pub record IsMessage (paint : Paint) (file source : List ℕ) (place : Place) (subject : Subject) (text : List ℕ) : Type 0 where
+pub record IsProse (paint : Paint) (file source : List ℕ) (place : Place) (subject : Subject) (text : List ℕ) : Type 0 where
+  pub columns : Columns
+  pub columns_at : AreColumnsAt source place columns
   pub excerpt : Excerpt
-  pub shown : IsExcerptAt source place excerpt
-  pub says : text ≡ file ++ heading paint place subject ++ sentence subject ++ excerpt_text excerpt
+  pub excerpt_at : IsExcerptAt source place excerpt
+  pub says : text ≡ shown file ++ heading paint (reader_place place columns) subject ++ sentence subject ++ excerpt_text excerpt
 
 -- the same, of the first line alone
-pub record IsHeadingAt (paint : Paint) (file source : List ℕ) (place : Place) (subject : Subject) (text : List ℕ) : Type 0 where
-  pub excerpt : Excerpt
-  pub shown : IsExcerptAt source place excerpt
-  pub says : text ≡ file ++ heading paint place subject
+pub record IsProseHeading (paint : Paint) (file source : List ℕ) (place : Place) (subject : Subject) (text : List ℕ) : Type 0 where
+  pub columns : Columns
+  pub columns_at : AreColumnsAt source place columns
+  pub says : text ≡ shown file ++ heading paint (reader_place place columns) subject
 
-abbrev pub IsFaultMessage : Paint → List ℕ → List ℕ → Fault → List ℕ → Type 0
-IsFaultMessage paint file source f text = IsMessage paint file source f.place (fault f.kind f.name) text
+-- the hint is the sentence without its last character, the line end; no sentence gives none
+abbrev pub IsHint : List ℕ → Option (List ℕ) → Type 0
+IsHint sentence None = sentence ≡ []
+IsHint sentence (Some hint) = (last : ℕ) × (sentence ≡ hint ++ encode_utf8 last)
+
+-- the object's members are about the subject
+pub record IsAbout (subject : Subject) (m : Message) : Type 0 where
+  pub level_is : m.level ≡ level_of subject
+  pub kind_is : m.kind.now ≡ kind_of subject
+  pub name_is : option_map (λ name. name.now) m.name ≡ name_in subject
+  pub text_is : m.text.now ≡ title subject
+  pub hint_is : IsHint (sentence subject) (option_map (λ hint. hint.now) m.hint)
+
+-- the position is the place's
+pub record IsPositionAt (source : List ℕ) (place : Place) (position : Position) : Type 0 where
+  pub line_is : position.line ≡ place.line
+  pub columns_at : AreColumnsAt source place position.columns
+
+-- from the place to behind what is marked there
+pub record IsRangeAt (source : List ℕ) (place : Place) (start end : Position) : Type 0 where
+  pub start_at : IsPositionAt source place start
+  pub behind : Place
+  pub marked : IsMarkEnd source place behind
+  pub end_at : IsPositionAt source behind end
+
+-- the text is the object of a message that tells the subject at a place: where it begins and ends in the source, which file that is, and what is wrong
+pub record IsObject (file source : List ℕ) (place : Place) (subject : Subject) (text : List ℕ) : Type 0 where
+  pub message : Message
+  pub file_is : message.file.now ≡ utf8_lossy file
+  pub range : IsRangeAt source place message.start message.end
+  pub about : IsAbout subject message
+  pub says : text ≡ message_text message
+
+-- a message as a reader is told, or as a program is
+abbrev pub IsMessage : Paint → List ℕ → List ℕ → Place → Subject → List ℕ → Type 0
+IsMessage Plain file source place subject text = IsProse Plain file source place subject text
+IsMessage Coloured file source place subject text = IsProse Coloured file source place subject text
+IsMessage Json file source place subject text = IsObject file source place subject text
+
+abbrev pub IsHeadingAt : Paint → List ℕ → List ℕ → Place → Subject → List ℕ → Type 0
+IsHeadingAt Plain file source place subject text = IsProseHeading Plain file source place subject text
+IsHeadingAt Coloured file source place subject text = IsProseHeading Coloured file source place subject text
+IsHeadingAt Json file source place subject text = IsObject file source place subject text
+
+-- the message of a fault of which this is known, at the fault's place
+abbrev pub IsFaultMessage : Paint → List ℕ → List ℕ → Fault → Known → List ℕ → Type 0
+IsFaultMessage paint file source f known text = IsMessage paint file source f.place (fault f.kind f.name known) text
 
 -- the text has a part for each element, in order, and no more
 abbrev pub AreEach : {X : Type 0} → (X → List ℕ → Type 0) → List X → List ℕ → Type 0

@@ -1,28 +1,30 @@
 -- What is told of a set that is refused.
-use Rattle.std.specs.Prelude.{◌≡◌, ℕ, ◌-◌, ◌<◌, ⊤, List, [], ◌++◌, length, slice_index_or, take}
+use Rattle.std.specs.Prelude.{◌≡◌, ℕ, ◌+◌, ◌-◌, ◌<◌, ⊤, List, [], ◌∷◌, ◌++◌, length, slice_index_or}
 use Rattle.hm_excerpts.specs.Excerpts.{IsExcerptAt}
 use Rattle.hm_excerpts.specs.declared.excerpt.Excerpt.{Excerpt}
 use Rattle.hm_hints.specs.Advice.{IsAdviceAt}
-use Rattle.hm_hints.specs.LexemeHints.{IsLexemeHint}
+use Rattle.hm_hints.specs.LexemeHints.{IsLexemeHint, operator_in}
 use Rattle.hm_hints.specs.declared.lexeme_hints.LexemeHint.{LexemeHint}
 use Rattle.hm_hints.specs.declared.syntax_hints.SyntaxHint.{SyntaxHint}
 use Rattle.hm_lex.specs.declared.token.Place.{Place}
 use Rattle.hm_lex.specs.declared.token.LexFault.TheVariants as lexing
 use Rattle.hm_grammar.specs.declared.fault.ParseFault.TheVariants as parsing
 use Rattle.hm_graph.specs.declared.faults.PlanFault.TheVariants as planning
+use Rattle.hm_sources.specs.Origins.{AreLocated}
+use Rattle.hm_sources.specs.declared.located.Located.{Located}
 use Rattle.hm_sources.specs.Refusals.{Refusal, lex, parse, plan}
 use Rattle.hm_messages.specs.Headings.{count_text}
 use Rattle.hm_messages.specs.Messages.{AreEach, IsHeadingAt, IsMessage}
+use Rattle.hm_messages.specs.Missing.{SetImport, missing_imports}
 use Rattle.hm_messages.specs.Subjects.{Subject, too_long, lexeme, open_comment, too_deep, syntax_fault, too_many, twice, missing, cycle, step}
 use Rattle.hm_messages.specs.declared.heading.Paint.{Paint}
 
--- the hint is so of what is shown from the place on, and the operator that it names is there
+-- the hint is so of what is shown from the place on, and the operator that it names is the one there
 pub record IsLexemeHintAt (source : List ℕ) (p : Place) (hint : LexemeHint) (name : List ℕ) : Type 0 where
   pub shown : Excerpt
   pub at : IsExcerptAt source p shown
   pub holds : IsLexemeHint shown.right.now hint
-  pub len : ℕ
-  pub name_is : name ≡ take len shown.right.now
+  pub name_is : name ≡ operator_in shown.right.now hint
 
 -- what the message of a refusal may tell; want of memory refuses no set
 abbrev pub IsRefusedSubject : List (List ℕ) → Refusal → Subject → Type 0
@@ -72,7 +74,7 @@ pub record Way : Type 0 where
 abbrev pub IsWayTold : Paint → List (List ℕ) → List (List ℕ) → Way → List ℕ → Type 0
 IsWayTold paint files sources way text = (way.number < length sources) × IsHeadingAt paint (slice_index_or files way.number []) (slice_index_or sources way.number []) way.place (step way.name way.import) text
 
--- one message at a place of a source, and behind it a line for each import of a cycle, if there is one
+-- one message at a place of a source, and behind it a line for each import of a cycle
 pub record AreMessagesOf (paint : Paint) (files sources : List (List ℕ)) (number : ℕ) (place : Place) (subject : Subject) (text : List ℕ) : Type 0 where
   pub first : List ℕ
   pub told : IsMessageAt paint files sources number place subject first
@@ -81,17 +83,46 @@ pub record AreMessagesOf (paint : Paint) (files sources : List (List ℕ)) (numb
   pub steps : AreEach (IsWayTold paint files sources) ways lines
   pub whole : text ≡ first ++ lines
 
--- messages of what the refusal tells, at the place that it tells
-pub record AreRefusalMessages (paint : Paint) (files sources : List (List ℕ)) (refusal : Refusal) (text : List ℕ) : Type 0 where
+-- a message at an import that names no module
+abbrev pub IsMissingTold : Paint → List (List ℕ) → List (List ℕ) → SetImport → List ℕ → Type 0
+IsMissingTold paint files sources i text = IsMessageAt paint files sources i.number i.place (missing i.name) text
+
+-- the first import that names no module is this one, and the text has a message for each further one, in order; so many errors are told in all
+pub record AreFurtherTold (paint : Paint) (files sources : List (List ℕ)) (first : SetImport) (errors : ℕ) (text : List ℕ) : Type 0 where
+  pub located : List Located
+  pub of_sources : AreLocated sources located
+  pub more : List SetImport
+  pub all : missing_imports located ≡ first ∷ more
+  pub told : AreEach (IsMissingTold paint files sources) more text
+  pub count : errors ≡ length more + 1
+
+-- what stands behind the first message, at this place, and how many errors are told: a line for each import of a cycle, or a message for each
+-- further import that names no module; else nothing
+abbrev pub IsBehind : Paint → List (List ℕ) → List (List ℕ) → Refusal → ℕ → Place → ℕ → List ℕ → Type 0
+IsBehind paint files sources (lex n fault) number place errors text = (text ≡ []) × (errors ≡ 1)
+IsBehind paint files sources (parse n fault) number place errors text = (text ≡ []) × (errors ≡ 1)
+IsBehind paint files sources (plan planning.TooMany m i) number place errors text = (text ≡ []) × (errors ≡ 1)
+IsBehind paint files sources (plan (planning.Duplicate k) m i) number place errors text = (text ≡ []) × (errors ≡ 1)
+IsBehind paint files sources (plan (planning.Missing k j) m i) number place errors text = AreFurtherTold paint files sources (record { number = number; place = place; name = i }) errors text
+IsBehind paint files sources (plan (planning.Cycle k) m i) number place errors text = (ways : List Way) × AreEach (IsWayTold paint files sources) ways text × (errors ≡ 1)
+IsBehind paint files sources (plan planning.Memory m i) number place errors text = (text ≡ []) × (errors ≡ 1)
+
+-- messages of what the refusal tells, at the place that it tells, and of what stands behind; and how many errors they tell
+pub record AreRefusalMessages (paint : Paint) (files sources : List (List ℕ)) (refusal : Refusal) (errors : ℕ) (text : List ℕ) : Type 0 where
   pub subject : Subject
   pub subject_is : IsRefusedSubject sources refusal subject
   pub number : ℕ
   pub place : Place
   pub placed : IsRefusedAt refusal number place
-  pub messages : AreMessagesOf paint files sources number place subject text
+  pub first : List ℕ
+  pub told : IsMessageAt paint files sources number place subject first
+  pub behind : List ℕ
+  pub followed : IsBehind paint files sources refusal number place errors behind
+  pub whole : text ≡ first ++ behind
 
--- and behind them the counts: one error, and no module is skipped
+-- and behind them the counts; no module is skipped
 pub record IsRefusalTold (paint : Paint) (files sources : List (List ℕ)) (refusal : Refusal) (text : List ℕ) : Type 0 where
   pub messages : List ℕ
-  pub told : AreRefusalMessages paint files sources refusal messages
-  pub whole : text ≡ messages ++ count_text 1 0
+  pub errors : ℕ
+  pub told : AreRefusalMessages paint files sources refusal errors messages
+  pub whole : text ≡ messages ++ count_text paint errors 0

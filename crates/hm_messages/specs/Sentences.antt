@@ -4,7 +4,7 @@ use Rattle.hm_hints.specs.LexemeTexts.{lexeme_help}
 use Rattle.hm_hints.specs.SyntaxTexts.{syntax_help}
 use Rattle.hm_names.specs.declared.faults.Kind.{Kind}
 use Rattle.hm_names.specs.declared.faults.Kind.TheVariants.{NotExported, Duplicate, NoBinding, Unbound, Ambiguous, ExportClash, NotImported, NonLinear, Arity, ClauseLength, Untyped, Recursive}
-use Rattle.hm_messages.specs.Subjects.{Subject, fault, faulty, skipped, too_long, lexeme, open_comment, too_deep, syntax_fault, too_many, twice, missing, cycle, step}
+use Rattle.hm_messages.specs.Subjects.{Subject, fault, replaceable, faulty, skipped, too_long, lexeme, open_comment, too_deep, syntax_fault, too_many, twice, missing, cycle, exhausted, step}
 
 abbrev pub fault_sentence : Kind → List ℕ
 fault_sentence NotExported = codes "The imported module doesn't export this name, or not as a constructor of this type.\n"
@@ -22,7 +22,8 @@ fault_sentence Recursive = codes "A synonym is replaced by its right side, so th
 
 -- notes have none
 abbrev pub sentence : Subject → List ℕ
-sentence (fault k x) = fault_sentence k
+sentence (fault k x known) = fault_sentence k
+sentence (replaceable x p) = []
 sentence (faulty x) = []
 sentence (skipped x) = []
 sentence too_long = codes "A source has at most 1,048,576 bytes.\n"
@@ -34,4 +35,5 @@ sentence too_many = codes "A set has at most 4,096 modules.\n"
 sentence (twice x) = codes "Each module of a set has a name of its own, and `Prelude` is built in.\n"
 sentence (missing x) = codes "An import names a module of the set or `Prelude`; there is no other library.\n"
 sentence (cycle x) = codes "Modules may not import each other in a circle.\n"
+sentence (exhausted x) = codes "Its types grow too large, or the machine has no more memory.\n"
 sentence (step x y) = []

@@ -1,14 +1,17 @@
 -- What a message tells, without where its names lie in memory.
 use Rattle.std.specs.Prelude.{ℕ, List}
+use Rattle.hm_details.specs.Details.{Known, known_of}
 use Rattle.hm_hints.specs.declared.lexeme_hints.LexemeHint.{LexemeHint}
 use Rattle.hm_hints.specs.declared.syntax_hints.SyntaxHint.{SyntaxHint}
+use Rattle.hm_lex.specs.declared.token.Place.{Place}
 use Rattle.hm_names.specs.declared.faults.Kind.{Kind}
 use Rattle.hm_messages.specs.declared.topic.Topic.{Topic}
 use Rattle.hm_messages.specs.declared.topic.Topic.TheVariants as topic
 
--- a fault of a module; a module is skipped for a faulty import, or for a skipped one; why a set is refused; a step of a cycle
+-- a fault of a module; with another expression up to a place a definition has a type; a module is skipped for a faulty import, or for a skipped one; why a set is refused; a module that there is no memory to check; a step of a cycle
 pub data Subject : Type 0 where
-  fault : Kind → List ℕ → Subject
+  fault : Kind → List ℕ → Known → Subject
+  replaceable : List ℕ → Place → Subject
   faulty : List ℕ → Subject
   skipped : List ℕ → Subject
   too_long : Subject
@@ -20,10 +23,12 @@ pub data Subject : Type 0 where
   twice : List ℕ → Subject
   missing : List ℕ → Subject
   cycle : List ℕ → Subject
+  exhausted : List ℕ → Subject
   step : List ℕ → List ℕ → Subject
 
 abbrev pub subject_of : Topic → Subject
-subject_of (topic.Fault k x) = fault k x.now
+subject_of (topic.Fault k n) = fault k n.name.now (known_of n.detail)
+subject_of (topic.Replaceable x p) = replaceable x.now p
 subject_of (topic.Faulty x) = faulty x.now
 subject_of (topic.Skipped x) = skipped x.now
 subject_of topic.TooLong = too_long
@@ -35,4 +40,5 @@ subject_of topic.TooMany = too_many
 subject_of (topic.Twice x) = twice x.now
 subject_of (topic.Missing x) = missing x.now
 subject_of (topic.Cycle x) = cycle x.now
+subject_of (topic.Exhausted x) = exhausted x.now
 subject_of (topic.Step x y) = step x.now y.now

@@ -1,63 +1,108 @@
 //! The first line of a message, behind its file's name.
-ghost use Rattle.std.specs.Prelude.{◌≡◌, IfOk, string_bytes};
-ghost use Rattle.hm_messages.specs.Headings.{begin, end, heading as heading_bytes, label_of as label_bytes, fault_title as fault_title_bytes, tag as tag_bytes, title as title_bytes};
+ghost use Rattle.std.specs.Prelude.{◌≡◌, IfOk, option_map, string_bytes};
+ghost use Rattle.hm_messages.specs.Headings.{begin, end, heading as heading_bytes, level_of as level_is, kind_of as kind_bytes, name_in, replaceable_title as replaceable_title_bytes, tag as tag_bytes, title as title_bytes};
 ghost use Rattle.hm_messages.specs.Subjects.{subject_of};
 
+use crate::fault_titles::fault_title;
 use crate::kinds::kind_word;
 use crate::topic::Topic;
+use hm_excerpts::shown;
 use hm_hints::{lexeme_text, syntax_text};
+use hm_json::Level;
 use hm_lex::Place;
-use hm_names::Kind;
 use std::alloc::{AllocError, Global};
 
-/// Whether messages have colours.
+/// How messages are written.
 #[derive(Clone, Copy, Debug, PartialEq, Eq)]
 pub enum Paint {
     Plain,
     /// With the escapes of a terminal.
     Coloured,
-}
-
-/// What a message is called.
-#[derive(Clone, Copy)]
-enum Label {
-    Error,
-    Note,
+    /// As a JSON object each, on a line of its own.
+    Json,
 }
 
 /// What the message of a topic is called.
-fn label_of(topic: &Topic<'_>) -> Label
-    ensures { result ≡ label_bytes (subject_of topic.now) }
+pub(crate) fn level_of(topic: &Topic<'_>) -> Level
+    ensures { result ≡ level_is (subject_of topic.now) }
 {
     match topic {
-        Topic::Faulty(_) => Label::Note,
-        Topic::Skipped(_) => Label::Note,
-        Topic::Step(_, _) => Label::Note,
-        Topic::Fault(_, _) => Label::Error,
-        Topic::TooLong => Label::Error,
-        Topic::Lexeme(_, _) => Label::Error,
-        Topic::OpenComment => Label::Error,
-        Topic::TooDeep => Label::Error,
-        Topic::Syntax(_) => Label::Error,
-        Topic::TooMany => Label::Error,
-        Topic::Twice(_) => Label::Error,
-        Topic::Missing(_) => Label::Error,
-        Topic::Cycle(_) => Label::Error,
+        Topic::Replaceable(_, _) => Level::Note,
+        Topic::Faulty(_) => Level::Note,
+        Topic::Skipped(_) => Level::Note,
+        Topic::Step(_, _) => Level::Note,
+        Topic::Fault(_, _) => Level::Error,
+        Topic::TooLong => Level::Error,
+        Topic::Lexeme(_, _) => Level::Error,
+        Topic::OpenComment => Level::Error,
+        Topic::TooDeep => Level::Error,
+        Topic::Syntax(_) => Level::Error,
+        Topic::TooMany => Level::Error,
+        Topic::Twice(_) => Level::Error,
+        Topic::Missing(_) => Level::Error,
+        Topic::Cycle(_) => Level::Error,
+        Topic::Exhausted(_) => Level::Error,
     }
 }
 
-/// The word of a label, behind the escape that begins its colour.
-fn begin(paint: Paint, label: Label) -> &'static str
-    ensures { result.now ≡ begin paint label }
+/// The report's word for what is wrong, or the word for a sort of note.
+pub(crate) fn kind_of(topic: &Topic<'_>) -> &'static str
+    ensures { result.now ≡ kind_bytes (subject_of topic.now) }
+{
+    match topic {
+        Topic::Fault(kind, _) => kind_word(*kind),
+        Topic::Replaceable(_, _) => "replaceable",
+        Topic::Faulty(_) => "skipped",
+        Topic::Skipped(_) => "skipped",
+        Topic::TooLong => "too-long",
+        Topic::Lexeme(_, _) => "lexeme",
+        Topic::OpenComment => "open-comment",
+        Topic::TooDeep => "too-deep",
+        Topic::Syntax(_) => "syntax",
+        Topic::TooMany => "too-many-modules",
+        Topic::Twice(_) => "twice",
+        Topic::Missing(_) => "missing",
+        Topic::Cycle(_) => "cycle",
+        Topic::Exhausted(_) => "no-memory",
+        Topic::Step(_, _) => "import",
+    }
+}
+
+/// The name that a topic is about, if it is about one.
+pub(crate) fn name_in<'a>(topic: &Topic<'a>) -> Option<&'a str>
+    ensures { option_map (λ name. name.now) result ≡ name_in (subject_of topic.now) }
+{
+    match topic {
+        Topic::Fault(_, named) => Some(named.name),
+        Topic::Replaceable(name, _) => Some(name),
+        Topic::Faulty(name) => Some(name),
+        Topic::Skipped(name) => Some(name),
+        Topic::TooLong => None,
+        Topic::Lexeme(_, _) => None,
+        Topic::OpenComment => None,
+        Topic::TooDeep => None,
+        Topic::Syntax(_) => None,
+        Topic::TooMany => None,
+        Topic::Twice(name) => Some(name),
+        Topic::Missing(name) => Some(name),
+        Topic::Cycle(name) => Some(name),
+        Topic::Exhausted(name) => Some(name),
+        Topic::Step(_, import) => Some(import),
+    }
+}
+
+/// The word of a level, behind the escape that begins its colour.
+fn begin(paint: Paint, level: Level) -> &'static str
+    ensures { result.now ≡ begin paint level }
 {
     match paint {
-        Paint::Plain => match label {
-            Label::Error => "error",
-            Label::Note => "note",
+        Paint::Plain | Paint::Json => match level {
+            Level::Error => "error",
+            Level::Note => "note",
         },
-        Paint::Coloured => match label {
-            Label::Error => "\x1b[1;31merror",
-            Label::Note => "\x1b[1;36mnote",
+        Paint::Coloured => match level {
+            Level::Error => "\x1b[1;31merror",
+            Level::Note => "\x1b[1;36mnote",
         },
     }
 }
@@ -67,39 +112,26 @@ fn end(paint: Paint) -> &'static str
     ensures { result.now ≡ end paint }
 {
     match paint {
-        Paint::Plain => "",
+        Paint::Plain | Paint::Json => "",
         Paint::Coloured => "\x1b[0m",
     }
 }
 
-/// What is wrong with a module, in a few words.
-fn fault_title(alloc: Global, kind: Kind, name: &str) -> Result<String, AllocError>
-    ensures { IfOk result (λ text. string_bytes text ≡ fault_title_bytes kind name.now) }
+/// What is said of an expression that ends at this place.
+fn replaceable_title(alloc: Global, name: &str, end: Place) -> Result<String, AllocError>
+    ensures { IfOk result (λ text. string_bytes text ≡ replaceable_title_bytes name.now end) }
 {
-    match kind {
-        Kind::NotExported => format!(in alloc; "cannot import '{name}'"),
-        Kind::Duplicate => format!(in alloc; "a second declaration of '{name}'"),
-        Kind::NoBinding => format!(in alloc; "the signature of '{name}' has no clauses"),
-        Kind::Unbound => format!(in alloc; "'{name}' isn't in scope"),
-        Kind::Ambiguous => format!(in alloc; "'{name}' is ambiguous"),
-        Kind::ExportClash => format!(in alloc; "two different things are exported as '{name}'"),
-        Kind::NotImported => format!(in alloc; "no import is called '{name}'"),
-        Kind::NonLinear => format!(in alloc; "'{name}' occurs twice in these patterns"),
-        Kind::Arity => format!(in alloc; "wrong number of arguments for '{name}'"),
-        Kind::ClauseLength => format!(in alloc;
-            "the clauses of '{name}' have different numbers of patterns"
-        ),
-        Kind::Untyped => format!(in alloc; "type error in '{name}'"),
-        Kind::Recursive => format!(in alloc; "the type synonym '{name}' is defined by itself"),
-    }
+    let Place { line, column } = end;
+    format!(in alloc; "'{name}' has a type with another expression here (up to {line}:{column})")
 }
 
 /// What is wrong, in a few words.
-fn title(alloc: Global, topic: &Topic<'_>) -> Result<String, AllocError>
+pub(crate) fn title(alloc: Global, topic: &Topic<'_>) -> Result<String, AllocError>
     ensures { IfOk result (λ text. string_bytes text ≡ title_bytes (subject_of topic.now)) }
 {
     match topic {
-        Topic::Fault(kind, name) => fault_title(alloc, *kind, name),
+        Topic::Fault(kind, named) => fault_title(alloc, *kind, named),
+        Topic::Replaceable(name, end) => replaceable_title(alloc, name, *end),
         Topic::Faulty(name) => format!(in alloc; "skipped, since '{name}' has errors"),
         Topic::Skipped(name) => format!(in alloc; "skipped, since '{name}' is skipped"),
         Topic::TooLong => String::from_str(alloc, "the source is too long"),
@@ -111,31 +143,18 @@ fn title(alloc: Global, topic: &Topic<'_>) -> Result<String, AllocError>
         Topic::Twice(name) => format!(in alloc; "the module name '{name}' is taken"),
         Topic::Missing(name) => format!(in alloc; "no module '{name}' is given"),
         Topic::Cycle(name) => format!(in alloc; "the imports of module '{name}' lead back to it"),
+        Topic::Exhausted(name) => format!(in alloc; "there is no memory to check module '{name}'"),
         Topic::Step(name, import) => format!(in alloc; "'{name}' imports '{import}'"),
     }
 }
 
-/// The report's word for an error, between brackets. Notes have none.
-fn tag(alloc: Global, topic: &Topic<'_>) -> Result<String, AllocError>
-    ensures { IfOk result (λ text. string_bytes text ≡ tag_bytes (subject_of topic.now)) }
+/// The word for an error, between brackets. Notes have none.
+fn tag(alloc: Global, level: Level, kind: &str) -> Result<String, AllocError>
+    ensures { IfOk result (λ text. string_bytes text ≡ tag_bytes level kind.now) }
 {
-    match topic {
-        Topic::Fault(kind, _) => {
-            let word = kind_word(*kind);
-            format!(in alloc; " [{word}]")
-        }
-        Topic::Faulty(_) => Ok(String::new(alloc)),
-        Topic::Skipped(_) => Ok(String::new(alloc)),
-        Topic::TooLong => String::from_str(alloc, " [too-long]"),
-        Topic::Lexeme(_, _) => String::from_str(alloc, " [lexeme]"),
-        Topic::OpenComment => String::from_str(alloc, " [open-comment]"),
-        Topic::TooDeep => String::from_str(alloc, " [too-deep]"),
-        Topic::Syntax(_) => String::from_str(alloc, " [syntax]"),
-        Topic::TooMany => String::from_str(alloc, " [too-many-modules]"),
-        Topic::Twice(_) => String::from_str(alloc, " [twice]"),
-        Topic::Missing(_) => String::from_str(alloc, " [missing]"),
-        Topic::Cycle(_) => String::from_str(alloc, " [cycle]"),
-        Topic::Step(_, _) => Ok(String::new(alloc)),
+    match level {
+        Level::Error => format!(in alloc; " [{kind}]"),
+        Level::Note => Ok(String::new(alloc)),
     }
 }
 
@@ -148,11 +167,13 @@ pub(crate) fn heading(
 ) -> Result<String, AllocError>
     ensures { IfOk result (λ text. string_bytes text ≡ heading_bytes paint place (subject_of topic.now)) }
 {
-    let says = title(alloc, topic)?;
+    let title = title(alloc, topic)?;
+    let says = shown(alloc, title.as_bytes())?;
     let says = says.as_str();
-    let tag = tag(alloc, topic)?;
+    let level = level_of(topic);
+    let tag = tag(alloc, level, kind_of(topic))?;
     let tag = tag.as_str();
-    let begin = begin(paint, label_of(topic));
+    let begin = begin(paint, level);
     let end = end(paint);
     let Place { line, column } = place;
     format!(in alloc; ":{line}:{column}: {begin}{end}: {says}{tag}\n")

@@ -3,20 +3,23 @@
 
 mod counts;
 mod cycles;
+mod fault_titles;
 mod faults;
 mod heading;
 mod kinds;
 mod messages;
+mod missing;
+mod objects;
 mod pages;
 mod refusals;
 mod sentences;
 mod topic;
 
 pub use crate::counts::count_text;
-pub use crate::faults::fault_messages;
+pub use crate::faults::fault_message;
 pub use crate::heading::Paint;
 pub use crate::kinds::kind_word;
 pub use crate::messages::{MessageFault, message};
-pub use crate::pages::{Page, Pages, pages_of};
+pub use crate::pages::{ModuleStart, Page, Pages, pages_of};
 pub use crate::refusals::{headers_in, refusal_messages};
-pub use crate::topic::Topic;
+pub use crate::topic::{Named, Topic};

@@ -1,14 +1,17 @@
 //! One message: a file, a place, what is wrong there, a sentence, and the line with a mark.
-ghost use Rattle.std.specs.Prelude.{◌≡◌, ◌⊎◌, IfErr, IfOk, string_bytes};
-ghost use Rattle.hm_messages.specs.Messages.{IsHeadingAt, IsMessage};
+ghost use Rattle.std.specs.Prelude.{◌≡◌, IfOk, IfSome};
+ghost use Rattle.hm_excerpts.specs.Columns.{AreColumnsAt};
+ghost use Rattle.hm_excerpts.specs.declared.columns.Columns.{Columns};
+ghost use Rattle.hm_messages.specs.Messages.{IsHeadingAt, IsMessage, IsProse, IsProseHeading, reader_place};
 ghost use Rattle.hm_messages.specs.Subjects.{subject_of};
 
 use crate::heading::{Paint, heading};
+use crate::objects::object;
 use crate::pages::Page;
 use crate::sentences::sentence;
 use crate::topic::Topic;
 use hm_devices::RunFault;
-use hm_excerpts::add_excerpt;
+use hm_excerpts::{add_excerpt, shown};
 use hm_lex::Place;
 use std::alloc::{AllocError, Global};
 
@@ -45,7 +48,57 @@ impl From<MessageFault> for RunFault {
     }
 }
 
-/// The first line of a message at a place of a source.
+/// The place as readers count it, its column in characters.
+fn reader_place(page: &Page<'_>, place: Place) -> Option<Place>
+    ensures { IfSome result (λ p. (columns : Columns) × AreColumnsAt page.now.lines place columns × (p ≡ reader_place place columns)) }
+{
+    let columns = page.lines.columns(place)?;
+    Some(Place {
+        line: place.line,
+        column: columns.characters,
+    })
+}
+
+/// The first line of a message for a reader.
+fn prose_heading(
+    alloc: Global,
+    paint: Paint,
+    page: &Page<'_>,
+    place: Place,
+    topic: &Topic<'_>,
+) -> Result<Vec<u8>, MessageFault>
+    ensures { IfOk result (λ text. IsProseHeading paint page.now.file.now page.now.lines place (subject_of topic.now) text.items) }
+{
+    let Some(place) = reader_place(page, place) else {
+        return Err(MessageFault::Place);
+    };
+    let heading = heading(alloc, paint, place, topic)?;
+    let file = shown(alloc, page.file)?;
+    let mut text = Vec::from_slice(alloc, file.as_bytes())?;
+    text.extend_from_slice(heading.as_bytes())?;
+    Ok(text)
+}
+
+/// The message of a topic for a reader.
+fn prose(
+    alloc: Global,
+    paint: Paint,
+    page: &Page<'_>,
+    place: Place,
+    topic: &Topic<'_>,
+) -> Result<Vec<u8>, MessageFault>
+    ensures { IfOk result (λ text. IsProse paint page.now.file.now page.now.lines place (subject_of topic.now) text.items) }
+{
+    let Some(excerpt) = page.lines.excerpt(place) else {
+        return Err(MessageFault::Place);
+    };
+    let mut text = prose_heading(alloc, paint, page, place, topic)?;
+    text.extend_from_slice(sentence(topic).as_bytes())?;
+    add_excerpt(alloc, &mut text, &excerpt)?;
+    Ok(text)
+}
+
+/// The first line of a message at a place of a source; its object, where messages are objects.
 pub(crate) fn heading_at(
     alloc: Global,
     paint: Paint,
@@ -55,13 +108,11 @@ pub(crate) fn heading_at(
 ) -> Result<Vec<u8>, MessageFault>
     ensures { IfOk result (λ text. IsHeadingAt paint page.now.file.now page.now.lines place (subject_of topic.now) text.items) }
 {
-    if page.lines.excerpt(place).is_none() {
-        return Err(MessageFault::Place);
+    match paint {
+        Paint::Plain => Ok(prose_heading(alloc, Paint::Plain, page, place, topic)?),
+        Paint::Coloured => Ok(prose_heading(alloc, Paint::Coloured, page, place, topic)?),
+        Paint::Json => Ok(object(alloc, page, place, topic)?),
     }
-    let heading = heading(alloc, paint, place, topic)?;
-    let mut text = Vec::from_slice(alloc, page.file)?;
-    text.extend_from_slice(heading.as_bytes())?;
-    Ok(text)
 }
 
 /// The message of a topic at a place of a source.
@@ -74,13 +125,9 @@ pub fn message(
 ) -> Result<Vec<u8>, MessageFault>
     ensures { IfOk result (λ text. IsMessage paint page.now.file.now page.now.lines place (subject_of topic.now) text.items) }
 {
-    let Some(excerpt) = page.lines.excerpt(place) else {
-        return Err(MessageFault::Place);
-    };
-    let heading = heading(alloc, paint, place, topic)?;
-    let mut text = Vec::from_slice(alloc, page.file)?;
-    text.extend_from_slice(heading.as_bytes())?;
-    text.extend_from_slice(sentence(topic).as_bytes())?;
-    add_excerpt(&mut text, &excerpt)?;
-    Ok(text)
+    match paint {
+        Paint::Plain => Ok(prose(alloc, Paint::Plain, page, place, topic)?),
+        Paint::Coloured => Ok(prose(alloc, Paint::Coloured, page, place, topic)?),
+        Paint::Json => Ok(object(alloc, page, place, topic)?),
+    }
 }

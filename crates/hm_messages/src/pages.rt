@@ -4,13 +4,68 @@ ghost use Rattle.hm_messages.specs.Pages.{AreFilesOf, file_at, files_in, texts_i
 
 use crate::heading::Paint;
 use hm_excerpts::SourceLines;
+use hm_lex::Place;
+use hm_sources::Located;
 use std::alloc::{AllocError, Global};
+
+/// Where a module of a source begins, at its name.
+#[derive(Clone, Copy, Debug)]
+pub struct ModuleStart<'a> {
+    pub place: Place,
+    pub name: &'a str,
+}
 
 /// A source as messages show it: the name of its file, and its lines.
 #[derive(Drop)]
 pub struct Page<'a> {
     pub file: &'a [u8],
     pub lines: SourceLines<'a>,
+    /// Its modules in order, where they are known.
+    pub modules: Vec<ModuleStart<'a>>,
+}
+
+/// Whether a place stands before another one.
+fn is_before(place: Place, other: Place) -> bool {
+    place.line < other.line || (place.line == other.line && place.column < other.column)
+}
+
+impl<'a> Page<'a> {
+    /// The module in which a place stands: the last one whose name isn't behind it.
+    pub(crate) fn module_at(&self, place: Place) -> Option<&'a str> {
+        let mut low = 0usize;
+        let mut high = self.modules.len();
+        while low < high {
+            let middle = low + (high - low) / 2;
+            if is_before(place, self.modules[middle].place) {
+                high = middle;
+            } else {
+                low = middle + 1;
+            }
+        }
+        let start = self.modules.get(low.checked_sub(1)?)?;
+        Some(start.name)
+    }
+}
+
+/// The modules of a source, from this one of all modules on.
+fn modules_from<'a>(
+    alloc: Global,
+    located: &'a [Located],
+    from: usize,
+    source: usize,
+) -> Result<Vec<ModuleStart<'a>>, AllocError> {
+    let mut modules = Vec::new(alloc);
+    for number in from..located.len() {
+        if located[number].source != source {
+            break;
+        }
+        let name = &located[number].header.name;
+        modules.push(ModuleStart {
+            place: name.place,
+            name: name.as_str(),
+        })?;
+    }
+    Ok(modules)
 }
 
 /// The name of a source: a source without one is standard input.
@@ -30,22 +85,30 @@ pub struct Pages<'a> {
     pub items: Vec<Page<'a>>,
 }
 
-/// Returns the sources with these names, as messages show them.
+/// Returns the sources with these names, as messages show them. The modules of all sources are in order, or none are known.
 pub fn pages_of<'a>(
     alloc: Global,
     paint: Paint,
     sources: &'a [Vec<u8>],
     names: &'a [Vec<u8>],
+    located: &'a [Located],
 ) -> Result<Pages<'a>, AllocError>
     ensures paint { IfOk result (λ pages. pages.paint ≡ paint) }
     ensures texts { IfOk result (λ pages. texts_in pages.items.items ≡ map (λ s. s.items) sources.entry.now) }
     ensures files { IfOk result (λ pages. AreFilesOf (map (λ s. s.items) names.entry.now) (map (λ s. s.items) sources.entry.now) (files_in pages.items.items)) }
 {
     let mut items = Vec::new(alloc);
+    let mut from = 0usize;
     for number in 0..sources.len() {
         let lines = SourceLines::of(alloc, sources[number].as_slice())?;
         let file = file_at(names, number);
-        items.push(Page { file, lines })?;
+        let modules = modules_from(alloc, located, from, number)?;
+        from = from.saturating_add(modules.len());
+        items.push(Page {
+            file,
+            lines,
+            modules,
+        })?;
     }
     Ok(Pages { paint, items })
 }

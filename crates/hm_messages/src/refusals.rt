@@ -1,15 +1,18 @@
 //! The messages of a set that is refused.
-ghost use Rattle.std.specs.Prelude.{◌-◌, ℕ, [], IfOk, map, slice_index_or};
+ghost use Rattle.std.specs.Prelude.{◌≡◌, ◌-◌, ◌++◌, ℕ, List, [], IfOk, map, slice_index_or};
 ghost use Rattle.hm_lex.specs.declared.token.Place.{Place};
 ghost use Rattle.hm_sources.specs.Origins.{AreLocated};
 ghost use Rattle.hm_sources.specs.Refusals.{lex, parse, plan};
 ghost use Rattle.hm_messages.specs.Pages.{files_in, texts_in};
-ghost use Rattle.hm_messages.specs.Refused.{Way, AreMessagesOf, AreRefusalMessages, IsAdvised, IsLexemeHintAt, IsMessageAt, IsRefusalTold, IsWayTold};
-ghost use Rattle.hm_messages.specs.Subjects.{cycle, subject_of};
+ghost use Rattle.hm_messages.specs.Messages.{AreEach};
+ghost use Rattle.hm_messages.specs.Missing.{import_of};
+ghost use Rattle.hm_messages.specs.Refused.{Way, AreFurtherTold, AreMessagesOf, AreRefusalMessages, IsAdvised, IsLexemeHintAt, IsMessageAt, IsMissingTold, IsRefusalTold, IsWayTold};
+ghost use Rattle.hm_messages.specs.Subjects.{cycle, missing, subject_of};
 
 use crate::counts::count_text;
 use crate::cycles::{Step, cycle_of};
 use crate::messages::{MessageFault, heading_at, message};
+use crate::missing::{MissingImport, missing_imports};
 use crate::pages::Pages;
 use crate::topic::Topic;
 use hm_grammar::ParseFault;
@@ -65,19 +68,6 @@ fn message_at(
     Ok(message(alloc, pages.paint, page, spot.place, topic)?)
 }
 
-/// The message of a set that is refused at a spot.
-fn spot_messages(
-    alloc: Global,
-    pages: &Pages<'_>,
-    spot: Spot,
-    topic: &Topic<'_>,
-) -> Result<Vec<u8>, MessageFault>
-    ensures { IfOk result (λ text. AreMessagesOf pages.now.paint (files_in pages.now.items.items) (texts_in pages.now.items.items) spot.source
-        spot.place (subject_of topic.now) text.items) }
-{
-    Ok(message_at(alloc, pages, spot, topic)?)
-}
-
 /// The message of a source, counted from 1, that is refused at a place.
 fn source_messages(
     alloc: Global,
@@ -86,13 +76,13 @@ fn source_messages(
     place: Place,
     topic: &Topic<'_>,
 ) -> Result<Vec<u8>, MessageFault>
-    ensures { IfOk result (λ text. AreMessagesOf pages.now.paint (files_in pages.now.items.items) (texts_in pages.now.items.items) (source - 1)
+    ensures { IfOk result (λ text. IsMessageAt pages.now.paint (files_in pages.now.items.items) (texts_in pages.now.items.items) (source - 1)
         place (subject_of topic.now) text.items) }
 {
     let Some(source) = source.checked_sub(1) else {
         return Err(MessageFault::Place);
     };
-    Ok(spot_messages(alloc, pages, Spot { source, place }, topic)?)
+    Ok(message_at(alloc, pages, Spot { source, place }, topic)?)
 }
 
 /// What is at a place of a source where no lexeme begins.
@@ -132,7 +122,7 @@ fn lex_messages(
     fault: LexFault,
 ) -> Result<Vec<u8>, MessageFault>
     ensures { IfOk result (λ text. AreRefusalMessages pages.now.paint (files_in pages.now.items.items) (texts_in pages.now.items.items)
-        (lex source fault) text.items) }
+        (lex source fault) 1 text.items) }
 {
     match fault {
         LexFault::TooLong => {
@@ -171,7 +161,7 @@ fn parse_messages(
 ) -> Result<Vec<u8>, MessageFault>
     requires { IsAdvised (texts_in pages.now.items.items) (parse source fault) advice.hint advice.text.now }
     ensures { IfOk result (λ text. AreRefusalMessages pages.now.paint (files_in pages.now.items.items) (texts_in pages.now.items.items)
-        (parse source fault) text.items) }
+        (parse source fault) 1 text.items) }
 {
     match fault {
         ParseFault::Syntax(place) => Ok(source_messages(
@@ -235,12 +225,79 @@ fn cycle_messages(
     let Some(spot) = import_spot(located, *first) else {
         return Err(MessageFault::Place);
     };
-    let mut text = spot_messages(alloc, pages, spot, &Topic::Cycle(name))?;
+    let mut text = message_at(alloc, pages, spot, &Topic::Cycle(name))?;
     for step in &steps {
         let line = step_line(alloc, pages, located, *step)?;
         text.extend_from_slice(line.as_slice())?;
     }
     Ok(text)
+}
+
+/// Messages, and how many errors they tell.
+#[derive(Drop)]
+struct Told {
+    text: Vec<u8>,
+    errors: usize,
+}
+
+/// The message of an import that names no module.
+fn missing_message(
+    alloc: Global,
+    pages: &Pages<'_>,
+    import: &MissingImport<'_>,
+) -> Result<Vec<u8>, MessageFault>
+    ensures { IfOk result (λ text. IsMissingTold pages.now.paint (files_in pages.now.items.items) (texts_in pages.now.items.items) (import_of import.now)
+        text.items) }
+{
+    let spot = Spot {
+        source: import.source,
+        place: import.place,
+    };
+    Ok(message_at(alloc, pages, spot, &Topic::Missing(import.name))?)
+}
+
+/// The messages of imports that name no module.
+fn further_messages(
+    alloc: Global,
+    pages: &Pages<'_>,
+    imports: &[MissingImport<'_>],
+) -> Result<Vec<u8>, MessageFault>
+    ensures { IfOk result (λ text. AreEach (λ i t. IsMissingTold pages.now.paint (files_in pages.now.items.items) (texts_in pages.now.items.items) (import_of i) t)
+        imports.now text.items) }
+{
+    let mut text = Vec::new(alloc);
+    for import in imports {
+        let message = missing_message(alloc, pages, import)?;
+        text.extend_from_slice(message.as_slice())?;
+    }
+    Ok(text)
+}
+
+/// The messages of all imports that name no module, of which the first names this one.
+fn missing_messages(
+    alloc: Global,
+    pages: &Pages<'_>,
+    located: &[Located],
+    name: &str,
+) -> Result<Told, MessageFault>
+    requires { AreLocated (texts_in pages.now.items.items) located.now }
+    ensures { IfOk result (λ told. (number : ℕ) × (place : Place) × (first : List ℕ) × (behind : List ℕ)
+        × IsMessageAt pages.now.paint (files_in pages.now.items.items) (texts_in pages.now.items.items) number place (missing name.now) first
+        × AreFurtherTold pages.now.paint (files_in pages.now.items.items) (texts_in pages.now.items.items) (record { number = number; place = place; name = name.now }) told.errors behind
+        × (told.text.items ≡ first ++ behind)) }
+{
+    let imports = missing_imports(alloc, located)?;
+    let Some((first, more)) = imports.as_slice().split_first() else {
+        return Err(MessageFault::Place);
+    };
+    if first.name != name {
+        return Err(MessageFault::Place);
+    }
+    let mut text = missing_message(alloc, pages, first)?;
+    let further = further_messages(alloc, pages, more)?;
+    text.extend_from_slice(further.as_slice())?;
+    let errors = imports.len();
+    Ok(Told { text, errors })
 }
 
 /// The messages of a set that has no plan.
@@ -249,32 +306,33 @@ fn plan_messages(
     pages: &Pages<'_>,
     located: &[Located],
     refused: &Refused<'_>,
-) -> Result<Vec<u8>, MessageFault>
-    ensures { IfOk result (λ text. AreRefusalMessages pages.now.paint (files_in pages.now.items.items) (texts_in pages.now.items.items)
-        (plan refused.now.fault refused.now.module.now refused.now.import.now) text.items) }
+) -> Result<Told, MessageFault>
+    requires { AreLocated (texts_in pages.now.items.items) located.now }
+    ensures { IfOk result (λ told. AreRefusalMessages pages.now.paint (files_in pages.now.items.items) (texts_in pages.now.items.items)
+        (plan refused.now.fault refused.now.module.now refused.now.import.now) told.errors told.text.items) }
 {
     let name = refused.module;
+    let errors = 1;
     match refused.fault {
         PlanFault::TooMany => {
             let Some(spot) = module_spot(located, MODULE_LIMIT) else {
                 return Err(MessageFault::Place);
             };
-            Ok(spot_messages(alloc, pages, spot, &Topic::TooMany)?)
+            let text = message_at(alloc, pages, spot, &Topic::TooMany)?;
+            Ok(Told { text, errors })
         }
         PlanFault::Duplicate { module } => {
             let Some(spot) = module_spot(located, module) else {
                 return Err(MessageFault::Place);
             };
-            Ok(spot_messages(alloc, pages, spot, &Topic::Twice(name))?)
+            let text = message_at(alloc, pages, spot, &Topic::Twice(name))?;
+            Ok(Told { text, errors })
         }
-        PlanFault::Missing { module, import } => {
-            let Some(spot) = import_spot(located, Step { module, import }) else {
-                return Err(MessageFault::Place);
-            };
-            let topic = Topic::Missing(refused.import);
-            Ok(spot_messages(alloc, pages, spot, &topic)?)
+        PlanFault::Missing { .. } => Ok(missing_messages(alloc, pages, located, refused.import)?),
+        PlanFault::Cycle { module } => {
+            let text = cycle_messages(alloc, pages, located, module, name)?;
+            Ok(Told { text, errors })
         }
-        PlanFault::Cycle { module } => Ok(cycle_messages(alloc, pages, located, module, name)?),
         PlanFault::Memory => Err(MessageFault::Memory),
     }
 }
@@ -297,15 +355,21 @@ fn set_messages(
     sources: &[Vec<u8>],
     fault: &SetFault,
     advice: Advice<'_>,
-) -> Result<Vec<u8>, MessageFault>
-    requires { IsAdvised (texts_in pages.now.items.items) fault.now advice.hint advice.text.now }
-    ensures { IfOk result (λ text. AreRefusalMessages pages.now.paint (files_in pages.now.items.items) (texts_in pages.now.items.items)
-        fault.now text.items) }
+) -> Result<Told, MessageFault>
+    requires advised { IsAdvised (texts_in pages.now.items.items) fault.now advice.hint advice.text.now }
+    requires texts { texts_in pages.now.items.items ≡ map (λ s. s.items) sources.now }
+    ensures { IfOk result (λ told. AreRefusalMessages pages.now.paint (files_in pages.now.items.items) (texts_in pages.now.items.items)
+        fault.now told.errors told.text.items) }
 {
+    let errors = 1;
     match &fault.kind {
-        SetFaultKind::Lex { source, fault } => Ok(lex_messages(alloc, pages, *source, *fault)?),
+        SetFaultKind::Lex { source, fault } => {
+            let text = lex_messages(alloc, pages, *source, *fault)?;
+            Ok(Told { text, errors })
+        }
         SetFaultKind::Parse { source, fault } => {
-            Ok(parse_messages(alloc, pages, *source, *fault, advice)?)
+            let text = parse_messages(alloc, pages, *source, *fault, advice)?;
+            Ok(Told { text, errors })
         }
         SetFaultKind::Plan {
             fault,
@@ -323,8 +387,8 @@ fn set_messages(
     }
 }
 
-/// Returns the messages of a set that is refused: where its fault is, and after them the counts. The advice is what is said of
-/// a fault of syntax.
+/// Returns the messages of a set that is refused: where its fault is, with each further import that names no module, and after them the counts.
+/// The advice is what is said of a fault of syntax. The pages are those of the sources.
 pub fn refusal_messages(
     alloc: Global,
     pages: &Pages<'_>,
@@ -332,11 +396,12 @@ pub fn refusal_messages(
     fault: &SetFault,
     advice: Advice<'_>,
 ) -> Result<Vec<u8>, MessageFault>
-    requires { IsAdvised (texts_in pages.now.items.items) fault.now advice.hint advice.text.now }
+    requires advised { IsAdvised (texts_in pages.now.items.items) fault.now advice.hint advice.text.now }
+    requires texts { texts_in pages.now.items.items ≡ map (λ s. s.items) sources.now }
     ensures { IfOk result (λ text. IsRefusalTold pages.now.paint (files_in pages.now.items.items) (texts_in pages.now.items.items) fault.now text.items) }
 {
-    let mut text = set_messages(alloc, pages, sources, fault, advice)?;
-    let counts = count_text(alloc, 1, 0)?;
+    let Told { mut text, errors } = set_messages(alloc, pages, sources, fault, advice)?;
+    let counts = count_text(alloc, pages.paint, errors, 0)?;
     text.extend_from_slice(counts.as_bytes())?;
     Ok(text)
 }

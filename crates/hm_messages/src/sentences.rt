@@ -42,6 +42,7 @@ pub(crate) fn sentence(topic: &Topic<'_>) -> &'static str
 {
     match topic {
         Topic::Fault(kind, _) => fault_sentence(*kind),
+        Topic::Replaceable(_, _) => "",
         Topic::Faulty(_) => "",
         Topic::Skipped(_) => "",
         Topic::TooLong => "A source has at most 1,048,576 bytes.\n",
@@ -55,6 +56,7 @@ pub(crate) fn sentence(topic: &Topic<'_>) -> &'static str
         Topic::Missing(_) =>
             "An import names a module of the set or `Prelude`; there is no other library.\n",
         Topic::Cycle(_) => "Modules may not import each other in a circle.\n",
+        Topic::Exhausted(_) => "Its types grow too large, or the machine has no more memory.\n",
         Topic::Step(_, _) => "",
     }
 }

@@ -1,12 +1,23 @@
 //! What a message tells.
+use hm_details::Detail;
 use hm_hints::{Advice, LexemeHint};
+use hm_lex::Place;
 use hm_names::Kind;
+
+/// The name that a fault is about, as it is written, and what is known beside it.
+#[derive(Clone, Copy)]
+pub struct Named<'a> {
+    pub name: &'a str,
+    pub detail: Detail<'a>,
+}
 
 /// What a message tells. Names are as they are written.
 #[derive(Clone, Copy)]
 pub enum Topic<'a> {
     /// A fault of a module.
-    Fault(Kind, &'a str),
+    Fault(Kind, Named<'a>),
+    /// With another expression up to this place a definition has a type.
+    Replaceable(&'a str, Place),
     /// A module is skipped, since it imports this one, which is faulty.
     Faulty(&'a str),
     /// A module is skipped, since it imports this one, which is skipped.
@@ -29,6 +40,8 @@ pub enum Topic<'a> {
     Missing(&'a str),
     /// A module reaches itself by imports.
     Cycle(&'a str),
+    /// There was no memory to check a module.
+    Exhausted(&'a str),
     /// A step of a cycle: the first module imports the second.
     Step(&'a str, &'a str),
 }

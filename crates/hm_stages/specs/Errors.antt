@@ -1,10 +1,16 @@
 -- Why there is no build, as the crate's own functions say it.
-use Rattle.std.specs.Prelude.{ℕ, List}
+use Rattle.std.specs.Prelude.{ℕ, ◌<◌, List, length}
+use Rattle.hm_syntax.specs.declared.ast.Module.{Module}
 use Rattle.hm_shared.specs.declared.dealing.SharedFault.{SharedFault}
 use Rattle.hm_shared.specs.declared.dealing.SharedFault.TheVariants as shared
 use Rattle.hm_sources.specs.Runs.{IsRefusalOf}
+use Rattle.hm_sources.specs.SourceModules.{AreModulesOf}
 use Rattle.hm_stages.specs.declared.faults.BuildFault.{BuildFault}
 use Rattle.hm_stages.specs.declared.faults.BuildFault.TheVariants as build
+
+-- the number of a module that the sources spell
+abbrev pub IsModuleOf : List (List ℕ) → ℕ → Type 0
+IsModuleOf sources m = (modules : List Module) × AreModulesOf sources modules × (m < length modules)
 
 -- why there is no build of the modules of sources: refused sources have this fault
 abbrev pub IsBuildFault : List (List ℕ) → BuildFault → Type 0
@@ -12,6 +18,7 @@ IsBuildFault sources (build.Refused fault) = IsRefusalOf sources fault
 IsBuildFault sources build.Workers = Unit {0}
 IsBuildFault sources build.NoWorker = Unit {0}
 IsBuildFault sources build.Memory = Unit {0}
+IsBuildFault sources (build.Exhausted m) = IsModuleOf sources m
 IsBuildFault sources build.Mixed = Unit {0}
 
 -- the same, where the workers are not too few or too many
@@ -20,6 +27,7 @@ IsBuildError sources (build.Refused fault) = IsRefusalOf sources fault
 IsBuildError sources build.Workers = ⊥
 IsBuildError sources build.NoWorker = Unit {0}
 IsBuildError sources build.Memory = Unit {0}
+IsBuildError sources (build.Exhausted m) = IsModuleOf sources m
 IsBuildError sources build.Mixed = Unit {0}
 
 -- why there is no build where its store can't be shared

@@ -17,6 +17,9 @@ pub enum BuildFault {
     NoWorker,
     #[error("no memory")]
     Memory,
+    /// There was no memory to check the module with this number. Modules count from 0, in order of appearance.
+    #[error("no memory for a module")]
+    Exhausted(usize),
     /// The workers don't agree with the store or with one another.
     #[error("mixed")]
     Mixed,

@@ -3,3 +3,5 @@ pub mod HeldRuns
 pub mod Told
 pub mod Telling
 pub mod FinishedRuns
+pub mod Detailed
+pub mod Blamed

@@ -1,5 +1,5 @@
 -- Messages of modules, in order.
-use Rattle.std.proofs.Common.{◌≡◌, ℕ, ◌+◌, ◌-◌, ◌^◌, ◌<◌, List, [], ◌∷◌, ◌++◌, length, map, take, get_or, min, refl, sym, ap, subst, ◌∙◌, arith}
+use Rattle.std.proofs.Common.{◌≡◌, ℕ, ◌+◌, ◌-◌, ◌^◌, ◌<◌, List, [], ◌∷◌, ◌++◌, length, map, take, get_or, min, sym, ap, subst, ◌∙◌, arith}
 use Rattle.std.specs.List.Sorted.{IsPermutation, IsSortedBy}
 use Rattle.std.proofs.lemmas.List.{map_more, length-map, get_or-map}
 use Rattle.std.proofs.lemmas.List.Elements.{Contains-get_or}
@@ -55,7 +55,7 @@ number_here modules rows sorted items numbered same is i d within =
 pub told_set : (paint : Paint) (files texts : List (List ℕ)) (modules : List (Arc Module Global)) (plan : List (List ℕ)) (status : ℕ → Status) (rows sorted : List Named) (count : ℕ) (messages text : List ℕ)
     → AreNumbered (map arc_value modules) (map named_of rows) → IsPermutation rows sorted → IsSortedBy (λ x y. name_below x.name.now y.name.now) sorted
     → AreEach (λ r m. IsModuleTold paint files texts (module_set modules plan) status r.number m) sorted messages → count ≡ length modules
-    → text ≡ messages ++ count_text (min (fault_count status count) (2 ^ 64 - 1)) (tally is_skipped status count) → IsTold paint files texts (module_set modules plan) status text
+    → text ≡ messages ++ count_text paint (min (fault_count status count) (2 ^ 64 - 1)) (tally is_skipped status count) → IsTold paint files texts (module_set modules plan) status text
 told_set paint files texts modules plan status rows sorted count messages text numbered same ordered told long whole =
     let size : count ≡ length (map arc_value modules) = long ∙ sym (length-map modules arc_value) in
     record {
@@ -66,7 +66,7 @@ told_set paint files texts modules plan status rows sorted count messages text n
       ordered = sorted_map named_of (λ x y. name_below x.name y.name) sorted ordered;
       messages = messages;
       told = viewed named_of (λ r m. IsModuleTold paint files texts (module_set modules plan) status r.number m) sorted messages told;
-      whole = whole ∙ ap (λ n. messages ++ count_text (min (fault_count status n) (2 ^ 64 - 1)) (tally is_skipped status n)) size;
+      whole = whole ∙ ap (λ n. messages ++ count_text paint (min (fault_count status n) (2 ^ 64 - 1)) (tally is_skipped status n)) size;
     }
 
 -- and of the build that has these modules

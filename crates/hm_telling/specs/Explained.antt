@@ -1,12 +1,17 @@
 -- A run with messages: what its messages have to do with what it prints.
-use Rattle.std.specs.Prelude.{◌≡◌, ◌<◌, ◌⊎◌, ℕ, List, ◌++◌, Option, length}
+use Rattle.std.specs.Prelude.{◌≡◌, ◌<◌, ◌⊎◌, ℕ, List, [], ◌++◌, Option, length, slice_index_or}
 use Rattle.std.specs.Io.KnownBytes.{Appends}
+use Rattle.hm_lex.specs.declared.token.Place.{Place}
+use Rattle.hm_syntax.specs.declared.ast.Module.{Module}
 use Rattle.hm_verdicts.specs.Reports.{IsReport}
 use Rattle.hm_verdicts.specs.Sets.{ModuleSet}
 use Rattle.hm_verdicts.specs.Verdicts.{Status as Settlement, IsVerdictIn}
+use Rattle.hm_messages.specs.Messages.{IsMessage}
 use Rattle.hm_messages.specs.Pages.{AreFilesOf}
 use Rattle.hm_messages.specs.Refused.{IsRefusalTold}
+use Rattle.hm_messages.specs.Subjects.{exhausted}
 use Rattle.hm_messages.specs.declared.heading.Paint.{Paint}
+use Rattle.hm_sources.specs.Origins.{IsSpelledBy}
 use Rattle.hm_sources.specs.Refusals.{Refusal}
 use Rattle.hm_sources.specs.Runs.{IsRefusalOf}
 use Rattle.hm_devices.specs.Sources.{WritesPrefix}
@@ -44,6 +49,20 @@ pub record TellsRefusal (paint : Paint) (names sources : List (List ℕ)) (messa
   pub files : List (List ℕ)
   pub named : AreFilesOf names sources files
   pub told : IsRefusalTold paint files sources refusal messages
+
+-- the message says of a module that the sources spell that there is no memory to check it, at a place in the source that spells it
+pub record TellsExhaustion (paint : Paint) (names sources : List (List ℕ)) (message : List ℕ) : Type 0 where
+  pub modules : List Module
+  pub read : AreModulesOf sources modules
+  pub number : ℕ
+  pub within : number < length modules
+  pub source : ℕ
+  pub spelled : IsSpelledBy sources number source
+  pub files : List (List ℕ)
+  pub named : AreFilesOf names sources files
+  pub name : List ℕ
+  pub place : Place
+  pub told : IsMessage paint (slice_index_or files source []) (slice_index_or sources source []) place (exhausted name) message
 
 -- what the messages tell of a run with this status and this text; the names are those of the sources' files
 abbrev pub IsExplained : Paint → List (List ℕ) → List (List ℕ) → Status → List ℕ → List ℕ → Type 0

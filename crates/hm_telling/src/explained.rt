@@ -14,6 +14,7 @@ use hm_advice::advice_at;
 use hm_grammar::ParseFault;
 use hm_hints::{Advice, SyntaxHint};
 use hm_messages::{MessageFault, headers_in, pages_of, refusal_messages};
+use hm_prelude::SharedPrelude;
 use hm_reports::{settled_in, skipped_in};
 use hm_sources::{Answer, SetFault, SetFaultKind, refusal_answer};
 use hm_store::Store;
@@ -45,14 +46,17 @@ fn build_messages<'a>(
     // The journal is legal, so the modules are a lawful set.
     store.legal();
     let settled = settled_in(alloc, store)?;
-    let pages = pages_of(alloc, explain.paint, sources, &explain.names)?;
     let located = headers_in(alloc, sources)?;
+    let pages = pages_of(alloc, explain.paint, sources, &explain.names, &located)?;
+    let prelude = SharedPrelude::new(alloc)?;
     let told = Told {
         pages: &pages,
         located: located.as_slice(),
         modules: store.modules(),
         plan: store.plan(),
         settled: settled.as_slice(),
+        store,
+        prelude: &prelude,
     };
     Ok(explanation(alloc, &told, skipped_in(settled.as_slice()))?)
 }
@@ -126,7 +130,7 @@ fn refused_messages<'a>(
 {
     match &wanted.explain {
         Some(explain) => {
-            let pages = pages_of(alloc, explain.paint, sources, &explain.names)?;
+            let pages = pages_of(alloc, explain.paint, sources, &explain.names, &[])?;
             let advice = advice_on(alloc, sources, fault)?;
             Ok(refusal_messages(alloc, &pages, sources, fault, advice)?)
         }

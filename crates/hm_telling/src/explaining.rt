@@ -1,22 +1,27 @@
 //! The messages of a build: for each module, in the order of the report, one for each of its faults, or one for each import that it is
 //! skipped for.
-ghost use Rattle.std.specs.Prelude.{◌≡◌, ◌<◌, ◌++◌, ◌-◌, ◌^◌, All, IfOk, IfSome, OnOk, length, map, min};
+ghost use Rattle.std.specs.Prelude.{◌≡◌, ◌<◌, ◌++◌, ◌-◌, ◌^◌, All, IfOk, IfSome, OnOk, length, map, min, option_to_list, slice_index_or};
 ghost use Rattle.std.specs.Arc.{arc_value};
 ghost use Rattle.hm_messages.specs.Messages.{AreEach};
 ghost use Rattle.hm_messages.specs.Pages.{files_in, texts_in};
 ghost use Rattle.hm_sources.specs.Origins.{AreLocated, IsSpelledBy};
 ghost use Rattle.hm_verdicts.specs.Sets.{IsLawfulSet};
 ghost use Rattle.hm_verdicts.specs.Reports.{AreBlamed, is_skipped, tally};
-ghost use Rattle.hm_telling.specs.Explanations.{AreBlamesTold, AreFaultsTold, AreNumbered, IsBlameMessage, IsModuleTold, IsTold, fault_count, named_of};
+ghost use Rattle.hm_syntax.specs.declared.ast.Import.{Import as ImportTree};
+ghost use Rattle.hm_telling.specs.Explanations.{AreBlamesTold, AreNumbered, IsBlameMessage, IsBlamedBy, IsModuleTold, IsTold, IsToldBy, blamed_of, fault_count, named_of};
+ghost use Rattle.hm_store.specs.Settlements.{settlement as build_settlement};
 ghost use Rattle.hm_reports.specs.ReportBlocks.{all_blamed, blamed};
 ghost use Rattle.hm_reports.specs.Settling.{module_set, status_of as settlement, statuses_of};
 
+use crate::detailing::{Faulty, faulty_messages};
+use hm_explain::Effort;
 use hm_graph::Plan;
 use hm_lex::Place;
-use hm_messages::{MessageFault, Page, Pages, Topic, count_text, fault_messages, message};
-use hm_names::Fault;
+use hm_messages::{MessageFault, Page, Pages, Topic, count_text, message};
+use hm_prelude::SharedPrelude;
 use hm_reports::Settled;
 use hm_sources::Located;
+use hm_store::Store;
 use hm_syntax::{Import, Module};
 use std::alloc::{AllocError, Global};
 use std::sync::Arc;
@@ -29,6 +34,8 @@ pub(crate) struct Told<'t, 'p, 'm> {
     pub modules: &'m [Arc<Module>],
     pub plan: &'m Plan,
     pub settled: &'t [Settled<'m>],
+    pub store: &'m Store,
+    pub prelude: &'t SharedPrelude,
 }
 
 /// An import that a module is skipped for.
@@ -41,7 +48,8 @@ struct Blame<'a> {
 
 /// The first import with this name, from this one on.
 fn import_from(imports: &[Import], from: usize, name: &str) -> Option<usize>
-    ensures { IfSome result (λ index. index < length imports.now) }
+    ensures within { IfSome result (λ index. index < length imports.now) }
+    ensures named { IfSome result (λ index. (d : ImportTree) → (slice_index_or imports.now index d).name.text ≡ name.now) }
 {
     for index in from..imports.len() {
         if imports[index].name.as_str() == name {
@@ -51,33 +59,35 @@ fn import_from(imports: &[Import], from: usize, name: &str) -> Option<usize>
     None
 }
 
-/// Appends an import of a module, where what it imports isn't published.
-fn add_blame<'a>(
-    blames: &mut Vec<Blame<'a>>,
-    name: &'a str,
-    place: Place,
-    settled: &Settled<'_>,
-) -> Result<(), AllocError>
-    ensures { OnOk result (map (λ b. b.name.now) blames.new.items ≡ map (λ b. b.name.now) blames.old.items ++ blamed (settlement settled.now) name.entry.now) }
+/// What is told of an import, where what it names isn't published.
+fn blame_of<'a>(name: &'a str, place: Place, settled: &Settled<'_>) -> Option<Blame<'a>>
+    ensures names { map (λ b. b.name.now) (option_to_list result) ≡ blamed (settlement settled.now) name.entry.now }
+    ensures name { IfSome result (λ b. b.name.now ≡ name.entry.now) }
+    ensures place { IfSome result (λ b. b.place ≡ place) }
+    ensures told { IfSome result (λ b. IsToldBy (settlement settled.now) name.entry.now (blamed_of b).subject) }
 {
     match settled {
-        Settled::Published(_) => Ok(()),
-        Settled::Failed(_) => {
-            let is_faulty = true;
-            Ok(blames.push(Blame {
-                name,
-                place,
-                is_faulty,
-            })?)
-        }
-        Settled::Skipped => {
-            let is_faulty = false;
-            Ok(blames.push(Blame {
-                name,
-                place,
-                is_faulty,
-            })?)
-        }
+        Settled::Published(_) => None,
+        Settled::Failed(_) => Some(Blame {
+            name,
+            place,
+            is_faulty: true,
+        }),
+        Settled::Skipped => Some(Blame {
+            name,
+            place,
+            is_faulty: false,
+        }),
+    }
+}
+
+/// Appends an import, if there is one.
+fn add_blame<'a>(blames: &mut Vec<Blame<'a>>, blame: Option<Blame<'a>>) -> Result<(), AllocError>
+    ensures { OnOk result (blames.new.items ≡ blames.old.items ++ option_to_list blame.entry) }
+{
+    match blame {
+        Some(blame) => Ok(blames.push(blame)?),
+        None => Ok(()),
     }
 }
 
@@ -91,7 +101,8 @@ fn blames_of<'a>(
 ) -> Result<Vec<Blame<'a>>, MessageFault>
     requires modules { All (λ j. j < length modules.now) row.now }
     requires settled { All (λ j. j < length settled.now) row.now }
-    ensures { IfOk result (λ blames. map (λ b. b.name.now) blames.items ≡ all_blamed (map arc_value modules.entry.now) (statuses_of settled.now) row.now) }
+    ensures names { IfOk result (λ blames. map (λ b. b.name.now) blames.items ≡ all_blamed (map arc_value modules.entry.now) (statuses_of settled.now) row.now) }
+    ensures right { IfOk result (λ blames. All (λ b. IsBlamedBy (map arc_value modules.entry.now) (statuses_of settled.now) row.now imports.now (blamed_of b)) blames.items) }
 {
     let mut blames = Vec::new(alloc);
     let mut from = 0usize;
@@ -102,7 +113,7 @@ fn blames_of<'a>(
         };
         let import = &imports[index];
         let place = import.name.place;
-        add_blame(&mut blames, name, place, &settled[*number])?;
+        add_blame(&mut blames, blame_of(name, place, &settled[*number]))?;
         from = index;
     }
     Ok(blames)
@@ -115,7 +126,7 @@ fn blame_message(
     page: &Page<'_>,
     blame: &Blame<'_>,
 ) -> Result<Vec<u8>, MessageFault>
-    ensures { IfOk result (λ text. IsBlameMessage pages.now.paint page.now.file.now page.now.lines blame.now.name.now text.items) }
+    ensures { IfOk result (λ text. IsBlameMessage pages.now.paint page.now.file.now page.now.lines (blamed_of blame.now) text.items) }
 {
     if blame.is_faulty {
         let topic = Topic::Faulty(blame.name);
@@ -133,7 +144,7 @@ fn blame_messages(
     page: &Page<'_>,
     blames: &[Blame<'_>],
 ) -> Result<Vec<u8>, MessageFault>
-    ensures { IfOk result (λ text. AreEach (IsBlameMessage pages.now.paint page.now.file.now page.now.lines) (map (λ b. b.name.now) blames.now) text.items) }
+    ensures { IfOk result (λ text. AreEach (IsBlameMessage pages.now.paint page.now.file.now page.now.lines) (map blamed_of blames.now) text.items) }
 {
     let mut text = Vec::new(alloc);
     for blame in blames {
@@ -157,21 +168,6 @@ fn source_of(told: &Told<'_, '_, '_>, number: usize) -> Result<usize, MessageFau
         return Err(MessageFault::Place);
     }
     Ok(source)
-}
-
-/// The messages of the faults of a module that this source spells.
-fn faulty_messages(
-    alloc: Global,
-    pages: &Pages<'_>,
-    source: usize,
-    faults: &[Fault],
-) -> Result<Vec<u8>, MessageFault>
-    requires { source < length pages.now.items.items }
-    ensures { IfOk result (λ text. AreFaultsTold pages.now.paint (files_in pages.now.items.items) (texts_in pages.now.items.items) source faults.now
-        text.items) }
-{
-    let page = &pages.items[source];
-    Ok(fault_messages(alloc, pages.paint, page, faults)?)
 }
 
 /// The messages of a module that this source spells and that is skipped.
@@ -202,11 +198,13 @@ fn module_messages(
     alloc: Global,
     told: &Told<'_, '_, '_>,
     number: usize,
+    effort: &mut Effort,
 ) -> Result<Vec<u8>, MessageFault>
     requires lawful { IsLawfulSet (module_set told.now.modules.now told.now.plan.now) }
     requires len { length told.now.settled.now ≡ length told.now.modules.now }
     requires number { number < length told.now.modules.now }
     requires located { AreLocated (texts_in told.now.pages.now.items.items) told.now.located.now }
+    requires settled { statuses_of told.now.settled.now ≡ build_settlement told.now.store.now }
     ensures { IfOk result (λ text. IsModuleTold told.now.pages.now.paint (files_in told.now.pages.now.items.items) (texts_in told.now.pages.now.items.items)
         (module_set told.now.modules.now told.now.plan.now) (statuses_of told.now.settled.now) number text.items) }
 {
@@ -214,7 +212,13 @@ fn module_messages(
         Settled::Published(_) => Ok(Vec::new(alloc)),
         Settled::Failed(faults) => {
             let source = source_of(told, number)?;
-            Ok(faulty_messages(alloc, told.pages, source, faults.as_slice())?)
+            let faults = faults.as_slice();
+            let faulty = Faulty {
+                number,
+                source,
+                faults,
+            };
+            Ok(faulty_messages(alloc, told, faulty, effort)?)
         }
         Settled::Skipped => {
             let source = source_of(told, number)?;
@@ -264,18 +268,20 @@ pub(crate) fn explanation(
     requires lawful { IsLawfulSet (module_set told.now.modules.now told.now.plan.now) }
     requires len { length told.now.settled.now ≡ length told.now.modules.now }
     requires located { AreLocated (texts_in told.now.pages.now.items.items) told.now.located.now }
+    requires settled { statuses_of told.now.settled.now ≡ build_settlement told.now.store.now }
     requires skipped { skipped ≡ tally is_skipped (statuses_of told.now.settled.now) (length told.now.settled.now) }
     ensures { IfOk result (λ text. IsTold told.now.pages.now.paint (files_in told.now.pages.now.items.items) (texts_in told.now.pages.now.items.items)
         (module_set told.now.modules.now told.now.plan.now) (statuses_of told.now.settled.now) text.items) }
 {
     let mut rows = numbered(alloc, told.modules)?;
     rows.sort_by_key(|row| row.name)?;
+    let mut effort = Effort::of_run();
     let mut text = Vec::new(alloc);
     for row in &rows {
-        let messages = module_messages(alloc, told, row.number)?;
+        let messages = module_messages(alloc, told, row.number, &mut effort)?;
         text.extend_from_slice(messages.as_slice())?;
     }
-    let counts = count_text(alloc, errors_in(told.settled), skipped)?;
+    let counts = count_text(alloc, told.pages.paint, errors_in(told.settled), skipped)?;
     text.extend_from_slice(counts.as_bytes())?;
     Ok(text)
 }

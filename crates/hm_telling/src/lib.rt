@@ -2,9 +2,13 @@
 #![tactic(auto)]
 
 mod answers;
+mod detailing;
+mod exhausted;
 mod explained;
 mod explaining;
+mod faulty;
 mod options;
 
+pub use exhausted::exhausted_message;
 pub use explained::{Explained, finished_explained, refused_explained};
 pub use options::{Explain, Explaining, Options, Wanted};

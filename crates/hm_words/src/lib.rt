@@ -20,7 +20,11 @@ pub struct Asked {
     pub plan: bool,
     /// Whether messages that explain the report are to be written to standard error.
     pub explain: bool,
-    /// The names of the sources, in order; none stands for standard input.
+    /// Whether these are to be JSON objects.
+    pub json: bool,
+    /// What standard input is called in messages, if it has a name.
+    pub stdin_name: Option<String>,
+    /// The names of the sources, in order, one at least. `-` stands for standard input, which is the one source where no word names any.
     pub files: Vec<String>,
 }
 
@@ -29,6 +33,9 @@ const MOST_WORKERS: usize = 16;
 
 /// How many workers there are where no word says it.
 const WORKERS: usize = 4;
+
+/// How messages may be written.
+const MESSAGE_FORMATS: [&str; 2] = ["human", "json"];
 
 /// The program's version.
 const VERSION: &str = "0.1";
@@ -96,14 +103,30 @@ fn command<'a>(alloc: Global) -> Result<Command<'a>, AllocError> {
                 .action(ArgAction::SetTrue),
         )?
         .arg(
+            Arg::new(alloc, "message-format")
+                .long("message-format")
+                .value_name("FORMAT")
+                .value_parser(ValueParser::Names(&MESSAGE_FORMATS))
+                .help(
+                    "How messages are written: human, or json, a JSON object on a line each; json implies --explain",
+                ),
+        )?
+        .arg(
+            Arg::new(alloc, "stdin-name")
+                .long("stdin-name")
+                .value_name("NAME")
+                .help("What standard input is called in messages; <stdin> if it isn't given"),
+        )?
+        .arg(
             Arg::new(alloc, "FILE")
                 .help(
-                    "A source each, of any number of modules and 1,048,576 bytes at most; without any, standard input is one",
+                    "A source each, of any number of modules and 1,048,576 bytes at most; - is standard input, and so are no files",
                 )
                 .action(ArgAction::Append),
         )
 }
 
+/// The names of the sources; without any, that of standard input.
 fn files(alloc: Global, matches: &ArgMatches<'_>) -> Result<Vec<String>, AllocError> {
     let mut files = Vec::new(alloc);
     if let Some(names) = matches.get_strs("FILE") {
@@ -111,7 +134,17 @@ fn files(alloc: Global, matches: &ArgMatches<'_>) -> Result<Vec<String>, AllocEr
             files.push(String::from_str(alloc, name)?)?;
         }
     }
+    if files.is_empty() {
+        files.push(String::from_str(alloc, "-")?)?;
+    }
     Ok(files)
+}
+
+fn stdin_name(alloc: Global, matches: &ArgMatches<'_>) -> Result<Option<String>, AllocError> {
+    match matches.get_str("stdin-name") {
+        Some(name) => Ok(Some(String::from_str(alloc, name)?)),
+        None => Ok(None),
+    }
 }
 
 /// How many workers are asked for. The parser of the words refuses other numbers.
@@ -132,11 +165,14 @@ pub fn command_line(alloc: Global, words: &[String]) -> Result<Asked, Error>
     ensures most { IfOk result (λ asked. asked.workers ≤ 16) }
 {
     let matches = command(alloc)?.try_get_matches_from(words)?;
+    let json = matches.get_str("message-format") == Some("json");
     Ok(Asked {
         workers: workers(&matches),
         journal: matches.get_flag("journal"),
         plan: matches.get_flag("plan"),
-        explain: matches.get_flag("explain"),
+        explain: json || matches.get_flag("explain"),
+        json,
+        stdin_name: stdin_name(alloc, &matches)?,
         files: files(alloc, &matches)?,
     })
 }

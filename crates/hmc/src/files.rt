@@ -1,39 +1,88 @@
-//! Files that are read as sources.
+//! Files and standard input, which are read as sources.
 
 use std::cell::Cell;
 use std::fs::File;
 use std::io;
-use std::io::{ErrorKind, Read};
+use std::io::{ErrorKind, Read, Stdin};
 
-/// Why a file couldn't be read.
+/// The word that stands for standard input.
+const STDIN: &str = "-";
+
+/// Why a source couldn't be read.
 #[derive(Clone, Copy)]
 pub(crate) struct Failure {
-    /// The number of the file among those of the command line, from 0.
-    pub file: usize,
+    /// The number of the source among those of the command line, from 0.
+    pub source: usize,
     pub kind: ErrorKind,
 }
 
-/// An open file that keeps why it couldn't be read last.
+/// What a source is read from.
+#[derive(Drop)]
+enum Input {
+    File(File),
+    Stdin(Stdin),
+}
+
+impl Read for Input {
+    fn read(&mut self, buf: &mut [u8]) -> io::Result<usize> {
+        match self {
+            Input::File(file) => file.read(buf),
+            Input::Stdin(stdin) => stdin.read(buf),
+        }
+    }
+}
+
+/// An open source that keeps why it couldn't be read last.
 #[derive(Drop)]
 pub(crate) struct Opened<'a> {
-    pub file: File,
-    /// Its number among the files of the command line, from 0.
-    pub number: usize,
-    /// The failure of the last read of any of the files, if it failed.
-    pub failure: &'a Cell<Option<Failure>>,
+    input: Input,
+    /// Its number among the sources of the command line, from 0.
+    number: usize,
+    /// The failure of the last read of any of the sources, if it failed.
+    failure: &'a Cell<Option<Failure>>,
+}
+
+impl<'a> Opened<'a> {
+    /// Opens the source that a word names.
+    pub(crate) fn open(
+        rt: &HostRuntime,
+        word: &str,
+        number: usize,
+        failure: &'a Cell<Option<Failure>>,
+    ) -> io::Result<Opened<'a>> {
+        let input = if word == STDIN {
+            Input::Stdin(rt.stdin())
+        } else {
+            Input::File(File::open(rt, word)?)
+        };
+        Ok(Opened {
+            input,
+            number,
+            failure,
+        })
+    }
 }
 
 impl Read for Opened<'_> {
     fn read(&mut self, buf: &mut [u8]) -> io::Result<usize> {
-        let answer = self.file.read(buf);
+        let answer = self.input.read(buf);
         let failure = match &answer {
             Ok(_) => None,
             Err(error) => Some(Failure {
-                file: self.number,
+                source: self.number,
                 kind: error.kind(),
             }),
         };
         self.failure.set(failure);
         answer
+    }
+}
+
+/// What a source is called in messages.
+pub(crate) fn name_of<'a>(word: &'a str, stdin_name: Option<&'a str>) -> &'a str {
+    if word == STDIN {
+        stdin_name.unwrap_or("<stdin>")
+    } else {
+        word
     }
 }

@@ -1,50 +1,77 @@
-use Rattle.std.proofs.Common.{rules, ◌≡◌, Err, inl, inr, ⊎_elim, string_bytes}
+use Rattle.std.proofs.Common.{rules, ◌≡◌, Err, inl, inr, refl, ⊎_elim, string_bytes}
 use Rattle.hm_telling.proofs.Telling.{told_to}
-use Rattle.hm_build.proofs.RunFaults.{no_failure, passed_back, passed_on}
+use Rattle.hm_build.proofs.RunFaults.{no_failure, not_of_writing, passed_back, passed_on, some_at}
 use Rattle.hm_devices.specs.Watching.{failures_of}
 use Rattle.hm_devices.specs.declared.faults.RunFault.TheVariants as fault
 use Rattle.hm_build.proofs.explained_runs.run_explained.Goals as goal
 
-pub returns-in_err-explained-clause-read_up_before_a_build : goal.returns-in_err-explained-clause-read_up_before_a_build
-returns-in_err-explained-clause-read_up_before_a_build g c either =
-    let e = c.in_err-explained.field-0.0 in
-    let is : c.from_residual.result ≡ Err e = search rules in
-    c.in_err-explained.ensures.read_up_before_a_build (⊎_elim (λ f. inl (passed_on c.from_residual.result e fault.NoWorker is f)) (λ f. inr (passed_on c.from_residual.result e fault.Mixed is f)) either)
+pub returns-in-Some-clause-read_up_before_a_build : goal.returns-in-Some-clause-read_up_before_a_build
+returns-in-Some-clause-read_up_before_a_build g c either =
+    let e = c.in-Err.fault in
+    c.in-Err.ensures.read_up_before_a_build (⊎_elim (λ f. inl (passed_on (Err e) e fault.NoWorker refl f)) (λ f. inr (passed_on (Err e) e fault.Mixed refl f)) either)
 
-pub returns-in_err-explained-clause-in_order : goal.returns-in_err-explained-clause-in_order
-returns-in_err-explained-clause-in_order g c f =
-    let e = c.in_err-explained.field-0.0 in
-    let is : c.from_residual.result ≡ Err e = search rules in
-    c.in_err-explained.ensures.in_order (passed_on c.from_residual.result e fault.Memory is f)
+pub returns-in-Some-clause-in_order : goal.returns-in-Some-clause-in_order
+returns-in-Some-clause-in_order g c f = c.in-Err.ensures.in_order (passed_on (Err c.in-Err.fault) c.in-Err.fault fault.Memory refl f)
 
-pub returns-in_err-explained-clause-failed : goal.returns-in_err-explained-clause-failed
-returns-in_err-explained-clause-failed g c =
-    let e = c.in_err-explained.field-0.0 in
-    let is : c.from_residual.result ≡ Err e = search rules in
-    ⊎_elim (λ f. inl (passed_back c.from_residual.result e fault.Read is f)) (λ all. inr all) c.in_err-explained.ensures.failed
+pub returns-in-Some-clause-stops : goal.returns-in-Some-clause-stops
+returns-in-Some-clause-stops g c f = c.in-Err.ensures.stops (passed_on (Err c.in-Err.fault) c.in-Err.fault fault.Read refl f)
+
+pub returns-in-Some-clause-read : goal.returns-in-Some-clause-read
+returns-in-Some-clause-read g c f = c.in-Err.ensures.read (passed_on (Err c.in-Err.fault) c.in-Err.fault fault.Read refl f)
+
+pub returns-in-Some-clause-failed : goal.returns-in-Some-clause-failed
+returns-in-Some-clause-failed g c = ⊎_elim (λ f. inl (passed_back (Err c.in-Err.fault) c.in-Err.fault fault.Read refl f)) (λ all. inr all) c.in-Err.ensures.failed
+
+pub returns-in_default-clause-read_up_before_a_build : goal.returns-in_default-clause-read_up_before_a_build
+returns-in_default-clause-read_up_before_a_build g c either =
+    let e = c.in-Err.fault in
+    c.in-Err.ensures.read_up_before_a_build (⊎_elim (λ f. inl (passed_on (Err e) e fault.NoWorker refl f)) (λ f. inr (passed_on (Err e) e fault.Mixed refl f)) either)
+
+pub returns-in_default-clause-in_order : goal.returns-in_default-clause-in_order
+returns-in_default-clause-in_order g c f = c.in-Err.ensures.in_order (passed_on (Err c.in-Err.fault) c.in-Err.fault fault.Memory refl f)
+
+pub returns-in_default-clause-stops : goal.returns-in_default-clause-stops
+returns-in_default-clause-stops g c f = c.in-Err.ensures.stops (passed_on (Err c.in-Err.fault) c.in-Err.fault fault.Read refl f)
+
+pub returns-in_default-clause-read : goal.returns-in_default-clause-read
+returns-in_default-clause-read g c f = c.in-Err.ensures.read (passed_on (Err c.in-Err.fault) c.in-Err.fault fault.Read refl f)
+
+pub returns-in_default-clause-failed : goal.returns-in_default-clause-failed
+returns-in_default-clause-failed g c = ⊎_elim (λ f. inl (passed_back (Err c.in-Err.fault) c.in-Err.fault fault.Read refl f)) (λ all. inr all) c.in-Err.ensures.failed
+
+pub returns-in_default-clause-prefix : goal.returns-in_default-clause-prefix
+returns-in_default-clause-prefix g c is = absurd (not_of_writing c.in-Err.fault c.in-Err.ensures.others is)
+
+pub returns-in_default-clause-read_up_before_a_write : goal.returns-in_default-clause-read_up_before_a_write
+returns-in_default-clause-read_up_before_a_write g c is = absurd (not_of_writing c.in-Err.fault c.in-Err.ensures.others is)
+
+-- the message of a module for which memory ran out
+pub returns-in-Some-clause-exhausted : goal.returns-in-Some-clause-exhausted
+returns-in-Some-clause-exhausted g c is sources told =
+    inr (c.in-Some.message.items, some_at _ c.read_and_check.new.note c.in-Some.message c.in-Some.is c.in-Err.ensures.exhausted sources told, told_to c.write_text.result _ _ c.in-Some.message.items _ (search rules) (search rules) (search rules))
 
 pub returns-in_err-write_text-clause-failed : goal.returns-in_err-write_text-clause-failed
-returns-in_err-write_text-clause-failed g c = inr (no_failure (λ r. failures_of r ≡ 0) c.read_and_check.new.readers c.in_ok-explained.explained c.in_ok-explained.ensures.failed)
+returns-in_err-write_text-clause-failed g c = inr (no_failure (λ r. failures_of r ≡ 0) c.read_and_check.new.readers c.in-Ok.explained c.in-Ok.ensures.failed)
 
 pub returns-clause-failed : goal.returns-clause-failed
-returns-clause-failed g c = inr (no_failure (λ r. failures_of r ≡ 0) c.read_and_check.new.readers c.in_ok-explained.explained c.in_ok-explained.ensures.failed)
+returns-clause-failed g c = inr (no_failure (λ r. failures_of r ≡ 0) c.read_and_check.new.readers c.in-Ok.explained c.in-Ok.ensures.failed)
 
 pub returns-in_err-write_text-clause-prefix : goal.returns-in_err-write_text-clause-prefix
 returns-in_err-write_text-clause-prefix g c e sources told =
-    let a = c.in_ok-explained.explained.answer in
-    (a.status, string_bytes a.text, c.in_ok-explained.ensures.ok sources told, search rules)
+    let a = c.in-Ok.explained.answer in
+    (a.status, string_bytes a.text, c.in-Ok.ensures.ok sources told, search rules)
 
 pub returns-clause-ok : goal.returns-clause-ok
 returns-clause-ok g c sources told =
-    let a = c.in_ok-explained.explained.answer in
-    (string_bytes a.text, c.in_ok-explained.ensures.ok sources told, search rules)
+    let a = c.in-Ok.explained.answer in
+    (string_bytes a.text, c.in-Ok.ensures.ok sources told, search rules)
 
 pub returns-clause-told : goal.returns-clause-told
 returns-clause-told g c sources told =
-    let a = c.in_ok-explained.explained in (
+    let a = c.in-Ok.explained in (
       string_bytes a.answer.text,
       a.messages.items,
-      c.in_ok-explained.ensures.told sources told,
+      c.in-Ok.ensures.told sources told,
       search rules,
-      told_to c.write_text-2.result _ _ a.messages.items _ (search rules) (search rules) (search rules),
+      told_to c.write_text-3.result _ _ a.messages.items _ (search rules) (search rules) (search rules),
     )

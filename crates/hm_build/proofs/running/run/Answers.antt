@@ -1,5 +1,5 @@
 use Rattle.std.proofs.Common.{rules, ◌≡◌, Err, inl, inr, ⊎_elim, string_bytes}
-use Rattle.hm_build.proofs.RunFaults.{no_failure, passed_back, passed_on}
+use Rattle.hm_build.proofs.RunFaults.{no_failure, one_of_all, passed_back, passed_on}
 use Rattle.hm_devices.specs.Watching.{failures_of}
 use Rattle.hm_devices.specs.declared.faults.RunFault.TheVariants as fault
 use Rattle.hm_build.proofs.running.run.Goals as goal
@@ -37,3 +37,9 @@ pub returns-clause-ok : goal.returns-clause-ok
 returns-clause-ok g c sources told =
     let a = c.in_ok-explained.explained.answer in
     (string_bytes a.text, c.in_ok-explained.ensures.ok sources told, search rules)
+
+pub returns-in_err-explained-clause-others : goal.returns-in_err-explained-clause-others
+returns-in_err-explained-clause-others g c =
+    let e = c.in_err-explained.field-0.0 in
+    let is : c.from_residual.result ≡ Err e = search rules in
+    one_of_all c.from_residual.result e is c.in_err-explained.ensures.others

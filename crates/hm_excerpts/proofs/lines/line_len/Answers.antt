@@ -1,4 +1,4 @@
-use Rattle.std.proofs.Common.{rules, ◌≡◌, false, get_or, arith}
+use Rattle.std.proofs.Common.{rules, ◌≡◌, false, get_or}
 use Rattle.std.proofs.lemmas.List.Elements.{All-more}
 use Rattle.hm_lex.specs.Cut.{is_line_end}
 use Rattle.hm_excerpts.proofs.lines.line_len.Goals as goal

@@ -32,10 +32,10 @@ returns c =
     let text = c.loop-row.text.items in
     let items = c.deref-row-items.result.now in
     let all : take c.loop-row.row-index items ≡ items = take_all _ _ (search rules) in
-    let counts : c.as_bytes.result.now ≡ count_text c.errors_in.result c.args.skipped = search rules in
+    let counts : c.as_bytes.result.now ≡ count_text c.args.told.now.pages.now.paint c.errors_in.result c.args.skipped = search rules in
     told_set paint files texts told.modules.now told.plan.now status c.in_ok-rows.rows.items c.sort_by_key.new.self.items (length told.settled.now) text c.extend_from_slice-2.new.self.items
     c.in_ok-rows.ensures c.in_ok-sort_by_key.ensures.permutation
     (c.in_ok-sort_by_key.ensures.sorted (λ r. r.name) (answers_always _ (λ a r. r ≡ a.0.now.name) _ (λ f a r q k. search rules)))
     (subst (λ l. AreEach (λ r m. IsModuleTold paint files texts (module_set told.modules.now told.plan.now) status r.number m) l text) (all ∙ c.deref-row-items.ensures.value) c.loop-row.invariant)
     c.requires.len
-    (c.in_ok-extend_from_slice-2.ensures.items ∙ ap (λ (l : List ℕ). text ++ l) (counts ∙ ap₂ count_text c.errors_in.ensures c.requires.skipped))
+    (c.in_ok-extend_from_slice-2.ensures.items ∙ ap (λ (l : List ℕ). text ++ l) (counts ∙ ap₂ (count_text c.args.told.now.pages.now.paint) c.errors_in.ensures c.requires.skipped))

@@ -1,0 +1,5 @@
+use Rattle.std.proofs.Common.{rules, append_assoc}
+use Rattle.hm_messages.proofs.fault_titles.detail_text.Goals as goal
+
+pub returns-in-Either : goal.returns-in-Either
+returns-in-Either c = rw c.in-Either.is (simp append_assoc (search rules))

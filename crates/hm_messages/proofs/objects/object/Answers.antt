@@ -1,0 +1,38 @@
+use Rattle.std.proofs.Common.{rules, ◌≡◌, option_map, string_bytes, subst}
+use Rattle.hm_json.specs.declared.message.Message.{Message}
+use Rattle.hm_messages.specs.Messages.{IsHint}
+use Rattle.hm_messages.specs.Sentences.{sentence}
+use Rattle.hm_messages.specs.Subjects.{subject_of}
+use Rattle.hm_messages.proofs.objects.object.Goals as goal
+use Rattle.hm_messages.proofs.objects.object.Goals.{in-Some-hint, in-None}
+
+pub returns : goal.returns
+returns c =
+    let told : Message = record {
+      file = c.as_str-2.result;
+      start = c.in-Some.start;
+      end = c.in-Some.end;
+      level = c.level_of.result;
+      kind = c.kind_of.result;
+      «module» = c.module_at.result;
+      name = c.name_in.result;
+      text = c.as_str-3.result;
+      hint = c.match-hint.hint;
+    } in
+    let hint_same : option_map string_bytes c.in_ok-hint.hint ≡ option_map (λ hint. hint.now) c.match-hint.hint = elim c.match-hint.branch [
+      | in-Some-hint w ↦ search rules
+      | in-None w ↦ search rules
+    ] in
+    record {
+      message = told;
+      file_is = search rules;
+      range = search rules;
+      about = record {
+        level_is = search rules;
+        kind_is = search rules;
+        name_is = search rules;
+        text_is = search rules;
+        hint_is = subst (IsHint (sentence (subject_of c.args.topic.now))) hint_same (search rules);
+      };
+      says = search rules;
+    }

@@ -1,0 +1,35 @@
+-- The imports of a set that name no module (Haskell 98 Report, section 5.3).
+use Rattle.std.specs.Prelude.{ℕ, Bool, not, List, [], ◌∷◌, ◌++◌, filter, map}
+use Rattle.hm_lex.specs.declared.token.Place.{Place}
+use Rattle.hm_syntax.specs.declared.ast.Import.{Import}
+use Rattle.hm_names.specs.Scope.{prelude_name}
+use Rattle.hm_names.specs.Texts.{is_text_among}
+use Rattle.hm_sources.specs.declared.located.Located.{Located}
+use Rattle.hm_messages.specs.declared.missing.MissingImport.{MissingImport}
+
+-- an import of a set: the source that it stands in, counted from 0, its place there, and the module that it names
+pub record SetImport : Type 0 where
+  pub number : ℕ
+  pub place : Place
+  pub name : List ℕ
+
+abbrev pub set_import : ℕ → Import → SetImport
+set_import k i = record { number = k; place = record { line = i.name.line; column = i.name.column }; name = i.name.text }
+
+-- all imports of these modules, in order
+abbrev pub set_imports : List Located → List SetImport
+set_imports [] = []
+set_imports (l ∷ ls) = map (set_import l.source) l.header.imports ++ set_imports ls
+
+abbrev pub module_names : List Located → List (List ℕ)
+module_names ls = map (λ l. l.header.name.text) ls
+
+-- the import names neither Prelude nor one of these modules
+abbrev pub names_none : List (List ℕ) → SetImport → Bool
+names_none names i = not (is_text_among i.name names)
+
+abbrev pub missing_imports : List Located → List SetImport
+missing_imports ls = filter (names_none (prelude_name ∷ module_names ls)) (set_imports ls)
+
+abbrev pub import_of : MissingImport → SetImport
+import_of m = record { number = m.source; place = m.place; name = m.name.now }

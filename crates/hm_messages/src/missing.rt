@@ -1,0 +1,70 @@
+//! The imports of a set that name no module.
+ghost use Rattle.std.specs.Prelude.{◌≡◌, ◌∷◌, ◌++◌, List, ℕ, IfOk, OnOk, filter, map};
+ghost use Rattle.hm_names.specs.Scope.{prelude_name};
+ghost use Rattle.hm_names.specs.Texts.{is_text_among};
+ghost use Rattle.hm_messages.specs.Missing.{import_of, missing_imports, module_names, names_none, set_import, set_imports};
+
+use hm_lex::Place;
+use hm_sources::Located;
+use hm_tables::TextSet;
+use std::alloc::{AllocError, Global};
+
+/// An import that names no module of its set.
+#[derive(Clone, Copy)]
+pub(crate) struct MissingImport<'a> {
+    /// The number of the source that it stands in, counted from 0.
+    pub source: usize,
+    /// The place of the name in it.
+    pub place: Place,
+    /// What it names.
+    pub name: &'a str,
+}
+
+/// The names that an import may have: Prelude's, and those of these modules.
+fn known_names<'a>(alloc: Global, located: &'a [Located]) -> Result<TextSet<'a>, AllocError>
+    ensures { IfOk result (λ names. (x : List ℕ) → is_text_among x names ≡ is_text_among x (prelude_name ∷ module_names located.entry.now)) }
+{
+    let mut names = TextSet::new(alloc);
+    names.insert("Prelude")?;
+    for here in located {
+        names.insert(here.header.name.as_str())?;
+    }
+    Ok(names)
+}
+
+/// Appends the imports of a module that have none of these names.
+fn add_missing<'a>(
+    found: &mut Vec<MissingImport<'a>>,
+    here: &'a Located,
+    names: &TextSet<'_>,
+) -> Result<(), AllocError>
+    ensures { OnOk result (map import_of found.new.items ≡ map import_of found.old.items
+        ++ filter (names_none names.now) (map (set_import here.entry.now.source) here.entry.now.header.imports)) }
+{
+    for import in here.header.imports.as_slice() {
+        if names.contains(import.name.as_str()) {
+            continue;
+        }
+        found.push(MissingImport {
+            source: here.source,
+            place: import.name.place,
+            name: import.name.as_str(),
+        })?;
+    }
+    Ok(())
+}
+
+/// The imports of these modules that name neither Prelude nor one of them, in order.
+pub(crate) fn missing_imports<'a>(
+    alloc: Global,
+    located: &'a [Located],
+) -> Result<Vec<MissingImport<'a>>, AllocError>
+    ensures { IfOk result (λ found. map import_of found.items ≡ missing_imports located.entry.now) }
+{
+    let names = known_names(alloc, located)?;
+    let mut found = Vec::new(alloc);
+    for here in located {
+        add_missing(&mut found, here, &names)?;
+    }
+    Ok(found)
+}

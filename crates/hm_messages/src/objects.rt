@@ -1,0 +1,86 @@
+//! Messages for programs.
+ghost use Rattle.std.specs.Prelude.{IfOk, IfSome, option_map, string_bytes};
+ghost use Rattle.hm_messages.specs.Messages.{IsHint, IsObject, IsPositionAt, IsRangeAt};
+ghost use Rattle.hm_messages.specs.Subjects.{subject_of};
+
+use crate::heading::{kind_of, level_of, name_in, title};
+use crate::messages::MessageFault;
+use crate::pages::Page;
+use crate::sentences::sentence;
+use crate::topic::Topic;
+use hm_json::{Message, Position, message_line};
+use hm_lex::Place;
+use std::alloc::{AllocError, Global};
+
+/// From a place to behind what is marked there.
+#[derive(Clone, Copy)]
+struct Range {
+    start: Position,
+    end: Position,
+}
+
+/// The position of a place.
+fn position_at(page: &Page<'_>, place: Place) -> Option<Position>
+    ensures { IfSome result (IsPositionAt page.now.lines place) }
+{
+    let columns = page.lines.columns(place)?;
+    Some(Position {
+        line: place.line,
+        columns,
+    })
+}
+
+/// From a place to behind what is marked there.
+fn range_at(page: &Page<'_>, place: Place) -> Option<Range>
+    ensures { IfSome result (λ range. IsRangeAt page.now.lines place range.start range.end) }
+{
+    let start = position_at(page, place)?;
+    let behind = page.lines.mark_end(place)?;
+    let end = position_at(page, behind)?;
+    Some(Range { start, end })
+}
+
+/// A sentence without its line end, if there is one.
+fn hint_in(alloc: Global, sentence: &str) -> Result<Option<String>, AllocError>
+    ensures { IfOk result (λ hint. IsHint sentence.now (option_map string_bytes hint)) }
+{
+    let mut hint = String::from_str(alloc, sentence)?;
+    match hint.pop() {
+        Some(_) => Ok(Some(hint)),
+        None => Ok(None),
+    }
+}
+
+/// The message of a topic at a place of a source, as an object.
+pub(crate) fn object(
+    alloc: Global,
+    page: &Page<'_>,
+    place: Place,
+    topic: &Topic<'_>,
+) -> Result<Vec<u8>, MessageFault>
+    ensures { IfOk result (λ text. IsObject page.now.file.now page.now.lines place (subject_of topic.now) text.items) }
+{
+    let Some(Range { start, end }) = range_at(page, place) else {
+        return Err(MessageFault::Place);
+    };
+    let file = String::from_utf8_lossy(alloc, page.file)?;
+    let text = title(alloc, topic)?;
+    let hint = hint_in(alloc, sentence(topic))?;
+    let hint = match &hint {
+        Some(hint) => Some(hint.as_str()),
+        None => None,
+    };
+    let message = Message {
+        file: file.as_str(),
+        start,
+        end,
+        level: level_of(topic),
+        kind: kind_of(topic),
+        module: page.module_at(place),
+        name: name_in(topic),
+        text: text.as_str(),
+        hint,
+    };
+    let line = message_line(alloc, &message)?;
+    Ok(Vec::from_slice(alloc, line.as_bytes())?)
+}

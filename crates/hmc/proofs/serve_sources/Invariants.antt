@@ -1,0 +1,6 @@
+use Rattle.std.specs.Prelude.{All}
+use Rattle.hm_devices.specs.Watching.{IsFresh}
+use Rattle.hmc.proofs.serve_sources.Given as goal
+
+abbrev pub invariant-loop-word : goal.invariant-loop-word
+invariant-loop-word g l = All IsFresh l.readers.items

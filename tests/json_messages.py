@@ -1,0 +1,127 @@
+#!/usr/bin/env python3
+"""Runs the program with `--message-format json` on the sources of tests/rows/messages.py, and compares its lines with tests/message.schema.json
+and with the messages of `--explain`.
+
+`json_messages.py [PROGRAM]`: without a word, the script `hmc` beside this folder is run. Ends with 1 where a line differs.
+"""
+import json
+import os
+import re
+import subprocess
+import sys
+import tempfile
+
+from rows import messages
+
+TOP = os.path.dirname(os.path.dirname(os.path.abspath(__file__)))
+PROGRAM = os.path.abspath(sys.argv[1]) if len(sys.argv) > 1 else os.path.join(TOP, "hmc")
+FILE = "M.hs"
+HEADING = re.compile(r"^(?P<file>[^:\n]*):(?P<line>\d+):(?P<column>\d+): (?P<level>error|note): (?P<text>.*?)(?: \[(?P<kind>[a-z-]+)\])?$", re.MULTILINE)
+TYPES = {"object": dict, "string": str, "integer": int, "null": type(None)}
+
+
+def differs(value, schema, root, at="line"):
+    """Why the value isn't of this schema, or nothing. It reads the words of JSON schemas that message.schema.json has, and refuses others."""
+    left = set(schema) - {"$schema", "title", "$defs", "$ref", "oneOf", "type", "minimum", "enum", "properties", "required", "additionalProperties"}
+    if left:
+        return f"{at}: the schema has {sorted(left)}"
+    if "$ref" in schema:
+        return differs(value, root["$defs"][schema["$ref"].removeprefix("#/$defs/")], root, at)
+    if "oneOf" in schema and sum(differs(value, each, root, at) is None for each in schema["oneOf"]) != 1:
+        return f"{at}: not of one kind: " + "; ".join(differs(value, each, root, at) or "" for each in schema["oneOf"])
+    types = schema.get("type", [])
+    types = [types] if isinstance(types, str) else types
+    if types and not any(type(value) is TYPES[each] for each in types):
+        return f"{at}: {value!r} is no {types}"
+    if "enum" in schema and value not in schema["enum"]:
+        return f"{at}: {value!r} is none of {schema['enum']}"
+    if "minimum" in schema and value < schema["minimum"]:
+        return f"{at}: {value} is less than {schema['minimum']}"
+    if "properties" in schema:
+        if lacking := set(schema["required"]) - set(value):
+            return f"{at}: no {sorted(lacking)}"
+        if not schema["additionalProperties"] and (more := set(value) - set(schema["properties"])):
+            return f"{at}: {sorted(more)} besides"
+        for name, each in value.items():
+            if why := differs(each, schema["properties"][name], root, f"{at}.{name}"):
+                return why
+    return None
+
+
+def position_fault(source, position):
+    """Why the columns of a position aren't those of one place, or nothing."""
+    line = source.split(b"\n")[position["line"] - 1] if position["line"] <= source.count(b"\n") + 1 else None
+    if line is None or not 1 <= position["byte"] <= len(line) + 1:
+        return f"no such place: {position}"
+    before = line[: position["byte"] - 1].decode()
+    wanted = {"character": len(before) + 1, "utf16": len(before.encode("utf-16-le")) // 2 + 1}
+    return None if all(position[name] == count for name, count in wanted.items()) else f"{position}, wanted {wanted}"
+
+
+def module_at(source, position):
+    """The last module whose name isn't behind a position."""
+    line_starts = [0] + [at + 1 for at, byte in enumerate(source) if byte == 10]
+    at = line_starts[position["line"] - 1] + position["byte"] - 1
+    starts = [each for each in re.finditer(rb"(?<![(,] )(?<![(,])\bmodule\s+([A-Z][\w.']*)", source) if each.start(1) <= at]
+    return starts[-1].group(1).decode() if starts else None
+
+
+def row_fault(source, status, run, schema):
+    """What is wrong with a run on a row's source, or nothing."""
+    objects, plain = run("--message-format", "json"), run("--explain")
+    if objects.returncode != status or objects.stdout != plain.stdout:
+        return "another status or report"
+    lines = objects.stderr.decode().split("\n")
+    if lines.pop():
+        return "a line without an end"
+    values = [json.loads(line) for line in lines]
+    for value in values:
+        if why := differs(value, schema, schema):
+            return why
+    if not values or values[-1]["level"] != "end" or any(value["level"] == "end" for value in values[:-1]):
+        return "no end"
+    last = values.pop()
+    told = list(HEADING.finditer(plain.stderr.decode()))
+    if [value["level"] for value in values] != [each["level"] for each in told]:
+        return "other levels than those of the messages"
+    for value, each in zip(values, told):
+        start = value["start"]
+        if (value["file"], start["line"], start["character"]) != (FILE, int(each["line"]), int(each["column"])):
+            return f"another place: {value}"
+        if value["text"] != each["text"] or value["level"] == "error" and value["kind"] != each["kind"]:
+            return f"another text: {value}"
+        for position in (start, value["end"]):
+            if why := position_fault(source, position):
+                return why
+        if (value["end"]["line"], value["end"]["byte"]) < (start["line"], start["byte"]):
+            return f"an end before its start: {value}"
+        if value["module"] != (None if status == 2 else module_at(source, start)):
+            return f"another module: {value}"
+        if value["hint"] is not None and value["hint"] + "\n" not in plain.stderr.decode():
+            return f"another hint: {value}"
+    errors = sum(value["level"] == "error" for value in values)
+    return None if last["errors"] == errors else f"{last}, with {errors} errors"
+
+
+def main():
+    with open(os.path.join(TOP, "tests", "message.schema.json"), encoding="utf-8") as it:
+        schema = json.load(it)
+    rows = [row for table in (messages.KINDS, messages.EXCERPTS) for row in table if len(row) == 4 or len(row) == 3]
+    rows.append(("module M where { f = 1 }", 0, ""))
+    failed = 0
+    with tempfile.TemporaryDirectory() as folder:
+        for source, status, *_ in rows:
+            source = source if isinstance(source, bytes) else source.encode()
+            with open(os.path.join(folder, FILE), "wb") as it:
+                it.write(source)
+            run = lambda *words: subprocess.run([PROGRAM, *words, FILE], cwd=folder, capture_output=True)
+            why = row_fault(source, status, run, schema)
+            if why:
+                failed += 1
+                print(f"{source[:200]!r}: {why}")
+    print(f"json messages: {len(rows) - failed} of {len(rows)} as wanted")
+    sys.exit(1 if failed else 0)
+
+
+if __name__ == "__main__":
+    main()
