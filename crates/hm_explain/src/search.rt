@@ -18,7 +18,7 @@ use std::alloc::{AllocError, Global};
 const MOST_TRIALS: usize = 200;
 
 /// What the explanations of a run may cost: a trial costs one for each byte of its source, and `COST_OF_TRIAL` more.
-const MOST_COST: usize = 1 << 22;
+const MOST_COST: usize = 1 << 21;
 
 const COST_OF_TRIAL: usize = 1 << 12;
 
