@@ -14,6 +14,7 @@ docs/ARCHITECTURE.md that say what each crate depends on.
    of `hm_c` have the word `f`. In PROMISES each file of a table, also by its short name, is a file of a crate that its
    section names, and each name with an underscore is a word of the crates.
 5. Each piece of Rust in docs/EMBEDDING.md is a part of the example program.
+6. README.md trusts the crates of the kit that crates.txt names, and no others.
 """
 import pathlib
 import re
@@ -140,6 +141,16 @@ def promise_faults():
     return faults
 
 
+def trusted_faults():
+    """README.md trusts the crates of the kit that crates.txt names, and no others."""
+    crates = listed()
+    rows = [line.partition(":")[2].split() for line in (TOP / "crates.txt").read_text().splitlines() if line[:1].isalpha()]
+    kit = {word for row in rows for word in row if word not in crates}
+    said = re.search(r"ported crates \(([^)]*)\)", (TOP / "README.md").read_text())
+    differing = kit.symmetric_difference(re.findall(r"`(\w+)`", said[1]) if said else ())
+    return [f"README.md trusts other crates of the kit than crates.txt names: {' '.join(sorted(differing))}"] if differing else []
+
+
 def example_faults():
     """Returns the pieces of Rust in EMBEDDING that the example program doesn't have."""
     program = (TOP / "crates" / "hm_example" / "src" / "main.rt").read_text()
@@ -149,7 +160,7 @@ def example_faults():
 
 def main():
     write = sys.argv[1:] == ["--write"]
-    faults = table_faults(write) + generated_faults() + edit_faults() + cited_faults() + promise_faults() + example_faults()
+    faults = table_faults(write) + generated_faults() + edit_faults() + cited_faults() + promise_faults() + trusted_faults() + example_faults()
     print(*faults, sep="\n", end="\n" if faults else "")
     print(f"the repository agrees with itself: {'no' if faults else 'yes'}")
     return bool(faults)
