@@ -6,18 +6,19 @@ use hm_syntax::{
     Decl, DeclKind, Expr, ExprKind, Header, Literal, LiteralKind, Module, Name, Pat, PatKind, Rhs,
     Row,
 };
+use hm_texts::Text;
 use std::alloc::{AllocError, Global};
 use std::sync::Arc;
 use std::test::Fail;
 
 fn name(alloc: Global, qualifier: Option<&str>, text: &str) -> Result<Name, AllocError> {
     let qualifier = match qualifier {
-        Some(module) => Some(String::from_str(alloc, module)?),
+        Some(module) => Some(Text::from_str(alloc, module)?),
         None => None,
     };
     Ok(Name {
         qualifier,
-        text: String::from_str(alloc, text)?,
+        text: Text::from_str(alloc, text)?,
         place: Place { line: 1, column: 1 },
     })
 }
@@ -28,7 +29,7 @@ fn call(alloc: Global) -> Result<Expr, AllocError> {
         kind: ExprKind::Var(name(alloc, Some("Prelude"), "not")?),
     };
     let literal = Literal {
-        kind: LiteralKind::Character(String::from_str(alloc, "'c'")?),
+        kind: LiteralKind::Character(Text::from_str(alloc, "'c'")?),
     };
     let argument = Expr {
         kind: ExprKind::Literal(literal),

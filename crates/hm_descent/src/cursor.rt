@@ -6,9 +6,10 @@ ghost use Rattle.hm_grammar.specs.Reading.Answers.{Gives};
 ghost use Rattle.hm_grammar.specs.Places.{AllLieIn};
 ghost use Rattle.hm_grammar.specs.Tokens.{terminals};
 
-use hm_grammar::{ParseFault, Symbol, name_in, string_of, symbol_of, text_of};
+use hm_grammar::{ParseFault, Symbol, name_in, symbol_of, text_of};
 use hm_lex::{Place, Token};
 use hm_syntax::Name;
+use hm_texts::TextTable;
 use std::alloc::Global;
 use std::marker::Model;
 
@@ -54,6 +55,8 @@ pub struct Parser<'a> {
     /// The first `::` whose type would end an alternative's guard. The arrow behind the guard would belong to the type,
     /// so no source goes on from that `::`.
     guard_type: Option<Place>,
+    /// The texts of the names that were read, by their bytes in the source.
+    texts: TextTable<'a>,
 }
 
 impl<'a> Model for Parser<'a> {
@@ -71,7 +74,7 @@ impl<'a> Model for Parser<'a> {
 
 impl<'a> Parser<'a> {
     /// A parser before all of these tokens of a source, whose last byte stands just before `end`.
-    pub fn new(source: &'a [u8], tokens: &'a [Token], end: Place) -> Parser<'a>
+    pub fn new(alloc: Global, source: &'a [u8], tokens: &'a [Token], end: Place) -> Parser<'a>
         requires { AllLieIn source.now tokens.now }
         ensures { result ≡ terminals source.now tokens.now }
     {
@@ -81,7 +84,16 @@ impl<'a> Parser<'a> {
             next: first_symbol(source, tokens),
             end,
             guard_type: None,
+            texts: TextTable::new(alloc),
         }
+    }
+
+    /// Forgets the texts of the names that were read. The names of later modules share none of them, so threads that work on different modules
+    /// don't count the owners of one text.
+    pub fn forget_texts(&mut self, alloc: Global)
+        ensures { self.new ≡ self.old }
+    {
+        self.texts.forget(alloc);
     }
 }
 
@@ -185,7 +197,12 @@ impl Parser<'_> {
     {
         match self.tokens.split_first() {
             Some((token, rest)) => {
-                let name = name_in(alloc, text_of(self.source, token), token.place)?;
+                let name = name_in(
+                    alloc,
+                    &mut self.texts,
+                    text_of(self.source, token),
+                    token.place,
+                )?;
                 let next = first_symbol(self.source, rest);
                 self.tokens = rest;
                 self.next = next;
@@ -201,7 +218,7 @@ impl Parser<'_> {
     {
         match self.tokens.split_first() {
             Some((token, rest)) => {
-                let text = string_of(alloc, text_of(self.source, token))?;
+                let text = self.texts.text(alloc, text_of(self.source, token))?;
                 let next = first_symbol(self.source, rest);
                 self.tokens = rest;
                 self.next = next;

@@ -12,7 +12,6 @@ use hm_grammar::{ParseFault, Symbol};
 use hm_lex::Place;
 use hm_syntax::{Alt, Decl, DeclKind, Expr, ExprKind, Name, Pat, PatKind, Rhs};
 use std::alloc::{AllocError, Global};
-use std::mem;
 
 impl Parser<'_> {
     /// An expression. A type may stand behind it, where it is closed.
@@ -508,7 +507,7 @@ impl Parser<'_> {
         let place = self.place();
         let pat = self.pat(alloc)?;
         let rhs = or_drop!(self.rhs(alloc, Symbol::Equals), pat);
-        Ok(binding_of(alloc, place, pat, rhs))
+        Ok(binding_of(alloc, place, pat, rhs)?)
     }
 
     /// The name of a variable.
@@ -563,30 +562,18 @@ impl Parser<'_> {
 }
 
 /// A pattern binding whose first token has this place; of a lone variable, its clause.
-fn binding_of(alloc: Global, place: Place, mut pat: Pat, rhs: Rhs) -> Decl
-    ensures { result ≡ binding_of place.line place.column pat rhs }
+fn binding_of(alloc: Global, place: Place, pat: Pat, rhs: Rhs) -> Result<Decl, AllocError>
+    ensures { IfOk result (λ d. d ≡ binding_of place.line place.column pat rhs) }
 {
-    let kind = match &mut pat.kind {
+    let kind = match &pat.kind {
         PatKind::Var(name) => DeclKind::Clause {
-            name: taken(alloc, name),
+            name: name.copy()?,
             pats: Vec::new(alloc),
             rhs,
         },
         _ => DeclKind::Pattern { place, pat, rhs },
     };
-    Decl { kind }
-}
-
-/// A name out of what is dropped without it.
-fn taken(alloc: Global, name: &mut Name) -> Name
-    ensures { result ≡ name.old }
-{
-    let nothing = Name {
-        qualifier: None,
-        text: String::new(alloc),
-        place: name.place,
-    };
-    mem::replace(name, nothing)
+    Ok(Decl { kind })
 }
 
 /// The operands, each with the colon behind it, before the last: colons group to the right.

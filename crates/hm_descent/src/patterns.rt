@@ -1,5 +1,5 @@
 //! Patterns (Haskell 98 Report, section 3.17), and the constructors and literals that stand in them (section 3.2).
-ghost use Rattle.std.specs.Prelude.{◌≡◌, ◌≤◌, ◌+◌, length, string_bytes, [], ◌∷◌, IfOk, OnOk, true, codes};
+ghost use Rattle.std.specs.Prelude.{◌≡◌, ◌≤◌, ◌+◌, length, [], ◌∷◌, IfOk, OnOk, true, codes};
 ghost use Rattle.hm_grammar.specs.Reading.Basics.{peek, tail, is_at, loop, closing, tuple_behind, list_in};
 ghost use Rattle.hm_grammar.specs.Reading.Constructors.{begins_gcon, special_at, commas_at, mark_by, mark_at, gcon_at, literal_at};
 ghost use Rattle.hm_grammar.specs.Grammar.Patterns.{tuple_text};
@@ -12,16 +12,16 @@ use crate::owned::{boxed, only};
 use crate::types::MAX_COMPONENTS;
 use hm_grammar::{ParseFault, Symbol};
 use hm_syntax::{Literal, LiteralKind, Name, Pat, PatKind};
+use hm_texts::Text;
 use std::alloc::{AllocError, Global};
-use std::mem;
 
 /// How many commas the constructor of a tuple may have.
 const MAX_COMMAS: usize = 14;
 
 /// The constructor of tuples with one component more than it has commas.
 #[tactic(auto, using(crate::proofs::MarkLoops::marks_text, crate::proofs::MarkLoops::marks_closed))]
-fn tuple_text(alloc: Global, commas: usize) -> Result<String, AllocError>
-    ensures { IfOk result (λ text. string_bytes text ≡ tuple_text commas) }
+fn tuple_text(alloc: Global, commas: usize) -> Result<Text, AllocError>
+    ensures { IfOk result (λ text. text ≡ tuple_text commas) }
 {
     let mut text = String::from_str(alloc, "(")?;
     let mut written = 0;
@@ -30,14 +30,14 @@ fn tuple_text(alloc: Global, commas: usize) -> Result<String, AllocError>
         written += 1;
     }
     text.push(')')?;
-    Ok(text)
+    Ok(Text::new(text)?)
 }
 
 /// The text of a name, whose other parts are dropped.
-fn into_text(alloc: Global, mut name: Name) -> String
-    ensures { string_bytes result ≡ name.text }
+fn into_text(name: Name) -> Result<Text, AllocError>
+    ensures { IfOk result (λ text. text ≡ name.text) }
 {
-    mem::replace(&mut name.text, String::new(alloc))
+    name.text.copy()
 }
 
 impl Parser<'_> {
@@ -72,18 +72,18 @@ impl Parser<'_> {
 
     /// The text of a special constructor, behind its `(`.
     #[tactic(auto, unfolding(hm_grammar::specs::Reading::Constructors::mark_at))]
-    pub(crate) fn mark(&mut self, alloc: Global) -> Result<String, ParseFault>
-        ensures { Gives (λ text. (string_bytes text, self.new)) result (mark_at self.old) }
+    pub(crate) fn mark(&mut self, alloc: Global) -> Result<Text, ParseFault>
+        ensures { Gives (λ text. (text, self.new)) result (mark_at self.old) }
     {
         match self.symbol() {
             Symbol::Close => {
                 self.skip();
-                Ok(String::from_str(alloc, "()")?)
+                Ok(Text::from_str(alloc, "()")?)
             }
             Symbol::Colon => {
                 self.skip();
                 self.expect(Symbol::Close)?;
-                Ok(String::from_str(alloc, ":")?)
+                Ok(Text::from_str(alloc, ":")?)
             }
             Symbol::Comma => self.tuple_mark(alloc),
             _ => Err(ParseFault::Syntax(self.place())),
@@ -91,8 +91,8 @@ impl Parser<'_> {
     }
 
     /// The text of the constructor of a tuple, from its first comma.
-    fn tuple_mark(&mut self, alloc: Global) -> Result<String, ParseFault>
-        ensures { Gives (λ text. (string_bytes text, self.new)) result (mark_by Comma self.old) }
+    fn tuple_mark(&mut self, alloc: Global) -> Result<Text, ParseFault>
+        ensures { Gives (λ text. (text, self.new)) result (mark_by Comma self.old) }
     {
         let commas = self.commas()?;
         self.expect(Symbol::Close)?;
@@ -119,7 +119,7 @@ impl Parser<'_> {
             Symbol::OpenSquare => {
                 self.skip();
                 self.expect(Symbol::CloseSquare)?;
-                let text = String::from_str(alloc, "[]")?;
+                let text = Text::from_str(alloc, "[]")?;
                 Ok(Name {
                     qualifier: None,
                     text,
@@ -139,19 +139,19 @@ impl Parser<'_> {
             Symbol::Integer => {
                 let name = self.module_name(alloc)?;
                 Ok(Literal {
-                    kind: LiteralKind::Integer(into_text(alloc, name)),
+                    kind: LiteralKind::Integer(into_text(name)?),
                 })
             }
             Symbol::Character => {
                 let name = self.module_name(alloc)?;
                 Ok(Literal {
-                    kind: LiteralKind::Character(into_text(alloc, name)),
+                    kind: LiteralKind::Character(into_text(name)?),
                 })
             }
             Symbol::Text => {
                 let name = self.module_name(alloc)?;
                 Ok(Literal {
-                    kind: LiteralKind::Text(into_text(alloc, name)),
+                    kind: LiteralKind::Text(into_text(name)?),
                 })
             }
             _ => Err(ParseFault::Syntax(self.place())),
@@ -167,7 +167,7 @@ impl Parser<'_> {
     {
         let place = self.place();
         self.skip();
-        let text = String::from_str(alloc, ":")?;
+        let text = Text::from_str(alloc, ":")?;
         Ok(Name {
             qualifier: None,
             text,

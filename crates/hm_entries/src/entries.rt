@@ -19,7 +19,7 @@ use crate::known_exports::{
 use hm_names::{Core, Exported, Schemes, declared_scheme, declared_synonym, own_entity};
 use hm_tables::{EntityKey, TextSet};
 use hm_types::{
-    ConstructorEntry, Entity, Interface, Scheme, Synonym, SynonymEntry, TypeEntry, ValueEntry,
+    ConstructorEntry, Entity, Interface, Scheme, Synonym, SynonymEntry, Text, TypeEntry, ValueEntry,
 };
 use indexmap::IndexMap;
 use std::alloc::{AllocError, Global};
@@ -131,7 +131,7 @@ fn push_constructor(
 fn add_constructor(
     alloc: Global,
     constructors: &mut Vec<ConstructorEntry>,
-    home: &str,
+    home: &Text,
     known: &IndexMap<EntityKey<'_>, KnownConstructor<'_>>,
     exported: &Exported,
 ) -> Result<(), AllocError>
@@ -146,7 +146,7 @@ fn add_constructor(
     match known {
         KnownConstructor::Declared(owner, params, constr) => {
             let scheme = declared_scheme(alloc, home, owner, params, constr)?;
-            let owner = own_entity(alloc, home, owner)?;
+            let owner = own_entity(home, owner)?;
             Ok(push_constructor(constructors, exported, owner, constr.args.len(), scheme)?)
         }
         KnownConstructor::Imported(entry) => {
@@ -161,7 +161,7 @@ fn add_constructor(
 fn add_constructors(
     alloc: Global,
     constructors: &mut Vec<ConstructorEntry>,
-    home: &str,
+    home: &Text,
     known: &IndexMap<EntityKey<'_>, KnownConstructor<'_>>,
     exports: &[Exported],
 ) -> Result<(), AllocError>
@@ -273,8 +273,8 @@ pub fn constructor_entries(
     requires interfaces { map (λ f. f.now) interfaces.now ≡ core.now.interfaces }
     ensures { IfOk result (λ entries. AreConstructorEntries core.now core.now.exported_constructors entries.items) }
 {
-    let home = core.name.as_str();
-    let known = known_constructors(alloc, home, core.decls.as_slice(), interfaces)?;
+    let home = &core.name;
+    let known = known_constructors(alloc, home.as_str(), core.decls.as_slice(), interfaces)?;
     let mut entries = Vec::new(alloc);
     let exports = core.exported_constructors.as_slice();
     add_constructors(alloc, &mut entries, home, &known, exports)?;

@@ -1,10 +1,11 @@
 //! Names and literals.
 
-ghost use Rattle.std.specs.Prelude.{◌≡◌, ◌↔◌, IsTrue, option_map, string_bytes};
+ghost use Rattle.std.specs.Prelude.{◌≡◌, ◌↔◌, IsTrue};
 
 use crate::rows::Part;
 use hm_lex::Place;
 use hm_syntax::{Literal, LiteralKind, Name};
+use hm_texts::Text;
 
 /// Whether two places are the same.
 pub(crate) fn is_same_place(place: &Place, other: &Place) -> bool
@@ -14,8 +15,8 @@ pub(crate) fn is_same_place(place: &Place, other: &Place) -> bool
 }
 
 /// Whether two names have the same qualifier, or both have none.
-fn is_same_qualifier(qualifier: &Option<String>, other: &Option<String>) -> bool
-    ensures { IsTrue result ↔ (option_map string_bytes qualifier.now ≡ option_map string_bytes other.now) }
+fn is_same_qualifier(qualifier: &Option<Text>, other: &Option<Text>) -> bool
+    ensures { IsTrue result ↔ (qualifier.now ≡ other.now) }
 {
     match (qualifier, other) {
         (None, None) => true,

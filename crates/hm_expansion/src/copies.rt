@@ -1,5 +1,5 @@
 //! Copies of names and literals.
-ghost use Rattle.std.specs.Prelude.{◌≡◌, map, IfOk, Some, None, option_map, string_bytes};
+ghost use Rattle.std.specs.Prelude.{◌≡◌, map, IfOk, Some, None, option_map};
 ghost use Rattle.hm_names.specs.Special.{special_of, special_arity};
 ghost use Rattle.hm_names.specs.Expansion.{as_entity};
 ghost use Rattle.hm_names.specs.Found.{no_qualifier, is_special, binder_of};
@@ -10,24 +10,11 @@ use hm_tables::EntityRef;
 use hm_types::Text;
 use std::alloc::{AllocError, Global};
 
-fn copy_qualifier(qualifier: &Option<String>) -> Result<Option<String>, AllocError>
-    ensures { IfOk result (λ q. option_map string_bytes q ≡ option_map string_bytes qualifier.now) }
-{
-    match qualifier {
-        None => Ok(None),
-        Some(text) => Ok(Some(text.clone()?)),
-    }
-}
-
 /// The same name at the same place.
 pub fn copy_name(name: &Name) -> Result<Name, AllocError>
     ensures { IfOk result (λ copy. copy ≡ name.now) }
 {
-    Ok(Name {
-        qualifier: copy_qualifier(&name.qualifier)?,
-        text: name.text.clone()?,
-        place: name.place,
-    })
+    name.copy()
 }
 
 /// Names of its own for each that is lent.
@@ -58,8 +45,8 @@ pub fn entity_name(alloc: Global, name: &Name, entity: &EntityRef<'_>) -> Result
     ensures { IfOk result (λ copy. copy ≡ as_entity name.now entity.now) }
 {
     Ok(Name {
-        qualifier: Some(String::from_str(alloc, entity.module())?),
-        text: String::from_str(alloc, entity.name())?,
+        qualifier: Some(entity.module_text().copy()?),
+        text: entity.name_text().copy()?,
         place: name.place,
     })
 }
@@ -71,12 +58,12 @@ pub fn bound_name(alloc: Global, home: &Option<Text>, name: &Name) -> Result<Nam
     match home {
         None => Ok(Name {
             qualifier: None,
-            text: name.text.clone()?,
+            text: name.text.copy()?,
             place: name.place,
         }),
         Some(module) => Ok(Name {
-            qualifier: Some(String::from_str(alloc, module.as_str())?),
-            text: name.text.clone()?,
+            qualifier: Some(module.copy()?),
+            text: name.text.copy()?,
             place: name.place,
         }),
     }
@@ -103,13 +90,13 @@ pub fn copy_literal(literal: &Literal) -> Result<Literal, AllocError>
 {
     match &literal.kind {
         LiteralKind::Integer(text) => Ok(Literal {
-            kind: LiteralKind::Integer(text.clone()?),
+            kind: LiteralKind::Integer(text.copy()?),
         }),
         LiteralKind::Character(text) => Ok(Literal {
-            kind: LiteralKind::Character(text.clone()?),
+            kind: LiteralKind::Character(text.copy()?),
         }),
         LiteralKind::Text(text) => Ok(Literal {
-            kind: LiteralKind::Text(text.clone()?),
+            kind: LiteralKind::Text(text.copy()?),
         }),
     }
 }

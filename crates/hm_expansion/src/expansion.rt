@@ -51,8 +51,8 @@ fn head_bytes(head: &Head) -> usize {
 /// How many bytes a name has.
 fn name_bytes(name: &Name) -> usize {
     match &name.qualifier {
-        None => name.text.len(),
-        Some(qualifier) => qualifier.len().saturating_add(name.text.len()),
+        None => name.as_str().len(),
+        Some(qualifier) => qualifier.as_str().len().saturating_add(name.as_str().len()),
     }
 }
 
@@ -144,8 +144,8 @@ fn name_of_entity(alloc: Global, name: &Name, entity: &Entity) -> Result<Name, A
     ensures { IfOk result (λ copy. copy ≡ as_entity name.now entity.now) }
 {
     Ok(Name {
-        qualifier: Some(String::from_str(alloc, entity.module.as_str())?),
-        text: String::from_str(alloc, entity.name.as_str())?,
+        qualifier: Some(entity.module.copy()?),
+        text: entity.name.copy()?,
         place: name.place,
     })
 }

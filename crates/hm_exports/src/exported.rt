@@ -49,18 +49,28 @@ fn of_namespace<'a>(
     Ok(out)
 }
 
+/// Returns the text of a binding. It is shared with the entity's name, which nearly always is the same.
+fn text_of(alloc: Global, binding: &Binding<'_>) -> Result<Text, AllocError>
+    ensures { IfOk result (λ text. text ≡ binding.now.text) }
+{
+    let entity = binding.entity();
+    if binding.text() == entity.name() {
+        return Ok(entity.name_text().copy()?);
+    }
+    Ok(Text::from_str(alloc, binding.text())?)
+}
+
 /// The entity of a binding, under its name.
 fn exported(alloc: Global, binding: &Binding<'_>) -> Result<Exported, AllocError>
     ensures { IfOk result (λ e. e ≡ exported_of binding.now) }
 {
-    let name = String::from_str(alloc, binding.text())?;
-    let module_name = String::from_str(alloc, binding.entity().module())?;
-    let entity_name = String::from_str(alloc, binding.entity().name())?;
+    let name = text_of(alloc, binding)?;
+    let entity = binding.entity();
     Ok(Exported {
-        name: Text::new(name)?,
+        name,
         entity: Entity {
-            module: Text::new(module_name)?,
-            name: Text::new(entity_name)?,
+            module: entity.module_text().copy()?,
+            name: entity.name_text().copy()?,
         },
     })
 }

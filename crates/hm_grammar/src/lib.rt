@@ -9,4 +9,4 @@ mod text;
 
 pub use crate::fault::ParseFault;
 pub use crate::symbol::{Symbol, symbol_of};
-pub use crate::text::{name_in, string_of, text_of};
+pub use crate::text::{name_in, text_of};

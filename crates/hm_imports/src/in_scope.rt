@@ -12,6 +12,7 @@ ghost use Rattle.hm_names.specs.declared.namespace.Namespace.TheVariants.{Types,
 use hm_names::{LentNames, Namespace, add_pattern};
 use hm_syntax::{Constr, Decl, DeclKind, Module, Name, Pat};
 use hm_tables::{Binding, EntityRef};
+use hm_types::Text;
 use std::alloc::{AllocError, Global};
 
 /// Adds an entity under its name behind a qualifier.
@@ -46,7 +47,7 @@ pub(crate) fn add_both<'a>(
 /// Adds an entity of the module of this name.
 fn add_own<'a>(
     pairs: &mut Vec<Binding<'a>>,
-    module_name: &'a str,
+    module_name: &'a Text,
     space: Namespace,
     name: &'a Name,
 ) -> Result<(), AllocError>
@@ -55,10 +56,10 @@ fn add_own<'a>(
     let text = name.as_str();
     add_both(
         pairs,
-        module_name,
+        module_name.as_str(),
         space,
         text,
-        EntityRef::new(module_name, text),
+        EntityRef::new(module_name, name.as_text()),
     )?;
     Ok(())
 }
@@ -66,7 +67,7 @@ fn add_own<'a>(
 /// Adds variables.
 fn add_names<'a>(
     pairs: &mut Vec<Binding<'a>>,
-    module_name: &'a str,
+    module_name: &'a Text,
     names: &[&'a Name],
 ) -> Result<(), AllocError>
     ensures { OnOk result (Adds pairs.old.items pairs.new.items (λ p. (n : Bor Identifier)
@@ -82,7 +83,7 @@ fn add_names<'a>(
 fn add_variables<'a>(
     alloc: Global,
     pairs: &mut Vec<Binding<'a>>,
-    module_name: &'a str,
+    module_name: &'a Text,
     pat: &'a Pat,
 ) -> Result<(), AllocError>
     ensures { OnOk result (Adds pairs.old.items pairs.new.items (λ p. (n : Identifier)
@@ -97,7 +98,7 @@ fn add_variables<'a>(
 /// Adds constructors.
 fn add_constructors<'a>(
     pairs: &mut Vec<Binding<'a>>,
-    module_name: &'a str,
+    module_name: &'a Text,
     constrs: &'a [Constr],
 ) -> Result<(), AllocError>
     ensures { OnOk result (Adds pairs.old.items pairs.new.items (λ p. (c : DataConstructor)
@@ -114,7 +115,7 @@ fn add_constructors<'a>(
 fn add_declaration<'a>(
     alloc: Global,
     pairs: &mut Vec<Binding<'a>>,
-    module_name: &'a str,
+    module_name: &'a Text,
     decl: &'a Decl,
 ) -> Result<(), AllocError>
     ensures { OnOk result (Adds pairs.old.items pairs.new.items (IsDeclaredPair module_name.now decl.now)) }
@@ -145,7 +146,7 @@ pub fn add_declared<'a>(
 ) -> Result<(), AllocError>
     ensures { OnOk result (Adds pairs.old.items pairs.new.items (IsOwnPair program.now)) }
 {
-    let module_name = program.header.name.as_str();
+    let module_name = program.header.name.as_text();
     for decl in program.decls.as_slice() {
         add_declaration(alloc, pairs, module_name, decl)?;
     }

@@ -1,6 +1,6 @@
 //! Type faults are told by the first bindings of their units (Haskell 98 Report, section 4.5.1).
 
-ghost use Rattle.std.specs.Prelude.{◌≡◌, ◌<◌, ◌++◌, All, IfOk, OnOk, List, length, option_map, string_bytes};
+ghost use Rattle.std.specs.Prelude.{◌≡◌, ◌<◌, ◌++◌, All, IfOk, OnOk, List, length, option_map};
 ghost use Rattle.hm_syntax.specs.Lists.{patterns};
 ghost use Rattle.hm_typing.specs.Names.{Identifier as UnitName};
 ghost use Rattle.hm_names.specs.ModuleCores.{ModuleCore};
@@ -50,23 +50,23 @@ fn first_variable_among(row: &[Pat]) -> Option<&Name>
 }
 
 /// The fault of a unit without a type.
-fn untyped(place: Place, text: String) -> Result<Fault, AllocError>
-    ensures { IfOk result (λ told. told ≡ fault Untyped (bare place.line place.column (string_bytes text))) }
+fn untyped(place: Place, name: Text) -> Fault
+    ensures { result ≡ fault Untyped (bare place.line place.column name) }
 {
-    Ok(Fault {
+    Fault {
         place,
         kind: Kind::Untyped,
-        name: Text::new(text)?,
-    })
+        name,
+    }
 }
 
 /// The text by which a pattern is told: its first variable, or `_` where it has none.
-fn pattern_text(alloc: Global, pat: &Pat) -> Result<String, AllocError>
-    ensures { IfOk result (λ text. string_bytes text ≡ first_text (pattern_variables pat.now)) }
+fn pattern_text(alloc: Global, pat: &Pat) -> Result<Text, AllocError>
+    ensures { IfOk result (λ text. text ≡ first_text (pattern_variables pat.now)) }
 {
     match first_variable(pat) {
-        Some(name) => Ok(name.text.clone()?),
-        None => Ok(String::from_str(alloc, "_")?),
+        Some(name) => Ok(name.text.copy()?),
+        None => Ok(Text::from_str(alloc, "_")?),
     }
 }
 
@@ -76,11 +76,11 @@ fn add_fault(alloc: Global, faults: &mut Vec<Fault>, decl: &Decl) -> Result<(), 
 {
     match &decl.kind {
         DeclKind::Clause { name, .. } => {
-            faults.push(untyped(name.place, name.text.clone()?)?)?;
+            faults.push(untyped(name.place, name.text.copy()?))?;
             Ok(())
         }
         DeclKind::Pattern { place, pat, .. } => {
-            faults.push(untyped(*place, pattern_text(alloc, pat)?)?)?;
+            faults.push(untyped(*place, pattern_text(alloc, pat)?))?;
             Ok(())
         }
         _ => Ok(()),

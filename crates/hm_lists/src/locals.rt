@@ -28,13 +28,19 @@ impl Model for Group {
 }
 
 /// Notes that a name is bound at this depth, unless it is bound further out.
-fn note(depths: &mut HashMap<String, usize>, name: &Name, depth: usize) -> Result<(), AllocError>
+fn note(
+    alloc: Global,
+    depths: &mut HashMap<String, usize>,
+    name: &Name,
+    depth: usize,
+) -> Result<(), AllocError>
     ensures { OnOk result ((x : List ℕ) → get_by_text depths.new x ≡ or_else (get_by_text depths.old x) (cond (bytes_eq name.now.text x) (Some depth) None)) }
 {
     match depths.get(name.as_str()) {
         Some(_) => Ok(()),
         None => {
-            depths.insert(name.text.clone()?, depth)?;
+            let key = String::from_str(alloc, name.as_str())?;
+            depths.insert(key, depth)?;
             Ok(())
         }
     }
@@ -42,6 +48,7 @@ fn note(depths: &mut HashMap<String, usize>, name: &Name, depth: usize) -> Resul
 
 /// Notes that names are bound at this depth, but for those that are bound further out.
 fn note_all(
+    alloc: Global,
     depths: &mut HashMap<String, usize>,
     names: &[Name],
     depth: usize,
@@ -50,7 +57,7 @@ fn note_all(
         ≡ or_else (get_by_text depths.old x) (cond (is_text_among x (texts names.now)) (Some depth) None)) }
 {
     'names: for name in names {
-        note(depths, name, depth)?;
+        note(alloc, depths, name, depth)?;
     }
     Ok(())
 }
@@ -125,7 +132,7 @@ impl Locals {
     pub fn enter(&mut self, names: Vec<Name>) -> Result<(), AllocError>
         ensures { OnOk result (self.new ≡ texts names.items ∷ self.old) }
     {
-        match enter_group(&mut self.groups, &mut self.depths, names) {
+        match enter_group(self.alloc, &mut self.groups, &mut self.depths, names) {
             Ok(()) => Ok(()),
             Err(AllocError) => {
                 self.groups = Vec::new(self.alloc);
@@ -152,6 +159,7 @@ impl Locals {
 
 /// Adds a list of names.
 fn enter_group(
+    alloc: Global,
     groups: &mut Vec<Group>,
     depths: &mut HashMap<String, usize>,
     names: Vec<Name>,
@@ -159,7 +167,7 @@ fn enter_group(
     ensures groups { OnOk result (groups.new.items ≡ groups.old.items ++ texts names.items ∷ []) }
     ensures depths { OnOk result (IsDepthTable groups.old.items depths.old → IsDepthTable groups.new.items depths.new) }
 {
-    note_all(depths, &names, groups.len())?;
+    note_all(alloc, depths, &names, groups.len())?;
     groups.push(Group { names })?;
     Ok(())
 }

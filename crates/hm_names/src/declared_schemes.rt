@@ -59,14 +59,12 @@ fn variables_below(alloc: Global, count: usize) -> Result<Types, AllocError>
 }
 
 /// The entity of a module's own name.
-pub fn own_entity(alloc: Global, home: &str, name: &Name) -> Result<Entity, AllocError>
+pub fn own_entity(home: &Text, name: &Name) -> Result<Entity, AllocError>
     ensures { IfOk result (λ e. e ≡ named home.now name.now.text) }
 {
-    let home = String::from_str(alloc, home)?;
-    let text = String::from_str(alloc, name.as_str())?;
     Ok(Entity {
-        module: Text::new(home)?,
-        name: Text::new(text)?,
+        module: home.copy()?,
+        name: name.text.copy()?,
     })
 }
 
@@ -83,10 +81,10 @@ fn function_from(alloc: Global, arguments: Vec<Ty>, outcome: Ty) -> Result<Ty, A
 }
 
 /// The type to which a constructor belongs, over so many parameters.
-fn owner_type(alloc: Global, home: &str, owner: &Name, count: usize) -> Result<Ty, AllocError>
+fn owner_type(alloc: Global, home: &Text, owner: &Name, count: usize) -> Result<Ty, AllocError>
     ensures { IfOk result (λ t. type_of t ≡ App (Named (named home.now owner.now.text)) (arguments_of (numbered 0 count))) }
 {
-    let head = Head::Named(own_entity(alloc, home, owner)?);
+    let head = Head::Named(own_entity(home, owner)?);
     let parameters = variables_below(alloc, count)?;
     Ok(Ty::App(head, parameters))
 }
@@ -107,7 +105,7 @@ fn constructor_type(
 /// The scheme of a constructor of a type of the core.
 pub fn declared_scheme(
     alloc: Global,
-    home: &str,
+    home: &Text,
     owner: &Name,
     params: &[Name],
     constr: &Constr,

@@ -16,11 +16,11 @@ pub(crate) fn entity_of(alloc: Global, name: &Name) -> Result<Entity, AllocError
     match &name.qualifier {
         None => Ok(Entity {
             module: Text::new(String::new(alloc))?,
-            name: Text::new(name.text.clone()?)?,
+            name: name.text.copy()?,
         }),
         Some(qualifier) => Ok(Entity {
-            module: Text::new(qualifier.clone()?)?,
-            name: Text::new(name.text.clone()?)?,
+            module: qualifier.copy()?,
+            name: name.text.copy()?,
         }),
     }
 }

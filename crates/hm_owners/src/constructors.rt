@@ -6,7 +6,7 @@ ghost use Rattle.hm_owners.specs.Owners.{IsOwners};
 
 use hm_syntax::{Constr, Decl, DeclKind, Module, Name};
 use hm_tables::{EntityKey, EntityRef};
-use hm_types::{ConstructorEntry, Interface};
+use hm_types::{ConstructorEntry, Interface, Text};
 use indexmap::IndexMap;
 use std::alloc::{AllocError, Global};
 
@@ -33,22 +33,22 @@ fn note_owner<'a>(
 /// Notes the type of a constructor of its declaration.
 fn note_constructor<'a>(
     owners: &mut IndexMap<EntityKey<'a>, EntityRef<'a>>,
-    module: &'a str,
+    module: &'a Text,
     name: &'a Name,
     constr: &'a Constr,
 ) -> Result<(), AllocError>
     ensures { OnOk result ((ds : List ConstructorDescription) → IsOwners ds owners.old
         → IsOwners (ds ++ described «module».now name.now constr.now ∷ []) owners.new) }
 {
-    let constructor = EntityRef::new(module, constr.name.as_str());
-    note_owner(owners, &constructor, EntityRef::new(module, name.as_str()))?;
+    let constructor = EntityRef::new(module, constr.name.as_text());
+    note_owner(owners, &constructor, EntityRef::new(module, name.as_text()))?;
     Ok(())
 }
 
 /// Notes the type of each constructor of its declaration.
 fn note_constructors<'a>(
     owners: &mut IndexMap<EntityKey<'a>, EntityRef<'a>>,
-    module: &'a str,
+    module: &'a Text,
     name: &'a Name,
     constrs: &'a [Constr],
 ) -> Result<(), AllocError>
@@ -64,7 +64,7 @@ fn note_constructors<'a>(
 /// Notes the types of the constructors that a declaration declares.
 fn note_declaration<'a>(
     owners: &mut IndexMap<EntityKey<'a>, EntityRef<'a>>,
-    module: &'a str,
+    module: &'a Text,
     decl: &'a Decl,
 ) -> Result<(), AllocError>
     ensures { OnOk result ((ds : List ConstructorDescription) → IsOwners ds owners.old
@@ -94,7 +94,7 @@ fn note_declared<'a>(
     ensures { OnOk result ((ds : List ConstructorDescription) → IsOwners ds owners.old
         → IsOwners (ds ++ declared_constructors program.now.header.name.text program.now.decls) owners.new) }
 {
-    let module = program.header.name.as_str();
+    let module = program.header.name.as_text();
     for decl in program.decls.as_slice() {
         note_declaration(owners, module, decl)?;
     }

@@ -12,14 +12,14 @@ ghost use Rattle.hm_assumptions.specs.Kept.{schemes_of};
 use hm_assumptions::{Constructors, Entry, KnownScheme};
 use hm_names::{Core, declared_scheme};
 use hm_syntax::{Constr, Decl, DeclKind, Name};
-use hm_types::{ConstructorEntry, Interface};
+use hm_types::{ConstructorEntry, Interface, Text};
 use std::alloc::{AllocError, Global};
 use std::sync::Arc;
 
 /// A type that a module declares: the module's name, its own, and its parameters.
 #[derive(Clone, Copy)]
 struct Owner<'d, 'a> {
-    home: &'a str,
+    home: &'a Text,
     name: &'d Name,
     params: &'d [Name],
 }
@@ -37,7 +37,7 @@ fn add_constructor<'a>(
 {
     let scheme = declared_scheme(alloc, owner.home, owner.name, owner.params, constr)?;
     entries.push(Entry {
-        module: owner.home,
+        module: owner.home.as_str(),
         name: constr.name.as_str(),
         scheme: KnownScheme::Made(scheme),
     })?;
@@ -65,7 +65,7 @@ fn add_constructors<'a>(
 fn add_declaration<'a>(
     alloc: Global,
     entries: &mut Vec<Entry<'a>>,
-    home: &'a str,
+    home: &'a Text,
     decl: &'a Decl,
 ) -> Result<(), AllocError>
     requires { HasDistinctParameters decl.now }
@@ -99,7 +99,7 @@ fn add_declaration<'a>(
 fn add_declared<'a>(
     alloc: Global,
     entries: &mut Vec<Entry<'a>>,
-    home: &'a str,
+    home: &'a Text,
     decls: &'a [Decl],
 ) -> Result<(), AllocError>
     requires { (d : Declaration) → Contains decls.now d → HasDistinctParameters d }
@@ -148,12 +148,7 @@ pub fn known_constructors<'a>(alloc: Global, core: &'a Core) -> Result<Construct
     ensures { IfOk result (λ constructors. known_of constructors ≡ known core.now) }
 {
     let mut entries = Vec::new(alloc);
-    add_declared(
-        alloc,
-        &mut entries,
-        core.name.as_str(),
-        core.decls.as_slice(),
-    )?;
+    add_declared(alloc, &mut entries, &core.name, core.decls.as_slice())?;
     add_imported(&mut entries, core.interfaces.as_slice())?;
     Ok(Constructors::new(alloc, core.name.copy()?, entries)?)
 }

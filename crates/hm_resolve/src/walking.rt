@@ -39,7 +39,7 @@ pub fn walk(
         ≡ map (declaration_with (resolver_of (lookups_in scope.now tables.now.synonyms tables.now.types tables.now.constructors)) (top «module».now)
         []) «module».now.decls) }
 {
-    let home = Some(Text::new(module.header.name.text.clone()?)?);
+    let home = Some(module.header.name.text.copy()?);
     let mut walk = Resolving::new(alloc, scope, tables);
     walk.note_list(alloc, module.decls.as_slice())?;
     let decls = walk.decl_row(alloc, &home, module.decls.as_slice())?;

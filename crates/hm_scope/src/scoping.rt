@@ -370,7 +370,7 @@ fn exported_rows(alloc: Global, given: &[Binding<'_>]) -> Result<ExportedRows, A
 fn name_of(module: &Module) -> Result<Text, AllocError>
     ensures { IfOk result (λ name. name ≡ «module».now.header.name.text) }
 {
-    Text::new(module.header.name.text.clone()?)
+    module.header.name.text.copy()
 }
 
 /// The core of these declarations and exports.

@@ -5,17 +5,19 @@
 //! at the place of their first token.
 //!
 //! What drops a tree is written out and not derived, so that it is proved here once, and not again in each crate that drops one.
-ghost use Rattle.std.specs.Prelude.{◌≡◌};
+ghost use Rattle.std.specs.Prelude.{◌≡◌, IfOk};
 
 use hm_lex::Place;
+use hm_texts::Text;
+use std::alloc::AllocError;
 use std::marker::Model;
 
 /// A name as it is written, with the place of its first byte.
 pub struct Name {
     /// What stands before the last dot; a module's name has none, and its whole text in `text`.
-    pub qualifier: Option<String>,
+    pub qualifier: Option<Text>,
     /// What stands behind the last dot, or the whole.
-    pub text: String,
+    pub text: Text,
     pub place: Place,
 }
 
@@ -30,12 +32,11 @@ impl Drop for Name {
 }
 
 impl Model for Name {
-    ghost use Rattle.std.specs.Prelude.{option_map, string_bytes};
     ghost use Rattle.hm_syntax.specs.Names.{Identifier};
 
     ghost Value = { Identifier };
 
-    ghost view = { λ n. record { qualifier = option_map string_bytes n.qualifier; text = string_bytes n.text; line = n.place.line; column = n.place.column } };
+    ghost view = { λ n. record { qualifier = n.qualifier; text = n.text; line = n.place.line; column = n.place.column } };
 }
 
 /// A literal as it is written.
@@ -46,10 +47,10 @@ pub struct Literal {
 
 /// The kinds of literals, each with its text, quotes included (Report, sections 2.5 and 2.6).
 pub enum LiteralKind {
-    Integer(String),
-    Character(String),
+    Integer(Text),
+    Character(Text),
     /// A string literal.
-    Text(String),
+    Text(Text),
 }
 
 impl Drop for LiteralKind {
@@ -556,6 +557,32 @@ impl Name {
         ensures { result.now ≡ self.now.text }
     {
         self.text.as_str()
+    }
+
+    /// The text, without its qualifier. A copy of it shares its bytes.
+    pub fn as_text(&self) -> &Text
+        ensures { result.now ≡ self.now.text }
+    {
+        &self.text
+    }
+
+    /// Returns the same name at the same place, which shares the texts.
+    ///
+    /// # Errors
+    ///
+    /// If memory runs out.
+    pub fn copy(&self) -> Result<Name, AllocError>
+        ensures { IfOk result (λ copy. copy ≡ self.now) }
+    {
+        let qualifier = match &self.qualifier {
+            None => None,
+            Some(text) => Some(text.copy()?),
+        };
+        Ok(Name {
+            qualifier,
+            text: self.text.copy()?,
+            place: self.place,
+        })
     }
 }
 

@@ -3,14 +3,14 @@
 ghost use Rattle.std.specs.Prelude.{◌≡◌, ◌↔◌, IsTrue, option_map};
 
 use hm_names::Namespace;
-use hm_types::Entity;
+use hm_types::{Entity, Text};
 use std::marker::Model;
 
 /// An entity by its two texts, lent: the module that defines it, and its name there.
 #[derive(Drop)]
 pub struct EntityRef<'a> {
-    module: &'a str,
-    name: &'a str,
+    module: &'a Text,
+    name: &'a Text,
 }
 
 impl<'a> Model for EntityRef<'a> {
@@ -23,7 +23,7 @@ impl<'a> Model for EntityRef<'a> {
 
 impl<'a> EntityRef<'a> {
     /// The entity of this name in this module.
-    pub fn new(module: &'a str, name: &'a str) -> EntityRef<'a>
+    pub fn new(module: &'a Text, name: &'a Text) -> EntityRef<'a>
         ensures { result ≡ record { «module» = «module».now; name = name.now } }
     {
         EntityRef { module, name }
@@ -34,8 +34,8 @@ impl<'a> EntityRef<'a> {
         ensures { result ≡ entity.now }
     {
         EntityRef {
-            module: entity.module.as_str(),
-            name: entity.name.as_str(),
+            module: &entity.module,
+            name: &entity.name,
         }
     }
 
@@ -43,11 +43,25 @@ impl<'a> EntityRef<'a> {
     pub fn module(&self) -> &'a str
         ensures { result.now ≡ self.now.«module» }
     {
+        self.module.as_str()
+    }
+
+    /// The text of the module that defines it.
+    pub fn module_text(&self) -> &'a Text
+        ensures { result.now ≡ self.now.«module» }
+    {
         self.module
     }
 
     /// Its name in that module.
     pub fn name(&self) -> &'a str
+        ensures { result.now ≡ self.now.name }
+    {
+        self.name.as_str()
+    }
+
+    /// The text of its name in that module.
+    pub fn name_text(&self) -> &'a Text
         ensures { result.now ≡ self.now.name }
     {
         self.name
@@ -67,7 +81,7 @@ impl<'a> EntityRef<'a> {
     pub fn is_same(&self, other: &EntityRef<'_>) -> bool
         ensures { IsTrue result ↔ (self.now ≡ other.now) }
     {
-        self.module == other.module && self.name == other.name
+        self.module.is_same(other.module) && self.name.is_same(other.name)
     }
 }
 

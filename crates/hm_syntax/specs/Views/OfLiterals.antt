@@ -1,10 +1,9 @@
 -- How literals are seen.
-use Rattle.std.specs.Prelude.{string_bytes}
 use Rattle.hm_syntax.specs.Names.{LiteralTree, integer, character, string}
 use Rattle.hm_syntax.specs.declared.ast.LiteralKind.{LiteralKind}
 use Rattle.hm_syntax.specs.declared.ast.LiteralKind.TheVariants.{Integer, Character, Text}
 
 abbrev pub literal_of : LiteralKind → LiteralTree
-literal_of (Integer s) = integer (string_bytes s)
-literal_of (Character s) = character (string_bytes s)
-literal_of (Text s) = string (string_bytes s)
+literal_of (Integer s) = integer s
+literal_of (Character s) = character s
+literal_of (Text s) = string s

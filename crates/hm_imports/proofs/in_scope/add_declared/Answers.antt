@@ -10,7 +10,7 @@ loop-decl-preserved c =
     let decls : List Declaration = c.args.program.now.decls in
     let is = c.as_slice-decl-items.ensures in
     for_more (λ (d : Declaration). IsDeclaredPair c.args.program.now.header.name.text d) c.args.pairs.now.items c.loop-decl.pairs.items c.add_declaration.new.pairs.items decls c.loop-decl.decl-index c.decl-item.result
-    (rw is at c.loop-decl-test.true) (rw is at c.decl-item.is) c.loop-decl.invariant (rw c.as_str-module_name.ensures at c.in_ok-add_declaration.ensures)
+    (rw is at c.loop-decl-test.true) (rw is at c.decl-item.is) c.loop-decl.invariant (rw c.as_text-module_name.ensures at c.in_ok-add_declaration.ensures)
 
 pub returns : goal.returns
 returns c = module_adds c.args.pairs.now.items c.loop-decl.pairs.items c.args.program.now

@@ -6,5 +6,6 @@ pub returns : goal.returns
 returns c =
     let m : List ℕ = c.args.module_name.now in
     let t = c.as_str-text.ensures in
-    let entity = c.new.ensures ∙ ap (λ (x : List ℕ). named m x) t in
-    rw t at (rw entity at c.in_ok-add_both.ensures)
+    let home = c.as_str.ensures in
+    let entity = c.new.ensures ∙ ap (λ (x : List ℕ). named m x) c.as_text.ensures in
+    rw home at (rw t at (rw entity at c.in_ok-add_both.ensures))

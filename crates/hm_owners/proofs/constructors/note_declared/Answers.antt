@@ -14,7 +14,7 @@ loop-decl-preserved c = λ ds table.
     let is = c.as_slice-decl-items.ensures in
     declared_more c.args.program.now.header.name.text ds c.args.program.now.decls c.loop-decl.decl-index c.decl-item.result c.note_declaration.new.owners
     (rw is at c.loop-decl-test.true) (rw is at c.decl-item.is) (subst (λ (m : List ℕ). IsOwners ((ds ++ declared_constructors c.args.program.now.header.name.text (take c.loop-decl.decl-index c.args.program.now.decls)) ++ declared_constructors m (c.decl-item.result ∷ [])) c.note_declaration.new.owners)
-    c.as_str-module.ensures (c.in_ok-note_declaration.ensures _ (c.loop-decl.invariant ds table)))
+    c.as_text-module.ensures (c.in_ok-note_declaration.ensures _ (c.loop-decl.invariant ds table)))
 
 pub returns : goal.returns
 returns c = λ ds table.

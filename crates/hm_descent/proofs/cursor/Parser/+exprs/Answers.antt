@@ -55,7 +55,15 @@ colons-colons-preserved t c =
       left = omega (arith, taken, same, operand, c.colons.invariant.left);
     }
 
+pub colons-colons-smaller : goal.colons-colons-smaller
+colons-colons-smaller t c =
+    let at : is_at Colon c.colons.self ≡ true = search rules in
+    let taken : length (tail c.colons.self) < length c.colons.self = colon_shorter c.colons.self at in
+    let same : length c.with_colon.new.self ≡ length (tail c.colons.self) = ap length c.in_ok-linked.ensures.ok in
+    let operand : length c.operand.new.self < length c.with_colon.new.self = opd_shorter c.with_colon.new.self c.operand.new.self c.in_ok-last.last c.in_ok-last.ensures in
+    omega (arith, taken, same, operand)
+
 pub binding-returns : goal.binding-returns
 binding-returns t c =
     binding_is c.args.self.now c.pat.new.self c.rhs.new.self c.place-place.result c.in_ok-pat.pat c.in-Ok.answer c.place-place.ensures c.in_ok-pat.ensures c.in-Ok.ensures
-    ∙ ap (λ z. Some (z, c.rhs.new.self)) (sym c.binding_of.ensures)
+    ∙ ap (λ z. Some (z, c.rhs.new.self)) (sym c.in_ok-binding_of.ensures)
