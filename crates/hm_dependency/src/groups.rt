@@ -1,9 +1,9 @@
 //! The units of a declaration list (Haskell 98 Report, section 4.5.1), in an order in which each comes after those that it depends on.
 
-ghost use Rattle.std.specs.Prelude.{◌≡◌, ℕ, IfOk, Err, length};
+ghost use Rattle.std.specs.Prelude.{◌≡◌, ℕ, [], ◌∷◌, IfOk, Err, length};
 ghost use Rattle.hm_components.specs.Digraph.{AreGroups, Graph, lists};
 ghost use Rattle.hm_syntax.specs.Lists.{declarations};
-ghost use Rattle.hm_groups.specs.Nodes.{IsGraphOf, list_nodes, owners};
+ghost use Rattle.hm_groups.specs.Nodes.{AreSigned, IsGraphOf, list_nodes, owners};
 ghost use Rattle.hm_groups.specs.Members.{AreRows};
 ghost use Rattle.hm_typing.specs.Names.{IsDistinct};
 ghost use Rattle.hm_typing.specs.Syntax.{names};
@@ -48,8 +48,42 @@ fn check_distinct(alloc: Global, decls: &[Decl]) -> Result<(), GroupFault>
     Ok(())
 }
 
+/// The nodes of a list whose names are distinct; where they aren't the answer is `Repeated`. Where no name has a signature, all names are
+/// nodes, so the list is gone through once.
+fn distinct_nodes<'a>(
+    alloc: Global,
+    signed: &IndexSet<&str>,
+    decls: &'a [Decl],
+) -> Result<NodeList<'a>, GroupFault>
+    requires { AreSigned (declarations decls.now) signed.now }
+    ensures nodes { IfOk result (λ list. list.numbers ≡ list_nodes (declarations decls.now) (declarations decls.now)) }
+    ensures owners { IfOk result (λ list. list.owners.items ≡ owners (declarations decls.now) (declarations decls.now)) }
+    ensures distinct { IfOk result (λ _. (k : Known) → IsDistinct (names (bindings_of k (declarations decls.now) (declarations decls.now)))) }
+    ensures repeated { result ≡ Err GroupFault.Repeated → (k : Known)
+        → ¬ (IsDistinct (names (bindings_of k (declarations decls.now) (declarations decls.now)))) }
+{
+    if !signed.is_empty() {
+        check_distinct(alloc, decls)?;
+        return Ok(node_list(alloc, signed, decls)?);
+    }
+    let list = node_list(alloc, signed, decls)?;
+    list.numbers.has_each_once();
+    Ok(list)
+}
+
+/// The group of one node.
+fn one_group(alloc: Global) -> Result<Vec<Vec<usize>>, AllocError>
+    ensures { IfOk result (λ groups. lists groups.items ≡ (0 ∷ []) ∷ []) }
+{
+    let mut group = Vec::with_capacity(alloc, 1)?;
+    group.push(0)?;
+    let mut groups = Vec::with_capacity(alloc, 1)?;
+    groups.push(group)?;
+    Ok(groups)
+}
+
 /// The groups of a list's graph, in their order.
-fn groups_of(
+fn graph_groups(
     alloc: Global,
     list: &NodeList<'_>,
     decls: &[Decl],
@@ -59,6 +93,26 @@ fn groups_of(
     ensures { IfOk result (λ groups. (graph : Graph) × IsGraphOf (declarations decls.now) graph × AreGroups graph (lists groups.items)) }
 {
     graph_of(alloc, list, decls)?.groups()
+}
+
+/// The groups of a list, in their order. One node needs no graph.
+fn groups_of(
+    alloc: Global,
+    list: &NodeList<'_>,
+    decls: &[Decl],
+) -> Result<Vec<Vec<usize>>, AllocError>
+    requires nodes { list.now.numbers ≡ list_nodes (declarations decls.now) (declarations decls.now) }
+    requires owners { list.now.owners.items ≡ owners (declarations decls.now) (declarations decls.now) }
+    requires distinct { (k : Known) → IsDistinct (names (bindings_of k (declarations decls.now) (declarations decls.now))) }
+    ensures { IfOk result (λ groups. (k : Known)
+        → AreNumberedGroups (bindings_of k (declarations decls.now) (declarations decls.now)) (node_name k (declarations decls.now))
+        (length list.now.numbers) (lists groups.items)) }
+{
+    list.numbers.has_each_once();
+    if list.numbers.len() == 1 {
+        return Ok(one_group(alloc)?);
+    }
+    Ok(graph_groups(alloc, list, decls)?)
 }
 
 /// The units of a list. Where a name is bound twice the list has no typing, and the answer is `Repeated`.
@@ -72,9 +126,7 @@ pub fn binding_groups<'a>(alloc: Global, decls: &'a [Decl]) -> Result<BindingGro
     ensures repeated { result ≡ Err GroupFault.Repeated → (k : Known)
         → ¬ (IsDistinct (names (bindings_of k (declarations decls.now) (declarations decls.now)))) }
 {
-    check_distinct(alloc, decls)?;
-    let list = node_list(alloc, &signed_texts(alloc, decls)?, decls)?;
-    list.numbers.has_each_once();
+    let list = distinct_nodes(alloc, &signed_texts(alloc, decls)?, decls)?;
     let groups = groups_of(alloc, &list, decls)?;
     let NodeList { numbers, owners } = list;
     let rows = rows_of(alloc, &owners, numbers.len(), decls)?;
