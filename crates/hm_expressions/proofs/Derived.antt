@@ -81,8 +81,15 @@ function_local known f whole es s b w r q us ws g d p =
     let U = sym (d 0 (omega arith)) in
     (subst₂ (λ C v. Derives C (expression_of known f) v) A U p.0, sym U ∙ (p.1 ∙ T))
 
+whole_is : (argument : ℕ) (whole t : Mono) → monotype whole ≡ arrow (from_number false argument 0) (monotype t) → monotype whole ≡ arrow (monotype (Var (var argument))) (monotype t)
+whole_is argument whole t k = k ∙ ap (λ n. arrow (Var (number (var n))) (monotype t)) (let q : argument + 0 ≡ argument = omega arith in q)
+
 whole_turn : (argument : ℕ) (whole t : Mono) → monotype whole ≡ arrow (from_number false argument 0) (monotype t) → (r : ℕ → Monotype) → put r (monotype whole) ≡ put r (arrow (monotype (Var (var argument))) (monotype t))
-whole_turn argument whole t k r = ap (put r) (k ∙ ap (λ n. arrow (Var (number (var n))) (monotype t)) (let q : argument + 0 ≡ argument = omega arith in q))
+whole_turn argument whole t k r = ap (put r) (whole_is argument whole t k)
+
+-- a function that is checked at its type at once
+pub function_alone : {X : Type 0} (known : Known) (f : Expression) (argument : ℕ) (t whole : Mono) (es : List Assumed) (s s1 : Solving) (outcome : Result X UnifyFault) → monotype whole ≡ arrow (from_number false argument 0) (monotype t) → AnswersExpression known f whole es s s1 outcome → Answers (ChecksFunction known f argument t es) s s1 outcome
+function_alone known f argument t whole es s s1 outcome k n = subst (λ m. Answers (λ r. Derives (assumptions_put r (assumptions es)) (expression_of known f) (put r m)) s s1 outcome) (whole_is argument whole t k) n
 
 function_new : (known : Known) (f : Expression) (argument : ℕ) (t whole : Mono) (es : List Assumed) → monotype whole ≡ arrow (from_number false argument 0) (monotype t) → (r : ℕ → Monotype) → ChecksFunction known f argument t es r → (us : ℕ → Monotype) × function_asked known f whole es r us
 unfolding function_asked

@@ -173,9 +173,17 @@ fn check_typed<'a>(
     check_instance(inference.alloc, &mut inference.solver, &declared, t)
 }
 
-/// Checks an expression against the type of functions from the variable `argument` to a type. It
-/// is checked against a variable of its own first, so that what is applied to many arguments
-/// doesn't have its type built again for each of them.
+/// Whether an expression is a name, whose type is compared with another part by part.
+fn is_name(e: &Expr) -> bool {
+    match &e.kind {
+        ExprKind::Var(_) | ExprKind::Con(_) => true,
+        _ => false,
+    }
+}
+
+/// Checks an expression against the type of functions from the variable `argument` to a type.
+/// Unless it is a name, it is checked against a variable of its own first, so that what is applied
+/// to many arguments doesn't have its type built again for each of them.
 #[cycle(checking)]
 fn check_function<'a>(
     inference: &mut Inference<'a>,
@@ -193,6 +201,10 @@ fn check_function<'a>(
     ensures same { OnOk result (inference.new.environment ≡ inference.old.environment) }
     ensures kept { Extends inference.old.environment inference.new.environment }
 {
+    if is_name(function) {
+        let wanted = function_from(inference.alloc, argument, t)?;
+        return check_expression(inference, constructors, function, &wanted);
+    }
     let own = new_variables(&mut inference.solver, 1)?;
     let whole = function_from(inference.alloc, argument, t)?;
     check_expression(inference, constructors, function, &Ty::Var(own))?;

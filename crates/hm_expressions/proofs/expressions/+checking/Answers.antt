@@ -20,7 +20,7 @@ use Rattle.hm_expressions.proofs.OpenedForms.{lambda_answers, lambda_refused, le
 use Rattle.hm_assumptions.proofs.States.{problem_below}
 use Rattle.hm_assumptions.proofs.Opened.{more_given}
 use Rattle.hm_assumptions.proofs.MatchedForms.{numbers_given, number_given}
-use Rattle.hm_expressions.proofs.Derived.{AnswersExpression, Checks, ChecksFunction, function_answers, function_refused, ChecksAll, expression_is, literal_checked, apply_answers, apply_refused, if_answers, if_refused_second, tuple_checked, tuple_unchecked, list_checked, list_unchecked, row_nothing, row_more, row_unchecked, row_all, solved_grows, size_of_item, moved_solved, moved_refused, moved_answers, assumed_at, type_at, given_next, first_given, parts_assumed, refused_by, row_number}
+use Rattle.hm_expressions.proofs.Derived.{AnswersExpression, Checks, ChecksFunction, function_alone, function_answers, function_refused, ChecksAll, expression_is, literal_checked, apply_answers, apply_refused, if_answers, if_refused_second, tuple_checked, tuple_unchecked, list_checked, list_unchecked, row_nothing, row_more, row_unchecked, row_all, solved_grows, size_of_item, moved_solved, moved_refused, moved_answers, assumed_at, type_at, given_next, first_given, parts_assumed, refused_by, row_number}
 use Rattle.hm_expressions.proofs.Choices.{choices_none, choices_more, choices_refused, choices_all, choices_moved, case_answers, case_refused, expression_positive, size_of_part, size_of_choice}
 use Rattle.hm_groups.proofs.Rows.{declaration_falls}
 use Rattle.hm_assumptions.proofs.Outcomes.{SolvedBy, solved_nothing}
@@ -81,6 +81,15 @@ check_expression-returns-in_ok-check_function-in-Apply-clause-answers t c =
 
 pub check_function-check_expression-requires : goal.check_function-check_expression-requires
 check_function-check_expression-requires t c =
+    let smaller : 8 * expression_size c.args.function.now < 8 * expression_size c.args.function.now + 1 = omega arith in
+    (search rules, (c.in_ok-wanted.ensures.given c.args.inference.now.solver.given c.requires.argument c.requires.given, c.requires.assumed))
+
+pub check_function-returns-then-is_name-clause-answers : goal.check_function-returns-then-is_name-clause-answers
+check_function-returns-then-is_name-clause-answers t c =
+    function_alone (known_of c.args.constructors.now) c.args.function.now c.args.argument (type_of c.args.t.now) (type_of c.in_ok-wanted.wanted) c.args.inference.now.environment c.args.inference.now.solver c.check_expression.new.inference.solver c.check_expression.result c.in_ok-wanted.ensures.shape c.check_expression.ensures.answers
+
+pub check_function-check_expression-requires-2 : goal.check_function-check_expression-requires-2
+check_function-check_expression-requires-2 t c =
     let f = first_given c.args.inference.now.solver c.new_variables.new.solver c.in_ok-own.own c.in_ok-own.ensures.next c.in_ok-own.ensures.first in
     let k = given_next c.args.inference.now.solver c.new_variables.new.solver 1 c.in_ok-own.ensures.next in
     let smaller : 8 * expression_size c.args.function.now < 8 * expression_size c.args.function.now + 1 = omega arith in
@@ -88,20 +97,20 @@ check_function-check_expression-requires t c =
 
 pub check_function-returns-in_err-check_expression-clause-answers : goal.check_function-returns-in_err-check_expression-clause-answers
 check_function-returns-in_err-check_expression-clause-answers t c =
-    refused_by (ChecksFunction (known_of c.args.constructors.now) c.args.function.now c.args.argument (type_of c.args.t.now) c.args.inference.now.environment) c.args.inference.now.solver c.check_expression.new.inference.solver c.from_residual-in_err-check_expression.result c.in_err-check_expression.field-0.0 c.from_residual-in_err-check_expression.ensures.1
+    refused_by (ChecksFunction (known_of c.args.constructors.now) c.args.function.now c.args.argument (type_of c.args.t.now) c.args.inference.now.environment) c.args.inference.now.solver c.check_expression-2.new.inference.solver c.from_residual-in_err-check_expression.result c.in_err-check_expression.field-0.0 c.from_residual-in_err-check_expression.ensures.1
     (function_refused (known_of c.args.constructors.now) c.args.function.now c.args.argument (type_of c.args.t.now) (type_of c.in_ok-whole.whole) c.in_ok-own.own c.args.inference.now.environment c.args.inference.now.solver c.new_variables.new.solver c.in_err-check_expression.field-0.0 c.in_ok-own.ensures.below c.requires.assumed
     (c.in_ok-whole.ensures.given c.args.inference.now.solver.given c.requires.argument c.requires.given) c.in_ok-own.ensures.next c.in_ok-own.ensures.first c.in_ok-whole.ensures.shape c.in_err-check_expression.ensures.answers)
 
 pub check_function-equate-requires-clause-right : goal.check_function-equate-requires-clause-right
 check_function-equate-requires-clause-right t c =
-    let l = solved_grows _ c.new_variables.new.solver c.check_expression.new.inference.solver c.in_ok-check_expression.ensures.answers in
+    let l = solved_grows _ c.new_variables.new.solver c.check_expression-2.new.inference.solver c.in_ok-check_expression.ensures.answers in
     let k = given_next c.args.inference.now.solver c.new_variables.new.solver 1 c.in_ok-own.ensures.next in
     let h = c.requires.argument in
-    c.in_ok-whole.ensures.given c.check_expression.new.inference.solver.given (omega (arith, l, k, h)) (well_formed_more c.args.inference.now.solver.given c.check_expression.new.inference.solver.given (type_of c.args.t.now) (omega (arith, l, k)) c.requires.given)
+    c.in_ok-whole.ensures.given c.check_expression-2.new.inference.solver.given (omega (arith, l, k, h)) (well_formed_more c.args.inference.now.solver.given c.check_expression-2.new.inference.solver.given (type_of c.args.t.now) (omega (arith, l, k)) c.requires.given)
 
 pub check_function-returns-clause-answers : goal.check_function-returns-clause-answers
 check_function-returns-clause-answers t c =
-    function_answers (known_of c.args.constructors.now) c.args.function.now c.args.argument (type_of c.args.t.now) (type_of c.in_ok-whole.whole) c.in_ok-own.own c.args.inference.now.environment c.args.inference.now.solver c.new_variables.new.solver c.check_expression.new.inference.solver c.equate.new.solver c.equate.result c.in_ok-own.ensures.below c.requires.assumed
+    function_answers (known_of c.args.constructors.now) c.args.function.now c.args.argument (type_of c.args.t.now) (type_of c.in_ok-whole.whole) c.in_ok-own.own c.args.inference.now.environment c.args.inference.now.solver c.new_variables.new.solver c.check_expression-2.new.inference.solver c.equate.new.solver c.equate.result c.in_ok-own.ensures.below c.requires.assumed
     (c.in_ok-whole.ensures.given c.args.inference.now.solver.given c.requires.argument c.requires.given) c.in_ok-own.ensures.next c.in_ok-own.ensures.first c.in_ok-whole.ensures.shape c.in_ok-check_expression.ensures.answers c.equate.ensures.answers
 
 pub check_expression-check_expression-requires-in-If-2 : goal.check_expression-check_expression-requires-in-If-2
