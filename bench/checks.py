@@ -1,21 +1,15 @@
 #!/usr/bin/env python3
-"""Runs `hmc` on sets of modules that are large in one way each, and prints seconds, memory and the last line of each report.
+"""Checks sets of modules that are large in one way each, and prints seconds, memory and the last line of each report.
 
-`checks.py [PROGRAM]`: without a word, the script `hmc` beside this folder is run. Ends with 1 where a report isn't
-the one that the set was made for. Each kind is run at half its size too: the ratio tells how the time grows.
+`checks.py [PROGRAM]`: without PROGRAM, the script `hmc` at the top is run. Each kind is run at half its size too: the ratio shows how the time grows.
+Ends with 1 if a report isn't the one that the set was made for.
 """
 import os
-import subprocess
 import sys
-import tempfile
-import time
 
-TOP = os.path.dirname(os.path.dirname(os.path.abspath(__file__)))
-PROGRAM = sys.argv[1] if len(sys.argv) > 1 else os.path.join(TOP, "hmc")
-
-
-def module(declarations):
-    return "module A where { " + " ; ".join(declarations) + " }"
+sys.path.insert(0, os.path.join(os.path.dirname(os.path.dirname(os.path.abspath(__file__))), "tools"))
+from measuring import SCRIPT, measured  # noqa: E402
+from sets import declared_below_lambdas, layered, lets_below_lambdas, module  # noqa: E402
 
 
 def chained(count):
@@ -51,20 +45,6 @@ def nested_lets(count):
     return module([f"f = {head}g{count - 1} True"])
 
 
-def lambda_variables(count):
-    return "\\" + " ".join(f"a{n}" for n in range(count)) + " -> "
-
-
-def lets_below_lambdas(count):
-    names = " ; ".join(f"g{n} x = a{n}" for n in range(count))
-    return module([f"f = {lambda_variables(count)}let {{ {names} }} in g0 True"])
-
-
-def declared_below_lambdas(count):
-    elements = ", ".join("(\\x -> x) :: a -> a" for _ in range(count))
-    return module([f"f = {lambda_variables(count)}[{elements}]"])
-
-
 def arguments(count):
     return module(["f a = a" + " 1" * count])
 
@@ -78,25 +58,10 @@ def constructors(count):
     return module([data] + [f"f{n} = C{n}" for n in range(count)])
 
 
-def imports(count):
-    """As many modules as are allowed, in layers of 16, each of `count` declarations that use those of the layer before."""
-    modules = []
-    for number in range(256):
-        layer = number // 16
-        below = [16 * (layer - 1) + (number + step) % 16 for step in range(4)] if layer else []
-        lines = [f"import qualified M{other} as Q{step}" for step, other in enumerate(below)]
-        lines += ["data T a = L | N (T a) a (T a)", "size :: T a -> Int", "size L = 0", "size (N l x r) = const 1 (size l, size r)"]
-        for n in range(count):
-            used = f"Q{n % 4}.f{n} x" if below else "x"
-            lines.append(f"f{n} x = case N L x L of {{ N l y r | True -> let {{ p = ({used}, size l) }} in fst p ; L -> x }}")
-        modules.append(f"module M{number} where {{ " + " ; ".join(lines) + " }")
-    return "\n".join(modules)
-
-
 ONE = "1 modules: 1 good, 0 faulty, 0 skipped"
 FAULTY = "1 modules: 0 good, 1 faulty, 0 skipped"
 
-# the kind, what makes a set of a size, the size, and the last line of its report
+# The kind, what makes a set of a size, the size, and the last line of its report.
 KINDS = [
     ("bindings, each of the one before", chained, 20_000, ONE),
     ("bindings that stand alone", flat, 20_000, ONE),
@@ -111,33 +76,20 @@ KINDS = [
     ("arguments of one application", arguments, 400_000, ONE),
     ("elements of a list", elements, 400_000, ONE),
     ("constructors", constructors, 4_000, ONE),
-    ("declarations in each of 256 modules", imports, 36, "256 modules: 256 good, 0 faulty, 0 skipped"),
+    ("declarations in each of 256 modules", layered, 36, "256 modules: 256 good, 0 faulty, 0 skipped"),
 ]
 
 
-def run(text):
-    with tempfile.TemporaryFile() as given, tempfile.TemporaryFile() as printed:
-        given.write(text.encode())
-        given.seek(0)
-        start = time.time()
-        child = subprocess.Popen([PROGRAM], stdin=given, stdout=printed, stderr=subprocess.STDOUT)
-        _, _, used = os.wait4(child.pid, 0)
-        seconds = time.time() - start
-        printed.seek(max(0, printed.seek(0, 2) - 200))
-        last = (printed.read().decode(errors="replace").splitlines() or [""])[-1]
-    return seconds, used.ru_maxrss // 1024, last
-
-
-def main():
+def main(program=SCRIPT):
     failed = False
     for kind, make, size, wanted in KINDS:
         for count in (size // 2, size):
             text = make(count)
-            seconds, megabytes, last = run(text)
-            failed |= last != wanted
-            print(f"{count} {kind}: {len(text)} bytes, {seconds:.2f} s, {megabytes} MB: {last}", flush=True)
-    sys.exit(failed)
+            run = measured([program], text)
+            failed |= run.last != wanted
+            print(f"{count} {kind}: {len(text)} bytes, {run.clock:.2f} s, {run.megabytes} MB: {run.last}", flush=True)
+    return failed
 
 
 if __name__ == "__main__":
-    main()
+    sys.exit(main(*sys.argv[1:]))

@@ -1,29 +1,19 @@
 #!/usr/bin/env python3
-"""Runs `hmc` with 1, 2 and 4 workers on 256 modules in layers of 16, and prints the least time of some runs and the speed-up: of one source that
-has them all, and of 256 sources with a module each, which as many threads as workers lex and parse.
+"""Checks 256 modules in layers of 16 with 1, 2 and 4 workers, and prints the least time of some runs, the speed-up and the most memory.
 
-`workers.py [PROGRAM]`: without a word, the script `hmc` beside this folder is run. Ends with 1 where a report differs from that of one worker.
+`workers.py [PROGRAM]`: without PROGRAM, the script `hmc` at the top is run. The modules are in one source, and then in a source each: as many threads
+as workers lex and parse. Prints the time of their plan too. Ends with 1 if a report differs from that of one worker.
 """
 import os
-import re
-import subprocess
 import sys
 import tempfile
-import time
 
-from checks import PROGRAM, imports
+sys.path.insert(0, os.path.join(os.path.dirname(os.path.dirname(os.path.abspath(__file__))), "tools"))
+from measuring import SCRIPT, measured  # noqa: E402
+from sets import layered  # noqa: E402
 
 RUNS = 7
 DECLARATIONS = 36
-
-
-def run(paths, workers):
-    with tempfile.TemporaryFile() as printed:
-        start = time.time()
-        status = subprocess.call([PROGRAM, "--jobs", str(workers), *paths], stdout=printed)
-        seconds = time.time() - start
-        printed.seek(0)
-        return seconds, (status, printed.read())
 
 
 def written(folder, name, text):
@@ -33,26 +23,34 @@ def written(folder, name, text):
     return path
 
 
-def compare(paths):
-    """Prints the times with each number of workers. Answers whether a report differs."""
-    alone, expected, differs = None, None, False
+def least(words):
+    """The least time of some runs, the most memory of one, and their different answers."""
+    runs = [measured(words) for _ in range(RUNS)]
+    return min(it.clock for it in runs), max(it.megabytes for it in runs), {(it.status, it.printed) for it in runs}
+
+
+def compare(program, paths):
+    """Prints the times with each number of workers. Returns whether a report differs."""
+    alone, expected = None, None
+    differs = False
     for workers in (1, 2, 4):
-        runs = [run(paths, workers) for _ in range(RUNS)]
-        least = min(seconds for seconds, _ in runs)
-        alone = alone or least
-        expected = expected or runs[0][1]
-        differs |= any(answer != expected for _, answer in runs)
-        print(f"{len(paths)} sources, {workers} workers: {least:.2f} s, {alone / least:.2f} times", flush=True)
+        seconds, megabytes, answers = least([program, "--jobs", str(workers), *paths])
+        alone, expected = alone or seconds, expected or answers
+        differs |= len(answers | expected) != 1
+        print(f"{len(paths)} sources, {workers} workers: {seconds:.2f} s, {alone / seconds:.2f} times as fast as one, {megabytes} MB", flush=True)
     return differs
 
 
-def main():
-    text = imports(DECLARATIONS)
+def main(program=SCRIPT):
+    text = layered(DECLARATIONS)
     with tempfile.TemporaryDirectory() as folder:
         whole = [written(folder, "modules.hs", text)]
-        apart = [written(folder, f"module{i}.hs", it) for i, it in enumerate(re.split(r"(?m)^(?=module )", text)) if it.strip()]
-        sys.exit(compare(whole) | compare(apart))
+        each = [written(folder, f"module{at}.hs", it) for at, it in enumerate(text.split("\n"))]
+        differs = compare(program, whole) | compare(program, each)
+        seconds, megabytes, _ = least([program, "--plan", *whole])
+        print(f"1 sources, plan: {seconds:.2f} s, {megabytes} MB")
+    return differs
 
 
 if __name__ == "__main__":
-    main()
+    sys.exit(main(*sys.argv[1:]))

@@ -1,4 +1,4 @@
-//! Calls that are made alone, of what a build came to, for `bench/refuse_allocations.py --tests`, which refuses each of a test's allocations in
+//! Calls that are made alone, of what a build came to, for `tests/refuse_allocations.py --tests`, which refuses each of a test's allocations in
 //! turn. With ample memory each call has its right answer. A test whose call is refused memory ends with an error of its own; where memory is
 //! refused before that, the error is "no memory". Nothing else may come of a refusal.
 use crate::builds::{SKIPPED, SKIPPED_REPORT};

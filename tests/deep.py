@@ -1,17 +1,15 @@
 #!/usr/bin/env python3
 """Runs `hmc --plan` and `hmc` on sources of the greatest length that nest as deep as they can, one for each kind of nesting.
 
-`deep.py [PROGRAM]`. Prints the answer, the seconds and the memory of each, and ends with 1 where a run crashed or gave no
+`deep.py [PROGRAM]`: without PROGRAM, the script `hmc` at the top is run. Prints the answer, the seconds and the memory of each, and ends with 1 where a run crashed or gave no
 answer of the language, or where a plan took more than 1 GB.
 """
 import os
-import subprocess
 import sys
-import tempfile
-import time
 
-TOP = os.path.dirname(os.path.dirname(os.path.abspath(__file__)))
-PROGRAM = sys.argv[1] if len(sys.argv) > 1 else os.path.join(TOP, "hmc")
+sys.path.insert(0, os.path.join(os.path.dirname(os.path.dirname(os.path.abspath(__file__))), "tools"))
+from measuring import SCRIPT, measured  # noqa: E402
+
 LIMIT = 1_048_576
 
 # what stands before the nesting, one level of it, what is innermost, the close of each level, and what follows
@@ -54,20 +52,6 @@ def source(kind):
     return head + level * count + inner + close * count + tail, count
 
 
-def run(words, text):
-    """The exit status, or 0 less the signal, with the seconds, the megabytes and what was printed last."""
-    with tempfile.TemporaryFile() as given, tempfile.TemporaryFile() as printed:
-        given.write(text.encode())
-        given.seek(0)
-        start = time.time()
-        child = subprocess.Popen([PROGRAM, *words], stdin=given, stdout=printed, stderr=subprocess.STDOUT)
-        _, status, used = os.wait4(child.pid, 0)
-        seconds = time.time() - start
-        printed.seek(max(0, printed.seek(0, 2) - 200))
-        last = (printed.read().decode(errors="replace").splitlines() or [""])[-1]
-    return os.waitstatus_to_exitcode(status), seconds, used.ru_maxrss // 1024, last
-
-
 def is_answer(words, status, last):
     if status == 2:
         return last.startswith("refused: ")
@@ -76,16 +60,16 @@ def is_answer(words, status, last):
     return (status, last) in [(0, "1 modules: 1 good, 0 faulty, 0 skipped"), (1, "1 modules: 0 good, 1 faulty, 0 skipped")]
 
 
-def main():
+def main(program=SCRIPT):
     failed = False
     for kind in KINDS:
         text, count = source(kind)
         for words in (["--plan"], []):
-            status, seconds, megabytes, last = run(words, text)
-            failed |= not is_answer(words, status, last) or (words != [] and megabytes >= 1000)
-            print(f"{kind}, {'plan' if words else 'check'}: {count} levels, {seconds:.2f} s, {megabytes} MB: {last or status}", flush=True)
-    sys.exit(failed)
+            run = measured([program, *words], text)
+            failed |= not is_answer(words, run.status, run.last) or (words != [] and run.megabytes >= 1000)
+            print(f"{kind}, {'plan' if words else 'check'}: {count} levels, {run.clock:.2f} s, {run.megabytes} MB: {run.last or run.status}", flush=True)
+    return failed
 
 
 if __name__ == "__main__":
-    main()
+    sys.exit(main(*sys.argv[1:]))

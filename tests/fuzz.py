@@ -22,11 +22,9 @@ import tempfile
 import unicodedata
 
 from hostile_sources import KINDS, hostile
+from json_messages import HEADING, differs
 
 TOP = os.path.dirname(os.path.dirname(os.path.abspath(__file__)))
-sys.path.insert(0, os.path.join(TOP, "tests"))
-sys.dont_write_bytecode = True
-from json_messages import HEADING, differs  # noqa: E402
 
 with open(os.path.join(TOP, "tests", "message.schema.json"), encoding="utf-8") as it:
     SCHEMA = json.load(it)

@@ -80,7 +80,7 @@ class Refusing:
 
     def __init__(self, work):
         self.library, self.count = os.path.join(work, "refuse.so"), os.path.join(work, "count")
-        source = os.path.join(TOP, "bench", "refuse_allocations.c")
+        source = os.path.join(TOP, "tests", "refuse_allocations.c")
         subprocess.run(["gcc", "-shared", "-fPIC", "-O1", "-o", self.library, source], check=True)
 
     def run(self, words, given, number):

@@ -2,17 +2,17 @@
 """Runs `hmc` on inputs whose time once grew too fast, each at a size and at twice that size, and prints seconds of processors, printed bytes
 and both ratios.
 
-`growth.py [PROGRAM]`: without a word, the script `hmc` beside this folder is run. Ends with 1 where a run fails or takes too long,
-where the time grows by more than 3 and what is printed doesn't, and where 10,000 faults with their messages take a second of processors. One kind
-grows by the square of its size, and may: each use of a name has its own copy of its type.
+`growth.py [PROGRAM]`: without PROGRAM, the script `hmc` at the top is run. Ends with 1 if a run fails or takes too long, if the time grows by more
+than 3 and what is printed doesn't, or if 10,000 faults with their messages take a second of processors. One kind grows by the square of its size,
+and may: each use of a name has its own copy of its type.
 """
 import os
-import resource
-import subprocess
 import sys
 import tempfile
 
-from checks import PROGRAM, declared_below_lambdas, lets_below_lambdas, module
+sys.path.insert(0, os.path.join(os.path.dirname(os.path.dirname(os.path.abspath(__file__))), "tools"))
+from measuring import SCRIPT, measured  # noqa: E402
+from sets import declared_below_lambdas, lets_below_lambdas, module  # noqa: E402
 
 RUNS = 2
 GREATEST_RATIO = 3
@@ -95,29 +95,15 @@ FAULTY = [
 ]
 
 
-def processor_seconds():
-    """The seconds that processors have spent on all runs so far."""
-    used = resource.getrusage(resource.RUSAGE_CHILDREN)
-    return used.ru_utime + used.ru_stime
+def quickest(command, wanted):
+    """The seconds and the printed bytes of the quickest of some runs, or None if one fails."""
+    runs = [measured(command, seconds=SECONDS) for _ in range(RUNS)]
+    if any(run.status != wanted for run in runs):
+        return None
+    return min((run.processor, len(run.printed) + len(run.told)) for run in runs)
 
 
-def run(path, words, wanted):
-    """The seconds and the printed bytes of the quickest run, or None where one fails."""
-    answers = []
-    for _ in range(RUNS):
-        with tempfile.TemporaryFile() as printed:
-            start = processor_seconds()
-            try:
-                status = subprocess.run([PROGRAM, "--jobs", "1", *words, path], stdout=printed, stderr=printed, timeout=SECONDS).returncode
-            except subprocess.TimeoutExpired:
-                return None
-            if status != wanted:
-                return None
-            answers.append((processor_seconds() - start, printed.seek(0, 2)))
-    return min(answers)
-
-
-def main():
+def main(program=SCRIPT):
     failed = False
     with tempfile.TemporaryDirectory() as folder:
         path = os.path.join(folder, "modules.hs")
@@ -127,7 +113,7 @@ def main():
             for count in (size, 2 * size):
                 with open(path, "w", encoding="utf-8") as file:
                     file.write(make(count))
-                answers.append(run(path, words, status))
+                answers.append(quickest([program, "--jobs", "1", *words, path], status))
             if None in answers:
                 failed = True
                 print(f"{size} and {2 * size} {kind}: a run fails, or takes more than {SECONDS} s", flush=True)
@@ -140,11 +126,11 @@ def main():
             print(f"{size} and {2 * size} {kind}: {short:.2f} and {long:.2f} s, {growth:.1f} times; {output:.1f} times the output{': TOO FAST' if is_fast else ''}", flush=True)
         with open(path, "w", encoding="utf-8") as file:
             file.write(faults(MANY_FAULTS))
-        seconds, _ = run(path, ["--explain"], 1) or (MOST_SECONDS, 0)
+        seconds, _ = quickest([program, "--jobs", "1", "--explain", path], 1) or (MOST_SECONDS, 0)
         failed |= seconds >= MOST_SECONDS
         print(f"{MANY_FAULTS} faults with their messages: {seconds:.2f} s", flush=True)
-    sys.exit(failed)
+    return failed
 
 
 if __name__ == "__main__":
-    main()
+    sys.exit(main(*sys.argv[1:]))

@@ -6,15 +6,16 @@ there are processors. The answer to each must be its last line here with the sta
 status 3, in at most 1 GB and 10 s of a processor. Prints a line for each, and ends with 1 if one is wrong.
 """
 import concurrent.futures
+import functools
 import os
 import resource
-import subprocess
 import sys
-import tempfile
 import time
 
-TOP = os.path.dirname(os.path.dirname(os.path.abspath(__file__)))
-PROGRAM = os.path.abspath(sys.argv[1]) if len(sys.argv) > 1 else os.path.join(TOP, "crates", "hmc", "out", "hmc")
+sys.path.insert(0, os.path.join(os.path.dirname(os.path.dirname(os.path.abspath(__file__))), "tools"))
+from measuring import PROVED, measured  # noqa: E402
+from sets import module as of_declarations  # noqa: E402
+
 MEGABYTE = 1_000_000
 MOST_SECONDS, MOST_MEGABYTES, ADDRESSES = 10, 1000, 4_000 * MEGABYTE
 GOOD = "1 modules: 1 good, 0 faulty, 0 skipped"
@@ -22,7 +23,7 @@ FAULTY = "1 modules: 0 good, 1 faulty, 0 skipped"
 
 
 def module(*declarations, head="A"):
-    return f"module {head} where {{ " + " ; ".join(declarations) + " }"
+    return of_declarations(declarations, head)
 
 
 def chain(first, step, count):
@@ -107,43 +108,30 @@ BOMBS = [
 ]
 
 
-def run(text):
-    """The status, or 0 less the signal, with the processor's seconds, the megabytes, the last line and what standard error has."""
-    with tempfile.TemporaryFile() as given, tempfile.TemporaryFile() as printed, tempfile.TemporaryFile() as told:
-        given.write(text.encode())
-        given.seek(0)
-        child = subprocess.Popen([PROGRAM, "--jobs", "1"], stdin=given, stdout=printed, stderr=told)
-        _, status, used = os.wait4(child.pid, 0)
-        seconds = used.ru_utime + used.ru_stime
-        printed.seek(max(0, printed.seek(0, 2) - 200))
-        last = (printed.read().decode(errors="replace").splitlines() or [""])[-1]
-        told.seek(0)
-        return os.waitstatus_to_exitcode(status), seconds, used.ru_maxrss * 1024 // MEGABYTE, last, told.read().decode(errors="replace")
-
-
-def judged(bomb):
+def judged(program, bomb):
     """A line for a source, and whether its answer, time and memory are as they must be."""
     name, text, wanted, may_run_out = bomb
-    status, seconds, megabytes, last, told = run(text)
-    is_right = (status, last, told) == (0 if " 0 faulty" in wanted else 1, wanted, "")
-    is_refused = may_run_out and (status, last, told) == (3, "", "hmc: no memory\n")
-    is_small = seconds < MOST_SECONDS and megabytes < MOST_MEGABYTES
-    answer = "right" if is_right else "no memory" if is_refused else f"WRONG: status {status}, {last!r}, {told!r}"
-    line = f"{name}: {len(text)} bytes, {seconds:.2f} s, {megabytes} MB: {answer}{'' if is_small else ', TOO MUCH'}"
+    run = measured([program, "--jobs", "1"], text)
+    told = run.told.decode(errors="replace")
+    is_right = (run.status, run.last, told) == (0 if " 0 faulty" in wanted else 1, wanted, "")
+    is_refused = may_run_out and (run.status, run.printed, told) == (3, b"", "hmc: no memory\n")
+    is_small = run.processor < MOST_SECONDS and run.megabytes < MOST_MEGABYTES
+    answer = "right" if is_right else "no memory" if is_refused else f"WRONG: status {run.status}, {run.last!r}, {told!r}"
+    line = f"{name}: {len(text)} bytes, {run.processor:.2f} s, {run.megabytes} MB: {answer}{'' if is_small else ', TOO MUCH'}"
     return line, (is_right or is_refused) and is_small
 
 
-def main():
+def main(program=PROVED):
     # for the runs too
     resource.setrlimit(resource.RLIMIT_AS, (ADDRESSES, ADDRESSES))
     began, failed = time.time(), 0
     with concurrent.futures.ThreadPoolExecutor(os.cpu_count()) as pool:
-        for line, is_as_wanted in pool.map(judged, BOMBS):
+        for line, is_as_wanted in pool.map(functools.partial(judged, os.path.abspath(program)), BOMBS):
             failed += not is_as_wanted
             print(line, flush=True)
     print(f"{len(BOMBS)} sources in {time.time() - began:.0f} s, {failed} wrong")
-    sys.exit(1 if failed else 0)
+    return 1 if failed else 0
 
 
 if __name__ == "__main__":
-    main()
+    sys.exit(main(*sys.argv[1:]))
