@@ -4,9 +4,10 @@
 `repository.py` ends with 1 where something differs; `repository.py --write` rewrites the columns of
 docs/ARCHITECTURE.md that say what each crate depends on.
 
-1. The tables of crates in docs/ARCHITECTURE.md have each crate of crates.txt once. What they say a crate
-   depends on are the crates of this repository that crates.txt lists for it, except those on which
-   another of them depends. Each crate comes after those that it depends on.
+1. The tables of crates in docs/ARCHITECTURE.md have each crate of crates.txt once, under the same headings and in the
+   same order. What they say a crate depends on are the crates of this repository that crates.txt lists for it, except
+   those on which another of them depends. Each crate comes after those that it depends on, and crates.txt says why it is
+   a crate of its own. The crates under a heading depend on no heading whose crates depend on them.
 2. Each generator (crates/NAME/gen/*.py) writes the very files that are checked in.
 3. Each edit in a folder must-fail/ changes a text that occurs once in the file that it names, and names in one line
    the goal that it is refused at.
@@ -26,11 +27,40 @@ PAGE = TOP / "docs" / "ARCHITECTURE.md"
 ROW = re.compile(r"^\| `(\w+)` \|([^|]*)\|([^|]*)\|([^|]*)\|$", re.M)
 
 
+def rows():
+    """Returns the rows of crates.txt: a crate, the libraries that it lists, and why it is a crate of its own."""
+    parts = [line.partition("#")[::2] for line in (TOP / "crates.txt").read_text().splitlines() if line[:1].isalpha()]
+    return [(row.split()[0].rstrip(":"), row.partition(":")[2].split(), why.strip()) for row, why in parts]
+
+
 def listed():
     """Returns what crates.txt lists for each crate: crates of the repository alone."""
-    rows = [line.partition(":") for line in (TOP / "crates.txt").read_text().splitlines() if line[:1].isalpha()]
-    names = {head.split()[0] for head, _, _ in rows}
-    return {head.split()[0]: [it for it in rest.split() if it in names] for head, _, rest in rows}
+    names = {name for name, _, _ in rows()}
+    return {name: [it for it in libraries if it in names] for name, libraries, _ in rows()}
+
+
+def headings(text, heading, name):
+    """Returns the crates of a text by the headings above them, in order."""
+    found = {}
+    for line in re.finditer(rf"^(?:{heading}(?P<heading>.*)|{name}.*)$", text, re.M):
+        if line["heading"]:
+            found[line["heading"]] = []
+        elif found:
+            found[list(found)[-1]].append(line["name"])
+    return {it: names for it, names in found.items() if names}
+
+
+def room_faults():
+    """Returns where crates.txt and ARCHITECTURE have other headings, headings that depend on one another, and crates without a reason."""
+    ours = headings((TOP / "crates.txt").read_text(), "# ", r"(?P<name>[a-z]\w*)")
+    theirs = headings(PAGE.read_text().partition("## The crates")[2].partition("\n## ")[0], "### ", r"\| `(?P<name>\w+)` \|")
+    faults = [] if list(ours.items()) == list(theirs.items()) else ["crates.txt and docs/ARCHITECTURE.md have other headings, or other crates under them"]
+    room = {name: it for it, names in ours.items() for name in names}
+    below = {it: {room.get(other) for name in names for other in listed()[name]} - {it} for it, names in ours.items()}
+    while free := {it for it, others in below.items() if not others & below.keys()}:
+        below = {it: others for it, others in below.items() if it not in free}
+    faults += [f"crates.txt: the crates under {', '.join(below)} depend on one another in a circle"] if below else []
+    return faults + [f"crates.txt doesn't say why {name} is a crate of its own" for name, _, why in rows() if not why]
 
 
 def closure(crates, name):
@@ -49,12 +79,12 @@ def table_faults(write):
         put = lambda row: f"| `{row[1]}` |{row[2]}| {wanted[row[1]]} |{row[4]}|".replace("|  |", "| |") if row[1] in wanted else row[0]
         PAGE.write_text(ROW.sub(put, text))
         return []
-    rows = [(it[1], it[3]) for it in ROW.finditer(text) if it[1] in crates]
-    names = [name for name, _ in rows]
+    table = [(it[1], it[3]) for it in ROW.finditer(text) if it[1] in crates]
+    names = [name for name, _ in table]
     faults = [f"docs/ARCHITECTURE.md has {names.count(name)} rows of {name}" for name in crates if names.count(name) != 1]
     order = {name: place for place, name in enumerate(names)}
     faults += [f"docs/ARCHITECTURE.md has {name} before {it}, on which it depends" for name in names for it in crates[name] if order.get(it, 0) > order[name]]
-    for name, said in rows:
+    for name, said in table:
         if said.strip() != wanted[name]:
             faults.append(f"docs/ARCHITECTURE.md says that {name} depends on {said}, and crates.txt {wanted[name]}")
     return faults
@@ -144,8 +174,7 @@ def promise_faults():
 def trusted_faults():
     """README.md trusts the crates of the kit that crates.txt names, and no others."""
     crates = listed()
-    rows = [line.partition(":")[2].split() for line in (TOP / "crates.txt").read_text().splitlines() if line[:1].isalpha()]
-    kit = {word for row in rows for word in row if word not in crates}
+    kit = {word for _, libraries, _ in rows() for word in libraries if word not in crates}
     said = re.search(r"ported crates \(([^)]*)\)", (TOP / "README.md").read_text())
     differing = kit.symmetric_difference(re.findall(r"`(\w+)`", said[1]) if said else ())
     return [f"README.md trusts other crates of the kit than crates.txt names: {' '.join(sorted(differing))}"] if differing else []
@@ -160,7 +189,7 @@ def example_faults():
 
 def main():
     write = sys.argv[1:] == ["--write"]
-    faults = table_faults(write) + generated_faults() + edit_faults() + cited_faults() + promise_faults() + trusted_faults() + example_faults()
+    faults = table_faults(write) + room_faults() + generated_faults() + edit_faults() + cited_faults() + promise_faults() + trusted_faults() + example_faults()
     print(*faults, sep="\n", end="\n" if faults else "")
     print(f"the repository agrees with itself: {'no' if faults else 'yes'}")
     return bool(faults)
