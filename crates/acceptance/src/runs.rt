@@ -6,16 +6,17 @@ use crate::builds::{SKIPPED, SKIPPED_REPORT, TWO};
 use crate::devices::{Short, Slow, Then};
 use hm_build::{Options, run};
 use hm_devices::{RunFault, Watched};
-use hm_sources::Status;
+use hm_sources::{Status, Trees};
 use std::io::{Read, Write};
 use std::sync::Wait;
 use std::test::Fail;
 use std::thread::Threads;
 
-/// By two workers, without the journal.
+/// By two workers, without the journal. The trees are dropped.
 const OPTIONS: Options = Options {
     workers: 2,
     journal: false,
+    trees: Trees::Dropped,
 };
 
 /// A run. It promises nothing, since the tests look at what comes of it: so the proofs of the tests don't carry the promises of `run`.
@@ -80,6 +81,7 @@ fn refuses_numbers_of_workers(rt: HostRuntime) -> Result<(), Fail> {
         let options = Options {
             workers,
             journal: false,
+            trees: Trees::Left,
         };
         let ended = ran(&rt, readers.as_mut_slice(), &mut writer, options);
         assert_eq!(rt; ended, Err(RunFault::Workers));

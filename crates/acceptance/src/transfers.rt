@@ -4,7 +4,7 @@ ghost use Rattle.hm_devices.specs.Watching.{IsFresh};
 
 use crate::devices::{Never, Short, Slow, Then};
 use hm_devices::{RunFault, Watched};
-use hm_sources::{Status, run_plan};
+use hm_sources::{Status, Trees, run_plan};
 use std::io;
 use std::io::{ErrorKind, Read, Write};
 use std::test::Fail;
@@ -20,7 +20,7 @@ fn planned<T: AllocGlobal + Threads, R: Read, W: Write>(
     requires readers { All IsFresh readers.old }
     requires writer { IsFresh writer.old }
 {
-    run_plan(rt, rt.alloc(), readers, writer)
+    run_plan(rt, rt.alloc(), readers, writer, Trees::Dropped)
 }
 
 /// The kind of an error; none where there is no error.

@@ -91,5 +91,7 @@ pub mod build {
     };
     pub use hm_devices::{RunFault, Watched};
     pub use hm_messages::Paint;
-    pub use hm_sources::{SetFault, SetFaultKind, Status, plan_text, refusal_text, run_plan};
+    pub use hm_sources::{
+        SetFault, SetFaultKind, Status, Trees, plan_text, refusal_text, run_plan,
+    };
 }

@@ -4,13 +4,14 @@ ghost use Rattle.hm_telling.specs.Explained.{IsExplained, TellsExhaustion};
 ghost use Rattle.hm_telling.specs.JournalledRuns.{IsRun};
 
 use crate::building::{Task, build_here};
-use crate::{BuildFault, Open};
+use crate::{BuildFault, Finished, Open, Options};
 use hm_devices::RunFault;
 use hm_messages::MessageFault;
-use hm_sources::Nesting;
+use hm_sources::{Nesting, Trees};
 use hm_stages::drop_by_threads;
 use hm_telling::{Explained, Wanted, exhausted_message, finished_explained, refused_explained};
 use std::alloc::Global;
+use std::mem;
 use std::sync::Wait;
 use std::thread::Threads;
 
@@ -46,6 +47,22 @@ impl Unanswered {
     }
 }
 
+/// Drops a build whose text is made, or leaves it in memory.
+fn let_go<T: Threads + Wait + Sync>(
+    rt: &T,
+    alloc: Global,
+    finished: Finished,
+    options: Options,
+    nesting: Nesting,
+) {
+    match options.trees {
+        Trees::Dropped => {
+            drop_by_threads(rt, alloc, finished, options.workers, nesting.stack_size());
+        }
+        Trees::Left => mem::forget(finished),
+    }
+}
+
 /// The report of a build of sources, or why they are refused, with messages where they are asked for.
 pub(crate) fn build_answer<'a, T: Threads + Wait + Sync>(
     rt: &T,
@@ -74,7 +91,7 @@ pub(crate) fn build_answer<'a, T: Threads + Wait + Sync>(
     match build_here(rt, alloc, sources, task) {
         Ok(finished) => {
             let explained = finished_explained(alloc, &finished.store, sources, wanted)?;
-            drop_by_threads(rt, alloc, finished, workers, nesting.stack_size());
+            let_go(rt, alloc, finished, wanted.options, nesting);
             Ok(explained)
         }
         Err(BuildFault::Refused(fault)) => Ok(refused_explained(alloc, sources, &fault, wanted)?),

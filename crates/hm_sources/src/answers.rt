@@ -6,7 +6,7 @@ ghost use Rattle.hm_sources.specs.Runs.{IsPlanRun};
 use crate::plans::plan_text;
 use crate::refusals::refusal_text;
 use crate::sets::{SetError, headers_of, set_modules};
-use crate::{SetFault, Status};
+use crate::{SetFault, Status, Trees};
 use hm_devices::RunFault;
 use std::alloc::{AllocError, Global};
 
@@ -30,13 +30,17 @@ pub fn refusal_answer(alloc: Global, fault: &SetFault) -> Result<Answer, AllocEr
 
 /// The plan of a set of sources, or why they are refused.
 #[tactic(auto, using(crate::proofs::Reading::planned_sources))]
-pub(crate) fn plan_answer(alloc: Global, sources: &[Vec<u8>]) -> Result<Answer, RunFault>
+pub(crate) fn plan_answer(
+    alloc: Global,
+    sources: &[Vec<u8>],
+    trees: Trees,
+) -> Result<Answer, RunFault>
     ensures ok { IfOk result (λ a. IsPlanRun (map (λ s. s.items) sources.now) a.status (string_bytes a.text)) }
     ensures err { IfErr result (λ e. e ≡ RunFault.Memory) }
 {
     match set_modules(alloc, sources) {
         Ok((modules, plan)) => {
-            let headers = headers_of(alloc, modules)?;
+            let headers = headers_of(alloc, modules, trees)?;
             let text = plan_text(alloc, headers.as_slice(), &plan)?;
             let status = Status::Good;
             Ok(Answer { status, text })

@@ -14,6 +14,7 @@ mod running;
 mod sets;
 mod stacks;
 mod status;
+mod trees;
 
 pub use answers::{Answer, refusal_answer};
 pub use faults::{SetFault, SetFaultKind};
@@ -24,3 +25,4 @@ pub use running::run_plan;
 pub use sets::{SetError, modules_between, planned, set_modules, source_tokens, spelled_modules};
 pub use stacks::Nesting;
 pub use status::Status;
+pub use trees::Trees;

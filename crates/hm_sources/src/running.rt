@@ -6,9 +6,9 @@ ghost use Rattle.hm_devices.specs.Sources.{AreReadUp, Stops, StopsAtFault, Tell,
 ghost use Rattle.hm_sources.specs.declared.status.Status.{Status};
 ghost use Rattle.hm_devices.specs.Watching.{device_of, failures_of, HasReadFault, HasWriteFault, IsFlushedBehind, IsFresh, IsReadWithin, IsWritten, IsWrittenOnce};
 
-use crate::Status;
 use crate::answers::Answer;
 use crate::stacks::plan_on_thread;
+use crate::{Status, Trees};
 use hm_devices::{RunFault, Watched, read_all, write_text};
 use std::alloc::Global;
 use std::io::{Read, Write};
@@ -20,6 +20,7 @@ pub fn run_plan<T: Threads, R: Read, W: Write>(
     alloc: Global,
     readers: &mut [Watched<R>],
     writer: &mut Watched<W>,
+    trees: Trees,
 ) -> Result<Status, RunFault>
     requires readers { All IsFresh readers.old }
     requires writer { IsFresh writer.old }
@@ -59,7 +60,7 @@ pub fn run_plan<T: Threads, R: Read, W: Write>(
     ensures others { IfErr result (λ e. (e ≡ RunFault.Read) ⊎ ((e ≡ RunFault.Write) ⊎ (e ≡ RunFault.Memory))) }
 {
     let sources = read_all(alloc, readers)?;
-    let Answer { status, text } = plan_on_thread(rt, alloc, sources)?;
+    let Answer { status, text } = plan_on_thread(rt, alloc, sources, trees)?;
     write_text(writer, text.as_bytes())?;
     Ok(status)
 }

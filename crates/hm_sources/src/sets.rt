@@ -13,12 +13,13 @@ ghost use Rattle.hm_sources.specs.Refusals.{IsLasting, plan, refusal_of};
 ghost use Rattle.hm_sources.specs.Runs.{IsSetPlanFault};
 ghost use Rattle.hm_sources.specs.SourceModules.{AreModulesOf, HasModules};
 
-use crate::{SetFault, SetFaultKind};
+use crate::{SetFault, SetFaultKind, Trees};
 use hm_graph::{Plan, PlanFault};
 use hm_lex::{LexFault, Token};
 use hm_parse::ParseFault;
 use hm_syntax::{Header, Module};
 use std::alloc::{AllocError, Global};
+use std::mem;
 
 /// Why there is no plan.
 #[derive(Debug, Drop)]
@@ -212,13 +213,20 @@ pub fn set_modules(alloc: Global, sources: &[Vec<u8>]) -> Result<(Vec<Module>, P
     Ok(planned(alloc, modules)?)
 }
 
-/// The headers of modules, without what they declare.
-pub(crate) fn headers_of(alloc: Global, modules: Vec<Module>) -> Result<Vec<Header>, AllocError>
+/// The headers of modules. What the modules declare is dropped or left in memory.
+pub(crate) fn headers_of(
+    alloc: Global,
+    modules: Vec<Module>,
+    trees: Trees,
+) -> Result<Vec<Header>, AllocError>
     ensures { IfOk result (λ headers. outlines headers.items ≡ module_outlines modules.items) }
 {
     let mut headers = Vec::new(alloc);
     for module in modules {
-        let Module { header, .. } = module;
+        let Module { header, decls } = module;
+        if trees == Trees::Left {
+            mem::forget(decls);
+        }
         headers.push(header)?;
     }
     Ok(headers)

@@ -2,6 +2,7 @@
 ghost use Rattle.std.specs.Prelude.{◌≡◌, IfErr, IfOk, map, string_bytes};
 ghost use Rattle.hm_sources.specs.Runs.{IsPlanRun};
 
+use crate::Trees;
 use crate::answers::{Answer, plan_answer};
 use crate::nesting::levels_of;
 use hm_devices::RunFault;
@@ -90,13 +91,14 @@ pub(crate) fn plan_on_thread<T: Threads>(
     rt: &T,
     alloc: Global,
     sources: Vec<Vec<u8>>,
+    trees: Trees,
 ) -> Result<Answer, RunFault>
     ensures ok { IfOk result (λ a. IsPlanRun (map (λ s. s.items) sources.items) a.status (string_bytes a.text)) }
     ensures err { IfErr result (λ e. e ≡ RunFault.Memory) }
 {
     let promise = PlanOf(Snapshot::of(&sources));
     let thread = Builder::new().stack_size(Nesting::of(&sources).stack_size());
-    match thread.spawn_with(rt, promise, move || plan_answer(alloc, &sources)) {
+    match thread.spawn_with(rt, promise, move || { plan_answer(alloc, &sources, trees) }) {
         Ok(worker) => worker.join(rt),
         Err(_) => Err(RunFault::Memory),
     }

@@ -1,5 +1,6 @@
 //! What a run is asked for.
 use hm_messages::Paint;
+use hm_sources::Trees;
 
 /// How many workers check the modules, and what is written.
 #[derive(Clone, Copy, Debug)]
@@ -8,6 +9,8 @@ pub struct Options {
     pub workers: usize,
     /// Whether the journal of the build follows the report.
     pub journal: bool,
+    /// What becomes of the modules' trees once the text is made.
+    pub trees: Trees,
 }
 
 /// How faults are explained: with the names of the sources' files, in order, and with colours or without. A source without a name is
