@@ -33,6 +33,8 @@ pub worked_facts : FactsRow
 worked_facts = record {
   layout = (refl, refl);
   brace = λ h. false≢true (sym h.1);
+  update = (refl, refl);
+  no_update = λ h. false≢true h.0;
   left_open = (innermost, refl, refl);
   shut = λ h. false≢true (sym h.2);
 }

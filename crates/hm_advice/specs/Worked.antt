@@ -11,7 +11,7 @@ use Rattle.hm_hints.specs.declared.change.Change.TheVariants.{Remove}
 use Rattle.hm_hints.specs.declared.change.Repair.{Repair}
 use Rattle.hm_hints.specs.declared.change.Scope.TheVariants.{Whole}
 use Rattle.hm_hints.specs.declared.mark.Mark.TheVariants.{RightBrace}
-use Rattle.hm_hints.specs.declared.syntax_hints.SyntaxHint.TheVariants.{NoBrace, NotClosed}
+use Rattle.hm_hints.specs.declared.syntax_hints.SyntaxHint.TheVariants.{NoBrace, NotClosed, Update}
 
 -- { ( ) [ x
 abbrev pub brackets : List Symbol
@@ -27,10 +27,13 @@ pub record BracketsRow : Type 0 where
 abbrev pub head : List Symbol
 head = Module ∷ Con ∷ Where ∷ []
 
--- A name after `where` has no brace before it, and a brace there needs none. A `;` leaves the square bracket open, and a `]` closes it
+-- A name after `where` has no brace before it, and a brace there needs none. A brace after a small name is that of a record update, and one
+-- after `where` is not. A `;` leaves the square bracket open, and a `]` closes it
 pub record FactsRow : Type 0 where
   pub layout : IsSyntaxHint head Var (codes "x") NoBrace
   pub brace : ¬ (IsSyntaxHint head LeftBrace (codes "{") NoBrace)
+  pub update : IsSyntaxHint (Var ∷ []) LeftBrace (codes "{") Update
+  pub no_update : ¬ (IsSyntaxHint head LeftBrace (codes "{") Update)
   pub left_open : IsSyntaxHint brackets Semicolon (codes ";") (NotClosed 3)
   pub shut : ¬ (IsSyntaxHint brackets CloseSquare (codes "]") (NotClosed 3))
 

@@ -6,7 +6,7 @@ ghost use Rattle.hm_hints.specs.Advice.{IsAdviceAt, IsAt, IsSo, about, symbol_at
 
 use crate::search::repair_at;
 use hm_grammar::{Symbol, symbol_of, text_of};
-use hm_hints::{Advice, SyntaxHint, syntax_hint};
+use hm_hints::{Advice, Change, Mark, Repair, SyntaxHint, syntax_hint};
 use hm_lex::{Place, Token, lex};
 use std::alloc::{AllocError, Global};
 
@@ -91,6 +91,12 @@ fn fact_at(
     Ok(syntax_hint(before.as_slice(), here, text.as_bytes()))
 }
 
+/// Whether what is so says more than a change: a `where` before the brace of a record update could be read too.
+fn says_more(fact: SyntaxHint, number: usize, repair: Repair) -> bool {
+    let puts_where = repair.at == number && repair.change == Change::Insert(Mark::Where);
+    puts_where && fact == SyntaxHint::Update
+}
+
 /// The hint at the token with this number: what is so there, or a change with which the source can be read.
 #[tactic(auto, using(crate::proofs::Facts::so_of_fact))]
 fn hint_at(
@@ -107,10 +113,13 @@ fn hint_at(
     if fact.is_enough() {
         return Ok(fact);
     }
-    match repair_at(alloc, source, tokens, number)? {
-        Some(repair) => Ok(SyntaxHint::Repaired(repair)),
-        None => Ok(fact),
+    let Some(repair) = repair_at(alloc, source, tokens, number)? else {
+        return Ok(fact);
+    };
+    if says_more(fact, number, repair) {
+        return Ok(fact);
     }
+    Ok(SyntaxHint::Repaired(repair))
 }
 
 /// Returns what is said of a fault of syntax at a place of a source that has tokens.

@@ -6,7 +6,7 @@ use Rattle.hm_grammar.specs.declared.symbol.Symbol.TheVariants.{Module, Data, Ne
 use Rattle.hm_hints.specs.Brackets.{IsInnermost, IsNoneOpen}
 use Rattle.hm_hints.specs.Features.{feature_of}
 use Rattle.hm_hints.specs.declared.syntax_hints.SyntaxHint.{SyntaxHint}
-use Rattle.hm_hints.specs.declared.syntax_hints.SyntaxHint.TheVariants.{NoHeader, ModuleEnded, NoBrace, LeftOut, Comprehension, Range, SmallName, Repaired, NotClosed, Record, NoAlternative, Unexpected}
+use Rattle.hm_hints.specs.declared.syntax_hints.SyntaxHint.TheVariants.{NoHeader, ModuleEnded, NoBrace, LeftOut, Comprehension, Range, SmallName, Repaired, NotClosed, Record, Update, NoAlternative, Unexpected}
 
 abbrev pub wants_brace : Symbol → Bool
 wants_brace Where = true
@@ -28,6 +28,12 @@ ends CloseSquare = true
 ends RightBrace = true
 ends End = true
 ends _ = false
+
+-- an expression may end with the name or the bracket
+abbrev pub ends_operand : Symbol → Bool
+ends_operand Var = true
+ends_operand Close = true
+ends_operand _ = false
 
 abbrev pub is_partner : Symbol → Symbol → Bool
 is_partner Open s = same s Close
@@ -53,5 +59,6 @@ IsSyntaxHint before this text SmallName = (takes_capital (last_of before) ≡ tr
 IsSyntaxHint before this text (Repaired r) = ⊥
 IsSyntaxHint before this text (NotClosed k) = IsInnermost before k × (ends this ≡ true) × (is_partner (at before k) this ≡ false)
 IsSyntaxHint before this text Record = (last_of before ≡ Con) × (this ≡ LeftBrace)
+IsSyntaxHint before this text Update = (ends_operand (last_of before) ≡ true) × (this ≡ LeftBrace)
 IsSyntaxHint before this text NoAlternative = (last_of before ≡ LeftBrace) × (at before (length before - 2) ≡ Of) × (this ≡ RightBrace)
 IsSyntaxHint before this text Unexpected = ⊤

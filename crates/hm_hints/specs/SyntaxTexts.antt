@@ -5,7 +5,7 @@ use Rattle.hm_hints.specs.Marks.{mark_text}
 use Rattle.hm_hints.specs.declared.change.Change.{Change}
 use Rattle.hm_hints.specs.declared.change.Change.TheVariants.{Insert, Replace, Remove}
 use Rattle.hm_hints.specs.declared.syntax_hints.SyntaxHint.{SyntaxHint}
-use Rattle.hm_hints.specs.declared.syntax_hints.SyntaxHint.TheVariants.{NoHeader, ModuleEnded, NoBrace, LeftOut, Comprehension, Range, SmallName, Repaired, NotClosed, Record, NoAlternative, Unexpected}
+use Rattle.hm_hints.specs.declared.syntax_hints.SyntaxHint.TheVariants.{NoHeader, ModuleEnded, NoBrace, LeftOut, Comprehension, Range, SmallName, Repaired, NotClosed, Record, Update, NoAlternative, Unexpected}
 
 -- a token between quotes; the end of a source has no text
 abbrev pub quoted : List ℕ → List ℕ
@@ -29,6 +29,7 @@ syntax_text SmallName text = quoted text ++ codes " must begin with a capital le
 syntax_text (Repaired r) text = change_text r.change text
 syntax_text (NotClosed k) text = codes "a bracket before " ++ quoted text ++ codes " isn't closed"
 syntax_text Record text = codes "fields with names aren't supported"
+syntax_text Update text = codes "record update isn't supported, because fields have no names"
 syntax_text NoAlternative text = codes "a 'case' needs at least one alternative"
 syntax_text Unexpected text = codes "unexpected " ++ quoted text
 
@@ -49,5 +50,6 @@ syntax_help SmallName = codes "The names of modules, types and constructors begi
 syntax_help (Repaired r) = change_help r.change
 syntax_help (NotClosed k) = codes "Each `(`, `[` and `{` is closed in the order in which they were opened, the last one first.\n"
 syntax_help Record = codes "Write the types of a constructor's arguments alone, and take it apart by patterns.\n"
+syntax_help Update = codes "Build the value with its constructor. If local definitions follow, write `where` before `{`.\n"
 syntax_help NoAlternative = codes "Write an alternative, such as `_ -> x`.\n"
 syntax_help Unexpected = codes "No module can go on with this here.\n"

@@ -2,7 +2,7 @@
 ghost use Rattle.std.specs.Prelude.{◌≡◌, ◌-◌, length, slice_index_or, true};
 ghost use Rattle.hm_grammar.specs.declared.symbol.Symbol.TheVariants.{End, LeftBrace, Of};
 ghost use Rattle.hm_hints.specs.Brackets.{IsInnermost};
-ghost use Rattle.hm_hints.specs.SyntaxHints.{IsSyntaxHint, ends, is_partner, takes_capital, wants_brace};
+ghost use Rattle.hm_hints.specs.SyntaxHints.{IsSyntaxHint, ends, ends_operand, is_partner, takes_capital, wants_brace};
 
 use crate::brackets::open_bracket;
 use crate::change::Repair;
@@ -32,6 +32,8 @@ pub enum SyntaxHint {
     NotClosed(usize),
     /// It is a `{` after a capital name.
     Record,
+    /// It is a `{` after a small name or a `)`.
+    Update,
     /// It is a `}` right after `of {`.
     NoAlternative,
     Unexpected,
@@ -74,6 +76,16 @@ fn ends(symbol: Symbol) -> bool
         | Symbol::CloseSquare
         | Symbol::RightBrace
         | Symbol::End => true,
+        _ => false,
+    }
+}
+
+/// Whether an expression may end with this name or bracket.
+fn ends_operand(symbol: Symbol) -> bool
+    ensures { result ≡ ends_operand symbol }
+{
+    match symbol {
+        Symbol::Var | Symbol::Close => true,
         _ => false,
     }
 }
@@ -163,6 +175,9 @@ pub fn syntax_hint(before: &[Symbol], here: Symbol, text: &[u8]) -> SyntaxHint
     if last.is(Symbol::Con) && here.is(Symbol::LeftBrace) {
         return SyntaxHint::Record;
     }
+    if ends_operand(last) && here.is(Symbol::LeftBrace) {
+        return SyntaxHint::Update;
+    }
     if here.is(Symbol::RightBrace) && ends_with_of(before) {
         return SyntaxHint::NoAlternative;
     }
@@ -174,7 +189,10 @@ impl SyntaxHint {
     pub fn is_enough(self) -> bool {
         !matches!(
             self,
-            SyntaxHint::NotClosed(_) | SyntaxHint::Record | SyntaxHint::Unexpected
+            SyntaxHint::NotClosed(_)
+                | SyntaxHint::Record
+                | SyntaxHint::Update
+                | SyntaxHint::Unexpected
         )
     }
 }

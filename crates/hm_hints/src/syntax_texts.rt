@@ -61,6 +61,10 @@ pub fn syntax_text(alloc: Global, hint: SyntaxHint, text: &str) -> Result<String
         SyntaxHint::Repaired(repair) => change_text(alloc, repair.change, text),
         SyntaxHint::NotClosed(_) => format!(in alloc; "a bracket before {quote} isn't closed"),
         SyntaxHint::Record => String::from_str(alloc, "fields with names aren't supported"),
+        SyntaxHint::Update => String::from_str(
+            alloc,
+            "record update isn't supported, because fields have no names",
+        ),
         SyntaxHint::NoAlternative => String::from_str(
             alloc,
             "a 'case' needs at least one alternative",
@@ -97,6 +101,8 @@ pub fn syntax_help(hint: SyntaxHint) -> &'static str
             "Each `(`, `[` and `{` is closed in the order in which they were opened, the last one first.\n",
         SyntaxHint::Record =>
             "Write the types of a constructor's arguments alone, and take it apart by patterns.\n",
+        SyntaxHint::Update =>
+            "Build the value with its constructor. If local definitions follow, write `where` before `{`.\n",
         SyntaxHint::NoAlternative => "Write an alternative, such as `_ -> x`.\n",
         SyntaxHint::Unexpected => "No module can go on with this here.\n",
     }
