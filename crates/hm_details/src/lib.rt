@@ -3,6 +3,7 @@
 
 mod detail;
 mod known;
+pub mod laws;
 mod left_out;
 mod nearest;
 mod written;

@@ -3,3 +3,4 @@ pub mod Around
 pub mod Counting
 pub mod Escaping
 pub mod Places
+mod WorkedPlaces

@@ -4,3 +4,4 @@ pub mod Escapes
 pub mod Excerpts
 pub mod Lines
 pub mod Marks
+pub mod Worked

@@ -6,6 +6,7 @@ mod cutting;
 mod drawing;
 mod escapes;
 mod excerpt;
+pub mod laws;
 mod lines;
 mod marks;
 

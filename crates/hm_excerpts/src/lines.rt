@@ -144,6 +144,7 @@ impl<'a> SourceLines<'a> {
     /// The place behind what is marked at a place, if it lies in the source.
     pub fn mark_end(&self, place: Place) -> Option<Place>
         ensures some { IfSome result (IsMarkEnd self.now place) }
+        ensures inside { IfSome result (IsPlaceIn self.now) }
         ensures none { IfNone result (IsPlaceIn self.now place → ⊥) }
     {
         let Spot { start, end, offset } = self.spot(place)?;

@@ -1,6 +1,6 @@
-use Rattle.std.proofs.Common.{rules, ◌≡◌, ◌+◌, ◌-◌, ℕ, List, take, drop, refl, ap, ◌∙◌}
+use Rattle.std.proofs.Common.{rules, ◌≡◌, ◌+◌, ◌-◌, ◌≤◌, ℕ, List, take, drop, refl, ap, ◌∙◌}
 use Rattle.hm_excerpts.specs.Marks.{marked}
-use Rattle.hm_excerpts.proofs.Around.{back_same, line_of, line_text}
+use Rattle.hm_excerpts.proofs.Around.{back_same, line_of, line_text, mark_inside}
 use Rattle.hm_excerpts.proofs.lines.SourceLines.mark_end.Goals as goal
 
 pub returns-clause-some : goal.returns-clause-some
@@ -16,3 +16,9 @@ returns-clause-some c =
       line_is = refl;
       column_is = ap (λ (n : ℕ). c.args.place.column + n) (len ∙ ap marked (back_same source c.args.place spot is));
     }
+
+pub returns-clause-inside : goal.returns-clause-inside
+returns-clause-inside c =
+    let spot = c.in_ok-start.field-0 in
+    let low : c.marked-len.result ≤ spot.end - (spot.start + spot.offset) = search rules in
+    mark_inside c.args.self.now c.args.place spot c.marked-len.result c.in_ok-start.ensures.some low
