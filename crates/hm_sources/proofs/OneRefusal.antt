@@ -18,10 +18,12 @@ use Rattle.hm_graph.specs.declared.faults.PlanFault.TheVariants as planning
 use Rattle.hm_sources.specs.Laws.{AreSameButPlace}
 use Rattle.hm_sources.specs.Refusals.{Refusal, lex, parse, plan, IsLasting}
 use Rattle.hm_sources.specs.Runs.{AreOutlinesOf, HasOutlines, IsSourceFault, AreNamesOf, IsSetPlanFault, FailsAtSource, FailsAtPlan, IsPlanned, IsPlanRun, IsRefusalOf, IsRefused}
-use Rattle.hm_sources.specs.SourceModules.{HasModules}
+use Rattle.hm_sources.specs.Names.{module_outlines}
+use Rattle.hm_sources.specs.SourceModules.{AreModulesOf, HasModules}
 use Rattle.hm_sources.specs.declared.status.Status.{Status}
 use Rattle.hm_sources.specs.declared.status.Status.TheVariants.{Good, Faulty, Refused}
 use Rattle.hm_sources.proofs.OneText.{tokens_once, outlines_once}
+use Rattle.hm_sources.proofs.Reading.{outlines_there}
 
 -- ---- what is refused has no modules
 
@@ -159,7 +161,13 @@ both_sources sources r s l q a b =
     let e = same_front a.before b.before a.source b.source a.after b.after a.modules b.modules (sym a.whole ∙ b.whole) a.read b.read (unread _ a.source r a.fault l) (unread _ b.source s b.fault q) in
     at_source (length b.before + 1) b.source r s (subst (λ z. IsSourceFault (length b.before + 1) z r) e.1 (subst (λ n. IsSourceFault (n + 1) a.source r) e.0 a.fault)) b.fault l q
 
-source_or_plan : (sources : List (List ℕ)) (r s : Refusal) → IsLasting r → FailsAtSource sources r → FailsAtPlan sources s → ⊥
+-- sources that spell modules have no fault
+pub not_read : (sources : List (List ℕ)) (r : Refusal) (ms : List Module) → FailsAtSource sources r → IsLasting r → AreModulesOf sources ms → ⊥
+not_read sources r ms a l h =
+    let o = outlines_at a.before a.source a.after (module_outlines ms) (subst (λ ss. AreOutlinesOf ss (module_outlines ms)) a.whole (outlines_there sources ms h)) in
+    unread _ a.source r a.fault l o.0 o.1
+
+pub source_or_plan : (sources : List (List ℕ)) (r s : Refusal) → IsLasting r → FailsAtSource sources r → FailsAtPlan sources s → ⊥
 source_or_plan sources r s l a b =
     let h = outlines_at a.before a.source a.after b.modules (subst (λ ss. AreOutlinesOf ss b.modules) a.whole b.read) in
     unread _ a.source r a.fault l h.0 h.1

@@ -1,5 +1,6 @@
 //! Which source each module comes from.
-ghost use Rattle.std.specs.Prelude.{◌≡◌, ◌<◌, ◌++◌, ℕ, List, All, IfOk, OnOk, length, map, slice_index_or};
+ghost use Rattle.std.specs.Prelude.{◌≡◌, ◌<◌, ◌++◌, ℕ, List, All, IfErr, IfOk, OnOk, length, map, slice_index_or};
+ghost use Rattle.hm_sources.specs.Errors.{IsSetError};
 ghost use Rattle.hm_sources.specs.Origins.{AreLocated};
 ghost use Rattle.hm_sources.specs.declared.located.Located.{Located as Row};
 
@@ -33,7 +34,8 @@ fn add_headers(
 
 /// The headers of the modules of sources, in order of appearance, each with its source.
 pub fn located_headers(alloc: Global, sources: &[Vec<u8>]) -> Result<Vec<Located>, SetError>
-    ensures { IfOk result (λ located. AreLocated (map (λ s. s.items) sources.now) located.items) }
+    ensures located { IfOk result (λ located. AreLocated (map (λ s. s.items) sources.now) located.items) }
+    ensures err { IfErr result (λ e. IsSetError (map (λ s. s.items) sources.now) e) }
 {
     let mut located = Vec::new(alloc);
     for (source, text) in sources.iter().enumerate() {
