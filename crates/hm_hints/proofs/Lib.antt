@@ -1,1 +1,3 @@
+mod Rests
 mod SymbolRuns
+mod WorkedContexts

@@ -10,7 +10,7 @@ use Rattle.hm_grammar.specs.declared.symbol.Symbol.TheVariants.{End}
 use Rattle.hm_hints.specs.Repairs.{IsRepair}
 use Rattle.hm_hints.specs.SyntaxHints.{IsSyntaxHint}
 use Rattle.hm_hints.specs.declared.syntax_hints.SyntaxHint.{SyntaxHint}
-use Rattle.hm_hints.specs.declared.syntax_hints.SyntaxHint.TheVariants.{NoHeader, ModuleEnded, NoBrace, LeftOut, Comprehension, Range, SmallName, Repaired, NotClosed, Record, Update, NoAlternative, Unexpected}
+use Rattle.hm_hints.specs.declared.syntax_hints.SyntaxHint.TheVariants.{NoHeader, ModuleEnded, NoBrace, LeftOut, Comprehension, Range, SmallName, AppliedVariable, Repaired, WherePart, NoElse, NotClosed, InPattern, Record, Update, NoAlternative, Unexpected}
 
 abbrev pub symbol_in : List ℕ → Token → Symbol
 symbol_in source t = symbol_of t.kind (token_text source t)
@@ -36,6 +36,10 @@ about (LeftOut f) k = k
 about (Comprehension j) k = k
 about (Range j) k = k
 about SmallName k = k
+about AppliedVariable k = k
+about (WherePart j) k = k
+about (NoElse j) k = k
+about (InPattern j) k = k
 about (NotClosed j) k = k
 about Record k = k
 about Update k = k

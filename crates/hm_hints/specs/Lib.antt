@@ -7,3 +7,4 @@ pub mod Marks
 pub mod Repairs
 pub mod SyntaxHints
 pub mod SyntaxTexts
+pub mod Worked

@@ -5,7 +5,7 @@ use Rattle.hm_hints.specs.Marks.{mark_text}
 use Rattle.hm_hints.specs.declared.change.Change.{Change}
 use Rattle.hm_hints.specs.declared.change.Change.TheVariants.{Insert, Replace, Remove}
 use Rattle.hm_hints.specs.declared.syntax_hints.SyntaxHint.{SyntaxHint}
-use Rattle.hm_hints.specs.declared.syntax_hints.SyntaxHint.TheVariants.{NoHeader, ModuleEnded, NoBrace, LeftOut, Comprehension, Range, SmallName, Repaired, NotClosed, Record, Update, NoAlternative, Unexpected}
+use Rattle.hm_hints.specs.declared.syntax_hints.SyntaxHint.TheVariants.{NoHeader, ModuleEnded, NoBrace, LeftOut, Comprehension, Range, SmallName, AppliedVariable, Repaired, WherePart, NoElse, NotClosed, InPattern, Record, Update, NoAlternative, Unexpected}
 
 -- a token between quotes; the end of a source has no text
 abbrev pub quoted : List ℕ → List ℕ
@@ -26,8 +26,12 @@ syntax_text (LeftOut f) text = feature_text f
 syntax_text (Comprehension k) text = codes "list comprehensions aren't supported"
 syntax_text (Range k) text = codes "'[a .. b]' isn't supported"
 syntax_text SmallName text = quoted text ++ codes " must begin with a capital letter here"
+syntax_text AppliedVariable text = codes "a type variable takes no arguments: is '->' missing before " ++ quoted text ++ codes "?"
 syntax_text (Repaired r) text = change_text r.change text
+syntax_text (WherePart k) text = codes "'where' can't be within parentheses or square brackets"
+syntax_text (NoElse k) text = codes "an 'if' before " ++ quoted text ++ codes " has no 'else'"
 syntax_text (NotClosed k) text = codes "a bracket before " ++ quoted text ++ codes " isn't closed"
+syntax_text (InPattern k) text = codes "unexpected " ++ quoted text ++ codes " in a pattern of a 'case'"
 syntax_text Record text = codes "fields with names aren't supported"
 syntax_text Update text = codes "record update isn't supported, because fields have no names"
 syntax_text NoAlternative text = codes "a 'case' needs at least one alternative"
@@ -48,7 +52,11 @@ syntax_help (Comprehension k) = codes "Use `map`, `filter` and `concatMap`.\n"
 syntax_help (Range k) = codes "Write the list out, or use `iterate` and `take`.\n"
 syntax_help SmallName = codes "The names of modules, types and constructors begin with a capital letter, and no others do.\n"
 syntax_help (Repaired r) = change_help r.change
+syntax_help AppliedVariable = codes "Only a type with a name takes arguments, such as `Maybe a`.\n"
+syntax_help (WherePart k) = codes "It belongs to a whole definition or alternative. Within an expression, write `let { .. } in ..`.\n"
+syntax_help (NoElse k) = codes "Each `if` has one: `if c then x else y`.\n"
 syntax_help (NotClosed k) = codes "Each `(`, `[` and `{` is closed in the order in which they were opened, the last one first.\n"
+syntax_help (InPattern k) = codes "If a new definition begins here, the `}` of the `case` before it is missing.\n"
 syntax_help Record = codes "Write the types of a constructor's arguments alone, and take it apart by patterns.\n"
 syntax_help Update = codes "Build the value with its constructor. If local definitions follow, write `where` before `{`.\n"
 syntax_help NoAlternative = codes "Write an alternative, such as `_ -> x`.\n"

@@ -4,7 +4,9 @@
 
 mod brackets;
 mod change;
+mod contexts;
 mod features;
+pub mod laws;
 mod lexeme_hints;
 mod lexeme_texts;
 mod mark;

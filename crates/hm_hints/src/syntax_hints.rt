@@ -2,10 +2,11 @@
 ghost use Rattle.std.specs.Prelude.{◌≡◌, ◌-◌, length, slice_index_or, true};
 ghost use Rattle.hm_grammar.specs.declared.symbol.Symbol.TheVariants.{End, LeftBrace, Of};
 ghost use Rattle.hm_hints.specs.Brackets.{IsInnermost};
-ghost use Rattle.hm_hints.specs.SyntaxHints.{IsSyntaxHint, ends, ends_operand, is_partner, takes_capital, wants_brace};
+ghost use Rattle.hm_hints.specs.SyntaxHints.{IsSyntaxHint, ends, ends_operand, is_partner, takes_capital, takes_constructor, wants_brace};
 
 use crate::brackets::open_bracket;
 use crate::change::Repair;
+use crate::contexts::{alternative_begins, constructors_begin, type_begins, without_else};
 use crate::features::{Feature, feature_of};
 use hm_grammar::Symbol;
 
@@ -26,10 +27,18 @@ pub enum SyntaxHint {
     Range(usize),
     /// It is a small name where only a capital one may be.
     SmallName,
+    /// It begins a type right after a type variable.
+    AppliedVariable,
     /// With this change of one token the source, or the declaration, can be read.
     Repaired(Repair),
+    /// It is `where`, directly within the `(` or `[` with this number.
+    WherePart(usize),
+    /// It can be only after something complete, and no `else` follows the `if` with this number.
+    NoElse(usize),
     /// It can be only after something complete, and doesn't close the innermost open bracket, which has this number.
     NotClosed(usize),
+    /// It is in the pattern of an alternative, directly within the `{` with this number, which follows `of`.
+    InPattern(usize),
     /// It is a `{` after a capital name.
     Record,
     /// It is a `{` after a small name or a `)`.
@@ -62,6 +71,16 @@ fn takes_capital(symbol: Symbol) -> bool
 {
     match symbol {
         Symbol::Module | Symbol::Data | Symbol::Newtype | Symbol::TypeWord => true,
+        _ => false,
+    }
+}
+
+/// Whether a constructor follows this in a declaration.
+fn takes_constructor(symbol: Symbol) -> bool
+    ensures { result ≡ takes_constructor symbol }
+{
+    match symbol {
+        Symbol::Equals | Symbol::Bar => true,
         _ => false,
     }
 }
@@ -116,6 +135,22 @@ fn ends_with_of(before: &[Symbol]) -> bool
     before[before.len() - 2].is(Symbol::Of)
 }
 
+/// The hint within an open bracket that doesn't need to be closed first.
+fn complete_hint(before: &[Symbol], bracket: usize, here: Symbol, text: &[u8]) -> SyntaxHint
+    requires { IsInnermost before.now bracket }
+    ensures { IsSyntaxHint before.now here text.now result }
+{
+    if ends(here) {
+        if let Some(at) = without_else(before, bracket) {
+            return SyntaxHint::NoElse(at);
+        }
+    }
+    if alternative_begins(before, bracket) {
+        return SyntaxHint::InPattern(bracket);
+    }
+    SyntaxHint::Unexpected
+}
+
 /// The hint within an open bracket.
 fn bracket_hint(before: &[Symbol], at: usize, here: Symbol, text: &[u8]) -> SyntaxHint
     requires { IsInnermost before.now at }
@@ -131,10 +166,13 @@ fn bracket_hint(before: &[Symbol], at: usize, here: Symbol, text: &[u8]) -> Synt
     if bracket.is(Symbol::OpenSquare) && here.is(Symbol::Dots) {
         return SyntaxHint::Range(at);
     }
+    if here.is(Symbol::Where) && (bracket.is(Symbol::Open) || bracket.is(Symbol::OpenSquare)) {
+        return SyntaxHint::WherePart(at);
+    }
     if ends(here) && !is_partner(bracket, here) {
         return SyntaxHint::NotClosed(at);
     }
-    SyntaxHint::Unexpected
+    complete_hint(before, at, here, text)
 }
 
 /// The hint behind these symbols, by the brackets that are open.
@@ -172,6 +210,12 @@ pub fn syntax_hint(before: &[Symbol], here: Symbol, text: &[u8]) -> SyntaxHint
     if takes_capital(last) && here.is(Symbol::Var) {
         return SyntaxHint::SmallName;
     }
+    if takes_constructor(last) && here.is(Symbol::Var) && constructors_begin(before) {
+        return SyntaxHint::SmallName;
+    }
+    if last.is(Symbol::Var) && here.begins_atype() && type_begins(before) {
+        return SyntaxHint::AppliedVariable;
+    }
     if last.is(Symbol::Con) && here.is(Symbol::LeftBrace) {
         return SyntaxHint::Record;
     }
@@ -189,7 +233,10 @@ impl SyntaxHint {
     pub fn is_enough(self) -> bool {
         !matches!(
             self,
-            SyntaxHint::NotClosed(_)
+            SyntaxHint::WherePart(_)
+                | SyntaxHint::NoElse(_)
+                | SyntaxHint::NotClosed(_)
+                | SyntaxHint::InPattern(_)
                 | SyntaxHint::Record
                 | SyntaxHint::Update
                 | SyntaxHint::Unexpected

@@ -58,8 +58,19 @@ pub fn syntax_text(alloc: Global, hint: SyntaxHint, text: &str) -> Result<String
         ),
         SyntaxHint::Range(_) => String::from_str(alloc, "'[a .. b]' isn't supported"),
         SyntaxHint::SmallName => format!(in alloc; "{quote} must begin with a capital letter here"),
+        SyntaxHint::AppliedVariable => format!(in alloc;
+            "a type variable takes no arguments: is '->' missing before {quote}?"
+        ),
         SyntaxHint::Repaired(repair) => change_text(alloc, repair.change, text),
+        SyntaxHint::WherePart(_) => String::from_str(
+            alloc,
+            "'where' can't be within parentheses or square brackets",
+        ),
+        SyntaxHint::NoElse(_) => format!(in alloc; "an 'if' before {quote} has no 'else'"),
         SyntaxHint::NotClosed(_) => format!(in alloc; "a bracket before {quote} isn't closed"),
+        SyntaxHint::InPattern(_) => format!(in alloc;
+            "unexpected {quote} in a pattern of a 'case'"
+        ),
         SyntaxHint::Record => String::from_str(alloc, "fields with names aren't supported"),
         SyntaxHint::Update => String::from_str(
             alloc,
@@ -97,8 +108,15 @@ pub fn syntax_help(hint: SyntaxHint) -> &'static str
         SyntaxHint::SmallName =>
             "The names of modules, types and constructors begin with a capital letter, and no others do.\n",
         SyntaxHint::Repaired(repair) => change_help(repair.change),
+        SyntaxHint::AppliedVariable =>
+            "Only a type with a name takes arguments, such as `Maybe a`.\n",
+        SyntaxHint::WherePart(_) =>
+            "It belongs to a whole definition or alternative. Within an expression, write `let { .. } in ..`.\n",
+        SyntaxHint::NoElse(_) => "Each `if` has one: `if c then x else y`.\n",
         SyntaxHint::NotClosed(_) =>
             "Each `(`, `[` and `{` is closed in the order in which they were opened, the last one first.\n",
+        SyntaxHint::InPattern(_) =>
+            "If a new definition begins here, the `}` of the `case` before it is missing.\n",
         SyntaxHint::Record =>
             "Write the types of a constructor's arguments alone, and take it apart by patterns.\n",
         SyntaxHint::Update =>

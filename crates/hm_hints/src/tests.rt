@@ -42,6 +42,58 @@ fn hints_of_syntax(rt: HostRuntime) {
     assert!(rt; syntax_hint(&HEAD, Symbol::Equals, b"=") == SyntaxHint::Unexpected);
 }
 
+/// `module M where { x = if y then 1`.
+const OPEN_IF: [Symbol; 10] = [
+    Symbol::Module,
+    Symbol::Con,
+    Symbol::Where,
+    Symbol::LeftBrace,
+    Symbol::Var,
+    Symbol::Equals,
+    Symbol::If,
+    Symbol::Var,
+    Symbol::Then,
+    Symbol::Integer,
+];
+
+/// `module M where { x = case y of { z`.
+const OPEN_CASE: [Symbol; 11] = [
+    Symbol::Module,
+    Symbol::Con,
+    Symbol::Where,
+    Symbol::LeftBrace,
+    Symbol::Var,
+    Symbol::Equals,
+    Symbol::Case,
+    Symbol::Var,
+    Symbol::Of,
+    Symbol::LeftBrace,
+    Symbol::Var,
+];
+
+/// `module M where { data T = C a`.
+const DATA: [Symbol; 9] = [
+    Symbol::Module,
+    Symbol::Con,
+    Symbol::Where,
+    Symbol::LeftBrace,
+    Symbol::Data,
+    Symbol::Con,
+    Symbol::Equals,
+    Symbol::Con,
+    Symbol::Var,
+];
+
+#[test]
+fn hints_by_contexts(rt: HostRuntime) {
+    assert!(rt; syntax_hint(&OPEN_IF, Symbol::RightBrace, b"}") == SyntaxHint::NoElse(6));
+    assert!(rt; syntax_hint(&HEAD, Symbol::Where, b"where") == SyntaxHint::WherePart(6));
+    assert!(rt; syntax_hint(&OPEN_CASE, Symbol::Var, b"w") == SyntaxHint::InPattern(9));
+    assert!(rt; syntax_hint(&DATA, Symbol::Open, b"(") == SyntaxHint::AppliedVariable);
+    assert!(rt; syntax_hint(&DATA[..7], Symbol::Var, b"c") == SyntaxHint::SmallName);
+    assert!(rt; syntax_hint(&HEAD[..5], Symbol::Var, b"c") == SyntaxHint::Unexpected);
+}
+
 #[test]
 fn hints_of_lexemes(rt: HostRuntime) {
     assert!(rt; lexeme_hint(b"`div` y") == LexemeHint::Backquote);
