@@ -1,12 +1,16 @@
--- Worked holes, parts and verdicts.
-use Rattle.std.specs.Prelude.{◌≡◌, ℕ, List, [], ◌∷◌, codes}
+-- Worked holes, parts, verdicts and sources.
+use Rattle.std.specs.Prelude.{◌≡◌, ℕ, List, [], ◌∷◌, Contains, codes}
 use Rattle.hm_lex.specs.declared.token.Place.{Place}
 use Rattle.hm_types.specs.Interfaces.{Exports as Interface}
+use Rattle.hm_types.specs.StandardPrelude.{prelude_interface}
+use Rattle.hm_syntax.specs.declared.ast.Module.{Module}
+use Rattle.hm_sources.specs.SourceModules.{HasModules}
 use Rattle.hm_names.specs.declared.faults.Fault.{Fault}
 use Rattle.hm_names.specs.declared.faults.Kind.{Kind}
 use Rattle.hm_names.specs.declared.faults.Kind.TheVariants.{Arity, Untyped}
-use Rattle.hm_verdicts.specs.ModuleVerdicts.{Good, Faulty}
-use Rattle.hm_explain.specs.Holes.{AreTyped, IsPartOf, with_hole}
+use Rattle.hm_verdicts.specs.ModuleVerdicts.{Good, Faulty, IsVerdict}
+use Rattle.hm_verdicts.specs.Worked.{module_A, module_B}
+use Rattle.hm_explain.specs.Holes.{AreTyped, HasTypesIn, IsPartOf, with_hole}
 
 -- with the hole for x, and for nothing, in front of it
 pub record HolesRow : Type 0 where
@@ -31,3 +35,13 @@ pub record VerdictsRow : Type 0 where
   pub elsewhere : AreTyped (codes "f" ∷ []) (Faulty (told_by Untyped (codes "g") ∷ []))
   pub here : ¬ (AreTyped (codes "f" ∷ []) (Faulty (told_by Untyped (codes "f") ∷ [])))
   pub of_names : ¬ (AreTyped (codes "f" ∷ []) (Faulty (told_by Arity (codes "g") ∷ [])))
+
+-- The module A has x = 'c' alone and is good, and the module B exports a module that it doesn't import. In a source of A alone each definition has a
+-- type, and nothing is said of a module B; in one of B alone nothing is said, since its fault is of another kind; and where a definition is a type fault
+-- of the only module, it has no type
+pub record TypesRow : Type 0 where
+  pub good : (source : List ℕ) (names : List (List ℕ)) → HasModules source (module_A ∷ []) → HasTypesIn source (codes "A") [] names
+  pub unnamed : (source : List ℕ) (names : List (List ℕ)) → HasModules source (module_A ∷ []) → ¬ (HasTypesIn source (codes "B") [] names)
+  pub of_names : (source : List ℕ) (names : List (List ℕ)) → HasModules source (module_B ∷ []) → ¬ (HasTypesIn source (codes "B") [] names)
+  pub untyped : (source name : List ℕ) (fs : List Interface) (names : List (List ℕ)) (m : Module) (found : List Fault) (f : Fault) → HasModules source (m ∷ [])
+      → IsVerdict m (prelude_interface ∷ fs) (Faulty found) → Contains found f → Contains names f.name → ¬ (HasTypesIn source name fs names)
