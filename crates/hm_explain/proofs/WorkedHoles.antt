@@ -16,7 +16,7 @@ use Rattle.hm_names.specs.declared.faults.Fault.{Fault}
 use Rattle.hm_names.specs.declared.faults.Kind.TheVariants.{Arity, NotImported, Untyped}
 use Rattle.hm_verdicts.specs.ModuleVerdicts.{Verdict, Good, Faulty, IsVerdict}
 use Rattle.hm_verdicts.specs.Worked.{module_A, module_B}
-use Rattle.hm_verdicts.specs.WorkedVerdicts.{fault_Z, for_prelude, interface_A}
+use Rattle.hm_verdicts.specs.WorkedVerdicts.{fault_Z, interface_A}
 use Rattle.hm_verdicts.proofs.OneModuleVerdict.{one_module_verdict}
 use Rattle.hm_verdicts.proofs.WorkedModules.{faulty_B, good_A}
 use Rattle.hm_explain.specs.Holes.{AreTyped, HasTypesIn, IsElsewhere, IsModuleIn}

@@ -2,7 +2,8 @@
 ghost use Rattle.std.specs.Prelude.{All};
 ghost use Rattle.hm_lex.specs.Texts.{LiesIn};
 
-use crate::tokens::Outline;
+use crate::edits::bytes_in;
+use crate::tokens::{Outline, Run};
 use hm_grammar::{Symbol, text_of};
 use hm_lex::{Kind, Place, Token};
 use hm_names::Fault;
@@ -10,13 +11,6 @@ use std::alloc::{AllocError, Global};
 
 /// How many different names a definition may mention that is explained.
 const MOST_NAMES: usize = 256;
-
-/// A run of tokens: from one number up to another.
-#[derive(Clone, Copy)]
-pub(crate) struct Run {
-    pub start: usize,
-    pub end: usize,
-}
 
 /// The number of the token at a place.
 fn number_at(tokens: &[Token], place: Place) -> Option<usize> {
@@ -29,7 +23,7 @@ fn number_at(tokens: &[Token], place: Place) -> Option<usize> {
 }
 
 /// Where the declaration ends that begins here: at its `;`, or at the `}` of its list.
-fn declaration_end(outline: &Outline, start: usize) -> usize {
+pub(crate) fn declaration_end(outline: &Outline, start: usize) -> usize {
     let mut next = start;
     for at in start..outline.len() {
         if at == next {
@@ -54,15 +48,13 @@ fn past_semicolons(outline: &Outline, start: usize) -> usize {
 }
 
 /// Whether what begins with this token is a clause of the variable that the other one is.
-fn is_clause_of(
+pub(crate) fn is_clause_of(
     source: &[u8],
     tokens: &[Token],
     outline: &Outline,
     at: usize,
     variable: usize,
-) -> bool
-    requires { All (LiesIn source.now) tokens.now }
-{
+) -> bool {
     if at >= tokens.len() || variable >= tokens.len() {
         return false;
     }
@@ -73,7 +65,9 @@ fn is_clause_of(
     if behind.begins_signature() || behind.continues_pattern() {
         return false;
     }
-    text_of(source, &tokens[at]) == text_of(source, &tokens[variable])
+    let here = &tokens[at];
+    let other = &tokens[variable];
+    bytes_in(source, here.start, here.end) == bytes_in(source, other.start, other.end)
 }
 
 /// The tokens of the definition whose first one is at a place: all clauses that stand together, or one pattern binding.
@@ -82,9 +76,7 @@ pub(crate) fn binding_at(
     tokens: &[Token],
     outline: &Outline,
     place: Place,
-) -> Option<Run>
-    requires { All (LiesIn source.now) tokens.now }
-{
+) -> Option<Run> {
     let start = number_at(tokens, place)?;
     let mut end = declaration_end(outline, start);
     if !is_clause_of(source, tokens, outline, start, start) {

@@ -6,6 +6,11 @@
 #![tactic(auto)]
 
 mod binding;
+mod changes;
+mod costs;
+mod culprits;
+mod cutting;
+mod edits;
 pub mod laws;
 mod parts;
 mod places;
@@ -14,5 +19,6 @@ mod search;
 mod tokens;
 mod trial;
 
-pub use crate::search::{Culprit, Effort, culprit_of};
+pub use crate::costs::Effort;
+pub use crate::search::{Culprit, culprit_of};
 pub use crate::trial::Question;

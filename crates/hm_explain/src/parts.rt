@@ -1,15 +1,32 @@
 //! The expressions that stand directly inside a definition or an expression (Haskell 98 Report, chapter 3).
-use crate::binding::Run;
-use crate::tokens::Outline;
+use crate::tokens::{Outline, Run};
 use hm_grammar::Symbol;
 use std::alloc::{AllocError, Global};
 
-/// An expression: a run of tokens.
+/// What an expression is to the one that it stands directly inside.
+#[derive(Clone, Copy, PartialEq, Eq)]
+pub(crate) enum Role {
+    /// A right side, a guard, or the body or a branch of another form.
+    Body,
+    Function,
+    Argument,
+    /// Of a list in square brackets.
+    Element,
+    /// Of a tuple.
+    Component,
+    /// Of `:`.
+    Operand,
+    /// A pattern of a lambda that isn't a variable.
+    Pattern,
+}
+
+/// An expression, or a pattern of one: a run of tokens.
 #[derive(Clone, Copy)]
 pub(crate) struct Part {
     pub run: Run,
-    /// Where the application ends of which this is the function; 0 where it is none.
-    pub arguments_end: usize,
+    pub role: Role,
+    /// The expression that it stands directly inside; its own run if it is a body.
+    pub around: Run,
 }
 
 /// The parts that are found.
@@ -22,15 +39,17 @@ struct Found {
 
 impl Found {
     /// Appends the expression of these tokens, if there are any.
-    fn add(&mut self, start: usize, end: usize) -> Result<(), AllocError> {
-        if start < end {
-            let run = Run { start, end };
-            self.parts.push(Part {
-                run,
-                arguments_end: 0,
-            })?;
+    fn add_in(&mut self, run: Run, role: Role, around: Run) -> Result<(), AllocError> {
+        if run.start < run.end {
+            self.parts.push(Part { run, role, around })?;
         }
         Ok(())
+    }
+
+    /// Appends the right side, guard, body or branch of these tokens, if there are any.
+    fn add(&mut self, start: usize, end: usize) -> Result<(), AllocError> {
+        let run = Run { start, end };
+        self.add_in(run, Role::Body, run)
     }
 
     /// Appends the expression that began here, if one did.
@@ -120,6 +139,29 @@ fn add_right_sides(found: &mut Found, outline: &Outline, list: Run) -> Result<()
     found.end(spot.expression, list.end)
 }
 
+/// Adds the patterns of a lambda that are more than one token.
+fn add_patterns(
+    found: &mut Found,
+    outline: &Outline,
+    lambda: Run,
+    arrow: usize,
+) -> Result<(), AllocError> {
+    let mut next = lambda.start.saturating_add(1);
+    for at in next..arrow {
+        if at == next {
+            next = outline.past(at);
+            if next > at.saturating_add(1) {
+                let pattern = Run {
+                    start: at,
+                    end: next,
+                };
+                found.add_in(pattern, Role::Pattern, lambda)?;
+            }
+        }
+    }
+    Ok(())
+}
+
 /// Adds what a lambda, a `let` or a conditional has directly inside.
 fn add_open_form(found: &mut Found, outline: &Outline, run: Run) -> Result<(), AllocError> {
     let Run { start, end } = run;
@@ -127,6 +169,7 @@ fn add_open_form(found: &mut Found, outline: &Outline, run: Run) -> Result<(), A
     match outline.symbol(start) {
         Symbol::Backslash => {
             if let Some(arrow) = outline.find(inner, end, Symbol::Arrow) {
+                add_patterns(found, outline, run, arrow)?;
                 found.add(arrow.saturating_add(1), end)?;
             }
         }
@@ -150,34 +193,40 @@ fn add_open_form(found: &mut Found, outline: &Outline, run: Run) -> Result<(), A
     Ok(())
 }
 
-/// Adds what stands between the commas of a run of tokens.
-fn add_elements(found: &mut Found, outline: &Outline, run: Run) -> Result<(), AllocError> {
-    let mut start = run.start;
-    let mut next = run.start;
-    for at in run.start..run.end {
+/// Adds what stands between the commas of a list or a tuple.
+fn add_elements(found: &mut Found, outline: &Outline, whole: Run) -> Result<(), AllocError> {
+    let role = if outline.symbol(whole.start).is(Symbol::Open) {
+        Role::Component
+    } else {
+        Role::Element
+    };
+    let mut start = whole.start.saturating_add(1);
+    let mut next = start;
+    for at in start..whole.end {
         if at == next {
             next = outline.past(at);
-            if outline.symbol(at).is(Symbol::Comma) {
-                found.add(start, at)?;
+            if outline.symbol(at).is(Symbol::Comma) || next >= whole.end {
+                found.add_in(Run { start, end: at }, role, whole)?;
                 start = next;
             }
         }
     }
-    found.add(start, run.end)
+    Ok(())
 }
 
 /// Adds a function and its arguments.
 fn add_application(found: &mut Found, outline: &Outline, run: Run) -> Result<(), AllocError> {
+    let mut role = Role::Function;
     let mut next = run.start;
     for at in run.start..run.end {
         if at == next {
             next = outline.past(at);
-            let arguments_end = if at == run.start { run.end } else { 0 };
-            let run = Run {
+            let atom = Run {
                 start: at,
                 end: next,
             };
-            found.parts.push(Part { run, arguments_end })?;
+            found.add_in(atom, role, run)?;
+            role = Role::Argument;
         }
     }
     Ok(())
@@ -228,7 +277,7 @@ fn add_operands(found: &mut Found, outline: &Outline, run: Run) -> Result<(), Al
     let mut start = run.start;
     let mut end = first;
     for _ in run.start..run.end {
-        found.add(start, end)?;
+        found.add_in(Run { start, end }, Role::Operand, run)?;
         if end >= run.end || outline.symbol(end).is(Symbol::OfType) {
             return Ok(());
         }
@@ -272,10 +321,7 @@ fn add_below(found: &mut Found, outline: &Outline, whole: Run) -> Result<(), All
     let is_bracket = outline.closing(run.start) == last;
     match outline.symbol(run.start) {
         Symbol::Backslash | Symbol::Let | Symbol::If => add_open_form(found, outline, run),
-        Symbol::Open | Symbol::OpenSquare if is_bracket => {
-            let start = run.start.saturating_add(1);
-            add_elements(found, outline, Run { start, end: last })
-        }
+        Symbol::Open | Symbol::OpenSquare if is_bracket => add_elements(found, outline, run),
         _ => add_operands(found, outline, run),
     }
 }
@@ -289,6 +335,7 @@ fn finished(found: Found, outline: &Outline) -> Result<Vec<Part>, AllocError> {
         };
         add_right_sides(&mut found, outline, list)?;
     }
+    found.parts.sort_by_key(|part| part.run.start)?;
     Ok(found.parts)
 }
 
@@ -316,6 +363,8 @@ pub(crate) fn parts_below(
         parts: Vec::new(alloc),
         lists: Vec::new(alloc),
     };
-    add_below(&mut found, outline, part.run)?;
+    if part.role != Role::Pattern {
+        add_below(&mut found, outline, part.run)?;
+    }
     finished(found, outline)
 }

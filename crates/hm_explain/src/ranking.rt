@@ -1,66 +1,109 @@
 //! Which of several parts is told.
-use crate::parts::Part;
-use crate::tokens::Outline;
-use hm_grammar::Symbol;
+use crate::changes::{Change, changes_at};
+use crate::costs::Effort;
+use crate::culprits::{Searched, is_mended_by};
+use crate::parts::{Part, Role};
+use crate::tokens::Run;
+use std::alloc::{AllocError, Global};
 
-/// How many tokens a part has.
-fn size(part: Part) -> usize {
-    part.run.end.saturating_sub(part.run.start)
+/// A part without which a definition has a type.
+#[derive(Clone, Copy)]
+struct Suspect {
+    /// Where the part begins.
+    start: usize,
+    /// What is told: the part, or what stands round a change of it.
+    told: Run,
+    points: usize,
 }
 
-/// Whether an argument of this function, if it is one, has a part of these inside.
-fn has_faulty_argument(parts: &[Part], function: Part) -> bool {
-    parts.iter().any(|part| {
-        part.run.start >= function.run.end && part.run.end <= function.arguments_end
+/// How likely a part is to be the slip if no change of it gives the definition a type. A function comes behind its arguments, since any fault
+/// of these is gone with another function too. The numbers were found on slips in good modules; docs/DECISIONS.md says how.
+fn points_of(role: Role) -> usize {
+    match role {
+        Role::Function | Role::Pattern => 1,
+        _ => 2,
+    }
+}
+
+/// How much likelier it is if a small change of it gives the definition a type.
+const POINTS_OF_CHANGE: usize = 2;
+
+/// Whether a part is a function, and one of these parts lies in its arguments.
+fn has_faulty_argument(parts: &[Part], part: Part) -> bool {
+    if part.role != Role::Function {
+        return false;
+    }
+    parts.iter().any(|other| other.run.start >= part.run.end && other.run.end <= part.around.end)
+}
+
+/// The changes that are tried at a part. None are tried at a function if one of these parts lies in its arguments: that one is likelier.
+fn changes_for(
+    alloc: Global,
+    searched: &Searched<'_, '_>,
+    parts: &[Part],
+    part: Part,
+) -> Result<Vec<Change>, AllocError> {
+    if has_faulty_argument(parts, part) {
+        return Ok(Vec::new(alloc));
+    }
+    changes_at(alloc, searched.lexed, part)
+}
+
+/// A part of these, and what is told of it: what stands round the first change at it that gives the definition a type, if there is one.
+fn judged_part(
+    alloc: Global,
+    searched: &Searched<'_, '_>,
+    parts: &[Part],
+    part: Part,
+    effort: &mut Effort,
+) -> Result<Suspect, AllocError> {
+    let start = part.run.start;
+    let points = points_of(part.role);
+    let changes = changes_for(alloc, searched, parts, part)?;
+    for change in &changes {
+        let edits = [change.first, change.second];
+        if is_mended_by(alloc, searched, &edits, effort)? {
+            return Ok(Suspect {
+                start,
+                told: change.told,
+                points: points.saturating_add(POINTS_OF_CHANGE),
+            });
+        }
+    }
+    let told = match part.role {
+        Role::Pattern => part.around,
+        _ => part.run,
+    };
+    Ok(Suspect {
+        start,
+        told,
+        points,
     })
 }
 
-/// Whether a part is a literal or a constructor.
-fn is_constant(outline: &Outline, part: Part) -> bool {
-    if size(part) != 1 {
-        return false;
-    }
-    match outline.symbol(part.run.start) {
-        Symbol::Con | Symbol::QCon | Symbol::Integer | Symbol::Character | Symbol::Text => true,
-        _ => false,
-    }
-}
-
-/// How likely a part is to be the slip, from 0 on. The numbers were found on slips in good modules; docs/DECISIONS.md says how.
-fn points(outline: &Outline, parts: &[Part], part: Part) -> usize {
-    let mut points = 16usize;
-    if part.arguments_end > 0 {
-        points = points.saturating_sub(2);
-        if has_faulty_argument(parts, part) {
-            points = points.saturating_sub(4);
-        }
-    }
-    if size(part) >= 8 {
-        points = points.saturating_sub(1);
-    }
-    if is_constant(outline, part) {
-        points = points.saturating_add(1);
-    }
-    if !parts.iter().any(|other| other.run.start > part.run.start) {
-        points = points.saturating_add(1);
-    }
-    points
-}
-
-/// The part that is told: the one with the most points, and the last of several that have as many.
-pub(crate) fn likeliest(outline: &Outline, parts: &[Part]) -> Option<Part> {
-    let mut best: Option<Part> = None;
-    let mut most = 0usize;
+/// What is told of these parts: of the one with the most points, and of the last of several that have as many.
+pub(crate) fn likeliest(
+    alloc: Global,
+    searched: &Searched<'_, '_>,
+    parts: &[Part],
+    effort: &mut Effort,
+) -> Result<Option<Run>, AllocError> {
+    let mut best: Option<Suspect> = None;
     for part in parts {
-        let points = points(outline, parts, *part);
+        let suspect = judged_part(alloc, searched, parts, *part, effort)?;
         let is_better = match best {
-            Some(other) => { points > most || points == most && part.run.start > other.run.start }
+            Some(other) => {
+                suspect.points > other.points
+                    || suspect.points == other.points && suspect.start > other.start
+            }
             None => true,
         };
         if is_better {
-            best = Some(*part);
-            most = points;
+            best = Some(suspect);
         }
     }
-    best
+    match best {
+        Some(suspect) => Ok(Some(suspect.told)),
+        None => Ok(None),
+    }
 }

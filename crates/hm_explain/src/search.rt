@@ -1,26 +1,20 @@
 //! The search for a part without which a definition has a type.
-ghost use Rattle.std.specs.Prelude.{◌≡◌, ◌≤◌, All, IfOk, IfSome, length, map, take};
+ghost use Rattle.std.specs.Prelude.{◌≡◌, ◌≤◌, IfOk, IfSome, length, map, take};
 ghost use Rattle.std.specs.Arc.{arc_value};
-ghost use Rattle.hm_lex.specs.Texts.{LiesIn};
 ghost use Rattle.hm_explain.specs.Holes.{IsCulprit};
 
 use crate::binding::{binding_at, names_in};
-use crate::parts::{Part, parts_below, right_sides};
+use crate::costs::{Effort, cost_of};
+use crate::culprits::{Searched, culprits};
+use crate::cutting::{Cut, cut_of};
+use crate::parts::right_sides;
 use crate::places::place_behind;
 use crate::ranking::likeliest;
-use crate::tokens::Outline;
+use crate::tokens::{Lexed, Outline, Run};
 use crate::trial::{Question, types_without};
 use hm_lex::{LexFault, Place, Token, lex};
 use hm_names::Fault;
 use std::alloc::{AllocError, Global};
-
-/// How many trials the explanation of a fault takes at most.
-const MOST_TRIALS: usize = 200;
-
-/// What the explanations of a run may cost: a trial costs one for each byte of its source, and `COST_OF_TRIAL` more.
-const MOST_COST: usize = 1 << 21;
-
-const COST_OF_TRIAL: usize = 1 << 12;
 
 /// The longest source whose faults are explained, in bytes.
 const LONGEST: usize = 1 << 16;
@@ -38,77 +32,15 @@ pub struct Culprit {
     pub end: Place,
 }
 
-/// What explanations may still cost.
-#[derive(Clone, Copy)]
-pub struct Effort {
-    left: usize,
-}
-
-impl Effort {
-    /// What the explanations of a run may cost.
-    pub fn of_run() -> Effort {
-        Effort { left: MOST_COST }
-    }
-
-    /// Whether a trial of this source is paid for by what is left, which is less by its cost then.
-    fn pays(&mut self, source: &[u8]) -> bool {
-        let cost = source.len().saturating_add(COST_OF_TRIAL);
-        match self.left.checked_sub(cost) {
-            Some(left) => {
-                self.left = left;
-                true
-            }
-            None => false,
-        }
-    }
-}
-
-/// What is searched: a definition of a source.
-#[derive(Clone, Copy)]
-struct Searched<'a, 'q> {
-    question: &'a Question<'q>,
-    tokens: &'a [Token],
-    outline: &'a Outline,
-    definition: &'a str,
-    others: &'a [&'a str],
-}
-
-/// Whether a definition has a type with the hole in place of a part. Where no trial is left, the answer is `false`.
-fn mends(
-    alloc: Global,
-    searched: &Searched<'_, '_>,
-    part: Part,
-    effort: &mut Effort,
-    left: &mut usize,
-) -> Result<bool, AllocError> {
-    let question = searched.question;
-    let Some((from, to)) = bytes_of(searched.tokens, part, question.source) else {
-        return Ok(false);
-    };
-    if *left == 0 || !effort.pays(question.source) {
-        *left = 0;
-        return Ok(false);
-    }
-    *left -= 1;
-    types_without(
-        alloc,
-        question,
-        from,
-        to,
-        searched.definition,
-        searched.others,
-    )
-}
-
-/// The bytes of a part, from one number up to another.
-fn bytes_of(tokens: &[Token], part: Part, source: &[u8]) -> Option<(usize, usize)>
+/// The bytes of a run of tokens, from one number up to another.
+fn bytes_of(tokens: &[Token], run: Run, source: &[u8]) -> Option<(usize, usize)>
     ensures { IfSome result (λ r. (r.0 ≤ r.1) × (r.1 ≤ length source.now)) }
 {
-    let last = part.run.end.checked_sub(1)?;
-    if part.run.start >= tokens.len() || last >= tokens.len() {
+    let last = run.end.checked_sub(1)?;
+    if run.start >= tokens.len() || last >= tokens.len() {
         return None;
     }
-    let from = tokens[part.run.start].start;
+    let from = tokens[run.start].start;
     let to = tokens[last].end;
     if from <= to && to <= source.len() {
         return Some((from, to));
@@ -116,73 +48,108 @@ fn bytes_of(tokens: &[Token], part: Part, source: &[u8]) -> Option<(usize, usize
     None
 }
 
-/// Those of the parts that mend.
-fn mending(
-    alloc: Global,
-    searched: &Searched<'_, '_>,
-    parts: &[Part],
-    effort: &mut Effort,
-    left: &mut usize,
-) -> Result<Vec<Part>, AllocError> {
-    let mut found = Vec::new(alloc);
-    for part in parts {
-        if mends(alloc, searched, *part, effort, left)? {
-            found.push(*part)?;
-        }
-    }
-    Ok(found)
+/// The tokens of a source with their outline.
+#[derive(Drop)]
+struct Reading {
+    tokens: Vec<Token>,
+    outline: Outline,
 }
 
-/// The parts without which a definition has a type, while no part inside them has that property. Where the trials run out, those that were
-/// found by then.
-fn culprits(
-    alloc: Global,
-    searched: &Searched<'_, '_>,
-    top: &[Part],
-    effort: &mut Effort,
-) -> Result<Vec<Part>, AllocError> {
-    let mut left = MOST_TRIALS;
-    let mut found = Vec::new(alloc);
-    let mut pending = mending(alloc, searched, top, effort, &mut left)?;
-    for _ in 0..MOST_TRIALS {
-        let Some(part) = pending.pop() else {
-            return Ok(found);
-        };
-        let below = parts_below(alloc, searched.outline, part)?;
-        let inside = mending(alloc, searched, below.as_slice(), effort, &mut left)?;
-        if left == 0 {
-            return Ok(found);
-        }
-        if inside.is_empty() {
-            found.push(part)?;
-        }
-        pending.extend_from_slice(inside.as_slice())?;
-    }
-    Ok(found)
+/// The tokens of a source with their outline, if it has tokens.
+fn reading_of(alloc: Global, source: &[u8]) -> Result<Option<Reading>, AllocError> {
+    let tokens = match lex(alloc, source) {
+        Ok(tokens) => tokens,
+        Err(LexFault::Memory) => return Err(AllocError),
+        Err(_) => return Ok(None),
+    };
+    let outline = Outline::of(alloc, source, tokens.as_slice())?;
+    Ok(Some(Reading { tokens, outline }))
 }
 
-/// The part that is told, where there is one.
-fn chosen(
+/// The number of the token that begins at a byte, or of the first one behind it.
+fn token_at(tokens: &[Token], byte: usize) -> usize {
+    tokens.iter().take_while(|token| token.start < byte).count()
+}
+
+/// The part of a definition that is told.
+fn likeliest_in(
     alloc: Global,
     searched: &Searched<'_, '_>,
-    top: &[Part],
+    definition: Run,
     effort: &mut Effort,
-) -> Result<Option<Part>, AllocError> {
-    let found = culprits(alloc, searched, top, effort)?;
-    Ok(likeliest(searched.outline, found.as_slice()))
+) -> Result<Option<Run>, AllocError> {
+    let top = right_sides(alloc, searched.lexed.outline, definition)?;
+    let found = culprits(alloc, searched, top.as_slice(), effort)?;
+    likeliest(alloc, searched, found.as_slice(), effort)
+}
+
+/// The part of a definition of so many tokens that is told, in tokens from the first one of the definition on.
+fn part_in_cut(
+    alloc: Global,
+    searched: &Searched<'_, '_>,
+    cut: &Cut,
+    size: usize,
+    effort: &mut Effort,
+) -> Result<Option<Run>, AllocError> {
+    let source = cut.text.as_slice();
+    let Some(reading) = reading_of(alloc, source)? else {
+        return Ok(None);
+    };
+    let tokens = reading.tokens.as_slice();
+    let lexed = Lexed {
+        source,
+        tokens,
+        outline: &reading.outline,
+    };
+    let smaller = Searched {
+        question: searched.question,
+        lexed: &lexed,
+        definition: searched.definition,
+        others: searched.others,
+        cost: cost_of(source, &reading.outline),
+    };
+    let start = token_at(tokens, cut.definition);
+    let end = start.saturating_add(size);
+    let Some(told) = likeliest_in(alloc, &smaller, Run { start, end }, effort)? else {
+        return Ok(None);
+    };
+    Ok(Some(Run {
+        start: told.start.saturating_sub(start),
+        end: told.end.saturating_sub(start),
+    }))
+}
+
+/// The part of a definition that is told, which is searched in a smaller source.
+fn part_in(
+    alloc: Global,
+    searched: &Searched<'_, '_>,
+    definition: Run,
+    effort: &mut Effort,
+) -> Result<Option<Run>, AllocError> {
+    let Some(cut) = cut_of(alloc, searched.lexed, definition)? else {
+        return Ok(None);
+    };
+    let size = definition.end.saturating_sub(definition.start);
+    let Some(told) = part_in_cut(alloc, searched, &cut, size, effort)? else {
+        return Ok(None);
+    };
+    Ok(Some(Run {
+        start: told.start.saturating_add(definition.start),
+        end: told.end.saturating_add(definition.start),
+    }))
 }
 
 /// The part, if the definition has a type with the hole in place of it.
 fn confirmed(
     alloc: Global,
     searched: &Searched<'_, '_>,
-    part: Part,
+    part: Run,
 ) -> Result<Option<Culprit>, AllocError>
     ensures { IfOk result (λ found. IfSome found (IsCulprit searched.now.question.now.source.now searched.now.question.now.name.now
         (map arc_value searched.now.question.now.imports.now) searched.now.definition.now)) }
 {
     let question = searched.question;
-    let Some((from, to)) = bytes_of(searched.tokens, part, question.source) else {
+    let Some((from, to)) = bytes_of(searched.lexed.tokens, part, question.source) else {
         return Ok(None);
     };
     if from >= to {
@@ -191,8 +158,7 @@ fn confirmed(
     if !types_without(
         alloc,
         question,
-        from,
-        to,
+        (from, to),
         searched.definition,
         searched.others,
     )? {
@@ -226,7 +192,8 @@ pub fn culprit_of(
         fault.now.name)) }
 {
     let source = question.source;
-    if source.len() > LONGEST || !effort.pays(source) {
+    effort.begin();
+    if source.len() > LONGEST || !effort.pays(source.len()) {
         return Ok(None);
     }
     let tokens = match lex(alloc, source) {
@@ -242,15 +209,22 @@ pub fn culprit_of(
     let Some(others) = names_in(alloc, source, tokens, binding, faults)? else {
         return Ok(None);
     };
-    let top = right_sides(alloc, &outline, binding)?;
-    let searched = Searched {
-        question,
+    let lexed = Lexed {
+        source,
         tokens,
         outline: &outline,
+    };
+    let searched = Searched {
+        question,
+        lexed: &lexed,
         definition: fault.name.as_str(),
         others: others.as_slice(),
+        cost: cost_of(source, &outline),
     };
-    let Some(part) = chosen(alloc, &searched, top.as_slice(), effort)? else {
+    if !effort.pays(searched.cost) {
+        return Ok(None);
+    }
+    let Some(part) = part_in(alloc, &searched, binding, effort)? else {
         return Ok(None);
     };
     confirmed(alloc, &searched, part)

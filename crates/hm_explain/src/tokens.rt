@@ -7,6 +7,13 @@ use hm_grammar::{Symbol, symbol_of, text_of};
 use hm_lex::Token;
 use std::alloc::{AllocError, Global};
 
+/// A run of tokens: from one number up to another.
+#[derive(Clone, Copy)]
+pub(crate) struct Run {
+    pub start: usize,
+    pub end: usize,
+}
+
 /// What tokens are to the grammar, and where each bracket is closed.
 #[derive(Drop)]
 pub(crate) struct Outline {
@@ -123,5 +130,34 @@ impl Outline {
             }
         }
         None
+    }
+}
+
+/// A source with its tokens.
+#[derive(Clone, Copy)]
+pub(crate) struct Lexed<'a> {
+    pub source: &'a [u8],
+    pub tokens: &'a [Token],
+    pub outline: &'a Outline,
+}
+
+impl Lexed<'_> {
+    /// The number of the first byte of a token; 0 of a token that isn't there.
+    pub fn start(&self, at: usize) -> usize {
+        if at < self.tokens.len() {
+            self.tokens[at].start
+        } else {
+            0
+        }
+    }
+
+    /// The number of the byte behind the last token of a run; 0 of a run that ends behind all tokens.
+    pub fn end(&self, run: Run) -> usize {
+        let last = run.end.saturating_sub(1);
+        if last < self.tokens.len() {
+            self.tokens[last].end
+        } else {
+            0
+        }
     }
 }

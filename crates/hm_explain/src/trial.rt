@@ -18,7 +18,7 @@ use std::alloc::{AllocError, Global};
 use std::sync::Arc;
 
 /// An expression of every type.
-const HOLE: &str = "(let { h = h } in h)";
+pub(crate) const HOLE: &str = "(let { h = h } in h)";
 
 /// How many levels a type may have in a trial.
 const MOST_LEVELS: usize = 1 << 12;
@@ -170,24 +170,39 @@ fn are_typed(verdict: &Verdict, definition: &str, others: &[&str]) -> bool
     }
 }
 
-/// Whether a definition and others are no type faults where the hole stands in place of a range of bytes of the source, and the module
-/// has type faults at most. Where they are, or where the changed source can't be read, the answer is `false`.
-pub(crate) fn types_without(
+/// Whether a definition and others are no type faults in a changed source, and the module has type faults at most. Where they are, or where
+/// the source can't be read, the answer is `false`.
+pub(crate) fn has_types_in(
     alloc: Global,
     question: &Question<'_>,
-    from: usize,
-    to: usize,
+    changed: &[u8],
     definition: &str,
     others: &[&str],
 ) -> Result<bool, AllocError>
-    requires ordered { from ≤ to }
-    requires within { to ≤ length question.now.source.now }
-    ensures { IfOk result (λ yes. yes ≡ true → HasTypesIn (with_hole question.now.source.now from to) question.now.name.now
-        (map arc_value question.now.imports.now) (definition.now ∷ map (λ n. n.now) others.now)) }
+    ensures { IfOk result (λ yes. yes ≡ true → HasTypesIn changed.now question.now.name.now (map arc_value question.now.imports.now)
+        (definition.now ∷ map (λ n. n.now) others.now)) }
 {
-    let changed = with_hole(alloc, question.source, from, to)?;
-    match judged(alloc, question, changed.as_slice())? {
+    match judged(alloc, question, changed)? {
         Some(outcome) => Ok(are_typed(outcome.verdict(), definition, others)),
         None => Ok(false),
     }
+}
+
+/// Whether a definition and others are no type faults where the hole stands in place of a range of bytes of the source, and the module
+/// has type faults at most.
+pub(crate) fn types_without(
+    alloc: Global,
+    question: &Question<'_>,
+    part: (usize, usize),
+    definition: &str,
+    others: &[&str],
+) -> Result<bool, AllocError>
+    requires ordered { part.0 ≤ part.1 }
+    requires within { part.1 ≤ length question.now.source.now }
+    ensures { IfOk result (λ yes. yes ≡ true → HasTypesIn (with_hole question.now.source.now part.0 part.1) question.now.name.now
+        (map arc_value question.now.imports.now) (definition.now ∷ map (λ n. n.now) others.now)) }
+{
+    let (from, to) = part;
+    let changed = with_hole(alloc, question.source, from, to)?;
+    Ok(has_types_in(alloc, question, changed.as_slice(), definition, others)?)
 }

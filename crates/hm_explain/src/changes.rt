@@ -1,0 +1,265 @@
+//! Small changes of an expression, which show what may be wrong with it.
+use crate::edits::{Edit, Filling, before, behind, bracketed, in_place};
+use crate::parts::{Part, Role};
+use crate::tokens::{Lexed, Outline, Run};
+use crate::trial::HOLE;
+use hm_grammar::Symbol;
+use std::alloc::{AllocError, Global};
+
+/// How many arguments an application may have in which they are changed.
+const MOST_ARGUMENTS: usize = 6;
+
+const NOTHING: Filling = Filling::Text(" ");
+
+/// A hole as the last argument in brackets.
+const LAST_ARGUMENT: &str = " (let { h = h } in h))";
+
+/// A change of an expression: edits in two places.
+#[derive(Clone, Copy)]
+pub(crate) struct Change {
+    /// The expression that is told if the change gives a definition a type. With a hole in place of it, the definition has one too.
+    pub told: Run,
+    pub first: Edit,
+    pub second: Edit,
+}
+
+/// The function and the arguments of an application.
+fn atoms_of(alloc: Global, outline: &Outline, run: Run) -> Result<Vec<Run>, AllocError> {
+    let mut atoms = Vec::new(alloc);
+    let mut next = run.start;
+    for at in run.start..run.end {
+        if at == next {
+            next = outline.past(at);
+            atoms.push(Run {
+                start: at,
+                end: next,
+            })?;
+        }
+    }
+    Ok(atoms)
+}
+
+/// Adds the change that two runs, the first of them in front, change places.
+fn add_exchange(
+    found: &mut Vec<Change>,
+    lexed: &Lexed<'_>,
+    whole: Run,
+    first: Run,
+    second: Run,
+) -> Result<(), AllocError> {
+    found.push(Change {
+        told: whole,
+        first: in_place(lexed, first, bracketed(lexed, second)),
+        second: in_place(lexed, second, bracketed(lexed, first)),
+    })?;
+    Ok(())
+}
+
+/// Adds each exchange of two of these.
+fn add_exchanges(
+    found: &mut Vec<Change>,
+    lexed: &Lexed<'_>,
+    whole: Run,
+    items: &[Run],
+) -> Result<(), AllocError> {
+    for second in 1..items.len() {
+        for first in 0..second {
+            add_exchange(found, lexed, whole, items[first], items[second])?;
+        }
+    }
+    Ok(())
+}
+
+/// Adds the changes that leave an argument out, the last one first. It and the one before it are told.
+fn add_without_one(
+    found: &mut Vec<Change>,
+    lexed: &Lexed<'_>,
+    whole: Run,
+    atoms: &[Run],
+) -> Result<(), AllocError> {
+    for back in 1..atoms.len() {
+        let number = atoms.len() - back;
+        let start = if number > 1 {
+            atoms[number - 1].start
+        } else {
+            whole.start
+        };
+        let told = Run {
+            start,
+            end: atoms[number].end,
+        };
+        found.push(Change {
+            told,
+            first: in_place(lexed, atoms[number], NOTHING),
+            second: behind(lexed, whole, NOTHING),
+        })?;
+    }
+    Ok(())
+}
+
+/// Adds the changes that put an argument more into an application, the last place first. What stands before it is told.
+fn add_with_one_more(
+    found: &mut Vec<Change>,
+    lexed: &Lexed<'_>,
+    whole: Run,
+    atoms: &[Run],
+) -> Result<(), AllocError> {
+    for back in 0..atoms.len() {
+        let atom = atoms[atoms.len() - 1 - back];
+        let told = Run {
+            start: whole.start,
+            end: atom.end,
+        };
+        found.push(Change {
+            told,
+            first: behind(lexed, atom, Filling::Text(HOLE)),
+            second: behind(lexed, whole, NOTHING),
+        })?;
+    }
+    Ok(())
+}
+
+/// Adds the changes of the arguments of an application.
+fn add_of_application(
+    alloc: Global,
+    found: &mut Vec<Change>,
+    lexed: &Lexed<'_>,
+    whole: Run,
+) -> Result<(), AllocError> {
+    let atoms = atoms_of(alloc, lexed.outline, whole)?;
+    let atoms = atoms.as_slice();
+    if atoms.len() < 2 || atoms.len() > MOST_ARGUMENTS {
+        return Ok(());
+    }
+    let arguments = &atoms[1..];
+    add_exchanges(found, lexed, whole, arguments)?;
+    add_without_one(found, lexed, whole, atoms)?;
+    add_with_one_more(found, lexed, whole, atoms)
+}
+
+/// Adds the changes that put arguments behind a name.
+fn add_of_name(found: &mut Vec<Change>, lexed: &Lexed<'_>, name: Run) -> Result<(), AllocError> {
+    match lexed.outline.symbol(name.start) {
+        Symbol::Var | Symbol::QVar | Symbol::Con | Symbol::QCon => {}
+        _ => return Ok(()),
+    }
+    if name.end.saturating_sub(name.start) == 1 {
+        found.push(Change {
+            told: name,
+            first: before(lexed, name, Filling::Text("(")),
+            second: behind(lexed, name, Filling::Text(LAST_ARGUMENT)),
+        })?;
+    }
+    Ok(())
+}
+
+/// Whether a run is a list of one element.
+fn is_list_of_one(outline: &Outline, run: Run) -> bool {
+    let last = run.end.saturating_sub(1);
+    let inner = run.start.saturating_add(1);
+    outline.symbol(run.start).is(Symbol::OpenSquare)
+        && outline.closing(run.start) == last
+        && inner < last
+        && outline.find(inner, last, Symbol::Comma).is_none()
+}
+
+/// Adds the change of a list of one element into that element.
+fn add_unlisted(found: &mut Vec<Change>, lexed: &Lexed<'_>, list: Run) -> Result<(), AllocError> {
+    if is_list_of_one(lexed.outline, list) {
+        let inner = Run {
+            start: list.start.saturating_add(1),
+            end: list.end.saturating_sub(1),
+        };
+        found.push(Change {
+            told: list,
+            first: in_place(lexed, list, bracketed(lexed, inner)),
+            second: behind(lexed, list, NOTHING),
+        })?;
+    }
+    Ok(())
+}
+
+/// Adds, for each list of one element in the pattern of a lambda, the change into that element.
+fn add_unlisted_inside(
+    found: &mut Vec<Change>,
+    lexed: &Lexed<'_>,
+    part: Part,
+) -> Result<(), AllocError> {
+    for at in part.run.start..part.run.end {
+        let list = Run {
+            start: at,
+            end: lexed.outline.past(at),
+        };
+        if is_list_of_one(lexed.outline, list) {
+            let inner = Run {
+                start: at.saturating_add(1),
+                end: list.end.saturating_sub(1),
+            };
+            found.push(Change {
+                told: part.around,
+                first: in_place(lexed, list, bracketed(lexed, inner)),
+                second: behind(lexed, part.around, NOTHING),
+            })?;
+        }
+    }
+    Ok(())
+}
+
+/// Adds the exchange of the two sides of a form that has two parts, which a separator stands between.
+fn add_of_pair(
+    found: &mut Vec<Change>,
+    lexed: &Lexed<'_>,
+    whole: Run,
+    inner: Run,
+    separator: Symbol,
+) -> Result<(), AllocError> {
+    let Some(middle) = lexed.outline.find(inner.start, inner.end, separator) else {
+        return Ok(());
+    };
+    let first = Run {
+        start: inner.start,
+        end: middle,
+    };
+    let second = Run {
+        start: middle.saturating_add(1),
+        end: inner.end,
+    };
+    match lexed.outline.find(second.start, second.end, separator) {
+        Some(_) => Ok(()),
+        None => add_exchange(found, lexed, whole, first, second),
+    }
+}
+
+/// The changes that are tried at a part, the most telling ones first.
+pub(crate) fn changes_at(
+    alloc: Global,
+    lexed: &Lexed<'_>,
+    part: Part,
+) -> Result<Vec<Change>, AllocError> {
+    let mut found = Vec::new(alloc);
+    let around = part.around;
+    if part.role != Role::Pattern {
+        add_unlisted(&mut found, lexed, part.run)?;
+    }
+    match part.role {
+        Role::Function => add_of_application(alloc, &mut found, lexed, around)?,
+        Role::Element => add_unlisted(&mut found, lexed, around)?,
+        Role::Component => {
+            let inner = Run {
+                start: around.start.saturating_add(1),
+                end: around.end.saturating_sub(1),
+            };
+            add_of_pair(&mut found, lexed, around, inner, Symbol::Comma)?;
+        }
+        Role::Operand => add_of_pair(&mut found, lexed, around, around, Symbol::Colon)?,
+        Role::Pattern => {
+            add_unlisted_inside(&mut found, lexed, part)?;
+            return Ok(found);
+        }
+        _ => {}
+    }
+    if part.role != Role::Function {
+        add_of_name(&mut found, lexed, part.run)?;
+    }
+    Ok(found)
+}

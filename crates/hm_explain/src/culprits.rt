@@ -1,0 +1,196 @@
+//! The search for the parts without which a definition has a type.
+use crate::costs::{Effort, MOST_TRIALS};
+use crate::edits::{Edit, Filling, before, copied, edited, in_place};
+use crate::parts::{Part, Role, parts_below};
+use crate::tokens::{Lexed, Run};
+use crate::trial::{HOLE, Question, has_types_in};
+use hm_grammar::Symbol;
+use std::alloc::{AllocError, Global};
+
+/// From how many parts on halves of them are asked about first.
+const SPLIT: usize = 6;
+
+/// What is searched: a definition of a source, and what trials ask of it.
+#[derive(Clone, Copy)]
+pub(crate) struct Searched<'a, 'q> {
+    pub question: &'a Question<'q>,
+    pub lexed: &'a Lexed<'a>,
+    pub definition: &'a str,
+    pub others: &'a [&'a str],
+    /// What a trial costs.
+    pub cost: usize,
+}
+
+/// Whether a definition has a type with these edits. Where no trial is left, the answer is `false`.
+pub(crate) fn is_mended_by(
+    alloc: Global,
+    searched: &Searched<'_, '_>,
+    edits: &[Edit],
+    effort: &mut Effort,
+) -> Result<bool, AllocError> {
+    if !effort.pays(searched.cost) {
+        return Ok(false);
+    }
+    let changed = edited(alloc, searched.lexed.source, edits)?;
+    has_types_in(
+        alloc,
+        searched.question,
+        changed.as_slice(),
+        searched.definition,
+        searched.others,
+    )
+}
+
+/// Appends what takes a pattern of a lambda away: `_` in place of it, and a hole for each of its variables in front of the body.
+fn add_open_pattern(
+    edits: &mut Vec<Edit>,
+    lexed: &Lexed<'_>,
+    pattern: Part,
+) -> Result<(), AllocError> {
+    let outline = lexed.outline;
+    let Run { start, end } = pattern.around;
+    let Some(arrow) = outline.find(start.saturating_add(1), end, Symbol::Arrow) else {
+        return Ok(());
+    };
+    let body = Run {
+        start: arrow.saturating_add(1),
+        end,
+    };
+    edits.push(in_place(lexed, pattern.run, Filling::Text("_")))?;
+    edits.push(before(lexed, body, Filling::Text("let { ")))?;
+    for at in pattern.run.start..pattern.run.end {
+        if outline.symbol(at).is(Symbol::Var) {
+            let name = Run {
+                start: at,
+                end: at.saturating_add(1),
+            };
+            edits.push(before(lexed, body, copied(lexed, name)))?;
+            edits.push(before(lexed, body, Filling::Text(" = ")))?;
+            edits.push(before(lexed, body, Filling::Text(HOLE)))?;
+            edits.push(before(lexed, body, Filling::Text(" ; ")))?;
+        }
+    }
+    edits.push(before(lexed, body, Filling::Text("} in ")))?;
+    Ok(())
+}
+
+/// Holes in place of parts, which are in order: one for all of them where they are neighbours in a list.
+fn holes(alloc: Global, lexed: &Lexed<'_>, parts: &[Part]) -> Result<Vec<Edit>, AllocError> {
+    let mut edits = Vec::new(alloc);
+    let (Some(first), Some(last)) = (parts.first(), parts.last()) else {
+        return Ok(edits);
+    };
+    if first.role == Role::Element || first.role == Role::Operand {
+        let run = Run {
+            start: first.run.start,
+            end: last.run.end,
+        };
+        edits.push(in_place(lexed, run, Filling::Text(HOLE)))?;
+        return Ok(edits);
+    }
+    for part in parts {
+        if part.role == Role::Pattern {
+            add_open_pattern(&mut edits, lexed, *part)?;
+        } else {
+            edits.push(in_place(lexed, part.run, Filling::Text(HOLE)))?;
+        }
+    }
+    edits.sort_by_key(|edit| edit.from)?;
+    Ok(edits)
+}
+
+/// Whether a definition has a type with holes in place of all these parts.
+fn mends(
+    alloc: Global,
+    searched: &Searched<'_, '_>,
+    parts: &[Part],
+    effort: &mut Effort,
+) -> Result<bool, AllocError> {
+    let edits = holes(alloc, searched.lexed, parts)?;
+    is_mended_by(alloc, searched, edits.as_slice(), effort)
+}
+
+/// The parts with these numbers.
+fn parts_in(parts: &[Part], run: Run) -> &[Part] {
+    if run.start <= run.end && run.end <= parts.len() {
+        &parts[run.start..run.end]
+    } else {
+        &parts[..0]
+    }
+}
+
+/// Those of the parts that mend. Of many parts halves are asked about first: a half that doesn't mend has no part that does.
+fn mending(
+    alloc: Global,
+    searched: &Searched<'_, '_>,
+    parts: &[Part],
+    effort: &mut Effort,
+) -> Result<Vec<Part>, AllocError> {
+    let mut found = Vec::new(alloc);
+    let mut pending = Vec::new(alloc);
+    pending.push(Run {
+        start: 0,
+        end: parts.len(),
+    })?;
+    for _ in 0..MOST_TRIALS {
+        let Some(run) = pending.pop() else {
+            return Ok(found);
+        };
+        let few = run.end.saturating_sub(run.start) < SPLIT;
+        if few {
+            for part in parts_in(parts, run) {
+                let one = [*part];
+                if mends(alloc, searched, &one, effort)? {
+                    found.push(*part)?;
+                }
+            }
+        } else {
+            let middle = run
+                .start
+                .saturating_add(run.end.saturating_sub(run.start) / 2);
+            let halves = [
+                Run {
+                    start: run.start,
+                    end: middle,
+                },
+                Run {
+                    start: middle,
+                    end: run.end,
+                },
+            ];
+            for half in &halves {
+                if mends(alloc, searched, parts_in(parts, *half), effort)? {
+                    pending.push(*half)?;
+                }
+            }
+        }
+    }
+    Ok(found)
+}
+
+/// The parts without which a definition has a type, while no part inside them has that property. Where the trials run out, those that were
+/// found by then.
+pub(crate) fn culprits(
+    alloc: Global,
+    searched: &Searched<'_, '_>,
+    top: &[Part],
+    effort: &mut Effort,
+) -> Result<Vec<Part>, AllocError> {
+    let mut found = Vec::new(alloc);
+    let mut pending = mending(alloc, searched, top, effort)?;
+    for _ in 0..MOST_TRIALS {
+        let Some(part) = pending.pop() else {
+            return Ok(found);
+        };
+        let below = parts_below(alloc, searched.lexed.outline, part)?;
+        let inside = mending(alloc, searched, below.as_slice(), effort)?;
+        if effort.is_spent() {
+            return Ok(found);
+        }
+        if inside.is_empty() {
+            found.push(part)?;
+        }
+        pending.extend_from_slice(inside.as_slice())?;
+    }
+    Ok(found)
+}

@@ -1,0 +1,88 @@
+//! Changed sources: texts put in place of ranges of bytes.
+use crate::tokens::{Lexed, Run};
+use std::alloc::{AllocError, Global};
+
+/// What is put in place of a range.
+#[derive(Clone, Copy)]
+pub(crate) enum Filling {
+    Text(&'static str),
+    /// The bytes of the source from one number up to another.
+    Copy(usize, usize),
+    /// The same, in brackets.
+    Bracketed(usize, usize),
+}
+
+/// A text in place of the bytes from one number up to another.
+#[derive(Clone, Copy)]
+pub(crate) struct Edit {
+    pub from: usize,
+    pub to: usize,
+    pub by: Filling,
+}
+
+/// Something in place of a run.
+pub(crate) fn in_place(lexed: &Lexed<'_>, run: Run, by: Filling) -> Edit {
+    let from = lexed.start(run.start);
+    let to = lexed.end(run);
+    Edit { from, to, by }
+}
+
+/// Something in front of a run.
+pub(crate) fn before(lexed: &Lexed<'_>, run: Run, by: Filling) -> Edit {
+    let from = lexed.start(run.start);
+    Edit { from, to: from, by }
+}
+
+/// Something behind a run.
+pub(crate) fn behind(lexed: &Lexed<'_>, run: Run, by: Filling) -> Edit {
+    let to = lexed.end(run);
+    Edit { from: to, to, by }
+}
+
+/// A copy of a run.
+pub(crate) fn copied(lexed: &Lexed<'_>, run: Run) -> Filling {
+    Filling::Copy(lexed.start(run.start), lexed.end(run))
+}
+
+/// A copy of a run, in brackets.
+pub(crate) fn bracketed(lexed: &Lexed<'_>, run: Run) -> Filling {
+    Filling::Bracketed(lexed.start(run.start), lexed.end(run))
+}
+
+/// The bytes from one number up to another; none if there are no such bytes.
+pub(crate) fn bytes_in(source: &[u8], from: usize, to: usize) -> &[u8] {
+    if from <= to && to <= source.len() {
+        &source[from..to]
+    } else {
+        &source[..0]
+    }
+}
+
+/// Appends what an edit puts in.
+fn fill(text: &mut Vec<u8>, source: &[u8], by: Filling) -> Result<(), AllocError> {
+    match by {
+        Filling::Text(filling) => text.extend_from_slice(filling.as_bytes())?,
+        Filling::Copy(from, to) => text.extend_from_slice(bytes_in(source, from, to))?,
+        Filling::Bracketed(from, to) => {
+            text.extend_from_slice(b"(")?;
+            text.extend_from_slice(bytes_in(source, from, to))?;
+            text.extend_from_slice(b")")?;
+        }
+    }
+    Ok(())
+}
+
+/// The source with these edits, which are in order. One that isn't behind the ones before it is left out.
+pub(crate) fn edited(alloc: Global, source: &[u8], edits: &[Edit]) -> Result<Vec<u8>, AllocError> {
+    let mut text = Vec::new(alloc);
+    let mut at = 0usize;
+    for edit in edits {
+        if at <= edit.from && edit.from <= edit.to && edit.to <= source.len() {
+            text.extend_from_slice(bytes_in(source, at, edit.from))?;
+            fill(&mut text, source, edit.by)?;
+            at = edit.to;
+        }
+    }
+    text.extend_from_slice(bytes_in(source, at, source.len()))?;
+    Ok(text)
+}
