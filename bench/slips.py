@@ -5,8 +5,8 @@
 one token or one small expression: two arguments exchanged, one left out or given twice, a literal of another kind, another constructor or
 variable, list brackets put in or left out. It is kept where the set then has one faulty module, with type faults alone.
 
-Prints how many faults have a note (told), at how many the range of a note overlaps the changed tokens (hit), how many tokens the range has
-(width), and the times of runs with and without messages. With `--show` the first notes that miss are printed.
+Prints how many faults have a note (told), at how many the range of a note overlaps the changed tokens (hit), how many tokens the range and
+the slip have (width), and the times of runs with and without messages. With `--show` the first notes that miss are printed.
 """
 import argparse
 import os
@@ -166,6 +166,7 @@ class Slip:
         self.kind, self.source, self.changed, self.notes, self.seconds = kind, source, changed, notes, seconds
         self.is_hit = any(start < changed[1] and changed[0] < end for start, end in notes)
         self.widths = [sum(1 for it in tokens if start <= it.start < end) for start, end in notes]
+        self.own_width = sum(1 for it in tokens if changed[0] <= it.start < changed[1])
 
 
 def slips_in(program, source, chance, count):
@@ -210,6 +211,8 @@ def main():
     print(f"slips {len(slips)}, told {100 * len(told) / len(slips):.1f} %, hit {100 * len(hits) / len(slips):.1f} %")
     if widths:
         print(f"width in tokens: median {statistics.median(widths)}, mean {statistics.mean(widths):.1f}, 90 % {widths[9 * len(widths) // 10]}")
+    own = sorted(it.own_width for it in slips)
+    print(f"width of the slips: median {statistics.median(own)}, mean {statistics.mean(own):.1f}, 90 % {own[9 * len(own) // 10]}")
     extra = sorted(it.seconds[1] - it.seconds[0] for it in slips)
     print(f"seconds more with messages: median {statistics.median(extra):.3f}, 90 % {extra[9 * len(extra) // 10]:.3f}, most {extra[-1]:.3f}")
     for kind in sorted({it.kind for it in slips}):

@@ -145,7 +145,7 @@ KINDS = [
         "                                    ^\n"
         "errors: 1, skipped modules: 0\n",
     ),
-    # in a list below a local binding: the last element
+    # in a list below a local binding: the last element, with the brackets that are too many
     (
         "module M where { f x = g where { g = (x, h) ; h = [x, [x]] } }",
         1,
@@ -153,9 +153,74 @@ KINDS = [
         "This definition has no type, though everything that it refers to has one.\n"
         "module M where { f x = g where { g = (x, h) ; h = [x, [x]] } }\n"
         "                 ^\n"
-        "M.hs:1:56: note: 'f' has a type with another expression here (up to 1:56)\n"
+        "M.hs:1:55: note: 'f' has a type with another expression here (up to 1:57)\n"
         "module M where { f x = g where { g = (x, h) ; h = [x, [x]] } }\n"
-        "                                                       ^\n"
+        "                                                      ^\n"
+        "errors: 1, skipped modules: 0\n",
+    ),
+    # arguments that are exchanged
+    (
+        "module M where { f :: Bool -> Maybe Bool -> Bool ; f x y = maybe not x y }",
+        1,
+        "M.hs:1:52: error: type error in 'f' [type]\n"
+        "This definition has no type, though everything that it refers to has one.\n"
+        "module M where { f :: Bool -> Maybe Bool -> Bool ; f x y = maybe not x y }\n"
+        "                                                   ^\n"
+        "M.hs:1:60: note: 'f' has a type with another expression here (up to 1:72)\n"
+        "module M where { f :: Bool -> Maybe Bool -> Bool ; f x y = maybe not x y }\n"
+        "                                                           ^^^^^\n"
+        "errors: 1, skipped modules: 0\n",
+    ),
+    # an argument that is given twice
+    (
+        "module M where { f :: Bool -> Bool ; f x = not x x }",
+        1,
+        "M.hs:1:38: error: type error in 'f' [type]\n"
+        "This definition has no type, though everything that it refers to has one.\n"
+        "module M where { f :: Bool -> Bool ; f x = not x x }\n"
+        "                                     ^\n"
+        "M.hs:1:48: note: 'f' has a type with another expression here (up to 1:50)\n"
+        "module M where { f :: Bool -> Bool ; f x = not x x }\n"
+        "                                               ^\n"
+        "errors: 1, skipped modules: 0\n",
+    ),
+    # an argument that is missing
+    (
+        "module M where { f :: Bool ; f = maybe True not }",
+        1,
+        "M.hs:1:30: error: type error in 'f' [type]\n"
+        "This definition has no type, though everything that it refers to has one.\n"
+        "module M where { f :: Bool ; f = maybe True not }\n"
+        "                             ^\n"
+        "M.hs:1:34: note: 'f' has a type with another expression here (up to 1:47)\n"
+        "module M where { f :: Bool ; f = maybe True not }\n"
+        "                                 ^^^^^\n"
+        "errors: 1, skipped modules: 0\n",
+    ),
+    # a pattern of a lambda
+    (
+        "module M where { f :: [Bool] -> [Bool] ; f = map (\\[x] -> not x) }",
+        1,
+        "M.hs:1:42: error: type error in 'f' [type]\n"
+        "This definition has no type, though everything that it refers to has one.\n"
+        "module M where { f :: [Bool] -> [Bool] ; f = map (\\[x] -> not x) }\n"
+        "                                         ^\n"
+        "M.hs:1:51: note: 'f' has a type with another expression here (up to 1:63)\n"
+        "module M where { f :: [Bool] -> [Bool] ; f = map (\\[x] -> not x) }\n"
+        "                                                  ^\n"
+        "errors: 1, skipped modules: 0\n",
+    ),
+    # one of many elements
+    (
+        "module M where { f x = [1, 2, 3, 4, x, 'c', 7, 8] }",
+        1,
+        "M.hs:1:18: error: type error in 'f' [type]\n"
+        "This definition has no type, though everything that it refers to has one.\n"
+        "module M where { f x = [1, 2, 3, 4, x, 'c', 7, 8] }\n"
+        "                 ^\n"
+        "M.hs:1:40: note: 'f' has a type with another expression here (up to 1:42)\n"
+        "module M where { f x = [1, 2, 3, 4, x, 'c', 7, 8] }\n"
+        "                                       ^^^\n"
         "errors: 1, skipped modules: 0\n",
     ),
     (
