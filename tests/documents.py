@@ -4,6 +4,8 @@
 `documents.py` ends with 1 if a document has more than MOST_LONG long sentences, a paragraph of more than 100 words, or one
 of the words of PLAIN outside of code. `documents.py --list` prints each long sentence as well.
 
+README.md's table of speeds may have no figure that docs/FIGURES.md doesn't have.
+
 `documents.py --program PROGRAM` runs the documents' examples instead: each command after `$ ` must print what follows it,
 and each module in a block of Haskell must be good.
 
@@ -89,6 +91,14 @@ def stumbles(page):
     return found
 
 
+def copied_figures():
+    """Returns the figures of README's table of speeds that docs/FIGURES.md doesn't have."""
+    speed = (TOP / "README.md").read_text().partition("\n## Speed\n")[2].partition("\n## ")[0]
+    cells = [row.split("|")[-2] for row in re.findall(r"^\|.*\|$", speed, re.M)[2:]]
+    figures = set(re.findall(r"\d[\d,.]*\d|\d", (TOP / "docs" / "FIGURES.md").read_text()))
+    return [it for cell in cells for it in re.findall(r"\d[\d,.]*\d|\d", cell) if it not in figures], len(cells)
+
+
 def shown_examples(page):
     """Returns the commands of a page's blocks of code, each with what the page says that it prints, and its blocks of Haskell."""
     blocks = re.findall(r"^```(\w*)\n(.*?)^```", page.read_text(), re.M | re.S)
@@ -134,6 +144,10 @@ def main():
             print(f"{name}:{line}: \"{word}\": {advice}")
         print(f"{name}: {count} sentences, {len(long)} of more than {MOST_WORDS} words ({MOST_LONG} allowed), {len(found)} words to avoid")
         bad |= len(long) > MOST_LONG or bool(found) or bool(wide) or not count
+    unknown, rows = copied_figures()
+    if unknown or not rows:
+        print(f"README.md: docs/FIGURES.md doesn't have {', '.join(unknown) or 'a table of speeds'}")
+        bad = True
     print(f"the documents are plain: {'no' if bad else 'yes'}")
     return bad
 
