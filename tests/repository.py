@@ -16,6 +16,7 @@ docs/ARCHITECTURE.md that say what each crate depends on.
    section names, and each name with an underscore is a word of the crates.
 5. Each piece of Rust in docs/EMBEDDING.md is a part of the example program.
 6. README.md trusts the crates of the kit that crates.txt names, and no others.
+7. The help, the constants of the program and LANGUAGE list the exit statuses of the definitions.
 """
 import pathlib
 import re
@@ -187,9 +188,22 @@ def example_faults():
     return [f"docs/EMBEDDING.md shows what hm_example doesn't have:\n{it}" for it in pieces if it not in program]
 
 
+def status_faults():
+    """Returns the texts that list other exit statuses than the definitions have."""
+    texts = {
+        "hmc/specs/Statuses": (TOP / "crates/hmc/specs/Statuses.antt", r"^code_of\w* \w+ = (\d+)$"),
+        "hmc/src/main.rt, the constants": (TOP / "crates/hmc/src/main.rt", r"^const \w+: u8 = (\d+);$"),
+        "hm_words/src/lib.rt, the help": (TOP / "crates/hm_words/src/lib.rt", r"^ +(\d) {2,}\w"),
+        "docs/LANGUAGE.md, the table": (TOP / "docs/LANGUAGE.md", r"^\| (\d) \|"),
+    }
+    found = {name: {0, *map(int, re.findall(pattern, path.read_text(), re.M))} for name, (path, pattern) in texts.items()}
+    wanted = found["hmc/specs/Statuses"]
+    return [f"{name}: statuses {sorted(it)}, and hmc/specs/Statuses has {sorted(wanted)}" for name, it in found.items() if it != wanted or len(it) < 2]
+
+
 def main():
     write = sys.argv[1:] == ["--write"]
-    faults = table_faults(write) + room_faults() + generated_faults() + edit_faults() + cited_faults() + promise_faults() + trusted_faults() + example_faults()
+    faults = table_faults(write) + room_faults() + generated_faults() + edit_faults() + cited_faults() + promise_faults() + trusted_faults() + status_faults() + example_faults()
     print(*faults, sep="\n", end="\n" if faults else "")
     print(f"the repository agrees with itself: {'no' if faults else 'yes'}")
     return bool(faults)
