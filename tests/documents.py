@@ -95,7 +95,8 @@ def copied_figures():
     """Returns the figures of README's table of speeds that docs/FIGURES.md doesn't have."""
     speed = (TOP / "README.md").read_text().partition("\n## Speed\n")[2].partition("\n## ")[0]
     cells = [row.split("|")[-2] for row in re.findall(r"^\|.*\|$", speed, re.M)[2:]]
-    figures = set(re.findall(r"\d[\d,.]*\d|\d", (TOP / "docs" / "FIGURES.md").read_text()))
+    page = TOP / "docs" / "FIGURES.md"
+    figures = set(re.findall(r"\d[\d,.]*\d|\d", page.read_text() if page.exists() else ""))
     return [it for cell in cells for it in re.findall(r"\d[\d,.]*\d|\d", cell) if it not in figures], len(cells)
 
 
