@@ -4,7 +4,7 @@ use Rattle.hm_lex.specs.declared.token.Token.{Token}
 use Rattle.hm_hints.specs.Advice.{IsSo, symbol_at, symbol_in, text_at}
 use Rattle.hm_hints.specs.SyntaxHints.{IsSyntaxHint}
 use Rattle.hm_hints.specs.declared.syntax_hints.SyntaxHint.{SyntaxHint}
-use Rattle.hm_hints.specs.declared.syntax_hints.SyntaxHint.TheVariants.{NoHeader, ModuleEnded, NoBrace, LeftOut, Comprehension, Range, SmallName, Repaired, NotClosed, Record, Update, NoAlternative, Unexpected}
+use Rattle.hm_hints.specs.declared.syntax_hints.SyntaxHint.TheVariants.{NoHeader, ModuleEnded, NoBrace, LeftOut, Comprehension, Range, SmallName, AppliedVariable, Repaired, WherePart, NoElse, NotClosed, InPattern, Record, Update, NoAlternative, Unexpected}
 
 pub so_of_fact : (source : List ℕ) (ts : List Token) (k : ℕ) (hint : SyntaxHint) → IsSyntaxHint (map (symbol_in source) (take k ts)) (symbol_at source ts k) (text_at source ts k) hint → IsSo source ts k hint
 so_of_fact source ts k NoHeader h = h
@@ -14,6 +14,10 @@ so_of_fact source ts k (LeftOut f) h = h
 so_of_fact source ts k (Comprehension j) h = h
 so_of_fact source ts k (Range j) h = h
 so_of_fact source ts k SmallName h = h
+so_of_fact source ts k AppliedVariable h = h
+so_of_fact source ts k (WherePart j) h = h
+so_of_fact source ts k (NoElse j) h = h
+so_of_fact source ts k (InPattern j) h = h
 so_of_fact source ts k (NotClosed j) h = h
 so_of_fact source ts k Record h = h
 so_of_fact source ts k Update h = h

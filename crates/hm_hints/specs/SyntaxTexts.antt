@@ -26,14 +26,14 @@ syntax_text (LeftOut f) text = feature_text f
 syntax_text (Comprehension k) text = codes "list comprehensions aren't supported"
 syntax_text (Range k) text = codes "'[a .. b]' isn't supported"
 syntax_text SmallName text = quoted text ++ codes " must begin with a capital letter here"
-syntax_text AppliedVariable text = codes "a type variable takes no arguments: is '->' missing before " ++ quoted text ++ codes "?"
+syntax_text AppliedVariable text = codes "a type variable takes no arguments: is '->' or ',' missing before " ++ quoted text ++ codes "?"
 syntax_text (Repaired r) text = change_text r.change text
 syntax_text (WherePart k) text = codes "'where' can't be within parentheses or square brackets"
 syntax_text (NoElse k) text = codes "an 'if' before " ++ quoted text ++ codes " has no 'else'"
 syntax_text (NotClosed k) text = codes "a bracket before " ++ quoted text ++ codes " isn't closed"
 syntax_text (InPattern k) text = codes "unexpected " ++ quoted text ++ codes " in a pattern of a 'case'"
 syntax_text Record text = codes "fields with names aren't supported"
-syntax_text Update text = codes "record update isn't supported, because fields have no names"
+syntax_text Update text = codes "record update isn't supported: is 'where' missing before '{'?"
 syntax_text NoAlternative text = codes "a 'case' needs at least one alternative"
 syntax_text Unexpected text = codes "unexpected " ++ quoted text
 

@@ -59,7 +59,7 @@ pub fn syntax_text(alloc: Global, hint: SyntaxHint, text: &str) -> Result<String
         SyntaxHint::Range(_) => String::from_str(alloc, "'[a .. b]' isn't supported"),
         SyntaxHint::SmallName => format!(in alloc; "{quote} must begin with a capital letter here"),
         SyntaxHint::AppliedVariable => format!(in alloc;
-            "a type variable takes no arguments: is '->' missing before {quote}?"
+            "a type variable takes no arguments: is '->' or ',' missing before {quote}?"
         ),
         SyntaxHint::Repaired(repair) => change_text(alloc, repair.change, text),
         SyntaxHint::WherePart(_) => String::from_str(
@@ -74,7 +74,7 @@ pub fn syntax_text(alloc: Global, hint: SyntaxHint, text: &str) -> Result<String
         SyntaxHint::Record => String::from_str(alloc, "fields with names aren't supported"),
         SyntaxHint::Update => String::from_str(
             alloc,
-            "record update isn't supported, because fields have no names",
+            "record update isn't supported: is 'where' missing before '{'?",
         ),
         SyntaxHint::NoAlternative => String::from_str(
             alloc,
