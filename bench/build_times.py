@@ -1,61 +1,60 @@
 #!/usr/bin/env python3
-"""Measures what builds take, each in a fresh clone of the last commit.
+"""Measures what builds take, in a fresh clone of the last commit.
 
 `build_times.py [PART..]` measures the parts that are named, or all: `first` (the first answer of ./hmc), `start` (what the script ./hmc adds to a run if
 nothing is built), `proved` (./prove --anew), `words` and `reports` (./prove after a change in hm_words and in hm_reports) and `gate` (rt ci --anew).
 All take some two hours on four processors. The machine should do nothing else.
 """
 import pathlib
-import resource
 import statistics
 import subprocess
 import sys
 import tempfile
-import time
 
 TOP = pathlib.Path(__file__).resolve().parent.parent
+sys.path.insert(0, str(TOP / "tools"))
+from measuring import measured  # noqa: E402
+
 SOURCE = "module A where { twice f x = f (f x) }\n"
 # A change that comes out in the library of a crate, and needs no proof.
 CHANGE = "\npub const MEASURED: usize = 1;\n"
 RUNS = 200
 
 
-def measured(words, cwd):
+def timed(words, cwd):
     """Runs a command that must end well, and returns its seconds by the clock and of all processors."""
-    before, begun = resource.getrusage(resource.RUSAGE_CHILDREN), time.monotonic()
-    ran = subprocess.run(words, cwd=cwd, stdin=subprocess.DEVNULL, stdout=subprocess.PIPE, stderr=subprocess.STDOUT, text=True, errors="replace")
-    clock, after = time.monotonic() - begun, resource.getrusage(resource.RUSAGE_CHILDREN)
-    if ran.returncode:
-        sys.exit(f"{' '.join(words)} ended with {ran.returncode}:\n{ran.stdout[-2000:]}")
-    return clock, after.ru_utime + after.ru_stime - before.ru_utime - before.ru_stime
+    run = measured(words, cwd=cwd)
+    if run.status:
+        sys.exit(f"{' '.join(words)} ended with {run.status}:\n{(run.printed + run.told).decode(errors='replace')[-2000:]}")
+    return run.clock, run.processor
 
 
 def first(clone):
     (clone / "a.hs").write_text(SOURCE)
-    return measured(["./hmc", "a.hs"], clone)
+    return timed(["./hmc", "a.hs"], clone)
 
 
 def proved(clone):
-    return measured(["./prove", "--anew"], clone)
+    return timed(["./prove", "--anew"], clone)
 
 
 def rebuilt(clone, crate):
     """Measures ./prove after a change in a crate, from a program that is proved."""
-    measured(["./prove"], clone)
+    timed(["./prove"], clone)
     source = clone / "crates" / crate / "src" / "lib.rt"
     text = source.read_text()
     source.write_text(text + CHANGE)
-    found = measured(["./prove"], clone)
+    found = timed(["./prove"], clone)
     source.write_text(text)
     return found
 
 
 def start(clone):
     """Measures runs of the script and of the program itself in turn, and returns the middle of what the script adds."""
-    measured(["./hmc", "--version"], clone)
+    timed(["./hmc", "--version"], clone)
     proved, unproved = (clone / it for it in ("crates/hmc/out/hmc", "out/hmc.unproved"))
     program = str(proved if proved.exists() else unproved)
-    pairs = [(measured(["./hmc", "--version"], clone), measured([program, "--version"], clone)) for _ in range(RUNS)]
+    pairs = [(timed(["./hmc", "--version"], clone), timed([program, "--version"], clone)) for _ in range(RUNS)]
     return tuple(statistics.median(script[it] - alone[it] for script, alone in pairs) for it in (0, 1))
 
 
@@ -65,7 +64,7 @@ PARTS = {
     "proved": ("`./prove --anew`, the proved program from nothing", proved),
     "words": ("`./prove` after a change in `hm_words`", lambda clone: rebuilt(clone, "hm_words")),
     "reports": ("`./prove` after a change in `hm_reports`", lambda clone: rebuilt(clone, "hm_reports")),
-    "gate": ("`rt ci --anew`, the gate from nothing", lambda clone: measured(["rt", "ci", "--anew"], clone)),
+    "gate": ("`rt ci --anew`, the gate from nothing", lambda clone: timed(["rt", "ci", "--anew"], clone)),
 }
 
 
