@@ -1,4 +1,4 @@
--- Worked runs and builds, and what is said of them.
+-- Worked examples of runs and builds.
 use Rattle.std.specs.Prelude.{◌≡◌, ℕ, Bool, List, [], ◌∷◌, length, sum_by, codes}
 use Rattle.hm_verdicts.specs.Sets.{ModuleSet}
 use Rattle.hm_verdicts.specs.Verdicts.{IsGoodIn}
@@ -14,7 +14,7 @@ use Rattle.hm_sources.specs.declared.status.Status.TheVariants.{Good, Faulty, Re
 
 -- The worked set: A is good, B is faulty, C imports B
 
--- one worker claims and publishes A, and then claims B and fails it
+-- one worker claims and publishes A, then claims and fails B
 abbrev pub one_worker : List Entry
 one_worker = Claim 0 0 ∷ Publish 0 0 ∷ Claim 0 1 ∷ Fail 0 1 ∷ []
 
@@ -23,13 +23,13 @@ pub record IsOneWorkers (b : Build) : Type 0 where
   pub set : set_of b ≡ three_modules
   pub entries : b.journal ≡ one_worker
 
--- its journal's text; and no run without workers ends with it
+-- the text of that journal, which is not that of a build without workers
 pub record JournalRow : Type 0 where
   pub text : (b : Build) → IsOneWorkers b → journal_text b ≡ codes "claim 0 A\npublish 0 A 0\nclaim 0 B\nfail 0 B\n"
   pub stop : (p : ModuleSet) (n : ℕ) → entry_line p n (Stop 2) ≡ codes "stop 2\n"
   pub numbers : (sources : List (List ℕ)) (b : Build) → IsOneWorkers b → ¬ (MayEnd sources 0 b)
 
--- there is such a build, legal and settled, and it has its verdicts: A is good in its set, and B and C aren't
+-- a legal and settled build with this journal exists, and has its verdicts: A is good in its set, B and C aren't
 pub record VerdictsRow : Type 0 where
   pub build : Build
   pub is : IsOneWorkers build
@@ -48,7 +48,7 @@ nothing = record { modules = []; given = record { imports = []; dependents = [] 
 abbrev pub no_text : List ℕ
 no_text = codes "0 modules: 0 good, 0 faulty, 0 skipped\n"
 
--- a run on no sources may end with an empty journal; whether it is asked for or not, the text is this, and the status that all is good
+-- a run without sources may end with an empty journal. With or without the journal its text is this, and its status is that all is good
 pub record NothingRow : Type 0 where
   pub may_end : MayEnd [] 1 nothing
   pub good : (journal : Bool) → IsRun 4 journal [] Good no_text
@@ -57,7 +57,7 @@ pub record NothingRow : Type 0 where
 
 -- Room
 
--- of two modules of which one imports the other, and of a chain of so many modules as a set may have
+-- the room for two modules of which one imports the other, and for the longest chain of modules that a set may have
 pub record RoomRow : Type 0 where
   pub two : room_of ((1 ∷ []) ∷ [] ∷ []) ≡ 7
   pub chain : (imports : List (List ℕ)) → length imports ≡ 4096 → sum_by length imports ≡ 4095 → room_of imports ≡ 12289

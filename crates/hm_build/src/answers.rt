@@ -1,4 +1,4 @@
-//! What a run of the checker writes, its status, and its messages.
+//! The result of a run before it is written: a text, a status and messages.
 ghost use Rattle.std.specs.Prelude.{◌≡◌, ◌⊎◌, ◌<◌, ◌≤◌, None, IfOk, IfErr, IfSome, map, string_bytes};
 ghost use Rattle.hm_telling.specs.Explained.{IsExplained, TellsExhaustion};
 ghost use Rattle.hm_telling.specs.JournalledRuns.{IsRun};
@@ -15,11 +15,11 @@ use std::mem;
 use std::sync::Wait;
 use std::thread::Threads;
 
-/// Why a run writes nothing.
+/// Why a run has no text.
 #[derive(Drop)]
 pub(crate) struct Unanswered {
     pub fault: RunFault,
-    /// The message of the module that there was no memory to check.
+    /// Names the module whose check ran out of memory.
     pub message: Option<Vec<u8>>,
 }
 
@@ -35,7 +35,7 @@ impl From<MessageFault> for Unanswered {
 }
 
 impl Unanswered {
-    /// A fault that no module is named for.
+    /// Returns a fault without a message.
     pub(crate) fn of(fault: RunFault) -> Unanswered
         ensures fault { result.fault ≡ fault }
         ensures message { result.message ≡ None }
@@ -47,7 +47,7 @@ impl Unanswered {
     }
 }
 
-/// Drops a build whose text is made, or leaves it in memory.
+/// Drops a finished build, or leaves its trees in memory, as the options say.
 fn let_go<T: Threads + Wait + Sync>(
     rt: &T,
     alloc: Global,
@@ -63,7 +63,7 @@ fn let_go<T: Threads + Wait + Sync>(
     }
 }
 
-/// The report of a build of sources, or why they are refused, with messages where they are asked for.
+/// Returns the report of a build of these sources, or their refusal. Adds messages if they are requested.
 pub(crate) fn build_answer<'a, T: Threads + Wait + Sync>(
     rt: &T,
     alloc: Global,

@@ -1,4 +1,4 @@
-//! A build: workers check the modules of sources, each for the published interfaces of its imports.
+//! Builds the modules of sources. Each worker checks a module for the published interfaces of its imports.
 ghost use Rattle.std.specs.Prelude.{◌≡◌, ◌⊎◌, ◌↔◌, ◌<◌, ◌≤◌, ◌^◌, ℕ, List, [], IfErr, IfOk, IsErrOf, length, map, min};
 ghost use Rattle.std.specs.Arc.{arc_value};
 ghost use Rattle.hm_stages.specs.Errors.{IsBuildError, IsBuildFault};
@@ -28,16 +28,16 @@ use std::sync::ledger::{Blank, Ledger};
 use std::thread;
 use std::thread::{Promise, Threads};
 
-/// A build that is to be made: so many workers check the modules of sources, each behind this gate.
+/// The parameters of a build.
 #[derive(Drop)]
 pub(crate) struct Task<'a, G: Gate> {
     pub workers: usize,
     pub gate: &'a G,
-    /// How deep the sources nest, for which stacks and types have room.
+    /// How deep the sources nest. Stacks and the limits of types depend on it.
     pub nesting: Nesting,
 }
 
-/// The records of the workers, in the order of their passes.
+/// Returns the records of the workers, in the order of their passes.
 fn records_of<L: Ledger + Naming>(
     alloc: Global,
     passes: Vec<Pass<L>>,
@@ -50,7 +50,7 @@ fn records_of<L: Ledger + Naming>(
     Ok(records)
 }
 
-/// Runs the workers on a store, and looks at what came of it. Stacks and types have room for the sources.
+/// Runs the workers on a new store, and checks that the build is complete.
 #[tactic(auto, using(crate::proofs::JobRows::work_is, crate::proofs::BuildFaults::from_shared, crate::proofs::BuildFaults::from_work, crate::proofs::BuildFaults::from_memory, crate::proofs::BuildFaults::from_end))]
 fn worked<L: Ledger + Naming + Send + Sync, G: Gate + Sync, R: Threads + Wait + Sync>(
     rt: &R,
@@ -77,7 +77,7 @@ fn worked<L: Ledger + Naming + Send + Sync, G: Gate + Sync, R: Threads + Wait + 
         store,
         prelude,
     } = fresh;
-    // The store's modules are a lawful set, which the workers need.
+    // Shows that the store's modules are a lawful set, as the workers require.
     let _entries = store.entries();
     let workers = task.workers;
     let room = room_for(imports.as_slice());
@@ -102,7 +102,7 @@ fn worked<L: Ledger + Naming + Send + Sync, G: Gate + Sync, R: Threads + Wait + 
     finished(alloc, store, records, workers)
 }
 
-/// Builds the modules of sources on a thread whose stack is large enough for them. `build` and `run` both stand on it.
+/// Builds the modules of sources on this thread, whose stack must be large enough. `build` and `run` both call it.
 pub(crate) fn build_here<T: Threads + Wait + Sync, G: Gate + Sync>(
     rt: &T,
     alloc: Global,
@@ -128,7 +128,7 @@ pub(crate) fn build_here<T: Threads + Wait + Sync, G: Gate + Sync>(
     worked::<Brand, G, T>(rt, alloc, fresh, &task, brands)
 }
 
-/// The promise of a thread: its answer is a build of these sources by so many workers.
+/// What a thread promises: it returns a build of these sources by this number of workers.
 #[derive(Drop)]
 struct BuildOf {
     sources: Snapshot<Vec<Vec<u8>>>,
@@ -144,7 +144,7 @@ impl Promise<Result<Finished, BuildFault>> for BuildOf {
     ghost kept_by = { λ p r. IfOk r (λ f. IsFinished (map (λ s. s.items) p.sources.value.items) p.workers f.store f.records.items) × (IfOk r (λ f. HasVerdicts f.store) × IfErr r (IsBuildError (map (λ s. s.items) p.sources.value.items))) };
 }
 
-/// Builds the modules of sources on a thread of its own.
+/// Builds the modules of sources on a new thread with a large stack.
 fn build_on_thread<T: Threads + Wait + Sync, G: Gate + Sync>(
     rt: &T,
     alloc: Global,
@@ -190,7 +190,14 @@ fn build_on_thread<T: Threads + Wait + Sync, G: Gate + Sync>(
     )
 }
 
-/// Builds the modules of sources: so many workers check them, each for the published interfaces of its imports.
+/// Checks all modules of these sources with the given number of workers, and returns the finished build.
+///
+/// A worker passes the gate before each check. It checks a module for the published interfaces of its imports.
+///
+/// # Errors
+///
+/// `Workers` if the number of workers is 0 or above 16; no source is read then. `Refused` if a source has a lexical or syntax fault, or if the
+/// set of modules is unlawful. The other faults come from the machine: out of memory, or no thread could start.
 pub fn build<T: Threads + Wait + Sync, G: Gate + Sync>(
     rt: &T,
     alloc: Global,
@@ -198,13 +205,13 @@ pub fn build<T: Threads + Wait + Sync, G: Gate + Sync>(
     workers: usize,
     gate: &G,
 ) -> Result<Finished, BuildFault>
-    // The journal is legal, each module is settled, and each worker's record agrees with the journal.
+    // The journal is legal, settles each module, and agrees with the record of each worker.
     ensures finished { IfOk result (λ f. IsFinished (map (λ s. s.items) sources.items) workers f.store f.records.items) }
-    // Each module has the verdict of the declarative rules in its set.
+    // Each module has the verdict that the rules give it in its set.
     ensures verdicts { IfOk result (λ f. HasVerdicts f.store) }
-    // The workers are counted before a source is read.
+    // The number of workers is checked before any source is read.
     ensures workers { IsErrOf result BuildFault.Workers ↔ ((workers ≡ 0) ⊎ (16 < workers)) }
-    // Refused sources have this fault, and it is their first.
+    // If the sources are refused, this is their first fault.
     ensures refused { IfErr result (IsBuildFault (map (λ s. s.items) sources.items)) }
 {
     if !may_work(workers) {

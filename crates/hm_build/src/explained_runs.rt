@@ -1,4 +1,4 @@
-//! From readers to two writers: the report of the verdicts, and messages that explain it.
+//! Runs with two writers: one for the report, one for the messages that explain it.
 ghost use Rattle.std.specs.Prelude.{◌≡◌, ◌<◌, ◌⊎◌, ◌↔◌, ℕ, List, All, Any, IfOk, IfErr, IsErrOf, OnErr, OnOk, map};
 ghost use Rattle.std.specs.Io.KnownBytes.{Appends};
 ghost use Rattle.hm_telling.specs.Explained.{IsExplained, IsToldTo, TellsExhaustion};
@@ -17,18 +17,20 @@ use std::io::{Read, Write};
 use std::sync::Wait;
 use std::thread::Threads;
 
-/// The writers of a run with messages.
+/// The two writers of a run with messages.
 #[derive(Drop)]
 pub struct Outputs<W, E> {
-    /// For the report or the refusal.
+    /// Gets the report or the refusal.
     pub writer: Watched<W>,
-    /// For the messages.
+    /// Gets the messages.
     pub errors: Watched<E>,
 }
 
-/// Runs as `run` does, and then writes messages to the second writer: one for each fault and for each import that a module is skipped for, in the
-/// report's order, or why the sources are refused. Where memory runs out in the check of a module, a message names the module; which one depends on
-/// the schedule if there are several. Nothing that happens to that writer is a fault of the run.
+/// Does what `run` does, and then writes messages to the second writer.
+///
+/// There is a message for each fault and for each import because of which a module is skipped, in the report's order. If the sources are
+/// refused, the message says why. If the check of a module runs out of memory, a message names the module; the schedule decides which, if
+/// there are several. A failure of the second writer isn't a fault of the run.
 pub fn run_explained<T: Threads + Wait + Sync, R: Read, W: Write, E: Write>(
     rt: &T,
     alloc: Global,
@@ -40,58 +42,58 @@ pub fn run_explained<T: Threads + Wait + Sync, R: Read, W: Write, E: Write>(
     requires writer { IsFresh outputs.old.writer }
     requires errors { IsFresh outputs.old.errors }
 
-    // The messages explain what was printed. All of them were written, or so many that their writer failed.
+    // The second writer got messages that explain what was printed: all of them, or a prefix if it failed.
     ensures told { IfOk result (λ status. (sources : List (List ℕ)) → Tell (λ r. R.remaining (device_of r)) readers.old sources
         → (text : List ℕ) × (messages : List ℕ) × IsExplained wanted.explain.paint (map (λ s.
         s.items) wanted.explain.names.items) (map held_of sources) status text messages
         × Appends (W.contents (device_of outputs.old.writer)) (W.contents (device_of outputs.new.writer)) text
         × IsToldTo (E.contents (device_of outputs.old.errors)) (E.contents (device_of outputs.new.errors)) messages (HasWriteFault outputs.new.errors)) }
-    // Without a report there are no messages, but for one where memory ran out.
+    // Without a report there are no messages, except one if memory ran out.
     ensures untold { OnErr result ((outputs.new.errors ≡ outputs.old.errors) ⊎ IsErrOf result RunFault.Memory) }
-    // It says of a module of the sources that there is no memory to check it. It was written, or so much that its writer failed.
+    // That message names a module of the sources whose check ran out of memory. The writer got all of it, or a prefix if it failed.
     ensures exhausted { IsErrOf result RunFault.Memory → (sources : List (List ℕ)) → Tell (λ r. R.remaining (device_of r)) readers.old sources
         → (outputs.new.errors ≡ outputs.old.errors) ⊎ ((message : List ℕ) × TellsExhaustion wanted.explain.paint (map (λ s.
         s.items) wanted.explain.names.items) (map held_of sources) message
         × IsToldTo (E.contents (device_of outputs.old.errors)) (E.contents (device_of outputs.new.errors)) message (HasWriteFault outputs.new.errors)) }
 
-    // All else is what `run` promises.
+    // The other clauses are those of `run`.
 
-    // Where the readers and the writer tell their bytes, the report of the verdicts or the refusal is written, and nothing else.
+    // If readers and writer report their bytes exactly, the report or the refusal is written, and nothing else.
     ensures ok { IfOk result (λ status. (sources : List (List ℕ)) → Tell (λ r. R.remaining (device_of r)) readers.old sources
         → (text : List ℕ) × IsRun wanted.options.workers wanted.options.journal sources status text
         × Appends (W.contents (device_of outputs.old.writer)) (W.contents (device_of outputs.new.writer)) text) }
-    // The writer was flushed once, behind it.
+    // The writer was flushed once, after that text.
     ensures flushed { OnOk result (IsFlushedBehind outputs.new.writer) }
-    // After a fault of the writer a prefix of that text was written.
+    // If the writer failed, it got a prefix of that text.
     ensures prefix { IsErrOf result RunFault.Write → (sources : List (List ℕ)) → Tell (λ r. R.remaining (device_of r)) readers.old sources
         → (status : Status) × (text : List ℕ) × IsRun wanted.options.workers wanted.options.journal sources status text
         × WritesPrefix (W.contents (device_of outputs.old.writer)) (W.contents (device_of outputs.new.writer)) text }
-    // After every other fault nothing was written.
+    // After any other fault nothing was written.
     ensures nothing { OnErr result ((outputs.new.writer ≡ outputs.old.writer) ⊎ IsErrOf result RunFault.Write) }
 
-    // Where the number of workers is refused nothing was read.
+    // If the number of workers is refused, nothing was read.
     ensures unread { IsErrOf result RunFault.Workers → readers.new ≡ readers.old }
-    // Where the text was made, each reader was read to its end, or so far that its source is too long, and no further.
+    // If there is a text, each reader was read to its end or, if its source is too long, just past the limit.
     ensures read_up { OnOk result (AreReadUp (λ r. R.remaining (device_of r)) readers.old readers.new) }
     ensures read_up_before_a_write { IsErrOf result RunFault.Write → AreReadUp (λ r. R.remaining (device_of r)) readers.old readers.new }
-    // And where a build was begun.
+    // The same holds if the workers were started.
     ensures read_up_before_a_build { (IsErrOf result RunFault.NoWorker ⊎ IsErrOf result RunFault.Mixed)
         → AreReadUp (λ r. R.remaining (device_of r)) readers.old readers.new }
-    // After a fault of a reader those before it were read so, and those behind it not at all.
+    // If a reader failed, the readers before it were read like that, and those after it not at all.
     ensures stops { IsErrOf result RunFault.Read → StopsAtFault (λ r. R.remaining (device_of r)) readers.old readers.new }
-    // Where memory ran out, all readers were read so, or reading stopped at one of them in the same way.
+    // If memory ran out, all readers were read like that, or reading stopped at one of them.
     ensures in_order { IsErrOf result RunFault.Memory → AreReadUp (λ r. R.remaining (device_of r)) readers.old readers.new ⊎ Stops (λ r.
         R.remaining (device_of r)) readers.old readers.new }
 
-    // Each reader is read at most so often, and no more after it failed; a failed read is answered.
+    // There is a bound on the reads of each reader, and none follows a failure. A failed read makes the run fail.
     ensures within { All IsReadWithin readers.new }
     ensures failed { IsErrOf result RunFault.Read ⊎ All (λ r. failures_of r ≡ 0) readers.new }
 
-    // The writer is offered nothing after it failed, and flushed at most once; a failed write and a failed flush are answered.
+    // Nothing is written after the writer failed, and it is flushed at most once. A failed write or flush makes the run fail.
     ensures once { IsWrittenOnce outputs.new.writer }
     ensures written { IsErrOf result RunFault.Write ⊎ IsWritten outputs.new.writer }
 
-    // Each fault comes only for its cause.
+    // Each fault has its cause.
     ensures workers { IsErrOf result RunFault.Workers ↔ ((wanted.options.workers ≡ 0) ⊎ (16 < wanted.options.workers)) }
     ensures read { IsErrOf result RunFault.Read → Any HasReadFault readers.new }
     ensures write { IsErrOf result RunFault.Write → HasWriteFault outputs.new.writer }

@@ -1,4 +1,7 @@
-//! Builds: workers check the modules of a set, and the report of their verdicts is written.
+//! Checks all modules of a set of sources with several workers, and writes the report of their verdicts.
+//!
+//! [`build`] returns the finished build. [`run`] reads sources from readers and writes the report to a writer; [`run_explained`] writes messages
+//! to a second writer as well.
 #![tactic(auto)]
 
 mod answers;

@@ -1,4 +1,4 @@
-//! From readers to what is written.
+//! Reads sources and checks them. Writing the result is left to the callers.
 ghost use Rattle.std.specs.Prelude.{◌≡◌, ◌<◌, ◌⊎◌, ◌↔◌, ℕ, List, None, All, Any, IfOk, IfErr, IfSome, IsErrOf, OnOk, map, string_bytes};
 ghost use Rattle.hm_telling.specs.Explained.{IsExplained, TellsExhaustion};
 ghost use Rattle.hm_telling.specs.JournalledRuns.{IsRun};
@@ -14,9 +14,11 @@ use std::io::Read;
 use std::sync::Wait;
 use std::thread::Threads;
 
-/// Reads the sources and checks their modules, as many at a time as there are workers: the text of the report or of the refusal, the status,
-/// and messages where they are asked for; or why there is none. Where memory runs out in the check of a module, `note` gets the module's message, if messages are asked for. The clauses
-/// are those of `run` that speak of readers.
+/// Reads the sources and checks their modules. Returns the text of the report or of the refusal, the status, and the messages if they are
+/// requested.
+///
+/// If the check of a module runs out of memory, `note` gets a message that names the module, if messages are requested. The clauses are those
+/// of `run` about readers.
 pub(crate) fn read_and_check<T: Threads + Wait + Sync, R: Read>(
     rt: &T,
     alloc: Global,

@@ -1,4 +1,4 @@
-//! A build is run on a thread of its own, whose stack is large enough for the source that nests deepest.
+//! Runs a build on a thread whose stack is large enough for the source that nests deepest.
 ghost use Rattle.std.specs.Prelude.{◌≡◌, ◌⊎◌, ◌<◌, ◌≤◌, None, IfErr, IfOk, IfSome, map, string_bytes};
 ghost use Rattle.hm_telling.specs.Explained.{IsExplained, TellsExhaustion};
 ghost use Rattle.hm_telling.specs.JournalledRuns.{IsRun};
@@ -14,7 +14,7 @@ use std::sync::Wait;
 use std::thread;
 use std::thread::{Promise, Threads};
 
-/// The promise of a thread: its answer is a run on these sources, as it is wanted.
+/// What a thread promises: it returns the result of a run on these sources.
 #[derive(Drop)]
 struct RunOf {
     sources: Snapshot<Vec<Vec<u8>>>,
@@ -30,7 +30,7 @@ impl Promise<Result<Explained, Unanswered>> for RunOf {
     ghost kept_by = { λ p r. IfOk r (λ a. IsRun p.wanted.value.options.workers p.wanted.value.options.journal (map (λ s. s.items) p.sources.value.items) a.answer.status (string_bytes a.answer.text)) × (IfOk r (λ a. IfSome p.wanted.value.explain (λ e. IsExplained e.paint (map (λ s. s.items) e.names.items) (map (λ s. s.items) p.sources.value.items) a.answer.status (string_bytes a.answer.text) a.messages.items)) × (IfErr r (λ e. (e.fault ≡ Memory) ⊎ ((e.fault ≡ NoWorker) ⊎ (e.fault ≡ Mixed))) × (IfErr r (λ e. IfSome e.message (λ m. IfSome p.wanted.value.explain (λ x. TellsExhaustion x.paint (map (λ s. s.items) x.names.items) (map (λ s. s.items) p.sources.value.items) m.items))) × IfErr r (λ e. (e.fault ≡ Memory) ⊎ (e.message ≡ None))))) };
 }
 
-/// The report of a build of sources, or why they are refused, with messages where they are asked for.
+/// Returns what `build_answer` returns, from a new thread with a large stack.
 pub(crate) fn build_answer_on_thread<T: Threads + Wait + Sync>(
     rt: &T,
     alloc: Global,

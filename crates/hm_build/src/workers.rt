@@ -1,4 +1,4 @@
-//! What the workers of a build do.
+//! The workers of a build, which claim modules and check them.
 ghost use Rattle.std.specs.Prelude.{◌≡◌, ◌≢◌, ◌<◌, ◌≤◌, ◌+◌, length, map};
 ghost use Rattle.std.specs.Arc.{arc_value};
 ghost use Rattle.hm_published.specs.Publications.{IsLawful};
@@ -25,21 +25,21 @@ use std::sync::{Arc, Wait};
 use std::thread;
 use std::thread::{Builder, JoinHandle, Threads};
 
-/// Why workers ended before their build.
+/// Why workers stopped before the build was complete.
 #[derive(Clone, Copy, Debug, PartialEq, Eq)]
 pub(crate) enum WorkFault {
-    /// No thread could be started for them.
+    /// No thread could start.
     NoWorker,
-    /// There was no memory for a look, for a publication or for the workers themselves.
+    /// Memory ran out in a look or a publication, or when the workers were started.
     Memory,
-    /// There was no memory to check the module with this number.
+    /// Memory ran out in the check of the module with this number.
     Exhausted(usize),
-    /// The store or the checker refused what a worker does.
+    /// The store or the checker refused a call.
     Mixed,
 }
 
 impl WorkFault {
-    /// Of two faults the one that is told: a refusal of the store or the checker comes before want of memory, and of two modules the first.
+    /// Returns the fault to report: `Mixed` if there is one, else `Exhausted` with the smaller number, else the second fault.
     fn or(self, other: WorkFault) -> WorkFault {
         match (self, other) {
             (WorkFault::Mixed, _) | (_, WorkFault::Mixed) => WorkFault::Mixed,
@@ -52,7 +52,7 @@ impl WorkFault {
     }
 }
 
-/// Why there is no build of so many modules where its workers ended so.
+/// Returns the fault of a build of this many modules.
 pub(crate) fn build_fault(fault: WorkFault, modules: usize) -> BuildFault
     ensures { Becomes modules fault result }
 {
@@ -74,15 +74,15 @@ where
     pub shared: &'a Shared<L, W>,
     /// The modules of the store.
     pub modules: &'a [Arc<Module>],
-    /// The numbers of the modules that each imports, in order of first import.
+    /// For each module, the numbers of the modules that it imports, in order of first import.
     pub imports: &'a [Vec<usize>],
     pub gate: &'a G,
-    /// How large the types of a module may grow.
+    /// The limits for the types of a module.
     pub limits: TypeLimits,
     pub prelude: &'a SharedPrelude,
 }
 
-/// Why a worker ends early after this refusal of its outcome.
+/// Returns the worker's fault if the store refuses an outcome.
 fn fault_of(refusal: Refusal) -> WorkFault
     requires { refusal ≢ Stranger }
 {
@@ -93,7 +93,7 @@ fn fault_of(refusal: Refusal) -> WorkFault
     }
 }
 
-/// Tells the store what a module came to. The outcome is of that module, for the interfaces that the pass has seen of its imports.
+/// Publishes or fails a module in the store. The outcome must be that of the module for the interfaces that the pass has seen.
 fn settle<L: Ledger + Naming, G: Gate, W: Wait + Drop, R: Wait>(
     rt: &R,
     work: &Work<'_, L, G, W>,
@@ -117,8 +117,8 @@ fn settle<L: Ledger + Naming, G: Gate, W: Wait + Drop, R: Wait>(
     }
 }
 
-/// Checks a module that was claimed. Its imports are in what the pass has seen, so each is found, and they are those that the module asks for.
-/// There is room for a stop behind it.
+/// Checks a claimed module. The pass has seen all its imports, so each look finds one, and they are those that the module requires.
+/// Leaves room for a stop.
 fn check_one<L: Ledger + Naming, G: Gate, W: Wait + Drop, R: Wait>(
     rt: &R,
     work: &Work<'_, L, G, W>,
@@ -156,7 +156,7 @@ fn check_one<L: Ledger + Naming, G: Gate, W: Wait + Drop, R: Wait>(
     }
 }
 
-/// Claims and checks modules until there is none left. There is room for a stop behind it.
+/// Claims and checks modules until none is left. Leaves room for a stop.
 fn check_all<L: Ledger + Naming, G: Gate, W: Wait + Drop, R: Wait>(
     rt: &R,
     work: &Work<'_, L, G, W>,
@@ -178,7 +178,7 @@ fn check_all<L: Ledger + Naming, G: Gate, W: Wait + Drop, R: Wait>(
     unreachable!()
 }
 
-/// Does what a worker does, and stops the build where it ends before it.
+/// Runs one worker. If it fails, it stops the build.
 fn run_worker<L: Ledger + Naming, G: Gate, W: Wait + Drop, R: Wait>(
     rt: &R,
     work: &Work<'_, L, G, W>,
@@ -196,7 +196,7 @@ fn run_worker<L: Ledger + Naming, G: Gate, W: Wait + Drop, R: Wait>(
     ended
 }
 
-/// Waits for all workers.
+/// Waits for all workers, and returns the fault to report.
 fn join_all<R: Threads>(
     rt: &R,
     workers: Vec<JoinHandle<Result<(), WorkFault>>>,
@@ -216,7 +216,7 @@ fn join_all<R: Threads>(
     all
 }
 
-/// Runs a worker with each pass, on threads with stacks of this size: as many as can be started.
+/// Runs a worker for each pass, on threads with stacks of this size. Starts as many threads as it can.
 pub(crate) fn run_workers<
     L: Ledger + Naming + Send + Sync,
     G: Gate + Sync,

@@ -1,4 +1,4 @@
-//! Modules are checked, each for the interfaces of its imports.
+//! Checks one module for the interfaces of its imports.
 
 ghost use Rattle.std.specs.Prelude.{◌≡◌, ◌∷◌, IfOk, IfErr, List, map};
 ghost use Rattle.std.specs.Arc.{arc_value};
@@ -25,10 +25,10 @@ use std::alloc::{AllocError, AllocFailed, Global};
 use std::sync::Arc;
 use thiserror::Error;
 
-/// Why a module was not checked.
+/// Why a module has no outcome.
 #[derive(Clone, Copy, Debug, Error, PartialEq, Eq)]
 pub enum CheckFault {
-    /// The interfaces aren't those of the modules that it imports, each once, in order of first import.
+    /// The interfaces aren't those of the module's imports, each once, in order of first import.
     #[error("the interfaces aren't those of the imports")]
     Imports,
     /// Memory ran out.
@@ -47,7 +47,7 @@ impl From<AllocError> for CheckFault {
     }
 }
 
-/// The verdict of a core whose variables have these schemes: good, with its interface.
+/// Returns the verdict of a core with these schemes: good, with its interface.
 fn good(alloc: Global, core: &Core, schemes: &Schemes) -> Result<Verdict, AllocError>
     requires core { IsSomeCore core.now }
     requires principal { ArePrincipal core.now (scheme_of schemes.now) }
@@ -57,7 +57,7 @@ fn good(alloc: Global, core: &Core, schemes: &Schemes) -> Result<Verdict, AllocE
     Ok(Verdict::Good(Arc::new(alloc, interface)?))
 }
 
-/// The verdict of a well-formed module, by its core.
+/// Returns the verdict of a well-formed module.
 fn core_verdict(alloc: Global, core: &Core, limits: TypeLimits) -> Result<Verdict, AllocError>
     requires { IsSomeCore core.now }
     ensures { IfOk result (λ v. (m : ModuleTree) (fs : List Exports) → IsCore m fs core.now → IsVerdict m fs (verdict_of v)) }
@@ -69,7 +69,7 @@ fn core_verdict(alloc: Global, core: &Core, limits: TypeLimits) -> Result<Verdic
     }
 }
 
-/// The verdict of a module for the interfaces that it asks for.
+/// Returns the verdict of a module for the interfaces that it requires.
 fn module_verdict(
     alloc: Global,
     prelude: &SharedPrelude,
@@ -87,7 +87,7 @@ fn module_verdict(
     }
 }
 
-/// The same interfaces, shared.
+/// Shares interfaces with a new row.
 fn shared(alloc: Global, interfaces: &[Arc<Interface>]) -> Result<Row<Arc<Interface>>, AllocError>
     ensures { IfOk result (λ row. map arc_value row ≡ map arc_value interfaces.now) }
 {
@@ -98,7 +98,7 @@ fn shared(alloc: Global, interfaces: &[Arc<Interface>]) -> Result<Row<Arc<Interf
     Ok(Row { items })
 }
 
-/// Refuses interfaces that aren't those that a module asks for.
+/// Returns `Imports` if these interfaces aren't those that the module requires.
 fn expect_imports(
     alloc: Global,
     module: &Arc<Module>,
@@ -113,7 +113,7 @@ fn expect_imports(
     Err(CheckFault::Imports)
 }
 
-/// What a module came to, for the interfaces that it asks for.
+/// Returns the outcome of a module for the interfaces that it requires.
 fn checked(
     alloc: Global,
     prelude: &SharedPrelude,
@@ -131,8 +131,13 @@ fn checked(
     Ok(Outcome::new(module.clone()?, imports, verdict))
 }
 
-/// Checks a module: its verdict for Prelude's interface and those of its imports. The latter are given but Prelude's, each once, in order of
-/// first import; where they aren't, the answer is `Imports`.
+/// Checks a module for Prelude's interface and those of its imports, and returns the outcome with its verdict.
+///
+/// `imports` has the interface of each imported module except Prelude, each once, in order of first import.
+///
+/// # Errors
+///
+/// `Imports` if the interfaces are not those, and `Memory` if memory ran out.
 pub fn check_module(
     alloc: Global,
     module: &Arc<Module>,
@@ -149,7 +154,7 @@ pub fn check_module(
     Ok(checked(alloc, &prelude, module, imports, WIDE_LIMITS)?)
 }
 
-/// The same, with a Prelude that was made before, and limits of the module's types. What would pass one is refused for want of memory.
+/// Does what `check_module` does, with a Prelude made before and with limits for the module's types. A type above a limit is refused with `Memory`.
 pub fn check_module_within(
     alloc: Global,
     prelude: &SharedPrelude,

@@ -1,4 +1,6 @@
-//! Modules are checked, each for the interfaces of its imports: what a module came to is kept with its verdict.
+//! Checks one module for the interfaces of its imports, and returns an outcome that carries the verdict.
+//!
+//! Call [`check_module`], or [`check_module_within`] with a Prelude made before and with limits for types.
 #![tactic(auto)]
 
 mod checking;

@@ -1,4 +1,4 @@
-//! The modules that reach a module through imports, marked in space that is taken beforehand.
+//! Finds the modules that import a module, directly or not, without allocating.
 
 ghost use Rattle.std.specs.Prelude.{◌≡◌, ◌<◌, ◌^◌, ◌↔◌, ℕ, IfOk, length};
 ghost use Rattle.hm_components.specs.Digraph.{Reaches};
@@ -9,7 +9,7 @@ use hm_components::mark_reached;
 use std::alloc::{AllocError, Global};
 use std::marker::Model;
 
-/// A mark for each module, with room for a search.
+/// A mark for each module, with memory for a search.
 #[derive(Drop)]
 pub struct Dependents {
     marks: Vec<bool>,
@@ -28,7 +28,7 @@ impl Model for Dependents {
 }
 
 impl Dependents {
-    /// No marks, of so many modules.
+    /// Returns marks for `count` modules, none of them set.
     pub fn new(alloc: Global, count: usize) -> Result<Dependents, AllocError>
         requires { count < 2 ^ 62 }
         ensures { IfOk result (λ marks. length marks ≡ count) }
@@ -38,7 +38,7 @@ impl Dependents {
         Ok(Dependents { marks, waiting })
     }
 
-    /// Marks the modules that import a module or one of its importers, through however many imports, and no others.
+    /// Marks exactly the modules that import this one, directly or through other modules.
     pub fn find(&mut self, plan: &Plan, number: usize)
         requires number { number < length plan.now }
         requires len { length self.old ≡ length plan.now }
@@ -54,7 +54,7 @@ impl Dependents {
         );
     }
 
-    /// The marks.
+    /// Returns the marks.
     pub fn marks(&self) -> &[bool]
         ensures { result.now ≡ self.now }
     {
@@ -62,7 +62,7 @@ impl Dependents {
     }
 }
 
-/// Takes all marks away.
+/// Clears all marks.
 fn clear(marks: &mut [bool])
     ensures len { length marks.new ≡ length marks.old }
     ensures clear { (k : ℕ) → ¬ IsMarked marks.new k }

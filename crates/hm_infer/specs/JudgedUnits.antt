@@ -1,4 +1,4 @@
--- The units of a list are judged one after the other, each by itself. No public clause names these.
+-- How the units of a list are judged one by one. No public clause names these.
 use Rattle.std.specs.Prelude.{◌≡◌, ℕ, ◌<◌, ◌||◌, Bool, true, false, cond, List, drop, map, slice_index_or}
 use Rattle.hm_typing.specs.Names.{Identifier}
 use Rattle.hm_typing.specs.Schemes.{Monotype, Scheme}
@@ -16,11 +16,11 @@ use Rattle.hm_expressions.specs.BoundNames.{Sees}
 use Rattle.hm_assumptions.specs.Environments.{Assumed, assumptions}
 use Rattle.hm_expressions.specs.Stages.{list_of}
 
--- all that the unit g mentions outside is typed
+-- all names that the unit g uses from outside are typed
 abbrev pub IsFreeToJudge : Bindings → (Identifier → Bool) → (Identifier → Bool) → Type 0
 IsFreeToJudge ds g status = (x y : Identifier) → g x ≡ true → BindingMentions x y ds → IsUnsigned y ds → g y ≡ false → status y ≡ true
 
--- or something isn't
+-- a name that the unit g uses from outside isn't typed
 pub record IsBlocked (ds : Bindings) (g status : Identifier → Bool) : Type 0 where
   pub name : Identifier
   pub member : g name ≡ true
@@ -30,7 +30,7 @@ pub record IsBlocked (ds : Bindings) (g status : Identifier → Bool) : Type 0 w
   pub outside : g other ≡ false
   pub untyped : status other ≡ false
 
--- The units so far, with what has types, and schemes for these. A unit is typed; or it is free to be judged and has no types; or it is blocked
+-- the units so far, the names that have types, and schemes for these. A unit is typed, or free to be judged without types, or blocked
 pub data Units (ds : Bindings) (A : Assumptions) (L : Layout ds) : (Identifier → Bool) → (Identifier → Bool) → (Identifier → Scheme) → Type 0 where
   no_units : {finished status : Identifier → Bool} {B : Identifier → Scheme} → finished ≡ (λ x. false) → status ≡ (λ x. false) → B ≡ L.declared → Units ds A L finished status B
   typed_unit : {finished1 status1 : Identifier → Bool} {B1 : Identifier → Scheme} (g finished status : Identifier → Bool) (B : Identifier → Scheme) → Units ds A L finished status B → IsNext ds L.own finished g → IsFreeToJudge ds g status → (t : Unit_typed ds A g B) →
@@ -39,7 +39,7 @@ pub data Units (ds : Bindings) (A : Assumptions) (L : Layout ds) : (Identifier �
       finished1 ≡ (λ y. finished y || g y) → Units ds A L finished1 status B
   blocked_unit : {finished1 status : Identifier → Bool} {B : Identifier → Scheme} (g finished : Identifier → Bool) → Units ds A L finished status B → IsNext ds L.own finished g → IsBlocked ds g status → finished1 ≡ (λ y. finished y || g y) → Units ds A L finished1 status B
 
--- the groups from i on are left; `typed` tells the nodes whose units have types
+-- the groups from i on aren't judged yet; `typed` says which nodes are in units with types
 pub record UnitsJudged (k : Known) (decls : List Declaration) (gs : List (List ℕ)) (n i : ℕ) (base es : List Assumed) (typed : List Bool) : Type 0 where
   pub layout : Layout (list_of k decls)
   pub finished : Identifier → Bool

@@ -1,4 +1,4 @@
--- Which bindings with signatures are faults (Haskell 98 Report, sections 4.4.1 and 4.5.1). No public clause names these.
+-- The bindings with signatures that are faults (Haskell 98 Report, sections 4.4.1 and 4.5.1). No public clause names these.
 use Rattle.std.specs.Prelude.{◌≡◌, ℕ, suc, ◌<◌, ◌≤◌, ◌↔◌, Bool, true, false, List, [], ◌∷◌, drop, length, Option, Some, Contains, slice_index_or}
 use Rattle.std.specs.List.{slice_get}
 use Rattle.hm_typing.specs.Assumptions.{Assumptions}
@@ -9,7 +9,7 @@ use Rattle.hm_variables.specs.Variables.{Variable}
 use Rattle.hm_expressions.specs.Dependences.{IsReferred, TellsNodes}
 use Rattle.hm_expressions.specs.SignedLists.{SignedClauseHas}
 
--- the declaration behind the first goes on its binding
+-- the second declaration continues the binding of the first
 abbrev pub goes_on : List Declaration → Bool
 goes_on [] = false
 goes_on (data_declaration n ps cs ∷ ds) = false
@@ -19,11 +19,11 @@ goes_on (signature ns t ∷ ds) = false
 goes_on (clause n ps r ∷ ds) = is_continued n.text ps (declarations ds)
 goes_on (pattern_binding l c p r ∷ ds) = false
 
--- the declaration at p goes on no binding
+-- the declaration at p continues no binding
 abbrev pub BeginsRun : List Declaration → ℕ → Type 0
 BeginsRun ds p = (i : ℕ) → suc i ≡ p → goes_on (drop i ds) ≡ false
 
--- the declaration at q goes on the binding that begins at p, or is its first
+-- the declaration at q is the first of the binding that begins at p, or continues it
 pub record InRun (ds : List Declaration) (p q : ℕ) : Type 0 where
   pub behind : p ≤ q
   pub inside : q < length ds
@@ -32,7 +32,7 @@ pub record InRun (ds : List Declaration) (p q : ℕ) : Type 0 where
 abbrev pub HasFlag : List Declaration → List Bool → ℕ → Type 0
 HasFlag ds flags p = (q : ℕ) × (InRun ds p q × (slice_index_or flags q false ≡ true))
 
--- true: the declaration refers to a node without a type
+-- if true, the declaration refers to a node without a type
 abbrev pub Waits : Bool → List (Option Variable) → List Bool → Declaration → Type 0
 Waits true nodes typed d = TellsNodes false typed (IsReferred nodes d)
 Waits false nodes typed d = TellsNodes true typed (IsReferred nodes d)
@@ -41,7 +41,7 @@ pub record AreWaiting (nodes : List (Option Variable)) (typed : List Bool) (ds :
   pub sized : length waiting ≡ length ds
   pub each : (p : ℕ) (d : Declaration) → slice_get ds p ≡ Some d → Waits (slice_index_or waiting p false) nodes typed d
 
--- where the declaration doesn't wait: whether it is a clause that hasn't the declared type
+-- if the declaration doesn't wait: whether it is a clause without the declared type
 abbrev pub Refuses : Bool → Bool → Known → Declarations → Assumptions → Declaration → Type 0
 Refuses true b k all C d = b ≡ false
 Refuses false true k all C d = ¬ (SignedClauseHas k all C d)
@@ -51,13 +51,13 @@ pub record AreRefused (k : Known) (all : Declarations) (C : Assumptions) (ds : L
   pub sized : length refused ≡ length ds
   pub each : (p : ℕ) (d : Declaration) → slice_get ds p ≡ Some d → Refuses (slice_index_or waiting p false) (slice_index_or refused p false) k all C d
 
--- a binding begins at p of which no clause waits, and one is refused
+-- a binding begins at p; none of its clauses waits, and one is refused
 pub record IsFaultAt (ds : List Declaration) (waiting refused : List Bool) (p : ℕ) : Type 0 where
   pub begins : BeginsRun ds p
   pub free : ¬ (HasFlag ds waiting p)
   pub refused_one : HasFlag ds refused p
 
--- the places where faults begin
+-- the places where the faults begin
 pub record AreSignedFaults (k : Known) (all : Declarations) (C : Assumptions) (nodes : List (Option Variable)) (typed : List Bool) (ds : List Declaration) (places : List ℕ) : Type 0 where
   pub waiting : List Bool
   pub are_waiting : AreWaiting nodes typed ds waiting

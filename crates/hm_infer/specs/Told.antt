@@ -1,4 +1,4 @@
--- How the type faults of a core are told: by the declarations with which the units without types begin. No public clause names these.
+-- Type faults of a core, named after the first declarations of the units without types. No public clause names these.
 use Rattle.std.specs.Prelude.{◌≡◌, ℕ, ◌<◌, List, [], ◌∷◌, length, Option, None, Some, Contains, slice_index_or}
 use Rattle.std.specs.List.{flat_map}
 use Rattle.hm_typing.specs.Names.{Identifier as Name, IsOneOf}
@@ -15,7 +15,7 @@ abbrev pub leading : List Identifier → Option Identifier
 leading [] = None
 leading (n ∷ ns) = Some n
 
--- the name by which a declaration tells the unit that begins with it, if it binds anything
+-- the name that a declaration gives to the unit that it begins, if it binds anything
 abbrev pub told_name : Declaration → Option Identifier
 told_name (data_declaration n ps cs) = None
 told_name (newtype_declaration n ps c) = None
@@ -39,14 +39,14 @@ declaration_at ds p = slice_index_or ds p no_declaration
 abbrev pub faults_at : List Declaration → List ℕ → List Fault
 faults_at ds starts = flat_map (λ p. faults_told (told_name (declaration_at ds p))) starts
 
--- the declaration at place p tells the binding of x
+-- the declaration at place p names the binding of x
 pub record IsStart (c : ModuleCore) (ds : List Declaration) (x : Name) (p : ℕ) : Type 0 where
   pub place : p < length ds
   pub name : Identifier
   pub told : IsTold c x ds name
   pub shown : told_name (declaration_at ds p) ≡ Some name
 
--- the units, each by a name, are told by the declarations at these places
+-- these units, given by a name each, begin at these places
 pub record AreStartsOf (c : ModuleCore) (units : List Name) (starts : List ℕ) : Type 0 where
   pub some : ¬ (starts ≡ [])
   pub each : (x : Name) → IsOneOf x units → (p : ℕ) × (Contains starts p × IsStart c c.decls x p)

@@ -1,4 +1,4 @@
-//! Principal schemes of binding lists and of cores (Damas and Milner 1982, section 6).
+//! Infers the principal schemes of binding lists and of cores (Damas and Milner 1982, section 6).
 
 ghost use Rattle.std.specs.Prelude.{◌≡◌, IfOk, IfErr, OnOk};
 ghost use Rattle.hm_typing.specs.BindingLists.{HasSchemes};
@@ -26,7 +26,7 @@ use std::alloc::{AllocError, Global};
 /// Why a core has no schemes.
 #[derive(Drop)]
 pub enum InferFault {
-    /// Its type faults, ordered by place.
+    /// The core has type faults. These are ordered by place.
     Untypable(Row<Fault>),
     /// Memory ran out.
     Memory,
@@ -43,8 +43,8 @@ impl From<AllocError> for InferFault {
     }
 }
 
-/// Infers the principal schemes of a binding list under closed assumptions, with a solver of its
-/// own, and binds its names to them. Where the list has no typing the answer is `Clash`.
+/// Infers the principal schemes of a binding list under closed assumptions, with a new solver, and binds the names of the list to them.
+/// Returns `Clash` if the list has no typing.
 pub(crate) fn infer_list<'a>(
     inference: &mut Inference<'a>,
     constructors: &Constructors,
@@ -60,7 +60,7 @@ pub(crate) fn infer_list<'a>(
     Ok(())
 }
 
-/// The fault of a core whose list has no typing.
+/// Returns the fault of a core whose list has no typing.
 fn untypable(
     alloc: Global,
     core: &Core,
@@ -78,7 +78,11 @@ fn untypable(
     }
 }
 
-/// The principal schemes of a core's variables, or the units that have no type.
+/// Returns the principal schemes of a core's variables.
+///
+/// # Errors
+///
+/// `Untypable` with one fault for each unit that has no type, and `Memory` if memory ran out.
 pub fn infer(alloc: Global, core: &Core) -> Result<Schemes, InferFault>
     requires core { IsSomeCore core.now }
     ensures schemes { IfOk result (λ schemes. ArePrincipal core.now (scheme_of schemes)) }
@@ -87,7 +91,7 @@ pub fn infer(alloc: Global, core: &Core) -> Result<Schemes, InferFault>
     infer_within(alloc, core, WIDE_LIMITS)
 }
 
-/// The same, with limits of the types. What would pass one is refused for want of memory.
+/// Does what `infer` does, with limits for types. A type above a limit is refused with `Memory`.
 pub fn infer_within(alloc: Global, core: &Core, limits: TypeLimits) -> Result<Schemes, InferFault>
     requires core { IsSomeCore core.now }
     ensures schemes { IfOk result (λ schemes. ArePrincipal core.now (scheme_of schemes)) }
@@ -97,7 +101,7 @@ pub fn infer_within(alloc: Global, core: &Core, limits: TypeLimits) -> Result<Sc
     infer_with(alloc, core, &constructors, limits)
 }
 
-/// The same, by the constructors that are known in the core.
+/// Infers with the constructors that the core uses or declares.
 fn infer_with(
     alloc: Global,
     core: &Core,

@@ -1,6 +1,5 @@
-//! The units of a list without signatures are judged, each by itself: a unit is checked under
-//! closed assumptions where all that it refers to outside has types, and leaves no trace where it
-//! has none.
+//! Judges the units without signatures one by one. A unit is typed under closed assumptions if all
+//! names that it uses from outside have types. If it has no type, it leaves the environment as it was.
 
 ghost use Rattle.std.specs.Prelude.{◌≡◌, ℕ, ◌<◌, ◌++◌, List, All, IfOk, OnOk, length, slice_index_or};
 ghost use Rattle.hm_components.specs.Digraph.{lists};
@@ -24,7 +23,7 @@ use hm_expressions::{CheckedList, infer_group};
 use hm_groups::group_members;
 use hm_unify::UnifyFault;
 
-/// Takes the variables of the nodes of a group back.
+/// Removes the variables of a group's nodes from the table.
 fn clear(types: &mut [usize], group: &[usize])
     requires nodes { All (λ j. j < length types.old) group.now }
     requires others { (j : ℕ) → j < length types.old → ¬ (IsOneOf j group.now) → slice_index_or types.old j 0 ≡ 0 }
@@ -35,16 +34,16 @@ fn clear(types: &mut [usize], group: &[usize])
     }
 }
 
-/// A group of a list that is checked.
+/// A group of a list, with its list.
 #[derive(Clone, Copy)]
 struct CheckedGroup<'l, 'a, 'c> {
     list: CheckedList<'l, 'a, 'c>,
     nodes: &'l [usize],
 }
 
-/// Judges a group. Its nodes are typed afterwards, and its names bound, if all that it refers to
-/// outside is typed and it has types itself; if not the environment is what it was. The table of
-/// variables is lent, and empty before and after.
+/// Judges a group. If all names that it uses from outside are typed and the group has types, its
+/// nodes become typed and its names bound; otherwise the environment stays the same. The borrowed
+/// table of variables is empty before and after.
 fn judge_group<'a>(
     inference: &mut Inference<'a>,
     group: &CheckedGroup<'_, 'a, '_>,
@@ -93,7 +92,7 @@ fn judge_group<'a>(
     }
 }
 
-/// Judges the groups of a list in order. The table of variables is lent, and empty before.
+/// Judges the groups of a list in order. The borrowed table of variables must be empty.
 fn judge_each<'a>(
     inference: &mut Inference<'a>,
     list: &CheckedList<'_, 'a, '_>,
@@ -128,7 +127,7 @@ fn judge_each<'a>(
     Ok(())
 }
 
-/// Judges the groups of a list in order, where the variables with signatures are bound. Answers
+/// Judges the groups of a list in order, after the variables with signatures are bound. Returns
 /// which nodes are typed, and binds their names.
 pub(crate) fn judge_groups<'a>(
     inference: &mut Inference<'a>,

@@ -1,4 +1,6 @@
-//! The principal schemes of a module's bindings, or its units that have no type (Haskell 98 Report, section 4.5).
+//! Infers the principal schemes of a module's variables, or finds its binding groups without a type (Haskell 98 Report, section 4.5).
+//!
+//! Call [`infer`], or [`infer_within`] with limits for types.
 #![tactic(auto)]
 
 mod inferring;

@@ -1,6 +1,5 @@
-//! The bindings of a list with signatures that are type faults (Haskell 98 Report, sections 4.4.1
-//! and 4.5.1): those of which a clause hasn't the declared type, though all that the clauses refer
-//! to has types.
+//! Finds the type faults among the bindings with signatures (Haskell 98 Report, sections 4.4.1 and
+//! 4.5.1): a clause doesn't have the declared type, though all names in the clauses have types.
 
 ghost use Rattle.std.specs.Prelude.{◌≡◌, ◌<◌, IfOk, OnOk, drop, length};
 ghost use Rattle.std.specs.Bool.{Decides};
@@ -19,7 +18,7 @@ use hm_syntax::{Decl, DeclKind};
 use hm_unify::UnifyFault;
 use std::alloc::{AllocError, Global};
 
-/// Whether a declaration refers to a node without a type.
+/// Returns whether a declaration refers to a node without a type.
 fn waits(
     alloc: Global,
     numbers: &Numbers,
@@ -38,7 +37,7 @@ fn waits(
     Ok(true)
 }
 
-/// For each declaration of a list whether it refers to a node without a type.
+/// Returns for each declaration whether it refers to a node without a type.
 fn waiting_clauses(
     alloc: Global,
     decls: &[Decl],
@@ -58,8 +57,8 @@ fn waiting_clauses(
     Ok(waiting)
 }
 
-/// Whether a clause hasn't the declared type of its variable, under closed assumptions, which are
-/// the same afterwards.
+/// Returns whether a clause doesn't have the declared type of its variable, under closed
+/// assumptions. Leaves the assumptions as they were.
 fn is_refused<'a>(
     inference: &mut Inference<'a>,
     list: &CheckedList<'_, 'a, '_>,
@@ -89,8 +88,8 @@ fn is_refused<'a>(
     }
 }
 
-/// For each declaration of a list whether it is a clause that hasn't the declared type; those that
-/// wait aren't checked. The assumptions are the same afterwards.
+/// Returns for each declaration whether it is a clause without the declared type. Skips
+/// declarations that wait. Leaves the assumptions as they were.
 fn refused_clauses<'a>(
     inference: &mut Inference<'a>,
     list: &CheckedList<'_, 'a, '_>,
@@ -111,7 +110,7 @@ fn refused_clauses<'a>(
     Ok(refused)
 }
 
-/// Whether the declaration behind one goes on its binding.
+/// Returns whether the next declaration continues the binding of this one.
 fn continues(decls: &[Decl], place: usize) -> bool
     requires { place < length decls.now }
     ensures { result ≡ goes_on (drop place decls.now) }
@@ -123,7 +122,7 @@ fn continues(decls: &[Decl], place: usize) -> bool
     is_continued(name, pats, &decls[place + 1..])
 }
 
-/// Whether a declaration goes on no binding.
+/// Returns whether a declaration begins a binding.
 fn begins(decls: &[Decl], place: usize) -> bool
     requires { place < length decls.now }
     ensures { Decides result (BeginsRun decls.now place) }
@@ -134,7 +133,7 @@ fn begins(decls: &[Decl], place: usize) -> bool
     !continues(decls, place - 1)
 }
 
-/// Whether a clause of the binding that begins at a place has a flag.
+/// Returns whether any clause of the binding that begins at a place is flagged.
 fn has_flag(decls: &[Decl], flags: &[bool], place: usize) -> bool
     requires place { place < length decls.now }
     requires sized { length flags.now ≡ length decls.now }
@@ -151,7 +150,7 @@ fn has_flag(decls: &[Decl], flags: &[bool], place: usize) -> bool
     false
 }
 
-/// Whether a binding that is a fault begins at a place.
+/// Returns whether a faulty binding begins at a place.
 fn is_fault_at(decls: &[Decl], waiting: &[bool], refused: &[bool], place: usize) -> bool
     requires place { place < length decls.now }
     requires waiting { length waiting.now ≡ length decls.now }
@@ -167,8 +166,8 @@ fn is_fault_at(decls: &[Decl], waiting: &[bool], refused: &[bool], place: usize)
     has_flag(decls, refused, place)
 }
 
-/// The places of the first clauses of those bindings with signatures that are type faults, under
-/// closed assumptions of all that has types.
+/// Returns the places of the first clauses of all faulty bindings with signatures, under closed
+/// assumptions for all names that have types.
 pub(crate) fn signed_faults<'a>(
     inference: &mut Inference<'a>,
     list: &CheckedList<'_, 'a, '_>,

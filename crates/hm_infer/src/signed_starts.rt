@@ -1,4 +1,4 @@
-//! Where those bindings of a list with signatures begin that are type faults (Haskell 98 Report,
+//! The first places of the bindings with signatures that are type faults (Haskell 98 Report,
 //! sections 4.4.1 and 4.5.1).
 
 ghost use Rattle.std.specs.Prelude.{◌≡◌, IfOk, length};
@@ -14,8 +14,8 @@ use hm_assumptions::Inference;
 use hm_expressions::CheckedList;
 use hm_unify::UnifyFault;
 
-/// The places of the first clauses of those bindings with signatures that are type faults, where
-/// all units without signatures were judged.
+/// Returns the places of the first clauses of all faulty bindings with signatures. All units
+/// without signatures must be judged before.
 pub(crate) fn signed_starts<'a>(
     inference: &mut Inference<'a>,
     list: &CheckedList<'_, 'a, '_>,

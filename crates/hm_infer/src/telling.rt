@@ -1,4 +1,4 @@
-//! Type faults are told by the first bindings of their units (Haskell 98 Report, section 4.5.1).
+//! Makes a fault for each unit without a type, named after its first binding (Haskell 98 Report, section 4.5.1).
 
 ghost use Rattle.std.specs.Prelude.{◌≡◌, ◌<◌, ◌++◌, All, IfOk, OnOk, List, length, option_map};
 ghost use Rattle.hm_syntax.specs.Lists.{patterns};
@@ -16,7 +16,7 @@ use hm_syntax::{Decl, DeclKind, Name, Pat, PatKind, Row};
 use hm_types::Text;
 use std::alloc::{AllocError, Global};
 
-/// The first variable of a pattern.
+/// Returns the first variable of a pattern.
 #[cycle(first_variables)]
 #[tactic(auto, using(crate::proofs::FaultsTold::pattern_falls))]
 fn first_variable(pat: &Pat) -> Option<&Name>
@@ -34,7 +34,7 @@ fn first_variable(pat: &Pat) -> Option<&Name>
     }
 }
 
-/// The first variable of patterns in a row.
+/// Returns the first variable of a row of patterns.
 #[cycle(first_variables)]
 #[tactic(auto, using(crate::proofs::FaultsTold::pattern_falls))]
 fn first_variable_among(row: &[Pat]) -> Option<&Name>
@@ -49,7 +49,7 @@ fn first_variable_among(row: &[Pat]) -> Option<&Name>
     None
 }
 
-/// The fault of a unit without a type.
+/// Returns the fault of a unit without a type.
 fn untyped(place: Place, name: Text) -> Fault
     ensures { result ≡ fault Untyped (bare place.line place.column name) }
 {
@@ -60,7 +60,7 @@ fn untyped(place: Place, name: Text) -> Fault
     }
 }
 
-/// The text by which a pattern is told: its first variable, or `_` where it has none.
+/// Returns the text that names a pattern in a fault: its first variable, or `_` if it has none.
 fn pattern_text(alloc: Global, pat: &Pat) -> Result<Text, AllocError>
     ensures { IfOk result (λ text. text ≡ first_text (pattern_variables pat.now)) }
 {
@@ -70,7 +70,7 @@ fn pattern_text(alloc: Global, pat: &Pat) -> Result<Text, AllocError>
     }
 }
 
-/// Adds the fault of the unit that begins with a declaration, which binds something.
+/// Adds the fault of the unit that begins with a declaration. The declaration must bind something.
 fn add_fault(alloc: Global, faults: &mut Vec<Fault>, decl: &Decl) -> Result<(), AllocError>
     ensures { OnOk result (faults.new.items ≡ faults.old.items ++ faults_told (told_name decl.now)) }
 {
@@ -87,7 +87,7 @@ fn add_fault(alloc: Global, faults: &mut Vec<Fault>, decl: &Decl) -> Result<(), 
     }
 }
 
-/// The faults of the units that begin with the declarations at these places, in order.
+/// Returns the faults of the units that begin at these places, in order.
 pub(crate) fn told_faults(
     alloc: Global,
     decls: &[Decl],

@@ -1,4 +1,4 @@
-//! Where those units of a list begin that are type faults and have no signatures (Haskell 98
+//! The first places of the units without signatures that are type faults (Haskell 98
 //! Report, section 4.5.1).
 
 ghost use Rattle.std.specs.Prelude.{◌≡◌, ℕ, ◌<◌, All, List, OnOk, IfOk, length};
@@ -32,7 +32,7 @@ fn add_start(
     Ok(())
 }
 
-/// The places of the first declarations of those groups that are faults.
+/// Returns the places of the first declarations of the faulty groups.
 pub(crate) fn unsigned_starts(
     alloc: Global,
     found: &BindingGroups,

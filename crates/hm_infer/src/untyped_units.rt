@@ -1,4 +1,4 @@
-//! The units of a core that are type faults (Haskell 98 Report, section 4.5.1).
+//! Finds the units of a core that are type faults (Haskell 98 Report, section 4.5.1).
 
 ghost use Rattle.std.specs.Prelude.{◌≡◌, ℕ, List, IfOk, length};
 ghost use Rattle.hm_components.specs.Digraph.{lists};
@@ -32,8 +32,8 @@ use hm_syntax::{Decl, Row};
 use hm_unify::{Solver, UnifyFault};
 use std::alloc::{AllocError, Global};
 
-/// The places of the first declarations of those units of a list without signatures that are type
-/// faults, by a table of the nodes that have types.
+/// Returns the first places of a list's faulty units without signatures, by a table of the nodes
+/// that have types.
 fn unsigned_fault_starts(
     alloc: Global,
     list: &CheckedList<'_, '_, '_>,
@@ -50,8 +50,8 @@ fn unsigned_fault_starts(
     Ok(unsigned_starts(alloc, list.found, &faulty)?)
 }
 
-/// The places of the first declarations of those units of a core's list that are type faults
-/// under closed assumptions, by its groups and its signatures.
+/// Returns the first places of the faulty units of a core's list, under closed assumptions, by its
+/// groups and its signatures.
 fn starts_of_groups<'a>(
     inference: &mut Inference<'a>,
     list: &CheckedList<'_, 'a, '_>,
@@ -81,8 +81,7 @@ fn starts_of_groups<'a>(
     Ok(starts)
 }
 
-/// The places of the first declarations of those units of a core's list that are type faults
-/// under closed assumptions.
+/// Returns the first places of the faulty units of a core's list, under closed assumptions.
 fn fault_starts<'a>(
     inference: &mut Inference<'a>,
     constructors: &Constructors,
@@ -104,7 +103,7 @@ fn fault_starts<'a>(
     Ok(starts_of_groups(inference, &list)?)
 }
 
-/// The type faults of a core that has no typing.
+/// Returns the type faults of a core that has no typing.
 pub(crate) fn untyped_units(
     alloc: Global,
     core: &Core,

@@ -1,4 +1,4 @@
--- What is published during a build: a list that only grows. Readers see beginnings of it.
+-- The publications of a build: a list that only grows. Readers see prefixes of it.
 use Rattle.std.specs.Prelude.{◌≡◌, ◌==◌, ◌+◌, ◌≤◌, ℕ, cond, List, [], ◌∷◌, map, take, fold, Option, Some, None, Contains, slice_get, slice_index_or}
 use Rattle.hm_types.specs.Interfaces.{Exports as Interface}
 use Rattle.hm_types.specs.StandardPrelude.{prelude_interface}
@@ -15,22 +15,22 @@ interface_of (Faulty found) = None
 abbrev pub published_interface : Publication → Option Interface
 published_interface p = interface_of p.outcome.verdict
 
--- the interface that was published of a module
+-- the interface with which the module was published
 abbrev pub interface_in : List Publication → ℕ → Option Interface
 interface_in [] m = None
 interface_in (p ∷ ps) m = cond (p.number == m) (published_interface p) (interface_in ps m)
 
--- an interface was published of the module
+-- the module was published
 abbrev pub IsPublishedIn : List Publication → ℕ → Type 0
 IsPublishedIn ps m = (f : Interface) × (interface_in ps m ≡ Some f)
 
--- how many entries the journal has up to that of the last publication
+-- the number of journal entries up to that of the last publication
 abbrev pub entries_of : List Publication → ℕ
 entries_of ps = fold (λ n p. p.place + 1) 0 ps
 
--- The next publication: of a module that none before is of, and later in the journal. The outcome is that of the module with its number. Its
--- interfaces are those that were published before of the modules that the plan says this one imports, and its verdict is the right one for
--- them (Haskell 98 Report, section 5)
+-- the next publication of a list: no earlier one is of the same module, and its place in the journal is later. The outcome is that of the module
+-- with its number, for the interfaces published before of the modules that it imports by the plan. Its verdict is right for these interfaces
+-- (Haskell 98 Report, section 5)
 pub record MayFollow (modules : List Module) (plan : List (List ℕ)) (before : List Publication) (p : Publication) : Type 0 where
   pub distinct : ¬ (Contains (map (λ q. q.number) before) p.number)
   pub later : entries_of before ≤ p.place

@@ -1,5 +1,4 @@
-//! The list of all publications. It stands in the proofs alone: what threads share is a word, its length, and a front is a beginning of the list
-//! that was seen.
+//! The list of all publications, which only the proofs have. Threads share one word, its length. A front is a prefix that a thread has seen.
 ghost use Rattle.std.specs.Prelude.{◌≡◌, ◌+◌, ◌==◌, ◌<◌, ◌≤◌, ◌^◌, ◌++◌, ◌∷◌, ◌⊎◌, [], length, MatchBool};
 ghost use mathlib.Core.List.{IsPrefix};
 ghost use Rattle.hm_published.specs.Publications.{IsLawful, MayFollow};
@@ -9,7 +8,7 @@ use crate::publication::Publication;
 use logbook::{Gain, Offer, Plain, Play, Rule, Seen, Start, Word};
 use std::marker::{Brand, Model, PhantomData};
 
-/// The rule of the list: the word is its length.
+/// The rule of the list: the shared word is its length.
 pub struct Law;
 
 impl Rule<Publication, u64> for Law {
@@ -30,7 +29,7 @@ impl Rule<Publication, u64> for Law {
     ghost moves = { λ ask before after answer. Unit {0} };
 }
 
-/// Nobody trades anything.
+/// The rule for steps that exchange nothing.
 pub struct Nothing;
 
 impl Gain<Publication, u64> for Nothing {
@@ -56,7 +55,7 @@ impl Plain<Publication, Publication, u64> for Add {
     ghost state = { λ publication. None };
 }
 
-/// Which build it is: the list of its publications, its modules, and which of them imports which. Each build picks its own.
+/// The ghost name of a build: the list of its publications, its modules, and their import plan. Each build has its own.
 pub trait Naming {
     ghost use Rattle.std.specs.Prelude.{List, ℕ};
     ghost use Rattle.hm_syntax.specs.declared.ast.Module.{Module};
@@ -79,7 +78,7 @@ impl Naming for Brand {
     ghost book = { record { number = 0; log_name = 0; cells_name = 0 } };
 }
 
-/// A list without publications, which has no name yet.
+/// An empty list without a name.
 #[derive(Drop)]
 pub struct Opened {
     head: Word<Publication, u64, Law>,
@@ -98,7 +97,7 @@ impl Opened {
         }
     }
 
-    /// The list under a name, and the front that has seen nothing.
+    /// Returns the list under a name, and the front that has seen nothing.
     pub fn named<J: Naming>(self) -> (History<J>, Front<J>)
         requires { self.seen.book ≡ J.book }
         ensures { result.1 ≡ [] }
@@ -118,7 +117,7 @@ impl Opened {
     }
 }
 
-/// What adds to the list: a word, its length.
+/// The end of the list, at which publications are added: a word with its length.
 #[derive(Drop)]
 pub struct History<J: Naming> {
     head: Word<Publication, u64, Law>,
@@ -126,7 +125,7 @@ pub struct History<J: Naming> {
     ghost head_is: { head ≡ head_of J.book },
 }
 
-/// A beginning of the list that was seen. Contracts see its publications.
+/// A prefix of the list that was seen. Contracts see its publications.
 #[derive(Drop)]
 pub struct Front<J: Naming> {
     count: u64,
@@ -152,7 +151,7 @@ impl<J: Naming> Model for Front<J> {
 }
 
 impl<J: Naming> Front<J> {
-    /// How many publications it has.
+    /// Returns the number of publications.
     pub fn len(&self) -> u64
         ensures length { result ≡ length self.now }
         ensures lawful { IsLawful J.modules J.plan self.now }
@@ -160,7 +159,7 @@ impl<J: Naming> Front<J> {
         self.count
     }
 
-    /// A copy.
+    /// Returns a copy.
     pub fn again(&self) -> Front<J>
         ensures { result ≡ self.now }
     {
@@ -171,7 +170,7 @@ impl<J: Naming> Front<J> {
         }
     }
 
-    /// The longer of two fronts, which the other begins.
+    /// Returns the longer of two fronts. The other one is a prefix of it.
     pub fn longer(&self, that: &Front<J>) -> Front<J>
         ensures this { length that.now ≤ length self.now → result ≡ self.now }
         ensures that { length self.now < length that.now → result ≡ that.now }
@@ -188,7 +187,7 @@ impl<J: Naming> Front<J> {
         }
     }
 
-    /// Compares two fronts: one of them begins the other.
+    /// Shows that one of two fronts is a prefix of the other.
     #[tactic(auto, using(crate::proofs::Beginnings::one_begins))]
     pub fn beside(&self, that: &Front<J>)
         ensures { IsPrefix self.now that.now ⊎ IsPrefix that.now self.now }
@@ -196,7 +195,7 @@ impl<J: Naming> Front<J> {
         let _longer = self.longer(that);
     }
 
-    /// Adds a publication to all that was seen, and says whether it did. It did not where the list is longer, and nothing changes then.
+    /// Adds a publication if this front is the whole list. Returns false and changes nothing if the list is longer.
     #[tactic(auto, using(crate::proofs::Lawful::more_lawful))]
     pub fn add(&mut self, history: &History<J>, publication: &Publication) -> bool
         requires room { length self.old < 2 ^ 62 }

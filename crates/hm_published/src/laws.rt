@@ -1,7 +1,7 @@
-//! What holds of lists of publications, as contracts of functions that do nothing.
+//! Laws of lists of publications. Each law is a function with an empty body, and its contract is the law.
 ghost use Rattle.hm_published.specs.Worked.{ListsRow, NumbersRow};
 
-/// Worked lists: which are lawful, and which aren't.
+/// Worked examples of lists that are lawful, and of lists that aren't.
 pub fn worked_lists()
     ensures lists { ListsRow }
     ensures numbers { NumbersRow }

@@ -1,5 +1,6 @@
-//! The interfaces that a build has published, for readers that take no lock. What was published is one list, which only grows; each reader sees
-//! beginnings of it, and never goes back.
+//! The published interfaces of a build, for readers that take no lock.
+//!
+//! The publications are one list, which only grows. Each reader sees a prefix of it, and a later look-up never sees a shorter one.
 #![tactic(auto)]
 
 mod history;

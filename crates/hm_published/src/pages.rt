@@ -1,4 +1,4 @@
-//! The two copies of what readers take. One is read while the other is written.
+//! The two copies of the published interfaces. Readers read one while the other is written.
 ghost use Rattle.std.specs.Prelude.{◌≡◌, ◌≢◌, ◌<◌, ◌^◌, ◌++◌, ◌∷◌, [], IfOk, IfErr};
 ghost use Rattle.hm_published.specs.Publications.{MayFollow};
 ghost use Rattle.left_right.specs.Handles.{pending, published};
@@ -11,7 +11,7 @@ use left_right::WriteHandle;
 use std::alloc::{AllocError, Global};
 use std::sync::Wait;
 
-/// Copies in which nothing is published yet of so many modules, for so many readers.
+/// Returns two copies for `modules` modules and `readers` readers. No module is published in them.
 pub fn opened<J: Naming, R: Wait + Drop>(
     alloc: Global,
     rt: R,
@@ -28,9 +28,12 @@ pub fn opened<J: Naming, R: Wait + Drop>(
     Ok(WriteHandle::new(alloc, rt, first, second, readers)?)
 }
 
-/// Publishes behind all that was published, and waits for readers that still see what was published before the last. Answers the list that ends
-/// with the publication. Where memory is refused nothing that readers see changes. Where it was refused to the copies, the operation stays
-/// pending, and each later publication is refused too; so it is where it was refused to the operations, since the list is ahead then.
+/// Adds a publication, and waits for readers of the copy that it writes. Returns the list that ends with the publication.
+///
+/// # Errors
+///
+/// If an allocation fails, readers see no change. If it failed for the copies, the operation stays pending, and each later publication is
+/// refused too. The same holds if it failed for the operations, because the list is ahead of the copies then.
 pub fn publish<J: Naming, R: Wait + Drop>(
     pages: &mut WriteHandle<Published<J>, Step<J>, R>,
     history: &History<J>,
@@ -43,7 +46,7 @@ pub fn publish<J: Naming, R: Wait + Drop>(
     ensures ok { IfOk result (λ f. f ≡ front.now ++ publication.now ∷ []) }
     ensures all { IfOk result (λ f. published pages.new ≡ f) }
     ensures err { IfErr result (λ _. published pages.new ≡ published pages.old) }
-    // While an operation is pending each publication is refused, and the operation stays.
+    // While an operation is pending, each publication is refused, and the operation stays.
     ensures ready { IfOk result (λ _. pending pages.old ≡ []) }
     ensures stays { pending pages.old ≢ [] → pending pages.new ≡ pending pages.old }
 {
@@ -61,7 +64,7 @@ pub fn publish<J: Naming, R: Wait + Drop>(
     }
 }
 
-/// A reader that has seen this front.
+/// Returns a reader that has seen this front.
 pub fn reader<J: Naming, R: Wait + Drop>(
     pages: &WriteHandle<Published<J>, Step<J>, R>,
     front: &Front<J>,

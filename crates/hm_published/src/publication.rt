@@ -1,7 +1,7 @@
-//! A publication.
+//! Publications.
 use hm_outcomes::Outcome;
 
-/// A good module, by its number, with the place of its publication in the journal and its outcome.
+/// The publication of a good module: its number, its outcome, and its place in the journal.
 #[derive(Drop)]
 pub struct Publication {
     pub number: usize,

@@ -1,4 +1,4 @@
-//! What readers take: the published interfaces by the numbers of their modules.
+//! The table that readers read: the published interfaces by module number.
 ghost use Rattle.std.specs.Prelude.{◌≡◌, [], ◌∷◌, ◌++◌, ◌^◌, ◌<◌, ◌≤◌, IfErr, IfOk, IsErrOf, None, length, option_map, replicate};
 ghost use Rattle.std.specs.Arc.{arc_value};
 ghost use mathlib.Core.List.{IsPrefix};
@@ -14,11 +14,11 @@ use std::marker::Model;
 use std::sync::Arc;
 use thiserror::Error;
 
-/// Why a look-up isn't answered. The first that applies is answered.
+/// Why a look-up fails. If several reasons apply, the first is returned.
 #[derive(Clone, Copy, Debug, Error, PartialEq, Eq)]
 pub enum LookFault {
-    /// No entry was given to what is published, or its copy is behind what the pass was told. A build meets neither: a publication is shown before
-    /// a pass is told of it.
+    /// The reader wasn't admitted, or its copy is older than what the pass has seen. A build meets neither, because it updates the copies before a
+    /// pass sees a publication.
     #[error("no entry")]
     NoEntry,
     /// Memory ran out.
@@ -26,7 +26,7 @@ pub enum LookFault {
     Memory,
 }
 
-/// What a look-up finds: the list that was seen, the interface, and how many entries the journal has up to the last publication of the list.
+/// The result of a look-up: the list that was seen, the interface, and the number of journal entries up to the list's last publication.
 #[derive(Drop)]
 pub struct Sight<J: Naming> {
     pub front: Front<J>,
@@ -34,7 +34,7 @@ pub struct Sight<J: Naming> {
     pub entries: usize,
 }
 
-/// The published interface of each module, and the list of the publications. Contracts see the list.
+/// The published interface of each module, with the list of the publications. Contracts see the list.
 #[derive(Drop)]
 pub struct Published<J: Naming> {
     front: Front<J>,
@@ -60,7 +60,7 @@ impl<J: Naming> Model for Published<J> {
     ghost invariant = { λ p. Shows p.front (map (option_map arc_value) p.interfaces.items) p.entries };
 }
 
-/// One publication more. Contracts see the list that ends with it.
+/// The operation that adds a publication. Contracts see the list that ends with it.
 #[derive(Drop)]
 pub struct Step<J: Naming> {
     front: Front<J>,
@@ -88,7 +88,7 @@ impl<J: Naming> Model for Step<J> {
 }
 
 impl<J: Naming> Step<J> {
-    /// Adds a publication to the list of all publications, all of which were seen.
+    /// Returns the operation that adds a publication to the list of all, and adds it to that list. The front must have seen all publications.
     #[tactic(auto, using(crate::proofs::Showing::next_ends, crate::proofs::Lawful::few_before))]
     pub fn next(
         history: &History<J>,
@@ -103,7 +103,7 @@ impl<J: Naming> Step<J> {
             unreachable!()
         };
         let interface = Arc::try_clone(interface)?;
-        // The list is lawful, so it has no more publications than the place of the next one.
+        // The list is lawful, so it has at most as many publications as the place of the next one.
         let _count = front.len();
         let mut front = front.again();
         if !front.add(history, publication) {
@@ -117,7 +117,7 @@ impl<J: Naming> Step<J> {
         })
     }
 
-    /// The list that ends with it.
+    /// Returns the list that ends with this publication.
     pub fn front(&self) -> Front<J>
         ensures { result ≡ self.now }
     {
@@ -126,7 +126,7 @@ impl<J: Naming> Step<J> {
 }
 
 impl<J: Naming> Published<J> {
-    /// Nothing is published of so many modules.
+    /// Returns the table of `modules` modules, of which none is published.
     pub fn new(alloc: Global, front: Front<J>, modules: usize) -> Result<Published<J>, AllocError>
         requires { front ≡ [] }
         ensures { IfOk result (λ p. p ≡ []) }
@@ -145,7 +145,7 @@ impl<J: Naming> Published<J> {
         ensures interface { IfOk result (λ s. option_map arc_value s.interface ≡ interface_in s.front number) }
         ensures entries { IfOk result (λ s. s.entries ≡ entries_of s.front) }
         ensures few { IfOk result (λ s. s.entries ≤ 2 ^ 62) }
-        // No entry is answered only where these copies are behind what the reader was told.
+        // Returns `NoEntry` only if this copy is older than what the reader has seen.
         ensures behind { IsErrOf result LookFault.NoEntry → length self.now < length seen.now }
     {
         if self.front.len() < seen.len() {
@@ -173,7 +173,7 @@ fn copy(interface: &Arc<Interface>) -> Result<Arc<Interface>, LookFault>
     }
 }
 
-/// No interface, for so many modules.
+/// Returns `count` times no interface.
 fn no_interfaces(alloc: Global, count: usize) -> Result<Vec<Option<Arc<Interface>>>, AllocError>
     ensures { IfOk result (λ v. v.items ≡ replicate count None) }
 {
@@ -185,7 +185,7 @@ fn no_interfaces(alloc: Global, count: usize) -> Result<Vec<Option<Arc<Interface
 }
 
 impl<J: Naming> Absorb<Step<J>> for Published<J> {
-    // A clause reads an array as a list, of any length.
+    // A clause reads an array as a list of any length.
     type State = [Publication; 0];
 
     ghost state = { λ p. p };

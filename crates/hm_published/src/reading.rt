@@ -1,4 +1,4 @@
-//! The readers of what is published.
+//! Readers of the published interfaces.
 ghost use Rattle.std.specs.Prelude.{◌≡◌, ◌≤◌, ◌^◌, ◌⊎◌, IfOk, IfErr, option_map};
 ghost use Rattle.std.specs.Arc.{arc_value};
 ghost use mathlib.Core.List.{IsPrefix};
@@ -11,7 +11,7 @@ use left_right::ReadHandle;
 use std::marker::Model;
 use std::sync::Arc;
 
-/// What looks for interfaces. Contracts see the list of publications that it has seen.
+/// A reader, which looks up interfaces. Contracts see the list of publications that it has seen.
 #[derive(Drop)]
 pub struct Reader<J: Naming> {
     entrance: ReadHandle<Published<J>>,
@@ -32,7 +32,7 @@ impl<J: Naming> Model for Reader<J> {
     ghost view = { λ r. r.seen };
 }
 
-/// What a look-up found, and how many entries the journal has up to the last publication that was seen.
+/// The interface that a look-up found, and the number of journal entries up to the last publication that it saw.
 #[derive(Drop)]
 pub struct Found {
     pub interface: Option<Arc<Interface>>,
@@ -46,25 +46,25 @@ impl<J: Naming> Reader<J> {
         Reader { entrance, seen }
     }
 
-    /// Is told of the publications of this front, too.
+    /// Adds the publications of this front to those that the reader has seen.
     pub fn learn(&mut self, front: &Front<J>)
         ensures kept { IsPrefix self.old self.new }
         ensures told { IsPrefix front.now self.new }
         ensures lawful { IsLawful J.modules J.plan self.new }
-        // Nothing else is added: it has the longer of the two lists.
+        // The reader sees the longer of the two lists, and nothing else.
         ensures exact { (self.new ≡ self.old) ⊎ (self.new ≡ front.now) }
     {
         self.seen = self.seen.longer(front);
     }
 
-    /// Compares what was seen with this front: one of the two begins the other.
+    /// Shows that the list that was seen is a prefix of this front, or the other way round.
     pub fn beside(&self, front: &Front<J>)
         ensures { IsPrefix self.now front.now ⊎ IsPrefix front.now self.now }
     {
         self.seen.beside(front);
     }
 
-    /// Looks for the interface of a module, and waits for nobody.
+    /// Looks up the interface of a module. Never waits.
     pub fn look(&mut self, number: usize) -> Result<Found, LookFault>
         ensures list { IfOk result (λ _. IsPrefix self.old self.new) }
         ensures lawful { IsLawful J.modules J.plan self.new }
@@ -91,7 +91,7 @@ impl<J: Naming> Reader<J> {
     }
 }
 
-/// Enters, and finds the interface of a module.
+/// Enters the current copy, and finds the interface of a module there.
 fn enter<J: Naming>(
     entrance: &mut ReadHandle<Published<J>>,
     seen: &Front<J>,

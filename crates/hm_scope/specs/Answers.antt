@@ -1,4 +1,4 @@
--- What is answered for the faults of one phase, and of all. No public clause names these.
+-- The results of one phase, and of all phases. No public clause names these.
 use Rattle.std.specs.Prelude.{◌≡◌, ◌↔◌, List, map, Contains}
 use Rattle.hm_types.specs.Interfaces.{Exports as Interface}
 use Rattle.hm_syntax.specs.declared.ast.Module.{Module}
@@ -29,22 +29,22 @@ pub record AreResolvedTrees (m : Module) (fs : List Interface) (ds : List Declar
   pub resolves : IsResolver m fs resolver
   pub trees : ds ≡ resolved m resolver
 
--- the faults that stand somewhere in the module's trees
+-- the faults in the module's trees
 abbrev pub AreNoted : Module → List Interface → List Fault → Type 0
 AreNoted m fs found = (f : Fault) → Contains found f ↔ Somewhere m (NodeFault m fs f)
 
--- what a walk over the module finds: the faults in its trees, and the trees where there are none
+-- the result of a walk over the module: the faults in its trees, or the resolved trees if there are none
 pub record AreWalked (m : Module) (fs : List Interface) (ds : List Declaration) (found : List Fault) : Type 0 where
   pub faults : AreNoted m fs found
   pub are_resolved : IsWellFormed m fs → AreResolvedTrees m fs ds
 
--- the faults that are found in trees, by phases
+-- the faults in the module's trees, by phase
 pub record AreTreeFaults (m : Module) (fs : List Interface) (found : TreeFaults) : Type 0 where
   pub lists : AreExact m fs Declaring found.lists.items
   pub names : AreExact m fs Naming found.names.items
   pub numbers : AreExact m fs Counting found.numbers.items
 
--- the faults that are found in trees, by phases, and the trees where there are none
+-- the faults in the module's trees, by phase, and the resolved trees if there are none
 pub record AreTrees (m : Module) (fs : List Interface) (trees : Trees) : Type 0 where
   pub lists : AreExact m fs Declaring trees.lists.items
   pub names : AreExact m fs Naming trees.names.items
@@ -58,7 +58,7 @@ pub record IsResolvedModule (m : Module) (fs : List Interface) (ds : List Declar
   pub one_entity : HaveOneEntity given
   pub exact : (s : Namespace) (x : List Rattle.std.specs.Prelude.ℕ) (e : Entity) → IsBound given s x e ↔ IsExported m fs s x e
 
--- the answer of the phases behind that of the imports
+-- the result of the phases after imports
 abbrev pub IsAnswer : Module → List Interface → Answer → Type 0
 IsAnswer m fs (Resolved ds given) = IsResolvedModule m fs ds.items given.items
 IsAnswer m fs (Faulty found) = AreFaults m fs found

@@ -1,4 +1,4 @@
--- Answers of the calls, as the program has them.
+-- The results of `scope`.
 use Rattle.std.specs.Prelude.{List, Result, Ok, Err}
 use Rattle.hm_types.specs.Interfaces.{Exports as Interface}
 use Rattle.hm_syntax.specs.declared.ast.Module.{Module}

@@ -1,4 +1,4 @@
-//! A module's own synonyms, each with its right side resolved and expanded (Report, section 4.2.2).
+//! A module's own synonyms, with their right sides resolved and expanded (Report, section 4.2.2).
 
 ghost use Rattle.std.specs.Prelude.{◌≡◌, ◌↔◌, ◌<◌, ◌≤◌, slice_index_or, ℕ, List, [], IfOk, OnOk, Some, IsTrue, true, false, length};
 ghost use Rattle.hm_types.specs.Interfaces.{Exports as Interface};
@@ -29,7 +29,7 @@ use hm_tables::Scope;
 use hm_types::{Synonym, Ty};
 use std::alloc::{AllocError, Global};
 
-/// Whether each variable of a type is one of these.
+/// Returns whether a type has only these variables.
 fn is_closed(
     alloc: Global,
     variables: &TypeVariables<'_>,
@@ -47,7 +47,7 @@ fn is_closed(
     Ok(true)
 }
 
-/// A type with its names resolved and its synonyms expanded.
+/// Returns a type with its names resolved and its synonyms expanded.
 fn resolved_type(
     alloc: Global,
     scope: &Scope<'_>,
@@ -60,7 +60,7 @@ fn resolved_type(
     resolving.type_expr(alloc, ty)
 }
 
-/// The type over these variables that is written so.
+/// Returns the resolved and expanded type over these variables.
 fn type_over(
     alloc: Global,
     scope: &Scope<'_>,
@@ -74,7 +74,7 @@ fn type_over(
     monotype(alloc, variables, &resolved)
 }
 
-/// A synonym over these variables with its right side resolved and expanded, if it has no other variables.
+/// Returns a synonym with its right side resolved and expanded, or `None` if it has variables other than these.
 fn finished_over(
     alloc: Global,
     scope: &Scope<'_>,
@@ -92,7 +92,7 @@ fn finished_over(
     Ok(Some(Synonym::new(variables.len(), body)))
 }
 
-/// A synonym with its right side resolved and expanded, if all its variables are parameters.
+/// Returns a synonym with its right side resolved and expanded, or `None` if a variable isn't a parameter.
 fn finished(
     alloc: Global,
     scope: &Scope<'_>,
@@ -107,7 +107,7 @@ fn finished(
     finished_over(alloc, scope, tables, &variables, ty)
 }
 
-/// Adds a synonym whose right side has only synonyms that stand in the tables.
+/// Adds a synonym to the tables. The synonyms on its right side must be in the tables already.
 fn add_finished<'a>(
     alloc: Global,
     tables: &mut Tables<'a>,
@@ -129,7 +129,7 @@ fn add_finished<'a>(
     }
 }
 
-/// The synonyms that a module declares, and the scope in which their right sides are looked up.
+/// A module's declared synonyms, with the scope that resolves their right sides.
 #[derive(Clone, Copy)]
 struct Unfinished<'r, 'a> {
     scope: &'r Scope<'a>,
@@ -137,7 +137,7 @@ struct Unfinished<'r, 'a> {
     declared: &'r [OwnSynonym<'a>],
 }
 
-/// Adds the synonym of this number, if there is one.
+/// Adds the synonym with this number, if there is one.
 fn add_numbered<'a>(
     alloc: Global,
     tables: &mut Tables<'a>,
@@ -167,7 +167,7 @@ fn add_numbered<'a>(
     )?)
 }
 
-/// Adds the synonyms of these numbers.
+/// Adds the synonyms with these numbers.
 fn add_in_order<'a>(
     alloc: Global,
     tables: &mut Tables<'a>,
@@ -186,14 +186,14 @@ fn add_in_order<'a>(
     Ok(())
 }
 
-/// The synonyms that a module declares, and the graph of their references.
+/// A module's declared synonyms, with the graph of their references.
 #[derive(Clone, Copy)]
 pub(crate) struct DeclaredSynonyms<'r, 'a> {
     pub(crate) own: &'r OwnSynonyms<'a>,
     pub(crate) graph: &'r Digraph,
 }
 
-/// Adds the synonyms of a module, each after those that its right side names. Those of a module with faults may be left out.
+/// Adds a module's synonyms, each after those on its right side. May omit synonyms of a module with faults.
 pub(crate) fn add_synonyms<'a>(
     alloc: Global,
     tables: &mut Tables<'a>,

@@ -1,4 +1,4 @@
-//! The core of a module, or its faults.
+//! Resolves a module to its core, or finds its faults.
 
 ghost use Rattle.std.specs.Prelude.{◌≡◌, ◌↔◌, ◌++◌, ◌∷◌, List, length, map, filter, IfOk, IfErr, Contains};
 ghost use Rattle.std.specs.Arc.{arc_value};
@@ -35,14 +35,14 @@ use hm_types::{Interface, Text};
 use std::alloc::{AllocError, Global};
 use std::sync::Arc;
 
-/// The limits of a walk that expands no synonym.
+/// Limits under which a walk expands no synonym.
 const NO_SYNONYMS: TypeLimits = TypeLimits {
     levels: 0,
     nodes: 0,
 };
 
-/// The resolved declarations of a module, and the faults of its trees by phases: of declaration lists, of names, of numbers of arguments
-/// and of synonyms that are recursive.
+/// A module's resolved declarations, and the faults of its trees by phase: declaration lists; names; numbers of arguments with recursive
+/// synonyms.
 #[derive(Drop)]
 pub(crate) struct Trees {
     pub(crate) decls: Vec<Decl>,
@@ -51,14 +51,14 @@ pub(crate) struct Trees {
     pub(crate) numbers: Vec<Fault>,
 }
 
-/// What the phases answer of a module: its resolved declarations and its exports, or the faults of the first phase that has any.
+/// The result of the phases: resolved declarations and exports, or the faults of the first phase that has any.
 #[derive(Drop)]
 pub(crate) enum Answer<'a> {
     Resolved(Vec<Decl>, Vec<Binding<'a>>),
     Faulty(Row<Fault>),
 }
 
-/// The faults of both lists.
+/// Returns the faults of both lists.
 fn joined(faults: Vec<Fault>, others: Vec<Fault>) -> Result<Vec<Fault>, AllocError>
     ensures { IfOk result (λ all. all.items ≡ faults.items ++ others.items) }
 {
@@ -69,7 +69,7 @@ fn joined(faults: Vec<Fault>, others: Vec<Fault>) -> Result<Vec<Fault>, AllocErr
     Ok(all)
 }
 
-/// A module, the interfaces for which it is looked at, and its scope.
+/// A module with its scope, and the interfaces from which that is made.
 #[derive(Clone, Copy)]
 struct ScopedModule<'r, 'a> {
     program: &'a Module,
@@ -77,7 +77,7 @@ struct ScopedModule<'r, 'a> {
     scope: &'r Scope<'a>,
 }
 
-/// What the walk finds in a module with these tables, to which its synonyms are added.
+/// Adds the module's synonyms to the tables, and walks over the module.
 fn walked_with<'a>(
     alloc: Global,
     program: &'a Module,
@@ -92,12 +92,12 @@ fn walked_with<'a>(
 {
     let nodes = tables.nodes().get();
     add_synonyms(alloc, tables, scope, program, synonyms)?;
-    // what the synonyms took doesn't count for the walk
+    // The limit of the walk doesn't count the nodes of the synonyms.
     tables.nodes().set(nodes);
     Ok(walk(alloc, scope, tables, program)?)
 }
 
-/// What the walk finds in a module whose synonyms are these.
+/// Walks over a module with these synonyms.
 fn walked_trees<'a>(
     alloc: Global,
     scoped: &ScopedModule<'_, 'a>,
@@ -114,7 +114,7 @@ fn walked_trees<'a>(
     walked_with(alloc, scoped.program, scoped.scope, &mut tables, synonyms)
 }
 
-/// The faults of a walk by phases, with those of synonyms that are recursive.
+/// Sorts the faults of a walk by phase, and adds those of recursive synonyms.
 fn phases_of(
     alloc: Global,
     walked: Vec<Fault>,
@@ -133,7 +133,7 @@ fn phases_of(
     })
 }
 
-/// The trees of a walk, its faults by phases, with those of synonyms that are recursive.
+/// Returns the trees of a walk, with its faults by phase and those of recursive synonyms.
 fn trees_of(alloc: Global, walked: Walked, recursive: Vec<Fault>) -> Result<Trees, AllocError>
     ensures { IfOk result (λ trees. (m : ModuleTree) (fs : List Interface) → AreWalked m fs walked.decls.items walked.faults.items
         → ((f : Fault) → Contains recursive.items f ↔ HasSynonymFault m fs f) → AreTrees m fs trees) }
@@ -148,7 +148,7 @@ fn trees_of(alloc: Global, walked: Walked, recursive: Vec<Fault>) -> Result<Tree
     })
 }
 
-/// The trees of a module whose synonyms are these.
+/// Returns the trees of a module with these synonyms.
 fn trees_with<'a>(
     alloc: Global,
     scoped: &ScopedModule<'_, 'a>,
@@ -166,7 +166,7 @@ fn trees_with<'a>(
     Ok(trees_of(alloc, walked, recursive)?)
 }
 
-/// The trees of a module with these synonyms, whose references make a graph.
+/// Returns the trees of a module with these synonyms and the graph of their references.
 fn trees_over<'a>(
     alloc: Global,
     scoped: &ScopedModule<'_, 'a>,
@@ -182,7 +182,7 @@ fn trees_over<'a>(
     trees_with(alloc, scoped, &synonyms, limits)
 }
 
-/// The trees of a module, whose names are resolved where there are no faults.
+/// Returns the trees of a module. Its names are resolved if it has no faults.
 fn resolved_trees(
     alloc: Global,
     scoped: &ScopedModule<'_, '_>,
@@ -195,7 +195,7 @@ fn resolved_trees(
     trees_over(alloc, scoped, &own, limits)
 }
 
-/// What the walk notes where it expands no synonym: the faults that stand somewhere in the trees of a module.
+/// Walks over a module without expanding synonyms, and returns the faults in its trees.
 fn noted_faults(alloc: Global, scoped: &ScopedModule<'_, '_>) -> Result<Vec<Fault>, AllocError>
     requires { IsScopeOf scoped.now.program.now (map (λ f. f.now) scoped.now.interfaces.now) scoped.now.scope.now }
     ensures { IfOk result (λ found. AreNoted scoped.now.program.now (map (λ f. f.now) scoped.now.interfaces.now) found.items) }
@@ -209,7 +209,7 @@ fn noted_faults(alloc: Global, scoped: &ScopedModule<'_, '_>) -> Result<Vec<Faul
     Ok(faults)
 }
 
-/// The faults of the trees of a module by phases, for which no synonym is expanded.
+/// Returns the faults in a module's trees by phase, without expanding synonyms.
 fn faults_over(
     alloc: Global,
     scoped: &ScopedModule<'_, '_>,
@@ -225,7 +225,7 @@ fn faults_over(
     Ok(phases_of(alloc, noted, recursive)?)
 }
 
-/// The same, with the module's own synonyms.
+/// Does what `faults_over` does, with the module's own synonyms.
 fn tree_faults(alloc: Global, scoped: &ScopedModule<'_, '_>) -> Result<TreeFaults, AllocError>
     requires { IsScopeOf scoped.now.program.now (map (λ f. f.now) scoped.now.interfaces.now) scoped.now.scope.now }
     ensures { IfOk result (AreTreeFaults scoped.now.program.now (map (λ f. f.now) scoped.now.interfaces.now)) }
@@ -234,8 +234,8 @@ fn tree_faults(alloc: Global, scoped: &ScopedModule<'_, '_>) -> Result<TreeFault
     faults_over(alloc, scoped, &own)
 }
 
-/// The answer of the phases behind that of the imports for a module whose synonyms can't be expanded: the faults of the first phase that has
-/// any, for which they needn't be. A module without faults is refused for want of memory.
+/// Returns the result of the phases after imports for a module whose synonyms were too large to expand: the faults of the first phase that has
+/// any. These don't depend on expansion. A module without faults is refused for lack of memory.
 fn answer_without_trees<'a>(
     alloc: Global,
     scoped: &ScopedModule<'_, 'a>,
@@ -256,7 +256,7 @@ fn answer_without_trees<'a>(
     }
 }
 
-/// The answer of the phases behind that of the imports for a module with these exports and trees.
+/// Returns the result of the phases after imports for a module with these exports and trees.
 fn answer_with_trees<'a>(
     exports: ModuleExports<'a>,
     trees: Trees,
@@ -280,8 +280,10 @@ fn answer_with_trees<'a>(
     }
 }
 
-/// The answer of the phases behind that of the imports. Synonyms may stand for types of any size: where their expansion is refused, the faults
-/// are looked for without it, so that a module with faults is told of these and not of want of memory.
+/// Returns the result of the phases after imports.
+///
+/// Synonyms may stand for types of any size. If their expansion is refused, faults are still found without it, so a faulty module gets its
+/// faults and not `Memory`.
 fn behind_imports<'a>(
     alloc: Global,
     scoped: &ScopedModule<'_, 'a>,
@@ -303,7 +305,7 @@ fn behind_imports<'a>(
     }
 }
 
-/// What the phases answer of a module for Prelude's interface and those of its imports.
+/// Returns the result of all phases for Prelude's interface and those of the imports.
 fn phases_answer<'a>(
     alloc: Global,
     program: &'a Module,
@@ -327,7 +329,7 @@ fn phases_answer<'a>(
     behind_imports(alloc, &scoped, limits)
 }
 
-/// The interfaces for which a core was made, shared.
+/// Shares the interfaces for which a core is made.
 fn shared(
     alloc: Global,
     prelude: &Arc<Interface>,
@@ -343,7 +345,7 @@ fn shared(
     Ok(Row { items })
 }
 
-/// What a module exports, by namespaces.
+/// A module's exports by namespace.
 #[derive(Drop)]
 pub(crate) struct ExportedRows {
     pub(crate) types: Row<Exported>,
@@ -351,7 +353,7 @@ pub(crate) struct ExportedRows {
     pub(crate) values: Row<Exported>,
 }
 
-/// The exports of these bindings.
+/// Returns the exports of these bindings.
 fn exported_rows(alloc: Global, given: &[Binding<'_>]) -> Result<ExportedRows, AllocError>
     requires { HaveOneEntity given.now }
     ensures { IfOk result (λ rows. AreExportedRows given.now (rows_in rows)) }
@@ -366,14 +368,14 @@ fn exported_rows(alloc: Global, given: &[Binding<'_>]) -> Result<ExportedRows, A
     })
 }
 
-/// The name of a module.
+/// Returns the name of a module.
 fn name_of(module: &Module) -> Result<Text, AllocError>
     ensures { IfOk result (λ name. name ≡ «module».now.header.name.text) }
 {
     module.header.name.text.copy()
 }
 
-/// The core of these declarations and exports.
+/// Returns the core with these declarations and exports.
 fn core_of(
     module: &Module,
     decls: Vec<Decl>,
@@ -398,7 +400,7 @@ fn core_of(
     })
 }
 
-/// What is told for an answer of the phases: the core of what is resolved, or the faults.
+/// Returns the core or the faults for a result of the phases.
 fn outcome_of(
     alloc: Global,
     module: &Module,
@@ -419,7 +421,7 @@ fn outcome_of(
     }
 }
 
-/// The core of a module, or its faults, where there is memory.
+/// Returns the core of a module or its faults, unless memory runs out.
 fn core_or_faults(
     alloc: Global,
     prelude: &SharedPrelude,
@@ -434,8 +436,14 @@ fn core_or_faults(
     outcome_of(alloc, module, prelude, imports, answer)
 }
 
-/// The core of a module for the interfaces of its imports but Prelude, each once, in order of first import; or all faults of the first phase
-/// that has any. The phases: imports; declaration lists; exports; names and patterns; numbers of arguments and recursive synonyms.
+/// Resolves a module for the interfaces of its imports.
+///
+/// `imports` has the interface of each imported module except Prelude, each once, in order of first import.
+///
+/// # Errors
+///
+/// `Faults` with all faults of the first phase that has any, and `Memory` if memory ran out. The phases are, in order: imports; declaration
+/// lists; exports; names and patterns; numbers of arguments and recursive synonyms.
 pub fn scope(alloc: Global, module: &Module, imports: &[Arc<Interface>]) -> Result<Core, ScopeFault>
     requires imports { AreImportsOf «module».now (map arc_value imports.now) }
     ensures core { IfOk result (λ c. IsCore «module».now (prelude_interface ∷ map arc_value imports.now) c) }
@@ -447,8 +455,8 @@ pub fn scope(alloc: Global, module: &Module, imports: &[Arc<Interface>]) -> Resu
     }
 }
 
-/// The same, with a Prelude that was made before, and limits of the types that synonyms stand for. What would pass one is refused for want of
-/// memory.
+/// Does what `scope` does, with a Prelude made before, and with limits for the types that synonyms stand for. A type above a limit is refused
+/// with `Memory`.
 pub fn scope_within(
     alloc: Global,
     prelude: &SharedPrelude,

@@ -1,4 +1,4 @@
--- The publications of a build as a list: what look-ups see of it.
+-- The publications of a build as a list, which look-ups read.
 use Rattle.std.specs.Prelude.{◌≡◌, ℕ, suc, ◌<◌, ◌≤◌, List, [], ◌∷◌, ◌++◌, length, map, Option, Some, None, Result, Ok, Err, All, Contains, slice_get, slice_index_or}
 use base.Stored.{Coded, Coded-set}
 use Rattle.std.specs.Coded.{codes}
@@ -22,7 +22,7 @@ pub record Listing : Type 0 where
   pub build : Build
   pub published : List Publication
 
--- of each publication among these entries, of which the first has this number: its module, and its own number
+-- the publications among these entries, of which the first has the number `n`: of each its module and its place
 abbrev pub publications_in : ℕ → List Entry → List (ℕ × ℕ)
 publications_in at [] = []
 publications_in at (Claim w m ∷ es) = publications_in (suc at) es
@@ -30,12 +30,12 @@ publications_in at (Publish w m ∷ es) = (m, at) ∷ publications_in (suc at) e
 publications_in at (Fail w m ∷ es) = publications_in (suc at) es
 publications_in at (Stop w ∷ es) = publications_in (suc at) es
 
--- these are the publications of the journal, in order, each with the outcome that is kept of its module
+-- these are the publications of the journal, in order, each with the outcome of its module
 pub record ArePublications (b : Build) (ps : List Publication) : Type 0 where
   pub entries : map (λ p. (p.number, p.place)) ps ≡ publications_in 0 b.journal
   pub outcomes : All (λ p. kept_at b.kept p.number ≡ Some p.outcome) ps
 
--- and so the interfaces in the list are the published ones, and no publication stands behind the journal's end
+-- the list has the publications of the journal. So its interfaces are the published ones, and no publication is after the journal's end
 pub record IsListed (b : Build) (ps : List Publication) : Type 0 where
   pub are : ArePublications b ps
   pub same : (m : ℕ) → interface_in ps m ≡ interface_at b.kept m
@@ -46,33 +46,33 @@ pub record IsBuildOf (subjects : List Module) (plan : List (List ℕ)) (b : Buil
   pub modules : b.modules ≡ subjects
   pub imports : b.given.imports ≡ plan
 
--- each import of the module that a claim got is published in this list
+-- the list has a publication for each import of the claimed module
 abbrev pub HasImports : List (List ℕ) → Turn → List Publication → Type 0
 HasImports plan (turn.Job m) ps = (k : ℕ) → Edge plan m k → IsPublishedIn ps k
 HasImports plan turn.Done ps = Unit {0}
 
--- the module that a claim got is one of so many
+-- the number of the claimed module is below n
 abbrev pub IsWithin : ℕ → Turn → Type 0
 IsWithin n (turn.Job m) = m < n
 IsWithin n turn.Done = Unit {0}
 
--- this publication is in the list
+-- the list has this publication
 abbrev pub HasPublication : List Publication → ℕ → ℕ → Checked → Type 0
 HasPublication ps m place c = Contains ps (record { number = m; place = place; outcome = c })
 
--- the outcome is that of module m, for the interfaces that this list has of the modules that the plan says it imports
+-- the outcome is that of module m, for the interfaces that the list has of the modules that it imports by the plan
 pub record IsOfSeen (subjects : List Module) (plan : List (List ℕ)) (ps : List Publication) (m : ℕ) (c : Checked) : Type 0 where
   pub subject : slice_get subjects m ≡ Some c.«module»
   pub imports : map (λ f. Some f) c.imports ≡ map (interface_in ps) (slice_index_or plan m [])
 
--- the reason that the build object has for an answer: for want of memory it has none
+-- the build object's reason for this reply; it has none for `Memory`
 abbrev pub reason_of : Result (Unit {0}) (Refusal × Checked) → Option Refusal
 reason_of (Ok _) = None
 reason_of (Err (NotYours, d)) = Some NotYours
 reason_of (Err (Stranger, d)) = Some Stranger
 reason_of (Err (Memory, d)) = None
 
--- at one point of the build of these modules with this plan, its journal is legal, and the build object has this reason for the answer to worker w
+-- at one point of a build of these modules with this plan, the journal is legal, and the build object has this reason for its reply to worker w
 pub record IsAnswered (subjects : List Module) (plan : List (List ℕ)) (w m : ℕ) (c : Checked) (r : Result (Unit {0}) (Refusal × Checked)) : Type 0 where
   pub build : Build
   pub same : IsBuildOf subjects plan build
@@ -83,14 +83,14 @@ pub record IsAnswered (subjects : List Module) (plan : List (List ℕ)) (w m : �
 abbrev pub published_after : Listing → ℕ → ℕ → Checked → Listing
 published_after l w m c = record { build = with_kept l.build m c (Publish w m); published = l.published ++ record { number = m; place = length l.build.journal; outcome = c } ∷ [] }
 
--- a publication for look-ups and in the build; or nothing changes and the outcome comes back, also where there was no memory
+-- the module is published in the list and in the build; or nothing changes and the outcome is returned, also if memory ran out
 abbrev pub Settled : Listing → ℕ → ℕ → Checked → Listing → Result (Unit {0}) (Refusal × Checked) → Type 0
 Settled l w m c l' (Ok _) = Refuses l.build w m c None × (l' ≡ published_after l w m c)
 Settled l w m c l' (Err (Memory, d)) = Refuses l.build w m c None × (l' ≡ l) × (d ≡ c)
 Settled l w m c l' (Err (NotYours, d)) = Refuses l.build w m c (Some NotYours) × (l' ≡ l) × (d ≡ c)
 Settled l w m c l' (Err (Stranger, d)) = Refuses l.build w m c (Some Stranger) × (l' ≡ l) × (d ≡ c)
 
--- a failure in the build, which keeps the publications; or nothing changes and the outcome comes back
+-- the module fails in the build, and the publications stay the same; or nothing changes and the outcome is returned
 abbrev pub FailsIn : Listing → ℕ → ℕ → Checked → Listing → Result (Unit {0}) (Refusal × Checked) → Type 0
 FailsIn l w m c l' (Ok _) = Refuses l.build w m c None × (l' ≡ record { build = with_kept l.build m c (Fail w m); published = l.published })
 FailsIn l w m c l' (Err r) = Refuses l.build w m c (Some r.0) × (l' ≡ l) × (r.1 ≡ c)

@@ -1,4 +1,4 @@
-//! Passes for the workers that share a store.
+//! Makes the passes of the workers that share a store.
 ghost use Rattle.std.specs.Prelude.{◌≡◌, ◌<◌, ◌^◌, [], ℕ, All, IfOk, slice_index_or, vec_len};
 ghost use Rattle.hm_shared.specs.Passes.{calls_of, room_of, seen_of, share_of, worker_of};
 
@@ -10,7 +10,7 @@ use std::sync::Wait;
 use std::sync::ledger::{Ledger, Share};
 use thiserror::Error;
 
-/// How many workers a build has, and how many calls each of them may make.
+/// The number of workers of a build, and the number of calls that each may make.
 #[derive(Clone, Copy, Debug)]
 pub struct Crew {
     pub workers: usize,
@@ -23,7 +23,7 @@ pub enum SharedFault {
     /// Memory ran out.
     #[error("no memory")]
     Memory,
-    /// No reader was made of what is published.
+    /// No reader of the published interfaces could be made.
     #[error("no reader")]
     NoReader,
 }
@@ -39,7 +39,7 @@ impl From<AllocError> for SharedFault {
     }
 }
 
-/// A pass for each worker, with one part of the ledger each.
+/// Returns a pass for each worker, each with its part of the ledger.
 pub(crate) fn deal<L: Ledger + Naming, R: Wait + Drop>(
     alloc: Global,
     crew: Crew,

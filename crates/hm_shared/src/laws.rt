@@ -1,22 +1,22 @@
-//! What holds of whoever holds the lock, and of what passes have seen.
+//! Laws of the lock and of passes.
 ghost use Rattle.hm_shared.specs.Laws.{SeenAreAskedFor};
 ghost use Rattle.hm_shared.specs.Worked.{ClaimRow, ListingRow, PublishRow, SeenRow};
 
 use hm_verdicts::steps_settle_a_set;
 
-/// Whoever holds the lock and a pass learns how the published interfaces that the pass has seen stand to those of the lock.
+/// Under the lock: the publications that a pass has seen are a prefix of the store's, or the other way round.
 pub use crate::shared::meet;
 
-/// In a lawful set, the interfaces that a lawful list has of a module's imports are those that the module asks for. So a check of a module that a
-/// worker has claimed isn't refused for its imports.
+/// In a lawful set, the interfaces that a lawful list has of a module's imports are those that the module requires. So the check of a claimed
+/// module isn't refused with `Imports`.
 pub fn seen_imports_are_asked_for()
     ensures { SeenAreAskedFor }
 {
     steps_settle_a_set();
 }
 
-/// Worked lists: which publications are those of a journal; what a worker that claimed has seen; what a publication changes; and which outcome is
-/// one of what was seen.
+/// Worked examples of lists: the publications of a journal; what a worker has seen after a claim; what a publication changes; and which outcomes
+/// fit the list.
 pub fn worked_listings()
     ensures listings { ListingRow }
     ensures claims { ClaimRow }

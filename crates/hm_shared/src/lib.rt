@@ -1,4 +1,6 @@
-//! The store of a build behind a lock, for workers that have a pass each, in which their answered calls are written down. Look-ups take no lock.
+//! The store of a build behind a lock, shared by its workers.
+//!
+//! Each worker has a [`Pass`], which records its calls. The calls of [`Shared`] take the lock. Look-ups are calls of the pass, and take no lock.
 #![tactic(auto)]
 
 mod dealing;

@@ -16,8 +16,8 @@ use left_right::WriteHandle;
 use std::marker::Model;
 use std::sync::Wait;
 
-/// A store, and the list of its publications. Its type keeps that they are those of the journal, and that the store is the one that
-/// the name tells: of the same modules, with the same plan.
+/// A store with the list of its publications. The type guarantees that they are those of the journal, and that the store has the modules and the
+/// plan of the ghost name.
 #[derive(Drop)]
 pub struct Listed<J: Naming> {
     store: Store,
@@ -41,7 +41,7 @@ impl<J: Naming> Model for Listed<J> {
 }
 
 impl<J: Naming> Listed<J> {
-    /// A store in which nothing is published, with a list without publications.
+    /// Returns the list for a store in which nothing is published.
     pub(crate) fn new(store: Store, front: Front<J>, history: History<J>) -> Listed<J>
         requires listed { IsListed store front }
         requires build { IsBuildOf J.modules J.plan store }
@@ -54,7 +54,7 @@ impl<J: Naming> Listed<J> {
         }
     }
 
-    /// The store.
+    /// Returns the store.
     pub fn store(&self) -> &Store
         ensures store { result.now ≡ self.now.build }
         ensures listed { IsListed self.now.build self.now.published }
@@ -63,7 +63,7 @@ impl<J: Naming> Listed<J> {
         &self.store
     }
 
-    /// The store alone.
+    /// Returns the store by value.
     pub(crate) fn into_store(self) -> Store
         ensures store { result ≡ self.build }
         ensures build { IsBuildOf J.modules J.plan result }
@@ -113,14 +113,14 @@ impl<J: Naming> Listed<J> {
         Ok(())
     }
 
-    /// What look-ups see of it.
+    /// Returns the list that look-ups read.
     pub(crate) fn front(&self) -> &Front<J>
         ensures { result.now ≡ self.now.published }
     {
         &self.front
     }
 
-    /// Tells that a module is faulty.
+    /// Fails a module.
     pub(crate) fn fail(
         &mut self,
         worker: usize,

@@ -1,4 +1,4 @@
-//! What a worker makes its calls with, and how these are written down.
+//! Passes, with which workers make their calls, and the recording of these calls.
 ghost use Rattle.std.specs.Prelude.{◌≡◌, ◌≤◌, ◌<◌, ◌+◌, ◌⊎◌, true, [], ◌∷◌, ◌++◌, ◌^◌, All, max, IfOk, IfErr, Err, Some, length, map, option_map, vec_len, vec_capacity};
 ghost use Rattle.std.specs.Arc.{arc_value};
 ghost use mathlib.Core.List.{IsPrefix};
@@ -14,7 +14,7 @@ use std::alloc::{AllocError, Global};
 use std::sync::Arc;
 use std::sync::ledger::{Book, Ledger, Share};
 
-/// What a worker makes its calls with: its record so far, and the room for calls that it has left.
+/// A worker's access to the shared store: its record so far, and the number of calls that it may still make.
 #[derive(Drop)]
 pub struct Pass<L: Ledger + Naming> {
     record: Record,
@@ -34,7 +34,7 @@ pub struct Pass<L: Ledger + Naming> {
 impl<L: Ledger + Naming> Pass<L> {
     ghost use Rattle.hm_shared.specs.Passes.{calls_of, room_of, seen_of, share_of, worker_of};
 
-    /// A pass with an empty record.
+    /// Returns a pass with an empty record.
     pub(crate) fn new(
         alloc: Global,
         worker: usize,
@@ -60,7 +60,7 @@ impl<L: Ledger + Naming> Pass<L> {
         })
     }
 
-    /// Writes down a call that wrote an entry.
+    /// Records a call that wrote an entry.
     #[tactic(auto, using(crate::proofs::Calls::rises_more, crate::proofs::Calls::knows_more, crate::proofs::Calls::wrote_more))]
     pub(crate) fn wrote(&mut self, book: &mut Book<L>, entries: usize, act: Act)
         requires room { 0 < room_of self.old }
@@ -80,7 +80,7 @@ impl<L: Ledger + Naming> Pass<L> {
         self.room -= 1;
     }
 
-    /// Writes down a call that wrote none.
+    /// Records a call that wrote no entry.
     #[tactic(auto, using(crate::proofs::Calls::rises_more, crate::proofs::Calls::knows_more, crate::proofs::Calls::wrote_more))]
     pub(crate) fn read(&mut self, entries: usize, act: Act)
         requires room { 0 < room_of self.old }
@@ -98,7 +98,7 @@ impl<L: Ledger + Naming> Pass<L> {
         self.room -= 1;
     }
 
-    /// Is told of these publications, too. Nothing is written down.
+    /// Adds these publications to those that the pass has seen. Records nothing.
     pub(crate) fn learn(&mut self, front: &Front<L>)
         ensures kept { IsPrefix (seen_of self.old) (seen_of self.new) }
         ensures told { IsPrefix front.now (seen_of self.new) }
@@ -110,21 +110,22 @@ impl<L: Ledger + Naming> Pass<L> {
         self.reader.learn(front);
     }
 
-    /// Compares what the pass has seen with these publications: one of the two lists begins the other.
+    /// Shows that the publications that the pass has seen are a prefix of these, or the other way round.
     pub(crate) fn beside(&self, front: &Front<L>)
         ensures { IsPrefix (seen_of self.now) front.now ⊎ IsPrefix front.now (seen_of self.now) }
     {
         self.reader.beside(front);
     }
 
-    /// Looks for the interface of a module in what is published: in all that the pass has seen or was told of, and perhaps more. The answer is
-    /// `None` if the module isn't published there. The call is written down with what it found. It has no lock and no handle of the runtime
-    /// within reach, so it waits for nobody.
+    /// Looks up the interface of a module among the published ones: all that the pass has seen, and perhaps more. Returns `None` if the module
+    /// isn't published there.
+    ///
+    /// Records the call with what it found. Takes no lock and no handle of the runtime, so it never waits.
     ///
     /// # Errors
     ///
-    /// - `NoEntry` if the reader isn't let in, or meets a copy that is behind what the pass was told. A build meets neither.
-    /// - `Memory` if the copy of an `Arc` was refused.
+    /// - `NoEntry` if the reader isn't admitted, or reads a copy older than what the pass has seen. A build meets neither.
+    /// - `Memory` if an `Arc` couldn't be copied.
     pub fn look(&mut self, number: usize) -> Result<Option<Arc<Interface>>, LookFault>
         requires { 0 < room_of self.old }
         ensures list { IsPrefix (seen_of self.old) (seen_of self.new) }
@@ -151,8 +152,7 @@ impl<L: Ledger + Naming> Pass<L> {
         Ok(interface)
     }
 
-    /// Looks for the interface of a module whose publication the pass has seen, so there is one. It waits for nobody, and has the errors of
-    /// `look`.
+    /// Looks up the interface of a module whose publication the pass has seen, so it always finds one. Never waits. Returns the errors of `look`.
     #[tactic(auto, using(crate::proofs::Listing::found_if_published, crate::proofs::Listing::same_if_published))]
     pub fn look_at_seen(&mut self, number: usize) -> Result<Arc<Interface>, LookFault>
         requires room { 0 < room_of self.old }
@@ -171,8 +171,8 @@ impl<L: Ledger + Naming> Pass<L> {
         }
     }
 
-    /// Looks for the interfaces of these modules, in order. The pass has seen the publication of each, so there is one. It waits for nobody, and
-    /// has the errors of `look`, with `Memory` also if the list can't grow.
+    /// Looks up the interfaces of these modules, in order. The pass has seen the publication of each, so it always finds them. Never waits.
+    /// Returns the errors of `look`; `Memory` also if the list can't grow.
     pub fn look_at_all(
         &mut self,
         alloc: Global,
@@ -197,21 +197,21 @@ impl<L: Ledger + Naming> Pass<L> {
         Ok(interfaces)
     }
 
-    /// The worker's number.
+    /// Returns the worker's number.
     pub fn worker(&self) -> usize
         ensures { result ≡ worker_of self.now }
     {
         self.record.worker
     }
 
-    /// How many calls can still be made with it.
+    /// Returns the number of calls that can still be made with this pass.
     pub fn room(&self) -> usize
         ensures { result ≡ room_of self.now }
     {
         self.room
     }
 
-    /// The record, and the share of the ledger that counts the journal entries that its calls wrote.
+    /// Returns the record, and the ledger's share that counts the journal entries of its calls.
     pub fn into_record(self) -> (Record, Share<L>)
         ensures worker { result.0.worker ≡ worker_of self }
         ensures calls { result.0.calls.items ≡ calls_of self }

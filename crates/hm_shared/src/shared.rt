@@ -1,4 +1,4 @@
-//! The store behind a lock, for workers that have a pass each.
+//! The store behind a lock, for workers with a pass each.
 ghost use Rattle.std.specs.Prelude.{◌≡◌, ◌≢◌, ◌≤◌, ◌<◌, ◌+◌, ◌^◌, ◌⊎◌, [], ◌∷◌, ◌++◌, All, max, length, not, vec_len, IfOk, IfErr, IfSome, IfNone, ℕ, slice_index_or};
 ghost use mathlib.Core.List.{IsPrefix};
 ghost use Rattle.hm_outcomes.specs.Outcomes.{IsGood};
@@ -23,8 +23,7 @@ use std::alloc::Global;
 use std::sync::ledger::{Blank, Book, Ledger};
 use std::sync::{Condvar, Mutex, Wait};
 
-/// What the lock keeps: the store with the list of its publications, the book whose total is the number of its entries, and what look-ups read,
-/// in which that list is published.
+/// The data behind the lock: the store with the list of its publications, the book that counts its entries, and the copies that look-ups read.
 #[derive(Drop)]
 pub struct Locked<L: Ledger + Naming, R: Wait + Drop>
 where
@@ -37,15 +36,16 @@ where
     ghost same: { published pages ≡ listed.published } by { one_way (published pages) listed.published },
 }
 
-/// What takes the name of a build: the ledger of its journal's entries, and the list of its publications, both still empty.
+/// The ghost tokens that name a build: the ledger of its journal and the list of its publications, both empty.
 #[derive(Drop)]
 pub struct Brands {
     pub blank: Blank,
     pub opened: Opened,
 }
 
-/// The store behind a lock, shared by the workers of a build. Each call takes the lock, and is written down in the worker's pass. Look-ups take
-/// no lock: they are calls of the pass alone.
+/// The store behind a lock, shared by the workers of a build.
+///
+/// Each call takes the lock, and records itself in the worker's pass. Look-ups take no lock: they are calls of the pass alone.
 #[derive(Drop)]
 pub struct Shared<L: Ledger + Naming, R: Wait + Drop>
 where
@@ -56,7 +56,7 @@ where
 }
 
 impl<L: Ledger + Naming, R: Wait + Drop> Locked<L, R> {
-    /// What holds of the store and of a pass while the lock is held.
+    /// Shows how the store and a pass relate while the lock is held.
     fn beside(&self, pass: &Pass<L>)
         ensures legal { IsLegal self.now.listed.build }
         ensures listed { IsListed self.now.listed.build self.now.listed.published }
@@ -67,7 +67,7 @@ impl<L: Ledger + Naming, R: Wait + Drop> Locked<L, R> {
         pass.beside(self.listed.front());
     }
 
-    /// Claims a module and writes it down; None where the worker has to wait.
+    /// Claims a module and records the call. Returns `None` if the worker has to wait.
     fn claim_next(&mut self, pass: &mut Pass<L>) -> Option<Turn>
         requires { 0 < room_of pass.old }
         ensures reply { replied result ≡ reply_of self.old.listed.build.given (state_of self.old.listed.build) }
@@ -99,7 +99,7 @@ impl<L: Ledger + Naming, R: Wait + Drop> Locked<L, R> {
         }
     }
 
-    /// Publishes and writes it down.
+    /// Publishes and records the call.
     fn publish_one(
         &mut self,
         pass: &mut Pass<L>,
@@ -129,7 +129,7 @@ impl<L: Ledger + Naming, R: Wait + Drop> Locked<L, R> {
         Ok(())
     }
 
-    /// Tells of a failure and writes it down.
+    /// Fails a module and records the call.
     #[tactic(auto, using(crate::proofs::Listing::fails_without_memory))]
     fn fail_one(
         &mut self,
@@ -156,7 +156,7 @@ impl<L: Ledger + Naming, R: Wait + Drop> Locked<L, R> {
         Ok(())
     }
 
-    /// Stops the build and writes it down.
+    /// Stops the build and records the call.
     fn stop_all(&mut self, pass: &mut Pass<L>) -> bool
         requires { 0 < room_of pass.old }
         ensures reply { result ≡ not (state_of self.old.listed.build).stopped }
@@ -181,7 +181,7 @@ impl<L: Ledger + Naming, R: Wait + Drop> Locked<L, R> {
         first
     }
 
-    /// Claims a module, writes it down, and meets; None where the worker has to wait.
+    /// Claims a module, records the call, and shows the pass all publications. Returns `None` if the worker has to wait.
     fn claim(&mut self, pass: &mut Pass<L>) -> Option<Turn>
         requires { 0 < room_of pass.old }
         ensures reply { replied result ≡ reply_of self.old.listed.build.given (state_of self.old.listed.build) }
@@ -205,7 +205,7 @@ impl<L: Ledger + Naming, R: Wait + Drop> Locked<L, R> {
         Some(turn)
     }
 
-    /// Publishes, writes it down, and meets.
+    /// Publishes, records the call, and shows the pass all publications.
     fn publish(
         &mut self,
         pass: &mut Pass<L>,
@@ -240,7 +240,7 @@ impl<L: Ledger + Naming, R: Wait + Drop> Locked<L, R> {
         }
     }
 
-    /// Tells of a failure, writes it down, and meets.
+    /// Fails a module, records the call, and shows the pass all publications.
     fn fail(
         &mut self,
         pass: &mut Pass<L>,
@@ -273,7 +273,7 @@ impl<L: Ledger + Naming, R: Wait + Drop> Locked<L, R> {
         }
     }
 
-    /// Stops the build, writes it down, and meets.
+    /// Stops the build, records the call, and shows the pass all publications.
     fn stop(&mut self, pass: &mut Pass<L>) -> bool
         requires { 0 < room_of pass.old }
         ensures reply { result ≡ not (state_of self.old.listed.build).stopped }
@@ -295,12 +295,12 @@ impl<L: Ledger + Naming, R: Wait + Drop> Locked<L, R> {
     }
 }
 
-/// What ends each hold of the lock: the pass sees all publications that the store's journal has. Nothing is written down.
+/// Shows the pass all publications of the store. This ends each hold of the lock, and records nothing.
 pub fn meet<L: Ledger + Naming, R: Wait + Drop>(locked: &mut Locked<L, R>, pass: &mut Pass<L>)
     ensures kept { IsPrefix (seen_of pass.old) (seen_of pass.new) }
     ensures told { IsPrefix locked.old.listed.published (seen_of pass.new) }
     ensures lawful { IsLawful L.modules L.plan (seen_of pass.new) }
-    // Nothing else is added: it has the longer of the two lists.
+    // The pass sees the longer of the two lists, and nothing else.
     ensures exact { (seen_of pass.new ≡ seen_of pass.old) ⊎ (seen_of pass.new ≡ locked.old.listed.published) }
     ensures record { (worker_of pass.new ≡ worker_of pass.old) × (calls_of pass.new ≡ calls_of pass.old) × (room_of pass.new ≡ room_of pass.old)
         × (share_of pass.new ≡ share_of pass.old) }
@@ -310,7 +310,11 @@ pub fn meet<L: Ledger + Naming, R: Wait + Drop>(locked: &mut Locked<L, R>, pass:
 }
 
 impl<L: Ledger + Naming, R: Wait + Drop> Shared<L, R> {
-    /// The store behind a lock, and a pass for each worker.
+    /// Returns the store behind a lock, and a pass for each worker.
+    ///
+    /// # Errors
+    ///
+    /// `Memory` if memory ran out, and `NoReader` if no reader of the published interfaces could be made.
     pub fn new(
         alloc: Global,
         rt: R,
@@ -350,7 +354,7 @@ impl<L: Ledger + Naming, R: Wait + Drop> Shared<L, R> {
         Ok((shared, passes))
     }
 
-    /// Claims a module to check, and waits while none is ready but one that is being checked may make one so.
+    /// Claims a module to check. Waits while no module is ready but a claimed one may make others ready.
     pub fn claim<W: Wait>(&self, rt: &W, pass: &mut Pass<L>) -> Turn
         requires { 0 < room_of pass.old }
         ensures adds { Adds (calls_of pass.old) (act_of result) (calls_of pass.new) }
@@ -372,11 +376,11 @@ impl<L: Ledger + Naming, R: Wait + Drop> Shared<L, R> {
         unreachable!()
     }
 
-    /// Publishes the interface of a module that this worker has claimed. Workers that wait look again.
+    /// Publishes the interface of a module that this worker has claimed, and wakes the workers that wait.
     ///
     /// # Errors
     ///
-    /// The outcome comes back, and neither store nor pass has changed. In this order:
+    /// Returns the outcome; store and pass are unchanged. In this order:
     /// - `NotYours` if the worker hasn't claimed the module.
     /// - `Stranger` if the outcome isn't of that module, or isn't for the published interfaces of its imports.
     /// - `Memory` if an allocation failed: the copy of an `Arc`, the log of operations, or the copies that readers take. If the log or the copies
@@ -398,12 +402,12 @@ impl<L: Ledger + Naming, R: Wait + Drop> Shared<L, R> {
         ensures returned { IfErr result (λ r. r.1 ≡ outcome) }
         ensures kept { IfOk result (λ _. IsPrefix (seen_of pass.old) (seen_of pass.new)) }
         ensures lawful { IfOk result (λ _. IsLawful L.modules L.plan (seen_of pass.new)) }
-        // The pass sees this publication, with its outcome and its place in the journal, where the call is written down.
+        // The pass sees this publication, with its outcome and with the place in the journal at which the call is recorded.
         ensures publication { IfOk result (λ _. (place : ℕ) × AddsAt place (calls_of pass.old) (Publish number) (calls_of pass.new)
             × HasPublication (seen_of pass.new) number place outcome) }
-        // At one point of the build, whose journal is legal, the build object has this reason for the answer; Memory is no reason of its own.
+        // At one point of the build, whose journal is legal, the build object gives this reason; it gives none for `Memory`.
         ensures answered { IsAnswered L.modules L.plan (worker_of pass.old) number outcome result }
-        // An outcome of the module, for the interfaces that the pass has seen of its imports, is no stranger.
+        // An outcome of the module for the interfaces that the pass has seen of its imports is never refused as `Stranger`.
         ensures fits { IsOfSeen L.modules L.plan (seen_of pass.old) number outcome → IfErr result (λ r. r.0 ≢ Stranger) }
         ensures seen { IfOk result (λ _. interface_in (seen_of pass.new) number ≡ interface_of outcome.verdict) }
     {
@@ -412,7 +416,7 @@ impl<L: Ledger + Naming, R: Wait + Drop> Shared<L, R> {
         reply
     }
 
-    /// Stops the build: each claim from now on is told that there is nothing left. True the first time.
+    /// Stops the build: each later claim returns `Done`. Returns true the first time.
     pub fn stop<W: Wait>(&self, rt: &W, pass: &mut Pass<L>) -> bool
         requires { 0 < room_of pass.old }
         ensures adds { Adds (calls_of pass.old) (Stop result) (calls_of pass.new) }
@@ -427,7 +431,7 @@ impl<L: Ledger + Naming, R: Wait + Drop> Shared<L, R> {
         first
     }
 
-    /// Tells that a module that this worker has claimed is faulty. Workers that wait look again.
+    /// Fails a module that this worker has claimed, and wakes the workers that wait.
     ///
     /// # Errors
     ///
@@ -450,9 +454,9 @@ impl<L: Ledger + Naming, R: Wait + Drop> Shared<L, R> {
         ensures returned { IfErr result (λ r. r.1 ≡ outcome) }
         ensures kept { IfOk result (λ _. IsPrefix (seen_of pass.old) (seen_of pass.new)) }
         ensures lawful { IfOk result (λ _. IsLawful L.modules L.plan (seen_of pass.new)) }
-        // At one point of the build, whose journal is legal, the build object has this reason for the answer; Memory is no reason of its own.
+        // At one point of the build, whose journal is legal, the build object gives this reason; it gives none for `Memory`.
         ensures answered { IsAnswered L.modules L.plan (worker_of pass.old) number outcome result }
-        // An outcome of the module, for the interfaces that the pass has seen of its imports, is no stranger.
+        // An outcome of the module for the interfaces that the pass has seen of its imports is never refused as `Stranger`.
         ensures fits { IsOfSeen L.modules L.plan (seen_of pass.old) number outcome → IfErr result (λ r. r.0 ≢ Stranger) }
     {
         let reply = self.locked.lock(rt).fail(pass, number, outcome);
@@ -460,7 +464,7 @@ impl<L: Ledger + Naming, R: Wait + Drop> Shared<L, R> {
         reply
     }
 
-    /// The store, and the book whose total is the number of its entries.
+    /// Returns the store, and the book whose total is the number of its entries.
     pub fn into_store(self) -> (Store, Book<L>)
         ensures total { result.1.total ≡ length result.0.journal }
         ensures modules { result.0.modules ≡ L.modules }

@@ -1,4 +1,4 @@
--- A build: its modules, its journal, and what was kept of each module that was checked; and what makes it a legal one.
+-- A build: its modules, its journal and the outcomes of checked modules; and when it is legal.
 use Rattle.std.specs.Prelude.{◌≡◌, ◌≢◌, ℕ, ◌<◌, Bool, true, cond, List, [], ◌∷◌, ◌++◌, length, map, replicate, Option, Some, None, Result, Ok, Err, slice_index_or, slice_get, slice_set}
 use Rattle.hm_types.specs.Interfaces.{Exports as Interface}
 use Rattle.hm_types.specs.StandardPrelude.{prelude_interface}
@@ -19,7 +19,7 @@ use Rattle.hm_store.specs.declared.object.Refusal.{Refusal}
 use Rattle.hm_store.specs.declared.object.Refusal.TheVariants.{NotYours, Stranger, Memory}
 use Rattle.hm_published.specs.Publications as publications
 
--- the modules, the plan, the journal, and for each module its outcome, where it was published or failed
+-- the modules, the plan, the journal, and for each module its outcome if it was published or failed
 pub record Build : Type 0 where
   pub modules : List Module
   pub given : Given
@@ -48,12 +48,12 @@ interface_in None = None
 abbrev pub interface_at : List (Option Checked) → ℕ → Option Interface
 interface_at kept m = interface_in (kept_at kept m)
 
--- the outcome is that of the module m for the published interfaces of its imports
+-- the outcome is that of module m for the published interfaces of its imports
 pub record IsOf (b : Build) (m : ℕ) (c : Checked) : Type 0 where
   pub subject : slice_get b.modules m ≡ Some c.«module»
   pub imports : map (λ f. Some f) c.imports ≡ map (interface_at b.kept) (imports_of b.given m)
 
--- what is kept of a module with this status: a good outcome, a faulty one, or none
+-- the outcome that a module with this status has: a good one, a faulty one, or none
 abbrev pub AgreesWith : Status → Option Checked → Type 0
 AgreesWith Waiting kept = kept ≡ None
 AgreesWith (Claimed w) kept = kept ≡ None
@@ -69,11 +69,11 @@ status_by (Faulty found) = Failed
 abbrev pub Agrees : List Status → List (Option Checked) → Type 0
 Agrees ss kept = (m : ℕ) → AgreesWith (status_at ss m) (kept_at kept m)
 
--- each outcome is of its module, with the published interfaces of the imports, and its verdict is right for these
+-- each outcome is of its module, for the published interfaces of the imports, and its verdict is right for these
 abbrev pub IsSound : Build → Type 0
 IsSound b = (m : ℕ) (c : Checked) → kept_at b.kept m ≡ Some c → IsOf b m c × IsVerdict c.«module» (prelude_interface ∷ c.imports) c.verdict
 
--- the modules are a lawful set, the journal is one that the build object allows, and what is kept is what the journal says, each with its right verdict
+-- the modules are a lawful set, the build object allows the journal, and the outcomes fit the statuses and have the right verdicts
 pub record IsLegal (b : Build) : Type 0 where
   pub lawful : IsLawfulSet (set_of b)
   pub dependents : AreDependents b.given
@@ -82,7 +82,7 @@ pub record IsLegal (b : Build) : Type 0 where
   pub agrees : Agrees (state_of b).statuses b.kept
   pub sound : IsSound b
 
--- nothing is done yet for these modules
+-- the build of these modules before any entry
 pub record IsNew (subjects : List Module) (plan : List (List ℕ)) (b : Build) : Type 0 where
   pub modules : b.modules ≡ subjects
   pub imports : b.given.imports ≡ plan
@@ -105,19 +105,19 @@ after_claim b w Done = b
 abbrev pub with_kept : Build → ℕ → Checked → Entry → Build
 with_kept b m c e = record { modules = b.modules; given = b.given; journal = b.journal ++ e ∷ []; kept = slice_set b.kept m (Some c) }
 
--- the build after a stop; the first is written down
+-- the build after a stop. Only the first stop is an entry
 abbrev pub after_stop : Build → ℕ → Bool → Build
 after_stop b w first = cond first (with_entry b (Stop w)) b
 
--- why an outcome is refused, if it is: the module isn't claimed by this worker; or the outcome is of another module, or for other interfaces. A
--- build without look-ups beside it never lacks memory
+-- why an outcome is refused, if it is: the worker hasn't claimed the module; or the outcome is for another module or for other interfaces. A
+-- store that isn't shared never returns `Memory`
 abbrev pub Refuses : Build → ℕ → ℕ → Checked → Option Refusal → Type 0
 Refuses b w m c (Some NotYours) = status_at (state_of b).statuses m ≢ Claimed w
 Refuses b w m c (Some Stranger) = (status_at (state_of b).statuses m ≡ Claimed w) × ¬ IsOf b m c
 Refuses b w m c (Some Memory) = ⊥
 Refuses b w m c None = (status_at (state_of b).statuses m ≡ Claimed w) × IsOf b m c
 
--- a publication or a failure is a step of the build object, or nothing changes and the outcome comes back
+-- a publication or a failure is a step of the build object, or nothing changes and the outcome is returned
 abbrev pub Settles : Build → ℕ → ℕ → Checked → Entry → Build → Result (Unit {0}) (Refusal × Checked) → Type 0
 Settles b w m c e b' (Ok _) = Refuses b w m c None × (b' ≡ with_kept b m c e)
 Settles b w m c e b' (Err r) = Refuses b w m c (Some r.0) × (b' ≡ b) × (r.1 ≡ c)

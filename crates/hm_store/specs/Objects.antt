@@ -1,4 +1,4 @@
--- The build object: what it knows, its replies and its steps. It is sequential: what several workers do at the same time is told by one list of its steps.
+-- The build object: its states, replies and steps. It is sequential: one list of its steps describes what several workers do at the same time.
 use Rattle.std.specs.Prelude.{◌≡◌, ◌&&◌, ℕ, zero, suc, Bool, true, false, cond, List, [], ◌∷◌, length, take, count_by, replicate, fold, Option, Some, None, slice_index_or, slice_set}
 use Rattle.std.specs.List.{list_any, list_all}
 use Rattle.hm_store.specs.Plans.{Given, imports_of, dependents_of}
@@ -14,7 +14,7 @@ pub record State : Type 0 where
   pub statuses : List Status
   pub stopped : Bool
 
--- no module is past the last
+-- a number that no module has counts as skipped
 abbrev pub status_at : List Status → ℕ → Status
 status_at ss m = slice_index_or ss m Skipped
 
@@ -51,7 +51,7 @@ abbrev pub or_here : Option ℕ → Bool → ℕ → Option ℕ
 or_here (Some k) here n = Some k
 or_here None here n = cond here (Some n) None
 
--- the least number below n with p
+-- the least number below n for which p holds
 abbrev pub least_below : (ℕ → Bool) → ℕ → Option ℕ
 least_below p zero = None
 least_below p (suc n) = or_here (least_below p n) (p n) n
@@ -64,18 +64,18 @@ abbrev pub job_or : Option ℕ → Bool → Reply
 job_or (Some m) later = Job m
 job_or None later = cond later Later Done
 
--- The reply to a claim: after a stop that there is no more to do; else the least module that is ready; else to come later while a module is claimed; else that there is no more to do
+-- the reply to a claim: `Done` after a stop; else the least ready module; else `Later` while a module is claimed; else `Done`
 abbrev pub reply_of : Given → State → Reply
 reply_of g s = cond s.stopped Done (job_or (least_below (is_ready g s.statuses) (length s.statuses)) (list_any is_claimed s.statuses))
 
--- a module that waits is skipped
+-- skips a module if it waits
 abbrev pub skip : List Status → ℕ → List Status
 skip ss k = cond (is_waiting (status_at ss k)) (slice_set ss k Skipped) ss
 
 abbrev pub skip_all : List Status → List ℕ → List Status
 skip_all ss ks = fold skip ss ks
 
--- the state after an entry; with a failure all that depends on the module is skipped
+-- the state after an entry. A failure skips all modules that depend on the failed one
 abbrev pub after : Given → State → Entry → State
 after g s (Claim w m) = record { statuses = slice_set s.statuses m (Claimed w); stopped = s.stopped }
 after g s (Publish w m) = record { statuses = slice_set s.statuses m Published; stopped = s.stopped }
@@ -88,11 +88,12 @@ is_publication (Publish w m) = true
 is_publication (Fail w m) = false
 is_publication (Stop w) = false
 
--- how many publications there are among the first `at` entries
+-- the number of publications among the first `at` entries
 abbrev pub publications : List Entry → ℕ → ℕ
 publications es at = count_by is_publication (take at es)
 
--- what the object allows in a state: a claim that it replies with, what comes of a claim of this worker, and the first stop
+-- the entries that the object allows in a state: a claim that is its reply, a publication or failure by the worker that claimed the module, and
+-- the first stop
 abbrev pub Allowed : Given → State → Entry → Type 0
 Allowed g s (Claim w m) = reply_of g s ≡ Job m
 Allowed g s (Publish w m) = status_at s.statuses m ≡ Claimed w

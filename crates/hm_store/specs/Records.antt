@@ -1,4 +1,4 @@
--- What a worker writes down of its calls, and in which order.
+-- The records of workers: which calls they list, and in which order.
 use Rattle.std.specs.Prelude.{◌≡◌, ◌&&◌, ℕ, ◌+◌, ◌≤◌, Bool, true, cond, nat_le, List, [], ◌∷◌, ◌++◌, max, sum_by, Option, Some, None}
 use Rattle.hm_store.specs.declared.object.Turn.{Turn}
 use Rattle.hm_store.specs.declared.object.Turn.TheVariants as turn
@@ -8,7 +8,7 @@ use Rattle.hm_store.specs.declared.record.Act.{Act}
 use Rattle.hm_store.specs.declared.record.Act.TheVariants.{Job, Done, Publish, Fail, Stop, Look}
 use Rattle.hm_store.specs.declared.record.Call.{Call}
 
--- how many entries of the journal a call wrote
+-- the number of journal entries that a call writes
 abbrev pub wrote : Act → ℕ
 wrote (Job m) = 1
 wrote Done = 0
@@ -20,34 +20,34 @@ wrote (Look m found) = 0
 abbrev pub wrote_in : List Call → ℕ
 wrote_in cs = sum_by (λ c. wrote c.act) cs
 
--- how many entries there are at least, after a call
+-- the least number of entries that the journal has after a call
 abbrev pub known_after : Call → ℕ
 known_after c = c.at + wrote c.act
 
--- how many entries a worker knows of after its calls, when it knew of n before
+-- the same after several calls, if it was n before them
 abbrev pub knows : ℕ → List Call → ℕ
 knows n [] = n
 knows n (c ∷ cs) = knows (known_after c) cs
 
--- no call has its place before what its worker knew
+-- the places of the calls never go back, from n on
 abbrev pub rises : ℕ → List Call → Bool
 rises n [] = true
 rises n (c ∷ cs) = nat_le n c.at && rises (known_after c) cs
 
--- one call more, with this reply, at a place that isn't before what the worker knew
+-- the record grows by one call with this reply, whose place doesn't go back
 abbrev pub Adds : List Call → Act → List Call → Type 0
 Adds cs a ds = (at : ℕ) × (knows 0 cs ≤ at) × (ds ≡ cs ++ record { at = at; act = a } ∷ [])
 
--- one call more, with this reply: at as many entries as there were, or as the worker knew, whichever is more
+-- the record grows by one call with this reply, at the larger of this number and the place that the worker has reached
 abbrev pub AddsAt : ℕ → List Call → Act → List Call → Type 0
 AddsAt n cs a ds = ds ≡ cs ++ record { at = max n (knows 0 cs); act = a } ∷ []
 
--- what is written down of the answer to a claim
+-- the recorded call for this reply to a claim
 abbrev pub act_of : Turn → Act
 act_of (turn.Job m) = Job m
 act_of turn.Done = Done
 
--- the object's reply to the claim of a worker that got this answer, or was told to wait
+-- the build object's reply to the claim of a worker that got this turn, or that waits
 abbrev pub replied : Option Turn → Claimed
 replied (Some (turn.Job m)) = claimed.Job m
 replied (Some turn.Done) = claimed.Done

@@ -1,4 +1,4 @@
--- What a finished build came to, in the words of the verdicts of sets.
+-- The result of a finished build, as settlements of its set.
 use Rattle.std.specs.Prelude.{ℕ, Option, Some, None}
 use Rattle.hm_verdicts.specs.ModuleVerdicts.{Verdict, Good, Faulty}
 use Rattle.hm_verdicts.specs.Verdicts.{Status as Settlement, Published, Failed, Skipped, IsSettled}
@@ -13,11 +13,11 @@ abbrev pub settlement_with : Option Checked → Settlement
 settlement_with (Some c) = settlement_by c.verdict
 settlement_with None = Skipped
 
--- how module number m was settled: by the outcome that is kept of it; without one it was skipped
+-- how module number m is settled: by its outcome, or skipped if it has none
 abbrev pub settlement : Build → ℕ → Settlement
 settlement b m = settlement_with (kept_at b.kept m)
 
--- Law: where each module of a legal build is settled, they are settled by the published interfaces of their imports, and a skipped one has an
+-- law: if all modules of a legal build are settled, they are settled by the published interfaces of their imports, and each skipped module has an
 -- import that isn't published
 abbrev pub SettledBuildIsSettled : Type 0
 SettledBuildIsSettled = (b : Build) → IsLegal b → IsAllSettled b → IsSettled (set_of b) (settlement b)

@@ -1,4 +1,4 @@
--- What a store keeps in its fields. No public clause names these.
+-- The fields of a store. No public clause names these.
 use Rattle.std.specs.Prelude.{◌≡◌, ℕ, ◌+◌, ◌<◌, ◌≤◌, ◌^◌, Bool, cond, List, length, map, sum_by}
 use Rattle.std.specs.Vec.{vec_capacity}
 use Rattle.std.specs.Arc.{arc_value}
@@ -9,7 +9,7 @@ use Rattle.hm_store.specs.declared.object.Status.{Status}
 use Rattle.hm_store.specs.declared.object.Status.TheVariants.{Waiting, Claimed, Published, Failed, Skipped}
 use Rattle.hm_store.specs.declared.store.Store.TheInside.{Inside}
 
--- entries that may still come for a module
+-- the number of entries that may still come for a module
 abbrev pub left_for : Status → ℕ
 left_for Waiting = 2
 left_for (Claimed w) = 1
@@ -20,7 +20,7 @@ left_for Skipped = 0
 abbrev pub left_in : List Status → ℕ
 left_in ss = sum_by left_for ss
 
--- a legal build, the state after its journal in a table, and room for the entries that may still come
+-- a legal build, with the state after its journal, and with room for the entries that may still come
 pub record Holds (b : Build) (ss : List Status) (stopped : Bool) (room : ℕ) : Type 0 where
   pub legal : IsLegal b
   pub state : state_of b ≡ record { statuses = ss; stopped = stopped }
@@ -30,7 +30,7 @@ pub record Holds (b : Build) (ss : List Status) (stopped : Bool) (room : ℕ) : 
 abbrev pub build : Inside → Build
 build s = record { modules = map arc_value s.modules.items; given = record { imports = s.plan; dependents = dependents_in s.plan }; journal = s.journal.items; kept = s.outcomes.items }
 
--- the fields hold a legal build, and the counts and the ready modules are those of its statuses
+-- the fields have a legal build, and the counts and the ready modules match its statuses
 pub record IsKept (s : Inside) : Type 0 where
   pub holds : Holds (build s) s.statuses.items s.stopped (vec_capacity s.journal)
   pub search_of : length s.search ≡ length s.plan

@@ -1,4 +1,4 @@
--- Worked builds, and what is said of them.
+-- Worked examples of builds.
 use Rattle.std.specs.Prelude.{◌≡◌, ◌≢◌, ℕ, false, List, [], ◌∷◌, ◌++◌, Option, None, Some, Ok, Err, slice_get, slice_set}
 use Rattle.std.specs.Arc.{arc_value}
 use Rattle.std.specs.declared.alloc.Global.{Global}
@@ -39,7 +39,7 @@ four = record { imports = [] ∷ (0 ∷ 2 ∷ []) ∷ [] ∷ (1 ∷ []) ∷ []; 
 abbrev pub beside : Given
 beside = record { imports = (1 ∷ []) ∷ [] ∷ [] ∷ []; dependents = [] ∷ (0 ∷ []) ∷ [] ∷ [] }
 
--- the dependents are what they are called
+-- the lists of dependents are right
 pub record DependentsRow : Type 0 where
   pub of_two : AreDependents two
   pub of_four : AreDependents four
@@ -50,31 +50,31 @@ pub record DependentsRow : Type 0 where
 abbrev pub replied : Given → List Entry → Reply
 replied g es = reply_of g (state_after g es)
 
--- a module waits for its import; nothing is left once both are published
+-- a module waits for its import, and nothing is left to do after both are published
 pub record RepliesRow : Type 0 where
   pub first : replied two [] ≡ Job 1
   pub later : replied two (Claim 0 1 ∷ []) ≡ Later
   pub next : replied two (Claim 0 1 ∷ Publish 0 1 ∷ []) ≡ Job 0
   pub last : replied two (Claim 0 1 ∷ Publish 0 1 ∷ Claim 0 0 ∷ Publish 0 0 ∷ []) ≡ Done
 
--- of two that are ready the least is claimed, also where it became so later
+-- the least of two ready modules is claimed, even if it became ready later
 pub record LeastRow : Type 0 where
   pub first : replied beside [] ≡ Job 1
   pub next : replied beside (Claim 0 1 ∷ Publish 0 1 ∷ []) ≡ Job 0
   pub other : replied beside (Claim 0 1 ∷ []) ≡ Job 2
 
--- after a stop there is nothing left to do; what is claimed may still be published; a second stop isn't written down
+-- after a stop nothing is left to do. A claimed module may still be published. A second stop adds no entry
 pub record StopRow : Type 0 where
   pub reply : replied two (Stop 1 ∷ []) ≡ Done
   pub claimed : IsAllowed two (Claim 0 1 ∷ Stop 1 ∷ Publish 0 1 ∷ [])
   pub once : ¬ (IsAllowed two (Stop 0 ∷ Stop 1 ∷ []))
 
--- what depends on a module that failed is skipped, also through others, and nothing else is
+-- a failure skips the modules that import the failed one, directly or not, and no others
 pub record SkipRow : Type 0 where
   pub statuses : (state_after four (Claim 0 0 ∷ Fail 0 0 ∷ [])).statuses ≡ status.Failed ∷ status.Skipped ∷ status.Waiting ∷ status.Skipped ∷ []
   pub reply : replied four (Claim 0 0 ∷ Fail 0 0 ∷ []) ≡ Job 2
 
--- no module is claimed before its import is published, published without a claim or by another worker, or claimed twice
+-- the object doesn't allow: a claim before the import is published, a publication without a claim or by another worker, a second claim
 pub record NotAllowedRow : Type 0 where
   pub early : ¬ (IsAllowed two (Claim 0 0 ∷ []))
   pub unclaimed : ¬ (IsAllowed two (Publish 0 1 ∷ []))
@@ -87,7 +87,7 @@ pub record NotAllowedRow : Type 0 where
 abbrev pub begun : List Module → List (Option Checked) → Build
 begun modules kept = record { modules = modules; given = two; journal = Claim 0 1 ∷ []; kept = kept }
 
--- whatever the outcome is of, a worker that hasn't claimed the module is told so, and nothing else
+-- a worker that hasn't claimed the module gets `NotYours`, for any outcome
 pub record RefusalRow : Type 0 where
   pub not_yours : (modules : List Module) (kept : List (Option Checked)) (c : Checked) → Refuses (begun modules kept) 1 1 c (Some NotYours)
   pub stranger : (modules : List Module) (kept : List (Option Checked)) (c : Checked) → ¬ (Refuses (begun modules kept) 1 1 c (Some Stranger))
@@ -98,8 +98,8 @@ pub record RefusalRow : Type 0 where
 abbrev pub behind_import : List Module → List (Option Checked) → Build
 behind_import modules kept = record { modules = modules; given = two; journal = Claim 0 1 ∷ Publish 0 1 ∷ Claim 0 0 ∷ []; kept = kept }
 
--- Of a worker that has claimed the module: an outcome of that module for the published interfaces of its imports is accepted; one of another
--- module isn't, nor one for an interface where nothing is imported, nor one for another interface than the published one
+-- if the worker has claimed the module: the store accepts an outcome of that module for the published interfaces of its imports. It refuses one
+-- of another module, one for an interface if nothing is imported, and one for an interface other than the published one
 pub record StrangerRow : Type 0 where
   pub accepted : (modules : List Module) (kept : List (Option Checked)) (c : Checked) → slice_get modules 1 ≡ Some c.«module» → c.imports ≡ [] → Refuses (begun modules kept) 0 1 c None
   pub of_another : (modules : List Module) (kept : List (Option Checked)) (c : Checked) → slice_get modules 1 ≢ Some c.«module» → Refuses (begun modules kept) 0 1 c (Some Stranger)
@@ -110,7 +110,7 @@ pub record StrangerRow : Type 0 where
 
 -- Steps
 
--- A build is new until it has an entry. An outcome that is accepted is kept, with its entry; one that is refused comes back, and nothing changes
+-- a build is new until it has an entry. An accepted outcome is stored, with its entry. A refused one is returned, and nothing changes
 pub record StepsRow : Type 0 where
   pub first : (a b : Module) → IsNew (a ∷ b ∷ []) two.imports (record { modules = a ∷ b ∷ []; given = two; journal = []; kept = None ∷ None ∷ [] })
   pub later : (modules : List Module) (kept : List (Option Checked)) → ¬ (IsNew modules two.imports (begun modules kept))
@@ -121,7 +121,7 @@ pub record StepsRow : Type 0 where
 
 -- Records
 
--- both modules were claimed and published, module 1 by worker 0, and module 0 by worker w
+-- both modules were claimed and published: module 1 by worker 0, and module 0 by worker w
 abbrev pub journal_by : ℕ → List Entry
 journal_by w = Claim 0 1 ∷ Publish 0 1 ∷ Claim w 0 ∷ Publish w 0 ∷ []
 
@@ -135,11 +135,11 @@ call at a = record { at = at; act = a }
 abbrev pub IsRecordOf : ℕ → List Call → Record → Type 0
 IsRecordOf w cs r = (r.worker ≡ w) × (r.calls.items ≡ cs)
 
--- whatever the modules are and whatever interface module 1 has, a record of worker w with these calls alone agrees
+-- for any modules and any interface of module 1, a record of worker w with exactly these calls agrees
 abbrev pub AloneAgree : ℕ → (Arc Interface Global → List Call) → Type 0
 AloneAgree w calls = (modules : List Module) (kept : List (Option Checked)) (f : Arc Interface Global) → interface_at kept 1 ≡ Some (arc_value f) → (r : Record) → IsRecordOf w (calls f) r → Agree (done 0 modules kept) (r ∷ [])
 
--- or doesn't
+-- for any modules and any interface of module 1, a record of worker w with exactly these calls doesn't agree
 abbrev pub AloneDisagree : ℕ → (Arc Interface Global → List Call) → Type 0
 AloneDisagree w calls = (modules : List Module) (kept : List (Option Checked)) (f : Arc Interface Global) → interface_at kept 1 ≡ Some (arc_value f) → (r : Record) → IsRecordOf w (calls f) r → ¬ (Agree (done 0 modules kept) (r ∷ []))
 
@@ -149,8 +149,8 @@ begins = call 0 (act.Job 1) ∷ call 1 (act.Publish 1) ∷ call 2 (act.Job 0) �
 abbrev pub found : Arc Interface Global → Call
 found f = call 3 (act.Look 1 (Some f))
 
--- one worker: its record agrees; not without its last two calls, not with a look that finds nothing behind the publication, not with the reply
--- that nothing is left while it has a module claimed, not as another worker's, and not twice
+-- the record of a single worker agrees. It doesn't without its last two calls, with a look that finds nothing after the publication, with `Done`
+-- while the worker has a claimed module, as the record of another worker, or twice
 pub record RecordRow : Type 0 where
   pub whole : AloneAgree 0 (λ f. begins ++ (found f ∷ call 3 (act.Publish 0) ∷ call 4 act.Done ∷ []))
   pub cut : AloneDisagree 0 (λ f. begins ++ (found f ∷ []))
@@ -166,7 +166,8 @@ one_calls = call 0 (act.Job 1) ∷ call 1 (act.Publish 1) ∷ []
 abbrev pub other_calls : Arc Interface Global → List Call
 other_calls f = call 0 (act.Look 1 None) ∷ call 2 (act.Job 0) ∷ found f ∷ call 3 (act.Publish 0) ∷ call 4 act.Done ∷ []
 
--- two workers: their records agree with the one journal, and don't when their numbers are exchanged; no call has its place at that of an entry that its worker wrote before
+-- the records of two workers agree with their journal. They don't if their numbers are exchanged. No call has the place of an entry that its
+-- worker wrote before
 pub record TwoRecordsRow : Type 0 where
   pub both : (modules : List Module) (kept : List (Option Checked)) (f : Arc Interface Global) → interface_at kept 1 ≡ Some (arc_value f) → (r s : Record) → IsRecordOf 0 one_calls r → IsRecordOf 1 (other_calls f) s → Agree (done 1 modules kept) (r ∷ s ∷ [])
   pub exchanged : (modules : List Module) (kept : List (Option Checked)) (f : Arc Interface Global) (r s : Record) → IsRecordOf 1 one_calls r → IsRecordOf 0 (other_calls f) s → ¬ (Agree (done 1 modules kept) (r ∷ s ∷ []))
@@ -174,8 +175,8 @@ pub record TwoRecordsRow : Type 0 where
 
 -- Places
 
--- Publications are counted before an entry. A worker knows of the entries that it wrote, and its next call isn't before them: it stands at what the
--- worker knows where fewer entries are seen, else at the entries that are seen
+-- publications are counted before an entry. A worker's next call comes after the entries that it wrote: it has the larger of that place and the
+-- number of entries that it sees
 pub record PlacesRow : Type 0 where
   pub none_before : publications (journal_by 0) 1 ≡ 0
   pub one_before : publications (journal_by 0) 3 ≡ 1
@@ -189,7 +190,7 @@ pub record PlacesRow : Type 0 where
 
 -- A legal build
 
--- a build of the worked set, by one worker: A is published, B failed, and C, which imports B, is skipped; it has the set's one text
+-- a build of the worked set by one worker: A is published, B failed, and C, which imports B, is skipped. It has the one report of the set
 pub record LegalRow : Type 0 where
   pub build : Build
   pub set : set_of build ≡ three_modules

@@ -1,4 +1,4 @@
-//! What holds of each legal build, and of what its workers wrote down, as contracts of functions that do nothing.
+//! Laws of legal builds and of their workers' records. Each law is a function with an empty body, and its contract is the law.
 ghost use Rattle.std.specs.Prelude.{◌≡◌, length};
 ghost use Rattle.hm_store.specs.Settlements.{SettledBuildIsSettled};
 ghost use Rattle.hm_store.specs.Worked.{DependentsRow, LeastRow, LegalRow, NotAllowedRow, PlacesRow, RecordRow, RefusalRow, RepliesRow, SkipRow, StepsRow, StopRow, StrangerRow, TwoRecordsRow};
@@ -6,15 +6,14 @@ ghost use Rattle.hm_store.specs.Worked.{DependentsRow, LeastRow, LegalRow, NotAl
 use crate::store::Store;
 use std::sync::ledger::{Book, Ledger, Share};
 
-/// In a legal build whose modules are all settled each was settled rightly: by the published interfaces of its imports, or skipped since an
-/// import isn't published.
+/// If all modules of a legal build are settled, each has its right result: its outcome is for the published interfaces of its imports, or it is
+/// skipped because an import isn't published.
 pub fn settled_builds_are_settled_sets()
     ensures { SettledBuildIsSettled }
 {}
 
-/// Worked builds: which modules depend on which; what is replied to claims; what a stop changes; what is skipped with a failure; what isn't
-/// allowed; why an outcome is refused, and what a step changes; where calls stand in a record; which records agree with a journal; and a legal
-/// build with its report.
+/// Worked examples of builds: dependents; replies to claims; stops; skipped modules; entries that aren't allowed; refused outcomes; the
+/// changes of each step; places of calls in a record; records that agree with a journal; and a legal build with its report.
 pub fn worked_builds()
     ensures dependents { DependentsRow }
     ensures replies { RepliesRow }
@@ -31,8 +30,8 @@ pub fn worked_builds()
     ensures legal { LegalRow }
 {}
 
-/// Whoever holds the book that came with a store, and the shares of all records put together, knows that the journal has as many entries as the
-/// records' calls wrote.
+/// The shares of all records together count the journal entries that the records' calls wrote. This is the length of the journal, for the book
+/// of the store.
 pub fn shares_count_the_journal<L: Ledger>(store: &Store, book: &mut Book<L>, all: &mut Share<L>)
     requires counted { book.old.total ≡ length store.now.journal }
     requires all { all.old.parts ≡ L.parts }

@@ -1,5 +1,7 @@
-//! The store of a build. What its workers do is the journal of a sequential object, the build object: each call is one of its steps, and the
-//! type of the store keeps that the journal is legal. What a worker writes down of its calls is its record.
+//! The store of a build: a sequential object with a journal, and the records that workers keep of their calls.
+//!
+//! Each call of [`Store`] is a step of the build object (`specs/Objects`). The type of the store guarantees that its journal is legal.
+//! [`Record`] lists the calls of one worker; `Store::audit` compares the records with the journal.
 #![tactic(auto)]
 
 pub mod laws;

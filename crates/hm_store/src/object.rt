@@ -1,21 +1,21 @@
-//! The words of the build object: what it knows of a module, its entries and its replies.
+//! The types of the build object: the status of a module, journal entries and replies.
 ghost use Rattle.std.specs.Prelude.{◌≡◌};
 ghost use Rattle.hm_store.specs.Objects.{is_claimed, is_publication, is_published, is_settled, is_waiting};
 
 use thiserror::Error;
 
-/// What is known of a module during a build.
+/// The status of a module during a build.
 #[derive(Clone, Copy, Debug, PartialEq, Eq)]
 pub enum Status {
     /// No worker has claimed it.
     Waiting,
     /// The worker with this number checks it.
     Claimed(usize),
-    /// It is good, and its interface can be looked up.
+    /// It is good, and look-ups find its interface.
     Published,
     /// It has faults.
     Failed,
-    /// A module that it imports failed or was skipped.
+    /// It imports a module that failed or was skipped.
     Skipped,
 }
 
@@ -38,7 +38,7 @@ impl Status {
         matches!(self, Status::Published)
     }
 
-    /// Whether it is published, failed or skipped: no later step changes it.
+    /// Returns whether it is published, failed or skipped. No later step changes such a status.
     pub fn is_settled(self) -> bool
         ensures { result ≡ is_settled self }
     {
@@ -46,21 +46,21 @@ impl Status {
     }
 }
 
-/// An entry of the journal: a step that a worker made. Workers and modules are numbered from 0.
+/// An entry of the journal: one step by a worker. Workers and modules are numbered from 0.
 #[derive(Clone, Copy, Debug, PartialEq, Eq)]
 pub enum Entry {
-    /// The worker claimed a module that waited.
+    /// The worker claimed a waiting module.
     Claim { worker: usize, module: usize },
     /// The worker published the interface of a module that it had claimed.
     Publish { worker: usize, module: usize },
-    /// The worker told that a module that it had claimed has faults.
+    /// The worker failed a module that it had claimed.
     Fail { worker: usize, module: usize },
     /// The worker stopped the build.
     Stop { worker: usize },
 }
 
 impl Entry {
-    /// Whether a worker published an interface.
+    /// Returns whether this is a publication.
     pub fn is_publication(self) -> bool
         ensures { result ≡ is_publication self }
     {
@@ -74,36 +74,36 @@ impl Entry {
     }
 }
 
-/// The reply of a store to a claim.
+/// The store's reply to a claim.
 #[derive(Clone, Copy, Debug, PartialEq, Eq)]
 pub enum Claimed {
-    /// This module is the worker's to check.
+    /// The worker now has to check this module.
     Job(usize),
-    /// No module is ready, but one that is being checked may make one so.
+    /// No module is ready, but a claimed one may make others ready.
     Later,
-    /// There is nothing left to do.
+    /// No module is left to check.
     Done,
 }
 
-/// What a worker is told once it need not wait any longer.
+/// The reply to a claim that waits until there is one.
 #[derive(Clone, Copy, Debug, PartialEq, Eq)]
 pub enum Turn {
-    /// This module is the worker's to check.
+    /// The worker now has to check this module.
     Job(usize),
-    /// There is nothing left to do.
+    /// No module is left to check.
     Done,
 }
 
-/// Why an outcome is handed back. The first that applies is answered.
+/// Why an outcome is refused. If several reasons apply, the store returns the first.
 #[derive(Clone, Copy, Debug, Error, PartialEq, Eq)]
 pub enum Refusal {
-    /// The module isn't claimed by this worker, or there is no module of this number.
+    /// This worker hasn't claimed the module, or no module has this number.
     #[error("the module isn't claimed by this worker")]
     NotYours,
-    /// The outcome is of another module, or its interfaces aren't the published ones of the module's imports.
+    /// The outcome is for another module, or for interfaces other than the published ones of the module's imports.
     #[error("the outcome isn't that of the module with the published interfaces of its imports")]
     Stranger,
-    /// Memory was refused to what look-ups see. Only a store that is shared answers it.
+    /// Memory ran out for the copies that look-ups read. Only a shared store returns this.
     #[error("no memory")]
     Memory,
 }

@@ -1,4 +1,4 @@
-//! What a worker writes down of its calls.
+//! The record of a worker's calls.
 
 ghost use Rattle.std.specs.Prelude.{◌≡◌, ◌≤◌, [], IfOk, option_map, vec_capacity};
 ghost use Rattle.std.specs.Arc.{arc_value};
@@ -7,12 +7,12 @@ use hm_types::Interface;
 use std::alloc::{AllocError, Global};
 use std::sync::Arc;
 
-/// A call that was answered, with its reply.
+/// A call that returned, with its reply.
 #[derive(Drop)]
 pub enum Act {
     /// A claim that got this module.
     Job(usize),
-    /// A claim that was told that there is nothing left.
+    /// A claim after which nothing is left to do.
     Done,
     /// The publication of this module.
     Publish(usize),
@@ -20,18 +20,18 @@ pub enum Act {
     Fail(usize),
     /// A stop, and whether it was the first.
     Stop(bool),
-    /// A look-up of this module, and the interface that was found.
+    /// A look-up of this module, with the interface that it found.
     Look(usize, Option<Arc<Interface>>),
 }
 
-/// A call, and the number of journal entries after which it had its reply.
+/// A call, with the number of journal entries after which it got its reply.
 #[derive(Drop)]
 pub struct Call {
     pub at: usize,
     pub act: Act,
 }
 
-/// The answered calls of a worker, in order.
+/// The calls of a worker that returned, in order.
 pub struct Record {
     pub worker: usize,
     pub calls: Vec<Call>,
@@ -47,7 +47,7 @@ impl Drop for Record {
 }
 
 impl Record {
-    /// The record of a worker that has made no call, with room for so many.
+    /// Returns an empty record for this worker, with room for `room` calls.
     pub fn new(alloc: Global, worker: usize, room: usize) -> Result<Record, AllocError>
         ensures worker { IfOk result (λ r. r.worker ≡ worker) }
         ensures empty { IfOk result (λ r. r.calls.items ≡ []) }
@@ -58,7 +58,7 @@ impl Record {
     }
 }
 
-/// Returns what a look-up writes down of what it found: the interface has a second owner. Passes call it.
+/// Returns a second owner of a found interface, for the record. Passes call it.
 pub fn noted(found: &Option<Arc<Interface>>) -> Result<Option<Arc<Interface>>, AllocError>
     ensures { IfOk result (λ o. option_map arc_value o ≡ option_map arc_value found.now) }
 {

@@ -1,4 +1,4 @@
-//! The build store: each call is one step of the build object.
+//! The build store. Each call is one step of the build object.
 ghost use Rattle.std.specs.Prelude.{◌≡◌, ◌↔◌, ◌⊎◌, ◌<◌, ◌≤◌, ◌^◌, ℕ, IfOk, IsSome, None, OnOk, count_by, length, map, not, false, option_map, replicate};
 ghost use Rattle.std.specs.Arc.{arc_value};
 ghost use Rattle.std.specs.Option.{option_copied};
@@ -29,19 +29,20 @@ mod readiness;
 mod ready_set;
 mod refusing;
 
-/// A build: its modules, which module imports which, the journal, and what came of each module. Its type keeps that the journal is legal, that
-/// the statuses are those after the journal, that each outcome is right for the published interfaces of its module's imports, and that the counts
-/// of open imports and the set of the modules that are ready are those of the statuses.
+/// A build: its modules with their import plan, the journal, and the outcomes of checked modules.
+///
+/// The type guarantees that the journal is legal, that the statuses are those after it, and that each outcome is right for the published
+/// interfaces of its module's imports. The counts of open imports and the set of ready modules match the statuses.
 pub struct Store {
     modules: Vec<Arc<Module>>,
     plan: Plan,
     search: Dependents,
     statuses: Vec<Status>,
-    /// How many imports of each module aren't published.
+    /// For each module, the number of imports that aren't published.
     open_imports: Vec<usize>,
-    /// The modules that wait and have no open import, the least first.
+    /// The waiting modules without an open import, the least first.
     ready: BinaryHeap<Reverse<usize>>,
-    /// How many modules are claimed.
+    /// The number of claimed modules.
     claimed: usize,
     outcomes: Vec<Option<Outcome>>,
     journal: Vec<Entry>,
@@ -82,7 +83,7 @@ impl Model for Store {
 }
 
 impl Store {
-    /// A store for these modules, with an empty journal. All memory that its steps need is taken now.
+    /// Returns a store for these modules, with an empty journal. Allocates all memory that its steps need.
     pub fn new(alloc: Global, modules: Vec<Arc<Module>>, plan: Plan) -> Result<Store, AllocError>
         requires { IsLawfulSet (record { modules = map arc_value modules.items; plan = plan }) }
         ensures new { IfOk result (IsNew (map arc_value modules.items) plan) }
@@ -108,21 +109,21 @@ impl Store {
         })
     }
 
-    /// The modules, numbered from 0.
+    /// Returns the modules, numbered from 0.
     pub fn modules(&self) -> &[Arc<Module>]
         ensures { map arc_value result.now ≡ self.now.modules }
     {
         self.modules.as_slice()
     }
 
-    /// Which module imports which.
+    /// Returns the import plan.
     pub fn plan(&self) -> &Plan
         ensures { result.now ≡ self.now.given.imports }
     {
         &self.plan
     }
 
-    /// The journal so far.
+    /// Returns the journal so far.
     pub fn journal(&self) -> &[Entry]
         ensures journal { result.now ≡ self.now.journal }
         ensures legal { IsLegal self.now }
@@ -130,14 +131,14 @@ impl Store {
         self.journal.as_slice()
     }
 
-    /// What holds of every store: its build is legal.
+    /// Shows that the build of a store is legal.
     pub fn legal(&self)
         ensures { IsLegal self.now }
     {
         let _ = &self.journal;
     }
 
-    /// How many publications there are among the first entries of the journal, so many as `at`.
+    /// Returns the number of publications among the first `at` entries of the journal.
     pub fn publications(&self, at: usize) -> usize
         requires { at ≤ length self.now.journal }
         ensures { result ≡ publications self.now.journal at }
@@ -145,7 +146,7 @@ impl Store {
         publications_in(&self.journal()[..at])
     }
 
-    /// How many entries the journal has.
+    /// Returns the number of entries in the journal.
     pub fn entries(&self) -> usize
         ensures is { result ≡ length self.now.journal }
         ensures few { result < 2 ^ 62 }
@@ -154,7 +155,7 @@ impl Store {
         self.journal.len()
     }
 
-    /// The status of a module.
+    /// Returns the status of a module.
     pub fn status(&self, number: usize) -> Status
         requires { number < length self.now.modules }
         ensures { result ≡ status_at (state_of self.now).statuses number }
@@ -162,21 +163,21 @@ impl Store {
         self.status_or_skipped(number)
     }
 
-    /// The status of a module; `Skipped` for a number that no module has.
+    /// Returns the status of a module, or `Skipped` for a number that no module has.
     fn status_or_skipped(&self, number: usize) -> Status
         ensures { result ≡ status_at (state_of self.now).statuses number }
     {
         status_at(&self.statuses, number)
     }
 
-    /// Whether the build was stopped.
+    /// Returns whether the build was stopped.
     pub fn is_stopped(&self) -> bool
         ensures { result ≡ (state_of self.now).stopped }
     {
         self.stopped
     }
 
-    /// What was found out of a module; None where it isn't published and hasn't failed.
+    /// Returns the verdict of a module, or `None` if it is neither published nor failed.
     pub fn verdict(&self, number: usize) -> Option<&Verdict>
         requires { number < length self.now.modules }
         ensures verdict { option_map verdict_of (option_copied result) ≡ option_map (λ c. c.verdict) (kept_at self.now.kept number) }
@@ -186,11 +187,11 @@ impl Store {
         Some(self.outcomes[number].as_ref()?.verdict())
     }
 
-    /// Claims the least module that waits and whose imports are all published.
+    /// Claims the least waiting module whose imports are all published.
     pub fn claim(&mut self, worker: usize) -> Claimed
         ensures reply { result ≡ reply_of self.old.given (state_of self.old) }
         ensures step { self.new ≡ after_claim self.old worker result }
-        // Where nothing is left to do and the build wasn't stopped, each module is settled.
+        // If nothing is left to do and the build wasn't stopped, all modules are settled.
         ensures done { result ≡ Done → (state_of self.old).stopped ≡ false → IsAllSettled self.new }
     {
         if self.stopped {
@@ -208,7 +209,7 @@ impl Store {
         Claimed::Job(number)
     }
 
-    /// Publishes the interface of a module that this worker has claimed.
+    /// Publishes the interface of a module that this worker has claimed. Otherwise returns the outcome, and changes nothing.
     pub fn publish(
         &mut self,
         worker: usize,
@@ -227,7 +228,7 @@ impl Store {
         }
     }
 
-    /// Publishes the interface of a module, where `refusal` has nothing against it. No tree is compared again.
+    /// Publishes the interface of a module for which `refusal` returns `None`. Doesn't compare the trees again.
     pub fn publish_fitting(&mut self, worker: usize, number: usize, outcome: Outcome)
         requires good { IsGood outcome.verdict }
         requires fits { Refuses self.old worker number outcome None }
@@ -249,7 +250,7 @@ impl Store {
         });
     }
 
-    /// Tells that a module that this worker has claimed is faulty. The modules that depend on it are skipped.
+    /// Fails a module that this worker has claimed, and skips the modules that depend on it. Otherwise returns the outcome, and changes nothing.
     pub fn fail(
         &mut self,
         worker: usize,
@@ -258,7 +259,7 @@ impl Store {
     ) -> Result<(), (Refusal, Outcome)>
         requires { ¬ IsGood outcome.verdict }
         ensures settles { Settles self.old worker number outcome (Fail worker number) self.new result }
-        // Each module that reaches it through imports is skipped.
+        // Each module that imports it, directly or not, is skipped.
         ensures skipped { OnOk result ((k : ℕ) → Reaches self.old.given.imports k number → status_at (state_of self.new).statuses k ≡ Skipped) }
     {
         match self.refusal(worker, number, &outcome) {
@@ -277,7 +278,7 @@ impl Store {
         }
     }
 
-    /// Stops the build: every later claim is told that there is nothing left to do. True the first time; after that nothing changes.
+    /// Stops the build: every later claim gets `Done`. Returns true the first time, and changes nothing after that.
     pub fn stop(&mut self, worker: usize) -> bool
         ensures reply { result ≡ not (state_of self.old).stopped }
         ensures step { self.new ≡ after_stop self.old worker result }
@@ -290,7 +291,7 @@ impl Store {
         first
     }
 
-    /// The published interface of a module; None where it isn't published, and for a number that no module has.
+    /// Returns the published interface of a module. Returns `None` if it isn't published, and for a number that no module has.
     pub fn look(&self, number: usize) -> Option<&Arc<Interface>>
         ensures interface { option_map arc_value (option_copied result) ≡ interface_at self.now.kept number }
         ensures published { IsSome result ↔ (status_at (state_of self.now).statuses number ≡ Published) }
@@ -302,7 +303,7 @@ impl Store {
     }
 }
 
-/// The status of a module with this verdict.
+/// Returns the status of a module with this verdict.
 fn status_by(verdict: &Verdict) -> Status
     ensures { result ≡ status_by (verdict_of verdict.now) }
 {
@@ -312,7 +313,7 @@ fn status_by(verdict: &Verdict) -> Status
     }
 }
 
-/// How many of these entries are publications.
+/// Returns the number of publications among these entries.
 fn publications_in(entries: &[Entry]) -> usize
     ensures { result ≡ count_by is_publication entries.now }
 {
@@ -325,7 +326,7 @@ fn publications_in(entries: &[Entry]) -> usize
     count
 }
 
-/// No outcome yet, for so many modules.
+/// Returns `count` times no outcome.
 fn no_outcomes(alloc: Global, count: usize) -> Result<Vec<Option<Outcome>>, AllocError>
     ensures { IfOk result (λ outcomes. outcomes.items ≡ replicate count None) }
 {

@@ -1,4 +1,4 @@
-//! Whether records agree with the journal.
+//! Compares records with the journal.
 ghost use Rattle.std.specs.Prelude.{◌≡◌, ◌≤◌, ◌↔◌, IfOk, IfSome, IsTrue, Some, slice_get};
 ghost use Rattle.hm_store.specs.Agreement.{Agree, CallAgrees, RecordAgrees, entry_of as entry_of_act};
 ghost use Rattle.hm_store.specs.AuditsInside.{IsReplay};
@@ -15,8 +15,8 @@ mod marks;
 mod replay;
 
 impl Store {
-    /// Whether the records agree with the journal: each entry is written down by just one call, each record is in order, and each call has the
-    /// reply that the build object gives after the entries before it.
+    /// Returns whether the records agree with the journal: exactly one call wrote each entry, each record is in order, and each call has the reply
+    /// that the build object gives after the entries before it.
     pub fn audit(&self, alloc: Global, records: &[Record]) -> Result<bool, AllocError>
         ensures { IfOk result (λ ok. IsTrue ok ↔ Agree self.now records.now) }
     {
@@ -28,7 +28,7 @@ impl Store {
         Ok(is_each_written_once(alloc, self.journal().len(), records)?)
     }
 
-    /// Whether a record is in order, and each of its calls agrees.
+    /// Returns whether a record is in order and each of its calls agrees.
     fn record_agrees(&self, alloc: Global, log: &Record) -> Result<bool, AllocError>
         ensures { IfOk result (λ ok. IsTrue ok ↔ RecordAgrees self.now log.now) }
     {
@@ -44,7 +44,7 @@ impl Store {
         Ok(true)
     }
 
-    /// Whether a call has its reply after the entries before it, and its own entry.
+    /// Returns whether a call has the right reply at its place, and its own entry there.
     fn call_agrees(&self, replay: &mut Replay, worker: usize, call: &Call) -> bool
         requires replay { IsReplay self.now replay.old }
         requires ahead { replay.old.at ≤ call.now.at }
@@ -59,7 +59,7 @@ impl Store {
         self.replies(replay, worker, &call.act) && self.has_entry(worker, call)
     }
 
-    /// Whether what a call wrote is the entry of its number.
+    /// Returns whether the entry at a call's place is the one that it wrote.
     fn has_entry(&self, worker: usize, call: &Call) -> bool
         ensures { IsTrue result ↔ IfSome (entry_of_act worker call.now.act) (λ e. slice_get self.now.journal call.now.at ≡ Some e) }
     {
@@ -71,7 +71,7 @@ impl Store {
 }
 
 impl Record {
-    /// Whether no call has its place before what its worker knew.
+    /// Returns whether the places of the calls never go back.
     fn is_ordered(&self) -> bool
         ensures { result ≡ rises 0 self.now.calls.items }
     {
@@ -88,7 +88,7 @@ impl Record {
     }
 }
 
-/// The entry that a call of this worker wrote.
+/// Returns the entry that this worker's call wrote.
 fn entry_of(worker: usize, act: &Act) -> Option<Entry>
     ensures { result ≡ entry_of_act worker act.now }
 {

@@ -1,4 +1,4 @@
-//! What the statuses of the modules say: which module is ready, and what is replied to a worker that asks for one.
+//! Computes from the statuses which module is ready, and the reply to a claim.
 ghost use Rattle.std.specs.Prelude.{◌≡◌, ◌<◌, [], ◌∷◌, cond, false, length, slice_index_or};
 ghost use Rattle.std.specs.List.{list_all, list_any};
 ghost use Rattle.hm_store.specs.Reaching.{below, dependents_in};
@@ -7,14 +7,14 @@ ghost use Rattle.hm_store.specs.Objects.{is_claimed, is_published, is_ready, lea
 use crate::object::{Claimed, Status};
 use hm_graph::{Dependents, Plan};
 
-/// The status of a module; `Skipped` for a number that no module has.
+/// Returns the status of a module, or `Skipped` for a number that no module has.
 pub(super) fn status_at(statuses: &[Status], number: usize) -> Status
     ensures { result ≡ status_at statuses.now number }
 {
     statuses.get(number).copied().unwrap_or(Status::Skipped)
 }
 
-/// Whether the modules with these numbers are all published.
+/// Returns whether all modules with these numbers are published.
 fn are_all_published(statuses: &[Status], numbers: &[usize]) -> bool
     ensures { result ≡ list_all (λ k. is_published (status_at statuses.now k)) numbers.now }
 {
@@ -23,7 +23,7 @@ fn are_all_published(statuses: &[Status], numbers: &[usize]) -> bool
         .all(|number| status_at(statuses, *number).is_published())
 }
 
-/// Whether a module waits and its imports are all published.
+/// Returns whether a module waits and all its imports are published.
 fn is_ready_at(plan: &Plan, statuses: &[Status], number: usize) -> bool
     requires { number < length plan.now }
     ensures { result ≡ is_ready (record { imports = plan.now; dependents = [] }) statuses.now number }
@@ -31,14 +31,14 @@ fn is_ready_at(plan: &Plan, statuses: &[Status], number: usize) -> bool
     status_at(statuses, number).is_waiting() && are_all_published(statuses, plan.imports(number))
 }
 
-/// Whether some module is claimed.
+/// Returns whether any module is claimed.
 fn is_any_claimed(statuses: &[Status]) -> bool
     ensures { result ≡ list_any is_claimed statuses.now }
 {
     statuses.iter().any(|status| status.is_claimed())
 }
 
-/// The least module that is ready.
+/// Returns the least module that is ready.
 #[tactic(auto, using(crate::proofs::Replies::least_is, crate::proofs::Replies::none_more))]
 fn first_ready(plan: &Plan, statuses: &[Status]) -> Option<usize>
     requires { length statuses.now ≡ length plan.now }
@@ -52,7 +52,7 @@ fn first_ready(plan: &Plan, statuses: &[Status]) -> Option<usize>
     None
 }
 
-/// The reply to a claim. It doesn't depend on which modules depend on a module.
+/// Returns the reply to a claim. It doesn't depend on the dependents of modules.
 pub(super) fn reply_at(plan: &Plan, statuses: &[Status], stopped: bool) -> Claimed
     requires { length statuses.now ≡ length plan.now }
     ensures { result ≡ reply_of (record { imports = plan.now; dependents = [] }) (record { statuses = statuses.now; stopped = stopped }) }
@@ -67,7 +67,7 @@ pub(super) fn reply_at(plan: &Plan, statuses: &[Status], stopped: bool) -> Claim
     }
 }
 
-/// Skips the modules that wait and reach a module through imports; none for a number that no module has.
+/// Skips the waiting modules that import a module, directly or not. Skips none for a number that no module has.
 pub(super) fn skip_dependents(
     plan: &Plan,
     search: &mut Dependents,
@@ -84,7 +84,7 @@ pub(super) fn skip_dependents(
     }
 }
 
-/// Skips those of the modules with a mark that wait.
+/// Skips the marked modules that wait.
 fn skip_marked(statuses: &mut [Status], marks: &[bool])
     ensures { statuses.new ≡ all_skipped statuses.old (below (λ k. slice_index_or marks.now k false) (length marks.now)) }
 {
@@ -93,7 +93,7 @@ fn skip_marked(statuses: &mut [Status], marks: &[bool])
     }
 }
 
-/// Skips a module if it has a mark and waits.
+/// Skips a module if it is marked and waits.
 fn skip_if(statuses: &mut [Status], number: usize, marked: bool)
     ensures { statuses.new ≡ all_skipped statuses.old (cond marked (number ∷ []) []) }
 {

@@ -1,4 +1,4 @@
-//! How many imports of each module are open, and which modules are ready, the least first.
+//! The number of unpublished imports of each module, and the set of ready modules, the least first.
 ghost use Rattle.std.specs.Prelude.{◌≡◌, ◌==◌, ◌&&◌, ◌+◌, ◌-◌, ◌<◌, ◌≤◌, ℕ, All, IfNone, IfOk, IfSome, [], cond, count_by, length, map, nat_lt, slice_index_or, slice_set};
 ghost use Rattle.std.specs.BinaryHeap.{HeapUnchanged, IsHeap, KeepsHeap, heap_capacity, heap_items, heap_len};
 ghost use Rattle.std.specs.List.Sorted.{IsPermutation};
@@ -13,7 +13,7 @@ use std::alloc::{AllocError, Global};
 use std::cmp::Reverse;
 use std::collections::BinaryHeap;
 
-/// The number of imports of each module.
+/// Returns the number of imports of each module.
 pub(super) fn import_counts(alloc: Global, plan: &Plan) -> Result<Vec<usize>, AllocError>
     ensures { IfOk result (λ counts. counts.items ≡ map length plan.now) }
 {
@@ -24,7 +24,7 @@ pub(super) fn import_counts(alloc: Global, plan: &Plan) -> Result<Vec<usize>, Al
     Ok(counts)
 }
 
-/// Puts a number in, where there is room.
+/// Adds a number. The heap must have room.
 fn put(ready: &mut BinaryHeap<Reverse<usize>>, number: usize)
     requires { heap_len ready.old < heap_capacity ready.old }
     ensures len { heap_len ready.new ≡ heap_len ready.old + 1 }
@@ -38,7 +38,7 @@ fn put(ready: &mut BinaryHeap<Reverse<usize>>, number: usize)
     }
 }
 
-/// Takes the least number out.
+/// Removes the least number.
 pub(super) fn take_least(ready: &mut BinaryHeap<Reverse<usize>>) -> Option<usize>
     requires { IsHeap (λ x y. nat_cmp y.0 x.0) (heap_items ready.old) }
     ensures none { IfNone result ((heap_items ready.old ≡ []) × HeapUnchanged ready.old ready.new) }
@@ -54,7 +54,7 @@ pub(super) fn take_least(ready: &mut BinaryHeap<Reverse<usize>>) -> Option<usize
     }
 }
 
-/// The reply to a claim where no module is ready.
+/// Returns the reply to a claim if no module is ready.
 pub(super) fn reply_without_job(claimed: usize) -> Claimed
     ensures { result ≡ cond (nat_lt 0 claimed) Later Done }
 {
@@ -65,7 +65,7 @@ pub(super) fn reply_without_job(claimed: usize) -> Claimed
     }
 }
 
-/// One import less is open of a module. It is ready if it waits and that was the last one.
+/// Counts one import of a module as published. The module becomes ready if it waits and this was its last one.
 fn close_import(
     counts: &mut [usize],
     statuses: &[Status],
@@ -88,7 +88,7 @@ fn close_import(
     }
 }
 
-/// One import less is open of each of these modules.
+/// Counts one import of each of these modules as published.
 pub(super) fn close_imports(
     counts: &mut [usize],
     statuses: &[Status],
@@ -108,7 +108,7 @@ pub(super) fn close_imports(
     }
 }
 
-/// The modules without imports, with room for all modules.
+/// Returns the modules without imports, in a heap with room for all modules.
 pub(super) fn without_imports(
     alloc: Global,
     counts: &[usize],
@@ -123,7 +123,7 @@ pub(super) fn without_imports(
     Ok(ready)
 }
 
-/// Puts a number in if none is counted of it.
+/// Adds a number if its count is 0.
 fn put_if_none(ready: &mut BinaryHeap<Reverse<usize>>, number: usize, count: usize)
     requires { heap_len ready.old < heap_capacity ready.old }
     ensures len { heap_len ready.new ≡ heap_len ready.old + cond (count == 0) 1 0 }

@@ -1,4 +1,4 @@
-//! Why an outcome is refused.
+//! Decides whether an outcome is refused.
 ghost use Rattle.std.specs.Prelude.{◌≡◌, ◌↔◌, IsTrue, Some, map, slice_get};
 ghost use Rattle.std.specs.Arc.{arc_value};
 ghost use Rattle.hm_store.specs.Builds.{IsOf, Refuses, interface_at};
@@ -12,7 +12,7 @@ use hm_types::Interface;
 use std::sync::Arc;
 
 impl Store {
-    /// Why an outcome is no answer to a claim of this worker.
+    /// Returns why the store refuses this outcome from this worker, or `None` if it accepts it.
     pub fn refusal(&self, worker: usize, number: usize, outcome: &Outcome) -> Option<Refusal>
         ensures { Refuses self.now worker number outcome.now result }
     {
@@ -25,7 +25,7 @@ impl Store {
         None
     }
 
-    /// Whether an outcome is that of a module for the published interfaces of its imports.
+    /// Returns whether an outcome is that of a module for the published interfaces of its imports.
     fn is_of(&self, number: usize, outcome: &Outcome) -> bool
         ensures { IsTrue result ↔ IsOf self.now number outcome.now }
     {
@@ -33,7 +33,7 @@ impl Store {
             && self.are_published(self.plan.imports(number), outcome.imports())
     }
 
-    /// Whether this is the module with this number.
+    /// Returns whether the module with this number is this tree.
     fn is_module(&self, number: usize, other: &Module) -> bool
         ensures { IsTrue result ↔ (slice_get self.now.modules number ≡ Some other.now) }
     {
@@ -43,7 +43,7 @@ impl Store {
         }
     }
 
-    /// Whether these are the published interfaces of the modules with these numbers, in order.
+    /// Returns whether these are the published interfaces of the modules with these numbers, in order.
     #[tactic(auto, using(crate::proofs::Lists::maps_more, crate::proofs::Lists::maps_at, crate::proofs::Lists::maps_length))]
     fn are_published(&self, numbers: &[usize], interfaces: &[Arc<Interface>]) -> bool
         ensures { IsTrue result ↔ (map (λ f. Some (arc_value f)) interfaces.now ≡ map (interface_at self.now.kept) numbers.now) }
@@ -59,7 +59,7 @@ impl Store {
         true
     }
 
-    /// Whether this is the published interface of the module with this number.
+    /// Returns whether this is the published interface of the module with this number.
     fn is_published(&self, number: usize, interface: &Interface) -> bool
         ensures { IsTrue result ↔ (interface_at self.now.kept number ≡ Some interface.now) }
     {

@@ -1,4 +1,4 @@
-//! Which entries of a journal were written by the calls of records.
+//! Marks the journal entries that the calls of records wrote.
 ghost use Rattle.std.specs.Prelude.{◌==◌, ◌≡◌, ◌<◌, ◌↔◌, IfOk, IsTrue, cond, count_by, false, length, slice_index_or, true, ℕ};
 ghost use Rattle.hm_store.specs.Agreement.{writers, writes_at};
 ghost use Rattle.hm_store.specs.AuditsInside.{IsTwice, Marks};
@@ -8,7 +8,7 @@ use crate::record::{Act, Call, Record};
 use std::alloc::{AllocError, Global};
 
 impl Act {
-    /// Whether such a call writes an entry.
+    /// Returns whether a call with this reply writes an entry.
     pub(super) fn writes(&self) -> bool
         ensures { result ≡ (wrote self.now == 1) }
     {
@@ -23,7 +23,7 @@ impl Act {
     }
 }
 
-/// Whether each of so many entries was written by just one call.
+/// Returns whether each of `count` entries was written by exactly one call.
 pub(super) fn is_each_written_once(
     alloc: Global,
     entries: usize,
@@ -40,14 +40,14 @@ pub(super) fn is_each_written_once(
     Ok(are_all(&marks))
 }
 
-/// Whether each entry has its mark.
+/// Returns whether all marks are set.
 fn are_all(marks: &[bool]) -> bool
     ensures { IsTrue result ↔ ((i : ℕ) → i < length marks.now → slice_index_or marks.now i false ≡ true) }
 {
     marks.iter().all(|mark| *mark)
 }
 
-/// Marks the entries that these calls wrote. False where one of them had its mark by then.
+/// Marks the entries that these calls wrote. Returns false if one was marked before.
 fn mark_all(marks: &mut [bool], calls: &[Call]) -> bool
     ensures yes { result ≡ true → Marks marks.old (λ i. count_by (writes_at i) calls.now) marks.new }
     ensures no { result ≡ false → IsTwice marks.old (λ i. count_by (writes_at i) calls.now) }
@@ -60,7 +60,7 @@ fn mark_all(marks: &mut [bool], calls: &[Call]) -> bool
     true
 }
 
-/// Marks the entry that a call wrote, if it wrote one. False where that had its mark already.
+/// Marks the entry that a call wrote, if any. Returns false if it was marked before.
 fn mark_written(marks: &mut [bool], call: &Call) -> bool
     ensures yes { result ≡ true → Marks marks.old (λ i. cond (writes_at i call.now) 1 0) marks.new }
     ensures no { result ≡ false → IsTwice marks.old (λ i. cond (writes_at i call.now) 1 0) }

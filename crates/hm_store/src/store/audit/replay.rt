@@ -1,4 +1,4 @@
-//! The journal of a build, played again.
+//! Replays the journal of a build.
 ghost use Rattle.std.specs.Prelude.{◌≡◌, ◌≤◌, ◌↔◌, IfOk, IsTrue, None, Some, length, option_map, slice_set};
 ghost use Rattle.std.specs.Arc.{arc_value};
 ghost use Rattle.std.specs.Option.{option_copied};
@@ -25,7 +25,7 @@ pub(super) struct Replay {
 }
 
 impl Store {
-    /// The state before the first entry.
+    /// Returns the state before the first entry.
     pub(super) fn replay(&self, alloc: Global) -> Result<Replay, AllocError>
         ensures replay { IfOk result (IsReplay self.now) }
         ensures opening { IfOk result (λ r. r.at ≡ 0) }
@@ -40,7 +40,7 @@ impl Store {
         })
     }
 
-    /// Plays the entries up to a place.
+    /// Replays the entries up to a place.
     pub(super) fn play_to(&self, replay: &mut Replay, at: usize)
         requires replay { IsReplay self.now replay.old }
         requires ahead { replay.old.at ≤ at }
@@ -54,7 +54,7 @@ impl Store {
         replay.at = at;
     }
 
-    /// Plays one entry.
+    /// Replays one entry.
     fn play(&self, replay: &mut Replay, entry: Entry)
         requires { length replay.old.search ≡ length self.now.given.imports }
         ensures state { played replay.new ≡ after self.now.given (played replay.old) entry }
@@ -82,7 +82,7 @@ impl Store {
         }
     }
 
-    /// Whether the build object answers a call of this worker so in the state that was played.
+    /// Returns whether the build object gives this reply to a call of this worker in the replayed state.
     pub(super) fn replies(&self, replay: &Replay, worker: usize, act: &Act) -> bool
         requires { IsReplay self.now replay.now }
         ensures { IsTrue result ↔ Replies self.now (played replay.now) worker act.now }
@@ -97,7 +97,7 @@ impl Store {
         }
     }
 
-    /// The reply to a claim in the state that was played.
+    /// Returns the reply to a claim in the replayed state.
     fn reply_in(&self, replay: &Replay) -> Claimed
         requires { IsReplay self.now replay.now }
         ensures { result ≡ reply_of self.now.given (played replay.now) }
@@ -105,7 +105,7 @@ impl Store {
         reply_at(self.plan(), &replay.statuses, replay.stopped)
     }
 
-    /// Whether a look in the state that was played finds this.
+    /// Returns whether a look-up in the replayed state finds this interface.
     fn finds(&self, replay: &Replay, number: usize, found: &Option<Arc<Interface>>) -> bool
         ensures { IsTrue result ↔ (option_map arc_value found.now ≡ look_in self.now (played replay.now) number) }
     {
@@ -116,7 +116,7 @@ impl Store {
         }
     }
 
-    /// What a look in the state that was played finds.
+    /// Returns the interface that a look-up finds in the replayed state.
     fn look_in(&self, replay: &Replay, number: usize) -> Option<&Arc<Interface>>
         ensures { option_map arc_value (option_copied result) ≡ look_in self.now (played replay.now) number }
     {
@@ -129,7 +129,7 @@ impl Store {
 }
 
 impl Replay {
-    /// The status of a module.
+    /// Returns the status of a module.
     fn status(&self, number: usize) -> Status
         ensures { result ≡ status_at self.now.statuses.items number }
     {
@@ -137,7 +137,7 @@ impl Replay {
     }
 }
 
-/// Gives a module this status.
+/// Sets the status of a module.
 fn put(statuses: &mut [Status], number: usize, status: Status)
     ensures { statuses.new ≡ slice_set statuses.old number status }
 {
