@@ -1,22 +1,22 @@
-//! A module whose names are resolved.
+//! Cores: modules with resolved names.
 use hm_syntax::{Decl, Row};
 use hm_types::{Entity, Interface, Text};
 use std::marker::Model;
 use std::sync::Arc;
 
-/// An exported entity, under its name.
+/// An exported entity, with its exported name.
 #[derive(Drop)]
 pub struct Exported {
     pub name: Text,
     pub entity: Entity,
 }
 
-/// A module whose names are resolved. In its trees a qualified name is an entity, by its module and its name there; a bare name is a local
-/// variable, a type variable or a special constructor. No type has a synonym.
+/// A module with resolved names. In its trees, a qualified name is an entity: its module and its name there. A bare name is a local variable, a
+/// type variable or a special constructor. No type has a synonym.
 pub struct Core {
     pub name: Text,
     pub decls: Row<Decl>,
-    /// The interfaces that it was resolved for: Prelude's, and then those of its imports, in order.
+    /// The interfaces for which it was resolved: Prelude's, then those of its imports, in order.
     pub interfaces: Row<Arc<Interface>>,
     pub exported_types: Row<Exported>,
     pub exported_constructors: Row<Exported>,

@@ -13,15 +13,15 @@ use hm_syntax::TypeExpr;
 use hm_types::Ty;
 use std::alloc::{AllocError, Global};
 
-/// A declared type: each variable has the number of the place where it occurs first, and `count` is
-/// how many such places there are, so that the numbers are below it.
+/// A declared type. Each variable has the number of the place where it occurs first. `count` is the number of places at which variables
+/// occur, so it is above all these numbers.
 #[derive(Drop)]
 pub struct DeclaredType {
     pub body: Ty,
     pub count: usize,
 }
 
-/// The type that is declared by a type of a core, whose names are resolved.
+/// Returns the declared type for a type of a core.
 pub fn declared_type(alloc: Global, ty: &TypeExpr) -> Result<DeclaredType, AllocError>
     ensures body { IfOk result (λ d. type_of d.body ≡ program_of (declared_type ty.now)) }
     ensures below { IfOk result (λ d. IsBelow d.count (declared_type ty.now)) }

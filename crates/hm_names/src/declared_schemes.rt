@@ -22,7 +22,7 @@ use hm_syntax::{Constr, Name, TypeExpr};
 use hm_types::{Entity, Head, Scheme, Synonym, Text, Ty, Types};
 use std::alloc::{AllocError, Global};
 
-/// The parameters of a declaration, as type variables.
+/// Returns the parameters of a declaration as type variables.
 pub fn parameters_of<'a>(alloc: Global, params: &'a [Name]) -> Result<TypeVariables<'a>, AllocError>
     ensures { IfOk result (λ set. ((n : Identifier) → ¬ Repeats params.now n) → set ≡ texts params.now) }
 {
@@ -33,7 +33,7 @@ pub fn parameters_of<'a>(alloc: Global, params: &'a [Name]) -> Result<TypeVariab
     Ok(TypeVariables::of(alloc, &names)?)
 }
 
-/// The synonym of a declaration whose right side has resolved names.
+/// Returns the synonym of a declaration with a resolved right side.
 pub fn declared_synonym(
     alloc: Global,
     params: &[Name],
@@ -47,7 +47,7 @@ pub fn declared_synonym(
     Ok(Synonym::new(variables.len(), body))
 }
 
-/// The variables below a number, in order.
+/// Returns the variables below a number, in order.
 fn variables_below(alloc: Global, count: usize) -> Result<Types, AllocError>
     ensures { IfOk result (λ ts. ts ≡ numbered 0 count) }
 {
@@ -58,7 +58,7 @@ fn variables_below(alloc: Global, count: usize) -> Result<Types, AllocError>
     Ok(Types::new(variables))
 }
 
-/// The entity of a module's own name.
+/// Returns the entity of a name that the module `home` declares.
 pub fn own_entity(home: &Text, name: &Name) -> Result<Entity, AllocError>
     ensures { IfOk result (λ e. e ≡ named home.now name.now.text) }
 {
@@ -68,7 +68,7 @@ pub fn own_entity(home: &Text, name: &Name) -> Result<Entity, AllocError>
     })
 }
 
-/// The type of functions from these arguments, one after the other.
+/// Returns the type of a curried function with these arguments.
 fn function_from(alloc: Global, arguments: Vec<Ty>, outcome: Ty) -> Result<Ty, AllocError>
     ensures { IfOk result (λ t. type_of t ≡ functions_to (types_of arguments.items) (type_of outcome)) }
 {
@@ -80,7 +80,7 @@ fn function_from(alloc: Global, arguments: Vec<Ty>, outcome: Ty) -> Result<Ty, A
     Ok(ty)
 }
 
-/// The type to which a constructor belongs, over so many parameters.
+/// Returns the type that a constructor belongs to, applied to `count` parameters.
 fn owner_type(alloc: Global, home: &Text, owner: &Name, count: usize) -> Result<Ty, AllocError>
     ensures { IfOk result (λ t. type_of t ≡ App (Named (named home.now owner.now.text)) (arguments_of (numbered 0 count))) }
 {
@@ -89,7 +89,7 @@ fn owner_type(alloc: Global, home: &Text, owner: &Name, count: usize) -> Result<
     Ok(Ty::App(head, parameters))
 }
 
-/// The type of a constructor, by the written types of its arguments.
+/// Returns the type of a constructor with arguments of these types.
 fn constructor_type(
     alloc: Global,
     variables: &TypeVariables<'_>,
@@ -102,7 +102,7 @@ fn constructor_type(
     Ok(function_from(alloc, arguments, outcome)?)
 }
 
-/// The scheme of a constructor of a type of the core.
+/// Returns the scheme of a constructor that the core declares.
 pub fn declared_scheme(
     alloc: Global,
     home: &Text,

@@ -8,7 +8,7 @@ use hm_syntax::Name;
 use hm_types::Text;
 use std::alloc::{AllocError, Global};
 
-/// A name as it is written.
+/// Returns a name as it is written.
 pub(crate) fn written(alloc: Global, name: &Name) -> Result<Text, AllocError>
     ensures { IfOk result (λ t. t ≡ written name.now) }
 {
@@ -21,7 +21,7 @@ pub(crate) fn written(alloc: Global, name: &Name) -> Result<Text, AllocError>
     Text::new(text)
 }
 
-/// The fault of a kind at a name.
+/// Returns the fault of this kind at a name.
 pub fn fault_at(alloc: Global, kind: Kind, name: &Name) -> Result<Fault, AllocError>
     ensures { IfOk result (λ f. f ≡ fault kind name.now) }
 {

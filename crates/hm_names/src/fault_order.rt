@@ -14,7 +14,7 @@ use std::alloc::AllocError;
 use std::cmp::Ordering;
 
 impl Kind {
-    /// The number of the kind.
+    /// Returns the number of the kind.
     pub(crate) fn number(self) -> usize
         ensures { result ≡ kind_number self }
     {
@@ -76,7 +76,7 @@ impl Ord for Fault {
     }
 }
 
-/// The faults in order, each once.
+/// Returns the faults in order, each once.
 pub fn sort_faults(faults: Vec<Fault>) -> Result<Vec<Fault>, AllocError>
     ensures ordered { IfOk result (λ sorted. AreOrdered sorted.items) }
     ensures same { IfOk result (λ sorted. (f : Fault) → Contains sorted.items f ↔ Contains faults.items f) }

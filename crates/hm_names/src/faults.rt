@@ -1,38 +1,38 @@
-//! What can be wrong with a module.
+//! The faults of a module.
 use hm_lex::Place;
 use hm_syntax::Row;
 use hm_types::Text;
 
-/// What is wrong, in the order of the kinds' numbers.
+/// The kind of a fault. Kinds are in the order of their numbers.
 #[derive(Clone, Copy, Debug, PartialEq, Eq)]
 pub enum Kind {
-    /// A listed name that the imported module doesn't export.
+    /// An import list has a name that the imported module doesn't export.
     NotExported,
-    /// A second declaration, signature or parameter of one name.
+    /// A name has a second declaration or signature, or occurs twice in a list of parameters.
     Duplicate,
-    /// A signature whose variable has no binding by clauses in the same list.
+    /// A variable has a signature, but no binding by clauses in the same list.
     NoBinding,
-    /// A name that means nothing.
+    /// A name isn't in scope.
     Unbound,
-    /// A name that means two or more entities.
+    /// A name means two or more entities.
     Ambiguous,
-    /// An exported name that an item before gives to another entity.
+    /// An exported name means another entity in an earlier item.
     ExportClash,
-    /// `module` and a name, in an export list, that no import has.
+    /// `module` and a name are in the export list, but no import has that name.
     NotImported,
-    /// A variable that occurs twice in the patterns of one clause, lambda or alternative.
+    /// A variable occurs twice in the patterns of one clause, lambda or alternative.
     NonLinear,
-    /// A type constructor, or a constructor in a pattern, with a wrong number of arguments.
+    /// A type constructor, or a constructor in a pattern, has the wrong number of arguments.
     Arity,
-    /// A clause with another number of patterns than the first one of its binding.
+    /// A clause doesn't have as many patterns as the first clause of its binding.
     ClauseLength,
-    /// A binding unit without a type.
+    /// A binding unit has no type.
     Untyped,
-    /// A synonym that reaches itself through right sides of synonyms.
+    /// A synonym reaches itself through the right sides of synonyms.
     Recursive,
 }
 
-/// A fault of a module: where, what, and the name as it is written.
+/// A fault of a module: its place, its kind, and the name as it is written.
 #[derive(Drop)]
 pub struct Fault {
     pub place: Place,

@@ -1,4 +1,4 @@
-//! Laws of the definitions. The functions do nothing; each has laws as its contract.
+//! Laws of scopes, faults and cores. Each law is a function with an empty body, and its contract is the law.
 
 ghost use Rattle.hm_names.specs.Worked.{
   AmbiguousRow,
@@ -41,8 +41,8 @@ ghost use Rattle.hm_names.specs.Laws.{
   TopIsBound,
 };
 
-/// Each scope is a list, and each name is unbound, ambiguous, or means one entity. A well-formed module means one thing: its names have a resolution and no other, its synonyms one expansion, it has one core, what is typed of it is
-/// one binding list, under one set of assumptions, and with schemes for its variables it has one interface.
+/// A module has one meaning. Each name is unbound, ambiguous, or means one entity. A well-formed module has one resolution of its names, one
+/// expansion of its synonyms, one core, one binding list, one set of assumptions and, with schemes for its variables, one interface.
 pub fn one_meaning()
     ensures scope { HasScope }
     ensures meaning { HasMeaning }
@@ -54,8 +54,8 @@ pub fn one_meaning()
     ensures interface { HasOneInterface }
 {}
 
-/// The binding list of a core binds the variables that the module declares, and its pattern bindings, each once, and nothing else. What a
-/// module exports of variables is its own, or comes from an interface.
+/// The binding list of a core binds each declared variable and each pattern binding of the module once, and nothing else. The variables that a
+/// module exports are its own, or come from an interface.
 pub fn variables_of_a_module()
     ensures distinct { BindsDistinct }
     ensures own { BindsOwn }
@@ -64,20 +64,20 @@ pub fn variables_of_a_module()
     ensures exported { ExportsOwnOrImported }
 {}
 
-/// What is assumed of imported variables: closed schemes, those of the first entry of each.
+/// The assumptions about imported variables are closed schemes, namely those of the first entry of each.
 pub fn assumptions_of_imports()
     ensures closed { AssumesClosed }
     ensures first { AssumesFirst }
 {}
 
-/// A synonym with its arguments stands for its right side with the types of the arguments put for the parameters.
+/// A synonym with its arguments stands for its right side with the types of the arguments in place of the parameters.
 pub fn expansion_of_synonyms()
     ensures { ExpansionSubstitutes }
 {}
 
-/// Worked modules have the faults that they should, each at its place; what an import hides is unbound; what is in scope only qualified isn't
-/// exported with its module; a synonym puts its arguments in the order of its parameters; a pattern binding binds its variables and itself; a local binder with a
-/// qualifier binds the bare name, and captures no entity.
+/// Worked modules have the right faults at the right places. An import with `hiding` leaves a name unbound. A name that is in scope only
+/// qualified isn't exported with its module. A synonym takes its arguments in the order of its parameters. A pattern binding binds its
+/// variables and itself. A local binder with a qualifier binds the bare name, and captures no entity.
 pub fn worked_modules()
     ensures not_exported { NotExportedRow }
     ensures duplicate { DuplicateRow }
@@ -99,12 +99,12 @@ pub fn worked_modules()
     ensures no_capture { NoCaptureRow }
 {}
 
-/// What the walk notes of a module are the faults that stand somewhere in its trees.
+/// The faults that the walk over a module finds are those in its trees.
 pub fn noted_faults()
     ensures { NotedStands }
 {}
 
-/// What the walk makes of names is what a resolver of the module makes of them.
+/// The walk replaces names exactly as a resolver of the module does.
 pub fn lookups_resolve()
     ensures { LookupsResolve }
 {}

@@ -1,8 +1,8 @@
-//! What names mean in a module (Haskell 98 Report, chapters 4 and 5): its scope, the entity of each name, what it exports, its faults,
-//! and its core, the module with names resolved and synonyms expanded.
+//! The meaning of names in a module (Haskell 98 Report, chapters 4 and 5): its scope, the entity of each name, its exports, its faults, and
+//! its core.
 //!
-//! The definitions stand in `specs/`, and `laws` has what follows from them. The functions read single parts: the names in a tree, a
-//! declared type, the scheme of a constructor, the order of faults.
+//! The definitions are in `specs/`, and `laws` has their laws. The functions read single parts of a tree: its names, a declared type, the
+//! scheme of a constructor, the order of faults.
 #![tactic(auto)]
 
 mod cores;

@@ -1,4 +1,4 @@
-//! Types that are written, as the type system has them (Report, section 4.1.2).
+//! Written types as types of the type system (Report, section 4.1.2).
 
 ghost use Rattle.std.specs.Prelude.{◌≡◌, IfOk, map};
 ghost use Rattle.hm_types.specs.Shape.{type_of, types_of};
@@ -9,7 +9,7 @@ use hm_syntax::{Name, TypeExpr, TypeKind};
 use hm_types::{Entity, Head, Text, Ty, Types};
 use std::alloc::{AllocError, Global};
 
-/// The entity of a resolved name.
+/// Returns the entity of a resolved name.
 pub(crate) fn entity_of(alloc: Global, name: &Name) -> Result<Entity, AllocError>
     ensures { IfOk result (λ e. e ≡ entity_of name.now) }
 {
@@ -25,7 +25,8 @@ pub(crate) fn entity_of(alloc: Global, name: &Name) -> Result<Entity, AllocError
     }
 }
 
-/// A type with resolved names, where a variable has the number of its place among these. It takes no look at the arities of its type constructors.
+/// Returns the type for a written type with resolved names. The number of a variable is its place in the list. Doesn't check the arities of
+/// type constructors.
 #[cycle(types)]
 #[tactic(auto, using(crate::proofs::Rows::type_falls))]
 pub fn monotype(
@@ -61,7 +62,7 @@ pub fn monotype(
     }
 }
 
-/// Types in a row.
+/// Returns the types for a row of written types.
 #[cycle(types)]
 #[tactic(auto, using(crate::proofs::Rows::type_falls))]
 pub(crate) fn monotypes(

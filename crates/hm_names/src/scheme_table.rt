@@ -1,4 +1,4 @@
-//! A table of schemes under the names of variables.
+//! A table of schemes by name.
 
 ghost use Rattle.std.specs.Prelude.{◌≡◌, ℕ, List, None, OnErr, OnOk, Some, if◌then◌else◌, option_copied};
 ghost use Rattle.std.specs.Str.{bytes_eq};
@@ -9,7 +9,7 @@ use indexmap::IndexMap;
 use std::alloc::{AllocError, Global};
 use std::marker::Model;
 
-/// Schemes of variables, by name. Of a name that was put twice the last scheme counts.
+/// Schemes of variables by name. A name has the scheme that was put last.
 pub struct Schemes {
     alloc: Global,
     table: IndexMap<String, Scheme>,
@@ -35,7 +35,7 @@ impl Model for Schemes {
 }
 
 impl Schemes {
-    /// No schemes.
+    /// Returns an empty table.
     pub fn new(alloc: Global) -> Schemes
         ensures { (x : List ℕ) → scheme_of result x ≡ None }
     {
@@ -45,7 +45,7 @@ impl Schemes {
         }
     }
 
-    /// Gives a name its scheme, in place of the one that it had.
+    /// Sets the scheme of a name, and replaces an earlier one.
     pub fn put(&mut self, name: &str, scheme: Scheme) -> Result<(), AllocError>
         ensures given { OnOk result ((x : List ℕ) → scheme_of self.new x ≡ (if bytes_eq name.now x then Some scheme else scheme_of self.old x)) }
         ensures unchanged { OnErr result (self.new ≡ self.old) }
@@ -55,7 +55,7 @@ impl Schemes {
         Ok(())
     }
 
-    /// The scheme of a name.
+    /// Returns the scheme of a name.
     pub fn get(&self, name: &str) -> Option<&Scheme>
         ensures { option_copied result ≡ scheme_of self.now name.now }
     {

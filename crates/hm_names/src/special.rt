@@ -3,7 +3,7 @@
 ghost use Rattle.std.specs.Prelude.{◌≡◌, Some, None, ◌==◌, if◌then◌else◌, option_map};
 ghost use Rattle.hm_names.specs.Special.{special_arity, tuple_of};
 
-/// How many components the tuples of a constructor have.
+/// Returns the number of components of a tuple constructor, or `None` for another text.
 pub fn tuple_arity(text: &[u8]) -> Option<usize>
     ensures { result ≡ option_map special_arity (tuple_of text.now) }
 {
@@ -22,7 +22,7 @@ pub fn tuple_arity(text: &[u8]) -> Option<usize>
     None
 }
 
-/// How many components the tuples of a constructor have with this last byte.
+/// Returns the number of components of a tuple constructor that ends with this byte.
 fn last_arity(last: u8, arity: usize) -> Option<usize>
     ensures { result ≡ (if last == 41 then Some arity else None) }
 {

@@ -1,16 +1,16 @@
-//! How large types may grow.
+//! Limits for the sizes of types.
 
-/// How large the types of a module may grow that its check makes. Synonyms and inference may let them grow exponentially with the source, so
-/// what would pass a limit is refused for want of memory.
+/// Limits for the types that the check of a module makes. Synonyms and inference can make types that are exponential in the size of the source.
+/// A type above a limit is refused like a failed allocation.
 #[derive(Clone, Copy)]
 pub struct TypeLimits {
-    /// How many levels a type may have: constructors that stand inside one another.
+    /// The largest number of nested constructors in a type.
     pub levels: usize,
-    /// How many nodes types may have in all: those that synonyms stand for, and again those that inference makes.
+    /// The number of nodes of all types: counted once for those that synonyms stand for, and again for those of inference.
     pub nodes: usize,
 }
 
-/// Limits for calls that are told none: more than the memory of most machines holds.
+/// The limits for calls without limits of their own: more than fits in the memory of most machines.
 pub const WIDE_LIMITS: TypeLimits = TypeLimits {
     levels: 1 << 20,
     nodes: 1 << 27,

@@ -12,7 +12,7 @@ use indexmap::IndexMap;
 use std::alloc::{AllocError, Global};
 use std::marker::Model;
 
-/// The texts of type variables, in order, each perhaps several times.
+/// The texts of type variables, in order. A text may occur more than once.
 pub struct TypeVariables<'a> {
     texts: Vec<&'a str>,
     first: IndexMap<&'a str, usize>,
@@ -40,7 +40,7 @@ impl<'a> Model for TypeVariables<'a> {
 }
 
 impl<'a> TypeVariables<'a> {
-    /// The variables with these names.
+    /// Returns the variables with these names.
     pub fn of(alloc: Global, names: &LentNames<'a>) -> Result<TypeVariables<'a>, AllocError>
         ensures { IfOk result (λ v. v ≡ texts names.now) }
     {
@@ -49,21 +49,21 @@ impl<'a> TypeVariables<'a> {
         Ok(TypeVariables { texts, first })
     }
 
-    /// How many there are, each time that one occurs.
+    /// Returns the number of occurrences.
     pub fn len(&self) -> usize
         ensures { result ≡ length self.now }
     {
         self.texts.len()
     }
 
-    /// Whether a text is among them.
+    /// Returns whether a text is among them.
     pub fn contains(&self, text: &str) -> bool
         ensures { result ≡ is_text_among text.now self.now }
     {
         self.first.contains_key(text)
     }
 
-    /// The first place of a text, or how many there are if it isn't among them.
+    /// Returns the first place of a text, or the number of occurrences if it has none.
     pub fn place(&self, text: &str) -> usize
         ensures { result ≡ place text.now self.now }
     {
@@ -74,7 +74,7 @@ impl<'a> TypeVariables<'a> {
     }
 }
 
-/// The texts of names.
+/// Returns the texts of names.
 fn texts_of<'a>(alloc: Global, names: &[&'a Name]) -> Result<Vec<&'a str>, AllocError>
     ensures { IfOk result (λ ts. map (λ t. t.now) ts.items ≡ map (λ n. n.now.text) names.now) }
 {
@@ -85,7 +85,7 @@ fn texts_of<'a>(alloc: Global, names: &[&'a Name]) -> Result<Vec<&'a str>, Alloc
     Ok(texts)
 }
 
-/// The first place of each text.
+/// Returns the first place of each text.
 fn first_places<'a>(
     alloc: Global,
     texts: &[&'a str],
@@ -99,7 +99,7 @@ fn first_places<'a>(
     Ok(places)
 }
 
-/// Notes the place of one more text, unless it has an earlier one.
+/// Adds the place of a text, unless it has an earlier one.
 fn note_place<'a>(
     places: &mut IndexMap<&'a str, usize>,
     text: &'a str,

@@ -1,4 +1,4 @@
-//! The variables of patterns, types and declarations, lent, in order.
+//! The variables of patterns, types and declarations, borrowed, in order.
 
 ghost use Rattle.std.specs.Prelude.{◌≡◌, ◌++◌, ◌∷◌, [], OnOk, map};
 ghost use Rattle.hm_syntax.specs.Lists.{patterns, types, constructors, declarations};
@@ -8,7 +8,7 @@ use hm_syntax::{Constr, Decl, DeclKind, Name, Pat, PatKind, TypeExpr, TypeKind};
 use std::alloc::{AllocError, Global};
 use std::marker::Model;
 
-/// Names, lent.
+/// Borrowed names.
 pub struct LentNames<'a> {
     names: Vec<&'a Name>,
 }
@@ -29,7 +29,7 @@ impl<'a> Model for LentNames<'a> {
 }
 
 impl<'a> LentNames<'a> {
-    /// No names.
+    /// Returns an empty list.
     pub fn new(alloc: Global) -> LentNames<'a>
         ensures { result ≡ [] }
     {
@@ -46,7 +46,7 @@ impl<'a> LentNames<'a> {
         Ok(())
     }
 
-    /// The names in order.
+    /// Returns the names in order.
     pub fn as_slice(&self) -> &[&'a Name]
         ensures { map (λ x. x.now) result.now ≡ self.now }
     {
@@ -76,7 +76,7 @@ pub fn add_pattern<'a>(out: &mut LentNames<'a>, pat: &'a Pat) -> Result<(), Allo
     }
 }
 
-/// Adds the variables of patterns in a row.
+/// Adds the variables of a row of patterns.
 #[cycle(patterns)]
 #[tactic(auto, using(crate::proofs::Rows::pattern_falls))]
 pub fn add_patterns<'a>(out: &mut LentNames<'a>, row: &'a [Pat]) -> Result<(), AllocError>
@@ -111,7 +111,7 @@ pub fn add_type<'a>(out: &mut LentNames<'a>, ty: &'a TypeExpr) -> Result<(), All
     }
 }
 
-/// Adds the variables of types in a row.
+/// Adds the variables of a row of types.
 #[cycle(types)]
 #[tactic(auto, using(crate::proofs::Rows::type_falls))]
 pub(crate) fn add_types<'a>(out: &mut LentNames<'a>, row: &'a [TypeExpr]) -> Result<(), AllocError>
@@ -130,7 +130,7 @@ pub fn add_constructor<'a>(out: &mut LentNames<'a>, constr: &'a Constr) -> Resul
     Ok(add_types(out, &constr.args)?)
 }
 
-/// Adds the type variables of constructors in a row.
+/// Adds the type variables of a row of constructors.
 pub fn add_constructors<'a>(out: &mut LentNames<'a>, row: &'a [Constr]) -> Result<(), AllocError>
     ensures { OnOk result (out.new ≡ out.old ++ constructors_variables (constructors row.now)) }
 {

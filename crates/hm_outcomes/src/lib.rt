@@ -1,4 +1,4 @@
-//! What a checked module came to: its verdict for the interfaces of its imports, which the type keeps right.
+//! The outcome of a checked module. Its type guarantees that the verdict is right for the interfaces of the module's imports.
 #![tactic(auto)]
 
 mod outcome;

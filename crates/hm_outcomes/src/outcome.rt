@@ -1,4 +1,4 @@
-//! What a checked module came to.
+//! Outcomes of checked modules.
 
 ghost use Rattle.std.specs.Prelude.{◌≡◌, ◌∷◌, ◌↔◌, IsTrue, map};
 ghost use Rattle.std.specs.Arc.{arc_value};
@@ -15,13 +15,13 @@ use std::sync::Arc;
 /// The verdict of a module for the interfaces of its imports.
 #[derive(Drop)]
 pub enum Verdict {
-    /// It is well-formed and typed, and this is its interface.
+    /// It is well-formed and typed. Has its interface.
     Good(Arc<Interface>),
-    /// Its faults, at least one: those of the first phase that has any, or of its units without a type.
+    /// It has faults, at least one: all faults of the first phase that has any, or one for each unit without a type.
     Faulty(Row<Fault>),
 }
 
-/// A module, the interfaces of its imports, and its verdict for Prelude's interface and these.
+/// A module, the interfaces of its imports, and its verdict for these and Prelude's interface.
 pub struct Outcome {
     module: Arc<Module>,
     imports: Row<Arc<Interface>>,
@@ -58,7 +58,7 @@ impl Model for Outcome {
 }
 
 impl Outcome {
-    /// The outcome of a module with its verdict.
+    /// Returns the outcome of a module with this verdict.
     pub fn new(module: Arc<Module>, imports: Row<Arc<Interface>>, verdict: Verdict) -> Outcome
         requires { IsVerdict (arc_value «module») (prelude_interface ∷ map arc_value imports) (verdict_of verdict) }
         ensures { result ≡ record { «module» = arc_value «module»; imports = map arc_value imports; verdict = verdict_of verdict } }
@@ -70,21 +70,21 @@ impl Outcome {
         }
     }
 
-    /// The module that was checked.
+    /// Returns the module that was checked.
     pub fn module(&self) -> &Arc<Module>
         ensures { arc_value result.now ≡ self.now.«module» }
     {
         &self.module
     }
 
-    /// The interfaces of its imports, Prelude's left out, in order of first import.
+    /// Returns the interfaces of its imports without Prelude's, in order of first import.
     pub fn imports(&self) -> &[Arc<Interface>]
         ensures { map arc_value result.now ≡ self.now.imports }
     {
         self.imports.as_slice()
     }
 
-    /// The verdict.
+    /// Returns the verdict.
     pub fn verdict(&self) -> &Verdict
         ensures value { verdict_of result.now ≡ self.now.verdict }
         ensures right { IsVerdict self.now.«module» (prelude_interface ∷ self.now.imports) self.now.verdict }
@@ -92,7 +92,7 @@ impl Outcome {
         &self.verdict
     }
 
-    /// Whether the module is good.
+    /// Returns whether the module is good.
     pub fn is_good(&self) -> bool
         ensures { IsTrue result ↔ IsGood self.now.verdict }
     {

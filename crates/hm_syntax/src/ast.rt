@@ -1,10 +1,9 @@
-//! The trees of modules. Parentheses leave no trace in them. Contracts see a tree as a value of a family of
-//! `specs/Trees`: each recursive type is a struct around the enum of its kinds.
+//! The trees of modules. They don't keep parentheses. Contracts see a tree as a value of a family of `specs/Trees`: each recursive type is a
+//! struct around the enum of its kinds.
 //!
-//! The special constructors are names like others: `()`, `[]`, `:`, `(,)`, `(,,)` and so on, without a qualifier,
-//! at the place of their first token.
+//! Special constructors are ordinary names: `()`, `[]`, `:`, `(,)`, `(,,)` and so on, without a qualifier, at the place of their first token.
 //!
-//! What drops a tree is written out and not derived, so that it is proved here once, and not again in each crate that drops one.
+//! `Drop` is written by hand and not derived, so that it is proved once here and not in each crate that drops a tree.
 ghost use Rattle.std.specs.Prelude.{◌≡◌, IfOk};
 
 use hm_lex::Place;
@@ -14,9 +13,9 @@ use std::marker::Model;
 
 /// A name as it is written, with the place of its first byte.
 pub struct Name {
-    /// What stands before the last dot; a module's name has none, and its whole text in `text`.
+    /// The part before the last dot. The name of a module has none: its whole text is in `text`.
     pub qualifier: Option<Text>,
-    /// What stands behind the last dot, or the whole.
+    /// The part after the last dot, or the whole name.
     pub text: Text,
     pub place: Place,
 }
@@ -45,7 +44,7 @@ pub struct Literal {
     pub kind: LiteralKind,
 }
 
-/// The kinds of literals, each with its text, quotes included (Report, sections 2.5 and 2.6).
+/// The kinds of literals, each with its text, including quotes (Report, sections 2.5 and 2.6).
 pub enum LiteralKind {
     Integer(Text),
     Character(Text),
@@ -85,7 +84,7 @@ pub struct TypeExpr {
 pub enum TypeKind {
     /// A type variable.
     Var(Name),
-    /// A type constructor with its arguments, as many as are written.
+    /// A type constructor with the arguments that are written.
     Con(Name, Vec<TypeExpr>),
     /// A function type, from the first to the second.
     Arrow(Box<TypeExpr>, Box<TypeExpr>),
@@ -163,9 +162,9 @@ pub struct Pat {
 pub enum PatKind {
     /// A variable, which the pattern binds.
     Var(Name),
-    /// A variable, and behind `@` the pattern that it stands for.
+    /// A variable, with the pattern after `@`.
     Bound(Name, Box<Pat>),
-    /// A constructor with its arguments, as many as are written.
+    /// A constructor with the arguments that are written.
     Con(Name, Vec<Pat>),
     Literal(Literal),
     /// `_`
@@ -174,7 +173,7 @@ pub enum PatKind {
     Tuple(Vec<Pat>),
     /// A list with these elements, at least one: `[]` is a constructor.
     List(Vec<Pat>),
-    /// A pattern behind `~`.
+    /// A pattern after `~`.
     Lazy(Box<Pat>),
 }
 
@@ -232,17 +231,17 @@ pub enum ExprKind {
     Apply(Box<Expr>, Box<Expr>),
     /// At least one pattern, and the body (section 3.3).
     Lambda(Vec<Pat>, Box<Expr>),
-    /// The declarations, and the expression behind `in` (section 3.12).
+    /// The declarations, and the expression after `in` (section 3.12).
     Let(Vec<Decl>, Box<Expr>),
-    /// The condition, and what stands behind `then` and behind `else` (section 3.6).
+    /// The condition, and the expressions after `then` and `else` (section 3.6).
     If(Box<Expr>, Box<Expr>, Box<Expr>),
-    /// The expression that is looked at, and at least one alternative (section 3.13).
+    /// The scrutinee, and at least one alternative (section 3.13).
     Case(Box<Expr>, Vec<Alt>),
     /// A tuple with these components, 2 to 15 (section 3.8).
     Tuple(Vec<Expr>),
     /// A list with these elements, at least one: `[]` is a constructor (section 3.7).
     List(Vec<Expr>),
-    /// An expression with its type, behind `::`.
+    /// An expression with its type, which is written after `::`.
     Typed(Box<Expr>, TypeExpr),
 }
 
@@ -276,9 +275,9 @@ pub struct Alt {
 /// The right side of a clause or an alternative (Report, sections 3.13 and 4.4.3).
 #[cycle(exprs)]
 pub struct Rhs {
-    /// The expressions in order, at least one, each behind its guard: either one without a guard, or all with one.
+    /// The expressions in order, at least one, each with its guard: either one without a guard, or all with guards.
     pub parts: Vec<(Option<Expr>, Expr)>,
-    /// The declarations behind `where`, none where there is no `where`.
+    /// The declarations after `where`. Empty without `where`.
     pub local: Vec<Decl>,
 }
 
@@ -302,19 +301,19 @@ pub struct Decl {
 /// The kinds of declarations.
 #[cycle(exprs)]
 pub enum DeclKind {
-    /// A data type (section 4.2.1), which stands at the top of a module alone.
+    /// A data type (section 4.2.1). Only at the top of a module.
     DataType {
         name: Name,
         params: Vec<Name>,
         constrs: Vec<Constr>,
     },
-    /// A renaming of a type by a constructor with one argument (section 4.2.3), at the top of a module alone.
+    /// A renamed type: a constructor with one argument (section 4.2.3). Only at the top of a module.
     Newtype {
         name: Name,
         params: Vec<Name>,
         constr: Constr,
     },
-    /// A type synonym (section 4.2.2), at the top of a module alone.
+    /// A type synonym (section 4.2.2). Only at the top of a module.
     Synonym {
         name: Name,
         params: Vec<Name>,
@@ -331,7 +330,7 @@ pub enum DeclKind {
         pats: Vec<Pat>,
         rhs: Rhs,
     },
-    /// A pattern binding (section 4.4.3.2), with the place of its first token. The pattern is no lone variable.
+    /// A pattern binding (section 4.4.3.2), with the place of its first token. The pattern isn't just a variable.
     Pattern {
         place: Place,
         pat: Pat,
@@ -457,7 +456,7 @@ impl Model for Decl {
     ghost size_decreases = { λ a h. declaration_smaller a.kind };
 }
 
-/// Things in a row, which contracts see as a list.
+/// A row of things. Contracts see a list.
 #[derive(Drop)]
 pub struct Row<T> {
     pub items: Vec<T>,
@@ -478,11 +477,11 @@ pub struct Module {
     pub decls: Row<Decl>,
 }
 
-/// What stands before a module's declarations.
+/// The part of a module before its declarations.
 pub struct Header {
-    /// The module's name: its whole text, dots included, and no qualifier.
+    /// The module's name: its whole text, with dots, and no qualifier.
     pub name: Name,
-    /// None where the module has no export list.
+    /// The export list, or `None` if there is none.
     pub exports: Option<Row<Export>>,
     pub imports: Row<Import>,
 }
@@ -504,45 +503,45 @@ pub enum Export {
     Var(Name),
     /// A type, with some of its constructors.
     Con(Name, SubItems),
-    /// What `module` and a name export.
+    /// `module` and a name.
     Whole(Name),
 }
 
-/// The constructors that are listed behind a type.
+/// The constructors that are listed after a type.
 #[derive(Drop)]
 pub enum SubItems {
-    /// The name stands alone.
+    /// No list.
     None,
     /// `(..)`
     All,
-    /// These, perhaps none: `()`.
+    /// A list, which may be empty: `()`.
     Some(Row<Name>),
 }
 
 /// An import declaration (Report, section 5.3).
 #[derive(Drop)]
 pub struct Import {
-    /// Whether `qualified` stands before the name.
+    /// Whether `qualified` is before the name.
     pub qualified: bool,
     /// The name of the imported module.
     pub name: Name,
-    /// The name behind `as`.
+    /// The name after `as`.
     pub alias: Option<Name>,
     pub list: ImportList,
 }
 
-/// Which of a module's exports are imported (Report, section 5.3.1).
+/// The exports that are imported (Report, section 5.3.1).
 #[derive(Drop)]
 pub enum ImportList {
-    /// All, since there is no list.
+    /// All of them, because there is no list.
     Every,
-    /// These alone.
+    /// Only these.
     Only(Row<ImportItem>),
-    /// All but these.
+    /// All except these.
     Hiding(Row<ImportItem>),
 }
 
-/// An item of an import list. Behind `hiding` a `Con` may be a constructor too.
+/// An item of an import list. After `hiding` a `Con` may be a constructor too.
 #[derive(Drop)]
 pub enum ImportItem {
     /// A variable.
@@ -552,21 +551,21 @@ pub enum ImportItem {
 }
 
 impl Name {
-    /// The text, without its qualifier.
+    /// Returns the text without the qualifier.
     pub fn as_str(&self) -> &str
         ensures { result.now ≡ self.now.text }
     {
         self.text.as_str()
     }
 
-    /// The text, without its qualifier. A copy of it shares its bytes.
+    /// Returns the text without the qualifier. A copy of it shares its bytes.
     pub fn as_text(&self) -> &Text
         ensures { result.now ≡ self.now.text }
     {
         &self.text
     }
 
-    /// Returns the same name at the same place, which shares the texts.
+    /// Returns the same name at the same place. The copy shares the texts.
     ///
     /// # Errors
     ///
@@ -587,7 +586,7 @@ impl Name {
 }
 
 impl<T> Row<T> {
-    /// The elements in order.
+    /// Returns the elements in order.
     pub fn as_slice(&self) -> &[T]
         ensures { result.now ≡ self.now }
     {

@@ -1,4 +1,4 @@
-//! The trees of Haskell 98 modules (Report, chapters 3, 4 and 5) and how contracts see them.
+//! The trees of Haskell 98 modules (Report, chapters 3, 4 and 5), and how contracts see them.
 #![tactic(auto)]
 
 mod ast;

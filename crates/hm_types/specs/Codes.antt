@@ -1,4 +1,4 @@
--- Codes of types, by which the prover tells them apart. No public clause names these.
+-- Codes of types, with which the prover decides equality. No public clause names these.
 use Rattle.std.specs.Prelude.{◌≡◌, ℕ, zero, suc, List, [], refl}
 use Rattle.std.specs.Coded.{Coded, code_by, coded×, coded_ℕ, coded_list}
 use Rattle.std.proofs.Common.{ap}
@@ -9,7 +9,7 @@ use Rattle.hm_types.specs.declared.Head.{Head}
 use Rattle.hm_types.specs.declared.Head.TheVariants.{Named, Arrow, Tuple}
 use Rattle.hm_types.specs.declared.Head.TheVariants as head
 
--- How a head is stored: which it is, and its parts.
+-- how a head is stored: its kind and its parts
 abbrev pub Parts : Type 0
 Parts = ℕ × (List ℕ × (List ℕ × ℕ))
 

@@ -17,7 +17,7 @@ pub record TypeScheme : Type 0 where
 abbrev pub coded_scheme : Coded TypeScheme
 coded_scheme = code_by (ℕ × Mono) (coded× coded_ℕ coded_mono) (λ s. (s.vars, s.body)) (λ p. record { vars = p.0; body = p.1 }) (λ _. refl)
 
--- a type is an instance of a closed scheme when it is the body with types put for the quantified variables, which are all that it has
+-- a type is an instance of a closed scheme if it is the body with types in place of the quantified variables, which are all variables of the body
 abbrev pub IsInstance : Mono → TypeScheme → Type 0
 IsInstance t s = (f : Substitution) × (substitute f s.body ≡ t)
 
@@ -25,7 +25,7 @@ IsInstance t s = (f : Substitution) × (substitute f s.body ≡ t)
 abbrev pub IsAtLeastAsGeneral : TypeScheme → TypeScheme → Type 0
 IsAtLeastAsGeneral general special = (t : Mono) → IsInstance t special → IsInstance t general
 
--- a type constructor takes this number of arguments (Haskell 98 Report, section 4.1.2); that of a named one its definition tells
+-- a type constructor takes this number of arguments (Haskell 98 Report, section 4.1.2). For a named one, its definition says how many
 abbrev pub FitsHead : Head → ℕ → Type 0
 FitsHead (Named e) n = Unit {0}
 FitsHead Arrow n = n ≡ 2
@@ -34,7 +34,7 @@ FitsHead head.Unit n = n ≡ 0
 FitsHead (Tuple k) n = n ≡ k
 
 abbrev mutual
-  -- each head has as many arguments as it takes
+  -- each head has its number of arguments
   pub HasArities : Mono → Type 0
   HasArities (leaf (var n)) = Unit {0}
   HasArities (leaf (rigid n)) = Unit {0}
@@ -60,7 +60,7 @@ is_among n [] = false
 is_among n (x ∷ xs) = n == x || is_among n xs
 
 abbrev mutual
-  -- the variables seen so far, and those of the type, in order of first occurrence
+  -- the variables seen so far, then those of the type, in order of first occurrence
   pub variables_after : List ℕ → Mono → List ℕ
   variables_after seen (leaf (var n)) = if is_among n seen then seen else (seen ++ n ∷ [])
   variables_after seen (leaf (rigid n)) = seen
@@ -85,12 +85,12 @@ numbering xs = λ n. leaf (var (place n xs))
 abbrev pub canonical_of : Mono → TypeScheme
 canonical_of t = record { vars = length (variables t); body = substitute (numbering (variables t)) t }
 
--- so many numbers, from one on
+-- n numbers, from k on
 abbrev pub count_up : ℕ → ℕ → List ℕ
 count_up from zero = []
 count_up from (suc n) = from ∷ count_up (from + 1) n
 
--- a scheme that stands alone: its variables are 0, 1, 2 .., in order of first occurrence, none is free, each occurs, none is rigid
+-- a closed scheme: its variables are 0, 1, 2 .., in order of first occurrence, none is free, each occurs, none is rigid
 pub record IsScheme (s : TypeScheme) : Type 0 where
   pub closed : (n : ℕ) → occurs n s.body ≡ true → n < s.vars
   pub used : (n : ℕ) → n < s.vars → occurs n s.body ≡ true

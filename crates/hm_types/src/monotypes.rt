@@ -1,4 +1,4 @@
-//! Types with variables, which no scheme quantifies: copies, comparison, replacement.
+//! Types with variables that no scheme quantifies: copies, comparison, replacement of variables.
 
 ghost use Rattle.std.specs.Prelude.{◌≡◌, ◌↔◌, IfOk, IsTrue};
 ghost use Rattle.hm_types.specs.Types.{App as app, done as none, more};
@@ -10,8 +10,8 @@ use crate::Head;
 use std::alloc::{AllocError, Global};
 use std::marker::Model;
 
-/// A type: a variable by its number, a rigid variable, which stands for a type that is not known
-/// and equals itself alone, or a type constructor with its arguments.
+/// A type: a variable, by number; a rigid variable, which stands for an unknown type and equals only
+/// itself; or a type constructor with its arguments.
 #[cycle(ty)]
 #[derive(Drop)]
 pub enum Ty {
@@ -49,14 +49,14 @@ impl Model for Types {
 }
 
 impl Types {
-    /// The arguments of a `Vec`, in its order, and takes no memory.
+    /// Makes arguments of a `Vec`, in its order. Allocates nothing.
     pub fn new(items: Vec<Ty>) -> Types
         ensures { result ≡ types_of items.items }
     {
         Types { items }
     }
 
-    /// Gives the `Vec` back, and takes no memory.
+    /// Returns the arguments as a `Vec`. Allocates nothing.
     pub fn into_vec(self) -> Vec<Ty>
         ensures { types_of result.items ≡ self }
     {
@@ -64,7 +64,7 @@ impl Types {
         items
     }
 
-    /// The arguments, lent.
+    /// Returns the arguments as a slice.
     pub fn as_slice(&self) -> &[Ty]
         ensures { types_of result.now ≡ self.now }
     {
@@ -73,7 +73,7 @@ impl Types {
 }
 
 impl Ty {
-    /// The type of functions from `argument` to `outcome`.
+    /// Returns the type of functions from `argument` to `outcome`.
     pub fn function(alloc: Global, argument: Ty, outcome: Ty) -> Result<Ty, AllocError>
         ensures { IfOk result (λ t. type_of t ≡ app arrow (more (type_of argument) (more (type_of outcome) none))) }
     {
@@ -83,7 +83,7 @@ impl Ty {
         Ok(Ty::App(Head::Arrow, Types::new(arguments)))
     }
 
-    /// A copy, where memory allows.
+    /// Returns a copy, unless memory runs out.
     pub fn copy(&self, alloc: Global) -> Result<Ty, AllocError>
         ensures { IfOk result (λ t. type_of t ≡ type_of self.now) }
     {
@@ -101,8 +101,8 @@ impl Ty {
         }
     }
 
-    /// The type with types put for its variables, each for the variable that is its place in the
-    /// list. Other variables stay as they are.
+    /// Returns the type with each variable replaced by the type at its place in the list. Variables
+    /// past the end of the list stay.
     pub fn replace_all(&self, alloc: Global, types: &[Ty]) -> Result<Ty, AllocError>
         ensures { IfOk result (λ t. type_of t ≡ substitute (listed (types_of types.now)) (type_of self.now)) }
     {
@@ -126,7 +126,7 @@ impl Ty {
         }
     }
 
-    /// Whether the variable `variable` occurs in the type.
+    /// Returns whether the variable `variable` occurs in the type.
     pub fn contains(&self, variable: usize) -> bool
         ensures { result ≡ occurs variable (type_of self.now) }
     {
@@ -144,7 +144,7 @@ impl Ty {
         }
     }
 
-    /// Whether both are the same type, variables by number.
+    /// Returns whether both are the same type. Variables are compared by number.
     pub fn is_same(&self, other: &Ty) -> bool
         ensures { IsTrue result ↔ (type_of self.now ≡ type_of other.now) }
     {
@@ -152,7 +152,7 @@ impl Ty {
     }
 }
 
-/// Whether two types are the same.
+/// Returns whether two types are the same.
 #[cycle(same)]
 fn same_type(left: &Ty, right: &Ty) -> bool
     ensures { IsTrue result ↔ (type_of left.now ≡ type_of right.now) }
@@ -167,7 +167,7 @@ fn same_type(left: &Ty, right: &Ty) -> bool
     }
 }
 
-/// Whether two lists of types are the same.
+/// Returns whether two lists of types are the same.
 #[cycle(same)]
 fn same_types(lefts: &[Ty], rights: &[Ty]) -> bool
     ensures { IsTrue result ↔ (types_of lefts.now ≡ types_of rights.now) }

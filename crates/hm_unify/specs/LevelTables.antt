@@ -1,4 +1,4 @@
--- How the solver keeps levels, on its own data. No public clause names these.
+-- The solver's tables of levels. No public clause names these.
 use Rattle.std.specs.Prelude.{◌≡◌, ℕ, ◌<◌, Bool, true, false, ◌==◌, if◌then◌else◌, List, [], ◌∷◌, ◌↔◌, ◌⊎◌, length, slice_index_or}
 use Rattle.hm_types.specs.Monotypes.{Leaf, var, rigid}
 use Rattle.hm_unify.specs.Unifier.{Equation}
@@ -8,11 +8,11 @@ use Rattle.hm_unify.specs.declared.levels.Change.{Change}
 use Rattle.hm_unify.specs.declared.levels.LevelTable.{LevelTable}
 use Rattle.hm_unify.specs.declared.levels.Levels.{Levels}
 
--- the level that a table has for a number: past its end that number
+-- the level of a number in a table. A number past the end has itself as its level
 abbrev pub level_in : List ℕ → ℕ → ℕ
 level_in levels n = slice_index_or levels n n
 
--- the level before the changes, of which the first is the oldest, where it is `now` after them
+-- the level of n before these changes, the oldest first, if it is `now` after them
 abbrev pub level_before : List Change → ℕ → ℕ → ℕ
 level_before [] n now = now
 level_before (c ∷ cs) n now = if c.number == n then c.level else level_before cs n now
@@ -27,7 +27,7 @@ table_level t n = level_in t.levels.items n
 abbrev pub table_level_before : LevelTable → ℕ → ℕ
 table_level_before t n = level_before t.changes.items n (table_level t n)
 
--- each change is of a number that the table has
+-- the table has the number of each change
 abbrev pub TableIsWithin : LevelTable → Type 0
 TableIsWithin t = AreWithin (length t.levels.items) t.changes.items
 
@@ -36,7 +36,7 @@ pub record TableContinues (old new : LevelTable) : Type 0 where
   pub same : (n : ℕ) → table_level_before new n ≡ table_level_before old n
   pub within : TableIsWithin old → TableIsWithin new
 
--- the level of one number is at most `level` now
+-- the level of one number is now at most `level`
 pub record TableLowers (n level : ℕ) (old new : LevelTable) : Type 0 where
   pub levels : (m k : ℕ) → (table_level new m < k) ↔ ((table_level old m < k) ⊎ (((n == m) ≡ true) × (level < k)))
 
@@ -56,7 +56,7 @@ pub record Continues (old new : Levels) : Type 0 where
   pub variables : TableContinues old.variables new.variables
   pub rigids : TableContinues old.rigids new.rigids
 
--- the levels of some variables are at most `level` now
+-- the levels of these variables are now at most `level`
 pub record Lowers (lowered : Leaf → Bool) (level : ℕ) (old new : Levels) : Type 0 where
   pub levels : (x : Leaf) (k : ℕ) → (level_of new x < k) ↔ ((level_of old x < k) ⊎ ((lowered x ≡ true) × (level < k)))
 
@@ -69,6 +69,6 @@ abbrev pub IsUnbound : List Equation → Leaf → Type 0
 IsUnbound es (var n) = is_bound n es ≡ false
 IsUnbound es (rigid n) = Unit {0}
 
--- the level of each variable that is not bound is the least number of a variable in whose value it occurs
+-- the level of each unbound variable is the least number of a variable in whose value it occurs
 pub record IsLevelled (es : List Equation) (l : Levels) : Type 0 where
   pub exact : (x : Leaf) (k : ℕ) → IsUnbound es x → (level_of l x < k) ↔ IsOuter es k x

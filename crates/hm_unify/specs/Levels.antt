@@ -1,4 +1,4 @@
--- Levels of variables: which of them occur in the value of a variable that was given before a level was opened.
+-- Levels of variables: which variables occur in the value of one that was given before a level was opened.
 use Rattle.std.specs.Prelude.{◌≡◌, ℕ, zero, suc, ◌<◌, Bool, true, false, ◌||◌, ◌==◌, if◌then◌else◌, List, [], ◌∷◌, ◌++◌}
 use Rattle.hm_types.specs.Types.{App as app, done as none, more, Var as leaf}
 use Rattle.hm_types.specs.Monotypes.{Leaf, Mono, Monos, var, rigid}
@@ -27,23 +27,23 @@ abbrev mutual
   has_in_any x none = false
   has_in_any x (more t ts) = has x t || has_in_any x ts
 
--- what the equations make of a variable; a rigid one stays as it is
+-- the value of a variable under the equations; a rigid one is its own value
 abbrev pub value_of : List Equation → Leaf → Mono
 value_of es v = substitute (solution es) (leaf v)
 
--- the variable occurs in the value of one whose number is below `k`
+-- the variable occurs in the value of one with a number below `k`
 pub record IsOuter (es : List Equation) (k : ℕ) (x : Leaf) : Type 0 where
   pub holder : Leaf
   pub before : number_of holder < k
   pub held : has x (value_of es holder) ≡ true
 
--- whether it does
+-- the test for that
 abbrev pub is_outer : List Equation → ℕ → Leaf → Bool
 is_outer es zero x = false
 is_outer es (suc n) x = has x (value_of es (var n)) || (has x (value_of es (rigid n)) || is_outer es n x)
 
 abbrev mutual
-  -- the numbers seen so far, and those of the variables of the type that are not outer, in order of first occurrence
+  -- the numbers seen so far, then those of the type's variables that aren't outer, in order of first occurrence
   pub deeper_after : List Equation → ℕ → List ℕ → Mono → List ℕ
   deeper_after es k seen (leaf v) = if is_outer es k v || is_among (number_of v) seen then seen else (seen ++ number_of v ∷ [])
   deeper_after es k seen (app h ts) = deeper_after_all es k seen ts
@@ -52,11 +52,11 @@ abbrev mutual
   deeper_after_all es k seen none = seen
   deeper_after_all es k seen (more t ts) = deeper_after_all es k (deeper_after es k seen t) ts
 
--- the numbers of the variables of a type that are not outer
+-- the numbers of a type's variables that aren't outer
 abbrev pub deeper_numbers : List Equation → ℕ → Mono → List ℕ
 deeper_numbers es k t = deeper_after es k [] t
 
--- how many variables had been given when the innermost level was opened, of the levels that are open, the innermost first
+-- the number of variables that had been given when the innermost open level was opened
 abbrev pub given_before : List ℕ → ℕ
 given_before [] = 0
 given_before (k ∷ ks) = k

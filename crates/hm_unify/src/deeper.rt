@@ -1,4 +1,4 @@
-//! The variables of a type that occur in the value of no older one.
+//! The variables of a type that don't occur in the value of an older variable.
 
 ghost use Rattle.std.specs.Prelude.{◌≡◌, ◌||◌, ◌++◌, ◌∷◌, [], if◌then◌else◌, OnOk};
 ghost use Rattle.hm_types.specs.Monotypes.{var, rigid};
@@ -15,7 +15,7 @@ use hm_types::Ty;
 use std::alloc::{AllocError, Global};
 use std::collections::HashMap;
 
-/// Whether a variable occurs in the value of one of the first `count`.
+/// Returns whether a variable occurs in the value of one of the first `count` variables.
 pub(crate) fn is_outer_variable(
     bindings: &Bindings,
     levels: &Levels,
@@ -32,7 +32,7 @@ pub(crate) fn is_outer_variable(
     levels.of_variable(number) < count
 }
 
-/// The same for a rigid variable.
+/// Returns the same for a rigid variable.
 pub(crate) fn is_outer_rigid(
     bindings: &Bindings,
     levels: &Levels,
@@ -46,14 +46,14 @@ pub(crate) fn is_outer_rigid(
     levels.of_rigid(number) < count
 }
 
-/// Numbers in the order in which they were seen. A table has the place of each.
+/// Numbers in the order in which they were seen, with a table of the place of each.
 #[derive(Drop)]
 pub(crate) struct Seen {
     pub numbers: Vec<usize>,
     pub places: HashMap<usize, usize>,
 }
 
-/// No numbers.
+/// Returns an empty list.
 pub(crate) fn none_seen(alloc: Global) -> Seen
     ensures numbers { result.numbers.items ≡ [] }
     ensures placed { Numbers result.places result.numbers.items }
@@ -64,7 +64,7 @@ pub(crate) fn none_seen(alloc: Global) -> Seen
     }
 }
 
-/// Adds a number to those seen, unless it is there or is that of an outer variable.
+/// Adds a number, unless it was seen before or is that of an outer variable.
 fn see(seen: &mut Seen, is_outer: bool, number: usize) -> Result<(), AllocError>
     requires { Numbers seen.old.places seen.old.numbers.items }
     ensures numbers { OnOk result (seen.new.numbers.items
@@ -83,8 +83,8 @@ fn see(seen: &mut Seen, is_outer: bool, number: usize) -> Result<(), AllocError>
     Ok(())
 }
 
-/// Adds to the numbers seen those of the variables of a type that are in the value of none of the
-/// first `count`.
+/// Adds the numbers of a type's variables that aren't in the value of any of the first `count`
+/// variables.
 pub(crate) fn collect_deeper(
     bindings: &Bindings,
     levels: &Levels,

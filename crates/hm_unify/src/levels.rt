@@ -1,4 +1,4 @@
-//! Levels of variables: for each the least number of a variable in whose value it occurs.
+//! Levels of variables. The level of a variable is the least number of a variable in whose value it occurs.
 
 ghost use Rattle.std.specs.Prelude.{◌≡◌, ◌<◌, ◌≤◌, ℕ, [], OnOk, length};
 ghost use Rattle.hm_types.specs.Monotypes.{Leaf, var, rigid};
@@ -9,15 +9,15 @@ ghost use Rattle.hm_unify.specs.LevelTables.{level_in, table_level, table_level_
 use hm_types::Ty;
 use std::alloc::{AllocError, Global};
 
-/// A level that was lowered: what it was.
+/// A number whose level was lowered, with its former level.
 #[derive(Drop)]
 struct Change {
     number: usize,
     level: usize,
 }
 
-/// A level for each number: the number itself, where the table has no lower one. The changes since
-/// the last time that they were kept are known.
+/// A level for each number: the number itself, unless the table has a lower one. Keeps the changes
+/// since the last `keep`, so that they can be undone.
 #[derive(Drop)]
 struct LevelTable {
     levels: Vec<usize>,
@@ -45,7 +45,7 @@ impl LevelTable {
         }
     }
 
-    /// Lowers the level of a number, unless it is as low.
+    /// Lowers the level of a number to this one, unless it is as low.
     fn lower(&mut self, number: usize, level: usize) -> Result<(), AllocError>
         ensures lowered { OnOk result (TableLowers number level self.old self.new) }
         ensures continued { TableContinues self.old self.new }
@@ -63,7 +63,7 @@ impl LevelTable {
         Ok(())
     }
 
-    /// Takes all changes back.
+    /// Undoes all changes since the last `keep`.
     fn undo(&mut self)
         requires { TableIsWithin self.old }
         ensures levels { (n : ℕ) → table_level self.new n ≡ table_level_before self.old n }
@@ -74,7 +74,7 @@ impl LevelTable {
         }
     }
 
-    /// Keeps all changes.
+    /// Makes all changes permanent.
     fn keep(&mut self)
         ensures levels { (n : ℕ) → table_level self.new n ≡ table_level self.old n }
         ensures unchanged { self.new.changes.items ≡ [] }
@@ -83,7 +83,7 @@ impl LevelTable {
     }
 }
 
-/// Makes room for the level of a number.
+/// Grows the table so that it has a level for this number.
 fn grow(levels: &mut Vec<usize>, number: usize) -> Result<(), AllocError>
     ensures same { (n : ℕ) → level_in levels.new.items n ≡ level_in levels.old.items n }
     ensures longer { length levels.old.items ≤ length levels.new.items }
@@ -96,7 +96,7 @@ fn grow(levels: &mut Vec<usize>, number: usize) -> Result<(), AllocError>
     Ok(())
 }
 
-/// The levels of variables, and those of rigid ones.
+/// The levels of variables, and those of rigid variables.
 #[derive(Drop)]
 pub(crate) struct Levels {
     variables: LevelTable,
@@ -104,7 +104,7 @@ pub(crate) struct Levels {
 }
 
 impl Levels {
-    /// Each variable at its own number.
+    /// Returns levels at which each variable has its own number.
     pub(crate) fn new(alloc: Global) -> Levels
         ensures own { (x : Leaf) → level_of result x ≡ number_of x }
         ensures unchanged { HasNoChanges result }
@@ -115,21 +115,21 @@ impl Levels {
         }
     }
 
-    /// The level of a variable.
+    /// Returns the level of a variable.
     pub(crate) fn of_variable(&self, number: usize) -> usize
         ensures { result ≡ level_of self.now (var number) }
     {
         self.variables.of(number)
     }
 
-    /// The level of a rigid variable.
+    /// Returns the level of a rigid variable.
     pub(crate) fn of_rigid(&self, number: usize) -> usize
         ensures { result ≡ level_of self.now (rigid number) }
     {
         self.rigids.of(number)
     }
 
-    /// Lowers the levels of the variables of a type, where they aren't as low.
+    /// Lowers the levels of all variables of a type to this one, unless they are as low.
     pub(crate) fn lower(&mut self, t: &Ty, level: usize) -> Result<(), AllocError>
         ensures lowered { OnOk result (Lowers (λ x. has x (type_of t.now)) level self.old self.new) }
         ensures continued { Continues self.old self.new }
@@ -146,7 +146,7 @@ impl Levels {
         Ok(())
     }
 
-    /// Takes back all changes since they were last kept.
+    /// Undoes all changes since the last `keep`.
     pub(crate) fn undo(&mut self)
         requires { IsWithin self.old }
         ensures levels { (x : Leaf) → level_of self.new x ≡ level_of_before self.old x }
@@ -156,7 +156,7 @@ impl Levels {
         self.rigids.undo();
     }
 
-    /// Keeps all changes.
+    /// Makes all changes permanent.
     pub(crate) fn keep(&mut self)
         ensures levels { (x : Leaf) → level_of self.new x ≡ level_of self.old x }
         ensures unchanged { HasNoChanges self.new }
