@@ -1,27 +1,27 @@
--- What is read of the readers and written to the writer.
+-- The bytes that are read from readers and written to the writer.
 use Rattle.std.specs.Prelude.{◌≡◌, ℕ, ◌<◌, List, [], ◌∷◌, ◌++◌, Option, Some, IfSome, drop, get_or, length, take}
 use Rattle.std.specs.Io.KnownBytes.{Appends}
 use Rattle.hm_devices.specs.declared.watched.Watched.{Watched}
 use Rattle.hm_devices.specs.Watching.{HasReadFault}
 
--- what is held of a reader's bytes: all, or as many as show that a source is too long
+-- the bytes of a reader that are kept: all, or enough to show that a source is too long
 abbrev pub held_of : List ℕ → List ℕ
 held_of bytes = take 1048577 bytes
 
--- what such a reader has left then: nothing, or what stands behind the bytes that show it
+-- the bytes that a reader has left after that
 abbrev pub left_of : List ℕ → List ℕ
 left_of bytes = drop 1048577 bytes
 
--- a reader that told its bytes was read to their end, or so far that they are too many, and no further
+-- a reader that reports its bytes was read to its end or, if it has too many, just far enough to show that
 abbrev pub IsReadUp : Option (List ℕ) → Option (List ℕ) → Type 0
 IsReadUp old new = IfSome old (λ bytes. new ≡ Some (left_of bytes))
 
--- each reader was read so
+-- each reader was read like that
 pub record AreReadUp {R : Type 0} (remaining : R → Option (List ℕ)) (olds news : List R) : Type 0 where
   pub as_many : length news ≡ length olds
   pub each : (k : ℕ) (d : R) → k < length olds → IsReadUp (remaining (get_or olds k d)) (remaining (get_or news k d))
 
--- reading stopped at this reader: those before it were read up, and those behind it were not touched
+-- reading stopped at this reader: those before it were read up, and those after it weren't read
 pub record StopsAt {R : Type 0} (remaining : R → Option (List ℕ)) (olds news : List R) (place : ℕ) : Type 0 where
   pub as_many : length news ≡ length olds
   pub inside : place < length olds
@@ -39,7 +39,7 @@ pub record StopsAtFault {R : Type 0} (remaining : Watched R → Option (List ℕ
   pub stops : StopsAt remaining olds news place
   pub fault : (d : Watched R) → HasReadFault (get_or news place d)
 
--- each reader tells its bytes, and these are they
+-- each reader reports its bytes exactly, and these are the bytes
 abbrev pub Tell : {R : Type 0} → (R → Option (List ℕ)) → List R → List (List ℕ) → Type 0
 Tell remaining [] [] = Unit {0}
 Tell remaining [] (s ∷ ss) = ⊥

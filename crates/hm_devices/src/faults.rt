@@ -1,26 +1,26 @@
-//! Why a run gives no status.
+//! The faults of a run.
 use std::alloc::{AllocError, AllocFailed};
 use thiserror::Error;
 
-/// Why a run gives no status. A run of the plan answers the first three alone.
+/// Why a run has no status. A run of the plan returns only the first three.
 #[derive(Clone, Copy, Debug, PartialEq, Eq, Drop, Error)]
 pub enum RunFault {
-    /// A reader failed, and not by an interrupt, or had not come to its end after 2,097,152 reads. Nothing was written.
+    /// A read failed other than by an interrupt, or a reader hadn't ended after 2,097,152 reads. Nothing was written.
     #[error("read fault")]
     Read,
-    /// The writer failed, or took no byte, or was interrupted 2,097,152 times. A part of the text may be written.
+    /// A write failed or took no byte, or was interrupted 2,097,152 times, or a flush failed. A part of the text may be written.
     #[error("write fault")]
     Write,
     /// Memory ran out. Nothing was written.
     #[error("no memory")]
     Memory,
-    /// No thread could be started. Nothing was written.
+    /// No thread could start. Nothing was written.
     #[error("no worker")]
     NoWorker,
-    /// The workers don't agree with the store or with one another. Nothing was written.
+    /// The workers contradict the store or each other. Nothing was written.
     #[error("mixed")]
     Mixed,
-    /// The workers that were asked for are not 1 to 16. Nothing was read.
+    /// The number of workers isn't 1 to 16. Nothing was read.
     #[error("workers not 1 to 16")]
     Workers,
 }

@@ -1,4 +1,6 @@
-//! Readers and writers that count how their devices answer: sources are read to their ends, and a text is written whole.
+//! Reads sources to their ends and writes a text whole, through readers and writers that count the replies of their devices.
+//!
+//! [`Watched`] wraps a reader or writer. [`read_all`] reads sources, [`write_text`] writes a text and flushes it.
 #![tactic(auto)]
 
 mod faults;

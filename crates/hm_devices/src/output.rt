@@ -1,4 +1,4 @@
-//! Writing the text.
+//! Writes a text.
 ghost use Rattle.std.specs.Prelude.{◌≡◌, IfErr, OnErr, OnOk};
 ghost use Rattle.std.specs.Io.KnownBytes.{Appends};
 ghost use Rattle.hm_devices.specs.Sources.{WritesPrefix};
@@ -7,10 +7,10 @@ ghost use Rattle.hm_devices.specs.Watching.{device_of, HasWriteFault, IsFlushedB
 use crate::{RunFault, Watched};
 use std::io::{ErrorKind, Write};
 
-/// How many interrupted writes are tried again, and one more.
+/// The number of interrupted writes at which writing fails.
 const MOST_INTERRUPTS: u64 = 2_097_152;
 
-/// Writes the whole text and flushes.
+/// Writes the whole text, and flushes the writer.
 pub fn write_text<W: Write>(writer: &mut Watched<W>, text: &[u8]) -> Result<(), RunFault>
     requires { IsFresh writer.old }
     ensures bytes { OnOk result (Appends (W.contents (device_of writer.old)) (W.contents (device_of writer.new)) text.now) }

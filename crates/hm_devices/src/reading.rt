@@ -1,4 +1,4 @@
-//! Reading the sources.
+//! Reads sources.
 ghost use Rattle.std.specs.Prelude.{All, Any, map, ◌≡◌, ℕ, List, ◌⊎◌, ◌+◌, ◌++◌, ◌<◌, ◌≤◌, Some, Ok, IfErr, IfOk, IfSome, IsErrOf, OnErr, OnOk, vec_len};
 ghost use Rattle.std.specs.Io.KnownBytes.{Consumes, IsAtEnd};
 ghost use Rattle.hm_devices.specs.Counting.{one_more};
@@ -9,16 +9,16 @@ use crate::{RunFault, Watched};
 use std::alloc::Global;
 use std::io::{ErrorKind, Read};
 
-/// A source that holds one byte more than this is too long, and is not read on.
+/// A source with more bytes than this is too long, and isn't read further.
 const MAX_SOURCE_LEN: usize = 1_048_576;
 
-/// How often one reader is read.
+/// The largest number of reads of one reader.
 const MOST_READS: u64 = 2_097_152;
 
-/// How many bytes one read asks for.
+/// The number of bytes that one read requests.
 const CHUNK: usize = 4096;
 
-/// One read, which appends what came: how many bytes, or `None` where it was interrupted.
+/// Reads once, and appends the bytes. Returns their number, or `None` if the read was interrupted.
 fn read_once<R: Read>(
     reader: &mut Watched<R>,
     held: &mut Vec<u8>,
@@ -56,7 +56,7 @@ fn read_once<R: Read>(
     }
 }
 
-/// Reads one source: to a read of no bytes, or until it is seen to be too long.
+/// Reads one source, to a read of no bytes or until it is too long.
 pub(crate) fn read_source<R: Read>(
     alloc: Global,
     reader: &mut Watched<R>,

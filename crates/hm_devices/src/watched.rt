@@ -1,4 +1,4 @@
-//! A reader or a writer that counts how its device answers.
+//! Readers and writers that count the replies of their devices.
 ghost use Rattle.std.specs.Prelude.{◌≡◌, ◌<◌, false, IfErr, IfOk, IsTrue, OnOk, OnErr};
 ghost use Rattle.std.specs.Io.{ReadsAtMost, WritesAtMost};
 ghost use Rattle.std.specs.Io.KnownBytes.{Keeps, ReadConsumes, WriteAppends};
@@ -8,7 +8,7 @@ ghost use Rattle.hm_devices.specs.Watching.{device_of, reads_of, bytes_of, inter
 use std::io;
 use std::io::{ErrorKind, Read, Write};
 
-/// A reader or a writer that passes on each answer of its device, and counts.
+/// A reader or a writer that returns each reply of its device, and counts it.
 #[derive(Drop)]
 pub struct Watched<D> {
     device: D,
@@ -21,7 +21,7 @@ pub struct Watched<D> {
 }
 
 impl<D> Watched<D> {
-    /// Watches a device from here on.
+    /// Wraps a device, with all counts at 0.
     pub fn new(device: D) -> Watched<D>
         ensures device { device_of result ≡ device }
         ensures fresh { IsFresh result }
@@ -37,42 +37,42 @@ impl<D> Watched<D> {
         }
     }
 
-    /// How many reads it was asked for.
+    /// Returns the number of reads.
     pub fn reads(&self) -> u64
         ensures { result ≡ reads_of self.now }
     {
         self.reads
     }
 
-    /// How many bytes its reads gave.
+    /// Returns the number of bytes that were read.
     pub fn bytes(&self) -> u64
         ensures { result ≡ bytes_of self.now }
     {
         self.bytes
     }
 
-    /// How many reads and writes were answered `Interrupted`.
+    /// Returns the number of reads and writes that returned `Interrupted`.
     pub fn interrupts(&self) -> u64
         ensures { result ≡ interrupts_of self.now }
     {
         self.interrupts
     }
 
-    /// How many reads and writes failed otherwise, flushes failed and writes took no byte.
+    /// Returns the number of failures: reads and writes with other errors, failed flushes, and writes that took no byte.
     pub fn failures(&self) -> u64
         ensures { result ≡ failures_of self.now }
     {
         self.failures
     }
 
-    /// How many flushes it was asked for.
+    /// Returns the number of flushes.
     pub fn flushes(&self) -> u64
         ensures { result ≡ flushes_of self.now }
     {
         self.flushes
     }
 
-    /// Whether a flush went well, and nothing was written or flushed since.
+    /// Returns whether a flush succeeded, and nothing was written or flushed since.
     pub fn is_flushed(&self) -> bool
         ensures { result ≡ is_flushed_of self.now }
     {

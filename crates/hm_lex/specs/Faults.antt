@@ -1,4 +1,4 @@
--- The faults of a source, and what lexing it answers.
+-- The faults of a source, and the results of lexing it.
 use Rattle.std.specs.Prelude.{◌≡◌, ◌≢◌, ℕ, ◌≤◌, ◌<◌, List, [], ◌∷◌, ◌++◌, length, IsTrue, codes}
 use Rattle.std.specs.Str.{IsUtf8}
 use Rattle.hm_lex.specs.declared.token.Token.{Token}
@@ -18,13 +18,13 @@ max_depth = 200
 abbrev pub NoItemBegins : List ℕ → Type 0
 NoItemBegins bytes = (item : Item) (text : List ℕ) → IsLongest (shape_of item) text bytes → ⊥
 
--- the bytes are text that begins with a comment that doesn't end
+-- the bytes are text, and begin with a comment that doesn't end
 pub record OpenCommentBegins (bytes : List ℕ) : Type 0 where
   pub opens : Begins (codes "{-") bytes
   pub never_closed : (text : List ℕ) → IsNestedComment text → Begins text bytes → ⊥
   pub is_text : IsUtf8 bytes
 
--- the fault stands in the source after these bytes
+-- the source has the fault after these bytes
 abbrev pub IsFaultAfter : List ℕ → LexFault → List ℕ → Type 0
 IsFaultAfter before TooLong source = ⊥
 IsFaultAfter before (Lexeme place) source =
@@ -47,7 +47,7 @@ pub record IsFirstFault (source : List ℕ) (fault : LexFault) : Type 0 where
   pub stands : IsFaultAfter before fault source
   pub first : (other : LexFault) (earlier : List ℕ) → IsFaultAfter earlier other source → length before ≤ length earlier
 
--- why a source is refused; of want of memory nothing is said
+-- why a source is refused. Nothing is said about running out of memory
 abbrev pub IsRefusal : List ℕ → LexFault → Type 0
 IsRefusal source TooLong = max_source_len < length source
 IsRefusal source (Lexeme place) = (length source ≤ max_source_len) × IsFirstFault source (Lexeme place)

@@ -1,4 +1,4 @@
--- Integer literals, and what is read as one and yet is none (Haskell 98 Report, section 2.5).
+-- Integer literals, and malformed texts that begin like one (Haskell 98 Report, section 2.5).
 use Rattle.std.specs.Prelude.{◌≡◌, ◌⊎◌, ℕ, Bool, List, [], ◌∷◌, ◌++◌, IsTrue, codes}
 use Rattle.hm_lex.specs.Bytes.{is_one_of, is_digit, is_octal_digit, is_hexadecimal_digit}
 use Rattle.hm_lex.specs.Runs.{IsRunOf}
@@ -24,13 +24,13 @@ IsSign text = (text ≡ []) ⊎ (text ≡ codes "+") ⊎ (text ≡ codes "-")
 abbrev pub IsFraction : List ℕ → Type 0
 IsFraction text = (digit : ℕ) × IsTrue (is_digit digit) × (text ≡ 46 ∷ digit ∷ [])
 
--- an e, perhaps a sign, and a digit
+-- an e, a sign or none, and a digit
 abbrev pub IsExponent : List ℕ → Type 0
 IsExponent text =
     (mark : ℕ) × (sign : List ℕ) × (digit : ℕ)
     × IsTrue (is_one_of (codes "eE") mark) × IsSign sign × IsTrue (is_digit digit) × (text ≡ mark ∷ sign ++ digit ∷ [])
 
--- a decimal with what would make it no integer
+-- a decimal with a fraction or an exponent
 abbrev pub IsFractional : List ℕ → Type 0
 IsFractional text =
     (digits : List ℕ) × (more : List ℕ) × IsDecimal digits × (IsFraction more ⊎ IsExponent more) × (text ≡ digits ++ more)

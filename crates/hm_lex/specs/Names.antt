@@ -36,7 +36,7 @@ dotted name = name ++ 46 ∷ []
 abbrev pub qualified : List (List ℕ) → List ℕ → List ℕ
 qualified qualifiers last = flat_map dotted qualifiers ++ last
 
--- capital names, at least one, with a dot after each, and a last part as Last says
+-- at least one capital name, each with a dot after it, and a last part for which Last holds
 abbrev pub IsQualified : (List ℕ → Type 0) → List ℕ → Type 0
 IsQualified Last text =
     (qualifiers : List (List ℕ)) × (last : List ℕ)

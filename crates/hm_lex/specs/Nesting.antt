@@ -1,4 +1,4 @@
--- How nested comments close, read from the left. No public clause names these.
+-- The end of a nested comment, found from the left. No public clause names these.
 use Rattle.std.specs.Prelude.{ℕ, zero, suc, ◌+◌, ◌==◌, ◌&&◌, Bool, List, [], ◌∷◌, Option, Some, None, slice_index, if◌then◌else◌}
 use Rattle.hm_lex.specs.declared.comments.CommentMark.{CommentMark}
 use Rattle.hm_lex.specs.declared.comments.CommentMark.TheVariants.{Opens, Closes, Plain}
@@ -13,7 +13,7 @@ abbrev pub plus : ℕ → Option ℕ → Option ℕ
 plus n None = None
 plus n (Some m) = Some (n + m)
 
--- how many bytes it takes until this many open comments are closed
+-- the number of bytes until this many open comments are closed
 unfoldable pub close_len : ℕ → List ℕ → Option ℕ
 close_len zero bytes = Some 0
 close_len (suc depth) [] = None

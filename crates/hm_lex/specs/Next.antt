@@ -1,4 +1,4 @@
--- What stands at the front of some bytes. No public clause names these.
+-- The item at the front of some bytes. No public clause names these.
 use Rattle.std.specs.Prelude.{◌≡◌, ℕ, ◌≤◌, Bool, true, false, List, [], ◌∷◌, ◌++◌, length, take, drop, IsTrue, nat_le, not, slice_index, codes, ◌==◌, ◌||◌, ◌&&◌, if◌then◌else◌, Option, Some, None}
 use Rattle.std.specs.List.{prefix_len, list_all}
 use Rattle.hm_lex.specs.declared.byte_class.ByteClass.{ByteClass}
@@ -14,7 +14,7 @@ use Rattle.hm_lex.specs.Shapes.{Shape, lexeme, malformed}
 use Rattle.hm_lex.specs.Cut.{IsLongest, shape_of}
 use Rattle.hm_lex.specs.Faults.{NoItemBegins, OpenCommentBegins}
 
--- the answer tells what stands at the front
+-- the result is the item at the front
 abbrev pub IsNext : List ℕ → Next → Type 0
 IsNext bytes (next.Item item len) = (len ≤ length bytes) × IsLongest (shape_of item) (take len bytes) bytes
 IsNext bytes next.OpenComment = OpenCommentBegins bytes
@@ -25,7 +25,7 @@ abbrev pub shape_of_kind : Option Kind → Shape
 shape_of_kind (Some k) = lexeme k
 shape_of_kind None = malformed
 
--- the shape of a name that is qualified or not, by what its last part is
+-- the shape of a name: qualified or not, by its last part
 abbrev pub name_shape : Bool → Bool → Bool → Shape
 name_shape false true reserved = lexeme ConId
 name_shape true true reserved = lexeme QConId
@@ -47,7 +47,7 @@ is_name_class _ = false
 abbrev pub begins_name : ℕ → Bool
 begins_name b = is_name_class (class_of b)
 
--- a name stands at the front
+-- a name begins the bytes
 abbrev pub StartsName : List ℕ → Type 0
 StartsName [] = ⊥
 StartsName (b ∷ bs) = IsTrue (begins_name b)
@@ -63,7 +63,7 @@ pub record IsQualifierOf (len : ℕ) (bytes : List ℕ) : Type 0 where
 abbrev pub NoQualifier : List ℕ → Type 0
 NoQualifier bytes = (name rest : List ℕ) → IsCapitalName name → StartsName rest → name ++ 46 ∷ rest ≡ bytes → ⊥
 
--- how many digits follow a 0 and the mark of a base
+-- the number of digits after a 0 and the mark of a base
 abbrev pub marked_digits : List ℕ → ℕ
 marked_digits bytes =
     if slice_index bytes 0 == 48
@@ -71,7 +71,7 @@ marked_digits bytes =
     else (if is_one_of (codes "oO") (slice_index bytes 1) then prefix_len is_octal_digit (drop 2 bytes) else 0))
     else 0
 
--- the bytes after a decimal make it no integer
+-- the bytes after a decimal make it a fraction
 abbrev pub begins_fraction : List ℕ → Bool
 begins_fraction bytes =
     if slice_index bytes 0 == 46 then is_digit (slice_index bytes 1)

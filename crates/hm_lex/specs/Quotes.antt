@@ -18,7 +18,7 @@ IsSimpleEscape text = (b : ℕ) × IsTrue (is_one_of (codes "abfnrtv\\\"'") b) �
 abbrev pub max_code : ℕ
 max_code = 1114111
 
--- a backslash, a mark, and as many digits as follow; rest is what follows them
+-- a backslash, a mark, and all digits that follow; `rest` comes after them
 abbrev pub IsNumericEscape : List ℕ → ℕ → (ℕ → Bool) → List ℕ → List ℕ → Type 0
 IsNumericEscape mark base test text rest =
     (digits : List ℕ) × IsRunOf test digits × FirstFails test rest × (digits_value base digits ≤ max_code) × (text ≡ 92 ∷ mark ++ digits)
@@ -30,18 +30,18 @@ IsEscape text rest =
     ⊎ IsNumericEscape (codes "o") 8 is_octal_digit text rest
     ⊎ IsNumericEscape (codes "x") 16 is_hexadecimal_digit text rest
 
--- one character between these quotes; rest is what follows it
+-- one character between these quotes; `rest` comes after it
 abbrev pub IsCharacterItem : ℕ → List ℕ → List ℕ → Type 0
 IsCharacterItem quote text rest = IsPlainCharacter quote text ⊎ IsEscape text rest
 
--- two backslashes with white space between
+-- two backslashes with white space between them
 abbrev pub IsGap : List ℕ → Type 0
 IsGap text = (white : List ℕ) × IsRunOf is_white white × (text ≡ 92 ∷ white ++ 92 ∷ [])
 
 abbrev pub IsStringItem : List ℕ → List ℕ → Type 0
 IsStringItem text rest = IsCharacterItem 34 text rest ⊎ (text ≡ codes "\\&") ⊎ IsGap text
 
--- what follows the first quote of a string, through its last
+-- the rest of a string after its first quote, including the last quote
 pub data IsStringRest : List ℕ → Type 0 where
   ends : {text : List ℕ} → text ≡ 34 ∷ [] → IsStringRest text
   item : {text : List ℕ} (first rest : List ℕ) → IsStringItem first rest → IsStringRest rest → text ≡ first ++ rest → IsStringRest text

@@ -1,4 +1,4 @@
--- How long an item of a string is, and strings read byte by byte. No public clause names these.
+-- The length of an item of a string, and strings read byte by byte. No public clause names these.
 use Rattle.std.specs.Prelude.{◌≡◌, ◌≢◌, ◌⊎◌, ℕ, ◌+◌, ◌≤◌, ◌==◌, ◌&&◌, Bool, List, [], ◌∷◌, ◌++◌, take, drop, Option, Some, None, slice_index, nat_lt, nat_le, not, codes, if◌then◌else◌}
 use Rattle.std.specs.List.{prefix_len}
 use Rattle.std.specs.Str.Parse.{digits_value}
@@ -6,7 +6,7 @@ use Rattle.hm_lex.specs.Bytes.{is_one_of, is_digit, is_white, is_octal_digit, is
 use Rattle.hm_lex.specs.Quotes.{IsEscape, IsGap, max_code}
 use Rattle.hm_lex.specs.Nesting.{plus}
 
--- so many digits of a numeric escape, if there are some and their number isn't too great
+-- the number of digits of a numeric escape, if there are some and their code isn't too great
 unfoldable pub numeric_len : ℕ → ℕ → List ℕ → Option ℕ
 numeric_len base digits bytes =
     if nat_lt 0 digits && nat_le (digits_value base (take digits bytes)) max_code then Some digits else None
@@ -14,7 +14,7 @@ numeric_len base digits bytes =
 abbrev pub is_simple : ℕ → Bool
 is_simple b = is_one_of (codes "abfnrtv\\\"'") b
 
--- an escape, behind its backslash
+-- an escape, after its backslash
 unfoldable pub escape_len : List ℕ → Option ℕ
 escape_len bytes =
     if is_simple (slice_index bytes 0) then Some 1
@@ -22,12 +22,12 @@ escape_len bytes =
     else (if slice_index bytes 0 == 120 then plus 1 (numeric_len 16 (prefix_len is_hexadecimal_digit (drop 1 bytes)) (drop 1 bytes))
     else numeric_len 10 (prefix_len is_digit bytes) bytes))
 
--- a gap, behind its first backslash
+-- a gap, after its first backslash
 unfoldable pub gap_len : List ℕ → Option ℕ
 gap_len bytes =
     if nat_lt 0 (prefix_len is_white bytes) && slice_index bytes (prefix_len is_white bytes) == 92 then Some (prefix_len is_white bytes + 1) else None
 
--- what follows a backslash in a string
+-- an escape, a gap or &, after a backslash in a string
 unfoldable pub marked_len : List ℕ → Option ℕ
 marked_len bytes =
     if slice_index bytes 0 == 38 then Some 1
@@ -39,15 +39,15 @@ string_item_len bytes =
     if slice_index bytes 0 == 92 then plus 1 (marked_len (drop 1 bytes))
     else (if nat_le 32 (slice_index bytes 0) && not (slice_index bytes 0 == 34) then Some 1 else None)
 
--- a byte that stands for itself, or for part of a character that does
+-- a byte that needs no escape, or is part of a character that needs none
 abbrev pub IsPlainByte : List ℕ → Type 0
 IsPlainByte text = (b : ℕ) × (32 ≤ b) × (b ≢ 34) × (b ≢ 92) × (text ≡ b ∷ [])
 
--- an item of a string, where a character may have any bytes of 32 or more
+-- an item of a string, in which a character may have any bytes of 32 or more
 abbrev pub IsByteItem : List ℕ → List ℕ → Type 0
 IsByteItem text rest = IsPlainByte text ⊎ IsEscape text rest ⊎ (text ≡ codes "\\&") ⊎ IsGap text
 
--- what follows the first quote of a string of such items, through its last
+-- the rest of a string of these items after its first quote, including the last quote
 pub data IsByteRest : List ℕ → Type 0 where
   byte_ends : {text : List ℕ} → text ≡ 34 ∷ [] → IsByteRest text
   byte_item : {text : List ℕ} (first rest : List ℕ) → IsByteItem first rest → IsByteRest rest → text ≡ first ++ rest → IsByteRest text

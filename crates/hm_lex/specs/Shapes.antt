@@ -1,4 +1,4 @@
--- Which texts are white space, a comment or a lexeme of each kind, and which are read as one and yet are none (Haskell 98 Report, section 2.2).
+-- The shapes of texts: white space, comments, lexemes of each kind, and malformed items (Haskell 98 Report, section 2.2).
 use Rattle.std.specs.Prelude.{◌≡◌, ◌⊎◌, ℕ, List, [], ◌∷◌, IsFalse, codes}
 use Rattle.std.specs.Str.{IsUtf8}
 use Rattle.hm_lex.specs.declared.byte_class.ByteClass.TheVariants.{White, Special}
@@ -25,7 +25,7 @@ HasKind Integer text = IsDecimal text ⊎ IsHexadecimal text ⊎ IsOctal text
 HasKind Character text = IsCharacter text
 HasKind Str text = IsString text
 
--- what a text is: an item of a cut, or malformed, that is read as one item and yet none
+-- the shape of a text: an item of a cut, or a malformed item, which is read as one but isn't allowed
 pub data Shape : Type 0 where
   white_space : Shape
   comment : Shape

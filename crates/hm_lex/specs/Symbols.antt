@@ -8,7 +8,7 @@ use Rattle.hm_lex.specs.Runs.{IsRunOf}
 abbrev pub is_dash : ℕ → Bool
 is_dash b = b == 45
 
--- two dashes or more, and no other byte
+-- two or more dashes, and no other byte
 abbrev pub IsDashes : List ℕ → Type 0
 IsDashes text = IsRunOf is_dash text × (2 ≤ length text)
 

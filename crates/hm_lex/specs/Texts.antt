@@ -1,4 +1,4 @@
--- Where the text of a token lies.
+-- The text of a token in its source.
 use Rattle.std.specs.Prelude.{ℕ, ◌≤◌, List, length, slice_range}
 use Rattle.std.specs.Str.{IsUtf8}
 use Rattle.hm_lex.specs.declared.token.Token.{Token}

@@ -1,4 +1,4 @@
-//! Laws of the definitions. A law is a function with an empty body, whose contract is the law.
+//! Laws of the definitions. Each law is a function with an empty body, and its contract is the law.
 ghost use Rattle.std.specs.Prelude.{◌≡◌, ◌≢◌, All, List, ℕ};
 ghost use Rattle.hm_lex.specs.Cut.{Piece, IsCut};
 ghost use Rattle.hm_lex.specs.Examples.{Worked};
@@ -9,7 +9,7 @@ ghost use Rattle.hm_lex.specs.declared.token.LexFault.{LexFault};
 ghost use Rattle.hm_lex.specs.declared.token.LexFault.TheVariants.{Memory};
 ghost use Rattle.hm_lex.specs.declared.token.Token.{Token};
 
-/// A source has one cut at most.
+/// A source has at most one cut.
 pub fn one_cut()
     ensures { (ps qs : List Piece) (source : List ℕ) → IsCut ps source → IsCut qs source → ps ≡ qs }
 {}
@@ -19,7 +19,7 @@ pub fn one_answer()
     ensures { (source : List ℕ) (tokens : List Token) (fault : LexFault) → AreTokensOf source tokens → IsRefusal source fault → fault ≡ Memory }
 {}
 
-/// A source has one first fault at most, and is refused for one thing, but for want of memory.
+/// A source has at most one first fault, and is refused for one reason, except for running out of memory.
 pub fn one_fault()
     ensures first { (source : List ℕ) (fault other : LexFault) → IsFirstFault source fault → IsFirstFault source other → fault ≡ other }
     ensures refusal { (source : List ℕ) (fault other : LexFault) → IsRefusal source fault → IsRefusal source other → fault ≢ Memory → other ≢ Memory
@@ -31,7 +31,7 @@ pub fn token_texts()
     ensures { (source : List ℕ) (tokens : List Token) → AreTokensOf source tokens → All (LiesIn source) tokens }
 {}
 
-/// A text has one shape at most: no lexeme has two kinds, and none is also a comment or malformed.
+/// A text has at most one shape: no lexeme has two kinds, and none is also a comment or malformed.
 pub fn one_shape()
     ensures { (shape other : Shape) (text : List ℕ) → HasShape shape text → HasShape other text → shape ≡ other }
 {}

@@ -18,7 +18,7 @@ const MAX_SOURCE_LEN: usize = 1_048_576;
 const MAX_DEPTH: usize = 200;
 
 impl Place {
-    /// The place after one byte.
+    /// Returns the place after one byte.
     fn past(self, byte: u8) -> Place
         requires line { self.line + 1 < 2 ^ 64 }
         requires column { self.column + 1 < 2 ^ 64 }
@@ -37,7 +37,7 @@ impl Place {
         }
     }
 
-    /// The place after a text that begins here.
+    /// Returns the place after a text that begins here.
     fn after(self, text: &[u8]) -> Place
         requires line { self.line + length text.now < 2 ^ 64 }
         requires column { self.column + length text.now < 2 ^ 64 }
@@ -50,7 +50,7 @@ impl Place {
         place
     }
 
-    /// The place after an item that begins here, and has this text.
+    /// Returns the place after an item that begins here, with this text.
     fn behind(self, item: Item, text: &[u8]) -> Place
         requires shape { HasShape (shape_of item) text.now }
         requires line { self.line + length text.now < 2 ^ 64 }
@@ -67,7 +67,7 @@ impl Place {
     }
 }
 
-/// Whether the lexemes of a kind are known to have no line end.
+/// Returns whether no lexeme of this kind has a line end. False for some kinds that have none either.
 fn has_one_line(kind: Kind) -> bool
     ensures { result ≡ has_one_line kind }
 {
@@ -77,7 +77,7 @@ fn has_one_line(kind: Kind) -> bool
     )
 }
 
-/// The depth after a text, unless it would be too great.
+/// Returns the depth of brackets after a text, or `None` if it would be above the limit.
 fn depth_after(depth: usize, text: &[u8]) -> Option<usize>
     requires { depth ≤ max_depth }
     ensures depth { IfSome result (λ after. after ≡ text_depth depth text.now) }
@@ -134,7 +134,7 @@ struct Lexer<'a> {
 }
 
 impl Lexer<'_> {
-    /// Passes white space.
+    /// Skips white space.
     fn pass_white(&mut self)
         requires scanned { IsScanned self.old.source.now self.old.start self.old.place self.old.depth self.old.tokens.items }
         requires short { length self.old.source.now ≤ max_source_len }
@@ -148,7 +148,7 @@ impl Lexer<'_> {
         }
     }
 
-    /// Reads the next item, and passes the white space behind it.
+    /// Reads the next item, and skips the white space after it.
     fn step(&mut self) -> Result<(), LexFault>
         requires scanned { IsScanned self.old.source.now self.old.start self.old.place self.old.depth self.old.tokens.items }
         requires more { self.old.start < length self.old.source.now }
@@ -178,22 +178,23 @@ impl Lexer<'_> {
     }
 }
 
-/// The lexemes of a source, in order (Haskell 98 Report, section 2.2).
+/// Returns the lexemes of a source, in order (Haskell 98 Report, section 2.2).
 ///
-/// A source of more than 1,048,576 bytes is `TooLong` whatever it holds. Of the other faults the first
-/// in the text is answered: `Lexeme` where no lexeme, comment or white space can be completed,
-/// `OpenComment` at the outermost `{-` that isn't closed, `TooDeep` at the first bracket that opens
-/// more than 200. `Memory` may come at any time.
+/// # Errors
+///
+/// `TooLong` if the source has more than 1,048,576 bytes. Otherwise the first of these faults in the text: `Lexeme` if no lexeme, comment or
+/// white space can be completed, `OpenComment` at the outermost `{-` that isn't closed, `TooDeep` at the first bracket above 200 open ones.
+/// `Memory` may come at any time.
 pub fn lex(alloc: Global, source: &[u8]) -> Result<Vec<Token>, LexFault>
-    // The tokens of the source's cut into white space, comments and lexemes, each the longest at its place.
+    // These are the tokens of the source's cut into white space, comments and lexemes, each the longest at its place.
     ensures tokens { IfOk result (λ tokens. AreTokensOf source.now tokens.items) }
     // Each token lies in the source, and its bytes are text.
     ensures texts { IfOk result (λ tokens. All (LiesIn source.now) tokens.items) }
     // There is no other cut.
     ensures only { IfOk result (λ tokens. (pieces : List Piece) → IsCut pieces source.now → tokens.items ≡ tokens_of pieces) }
-    // A source that is too long is refused as such.
+    // A source that is too long is always refused with `TooLong`.
     ensures too_long { max_source_len < length source.now → result ≡ Err LexFault.TooLong }
-    // The fault that the source has, the first in the text; or memory ran out.
+    // The fault is the first in the text, unless memory ran out.
     ensures fault { IfErr result (λ fault. IsRefusal source.now fault) }
 {
     if source.len() > MAX_SOURCE_LEN {

@@ -1,9 +1,8 @@
-//! The lexemes of a source (Haskell 98 Report, chapter 2), narrowed to the language that hmc reads.
+//! Splits a source into lexemes (Haskell 98 Report, chapter 2), narrowed to the language that hmc reads.
 //!
-//! `lex` gives the tokens of the one cut of a source into white space, comments and lexemes, each the
-//! longest that begins at its place, or the first fault. What that means stands in `specs/`: a file for
-//! each kind of text, `Shapes` for all of them, `Cut` for cuts and tokens, `Faults` for faults. `laws`
-//! has what follows from these definitions.
+//! [`lex`] returns the tokens of a source, or its first fault. Each item is the longest one at its place, and a source has at most one such
+//! cut. `specs/` defines each kind of text in its own file, all of them in `Shapes`, cuts and tokens in `Cut`, faults in `Faults`. `laws` has
+//! the laws of these definitions.
 #![tactic(auto)]
 
 mod byte_class;

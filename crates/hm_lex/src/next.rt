@@ -10,16 +10,16 @@ use crate::names::{name, variable};
 use crate::quotes::{character, string};
 use crate::symbols::symbols;
 
-/// What stands at the front of a text.
+/// The item at the front of a text.
 #[derive(Clone, Copy)]
 pub(crate) enum Next {
-    /// An item of so many bytes.
+    /// An item of this many bytes.
     Item(Item, usize),
     OpenComment,
     Nothing,
 }
 
-/// The longest item at the front of a text, which is not empty.
+/// Returns the longest item at the front of a text. The text must not be empty.
 pub(crate) fn next_item(bytes: &[u8]) -> Next
     requires { 0 < length bytes.now }
     ensures { IsNext bytes.now result }

@@ -1,4 +1,4 @@
-//! Characters and strings.
+//! Character and string literals.
 ghost use Rattle.std.specs.Prelude.{◌≡◌, ◌≢◌, ◌<◌, ◌≤◌, List, [], ◌∷◌, ◌++◌, ℕ, length, take, drop, IfSome, IfNone, IsTrue, ◌↔◌, nat_le};
 ghost use Rattle.std.specs.Str.Parse.{IsNumeral, digits_value};
 ghost use Rattle.hm_lex.specs.declared.byte_class.ByteClass.TheVariants.{Quote, DoubleQuote};
@@ -17,7 +17,7 @@ const MAX_CODE: u32 = 1_114_111;
 
 const SIMPLE_ESCAPES: &[u8] = b"abfnrtv\\\"'";
 
-/// Whether the digits spell the code of a character.
+/// Returns whether the digits are the code of a character.
 fn is_code(digits: &[u8], base: u32) -> bool
     requires low { 2 ≤ base }
     requires high { base ≤ 16 }
@@ -33,7 +33,7 @@ fn is_code(digits: &[u8], base: u32) -> bool
     }
 }
 
-/// The length of so many digits, if they spell the code of a character.
+/// Returns the number of digits, if they are the code of a character.
 #[tactic(auto, unfolding(crate::specs::Quoting::numeric_len))]
 fn numeric_len(bytes: &[u8], digits: usize, base: u32) -> Option<usize>
     requires low { 2 ≤ base }
@@ -56,7 +56,7 @@ fn is_simple(byte: u8) -> bool
     SIMPLE_ESCAPES.contains(&byte)
 }
 
-/// The length of an escape, behind its backslash.
+/// Returns the length of an escape after its backslash.
 #[tactic(auto, unfolding(crate::specs::Quoting::escape_len))]
 fn escape_len(bytes: &[u8]) -> Option<usize>
     ensures value { result ≡ escape_len bytes.now }
@@ -74,7 +74,7 @@ fn escape_len(bytes: &[u8]) -> Option<usize>
     }
 }
 
-/// The length of a gap, behind its first backslash.
+/// Returns the length of a gap after its first backslash.
 #[tactic(auto, unfolding(crate::specs::Quoting::gap_len))]
 fn gap_len(bytes: &[u8]) -> Option<usize>
     ensures value { result ≡ gap_len bytes.now }
@@ -88,7 +88,7 @@ fn gap_len(bytes: &[u8]) -> Option<usize>
     }
 }
 
-/// The length of what a backslash marks in a string.
+/// Returns the length of an escape, a gap or `&` after a backslash in a string.
 #[tactic(auto, unfolding(crate::specs::Quoting::marked_len))]
 fn marked_len(bytes: &[u8]) -> Option<usize>
     ensures value { result ≡ marked_len bytes.now }
@@ -104,7 +104,7 @@ fn marked_len(bytes: &[u8]) -> Option<usize>
     }
 }
 
-/// The length of an item of a string, or of one byte of it.
+/// Returns the length of an item of a string, or of one byte of a character in it.
 #[tactic(auto, unfolding(crate::specs::Quoting::string_item_len))]
 fn string_item_len(bytes: &[u8]) -> Option<usize>
     requires { 0 < length bytes.now }
@@ -120,7 +120,7 @@ fn string_item_len(bytes: &[u8]) -> Option<usize>
     }
 }
 
-/// The length of what follows the first quote of a string, through its last.
+/// Returns the length of the rest of a string after its first quote, including the last quote.
 fn string_rest_len(bytes: &[u8]) -> Option<usize>
     ensures within { IfSome result (λ len. len ≤ length bytes.now) }
     ensures found { IfSome result (λ len. IsByteRest (take len bytes.now)) }
@@ -140,7 +140,7 @@ fn string_rest_len(bytes: &[u8]) -> Option<usize>
     None
 }
 
-/// The string at the front.
+/// Returns the string at the front.
 pub(crate) fn string(bytes: &[u8]) -> Next
     requires { StartsWith DoubleQuote bytes.now }
     ensures { IsNext bytes.now result }
@@ -154,14 +154,14 @@ pub(crate) fn string(bytes: &[u8]) -> Next
     }
 }
 
-/// Whether the character may stand between single quotes for itself.
+/// Returns whether the character needs no escape between single quotes.
 fn is_plain(c: char) -> bool
     ensures { IsTrue result ↔ (32 ≤ c) × (c ≢ 39) × (c ≢ 92) }
 {
     c >= ' ' && c != '\'' && c != '\\'
 }
 
-/// Whether the bytes are one character that may stand between single quotes for itself.
+/// Returns whether the bytes are one character that needs no escape between single quotes.
 fn is_plain_character(bytes: &[u8]) -> bool
     ensures { IsTrue result ↔ IsPlainCharacter 39 bytes.now }
 {
@@ -174,7 +174,7 @@ fn is_plain_character(bytes: &[u8]) -> bool
     }
 }
 
-/// The length of the item before the last quote of a character, if that quote follows it.
+/// Returns the length of the item between single quotes, if the last quote follows it.
 fn character_item_len(bytes: &[u8]) -> Option<usize>
     ensures within { IfSome result (λ len. len ≤ length bytes.now) }
     ensures found { IfSome result (λ len. Begins (39 ∷ []) (drop len bytes.now) → IsCharacterItem 39 (take len bytes.now) (39 ∷ [])) }
@@ -195,7 +195,7 @@ fn character_item_len(bytes: &[u8]) -> Option<usize>
     }
 }
 
-/// The character at the front.
+/// Returns the character at the front.
 pub(crate) fn character(bytes: &[u8]) -> Next
     requires { StartsWith Quote bytes.now }
     ensures { IsNext bytes.now result }

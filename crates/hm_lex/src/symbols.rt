@@ -1,4 +1,4 @@
-//! Runs of symbols, and line comments.
+//! Operators and line comments.
 ghost use Rattle.std.specs.Prelude.{◌≡◌, ◌+◌, ◌<◌, ◌≤◌, length, IsTrue, ◌↔◌};
 ghost use Rattle.hm_lex.specs.declared.byte_class.ByteClass.TheVariants.{Symbol};
 ghost use Rattle.std.specs.List.{list_all};
@@ -17,14 +17,14 @@ fn only_dashes(bytes: &[u8]) -> bool
     bytes.iter().all(|byte| *byte == b'-')
 }
 
-/// Whether the bytes are two dashes or more, and nothing else.
+/// Returns whether the bytes are two or more dashes, and nothing else.
 fn are_dashes(bytes: &[u8]) -> bool
     ensures { result ≡ are_dashes bytes.now }
 {
     bytes.len() >= 2 && only_dashes(bytes)
 }
 
-/// The operator or the line comment at the front.
+/// Returns the operator or the line comment at the front.
 pub(crate) fn symbols(bytes: &[u8]) -> Next
     requires { StartsWith Symbol bytes.now }
     ensures { IsNext bytes.now result }

@@ -7,18 +7,18 @@ pub struct Place {
     pub column: usize,
 }
 
-/// What a lexeme is (Haskell 98 Report, sections 2.2 to 2.6).
+/// The kind of a lexeme (Haskell 98 Report, sections 2.2 to 2.6).
 #[derive(Clone, Copy, Debug, PartialEq, Eq)]
 pub enum Kind {
-    /// A reserved word, `_` among them.
+    /// A reserved word, including `_`.
     Word,
     /// A variable or a type variable.
     VarId,
-    /// A constructor, a type or a module of one part.
+    /// A constructor, type or module with a name of one part.
     ConId,
     /// A qualified variable.
     QVarId,
-    /// A qualified constructor or type, or a module of several parts.
+    /// A qualified constructor or type, or a module with a name of several parts.
     QConId,
     /// A reserved operator.
     Op,
@@ -26,9 +26,9 @@ pub enum Kind {
     Special,
     /// An integer literal.
     Integer,
-    /// A character literal, quotes included.
+    /// A character literal, including its quotes.
     Character,
-    /// A string literal, quotes included.
+    /// A string literal, including its quotes.
     Str,
 }
 
@@ -47,13 +47,13 @@ pub enum LexFault {
     /// The source has more than 1,048,576 bytes.
     #[error("too long")]
     TooLong,
-    /// No lexeme, comment or white space can be completed that begins here.
+    /// No lexeme, comment or white space that begins here can be completed.
     #[error("lexeme")]
     Lexeme(Place),
     /// The nested comment that begins here isn't closed.
     #[error("open comment")]
     OpenComment(Place),
-    /// With this bracket more than 200 are open.
+    /// More than 200 brackets are open with this one.
     #[error("too deep")]
     TooDeep(Place),
     /// Memory ran out.

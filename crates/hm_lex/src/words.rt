@@ -1,4 +1,4 @@
-//! The reserved words and operators, found by their first byte, and brackets.
+//! Reserved words and operators, grouped by first byte, and brackets.
 ghost use Rattle.std.specs.Prelude.{◌≡◌, ℕ, List, [], ◌∷◌};
 ghost use Rattle.std.specs.List.{list_any};
 ghost use Rattle.std.specs.Str.{bytes_eq};
@@ -36,14 +36,14 @@ const W_WORDS: [&[u8]; 1] = [b"where"];
 
 const UNDERSCORE: [&[u8]; 1] = [b"_"];
 
-/// Whether the text is one of the words.
+/// Returns whether the text is one of the words.
 fn is_one_of(words: &[&[u8]], text: &[u8]) -> bool
     ensures { result ≡ list_any (λ word. bytes_eq word.now text.now) words.now }
 {
     words.iter().any(|word| *word == text)
 }
 
-/// The reserved words that begin with the byte.
+/// Returns the reserved words that begin with the byte.
 #[tactic(auto, unfolding(crate::specs::Names::is_reserved))]
 fn reserved_from(first: u8) -> &'static [&'static [u8]]
     ensures { (rest : List ℕ) → list_any (λ word. bytes_eq word.now (first ∷ rest)) result.now ≡ is_reserved (first ∷ rest) }
@@ -88,7 +88,7 @@ const AT: [&[u8]; 1] = [b"@"];
 
 const TILDE: [&[u8]; 1] = [b"~"];
 
-/// The reserved operators that begin with the byte.
+/// Returns the reserved operators that begin with the byte.
 #[tactic(auto, unfolding(crate::specs::Symbols::is_operator))]
 fn operators_from(first: u8) -> &'static [&'static [u8]]
     ensures { (rest : List ℕ) → list_any (λ word. bytes_eq word.now (first ∷ rest)) result.now ≡ is_operator (first ∷ rest) }

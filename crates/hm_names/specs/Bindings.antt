@@ -12,7 +12,7 @@ use Rattle.hm_names.specs.declared.namespace.Namespace.TheVariants.{Types, Const
 use Rattle.hm_names.specs.Texts.{same_text, same_entity}
 use Rattle.hm_names.specs.Scope.{InScope, Brings, known_as}
 
--- in a namespace, under a qualifier or none and a text, an entity
+-- a namespace, a qualifier or none, a text, and an entity
 pub record Pair : Type 0 where
   pub space : Namespace
   pub qualifier : Option (List ℕ)
@@ -23,7 +23,7 @@ pub record Pair : Type 0 where
 abbrev pub IsScopeOf : Module → List Interface → List Pair → Type 0
 IsScopeOf m fs pairs = (p : Pair) → Contains pairs p ↔ InScope m fs p.space p.qualifier p.text p.entity
 
--- two of the pairs have the name of p, and are of two entities
+-- two of the pairs have the name of p, and different entities
 pub record IsSeveral (pairs : List Pair) (p : Pair) : Type 0 where
   pub one : Pair
   pub other : Pair
@@ -33,33 +33,33 @@ pub record IsSeveral (pairs : List Pair) (p : Pair) : Type 0 where
   pub other_name : (other.space ≡ p.space) × (other.qualifier ≡ p.qualifier) × (other.text ≡ p.text)
   pub differ : ¬ (one.entity ≡ other.entity)
 
--- the new list has the elements of the old one and those that meet Q, and no others
+-- the new list has the elements of the old one, those for which Q holds, and no others
 abbrev pub Adds : {Y : Type 0} → List Y → List Y → (Y → Type 0) → Type 0
 Adds {Y} old new Q = (p : Y) → Contains new p ↔ (Contains old p ⊎ Q p)
 
--- the pair is of this entity under this name: qualified, and bare, unless a qualifier is asked for
+-- the pair has this entity under this name: bare, unless `qualified` holds, or with its qualifier
 pub record IsPairOf (qualified : Bool) (under : List ℕ) (s : Namespace) (x : List ℕ) (e : Entity) (p : Pair) : Type 0 where
   pub space_is : p.space ≡ s
   pub qualifier_is : ((p.qualifier ≡ None) × (qualified ≡ false)) ⊎ (p.qualifier ≡ Some under)
   pub text_is : p.text ≡ x
   pub entity_is : p.entity ≡ e
 
--- the pair is of an entity that the declaration declares in the module m
+-- the pair has an entity that the declaration declares in the module m
 pub record IsDeclaredPair (m : List ℕ) (d : Declaration) (p : Pair) : Type 0 where
   pub declared : DeclaredBy p.text d p.space
   pub pair : IsPairOf false m p.space p.text (named m p.text) p
 
--- the pair is of an entity that the module declares
+-- the pair has an entity that the module declares
 pub record IsOwnPair (m : Module) (p : Pair) : Type 0 where
   pub declared : Declares m p.text p.space
   pub pair : IsPairOf false m.header.name.text p.space p.text (own m p.text) p
 
--- the pair is of an entity that the import i of f's module brings in
+-- the pair has an entity that the import i of f's module brings in
 pub record IsBroughtPair (f : Interface) (i : Import) (p : Pair) : Type 0 where
   pub brought : Brings f i p.space p.text p.entity
   pub pair : IsPairOf i.qualified (known_as i) p.space p.text p.entity p
 
--- what a name means: no entity, two or more, or one
+-- the meaning of a name: no entity, two or more, or one
 pub data MeaningOf : Type 0 where
   unbound : MeaningOf
   ambiguous : MeaningOf
@@ -90,7 +90,7 @@ joined unbound e = entity e
 joined ambiguous e = ambiguous
 joined (entity d) e = cond (same_entity d e) (entity d) ambiguous
 
--- what a name means among these pairs
+-- the meaning of a name among these pairs
 abbrev pub meaning_of : List Pair → Namespace → Identifier → MeaningOf
 meaning_of [] s n = unbound
 meaning_of (p ∷ ps) s n = cond (is_for s n p) (joined (meaning_of ps s n) p.entity) (meaning_of ps s n)

@@ -1,4 +1,4 @@
--- Cores: modules whose names are resolved; what is typed of one, under which assumptions, and its interface.
+-- Cores, which are modules with resolved names; their binding lists and assumptions; and their interfaces.
 use Rattle.std.specs.Prelude.{◌≡◌, ℕ, List, [], ◌∷◌, ◌++◌, map, Option, None, Some, ◌↔◌, Contains}
 use Rattle.hm_types.specs.declared.Entity.{Entity}
 use Rattle.hm_types.specs.declared.entries.TypeEntry.{TypeEntry}
@@ -31,13 +31,13 @@ use Rattle.hm_names.specs.Special.{Special, special_of}
 use Rattle.hm_names.specs.Syntax.{Known, bindings_of}
 use Rattle.hm_names.specs.Types.{entity_of, constructor_type_in, declared_scheme, special_type, synonym_of}
 
--- what a core exports in a namespace
+-- the exports of a core in a namespace
 abbrev pub exports_in : ModuleCore → Namespace → List Exported
 exports_in c Types = c.exported_types
 exports_in c Constructors = c.exported_constructors
 exports_in c Values = c.exported_values
 
--- The core of a well-formed module: its declarations with each name resolved, and its exports, ordered by name, none twice.
+-- the core of a well-formed module: its declarations with each name resolved, and its exports, ordered by name, each once
 pub record IsCore (m : Module) (fs : List Interface) (c : ModuleCore) : Type 0 where
   pub well_formed : IsWellFormed m fs
   pub name : c.name ≡ m.header.name.text
@@ -48,14 +48,14 @@ pub record IsCore (m : Module) (fs : List Interface) (c : ModuleCore) : Type 0 w
   pub exports : (s : Namespace) (x : List ℕ) (e : Entity) → Contains (exports_in c s) (record { name = x; entity = e }) ↔ IsExported m fs s x e
   pub ordered : (s : Namespace) → AreOrdered (map (λ r. r.name) (exports_in c s))
 
--- a core is what some module has for the interfaces of its imports
+-- the core of some module for the interfaces of its imports
 pub record IsSomeCore (c : ModuleCore) : Type 0 where
   pub module_of : Module
   pub imports : List Interface
   pub are_imports : AreImportsOf module_of imports
   pub is_core : IsCore module_of (prelude_interface ∷ imports) c
 
--- Schemes of constructors: the declared one, where the core's module defines it, else that of the first interface that has it
+-- Schemes of constructors: the declared one if the core's module defines the constructor, else that of the first interface that has it
 
 pub record ConstructorScheme : Type 0 where
   pub entity : Entity
@@ -80,25 +80,25 @@ imported_schemes (f ∷ fs) = map (λ r. record { entity = r.entity; scheme = r.
 abbrev pub constructor_scheme : List ℕ → List Declaration → List Interface → Entity → Option ConstructorScheme
 constructor_scheme m ds fs e = first_of (λ d. d.entity) e (declared_schemes m ds ++ imported_schemes fs)
 
--- of a resolved name; each constructor of a core has one
+-- the scheme of a resolved name. Each constructor of a core has one
 abbrev pub scheme_or : Option Special → Option ConstructorScheme → TypeScheme
 scheme_or (Some s) d = declared_scheme (special_type s)
 scheme_or None (Some d) = d.scheme
 scheme_or None None = declared_scheme (special_type Rattle.hm_names.specs.Special.UnitValue)
 
--- what is known of the constructors of a module with resolved declarations
+-- the constructors of a module with resolved declarations, as inference reads them
 abbrev pub known_in : List ℕ → List Declaration → List Interface → Known
 known_in m ds fs = record { home = m; scheme = λ n. scheme_or (special_of n) (constructor_scheme m ds fs (entity_of n)) }
 
 abbrev pub known : ModuleCore → Known
 known c = known_in c.name c.decls c.interfaces
 
--- What is typed: the declarations of a core as a binding list, under the schemes of the variables that its interfaces export
+-- The input of inference: the declarations of a core as a binding list, and the schemes of the variables that its interfaces export
 
 abbrev pub syntax_of : ModuleCore → Bindings
 syntax_of c = bindings_of (known c) (declarations c.decls) (declarations c.decls)
 
--- the same of a module, by a resolver of it
+-- the binding list of a module under a resolver
 abbrev pub elaborated : Module → List Interface → Resolver → Bindings
 elaborated m fs r = bindings_of (known_in m.header.name.text (resolved m r) fs) (declarations (resolved m r)) (declarations (resolved m r))
 
@@ -106,7 +106,7 @@ abbrev pub imported_values : List Interface → List ValueEntry
 imported_values [] = []
 imported_values (f ∷ fs) = f.values ++ imported_values fs
 
--- the first entry of an entity counts
+-- if an entity has several entries, the first counts
 abbrev pub assumed : List ValueEntry → Assumptions
 assumed [] = empty
 assumed (r ∷ rs) = bind (global r.entity) (scheme_of r.scheme) (assumed rs)
@@ -114,13 +114,13 @@ assumed (r ∷ rs) = bind (global r.entity) (scheme_of r.scheme) (assumed rs)
 abbrev pub assumptions : ModuleCore → Assumptions
 assumptions c = assumed (imported_values c.interfaces)
 
--- The interface of a core, with the schemes that are given to its variables
+-- The interface of a core with given schemes for its variables
 
 -- a top-level variable of the core
 abbrev pub IsTop : ModuleCore → Entity → Type 0
 IsTop c e = IsOneOf (global e) (names (syntax_of c))
 
--- a synonym whose right side is resolved
+-- the synonym with a resolved right side
 abbrev pub synonym_in : TypeMeaning → Option TypeSynonym
 synonym_in (algebraic k) = None
 synonym_in (declared_synonym ps t) = Some (synonym_of ps t)
@@ -132,7 +132,7 @@ pub record HasArity (c : ModuleCore) (e : Entity) (k : ℕ) : Type 0 where
   pub is : type_meant c.name c.decls c.interfaces e ≡ Some description
   pub arity : description.meaning ≡ algebraic k
 
--- or the synonym s
+-- the type constructor e is the synonym s
 pub record HasSynonym (c : ModuleCore) (e : Entity) (s : TypeSynonym) : Type 0 where
   pub description : TypeDescription
   pub is : type_meant c.name c.decls c.interfaces e ≡ Some description
@@ -143,12 +143,12 @@ pub record IsDescribed (c : ModuleCore) (e t : Entity) (k : ℕ) (s : TypeScheme
   pub description : constructor_meant c.name c.decls c.interfaces e ≡ Some (record { entity = e; owner = t; arguments = k })
   pub scheme : constructor_scheme c.name c.decls c.interfaces e ≡ Some (record { entity = e; scheme = s })
 
--- the variable e has this scheme: one of those that are given, where it is the core's own
+-- the variable e has the scheme s: a given one if it is the core's own, else that of its first entry
 pub data HasScheme (c : ModuleCore) (given : List ℕ → Option TypeScheme) (e : Entity) (s : TypeScheme) : Type 0 where
   own : IsTop c e → given e.name ≡ Some s → HasScheme c given e s
   other : {r : ValueEntry} → ¬ (IsTop c e) → first_of (λ v. v.entity) e (imported_values c.interfaces) ≡ Some r → s ≡ r.scheme → HasScheme c given e s
 
--- Each entry is of an export, and each export has its entry. An interface is ordered by names, which are distinct, so that it has no other entries.
+-- each entry is of an export, and each export has its entry. Names in an interface are ordered and distinct, so it has no other entries
 pub record IsInterfaceOf (c : ModuleCore) (given : List ℕ → Option TypeScheme) (f : Interface) : Type 0 where
   pub name : f.name ≡ c.name
   pub types : (r : TypeEntry) → Contains f.types r ↔ (Contains c.exported_types (record { name = r.name; entity = r.entity }) × HasArity c r.entity r.arity)

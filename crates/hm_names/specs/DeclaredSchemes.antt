@@ -1,4 +1,4 @@
--- Types of constructors as they are made. No public clause names these.
+-- Types of constructors, as the code makes them. No public clause names these.
 use Rattle.std.specs.Prelude.{ℕ, zero, suc, List, [], ◌∷◌}
 use Rattle.hm_types.specs.declared.Entity.{Entity}
 use Rattle.hm_types.specs.declared.Head.TheVariants as head
@@ -11,17 +11,17 @@ use Rattle.hm_names.specs.Entities.{named}
 use Rattle.hm_names.specs.Types.{declared_scheme, constructor_type_in}
 use Rattle.hm_names.specs.Variables.{type_count}
 
--- functions from these arguments, one after the other
+-- curried functions with these arguments
 abbrev pub functions_to : List Mono → Mono → Mono
 functions_to [] u = u
 functions_to (t ∷ ts) u = App head.Arrow (more t (more (functions_to ts u) done))
 
--- so many variables, from a number on
+-- n variables, from number i on
 abbrev pub numbered : ℕ → ℕ → List Mono
 numbered i zero = []
 numbered i (suc n) = Var (var i) ∷ numbered (suc i) n
 
--- a constructor, with the type to which it belongs, its number of arguments and its scheme
+-- a constructor, with its type constructor, its number of arguments and its scheme
 pub record ConstructorFact : Type 0 where
   pub entity : Entity
   pub owner : Entity

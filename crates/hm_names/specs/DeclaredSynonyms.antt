@@ -1,4 +1,4 @@
--- What a declaration of a synonym needs for its right side to be a type (Report, section 4.2.2).
+-- The conditions under which the right side of a declared synonym is a type (Report, section 4.2.2).
 use Rattle.std.specs.Prelude.{ℕ, List, Contains}
 use Rattle.hm_syntax.specs.Names.{Identifier}
 use Rattle.hm_syntax.specs.Trees.{TypeTree}
@@ -9,7 +9,7 @@ use Rattle.hm_names.specs.Variables.{texts, type_variables}
 abbrev pub AreAmong : List (List ℕ) → List Identifier → Type 0
 AreAmong vs ns = (n : Identifier) → Contains ns n → Contains vs n.text
 
--- no parameter stands twice, and each variable of the right side is one
+-- no parameter occurs twice, and each variable of the right side is a parameter
 pub record IsSound (ps : List Identifier) (t : TypeTree) : Type 0 where
   pub distinct : (n : Identifier) → ¬ (Repeats ps n)
   pub closed : AreAmong (texts ps) (type_variables t)

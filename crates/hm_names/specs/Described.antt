@@ -1,5 +1,5 @@
--- What is known of type constructors and constructors. An entity that is described more than once is what its first description says:
--- the module's own definition comes first, then Prelude's interface, then the other interfaces in their order.
+-- Descriptions of type constructors and constructors. If an entity has several descriptions, the first counts: the module's own definition comes
+-- first, then Prelude's interface, then the other interfaces in order.
 use Rattle.std.specs.Prelude.{ℕ, cond, List, [], ◌∷◌, ◌++◌, map, length, Option, None, Some}
 use Rattle.hm_types.specs.declared.Entity.{Entity}
 use Rattle.hm_types.specs.Interfaces.{Exports as Interface}
@@ -10,19 +10,19 @@ use Rattle.hm_names.specs.Texts.{same_entity}
 use Rattle.hm_names.specs.Variables.{type_count}
 use Rattle.hm_names.specs.Entities.{constructor_list, named}
 
--- the first of a list that is of the entity e
+-- the first element of a list whose entity is e
 abbrev pub first_of : {X : Type 0} → (X → Entity) → Entity → List X → Option X
 first_of of e [] = None
 first_of of e (x ∷ xs) = cond (same_entity e (of x)) (Some x) (first_of of e xs)
 
--- Types (Report 4.2.1 to 4.2.3): a data type or newtype with its number of parameters; a synonym, as it is declared, with its parameters and
--- its right side, or as an interface has it
+-- types (Report 4.2.1 to 4.2.3): a data type or newtype with its number of parameters; a declared synonym with its parameters and its right side;
+-- or a synonym of an interface
 pub data TypeMeaning : Type 0 where
   algebraic : ℕ → TypeMeaning
   declared_synonym : List Identifier → TypeTree → TypeMeaning
   imported_synonym : TypeSynonym → TypeMeaning
 
--- how many arguments it has
+-- its number of arguments
 abbrev pub arity : TypeMeaning → ℕ
 arity (algebraic k) = k
 arity (declared_synonym ps t) = length ps
@@ -32,7 +32,7 @@ pub record TypeDescription : Type 0 where
   pub entity : Entity
   pub meaning : TypeMeaning
 
--- those that are declared in the module of that name
+-- the types that the module of that name declares
 abbrev pub declared_types : List ℕ → List Declaration → List TypeDescription
 declared_types m [] = []
 declared_types m (data_declaration n ps cs ∷ ds) = record { entity = named m n.text; meaning = algebraic (length ps) } ∷ declared_types m ds
@@ -48,11 +48,11 @@ imported_types (f ∷ fs) =
     map (λ r. record { entity = r.entity; meaning = algebraic r.arity }) f.types
     ++ (map (λ r. record { entity = r.entity; meaning = imported_synonym r.synonym }) f.synonyms ++ imported_types fs)
 
--- what the type constructor e is
+-- the description of the type constructor e
 abbrev pub type_meant : List ℕ → List Declaration → List Interface → Entity → Option TypeDescription
 type_meant m ds fs e = first_of (λ d. d.entity) e (declared_types m ds ++ imported_types fs)
 
--- Constructors (Report 4.2.1, 4.2.3): the type to which one belongs, and its number of arguments
+-- constructors (Report 4.2.1, 4.2.3): the type constructor, and the number of arguments
 pub record ConstructorDescription : Type 0 where
   pub entity : Entity
   pub owner : Entity
@@ -74,6 +74,6 @@ abbrev pub imported_constructors : List Interface → List ConstructorDescriptio
 imported_constructors [] = []
 imported_constructors (f ∷ fs) = map (λ r. record { entity = r.entity; owner = r.owner; arguments = r.arguments }) f.constructors ++ imported_constructors fs
 
--- what the constructor e is
+-- the description of the constructor e
 abbrev pub constructor_meant : List ℕ → List Declaration → List Interface → Entity → Option ConstructorDescription
 constructor_meant m ds fs e = first_of (λ d. d.entity) e (declared_constructors m ds ++ imported_constructors fs)

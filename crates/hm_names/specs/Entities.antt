@@ -1,4 +1,4 @@
--- Entities: what a module declares, and what interfaces export (Report 5.1, 5.2). An entity is a defining module, a name and a namespace.
+-- Entities: those that a module declares, and those that interfaces export (Report 5.1, 5.2). An entity is a defining module, a name and a namespace.
 use Rattle.std.specs.Prelude.{◌≡◌, ℕ, List, [], ◌∷◌, Contains}
 use Rattle.hm_types.specs.declared.Entity.{Entity}
 use Rattle.hm_types.specs.declared.entries.TypeEntry.{TypeEntry}
@@ -20,7 +20,7 @@ pub data Exports (f : Interface) (x : List ℕ) (e : Entity) : Namespace → Typ
   a_constructor : {r : ConstructorEntry} → Contains f.constructors r → r.name ≡ x → r.entity ≡ e → Exports f x e Constructors
   a_value : {r : ValueEntry} → Contains f.values r → r.name ≡ x → r.entity ≡ e → Exports f x e Values
 
--- f exports a type under the name t, and under the name c a constructor of it. A synonym has none
+-- f exports a type under the name t, and a constructor of it under the name c. A synonym has no constructors
 pub record Belongs (f : Interface) (t c : List ℕ) : Type 0 where
   pub type : TypeEntry
   pub constructor : ConstructorEntry

@@ -1,4 +1,4 @@
--- What a module exports: a set of names with entities (Report 5.2).
+-- The exports of a module: a set of names with entities (Report 5.2).
 use Rattle.std.specs.Prelude.{◌≡◌, ℕ, List, Option, None, Some, Contains}
 use Rattle.hm_types.specs.declared.Entity.{Entity}
 use Rattle.hm_types.specs.Interfaces.{Exports as Interface}
@@ -19,11 +19,11 @@ use Rattle.hm_names.specs.Scope.{Imports, known_as, InScope, Means}
 abbrev pub IsConstructorOf : Module → List Interface → Entity → Entity → Type 0
 IsConstructorOf m fs t k = (d : ConstructorDescription) × ((constructor_meant m.header.name.text m.decls fs k ≡ Some d) × (d.owner ≡ t))
 
--- under the name c the constructor k of t is in scope, bare or qualified
+-- the constructor k of t is in scope under the name c, bare or qualified
 abbrev pub HasConstructor : Module → List Interface → Entity → List ℕ → Entity → Type 0
 HasConstructor m fs t c k = IsConstructorOf m fs t k × ((q : Option (List ℕ)) × InScope m fs Constructors q c k)
 
--- a name under which a module can be exported whole: this module's, or that of an import
+-- a name in an export item `module x`: that of this module, or of an import
 pub data IsModuleName (m : Module) (x : List ℕ) : Type 0 where
   this : m.header.name.text ≡ x → IsModuleName m x
   an_import : {i : Import} → Imports m i → known_as i ≡ x → IsModuleName m x
@@ -36,7 +36,7 @@ pub data Gives (m : Module) (fs : List Interface) (x : List ℕ) (e : Entity) : 
   a_constructor : {n c : Identifier} {cs : List Identifier} {t : Entity} → Means m fs Types n t → Contains cs c → c.text ≡ x → HasConstructor m fs t x e → Gives m fs x e (export.Con n (subs.Some cs)) Constructors
   whole : {n : Identifier} {s : Namespace} → IsModuleName m n.text → InScope m fs s None x e → InScope m fs s (Some n.text) x e → Gives m fs x e (export.Whole n) s
 
--- the module exports the entity e under the name x: all that it declares, or what its export list gives
+-- the module exports the entity e under the name x: it declares e and has no export list, or its export list gives the name
 pub data IsExported (m : Module) (fs : List Interface) (s : Namespace) (x : List ℕ) (e : Entity) : Type 0 where
   all : m.header.exports ≡ None → Declares m x s → e ≡ own m x → IsExported m fs s x e
   listed : {es : List Export} {i : Export} → m.header.exports ≡ Some es → Contains es i → Gives m fs x e i s → IsExported m fs s x e

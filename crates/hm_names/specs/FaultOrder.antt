@@ -1,4 +1,4 @@
--- The order of faults, as it is computed, with its laws. No public clause names these.
+-- The order of faults as the code computes it, with its laws. No public clause names these.
 use Rattle.std.specs.Ordering.{nat_cmp, on, then_cmp, eq_by_cmp}
 use Rattle.std.specs.declared.cmp.Ordering.{Ordering}
 use Rattle.std.specs.Cmp.{IsTotalOrder, IsEquivalence, then_total, on_total, nat_cmp_total, eq_by_cmp_equiv}

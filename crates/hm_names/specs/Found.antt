@@ -1,4 +1,4 @@
--- The faults of names, of numbers of arguments and of declaration lists, as the walk over a tree notes them in order, and the state of the walk. No public contract names what stands here.
+-- The faults that the walk over a tree finds, in its order, and the state of the walk. No public contract names these.
 use Rattle.std.specs.Prelude.{ℕ, Bool, true, false, cond, ◌&&◌, ◌==◌, List, [], ◌∷◌, ◌++◌, map, Option, None, Some, is_some}
 use Rattle.hm_types.specs.declared.Entity.{Entity}
 use Rattle.hm_types.specs.Synonyms.{TypeSynonym}
@@ -31,7 +31,7 @@ pub record KnownArity : Type 0 where
   pub entity : Entity
   pub arity : ℕ
 
--- What the walk looks up: the scope, the synonyms, and what is known of type constructors and constructors.
+-- the tables of the walk: the scope, the synonyms, and the arities of type constructors and constructors
 pub record Lookups : Type 0 where
   pub pairs : List Pair
   pub synonyms : List KnownSynonym
@@ -56,13 +56,13 @@ is_local xs n = no_qualifier n.qualifier && is_text_among n.text xs
 abbrev pub is_special : Identifier → Bool
 is_special n = is_some (special_of n)
 
--- a name that is not looked up in the scope
+-- the name isn't looked up in the scope
 abbrev pub stays : Locals → Namespace → Identifier → Bool
 stays xs Types n = false
 stays xs Constructors n = is_special n
 stays xs Values n = is_local xs n
 
--- what a name becomes
+-- the name with which the walk replaces a name of this meaning
 abbrev pub as_meant : MeaningOf → Identifier → Identifier
 as_meant unbound n = n
 as_meant ambiguous n = n
@@ -74,12 +74,12 @@ resolved_name ps s xs n = cond (stays xs s n) n (as_meant (meaning_in ps s n) n)
 abbrev pub resolver_of : Lookups → Resolver
 resolver_of k = record { name = resolved_name k.pairs; synonym = synonym_among k.synonyms }
 
--- what names become that are bound in the list of a module, or in another
+-- the names with which the walk replaces names that are bound in the list of a module, or in another list
 abbrev pub binder_of : Option (List ℕ) → Binders
 binder_of None n = bare n
 binder_of (Some m) n = as_entity n (named m n.text)
 
--- the faults of a name that is looked up
+-- the faults of a name with this meaning
 abbrev pub meaning_faults : MeaningOf → Identifier → List Fault
 meaning_faults unbound n = fault Unbound n ∷ []
 meaning_faults ambiguous n = fault Ambiguous n ∷ []
@@ -88,7 +88,7 @@ meaning_faults (entity e) n = []
 unfoldable pub name_faults : List Pair → Namespace → Locals → Identifier → List Fault
 name_faults ps s xs n = cond (stays xs s n) [] (meaning_faults (meaning_in ps s n) n)
 
--- the fault of a number of arguments that isn't the one that is known
+-- the fault of a number of arguments other than the known one
 abbrev pub other_arity : Option ℕ → ℕ → Identifier → List Fault
 other_arity None count n = []
 other_arity (Some k) count n = cond (count == k) [] (fault Arity n ∷ [])
@@ -97,7 +97,7 @@ abbrev pub arity_of : Option KnownArity → Option ℕ
 arity_of None = None
 arity_of (Some d) = Some d.arity
 
--- of the first that is of the entity
+-- the arity in the first entry of the entity
 unfoldable pub arity_among : List KnownArity → Entity → Option ℕ
 arity_among ds e = arity_of (first_of (λ d. d.entity) e ds)
 
@@ -115,14 +115,14 @@ abbrev pub pattern_arity : Lookups → Option Special → Identifier → Option 
 pattern_arity k (Some s) n = Some (special_arity s)
 pattern_arity k None n = constructor_arity_meant k (meaning_in k.pairs Constructors n)
 
--- the faults of a type constructor with so many arguments, and of a constructor in a pattern
+-- the faults of a type constructor with `count` arguments, and of a constructor in a pattern
 unfoldable pub type_name_faults : Lookups → Identifier → ℕ → List Fault
 type_name_faults k n count = name_faults k.pairs Types [] n ++ other_arity (type_arity_meant k (meaning_in k.pairs Types n)) count n
 
 unfoldable pub pattern_name_faults : Lookups → Identifier → ℕ → List Fault
 pattern_name_faults k n count = name_faults k.pairs Constructors [] n ++ other_arity (pattern_arity k (special_of n) n) count n
 
--- the names behind another of their text
+-- the names that come after another one with the same text
 unfoldable pub repeated : List (List ℕ) → List Identifier → List Identifier
 repeated seen [] = []
 repeated seen (n ∷ ns) = cond (is_text_among n.text seen) (n ∷ repeated (n.text ∷ seen) ns) (repeated (n.text ∷ seen) ns)
@@ -138,11 +138,11 @@ non_linear ns = map (fault NonLinear) (repeated [] ns)
 abbrev pub duplicates : List Identifier → List Fault
 duplicates ns = map (fault Duplicate) (repeated [] ns)
 
--- the parameters of a type's declaration, and the type variables that it uses
+-- the faults of the parameters of a type's declaration, and of the type variables that it uses
 abbrev pub parameter_faults : List Identifier → List Identifier → List Fault
 parameter_faults ps vs = duplicates ps ++ map (fault Unbound) (outside (texts ps) vs)
 
--- a declaration list by itself
+-- the faults of a declaration list without those of its parts
 unfoldable pub list_faults : Declarations → List Fault
 list_faults ds =
     duplicates (type_names ds) ++ (duplicates (constructor_names ds) ++ (duplicates (binding_names None ds) ++ (duplicates (signed_names ds)
@@ -183,7 +183,7 @@ abbrev mutual
   patterns_faults k no_patterns = []
   patterns_faults k (more_patterns p ps) = pattern_faults k p ++ patterns_faults k ps
 
--- patterns that stand together
+-- the faults of the patterns of one clause, lambda or alternative
 abbrev pub head_faults : Lookups → Patterns → List Fault
 head_faults k ps = non_linear (patterns_variables ps) ++ patterns_faults k ps
 
@@ -235,7 +235,7 @@ abbrev mutual
   declaration_faults k xs (clause n ps r) = head_faults k ps ++ right_side_faults k (with_patterns ps xs) r
   declaration_faults k xs (pattern_binding line column p r) = head_faults k (alone p) ++ right_side_faults k xs r
 
--- Where the walk is: the scope, the local names, each list of them by itself, the innermost first, and the faults so far.
+-- the state of the walk: its tables, the local names in lists, the innermost first, and the faults so far
 pub record Walking : Type 0 where
   pub known : Lookups
   pub groups : List (List (List ℕ))
@@ -248,11 +248,11 @@ all_of (g ∷ gs) = g ++ all_of gs
 abbrev pub locals_of : Walking → Locals
 locals_of w = all_of w.groups
 
--- with these faults besides
+-- the state with these faults added
 abbrev pub noting : List Fault → Walking → Walking
 noting fs w = record w { faults = w.faults ++ fs }
 
--- within these local names
+-- the state inside a list of local names
 abbrev pub entering : List (List ℕ) → Walking → Walking
 entering g w = record w { groups = g ∷ w.groups }
 
@@ -260,11 +260,11 @@ abbrev pub rest_of : List (List (List ℕ)) → List (List (List ℕ))
 rest_of [] = []
 rest_of (g ∷ gs) = gs
 
--- back from the innermost local names
+-- the state after leaving the innermost list of local names
 abbrev pub leaving : Walking → Walking
 leaving w = record w { groups = rest_of w.groups }
 
--- The expressions of a right side, each behind its guard, if it has one.
+-- The expressions of a right side, each with its guard, if it has one.
 
 unfoldable pub alternative_with : Resolver → Locals → Alternative → Alternative
 alternative_with r xs (alternative p g) = alternative (pattern_with r bare p) (right_side_with r (with_patterns (alone p) xs) g)
@@ -291,6 +291,6 @@ abbrev pub guard_size : Option Expression → ℕ
 guard_size None = 0
 guard_size (Some g) = expression_size g
 
--- what a walk with this scope and these tables looks up
+-- the tables of a walk
 abbrev pub lookups_in : List Pair → List KnownSynonym → List KnownArity → List KnownArity → Lookups
 lookups_in ps ss ts cs = record { pairs = ps; synonyms = ss; types = ts; constructors = cs }

@@ -1,4 +1,4 @@
--- The laws that the crate's functions prove, as statements.
+-- The laws of the crate, as statements.
 use Rattle.std.specs.Prelude.{◌≡◌, ℕ, List, [], ◌++◌, Option, Some, ◌↔◌, ◌⊎◌, Contains}
 use Rattle.hm_types.specs.declared.Entity.{Entity}
 use Rattle.hm_types.specs.declared.entries.ValueEntry.{ValueEntry}
@@ -50,19 +50,19 @@ HasMeaning = (m : Module) (fs : List Interface) (s : Namespace) (n : Identifier)
 abbrev pub HasOneResolution : Type 0
 HasOneResolution = (m : Module) (fs : List Interface) (r s : Resolver) → IsWellFormed m fs → IsResolver m fs r → IsResolver m fs s → resolved m r ≡ resolved m s
 
--- and it has one
+-- a well-formed module has a resolution
 abbrev pub HasResolver : Type 0
 HasResolver = (m : Module) (fs : List Interface) → IsWellFormed m fs → (r : Resolver) × IsResolver m fs r
 
--- what is typed of a module's core is the module's elaboration, by any resolver
+-- the binding list of a module's core is the module's, under any resolver
 abbrev pub IsElaborated : Type 0
 IsElaborated = (m : Module) (fs : List Interface) (c : ModuleCore) (r : Resolver) → IsCore m fs c → IsResolver m fs r → syntax_of c ≡ elaborated m fs r
 
--- so two cores of one module have one syntax, and one set of assumptions
+-- two cores of one module have the same binding list and the same assumptions
 abbrev pub HasOneSyntax : Type 0
 HasOneSyntax = (m : Module) (fs : List Interface) (c d : ModuleCore) → IsCore m fs c → IsCore m fs d → (syntax_of c ≡ syntax_of d) × (assumptions c ≡ assumptions d)
 
--- a module has one core, and a core one interface for given schemes
+-- a module has one core, and a core has one interface for given schemes
 abbrev pub HasOneCore : Type 0
 HasOneCore = (m : Module) (fs : List Interface) (c d : ModuleCore) → IsCore m fs c → IsCore m fs d → c ≡ d
 
@@ -75,22 +75,22 @@ HasOneInterface = (c : ModuleCore) (given : List ℕ → Option TypeScheme) (f g
 abbrev pub BindsDistinct : Type 0
 BindsDistinct = (m : Module) (fs : List Interface) (c : ModuleCore) → IsCore m fs c → IsDistinct (names (syntax_of c))
 
--- each is a variable of the module, or a pattern binding of it
+-- each name is a variable or a pattern binding of the module
 abbrev pub IsOwn : Module → Name → Type 0
 IsOwn m x = ((y : List ℕ) × (x ≡ global (own m y))) ⊎ ((k : ℕ) × (x ≡ binding m.header.name.text k))
 
 abbrev pub BindsOwn : Type 0
 BindsOwn = (m : Module) (fs : List Interface) (c : ModuleCore) → IsCore m fs c → (x : Name) → IsOneOf x (names (syntax_of c)) → IsOwn m x
 
--- and all variables are bound that the module declares
+-- all variables that the module declares are bound
 abbrev pub BindsDeclared : Type 0
 BindsDeclared = (m : Module) (fs : List Interface) (c : ModuleCore) → IsCore m fs c → (x : List ℕ) → Declares m x Values → IsOneOf (global (own m x)) (names (syntax_of c))
 
--- so a top-level variable is an entity of the core's module that its declarations bind
+-- a top-level variable is an entity of the core's module that its declarations bind
 abbrev pub TopIsBound : Type 0
 TopIsBound = (m : Module) (fs : List Interface) (c : ModuleCore) → IsCore m fs c → (e : Entity) → IsTop c e ↔ ((e.«module» ≡ c.name) × IsOneOf e.name (texts (bound_names (declarations c.decls))))
 
--- an entry of an interface is of the variable e
+-- an interface has an entry for the variable e
 pub record IsImported (fs : List Interface) (e : Entity) : Type 0 where
   pub interface : Interface
   pub stands : Contains fs interface
@@ -98,13 +98,13 @@ pub record IsImported (fs : List Interface) (e : Entity) : Type 0 where
   pub has : Contains interface.values entry
   pub is : entry.entity ≡ e
 
--- an exported variable is the module's own, or of an interface
+-- an exported variable is the module's own, or is in an interface
 abbrev pub ExportsOwnOrImported : Type 0
 ExportsOwnOrImported = (m : Module) (fs : List Interface) (x : List ℕ) (e : Entity) → IsExported m fs Values x e → (Declares m x Values × (e ≡ own m x)) ⊎ IsImported fs e
 
 -- Assumptions
 
--- no type variable is free in what is assumed
+-- the assumptions have no free type variable
 abbrev pub AssumesClosed : Type 0
 AssumesClosed = (c : ModuleCore) → IsClosed (assumptions c)
 
@@ -114,19 +114,19 @@ AssumesFirst = (c : ModuleCore) (e : Entity) (t : Monotype) → Has (assumptions
 
 -- Expansion
 
--- a synonym stands for its right side, with the types of the arguments put for the parameters
+-- a synonym stands for its right side with the types of the arguments in place of the parameters
 abbrev pub ExpansionSubstitutes : Type 0
 ExpansionSubstitutes =
     (vs : List (List ℕ)) (n : Identifier) (ts : TypeTrees) (b : Mono) → HasNoRigid b → HasArities b → type_in vs (filled_at n ts b) ≡ put (λ i. type_in vs (argument i ts)) (monotype_of b)
 
 -- The walk
 
--- what is noted of a module's declarations are the faults that stand somewhere in the module
+-- the faults that the walk finds in a module's declarations are the faults in the module
 abbrev pub NotedStands : Type 0
 NotedStands = (m : Module) (fs : List Interface) (k : Lookups) → AreLookupsOf m fs k → (f : Fault) →
     Contains (list_faults (declarations m.decls) ++ declarations_faults k [] (declarations m.decls)) f ↔ Somewhere m (NodeFault m fs f)
 
--- tables that are a module's give a resolver of it
+-- the tables of a module give a resolver of it
 abbrev pub LookupsResolve : Type 0
 LookupsResolve = (m : Module) (fs : List Interface) (k : Lookups) → AreLookupsOf m fs k →
     ((e : Entity) (d : TypeDescription) → type_meant m.header.name.text m.decls fs e ≡ Some d → synonym_among k.synonyms e ≡ synonym_meant (resolver_of k) d.meaning) → IsResolver m fs (resolver_of k)

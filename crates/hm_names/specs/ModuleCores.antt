@@ -1,4 +1,4 @@
--- What a core is seen as.
+-- The model of a core.
 use Rattle.std.specs.Prelude.{ℕ, List, refl}
 use Rattle.std.specs.Coded.{Coded, code_by, coded×, coded_list}
 use Rattle.hm_types.specs.declared.Entity.{Entity}
@@ -7,7 +7,7 @@ use Rattle.hm_syntax.specs.Codes.{coded_declaration}
 use Rattle.hm_syntax.specs.Trees.{Declaration}
 use Rattle.hm_names.specs.declared.cores.Exported.{Exported}
 
--- a module's name, its resolved declarations, the interfaces that it was made for, and what it exports in each namespace
+-- a module's name, its resolved declarations, the interfaces for which it was made, and its exports in each namespace
 pub record ModuleCore : Type 0 where
   pub name : List ℕ
   pub decls : List Declaration
@@ -16,7 +16,7 @@ pub record ModuleCore : Type 0 where
   pub exported_constructors : List Exported
   pub exported_values : List Exported
 
--- its code, by which a proof tells it from others
+-- the code of exports, with which a proof decides equality
 abbrev pub coded_exported : Coded Exported
 coded_exported = code_by (List ℕ × Entity) (coded× coded_text coded_entity) (λ e. (e.name, e.entity)) (λ p. record { name = p.0; entity = p.1 }) (λ _. refl)
 

@@ -1,4 +1,4 @@
--- The faults of the phases that go over the trees: of lists, of names, and of numbers of arguments.
+-- The faults that the walk over trees finds: those of declaration lists, of names, and of numbers of arguments.
 use Rattle.std.specs.Prelude.{◌≡◌, ◌⊎◌, List, [], Option, None, Some, ◌↔◌}
 use Rattle.hm_types.specs.declared.Entity.{Entity}
 use Rattle.hm_types.specs.Interfaces.{Exports as Interface}
@@ -15,7 +15,7 @@ use Rattle.hm_names.specs.Faults.Phases.{fault}
 use Rattle.hm_names.specs.Bindings.{IsScopeOf}
 use Rattle.hm_names.specs.Found.{Lookups, arity_among}
 
--- the node has this fault, by what declaration lists, names or numbers of arguments ask
+-- the node has this fault, by the rules of declaration lists, of names or of numbers of arguments
 pub record NodeFault (m : Module) (fs : List Interface) (f : Fault) (xs : Locals) (node : Node) : Type 0 where
   pub kind : Kind
   pub name : Identifier
@@ -30,7 +30,7 @@ abbrev pub arity_of_constructor : Option ConstructorDescription → Option Rattl
 arity_of_constructor None = None
 arity_of_constructor (Some d) = Some d.arguments
 
--- what is looked up is what the module with its interfaces has
+-- the tables are those of the module with its interfaces
 pub record AreLookupsOf (m : Module) (fs : List Interface) (k : Lookups) : Type 0 where
   pub scope : IsScopeOf m fs k.pairs
   pub types : (e : Entity) → arity_among k.types e ≡ arity_of_type (type_meant m.header.name.text m.decls fs e)

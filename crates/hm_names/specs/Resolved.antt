@@ -1,4 +1,5 @@
--- Trees with each name resolved, and synonyms expanded. The name of an entity is qualified by its module; a local one, and that of a special constructor, is bare.
+-- Trees with resolved names and expanded synonyms. The name of an entity is qualified with its module. Names of local variables and of special
+-- constructors are bare.
 use Rattle.std.specs.Prelude.{◌≡◌, List, [], map, Option, None, Some}
 use Rattle.hm_types.specs.declared.Entity.{Entity}
 use Rattle.hm_types.specs.Interfaces.{Exports as Interface}
@@ -17,7 +18,7 @@ use Rattle.hm_names.specs.Described.{TypeMeaning, algebraic, declared_synonym, i
 use Rattle.hm_names.specs.Walk.{Locals, with_patterns, with_list}
 use Rattle.hm_names.specs.Faults.Names.{IsLocal}
 
--- what each name becomes, under local variables, and which entities are synonyms, with their right sides resolved and expanded
+-- the replacement of each name under local variables, and the entities that are synonyms, with their right sides resolved and expanded
 pub record Resolver : Type 0 where
   pub name : Namespace → Locals → Identifier → Identifier
   pub synonym : Entity → Option TypeSynonym
@@ -35,13 +36,13 @@ abbrev mutual
   types_with r no_types = no_types
   types_with r (more_types t ts) = more_types (type_with r t) (types_with r ts)
 
--- what the name of a type constructor becomes, and the synonym that it is
+-- the replacement of a type constructor, and the synonym that it is
 abbrev pub synonym_meant : Resolver → TypeMeaning → Option TypeSynonym
 synonym_meant r (algebraic k) = None
 synonym_meant r (declared_synonym ps t) = Some (synonym_of ps (type_with r t))
 synonym_meant r (imported_synonym s) = Some s
 
--- the resolver is that of the module: a name becomes what it means
+-- the resolver of the module replaces each name by its meaning
 pub record IsResolver (m : Module) (fs : List Interface) (r : Resolver) : Type 0 where
   pub local : (xs : Locals) (n : Identifier) → IsLocal xs n → r.name Values xs n ≡ n
   pub value : (xs : Locals) (n : Identifier) (e : Entity) → ¬ (IsLocal xs n) → Means m fs Values n e → r.name Values xs n ≡ as_entity n e
@@ -50,8 +51,8 @@ pub record IsResolver (m : Module) (fs : List Interface) (r : Resolver) : Type 0
   pub type : (xs : Locals) (n : Identifier) (e : Entity) → Means m fs Types n e → r.name Types xs n ≡ as_entity n e
   pub synonym : (e : Entity) (d : TypeDescription) → type_meant m.header.name.text m.decls fs e ≡ Some d → r.synonym e ≡ synonym_meant r d.meaning
 
--- Binders: what a name becomes that is bound there. Local ones are bare, since a qualified name is never local; those of a module's own list
--- become entities
+-- binders: the replacement of a name where it is bound. Local names become bare, because a qualified name is never local. Names of a module's own
+-- list become entities
 abbrev pub Binders : Type 0
 Binders = Identifier → Identifier
 

@@ -16,14 +16,14 @@ use Rattle.hm_names.specs.Entities.{Exports, Belongs, Declares, own}
 
 -- Import lists (Report 5.3.1)
 
--- an item of a list names x, among what f exports
+-- an item of an import list names x among the exports of f
 pub data Lists (f : Interface) (x : List ℕ) : ImportItem → Namespace → Type 0 where
   a_value : {n : Identifier} → n.text ≡ x → Lists f x (item.Var n) Values
   a_type : {n : Identifier} {s : SubItems} → n.text ≡ x → Lists f x (item.Con n s) Types
   each_constructor : {n : Identifier} → Belongs f n.text x → Lists f x (item.Con n subs.All) Constructors
   a_constructor : {n c : Identifier} {cs : List Identifier} → Contains cs c → c.text ≡ x → Belongs f n.text x → Lists f x (item.Con n (subs.Some cs)) Constructors
 
--- behind hiding a name that stands alone is also that of a constructor, of whatever type
+-- after `hiding`, a name without a list also hides a constructor of that name, of any type
 pub data Hides (f : Interface) (x : List ℕ) : ImportItem → Namespace → Type 0 where
   listed : {i : ImportItem} {s : Namespace} → Lists f x i s → Hides f x i s
   alone : {n : Identifier} → n.text ≡ x → Hides f x (item.Con n subs.None) Constructors
@@ -43,7 +43,7 @@ prelude_name = codes "Prelude"
 abbrev pub import_prelude : Import
 import_prelude = record { qualified = false; name = record { qualifier = None; text = prelude_name; line = 0; column = 0 }; alias = None; list = list.Every }
 
--- the imports of a module: those that are written, and that of Prelude, unless one that is written names it
+-- the imports of a module: the written ones, and that of Prelude, unless a written one names it
 pub data Imports (m : Module) (i : Import) : Type 0 where
   written : Contains m.header.imports i → Imports m i
   added : ((j : Import) → Contains m.header.imports j → ¬ (j.name.text ≡ prelude_name)) → i ≡ import_prelude → Imports m i
@@ -58,13 +58,13 @@ known_as i = alias_or i.alias i.name
 
 -- The scope
 
--- In the scope of the module m with the interfaces fs, Prelude's among them, the name x under the qualifier q, or bare, has the entity e.
+-- in the scope of the module m with the interfaces fs, which include Prelude's, the name x with the qualifier q, or bare, has the entity e
 pub data InScope (m : Module) (fs : List Interface) (s : Namespace) (q : Option (List ℕ)) (x : List ℕ) (e : Entity) : Type 0 where
   declared : Declares m x s → (q ≡ None) ⊎ (q ≡ Some m.header.name.text) → e ≡ own m x → InScope m fs s q x e
   imported : {i : Import} {f : Interface} →
       Imports m i → Contains fs f → f.name ≡ i.name.text → Brings f i s x e → ((q ≡ None) × (i.qualified ≡ false)) ⊎ (q ≡ Some (known_as i)) → InScope m fs s q x e
 
--- What a name means in the scope: no entity, two or more, or one (Report 5.5.2)
+-- The meaning of a name in the scope: no entity, two or more, or one (Report 5.5.2)
 
 abbrev pub IsUnbound : Module → List Interface → Namespace → Identifier → Type 0
 IsUnbound m fs s n = (e : Entity) → ¬ (InScope m fs s n.qualifier n.text e)

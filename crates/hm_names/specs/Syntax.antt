@@ -1,4 +1,4 @@
--- Resolved trees as the syntax that is typed: clauses are grouped into bindings, signatures stand at their bindings, constructors are their types.
+-- Resolved trees as the syntax of inference: clauses are grouped into bindings, signatures are at their bindings, constructors are their types.
 use Rattle.std.specs.Prelude.{ℕ, suc, Bool, false, cond, ◌&&◌, ◌||◌, List, [], ◌∷◌, Option, None, Some}
 use Rattle.hm_types.specs.Schemes.{TypeScheme}
 use Rattle.hm_typing.specs.Programs.{monotype_of}
@@ -11,7 +11,7 @@ use Rattle.hm_names.specs.Texts.{same_text}
 use Rattle.hm_names.specs.Types.{declared_type}
 use Rattle.hm_names.specs.Faults.Lists.{has_patterns}
 
--- a resolved variable: bare it is local, qualified an entity
+-- a resolved variable: a bare one is local, a qualified one an entity
 abbrev pub name_in : Option (List ℕ) → List ℕ → Name
 name_in None x = local x
 name_in (Some q) x = global (record { «module» = q; name = x })
@@ -19,7 +19,7 @@ name_in (Some q) x = global (record { «module» = q; name = x })
 abbrev pub name_of : Identifier → Name
 name_of n = name_in n.qualifier n.text
 
--- what is known: the name of the module, and the scheme that each constructor, by its resolved name, is declared with
+-- the name of the module, and the declared scheme of each constructor by its resolved name
 pub record Known : Type 0 where
   pub home : List ℕ
   pub scheme : Identifier → TypeScheme
@@ -63,7 +63,8 @@ signature_of x (more_declarations (signature ns t) ds) = cond (is_signed_among x
 signature_of x (more_declarations (clause n ps r) ds) = signature_of x ds
 signature_of x (more_declarations (pattern_binding line column p r) ds) = signature_of x ds
 
--- Clauses of one variable with patterns that stand together are one binding (Report 4.4.3.1): the declaration behind a clause of x with the patterns ps goes on its binding
+-- Adjacent clauses of one variable with patterns are one binding (Report 4.4.3.1): after a clause of x with the patterns ps, the first of these
+-- declarations continues its binding
 abbrev pub is_continued : List ℕ → Patterns → Declarations → Bool
 is_continued x ps no_declarations = false
 is_continued x ps (more_declarations (data_declaration n qs cs) ds) = false
@@ -73,12 +74,12 @@ is_continued x ps (more_declarations (signature ns t) ds) = false
 is_continued x ps (more_declarations (clause n qs r) ds) = same_text x n.text && (has_patterns ps && has_patterns qs)
 is_continued x ps (more_declarations (pattern_binding line column p r) ds) = false
 
--- a binding, with its signature if it has one, before others
+-- a binding, with its signature if it has one, before other bindings
 abbrev pub bound_by : Name → Option Monotype → typed.Clauses → typed.Bindings → typed.Bindings
 bound_by x None cs ds = typed.unsigned x cs ds
 bound_by x (Some s) cs ds = typed.signed x s cs ds
 
--- one more clause, before those of the first binding
+-- adds a clause before those of the first binding
 abbrev pub add_clause : (typed.Clauses → typed.Clauses) → typed.Bindings → typed.Bindings
 add_clause c typed.no_binding = typed.no_binding
 add_clause c (typed.unsigned x cs ds) = typed.unsigned x (c cs) ds
@@ -109,7 +110,7 @@ abbrev mutual
   expressions_of k no_expressions = typed.no_expression
   expressions_of k (more_expressions e es) = typed.expression (expression_of k e) (expressions_of k es)
 
-  -- an alternative is a clause of one pattern
+  -- an alternative is a clause with one pattern
   pub alternatives_of : Known → Alternatives → typed.Clauses
   alternatives_of k no_alternatives = typed.no_clause
   alternatives_of k (more_alternatives (alternative p r) bs) = typed.clause (typed.pattern (pattern_of k p) typed.no_pattern) (right_sides_of k r) (where_of k r) (alternatives_of k bs)
@@ -130,7 +131,8 @@ abbrev mutual
   bindings_of k all no_declarations = typed.no_binding
   bindings_of k all (more_declarations d ds) = binding_of k all d ds (bindings_of k all ds)
 
-  -- A declaration d before the declarations ds, whose bindings are the rest. The number of a pattern binding is that of the declarations behind it, so that it is another for each of its list
+  -- A declaration d before the declarations ds, whose bindings are `rest`. A pattern binding has the number of declarations after it, so the numbers
+  -- in a list are distinct
   pub binding_of : Known → Declarations → Declaration → Declarations → typed.Bindings → typed.Bindings
   binding_of k all (data_declaration n ps cs) ds rest = rest
   binding_of k all (newtype_declaration n ps c) ds rest = rest

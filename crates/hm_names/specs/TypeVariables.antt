@@ -10,10 +10,10 @@ use Rattle.hm_names.specs.Types.{place}
 abbrev pub PlaceTable : Type 0
 PlaceTable = IndexMap (Bor (List ℕ)) ℕ (BuildHasherDefault FoldHasher)
 
--- the place under a text
+-- the place of a text
 abbrev pub place_in : PlaceTable → List ℕ → Option ℕ
 place_in table x = get_by (λ k. bytes_eq x k.now) table
 
--- each text of the list has its first place in the table, and no other text has one
+-- the table has the first place of each text of the list, and no other text
 abbrev pub ArePlaces : List (List ℕ) → PlaceTable → Type 0
 ArePlaces xs table = (x : List ℕ) → place_in table x ≡ cond (is_text_among x xs) (Some (place x xs)) None

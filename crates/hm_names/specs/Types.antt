@@ -1,4 +1,4 @@
--- Types that are written, as types over numbered variables (Report 4.1.2, 4.2.1, 4.4.1). In them each type constructor is an entity, by its qualifier and text.
+-- Written types as types over numbered variables (Report 4.1.2, 4.2.1, 4.4.1). In them, each type constructor is an entity: its qualifier and text.
 use Rattle.std.specs.Prelude.{ℕ, zero, suc, cond, List, [], ◌∷◌, length, Option, None, Some}
 use Rattle.hm_types.specs.declared.Entity.{Entity}
 use Rattle.hm_types.specs.declared.Head.TheVariants as head
@@ -27,7 +27,7 @@ abbrev pub place : List ℕ → List (List ℕ) → ℕ
 place x [] = 0
 place x (y ∷ ys) = cond (same_text x y) 0 (suc (place x ys))
 
--- a type, its variables numbered by their places in a list
+-- a type whose variables are numbered by their places in a list
 abbrev mutual
   pub type_in : List (List ℕ) → TypeTree → Monotype
   type_in vs (variable_type n) = Var (place n.text vs)
@@ -41,11 +41,11 @@ abbrev mutual
   types_in vs no_types = done
   types_in vs (more_types t ts) = more (type_in vs t) (types_in vs ts)
 
--- the type of a signature or of e :: t: the number of a variable is the place of its first occurrence among all occurrences of variables
+-- the type of a signature or of e :: t. The number of a variable is the place of its first occurrence among all occurrences of variables
 abbrev pub declared_type : TypeTree → Monotype
 declared_type t = type_in (texts (type_variables t)) t
 
--- a type as programs have it: its variables aren't rigid
+-- a type as the code has it: its variables aren't rigid
 abbrev pub program_of : Monotype → Mono
 program_of t = put (λ v. Var (var v)) t
 
@@ -53,7 +53,7 @@ program_of t = put (λ v. Var (var v)) t
 abbrev pub declared_scheme : Monotype → TypeScheme
 declared_scheme t = canonical_of (program_of t)
 
--- a synonym with these parameters, which are numbered in order, and this right side (Report 4.2.2)
+-- a synonym with these parameters, numbered in order, and this right side (Report 4.2.2)
 abbrev pub synonym_of : List Identifier → TypeTree → TypeSynonym
 synonym_of ps t = record { parameters = length ps; body = program_of (type_in (texts ps) t) }
 
@@ -67,7 +67,7 @@ abbrev pub parameters_from : ℕ → List Identifier → Args ℕ
 parameters_from i [] = done
 parameters_from i (p ∷ ps) = more (Var i) (parameters_from (suc i) ps)
 
--- of a constructor of the type e with the parameters ps
+-- the type of a constructor of the type e with the parameters ps
 abbrev pub constructor_type_in : Entity → List Identifier → TypeTrees → Monotype
 constructor_type_in e ps ts = arguments_to (texts ps) ts (App (head.Named e) (parameters_from 0 ps))
 

@@ -65,7 +65,7 @@ abbrev pub constructors_variables : DataConstructors → List Identifier
 constructors_variables no_constructors = []
 constructors_variables (more_constructors c cs) = constructor_variables c ++ constructors_variables cs
 
--- the variables that a list binds by clauses, each clause's
+-- the variables that a list binds by clauses, once for each clause
 abbrev pub clause_names : Declarations → List Identifier
 clause_names no_declarations = []
 clause_names (more_declarations (data_declaration n ps cs) ds) = clause_names ds

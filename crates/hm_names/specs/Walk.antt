@@ -1,4 +1,4 @@
--- What stands somewhere in a tree, and which variables are bound locally there (Report 3 and 4.4: the scopes of patterns, let and where).
+-- The nodes of a tree, and the variables that are bound locally at each (Report 3 and 4.4: the scopes of patterns, let and where).
 use Rattle.std.specs.Prelude.{ℕ, List, [], ◌++◌, ◌⊎◌}
 use Rattle.hm_syntax.specs.Names.{Identifier}
 use Rattle.hm_syntax.specs.Trees.{TypeTree, variable_type, constructor_type, function_type, tuple_type, list_type, unit_type, TypeTrees, no_types, more_types, DataConstructor, data_constructor, DataConstructors, no_constructors, more_constructors, Pattern, variable_pattern, bound_pattern, constructor_pattern, literal_pattern, wildcard_pattern, tuple_pattern, list_pattern, lazy_pattern, Patterns, no_patterns, more_patterns, Expression, variable_expression, constructor_expression, literal_expression, application, lambda, let_expression, if_expression, case_expression, tuple_expression, list_expression, typed_expression, Expressions, no_expressions, more_expressions, Declaration, data_declaration, newtype_declaration, synonym_declaration, signature, clause, pattern_binding, Declarations, no_declarations, more_declarations, RightSide, right_side, Bodies, no_bodies, plain_body, guarded_body, alternative, Alternatives, no_alternatives, more_alternatives}
@@ -16,8 +16,8 @@ with_patterns ps xs = texts (patterns_variables ps) ++ xs
 abbrev pub with_list : Declarations → Locals → Locals
 with_list ds xs = texts (bound_names ds) ++ xs
 
--- What rules speak of: expressions, patterns and types; the patterns of one clause, lambda or alternative, or the one of a pattern binding;
--- the parameters of a type's declaration, with the type variables that it uses; declaration lists.
+-- the nodes that rules are about: expressions, patterns and types; the patterns of one clause, lambda or alternative, or that of a pattern binding;
+-- the parameters of a type's declaration, with the type variables that it uses; declaration lists
 pub data Node : Type 0 where
   at_expression : Expression → Node
   at_pattern : Pattern → Node
@@ -26,11 +26,11 @@ pub data Node : Type 0 where
   at_parameters : List Identifier → List Identifier → Node
   at_list : Declarations → Node
 
--- what is said of a node and the local variables there
+-- a statement about a node and the local variables there
 abbrev pub Rule : Type 1
 Rule = Locals → Node → Type 0
 
--- InType Q xs t: somewhere in t, where the local variables xs are bound around it, the rule Q holds. Likewise for the others
+-- InType Q xs t: the rule Q holds at some node of t, if the local variables xs are bound around t. The others are similar
 
 abbrev mutual
   pub InType : Rule → Locals → TypeTree → Type 0
@@ -67,7 +67,7 @@ abbrev mutual
   InPatterns Q xs no_patterns = ⊥
   InPatterns Q xs (more_patterns p ps) = InPattern Q xs p ⊎ InPatterns Q xs ps
 
--- patterns that stand together
+-- the patterns of one clause, lambda or alternative
 abbrev pub InHead : Rule → Locals → Patterns → Type 0
 InHead Q xs ps = Q xs (at_head ps) ⊎ InPatterns Q xs ps
 
@@ -115,7 +115,7 @@ abbrev mutual
   InDeclaration Q xs (clause n ps r) = InHead Q xs ps ⊎ InRightSide Q (with_patterns ps xs) r
   InDeclaration Q xs (pattern_binding line column p r) = InHead Q xs (more_patterns p no_patterns) ⊎ InRightSide Q xs r
 
--- The rule holds somewhere in a module with these declarations, itself a declaration list. Its top-level names are not local.
+-- the rule holds at some node of a module with these declarations. The module is itself a declaration list, and its top-level names aren't local
 abbrev pub InTop : Rule → List Declaration → Type 0
 InTop Q ds = Q [] (at_list (declarations ds)) ⊎ InDeclarations Q [] (declarations ds)
 

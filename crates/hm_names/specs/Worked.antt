@@ -1,4 +1,4 @@
--- Worked modules, as trees, and what is said of them.
+-- Worked examples of modules, as trees.
 use Rattle.std.specs.Prelude.{◌≡◌, ℕ, List, [], ◌∷◌, Bool, true, false, Option, None, Some, codes}
 use Rattle.hm_types.specs.declared.Entity.{Entity}
 use Rattle.hm_types.specs.declared.Head.TheVariants as head
@@ -52,7 +52,7 @@ a_module ds = module_of (codes "A") None [] ds
 abbrev pub prelude_alone : List Interface
 prelude_alone = prelude_interface ∷ []
 
--- of m, with a variable x
+-- the interface of m, with a variable x
 abbrev pub with_x : List ℕ → Interface
 with_x m = record {
   name = m;
@@ -65,7 +65,7 @@ with_x m = record {
 abbrev pub x : List ℕ
 x = codes "x"
 
--- A module has a fault of the kind, at the name, in the phase
+-- the module has a fault of the kind, at the name, in the phase
 abbrev pub Fails : Module → List Interface → Phase → Kind → Identifier → Type 0
 Fails m fs p k n = HasFault m fs p (fault k n)
 
@@ -86,7 +86,7 @@ bound_twice = a_module (pattern_binding 1 18 (pair_of (at 19 x) (at 22 (codes "y
 abbrev pub DuplicateRow : Type 0
 DuplicateRow = Fails bound_twice prelude_alone Declaring Duplicate (at 31 x)
 
--- module A where { (x, x) = 1 }: the second x is not linear, and no duplicate
+-- module A where { (x, x) = 1 }: the second x is not linear, but no duplicate
 abbrev pub twice_in_one : Module
 twice_in_one = a_module (pattern_binding 1 18 (pair_of (at 19 x) (at 22 x)) one ∷ [])
 
@@ -96,7 +96,7 @@ NonLinearRow = Fails twice_in_one prelude_alone Naming NonLinear (at 22 x)
 abbrev pub NoDuplicateRow : Type 0
 NoDuplicateRow = (n : Identifier) → ¬ (Fails twice_in_one prelude_alone Declaring Duplicate n)
 
--- module A where { x :: (); (x, y) = 1 }: a signature asks for clauses
+-- module A where { x :: (); (x, y) = 1 }: a signature requires clauses
 abbrev pub signs_pattern : Module
 signs_pattern = a_module (signature (at 18 x ∷ []) Rattle.hm_syntax.specs.Trees.unit_type ∷ pattern_binding 1 27 (pair_of (at 28 x) (at 31 (codes "y"))) one ∷ [])
 
@@ -125,7 +125,7 @@ clashing = module_of (codes "A") (Some (export.Var (at 11 x) ∷ export.Var (rec
 abbrev pub ClashRow : Type 0
 ClashRow = Fails clashing (prelude_interface ∷ with_x (codes "B") ∷ []) Exporting ExportClash (at 14 x)
 
--- module A (module B) where { import qualified B ; y = 1 }: what is in scope as B.x alone isn't exported
+-- module A (module B) where { import qualified B ; y = 1 }: a name that is in scope only as B.x isn't exported
 abbrev pub exports_B : Module
 exports_B = module_of (codes "A") (Some (export.Whole (at 18 (codes "B")) ∷ [])) (imports true (codes "B") list.Every ∷ []) (clause (at 50 (codes "y")) no_patterns one ∷ [])
 
@@ -184,7 +184,7 @@ with_pattern = a_module (pattern_binding 1 18 (pair_of (at 19 x) (at 22 (codes "
 abbrev pub PatternRow : Type 0
 PatternRow = (c : ModuleCore) → IsCore with_pattern prelude_alone c → names (syntax_of c) ≡ global (named (codes "A") x) ∷ global (named (codes "A") (codes "y")) ∷ binding (codes "A") 1 ∷ global (named (codes "A") (codes "z")) ∷ []
 
--- Local binders: \B.x -> x, which no source spells, binds the bare x, and not what B.x means
+-- local binders: \B.x -> x, which no source spells, binds the bare x, and not the meaning of B.x
 abbrev pub x_of_B : Identifier
 x_of_B = record { qualifier = Some (codes "B"); text = x; line = 1; column = 19 }
 

@@ -1,4 +1,4 @@
--- In which order the workers of a build make their calls.
+-- The order in which the workers of a build make their calls.
 use Rattle.std.specs.Prelude.{◌≡◌, ◌⊎◌, ℕ, List, [], ◌∷◌, ◌++◌, map, Some, None, slice_index_or}
 use Rattle.std.specs.List.{flat_map}
 use Rattle.hm_store.specs.declared.record.Act.{Act}
@@ -6,7 +6,7 @@ use Rattle.hm_store.specs.declared.record.Act.TheVariants.{Job, Done, Publish, F
 use Rattle.hm_store.specs.declared.record.Call.{Call}
 use Rattle.hm_store.specs.declared.record.Record.{Record}
 
--- what a call came to, without its place in the journal and without the interface that was found
+-- a call and its reply, without its place in the journal and without the interface that was found
 pub data Deed : Type 0 where
   Claimed : ℕ → Deed
   Found : ℕ → Deed
@@ -14,7 +14,7 @@ pub data Deed : Type 0 where
   Left : Deed
   Other : Deed
 
--- a claim got a module, a look found its interface, its publication or failure was taken, or a claim was told that nothing is left
+-- a claim got a module; a look-up found an interface; a publication or failure was accepted; or a claim returned `Done`
 unfoldable pub deed : Act → Deed
 deed (Job m) = Claimed m
 deed Done = Left
@@ -31,10 +31,10 @@ deeds calls = map (λ c. deed c.act) calls
 abbrev pub round : List (List ℕ) → ℕ → List Deed
 round plan m = Claimed m ∷ (map Found (slice_index_or plan m []) ++ (Settled m ∷ []))
 
--- the rounds of some modules, and then a claim that is told that nothing is left
+-- the rounds of some modules, and then a claim that returns `Done`
 abbrev pub IsWorked : List (List ℕ) → List Call → Type 0
 IsWorked plan calls = (ms : List ℕ) × (deeds calls ≡ flat_map (round plan) ms ++ (Left ∷ []))
 
--- a worker that was started worked so; one that wasn't has made no call
+-- a worker that was started made its calls in rounds, and another one made no call
 abbrev pub IsInRounds : List (List ℕ) → Record → Type 0
 IsInRounds plan r = (r.calls.items ≡ []) ⊎ IsWorked plan r.calls.items

@@ -1,4 +1,4 @@
--- What a table of settled modules says.
+-- The table of a settled set.
 use Rattle.std.specs.Prelude.{ℕ, List, map, slice_index_or}
 use Rattle.std.specs.Arc.{arc_value}
 use Rattle.std.specs.declared.alloc.Global.{Global}
@@ -13,12 +13,12 @@ use Rattle.hm_reports.specs.declared.statuses.Settled.TheVariants.{Published, Fa
 abbrev pub module_set : List (Arc Module Global) → List (List ℕ) → ModuleSet
 module_set modules plan = record { modules = map arc_value modules; plan = plan }
 
--- how a module was settled, without where its interface lies in memory
+-- the model of a module's status
 abbrev pub status_of : Settled → verdicts.Status
 status_of (Published f) = verdicts.Published f.now
 status_of (Failed found) = verdicts.Failed found.now
 status_of Skipped = verdicts.Skipped
 
--- what the table of a settled set says; a module past its end counts as skipped
+-- the statuses in the table of a settled set. A module past its end counts as skipped
 abbrev pub statuses_of : List Settled → ℕ → verdicts.Status
 statuses_of table i = status_of (slice_index_or table i Skipped)

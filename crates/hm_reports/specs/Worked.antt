@@ -1,4 +1,4 @@
--- Worked records of workers, and what is said of them.
+-- Worked examples of workers' records.
 use Rattle.std.specs.Prelude.{◌≡◌, ℕ, List, [], ◌∷◌, ◌++◌, Option, None, Some}
 use Rattle.std.specs.Arc.{arc_value}
 use Rattle.std.specs.declared.alloc.Global.{Global}
@@ -19,9 +19,9 @@ use Rattle.hm_reports.specs.Rounds.{IsInRounds, IsWorked}
 abbrev pub plan : List (List ℕ)
 plan = (1 ∷ []) ∷ [] ∷ []
 
--- Rounds: module 1 is claimed and published, module 0 is claimed, its import is looked up and found, and it is published; then nothing is left.
--- A worker that made no call is in rounds too. It isn't where its last claim is missing, where a look found nothing, or where a publication
--- comes without a claim
+-- rounds: module 1 is claimed and published; module 0 is claimed, its import is looked up and found, and it is published; then nothing is left.
+-- A worker without calls is in rounds too. A worker isn't if its last claim is missing, if a look-up found nothing, or if it published without
+-- a claim
 pub record RoundsRow : Type 0 where
   pub worked : (f : Arc Interface Global) → IsWorked plan (begins ++ (found f ∷ call 3 (Publish 0) ∷ call 4 Done ∷ []))
   pub idle : (r : Record) → r.calls.items ≡ [] → IsInRounds plan r
@@ -29,20 +29,20 @@ pub record RoundsRow : Type 0 where
   pub blind : ¬ (IsWorked plan (begins ++ (call 3 (Look 1 None) ∷ call 3 (Publish 0) ∷ call 4 Done ∷ [])))
   pub unclaimed : ¬ (IsWorked plan (call 0 (Publish 1) ∷ call 1 Done ∷ []))
 
--- Records of two workers: one for each, in the order of their numbers
+-- the records of two workers, in the order of their numbers
 pub record NumberedRow : Type 0 where
   pub both : (r s : Record) → r.worker ≡ 0 → s.worker ≡ 1 → AreNumbered 2 (r ∷ s ∷ [])
   pub exchanged : (r s : Record) → r.worker ≡ 1 → ¬ (AreNumbered 2 (r ∷ s ∷ []))
   pub missing : (r : Record) → ¬ (AreNumbered 2 (r ∷ []))
 
--- A finished build of two modules, of which 0 imports 1, by one worker: the sources spell the modules, the build is legal, and the worker's record
--- has its calls in rounds
+-- a finished build of two modules, of which 0 imports 1, by one worker: the sources spell the modules, the build is legal, and the worker's calls
+-- are in rounds
 abbrev pub OneWorkerFinishes : Type 0
 OneWorkerFinishes = (sources : List (List ℕ)) (modules : List Module) (kept : List (Option Checked)) (f : Arc Interface Global) (r : Record)
     → AreModulesOf sources modules → IsLegal (done 0 modules kept) → interface_at kept 1 ≡ Some (arc_value f)
     → IsRecordOf 0 (begins ++ (found f ∷ call 3 (Publish 0) ∷ call 4 Done ∷ [])) r → IsFinished sources 1 (done 0 modules kept) (r ∷ [])
 
--- A build isn't finished while a module is claimed, after a stop, or where a worker has no record
+-- a build isn't finished while a module is claimed, after a stop, or if a worker has no record
 pub record FinishedRow : Type 0 where
   pub whole : OneWorkerFinishes
   pub claimed : (sources : List (List ℕ)) (workers : ℕ) (a b : Module) (kept : List (Option Checked)) (rs : List Record) → ¬ (IsFinished sources workers (begun (a ∷ b ∷ []) kept) rs)

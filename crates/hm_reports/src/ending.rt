@@ -1,4 +1,4 @@
-//! Whether a build ended as it should.
+//! Whether a build finished.
 ghost use Rattle.std.specs.Prelude.{◌≡◌, All, IfOk, true, false};
 ghost use Rattle.hm_store.specs.Agreement.{Agree};
 ghost use Rattle.hm_store.specs.Builds.{IsAllSettled, state_of};
@@ -9,7 +9,7 @@ use crate::rounds::are_in_rounds;
 use hm_store::{Record, Store};
 use std::alloc::{AllocError, Global};
 
-/// Whether each module is settled.
+/// Returns whether each module is settled.
 fn is_all_settled(store: &Store) -> bool
     ensures { result ≡ true → IsAllSettled store.now }
 {
@@ -21,7 +21,7 @@ fn is_all_settled(store: &Store) -> bool
     true
 }
 
-/// Whether there is a record for each worker, in the order of their numbers.
+/// Returns whether there is a record for each worker, in the order of their numbers.
 fn are_numbered(records: &[Record], workers: usize) -> bool
     ensures { result ≡ true → AreNumbered workers records.now }
 {
@@ -33,8 +33,8 @@ fn are_numbered(records: &[Record], workers: usize) -> bool
     records.len() == workers
 }
 
-/// Whether a build by so many workers ended: its store was not stopped, each module is settled, and the workers' records agree with the
-/// journal and are in rounds.
+/// Returns whether a build with this many workers finished: its store wasn't stopped, each module is settled, and the workers' records agree with
+/// the journal and are in rounds.
 pub fn has_ended(
     alloc: Global,
     store: &Store,

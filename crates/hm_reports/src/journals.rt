@@ -11,7 +11,7 @@ use hm_syntax::Module;
 use std::alloc::{AllocError, Global};
 use std::sync::Arc;
 
-/// The name of a module; no name for a number that no module has.
+/// Returns the name of a module, or an empty name for a number that no module has.
 fn name_of(modules: &[Arc<Module>], number: usize) -> &str
     ensures { result.now ≡ (slice_index_or (map arc_value modules.now) number no_module).header.name.text }
 {
@@ -21,14 +21,14 @@ fn name_of(modules: &[Arc<Module>], number: usize) -> &str
     }
 }
 
-/// Appends what a line says of a step on a module.
+/// Appends the text of a step on a module.
 fn add_step(text: &mut String, word: &str, worker: usize, name: &str) -> Result<(), AllocError>
     ensures { OnOk result (string_bytes text.new ≡ string_bytes text.old ++ (word.now ++ (codes " " ++ (decimal worker ++ (codes " " ++ name.now))))) }
 {
     write!(text, "{word} {worker} {name}")
 }
 
-/// Appends the line of an entry behind so many publications.
+/// Appends the line of an entry that comes after this many publications.
 fn add_entry(
     text: &mut String,
     store: &Store,
@@ -54,7 +54,7 @@ fn add_entry(
     }
 }
 
-/// The text of the journal of a build: a line for each entry, in order.
+/// Returns the text of the journal of a build: a line for each entry, in order.
 pub fn journal_text(alloc: Global, store: &Store) -> Result<String, AllocError>
     ensures { IfOk result (λ text. string_bytes text ≡ journal_bytes store.now) }
 {

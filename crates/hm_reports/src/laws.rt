@@ -1,4 +1,4 @@
-//! Laws of the text of a journal and of workers' records. A law is a function with an empty body, whose contract is the law.
+//! Laws of the text of a journal and of workers' records. Each law is a function with an empty body, and its contract is the law.
 ghost use Rattle.hm_reports.specs.Laws.{AreLinesNumbered};
 ghost use Rattle.hm_reports.specs.Worked.{FinishedRow, NumberedRow, RoundsRow};
 
@@ -8,7 +8,7 @@ pub fn lines_are_numbered()
     ensures { AreLinesNumbered }
 {}
 
-/// Worked records: which calls are in rounds, which records are numbered, and which builds are finished.
+/// Worked examples: calls in rounds, numbered records, and finished builds.
 pub fn worked_records()
     ensures rounds { RoundsRow }
     ensures numbered { NumberedRow }

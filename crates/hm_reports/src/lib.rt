@@ -1,4 +1,6 @@
-//! What a build comes to: whether it ended as it should, how each of its modules was settled, and the texts of its report and its journal.
+//! The result of a build: whether it finished, the status of each module, and the texts of its report and its journal.
+//!
+//! [`report`] and [`journal_text`] return the texts, [`has_ended`] whether the build is complete.
 #![tactic(auto)]
 
 mod ending;

@@ -21,7 +21,7 @@ use hm_type_texts::interface_text;
 use std::alloc::{AllocError, Global};
 use std::sync::Arc;
 
-/// What is printed of a module.
+/// The block of a module in a report.
 #[derive(Drop)]
 struct ReportBlock<'a> {
     name: &'a str,
@@ -39,7 +39,7 @@ fn add_fault(text: &mut String, fault: &Fault) -> Result<(), AllocError>
     write!(text, "  {line}:{column} {word} {name}\n")
 }
 
-/// The text of a faulty module.
+/// Returns the text of a faulty module.
 fn faulty_text(alloc: Global, name: &str, faults: &[Fault]) -> Result<String, AllocError>
     ensures { IfOk result (λ text. string_bytes text ≡ codes "faulty " ++ name.now ++ codes "\n" ++ flat_map fault_line faults.now) }
 {
@@ -50,7 +50,7 @@ fn faulty_text(alloc: Global, name: &str, faults: &[Fault]) -> Result<String, Al
     Ok(text)
 }
 
-/// Appends the name of a module that isn't published.
+/// Appends the name of a module if it isn't published.
 fn add_blamed<'a>(
     names: &mut Vec<&'a str>,
     name: &'a str,
@@ -65,7 +65,7 @@ fn add_blamed<'a>(
     }
 }
 
-/// The names of those modules of a row that aren't published.
+/// Returns the names of the modules of a row that aren't published.
 fn unpublished<'a>(
     alloc: Global,
     modules: &'a [Arc<Module>],
@@ -84,7 +84,7 @@ fn unpublished<'a>(
     Ok(names)
 }
 
-/// The names, in order, of the imports of a module that aren't published.
+/// Returns the names of a module's imports that aren't published, ordered.
 fn ordered_blame<'a>(
     alloc: Global,
     modules: &'a [Arc<Module>],
@@ -102,7 +102,7 @@ fn ordered_blame<'a>(
     Ok(names)
 }
 
-/// The text of a skipped module, with the names of those that it was skipped for.
+/// Returns the text of a skipped module, with the names of the imports because of which it is skipped.
 fn skipped_text(alloc: Global, name: &str, names: &[&str]) -> Result<String, AllocError>
     ensures { IfOk result (λ text. string_bytes text ≡ codes "skipped " ++ name.now ++ codes "\n" ++ flat_map blame_line (map (λ s. s.now) names.now)) }
 {
@@ -113,7 +113,7 @@ fn skipped_text(alloc: Global, name: &str, names: &[&str]) -> Result<String, All
     Ok(text)
 }
 
-/// The text of one module.
+/// Returns the text of one module.
 fn block_text(
     alloc: Global,
     modules: &[Arc<Module>],
@@ -138,7 +138,7 @@ fn block_text(
     }
 }
 
-/// The blocks of the modules, in the modules' order.
+/// Returns the blocks of the modules, in the modules' order.
 fn blocks<'a>(
     alloc: Global,
     modules: &'a [Arc<Module>],
@@ -158,7 +158,7 @@ fn blocks<'a>(
     Ok(blocks)
 }
 
-/// How many modules were settled in each way.
+/// The numbers of good, faulty and skipped modules.
 #[derive(Clone, Copy)]
 struct Counts {
     good: usize,
@@ -189,14 +189,14 @@ fn counts_of(settled: &[Settled<'_>]) -> Counts
     }
 }
 
-/// How many modules of a settled set are skipped.
+/// Returns the number of skipped modules of a settled set.
 pub fn skipped_in(settled: &[Settled<'_>]) -> usize
     ensures { result ≡ tally is_skipped (statuses_of settled.now) (length settled.now) }
 {
     counts_of(settled).skipped
 }
 
-/// Whether all modules of a settled set are good.
+/// Returns `Good` if all modules of a settled set are good, else `Faulty`.
 pub fn status_of(settled: &[Settled<'_>]) -> Status
     ensures good { result ≡ Status.Good → tally is_published (statuses_of settled.now) (length settled.now) ≡ length settled.now }
     ensures faulty { result ≡ Status.Faulty → tally is_published (statuses_of settled.now) (length settled.now) ≢ length settled.now }
@@ -209,7 +209,7 @@ pub fn status_of(settled: &[Settled<'_>]) -> Status
     }
 }
 
-/// Appends the last line.
+/// Appends the last line, with the counts.
 fn add_counts(text: &mut String, settled: &[Settled<'_>]) -> Result<(), AllocError>
     ensures { OnOk result (string_bytes text.new ≡ string_bytes text.old ++ count_line (statuses_of settled.now) (length settled.now)) }
 {
@@ -225,7 +225,7 @@ fn add_counts(text: &mut String, settled: &[Settled<'_>]) -> Result<(), AllocErr
     )
 }
 
-/// The report of a settled set: a block for each module, ordered by name, and the counts.
+/// Returns the report of a settled set: a block for each module, ordered by name, and the counts.
 fn settled_report(
     alloc: Global,
     modules: &[Arc<Module>],
@@ -246,7 +246,7 @@ fn settled_report(
     Ok(text)
 }
 
-/// The report of a build: a block for each module, ordered by name, and the counts.
+/// Returns the report of a build: a block for each module, ordered by name, and the counts.
 pub fn report(alloc: Global, store: &Store) -> Result<String, AllocError>
     ensures { IfOk result (λ text. IsReport (set_of store.now) (settlement_in store.now) (string_bytes text)) }
 {

@@ -1,11 +1,11 @@
-//! In which order the workers made their calls.
+//! The order of the workers' calls: rounds, one for each module.
 ghost use Rattle.std.specs.Prelude.{◌≡◌, ◌≤◌, ◌<◌, List, ◌++◌, ◌∷◌, [], All, IfSome, length, map, slice_index_or, true};
 ghost use Rattle.hm_reports.specs.Rounds.{Found, IsInRounds, Settled, deeds};
 
 use hm_graph::Plan;
 use hm_store::{Act, Call, Record};
 
-/// What follows the looks of a worker at these modules, where each was found.
+/// Returns the calls after look-ups of these modules, if the calls begin with these and each found an interface.
 fn after_looks<'a>(modules: &[usize], calls: &'a [Call]) -> Option<&'a [Call]>
     ensures looks { IfSome result (λ behind. deeds calls.now ≡ map Found modules.now ++ deeds behind.now) }
     ensures shorter { IfSome result (λ behind. length behind.now ≤ length calls.now) }
@@ -27,7 +27,7 @@ fn after_looks<'a>(modules: &[usize], calls: &'a [Call]) -> Option<&'a [Call]>
     Some(left)
 }
 
-/// What follows a worker's looks at what this module imports, where each was found, and the module's publication or failure.
+/// Returns the calls after the round of a module, if they begin with it: found look-ups of its imports, then its publication or failure.
 fn after_check<'a>(plan: &Plan, number: usize, calls: &'a [Call]) -> Option<&'a [Call]>
     requires { number < length plan.now }
     ensures checked { IfSome result (λ behind. deeds calls.now ≡ map Found (slice_index_or plan.now number []) ++ (Settled number ∷ deeds behind.now)) }
@@ -41,7 +41,7 @@ fn after_check<'a>(plan: &Plan, number: usize, calls: &'a [Call]) -> Option<&'a 
     }
 }
 
-/// Whether a worker made its calls in rounds, or none.
+/// Returns whether a worker made its calls in rounds. A worker without calls did.
 fn is_in_rounds(plan: &Plan, log: &Record) -> bool
     ensures { result ≡ true → IsInRounds plan.now log.now }
 {
@@ -59,7 +59,7 @@ fn is_in_rounds(plan: &Plan, log: &Record) -> bool
     log.calls.is_empty()
 }
 
-/// Whether each worker made its calls in rounds, or none.
+/// Returns whether each worker made its calls in rounds.
 pub(crate) fn are_in_rounds(plan: &Plan, records: &[Record]) -> bool
     ensures { result ≡ true → All (IsInRounds plan.now) records.now }
 {

@@ -1,4 +1,4 @@
-//! What is known of a module when its set has been judged.
+//! The status of each module in a settled set.
 ghost use Rattle.std.specs.Prelude.{◌≡◌, ◌<◌, IfOk, length};
 ghost use Rattle.hm_store.specs.Settlements.{settlement};
 ghost use Rattle.hm_reports.specs.Settling.{status_of, statuses_of};
@@ -10,18 +10,18 @@ use hm_syntax::Row;
 use hm_types::Interface;
 use std::alloc::{AllocError, Global};
 
-/// How a module was settled.
+/// The status of a module in a settled set.
 #[derive(Clone, Copy)]
 pub enum Settled<'a> {
-    /// It is good, and this is what it exports.
+    /// It is good. Has its interface.
     Published(&'a Interface),
     /// It has these faults.
     Failed(&'a Row<Fault>),
-    /// A module that it imports isn't published.
+    /// It imports a module that isn't published.
     Skipped,
 }
 
-/// How a module of a store was settled.
+/// Returns the status of a module of a store.
 fn settled_at(store: &Store, number: usize) -> Settled<'_>
     requires { number < length store.now.modules }
     ensures { status_of result ≡ settlement store.now number }
@@ -33,12 +33,12 @@ fn settled_at(store: &Store, number: usize) -> Settled<'_>
     }
 }
 
-/// How each module of a store was settled.
+/// Returns the status of each module of a store.
 pub fn settled_in(alloc: Global, store: &Store) -> Result<Vec<Settled<'_>>, AllocError>
     ensures len { IfOk result (λ settled. length settled.items ≡ length store.now.modules) }
     ensures settled { IfOk result (λ settled. statuses_of settled.items ≡ settlement store.now) }
 {
-    // The journal is legal, so nothing is kept of a number that no module has.
+    // The journal is legal, so numbers that no module has are without outcomes.
     store.legal();
     let mut settled = Vec::new(alloc);
     for number in 0..store.modules().len() {

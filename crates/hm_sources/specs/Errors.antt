@@ -1,4 +1,4 @@
--- Why there is no plan, as the crate's own functions say it.
+-- Why there is no plan, for the crate's own functions.
 use Rattle.std.specs.Prelude.{ℕ, List}
 use Rattle.hm_sources.specs.Refusals.{IsLasting}
 use Rattle.hm_sources.specs.Runs.{IsSourceFault, FailsAtSource, IsRefusalOf}

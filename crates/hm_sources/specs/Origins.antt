@@ -1,10 +1,10 @@
--- Which source each module comes from.
+-- The source of each module.
 use Rattle.std.specs.Prelude.{◌≡◌, ℕ, ◌+◌, ◌<◌, ◌≤◌, List, [], length, take, slice_index_or}
 use Rattle.hm_syntax.specs.declared.ast.Module.{Module}
 use Rattle.hm_sources.specs.SourceModules.{AreModulesOf, HasModules}
 use Rattle.hm_sources.specs.declared.located.Located.{Located}
 
--- the module with this number is one of those that the source with this number spells; both count from 0
+-- the source with this number spells the module with this number; both are counted from 0
 pub record IsSpelledBy (sources : List (List ℕ)) (m source : ℕ) : Type 0 where
   pub inside : source < length sources
   pub earlier : List Module
@@ -14,7 +14,7 @@ pub record IsSpelledBy (sources : List (List ℕ)) (m source : ℕ) : Type 0 whe
   pub low : length earlier ≤ m
   pub high : m < length earlier + length own
 
--- each module that is listed has its source
+-- each listed module has its source
 pub record AreLocated (sources : List (List ℕ)) (located : List Located) : Type 0 where
   pub modules : List Module
   pub read : AreModulesOf sources modules

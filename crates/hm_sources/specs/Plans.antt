@@ -7,7 +7,7 @@ use Rattle.hm_graph.specs.Outline.{Outline}
 use Rattle.hm_graph.specs.Imports.{name_at}
 use Rattle.hm_sources.specs.Names.{name_below}
 
--- what is printed of a module: its name, and the names of the modules that it imports
+-- the block of a module: its name, and the names of the modules that it imports
 pub record Block : Type 0 where
   pub name : List ℕ
   pub imports : List (List ℕ)
@@ -21,7 +21,7 @@ block_text b = codes "module " ++ (b.name ++ codes "\n") ++ flat_map import_line
 abbrev pub count_line : ℕ → List ℕ
 count_line n = decimal n ++ codes " modules\n"
 
--- the names in order
+-- the names, ordered
 pub record AreOrdered (names ordered : List (List ℕ)) : Type 0 where
   pub same : IsPermutation names ordered
   pub sorted : IsSortedBy name_below ordered

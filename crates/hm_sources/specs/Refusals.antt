@@ -1,4 +1,4 @@
--- Why a set of sources is refused, and the line that says so.
+-- Why a set of sources is refused, and the line that is printed.
 use Rattle.std.specs.Prelude.{ℕ, List, [], ◌++◌, codes, string_bytes}
 use Rattle.std.specs.Fmt.{decimal}
 use Rattle.hm_lex.specs.declared.token.Place.{Place}
@@ -11,7 +11,7 @@ use Rattle.hm_graph.specs.declared.faults.PlanFault.TheVariants as planning
 use Rattle.hm_sources.specs.declared.faults.SetFaultKind.{SetFaultKind}
 use Rattle.hm_sources.specs.declared.faults.SetFaultKind.TheVariants.{Lex, Parse, Plan}
 
--- why a set is refused: by the number of a source, or by the names of a module and an import
+-- why a set is refused: the number of a source, or the names of a module and an import
 pub data Refusal : Type 0 where
   lex : ℕ → LexFault → Refusal
   parse : ℕ → ParseFault → Refusal
@@ -22,7 +22,7 @@ refusal_of (Lex source fault) = lex source fault
 refusal_of (Parse source fault) = parse source fault
 refusal_of (Plan fault m i) = plan fault (string_bytes m) (string_bytes i)
 
--- want of memory is no reason to refuse a set
+-- running out of memory isn't a reason to refuse a set
 abbrev pub IsLasting : Refusal → Type 0
 IsLasting (lex n lexing.Memory) = ⊥
 IsLasting (parse n parsing.Memory) = ⊥

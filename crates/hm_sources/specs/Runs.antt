@@ -1,4 +1,4 @@
--- What a run of the plan writes: a function of the sources, but for the place of a syntax fault.
+-- The text of a run of the plan. The sources determine it, except for the place of a syntax fault.
 use Rattle.std.specs.Prelude.{◌≡◌, ℕ, ◌+◌, List, [], ◌∷◌, ◌++◌, length, map, ◌⊎◌}
 use Rattle.hm_lex.specs.Faults.{AreTokensOf, IsRefusal}
 use Rattle.hm_lex.specs.declared.token.Token.{Token}
@@ -30,18 +30,18 @@ abbrev pub AreOutlinesOf : List (List ℕ) → List Outline → Type 0
 AreOutlinesOf [] outlines = outlines ≡ []
 AreOutlinesOf (s ∷ ss) outlines = (first : List Outline) × (later : List Outline) × HasOutlines s first × AreOutlinesOf ss later × (outlines ≡ first ++ later)
 
--- a syntax fault: the tokens spell no modules, whatever the place
+-- a syntax fault: the tokens spell no modules. The place may be any
 abbrev pub IsSyntaxFault : List ℕ → List Token → ParseFault → Type 0
 IsSyntaxFault source tokens (Syntax place) = (modules : List Module) → Spells modules source tokens → ⊥
 IsSyntaxFault source tokens Memory = Unit {0}
 
--- the fault of one source, the n-th
+-- the fault of source number n
 abbrev pub IsSourceFault : ℕ → List ℕ → Refusal → Type 0
 IsSourceFault n source (lex m fault) = (m ≡ n) × IsRefusal source fault
 IsSourceFault n source (parse m fault) = (m ≡ n) × ((tokens : List Token) × AreTokensOf source tokens × IsSyntaxFault source tokens fault)
 IsSourceFault n source (plan fault m i) = ⊥
 
--- the names that a fault of the plan comes with
+-- the names of the module and the import of a fault of the plan
 abbrev pub AreNamesOf : List Outline → PlanFault → List ℕ → List ℕ → Type 0
 AreNamesOf modules (Duplicate k) m i = (m ≡ name_at modules k) × (i ≡ [])
 AreNamesOf modules (Missing k j) m i = (m ≡ name_at modules k) × (i ≡ import_at modules k j)
@@ -52,7 +52,7 @@ abbrev pub IsSetPlanFault : List Outline → Refusal → Type 0
 IsSetPlanFault modules (plan fault m i) = IsPlanRefusal modules fault × AreNamesOf modules fault m i
 IsSetPlanFault modules _ = ⊥
 
--- the first fault of a source: those before it have none
+-- the fault of a source, if the sources before it have none
 pub record FailsAtSource (sources : List (List ℕ)) (refusal : Refusal) : Type 0 where
   pub before : List (List ℕ)
   pub source : List ℕ
@@ -62,7 +62,7 @@ pub record FailsAtSource (sources : List (List ℕ)) (refusal : Refusal) : Type 
   pub read : AreOutlinesOf before modules
   pub fault : IsSourceFault (length before + 1) source refusal
 
--- no source has a fault, and their plan has
+-- the fault of the plan, if no source has a fault
 pub record FailsAtPlan (sources : List (List ℕ)) (refusal : Refusal) : Type 0 where
   pub modules : List Outline
   pub read : AreOutlinesOf sources modules

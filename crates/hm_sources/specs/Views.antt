@@ -1,4 +1,4 @@
--- A block without where it lies in memory.
+-- The model of a block.
 use Rattle.std.specs.Prelude.{map}
 use Rattle.hm_sources.specs.Plans.{Block}
 use Rattle.hm_sources.specs.declared.plans.ModuleBlock.{ModuleBlock}

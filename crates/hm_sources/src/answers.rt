@@ -1,4 +1,4 @@
-//! What a run writes, and its status.
+//! The result of a run before it is written: its text and its status.
 ghost use Rattle.std.specs.Prelude.{◌≡◌, IfOk, IfErr, map, string_bytes};
 ghost use Rattle.hm_sources.specs.Refusals.{refusal_text as refusal_bytes};
 ghost use Rattle.hm_sources.specs.Runs.{IsPlanRun};
@@ -10,14 +10,14 @@ use crate::{SetFault, Status, Trees};
 use hm_devices::RunFault;
 use std::alloc::{AllocError, Global};
 
-/// What is written, and how the run ends.
+/// The text that a run writes, and its status.
 #[derive(Drop)]
 pub struct Answer {
     pub status: Status,
     pub text: String,
 }
 
-/// The answer to a set that is refused.
+/// Returns the text and the status for a refused set.
 pub fn refusal_answer(alloc: Global, fault: &SetFault) -> Result<Answer, AllocError>
     ensures status { IfOk result (λ a. a.status ≡ Status.Refused) }
     ensures text { IfOk result (λ a. string_bytes a.text ≡ refusal_bytes fault.now) }
@@ -28,7 +28,7 @@ pub fn refusal_answer(alloc: Global, fault: &SetFault) -> Result<Answer, AllocEr
     })
 }
 
-/// The plan of a set of sources, or why they are refused.
+/// Returns the text of the plan of a set of sources, or of their refusal.
 #[tactic(auto, using(crate::proofs::Reading::planned_sources))]
 pub(crate) fn plan_answer(
     alloc: Global,

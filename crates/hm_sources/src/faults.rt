@@ -4,7 +4,7 @@ use hm_lex::LexFault;
 use hm_parse::ParseFault;
 use std::marker::Model;
 
-/// Why a set of sources is refused, which is never want of memory.
+/// Why a set of sources is refused. Running out of memory isn't such a reason.
 #[derive(Debug, Drop)]
 pub struct SetFault {
     pub kind: SetFaultKind,
@@ -20,7 +20,7 @@ impl Model for SetFault {
     ghost invariant = { λ f. IsLasting (refusal_of f.kind) };
 }
 
-/// The kinds of refusals. Sources are numbered from 1; a name that the fault hasn't is empty.
+/// The kinds of refusals. Sources are numbered from 1. A fault without a module or an import has an empty name for it.
 #[derive(Debug, Drop)]
 pub enum SetFaultKind {
     Lex {

@@ -1,8 +1,8 @@
-//! Laws of what a run of the plan prints. A law is a function with an empty body, whose contract is the law.
+//! Laws of what a run of the plan prints. Each law is a function with an empty body, and its contract is the law.
 ghost use Rattle.hm_sources.specs.Laws.{HasOnePlanText, HasOnePlanStatus, HasOneRefusal};
 
-/// What a run of the plan prints is a function of the sources, but for the place of a syntax fault:
-/// they have one status, one text of their plan, and one refusal.
+/// Sources have one status, one text of their plan, and one refusal. Only the place of a syntax fault
+/// isn't determined.
 pub fn one_plan_run()
     ensures text { HasOnePlanText }
     ensures status { HasOnePlanStatus }

@@ -1,5 +1,6 @@
-//! Sources: they are lexed and parsed, and made into the modules of a lawful set with their plan, or refused; the texts of
-//! plans and refusals are written.
+//! Turns sources into the modules of a lawful set with their import plan, or refuses them; and writes plans and refusals as texts.
+//!
+//! [`set_modules`] returns modules and plan. [`run_plan`] reads sources from readers, and writes the text of their plan to a writer.
 #![tactic(auto)]
 
 mod answers;

@@ -1,4 +1,4 @@
-//! Which source each module comes from.
+//! The source of each module.
 ghost use Rattle.std.specs.Prelude.{◌≡◌, ◌<◌, ◌++◌, ℕ, List, All, IfErr, IfOk, OnOk, length, map, slice_index_or};
 ghost use Rattle.hm_sources.specs.Errors.{IsSetError};
 ghost use Rattle.hm_sources.specs.Origins.{AreLocated};
@@ -9,7 +9,7 @@ use crate::sets::add_modules;
 use hm_syntax::{Header, Module};
 use std::alloc::{AllocError, Global};
 
-/// The header of a module, and the number of the source that spells it, counted from 0.
+/// The header of a module, with the number of its source, counted from 0.
 #[derive(Drop)]
 pub struct Located {
     pub header: Header,
@@ -32,7 +32,7 @@ fn add_headers(
     Ok(())
 }
 
-/// The headers of the modules of sources, in order of appearance, each with its source.
+/// Returns the headers of the modules of all sources, in order of appearance, each with the number of its source.
 pub fn located_headers(alloc: Global, sources: &[Vec<u8>]) -> Result<Vec<Located>, SetError>
     ensures located { IfOk result (λ located. AreLocated (map (λ s. s.items) sources.now) located.items) }
     ensures err { IfErr result (λ e. IsSetError (map (λ s. s.items) sources.now) e) }

@@ -1,26 +1,26 @@
-//! How deep the trees of a source may nest.
+//! A bound on how deep the trees of a source nest.
 //!
-//! Each edge of a tree has a lexeme of its own: an argument, an arrow, a colon, a `\`, an `if`, or the bracket around what is below it. What
-//! stands on both sides of a separator are trees beside each other. So an item, which goes from one separator to the next, has at most as many
-//! levels as it has lexemes, and those of the deepest brackets in it.
+//! Each edge of a tree has a lexeme of its own: an argument, an arrow, a colon, a `\`, an `if`, or the bracket around the subtree. Trees on the
+//! two sides of a separator are siblings. So an item, which goes from one separator to the next, has at most as many levels as it has lexemes,
+//! plus those of the deepest brackets in it.
 ghost use Rattle.std.specs.Prelude.{◌<◌, ◌≤◌};
 
 use crate::pieces::{Piece, first_piece};
 
-/// How deep brackets nest in a source that has no lexical fault.
+/// The deepest nesting of brackets in a source without a lexical fault.
 const MAX_BRACKETS: usize = 200;
 
-/// A source has at most one level for so many of its bytes. A level that takes fewer is small: there are two of them for one.
+/// A source has at most one level for this many bytes. A level of fewer bytes is small, so two of them count as one.
 const BYTES_PER_LEVEL: usize = 4;
 
-/// What stands between two brackets, as far as it was read.
+/// The items between two brackets, as far as they were read.
 #[derive(Clone, Copy)]
 struct Items {
-    /// How many lexemes and brackets there were since the last separator.
+    /// The number of lexemes and brackets since the last separator.
     pieces: usize,
-    /// How many levels those brackets have at most.
+    /// The levels of these brackets, at most.
     within: usize,
-    /// How many levels the items before the last separator have at most.
+    /// The levels of the items before the last separator, at most.
     before: usize,
 }
 
@@ -31,18 +31,18 @@ impl Items {
         before: 0,
     };
 
-    /// How many levels all of these have at most.
+    /// Returns the levels of all items, at most.
     fn levels(self) -> usize {
         self.pieces.saturating_add(self.within).max(self.before)
     }
 
-    /// A lexeme, or brackets of so many levels.
+    /// Adds a lexeme, or brackets with this many levels.
     fn add(&mut self, levels: usize) {
         self.pieces = self.pieces.saturating_add(1);
         self.within = self.within.max(levels);
     }
 
-    /// A separator.
+    /// Adds a separator.
     fn part(&mut self) {
         *self = Items {
             pieces: 0,
@@ -52,14 +52,14 @@ impl Items {
     }
 }
 
-/// What stands between the brackets that are open at a place of a source.
+/// The items around a place of a source, for each open bracket.
 #[derive(Drop)]
 struct Open {
-    /// Between the innermost bracket and the place.
+    /// The items since the innermost open bracket.
     here: Items,
-    /// Before each of the open brackets, the outermost first.
+    /// The items before each open bracket, the outermost first.
     outer: [Items; MAX_BRACKETS],
-    /// How many brackets are open.
+    /// The number of open brackets.
     depth: usize,
 }
 
@@ -74,7 +74,7 @@ impl Open {
         }
     }
 
-    /// Closes the innermost bracket. The outermost closes a module, or the exports of one.
+    /// Closes the innermost bracket. The outermost one closes a module, or its exports.
     fn close(&mut self)
         requires depth { self.old.depth ≤ 200 }
         ensures depth { self.new.depth ≤ 200 }
@@ -91,7 +91,7 @@ impl Open {
         }
     }
 
-    /// Opens a bracket. A source that opens more is refused before it is parsed.
+    /// Opens a bracket. Ignores it above the limit: such a source is refused before it is parsed.
     fn open(&mut self)
         requires depth { self.old.depth ≤ 200 }
         ensures depth { self.new.depth ≤ 200 }
@@ -103,7 +103,7 @@ impl Open {
         }
     }
 
-    /// Goes past a piece.
+    /// Adds a piece.
     #[inline(always)]
     fn pass(&mut self, piece: Piece)
         requires depth { self.old.depth ≤ 200 }
@@ -119,14 +119,14 @@ impl Open {
     }
 }
 
-/// How many levels the trees of a source have at most, whatever of it is parsed.
+/// Returns the levels of the trees of a source, at most. The bound holds for each part that is parsed.
 pub(crate) fn levels_of(source: &[u8]) -> usize {
     let mut open = Open::new();
     let mut at = 0;
     while at < source.len() {
         let (piece, len) = first_piece(&source[at..]);
         open.pass(piece);
-        // A piece has a byte at least.
+        // Each piece has at least one byte.
         at += len.max(1);
     }
     for _ in 0..MAX_BRACKETS {

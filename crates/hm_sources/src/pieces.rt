@@ -1,15 +1,15 @@
-//! A source cut into pieces, as far as its nesting depends on them.
+//! Cuts a source into pieces, for a bound on its nesting.
 //!
-//! In a source without a lexical fault the pieces are the items of `hm_lex`: each begins and ends where one of these does. A
-//! source with a fault is refused before it is parsed, so its pieces don't matter.
+//! In a source without a lexical fault each piece begins and ends where an item of `hm_lex` does. A source with a fault is refused before it
+//! is parsed, so its pieces don't matter.
 ghost use Rattle.std.specs.Prelude.{◌+◌, ◌<◌, ◌≤◌, length};
 
-/// What a piece is to the nesting of its source.
+/// The kind of a piece, as nesting depends on it.
 #[derive(Clone, Copy, Debug, PartialEq, Eq)]
 pub(crate) enum Piece {
     /// White space or a comment.
     Gap,
-    /// A name, a word, an operator or a literal.
+    /// A name, a reserved word, an operator or a literal.
     Lexeme,
     /// `(`, `[` or `{`.
     Opening,
@@ -19,19 +19,19 @@ pub(crate) enum Piece {
     Separator,
 }
 
-/// The bytes of which a run consists.
+/// A class of bytes that form runs.
 #[derive(Clone, Copy)]
 enum Class {
     White,
-    /// What may follow in a name.
+    /// Bytes that may follow in a name.
     Name,
     Symbol,
     Digit,
     Octal,
     Hexadecimal,
-    /// All but the end of a line.
+    /// All bytes except the end of a line.
     Line,
-    /// All but a single quote.
+    /// All bytes except a single quote.
     Unquoted,
 }
 
@@ -51,7 +51,7 @@ impl Class {
     }
 }
 
-/// Whether a byte may follow in a name: a letter, a digit, `_` or `'`.
+/// Returns whether a byte may follow in a name: a letter, a digit, `_` or `'`.
 #[inline(always)]
 fn is_name_byte(byte: u8) -> bool {
     if byte.is_ascii_lowercase() {
@@ -60,7 +60,7 @@ fn is_name_byte(byte: u8) -> bool {
     matches!(byte, b'A'..=b'Z' | b'0'..=b'9' | b'_' | b'\'')
 }
 
-/// Whether a byte may stand in an operator (Report, section 2.2).
+/// Returns whether a byte may be in an operator (Report, section 2.2).
 #[inline(always)]
 fn is_symbol(byte: u8) -> bool {
     matches!(
@@ -69,7 +69,7 @@ fn is_symbol(byte: u8) -> bool {
     )
 }
 
-/// The length of the run of such bytes at the front.
+/// Returns the length of the run of this class at the front.
 #[inline(always)]
 fn run_len(bytes: &[u8], class: Class) -> usize
     ensures within { result ≤ length bytes.now }
@@ -81,7 +81,7 @@ fn run_len(bytes: &[u8], class: Class) -> usize
     len
 }
 
-/// How many digits follow `0x` or `0o`.
+/// Returns the number of digits after `0x` or `0o`.
 fn marked_digits(bytes: &[u8]) -> usize
     ensures within { 0 < result → result + 2 ≤ length bytes.now }
 {
@@ -95,7 +95,7 @@ fn marked_digits(bytes: &[u8]) -> usize
     }
 }
 
-/// The length of the integer at the front.
+/// Returns the length of the integer at the front.
 fn integer_len(bytes: &[u8]) -> usize
     ensures within { result ≤ length bytes.now }
 {
@@ -107,11 +107,11 @@ fn integer_len(bytes: &[u8]) -> usize
     }
 }
 
-/// The length of the character at the front, quotes included.
+/// Returns the length of the character at the front, including quotes.
 fn character_len(bytes: &[u8]) -> usize
     ensures within { result ≤ length bytes.now }
 {
-    // The byte behind a backslash may be a quote itself.
+    // The byte after a backslash may itself be a quote.
     let start = if bytes.len() > 2 && bytes[1] == b'\\' {
         3
     } else {
@@ -124,7 +124,7 @@ fn character_len(bytes: &[u8]) -> usize
     (end + 1).min(bytes.len())
 }
 
-/// The length of the gap at the front of the rest of a string, backslashes included, or else of a backslash and the byte behind it.
+/// Returns the length at the front of the rest of a string: of a gap with its backslashes, or of a backslash and the next byte.
 fn marked_len(bytes: &[u8]) -> usize
     requires { 0 < length bytes.now }
     ensures within { result ≤ length bytes.now }
@@ -134,7 +134,7 @@ fn marked_len(bytes: &[u8]) -> usize
     (end + 1).min(bytes.len())
 }
 
-/// The length of the string at the front, quotes included.
+/// Returns the length of the string at the front, including quotes.
 fn string_len(bytes: &[u8]) -> usize
     requires { 0 < length bytes.now }
     ensures within { result ≤ length bytes.now }
@@ -150,7 +150,7 @@ fn string_len(bytes: &[u8]) -> usize
     (end + 1).min(bytes.len())
 }
 
-/// The length of the nested comment at the front.
+/// Returns the length of the nested comment at the front.
 fn comment_len(bytes: &[u8]) -> usize
     requires { 2 ≤ length bytes.now }
     ensures within { result ≤ length bytes.now }
@@ -173,7 +173,7 @@ fn comment_len(bytes: &[u8]) -> usize
     if depth > 0 { bytes.len() } else { end }
 }
 
-/// The operator or the line comment at the front.
+/// Returns the operator or the line comment at the front.
 fn symbols(bytes: &[u8]) -> (Piece, usize)
     ensures within { result.1 ≤ length bytes.now }
 {
@@ -184,7 +184,7 @@ fn symbols(bytes: &[u8]) -> (Piece, usize)
     }
 }
 
-/// The bracket or the nested comment at the front.
+/// Returns the bracket or the nested comment at the front.
 fn brace(bytes: &[u8]) -> (Piece, usize)
     requires { 0 < length bytes.now }
     ensures within { result.1 ≤ length bytes.now }
@@ -196,14 +196,14 @@ fn brace(bytes: &[u8]) -> (Piece, usize)
     }
 }
 
-/// The piece at the front, with its length. Of white space it is one byte.
+/// Returns the piece at the front, with its length. White space is returned byte by byte.
 #[inline(always)]
 pub(crate) fn first_piece(bytes: &[u8]) -> (Piece, usize)
     requires { 0 < length bytes.now }
     ensures within { result.1 ≤ length bytes.now }
 {
     let byte = bytes[0];
-    // Most bytes are of names and of white space.
+    // Tested first, because most bytes are in names and white space.
     if byte.is_ascii_lowercase() {
         return (Piece::Lexeme, run_len(bytes, Class::Name));
     }

@@ -9,14 +9,14 @@ use hm_graph::Plan;
 use hm_syntax::Header;
 use std::alloc::{AllocError, Global};
 
-/// What is printed of a module.
+/// The block of a module in the text of a plan.
 #[derive(Drop)]
 struct ModuleBlock<'a> {
     name: &'a str,
     imports: Vec<&'a str>,
 }
 
-/// The names of the modules with these numbers, in order.
+/// Returns the names of the modules with these numbers, ordered.
 fn ordered_names<'a>(
     alloc: Global,
     headers: &'a [Header],
@@ -33,7 +33,7 @@ fn ordered_names<'a>(
     Ok(names)
 }
 
-/// The blocks of the modules, in the modules' order.
+/// Returns the blocks of the modules, in the modules' order.
 fn blocks<'a>(
     alloc: Global,
     headers: &'a [Header],
@@ -63,7 +63,7 @@ fn add_block(text: &mut String, block: &ModuleBlock<'_>) -> Result<(), AllocErro
     Ok(())
 }
 
-/// The text of a plan.
+/// Returns the text of a plan.
 pub fn plan_text(alloc: Global, headers: &[Header], plan: &Plan) -> Result<String, AllocError>
     requires { IsImportPlan (outlines headers.now) plan.now }
     ensures { IfOk result (λ text. IsPlanText (outlines headers.now) plan.now (string_bytes text)) }

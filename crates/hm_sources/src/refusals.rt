@@ -8,7 +8,7 @@ use hm_lex::{LexFault, Place};
 use hm_parse::ParseFault;
 use std::alloc::{AllocError, Global};
 
-/// A line for a fault at a place of a source.
+/// Returns the line for a fault at a place of a source.
 fn at_place(alloc: Global, source: usize, place: Place, words: &str) -> Result<String, AllocError>
     ensures { IfOk result (λ text. string_bytes text ≡ line_at source place words.now) }
 {
@@ -49,7 +49,7 @@ fn plan_text(
     }
 }
 
-/// The line that says why a set is refused.
+/// Returns the line that says why a set is refused.
 pub fn refusal_text(alloc: Global, fault: &SetFault) -> Result<String, AllocError>
     ensures { IfOk result (λ text. string_bytes text ≡ refusal_bytes fault.now) }
 {

@@ -21,14 +21,14 @@ use hm_syntax::{Header, Module};
 use std::alloc::{AllocError, Global};
 use std::mem;
 
-/// Why there is no plan.
+/// Why a set of sources has no plan.
 #[derive(Debug, Drop)]
 pub enum SetError {
     Refused(SetFault),
     Memory,
 }
 
-/// The error that refuses a set.
+/// Returns the error of a refused set.
 fn refused(kind: SetFaultKind) -> SetError
     requires { IsLasting (refusal_of kind) }
     ensures { result ≡ SetError.Refused (refusal_of kind) }
@@ -36,7 +36,7 @@ fn refused(kind: SetFaultKind) -> SetError
     SetError::Refused(SetFault { kind })
 }
 
-/// The tokens of the source with this number.
+/// Returns the tokens of the source with this number, counted from 1.
 pub fn source_tokens(alloc: Global, source: usize, text: &[u8]) -> Result<Vec<Token>, SetError>
     ensures ok { IfOk result (λ tokens. AreTokensOf text.now tokens.items) }
     ensures err { IfErr result (λ e. IsSourceError source text.now e) }
@@ -48,7 +48,7 @@ pub fn source_tokens(alloc: Global, source: usize, text: &[u8]) -> Result<Vec<To
     }
 }
 
-/// The modules that the tokens of the source with this number spell.
+/// Returns the modules that the tokens of the source with this number spell.
 pub fn spelled_modules(
     alloc: Global,
     source: usize,
@@ -91,7 +91,7 @@ pub(crate) fn add_modules(
     Ok(())
 }
 
-/// The modules of some of the sources, from this number up to that one, in order of appearance. They are counted from 0.
+/// Returns the modules of the sources `from..to`, in order of appearance. Sources are numbered from 0.
 pub fn modules_between(
     alloc: Global,
     sources: &[Vec<u8>],
@@ -110,7 +110,7 @@ pub fn modules_between(
     Ok(modules)
 }
 
-/// All modules of the sources, in order of appearance.
+/// Returns all modules of the sources, in order of appearance.
 #[tactic(auto, using(crate::proofs::Reading::all_follow, crate::proofs::Reading::all_fail))]
 fn source_modules(alloc: Global, sources: &[Vec<u8>]) -> Result<Vec<Module>, SetError>
     ensures ok { IfOk result (λ modules. AreModulesOf (map (λ s. s.items) sources.now) modules.items) }
@@ -119,7 +119,7 @@ fn source_modules(alloc: Global, sources: &[Vec<u8>]) -> Result<Vec<Module>, Set
     Ok(modules_between(alloc, sources, 0, sources.len())?)
 }
 
-/// The name of a module.
+/// Returns the name of a module.
 #[tactic(auto, using(crate::proofs::Outlines::name_at_map))]
 fn module_name(alloc: Global, modules: &[Module], number: usize) -> Result<String, AllocError>
     requires { number < length modules.now }
@@ -128,7 +128,7 @@ fn module_name(alloc: Global, modules: &[Module], number: usize) -> Result<Strin
     String::from_str(alloc, modules[number].header.name.as_str())
 }
 
-/// The name that an import of a module has.
+/// Returns the name in an import of a module.
 #[tactic(auto, using(crate::proofs::Outlines::import_at_map, crate::proofs::Outlines::import_within))]
 fn import_name(
     alloc: Global,
@@ -144,7 +144,7 @@ fn import_name(
     String::from_str(alloc, imports[import].name.as_str())
 }
 
-/// The fault of a plan, with the names of its module and its import.
+/// Returns the fault of a plan, with the names of its module and its import.
 #[tactic(auto, using(crate::proofs::Outlines::outlines_below, crate::proofs::Outlines::cycle_below))]
 fn plan_fault(alloc: Global, modules: &[Module], fault: PlanFault) -> Result<SetFault, AllocError>
     requires fault { IsPlanRefusal (module_outlines modules.now) fault }
@@ -169,7 +169,7 @@ fn plan_fault(alloc: Global, modules: &[Module], fault: PlanFault) -> Result<Set
     Ok(SetFault { kind })
 }
 
-/// The plan of these modules.
+/// Returns the plan of these modules.
 #[tactic(auto, using(crate::proofs::Outlines::lent_more, crate::proofs::Outlines::lent_all))]
 fn plan_of(alloc: Global, modules: &[Module]) -> Result<Plan, PlanFault>
     ensures lawful { OnOk result (IsLawful (module_outlines modules.now)) }
@@ -183,7 +183,7 @@ fn plan_of(alloc: Global, modules: &[Module]) -> Result<Plan, PlanFault>
     hm_graph::import_plan(alloc, &headers)
 }
 
-/// Modules with their plan, or why they have none.
+/// Returns the modules with their plan, or the reason why they have none.
 #[tactic(auto, using(crate::proofs::Reading::refused_by_plan))]
 pub fn planned(alloc: Global, modules: Vec<Module>) -> Result<(Vec<Module>, Plan), SetError>
     ensures same { IfOk result (λ set. set.0.items ≡ modules.items) }
@@ -201,7 +201,11 @@ pub fn planned(alloc: Global, modules: Vec<Module>) -> Result<(Vec<Module>, Plan
     }
 }
 
-/// The modules and the plan of a set of sources.
+/// Returns the modules and the plan of a set of sources.
+///
+/// # Errors
+///
+/// `Refused` with the first fault: that of a source, or else that of the plan. `Memory` may come at any time.
 #[tactic(auto, using(crate::proofs::Reading::refused_by_plan))]
 pub fn set_modules(alloc: Global, sources: &[Vec<u8>]) -> Result<(Vec<Module>, Plan), SetError>
     ensures read { IfOk result (λ set. AreModulesOf (map (λ s. s.items) sources.now) set.0.items) }
@@ -213,7 +217,7 @@ pub fn set_modules(alloc: Global, sources: &[Vec<u8>]) -> Result<(Vec<Module>, P
     Ok(planned(alloc, modules)?)
 }
 
-/// The headers of modules. What the modules declare is dropped or left in memory.
+/// Returns the headers of modules. Drops the rest of the modules, or leaves it in memory.
 pub(crate) fn headers_of(
     alloc: Global,
     modules: Vec<Module>,

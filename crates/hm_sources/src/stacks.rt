@@ -1,4 +1,4 @@
-//! Work on sources is done on a thread of its own, whose stack is large enough for the one that nests deepest.
+//! Sizes of stacks, and runs of the plan on a thread whose stack is large enough for the source that nests deepest.
 ghost use Rattle.std.specs.Prelude.{◌≡◌, IfErr, IfOk, map, string_bytes};
 ghost use Rattle.hm_sources.specs.Runs.{IsPlanRun};
 
@@ -10,22 +10,22 @@ use std::alloc::Global;
 use std::snapshot::Snapshot;
 use std::thread::{Builder, Promise, Threads};
 
-/// How many bytes of stack work has on any sources.
+/// The bytes of stack for any sources.
 const LEAST_STACK: usize = 7 << 22;
 
-/// How many more bytes of stack a worker has, which unifies types of as many levels as they may have.
+/// The further bytes of stack for a worker, because unification recurses as deep as types may nest.
 const MORE_OF_WORKERS: usize = 11 << 22;
 
-/// How many bytes of stack work has for each level by which sources may nest. docs/DECISIONS.md says how this was found.
+/// The bytes of stack for each level by which sources may nest. docs/DECISIONS.md says how this was found.
 const STACK_PER_LEVEL: usize = 1 << 14;
 
-/// How many levels a type may have, whatever the sources are.
+/// The number of levels that a type may have for any sources.
 const LEAST_DEPTH: usize = 33 << 10;
 
-/// How many more levels a type may have for each level by which sources may nest.
+/// The further levels that a type may have for each level by which sources may nest.
 const DEPTH_PER_LEVEL: usize = 2;
 
-/// How deep sources may nest, for which stacks and types have room, and how long the longest is.
+/// A bound on how deep sources nest, and the length of the longest source. Stacks and types have room for this.
 #[derive(Clone, Copy, Debug, PartialEq, Eq)]
 pub struct Nesting {
     levels: usize,
@@ -44,29 +44,29 @@ impl Nesting {
         Nesting { levels, longest }
     }
 
-    /// How many levels the trees of any of the sources have at most.
+    /// Returns the levels of the trees of any of the sources, at most.
     pub fn levels(self) -> usize {
         self.levels
     }
 
-    /// How many bytes the longest of the sources has.
+    /// Returns the number of bytes of the longest source.
     pub fn longest(self) -> usize {
         self.longest
     }
 
-    /// How many bytes of stack work on the sources has.
+    /// Returns the bytes of stack for a thread that works on the sources.
     pub fn stack_size(self) -> usize {
         self.levels
             .saturating_mul(STACK_PER_LEVEL)
             .saturating_add(LEAST_STACK)
     }
 
-    /// How many bytes of stack a worker has that checks modules of the sources.
+    /// Returns the bytes of stack for a worker that checks modules of the sources.
     pub fn worker_stack_size(self) -> usize {
         self.stack_size().saturating_add(MORE_OF_WORKERS)
     }
 
-    /// How many levels a type may have in the work on the sources, for which `stack_size` and `worker_stack_size` suffice.
+    /// Returns the number of levels that a type may have. `stack_size` and `worker_stack_size` suffice for it.
     pub fn depth_limit(self) -> usize {
         self.levels
             .saturating_mul(DEPTH_PER_LEVEL)
@@ -74,7 +74,7 @@ impl Nesting {
     }
 }
 
-/// The promise of a thread: its answer is the plan of these sources.
+/// What a thread promises: it returns the plan of these sources.
 #[derive(Drop)]
 struct PlanOf(Snapshot<Vec<Vec<u8>>>);
 
@@ -86,7 +86,7 @@ impl Promise<Result<Answer, RunFault>> for PlanOf {
     ghost kept_by = { λ p r. IfOk r (λ a. IsPlanRun (map (λ s. s.items) p.0.value.items) a.status (string_bytes a.text)) × IfErr r (λ e. e ≡ Memory) };
 }
 
-/// The plan of a set of sources, or why they are refused. Where there is no room for the stack there is no memory.
+/// Returns the text of the plan of a set of sources, or of their refusal. Fails like an allocation if there is no room for the stack.
 pub(crate) fn plan_on_thread<T: Threads>(
     rt: &T,
     alloc: Global,

@@ -1,10 +1,10 @@
-//! What becomes of the trees of a run.
+//! Whether a run drops its trees.
 
-/// What a run does with the trees of its modules once it has its text.
+/// What a run does with the trees of its modules after it has its text.
 #[derive(Clone, Copy, Debug, PartialEq, Eq)]
 pub enum Trees {
-    /// It drops them.
+    /// Drops them.
     Dropped,
-    /// It leaves them in memory. This saves the time to drop them in a program that ends with the run; in any other program it is a leak.
+    /// Leaves them in memory. This saves time in a program that ends with the run. In any other program it is a leak.
     Left,
 }

@@ -1,4 +1,4 @@
--- Syntax trees, without where they lie in memory.
+-- Syntax trees, without their places in memory.
 use Rattle.std.specs.Prelude.{ℕ, List}
 use Rattle.hm_syntax.specs.Names.{Identifier, LiteralTree}
 
@@ -62,7 +62,7 @@ mutual
     synonym_declaration : Identifier → List Identifier → TypeTree → Declaration
     signature : List Identifier → TypeTree → Declaration
     clause : Identifier → Patterns → RightSide → Declaration
-    -- with line and column of its first token
+    -- with the line and column of its first token
     pattern_binding : ℕ → ℕ → Pattern → RightSide → Declaration
 
   pub data Declarations : Type 0 where
@@ -72,7 +72,7 @@ mutual
   pub data RightSide : Type 0 where
     right_side : Bodies → Declarations → RightSide
 
-  -- right sides, each behind its guard
+  -- right sides, each with its guard
   pub data Bodies : Type 0 where
     no_bodies : Bodies
     plain_body : Expression → Bodies → Bodies

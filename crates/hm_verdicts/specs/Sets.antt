@@ -1,10 +1,10 @@
--- Sets of modules with their import plan, in which modules have numbers (Report 5).
+-- Sets of modules with their import plan. Modules have numbers (Report 5).
 use Rattle.std.specs.Prelude.{ℕ, List, [], map, None, slice_index_or}
 use Rattle.hm_syntax.specs.declared.ast.Module.{Module}
 use Rattle.hm_graph.specs.Imports.{IsLawful, IsImportPlan}
 use Rattle.hm_graph.specs.Outline.{Outline, outline}
 
--- the modules in order of appearance, and for each the numbers of those that it imports, Prelude left out, in order of first import
+-- the modules in order of appearance, and for each the numbers of the modules that it imports without Prelude, in order of first import
 pub record ModuleSet : Type 0 where
   pub modules : List Module
   pub plan : List (List ℕ)

@@ -1,4 +1,4 @@
--- Verdicts in a set, whose modules share entities (Report 5), with no interface in hand, and what is settled when each module has been judged by its imports' interfaces.
+-- Verdicts in a set, without interfaces (Report 5); and settled sets, in which each module has been judged by the interfaces of its imports.
 use Rattle.std.specs.Prelude.{◌≡◌, ℕ, ◌<◌, true, List, [], ◌∷◌, length, ◌⊎◌, Contains}
 use Rattle.hm_types.specs.declared.entries.ValueEntry.{ValueEntry}
 use Rattle.hm_types.specs.Interfaces.{Exports as Interface}
@@ -17,7 +17,7 @@ use Rattle.hm_verdicts.specs.Sets.{ModuleSet, module_at, imports_of}
 use Rattle.hm_verdicts.specs.Skeletons.{skeleton, HasSkeleton, HaveSkeletons, with_prelude}
 use Rattle.hm_names.specs.Untyped.{AreToldAs}
 
--- the import closure of module number i, itself included, is well-formed and has a valid assignment: under a reading of it
+-- module number i and all that it imports, directly or not, are well-formed and have a valid assignment, under a reading of them
 abbrev pub IsGoodUnder : (p : ModuleSet) → Reading p → ℕ → Type 0
 IsGoodUnder p r i = IsGood r.set (λ k. r.read k ≡ true) prelude_variables prelude_table i
 
@@ -28,7 +28,7 @@ IsGoodIn p i = (r : Reading p) × IsGoodUnder p r i
 abbrev pub IsSkippedIn : ModuleSet → ℕ → Type 0
 IsSkippedIn p i = (j : ℕ) × (IsOneOf j (imports_of p i) × ¬ (IsGoodIn p j))
 
--- good, and f is its interface: what it exports, each variable with its scheme in the principal assignment of the closure, canonical
+-- module number i is good, and f is its interface: its exports, each variable with its canonical scheme in the principal assignment of the closure
 pub record HasInterface (p : ModuleSet) (i : ℕ) (f : Interface) : Type 0 where
   pub reading : Reading p
   pub good : IsGoodUnder p reading i
@@ -43,7 +43,7 @@ pub record IsIllFormedIn (p : ModuleSet) (i : ℕ) (found : List Fault) : Type 0
   pub have_skeletons : HaveSkeletons p (imports_of p i) skeletons
   pub faults : AreFaults (module_at p i) (with_prelude skeletons) found
 
--- well-formed, with type faults under the principal assignment of all that is imported
+-- well-formed, with type faults under the principal assignment of all imported modules
 pub record IsUntypedIn (p : ModuleSet) (i : ℕ) (found : List Fault) : Type 0 where
   pub reading : Reading p
   pub units : List Identifier
@@ -54,12 +54,12 @@ pub record IsUntypedIn (p : ModuleSet) (i : ℕ) (found : List Fault) : Type 0 w
   pub is_core : IsCore (module_at p i) (with_prelude skeletons) core
   pub told : AreToldAs core units found
 
--- all direct imports are good, and it has faults itself
+-- all direct imports are good, and the module has faults
 pub record IsFaultyIn (p : ModuleSet) (i : ℕ) (found : List Fault) : Type 0 where
   pub imports_good : (j : ℕ) → IsOneOf j (imports_of p i) → IsGoodIn p j
   pub faults : IsIllFormedIn p i found ⊎ IsUntypedIn p i found
 
--- What is known of a module when the set has been judged
+-- the status of a module in a judged set
 pub data Status : Type 0 where
   Published : Interface → Status
   Failed : List Fault → Status
@@ -84,13 +84,13 @@ pub record IsJudged (p : ModuleSet) (status : ℕ → Status) (i : ℕ) (v : Ver
   pub published : ArePublished status (imports_of p i) interfaces
   pub verdict : IsVerdict (module_at p i) (prelude_interface ∷ interfaces) v
 
--- one module is settled: published or failed by its verdict, or skipped since a direct import isn't published
+-- one module is settled: published or failed by its verdict, or skipped because a direct import isn't published
 abbrev pub IsSettledAt : ModuleSet → (ℕ → Status) → ℕ → Status → Type 0
 IsSettledAt p status i (Published f) = IsJudged p status i (Good f)
 IsSettledAt p status i (Failed found) = IsJudged p status i (Faulty found)
 IsSettledAt p status i Skipped = (j : ℕ) × (IsOneOf j (imports_of p i) × ((f : Interface) → ¬ (status j ≡ Published f)))
 
--- each module of the set is settled, in whatever order and by whomever: what a build's store or a serial loop has in the end
+-- each module of the set is settled, in any order. This holds after a build or a serial loop
 abbrev pub IsSettled : ModuleSet → (ℕ → Status) → Type 0
 IsSettled p status = (i : ℕ) → i < length p.modules → IsSettledAt p status i (status i)
 
@@ -98,7 +98,7 @@ IsSettled p status = (i : ℕ) → i < length p.modules → IsSettledAt p status
 abbrev pub IsAccepted : ModuleSet → (ℕ → Status) → ℕ → Type 0
 IsAccepted p status i = (i < length p.modules) × ((f : Interface) × (status i ≡ Published f))
 
--- one principal assignment of all accepted modules holds the schemes that are printed of them
+-- one principal assignment of all accepted modules has their printed schemes
 pub record Accepted (p : ModuleSet) (status : ℕ → Status) : Type 0 where
   pub reading : Reading p
   pub assignment : Assignment

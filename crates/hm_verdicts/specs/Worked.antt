@@ -1,4 +1,4 @@
--- Worked sets, as trees.
+-- Worked examples of sets, as trees.
 use Rattle.std.specs.Prelude.{ℕ, false, List, [], ◌∷◌, ◌++◌, Option, None, Some, codes}
 use Rattle.hm_syntax.specs.Names.{Identifier, character}
 use Rattle.hm_syntax.specs.Trees.{literal_expression, no_patterns, right_side, no_bodies, plain_body, Declaration, clause, no_declarations}

@@ -1,4 +1,4 @@
--- What is said of the worked sets, of an interface and of a few types: each definition with what meets it, and with what doesn't.
+-- Worked examples of each definition: the sets, an interface and a few types that it holds for, and others that it doesn't hold for.
 use Rattle.std.specs.Prelude.{◌≡◌, ℕ, zero, suc, ◌<◌, List, [], ◌∷◌, ◌++◌, Option, None, Some, codes}
 use Rattle.hm_types.specs.declared.Head.TheVariants as head
 use Rattle.hm_types.specs.declared.entries.ValueEntry.{ValueEntry}
@@ -22,7 +22,7 @@ use Rattle.hm_verdicts.specs.Skeletons.{HasSkeleton, skeleton}
 use Rattle.hm_verdicts.specs.Verdicts.{Status, Published, Failed, Skipped, ArePublished, IsSettled, IsSettledAt, IsAccepted, IsGoodIn, IsVerdictIn}
 use Rattle.hm_verdicts.specs.Worked.{Z, module_A, module_B, no_modules, three_modules, three_texts}
 
--- ---- what is known of the three modules
+-- ---- the three modules
 
 abbrev pub character : TypeScheme
 character = record { vars = 0; body = App (head.Named (named (codes "Prelude") (codes "Char"))) done }
@@ -47,7 +47,7 @@ for_prelude = prelude_interface ∷ []
 
 -- ---- a set
 
--- C's import of B can't be left out of the plan
+-- the plan can't omit C's import of B
 abbrev pub without_import : ModuleSet
 without_import = record { modules = three_modules.modules; plan = [] ∷ [] ∷ [] ∷ [] }
 
@@ -59,11 +59,11 @@ PlanRow = ¬ (IsLawfulSet without_import)
 abbrev pub blank_A : Interface
 blank_A = record { name = codes "A"; types = []; synonyms = []; constructors = []; values = entry_x (record { vars = 1; body = Var (var 0) }) ∷ [] }
 
--- of A's interface the scheme of x alone is left out, and this is A's skeleton
+-- A's skeleton is its interface without the scheme of x
 abbrev pub SkeletonRow : Type 0
 SkeletonRow = (skeleton interface_A ≡ blank_A) × HasSkeleton three_modules 0 blank_A
 
--- a module that imports itself has none
+-- a module that imports itself has no skeleton
 abbrev pub circular : ModuleSet
 circular = record { modules = module_A ∷ []; plan = (0 ∷ []) ∷ [] }
 
@@ -83,35 +83,35 @@ VerdictRow =
     IsVerdict module_A for_prelude (Good interface_A) × ((found : List Fault) → ¬ (IsVerdict module_A for_prelude (Faulty found)))
     × IsVerdict module_B for_prelude (Faulty (fault_Z ∷ [])) × ¬ (IsVerdict module_B for_prelude (Faulty []))
 
--- a -> b, its variables numbered so
+-- a -> b, with these numbers of its variables
 abbrev pub function : ℕ → ℕ → TypeScheme
 function a b = record { vars = 2; body = App head.Arrow (more (Var (var a)) (more (Var (var b)) done)) }
 
 abbrev pub CanonicalRow : Type 0
 CanonicalRow = IsCanonical (function 0 1) × ¬ (IsCanonical (function 1 0))
 
--- a is more general than Char, so that they aren't equally general
+-- a is more general than Char, so they aren't equally general
 abbrev pub GeneralRow : Type 0
 GeneralRow = ¬ (AreEquallyGeneral (scheme_of (record { vars = 1; body = Var (var 0) })) (scheme_of character))
 
 -- ---- the verdicts of a set
 
--- each has its verdict, B isn't skipped, and C hasn't failed; A alone is good
+-- each module has its verdict, B isn't skipped, and C hasn't failed. Only A is good
 abbrev pub SetRow : Type 0
 SetRow =
     ((i : ℕ) → i < 3 → IsVerdictIn three_modules i (three_statuses i)) × ¬ (IsVerdictIn three_modules 1 Skipped) × ((found : List Fault) → ¬ (IsVerdictIn three_modules 2 (Failed found)))
     × IsGoodIn three_modules 0 × ¬ (IsGoodIn three_modules 1) × ¬ (IsGoodIn three_modules 2)
 
--- A can't be skipped, since it imports nothing, and C can't be published, since B isn't
+-- A can't be skipped, because it imports nothing. C can't be published, because B isn't
 abbrev pub SettledRow : Type 0
 SettledRow = IsSettled three_modules three_statuses × ¬ (IsSettledAt three_modules three_statuses 0 Skipped) × ((f : Interface) → ¬ (IsSettledAt three_modules three_statuses 2 (Published f)))
 
 abbrev pub AcceptedRow : Type 0
 AcceptedRow = IsAccepted three_modules three_statuses 0 × ¬ (IsAccepted three_modules three_statuses 1) × ¬ (IsAccepted three_modules three_statuses 2) × ¬ (IsAccepted three_modules (λ i. Published interface_A) 3)
 
--- ---- a set that is being judged
+-- ---- a partly judged set
 
--- nothing is settled, or B alone is, or A and B are
+-- nothing is settled, or only B is, or A and B are
 abbrev pub at_first : Progress
 at_first i = None
 
@@ -129,13 +129,13 @@ behind_A (suc (suc i)) = None
 abbrev pub with_B : Progress
 with_B i = Some (Published interface_A)
 
--- any order will do, what is settled stays settled, and C is skipped once B has failed, not before, and not if B is published
+-- any order is possible, and settled modules stay settled. C is skipped after B has failed, not before, and not if B is published
 abbrev pub ProgressRow : Type 0
 ProgressRow =
     (IsSettledSoFar three_modules behind_B × IsSettledSoFar three_modules behind_A) × (Continues at_first behind_B × Continues behind_B behind_A × ¬ (Continues behind_B at_first))
     × IsSettledIn three_modules behind_B 2 Skipped × ¬ (IsSettledIn three_modules at_first 2 Skipped) × ¬ (IsSettledIn three_modules with_B 2 Skipped)
 
--- A's interface is the published one, by the table and on the way to it; of B there is none
+-- A's interface is the published one, in the final table and before. B has none
 abbrev pub PublishedRow : Type 0
 PublishedRow =
     ArePublished three_statuses (0 ∷ []) (interface_A ∷ []) × ((fs : List Interface) → ¬ (ArePublished three_statuses (0 ∷ 1 ∷ []) fs))
@@ -143,7 +143,7 @@ PublishedRow =
 
 -- ---- reports
 
--- line, column, kind and name of a fault, and how many modules are good, faulty and skipped
+-- line, column, kind and name of a fault, and the numbers of good, faulty and skipped modules
 abbrev pub LineRow : Type 0
 LineRow = (fault_line fault_Z ≡ codes "  2:9 not-imported Z\n") × (count_line three_statuses 3 ≡ codes "3 modules: 1 good, 1 faulty, 1 skipped\n")
 

@@ -1,6 +1,6 @@
-//! What the words of a command line ask for.
+//! Parses the command line of the program.
 //!
-//! The words are read by `clap`, whose contracts don't say what they mean; of the number of workers alone it is promised that it can be served.
+//! `clap` reads the words, and its contracts don't say what they mean. The only proved fact is that the number of workers is allowed.
 #![tactic(auto)]
 
 ghost use Rattle.std.specs.Prelude.{◌<◌, ◌≤◌, IfOk};
@@ -9,38 +9,38 @@ use clap::builder::ValueParser;
 use clap::{Arg, ArgAction, ArgMatches, Command, Error};
 use std::alloc::{AllocError, Global};
 
-/// What the words of a command line ask for.
+/// The options of a command line.
 #[derive(Debug, Drop)]
 pub struct Asked {
-    /// How many workers check modules, 1 to 16.
+    /// The number of workers, 1 to 16.
     pub workers: usize,
-    /// Whether the journal is to follow the report.
+    /// Whether the journal follows the report.
     pub journal: bool,
-    /// Whether the import plan is to be printed, and nothing checked.
+    /// Whether to print the import plan and check nothing.
     pub plan: bool,
-    /// Whether messages that explain the report are to be written to standard error.
+    /// Whether to write messages that explain the report to standard error.
     pub explain: bool,
-    /// Whether these are to be JSON objects.
+    /// Whether these messages are JSON objects.
     pub json: bool,
-    /// What standard input is called in messages, if it has a name.
+    /// The name of standard input in messages, if it has one.
     pub stdin_name: Option<String>,
-    /// The names of the sources, in order, one at least. `-` stands for standard input, which is the one source where no word names any.
+    /// The names of the sources, in order, at least one. `-` is standard input, and is the only source if no file is named.
     pub files: Vec<String>,
 }
 
-/// The most workers of a build.
+/// The largest number of workers.
 const MOST_WORKERS: usize = 16;
 
-/// How many workers there are where no word says it.
+/// The number of workers if no option sets it.
 const WORKERS: usize = 4;
 
-/// How messages may be written.
+/// The formats of messages.
 const MESSAGE_FORMATS: [&str; 2] = ["human", "json"];
 
 /// The program's version.
 const VERSION: &str = "0.1";
 
-/// Three sources with a module each, what is printed of them, and the exit statuses.
+/// The end of the help: an example of three sources with its report, and the exit statuses.
 const EXAMPLE: &str = "\
 Layout isn't read: write braces and semicolons. There are no classes.
 
@@ -126,7 +126,7 @@ fn command<'a>(alloc: Global) -> Result<Command<'a>, AllocError> {
         )
 }
 
-/// The names of the sources; without any, that of standard input.
+/// Returns the names of the sources, or that of standard input if there are none.
 fn files(alloc: Global, matches: &ArgMatches<'_>) -> Result<Vec<String>, AllocError> {
     let mut files = Vec::new(alloc);
     if let Some(names) = matches.get_strs("FILE") {
@@ -147,7 +147,7 @@ fn stdin_name(alloc: Global, matches: &ArgMatches<'_>) -> Result<Option<String>,
     }
 }
 
-/// How many workers are asked for. The parser of the words refuses other numbers.
+/// Returns the number of workers. `clap` has refused numbers that aren't allowed.
 fn workers(matches: &ArgMatches<'_>) -> usize
     ensures least { 0 < result }
     ensures most { result ≤ 16 }
@@ -158,8 +158,12 @@ fn workers(matches: &ArgMatches<'_>) -> usize
         .clamp(1, MOST_WORKERS)
 }
 
-/// Reads the words of a command line, of which the first is the program's name. An error holds the help or the version where these were asked for,
-/// and why the words are refused where they are; want of memory is an error too.
+/// Parses the words of a command line. The first is the program's name.
+///
+/// # Errors
+///
+/// Has the help or the version if these were requested, otherwise the reason why the words are refused. Running out of memory is an error
+/// too.
 pub fn command_line(alloc: Global, words: &[String]) -> Result<Asked, Error>
     ensures least { IfOk result (λ asked. 0 < asked.workers) }
     ensures most { IfOk result (λ asked. asked.workers ≤ 16) }

@@ -1,4 +1,4 @@
--- The table of exit statuses. Status 0 is that of help and of the version too, 2 that of words that are refused, and 4 that of a source that can't be opened.
+-- The exit statuses. Status 0 is also that of help and version, 2 that of a refused command line, and 4 that of a source that can't be opened.
 use Rattle.std.specs.Prelude.{ℕ}
 use Rattle.hm_devices.specs.declared.faults.RunFault.{RunFault}
 use Rattle.hm_devices.specs.declared.faults.RunFault.TheVariants.{Read, Write, Memory, NoWorker, Mixed, Workers}

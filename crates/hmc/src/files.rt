@@ -1,11 +1,11 @@
-//! Files and standard input, which are read as sources.
+//! Sources in files and on standard input.
 
 use std::cell::Cell;
 use std::fs::File;
 use std::io;
 use std::io::{ErrorKind, Read, Stdin};
 
-/// The word that stands for standard input.
+/// The word for standard input.
 const STDIN: &str = "-";
 
 /// Why a source couldn't be read.
@@ -16,7 +16,7 @@ pub(crate) struct Failure {
     pub kind: ErrorKind,
 }
 
-/// What a source is read from.
+/// The device of a source.
 #[derive(Drop)]
 enum Input {
     File(File),
@@ -32,18 +32,18 @@ impl Read for Input {
     }
 }
 
-/// An open source that keeps why it couldn't be read last.
+/// An open source that keeps the reason of the last failed read.
 #[derive(Drop)]
 pub(crate) struct Opened<'a> {
     input: Input,
-    /// Its number among the sources of the command line, from 0.
+    /// Its number on the command line, from 0.
     number: usize,
-    /// The failure of the last read of any of the sources, if it failed.
+    /// Why the last read of any source failed, if it did.
     failure: &'a Cell<Option<Failure>>,
 }
 
 impl<'a> Opened<'a> {
-    /// Opens the source that a word names.
+    /// Opens the source with this name.
     pub(crate) fn open(
         rt: &HostRuntime,
         word: &str,
@@ -78,7 +78,7 @@ impl Read for Opened<'_> {
     }
 }
 
-/// What a source is called in messages.
+/// Returns the name of a source in messages.
 pub(crate) fn name_of<'a>(word: &'a str, stdin_name: Option<&'a str>) -> &'a str {
     if word == STDIN {
         stdin_name.unwrap_or("<stdin>")

@@ -26,7 +26,7 @@ item_name (export.Var n) = n
 item_name (export.Con n s) = n
 item_name (export.Whole n) = n
 
--- the item i gives the name x to an entity, and i or an item before it gives it, in the same namespace, to another
+-- the item i gives the name x to an entity, and i or an earlier item gives it to another entity in the same namespace
 pub record Clashes (m : Module) (fs : List Interface) (before : List Export) (i : Export) (x : List ℕ) : Type 0 where
   pub space : Namespace
   pub one : Entity
@@ -41,7 +41,8 @@ pub record Clashes (m : Module) (fs : List Interface) (before : List Export) (i 
 abbrev pub bare_at : Identifier → List ℕ → Identifier
 bare_at n x = record { qualifier = None; text = x; line = n.line; column = n.column }
 
--- names that mean nothing or too much; behind a type that means one, a constructor that isn't in scope; for each item its least clashing name; a module that isn't imported
+-- unbound and ambiguous names; a constructor that isn't in scope, listed after a type that is; for each item its least clashing name; a module that
+-- isn't imported
 pub data ExportFault (m : Module) (fs : List Interface) (es : List Export) : Kind → Identifier → Type 0 where
   unbound_value : {n : Identifier} → Contains es (export.Var n) → IsUnbound m fs Values n → ExportFault m fs es Unbound n
   unbound_type : {n : Identifier} {s : SubItems} → Contains es (export.Con n s) → IsUnbound m fs Types n → ExportFault m fs es Unbound n

@@ -1,4 +1,4 @@
--- Faults of import lists (Report 5.3.1): what is listed is exported.
+-- Faults of import lists: a listed name isn't exported (Report 5.3.1).
 use Rattle.std.specs.Prelude.{◌≡◌, List, Contains}
 use Rattle.hm_types.specs.declared.Entity.{Entity}
 use Rattle.hm_types.specs.Interfaces.{Exports as Interface}
@@ -16,11 +16,11 @@ use Rattle.hm_names.specs.declared.faults.Kind.TheVariants.{NotExported}
 use Rattle.hm_names.specs.Entities.{Exports, Belongs}
 use Rattle.hm_names.specs.Scope.{Imports}
 
--- an import of f's module has a list, with the item j in it
+-- an import of f's module has a list with the item j
 pub data ListsItem (m : Module) (fs : List Interface) (f : Interface) (j : ImportItem) : Type 0 where
   lists : {i : Import} {is : List ImportItem} → Imports m i → Contains fs f → f.name ≡ i.name.text → i.list ≡ list.Only is → Contains is j → ListsItem m fs f j
 
--- a listed variable or type that isn't exported; behind a type that is, a constructor that isn't an exported one of it
+-- a listed variable or type isn't exported; a constructor after an exported type isn't an exported constructor of it
 pub data ImportFault (m : Module) (fs : List Interface) : Kind → Identifier → Type 0 where
   a_value : {f : Interface} {n : Identifier} → ListsItem m fs f (item.Var n) → ((e : Entity) → ¬ (Exports f n.text e Values)) → ImportFault m fs NotExported n
   a_type : {f : Interface} {n : Identifier} {s : SubItems} → ListsItem m fs f (item.Con n s) → ((e : Entity) → ¬ (Exports f n.text e Types)) → ImportFault m fs NotExported n

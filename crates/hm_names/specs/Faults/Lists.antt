@@ -9,17 +9,17 @@ use Rattle.hm_names.specs.Variables.{texts, pattern_variables, pattern_count, cl
 use Rattle.hm_names.specs.Entities.{constructor_list, constructor_name}
 use Rattle.hm_names.specs.Walk.{Node, at_parameters, at_list}
 
--- n stands in the list behind another name of the same text
+-- n comes after another name with the same text
 abbrev pub Repeats : List Identifier → Identifier → Type 0
 Repeats [] n = ⊥
 Repeats (k ∷ ks) n = (Contains ks n × (n.text ≡ k.text)) ⊎ Repeats ks n
 
--- each name that is the first of its text, and not among those seen
+-- the names that are the first with their text, and whose text wasn't seen before
 abbrev pub firsts : List (List ℕ) → List Identifier → List Identifier
 firsts seen [] = []
 firsts seen (n ∷ ns) = cond (is_text_among n.text seen) (firsts seen ns) (n ∷ firsts (n.text ∷ seen) ns)
 
--- What a list declares
+-- The names that a list declares
 
 abbrev pub type_names : Declarations → List Identifier
 type_names no_declarations = []
@@ -48,13 +48,13 @@ signed_names (more_declarations (signature ns t) ds) = ns ++ signed_names ds
 signed_names (more_declarations (clause n ps r) ds) = signed_names ds
 signed_names (more_declarations (pattern_binding line column p r) ds) = signed_names ds
 
--- Clauses of one variable with at least one pattern that stand together are one binding; a clause without patterns is one by itself (Report 4.4.3.1)
+-- Adjacent clauses of one variable with at least one pattern are one binding. A clause without patterns is a binding alone (Report 4.4.3.1)
 
 abbrev pub has_patterns : Patterns → Bool
 has_patterns no_patterns = false
 has_patterns (more_patterns p ps) = true
 
--- the binding that the next clause may go on: its variable, and how many patterns its first clause has
+-- the binding that the next clause may continue: its variable, and the number of patterns of its first clause
 abbrev pub OpenBinding : Type 0
 OpenBinding = Option (List ℕ × ℕ)
 
@@ -65,8 +65,8 @@ abbrev pub goes_on : OpenBinding → Identifier → Patterns → Bool
 goes_on None n ps = false
 goes_on (Some b) n ps = same_text b.0 n.text && has_patterns ps
 
--- the variables of the bindings of a list, behind an open one: each clause's that doesn't go on a binding, and those of each pattern binding,
--- where what stands twice in one pattern counts once
+-- the variables of the bindings of a list, after an open one: that of each clause that begins a binding, and those of each pattern binding. A
+-- variable that occurs twice in a pattern counts once
 abbrev pub binding_names : OpenBinding → Declarations → List Identifier
 binding_names b no_declarations = []
 binding_names b (more_declarations (data_declaration n ps cs) ds) = binding_names None ds
@@ -80,7 +80,7 @@ abbrev pub has_other_length : OpenBinding → Patterns → Bool
 has_other_length None ps = false
 has_other_length (Some b) ps = not (b.1 == pattern_count ps)
 
--- the clauses that go on a binding with another number of patterns than its first one has
+-- the clauses that continue a binding, but have another number of patterns than its first clause
 abbrev pub other_lengths : OpenBinding → Declarations → List Identifier
 other_lengths b no_declarations = []
 other_lengths b (more_declarations (data_declaration n ps cs) ds) = other_lengths None ds
@@ -91,7 +91,7 @@ other_lengths b (more_declarations (clause n ps r) ds) =
     cond (goes_on b n ps) (cond (has_other_length b ps) (n ∷ other_lengths b ds) (other_lengths b ds)) (other_lengths (opened n ps) ds)
 other_lengths b (more_declarations (pattern_binding line column p r) ds) = other_lengths None ds
 
--- The faults: a second type, constructor, binding or signature of a name in one list, a second parameter, and a signature whose variable
+-- the faults: a second type, constructor, binding or signature of a name in one list; a second parameter; and a signature whose variable
 -- has no binding by clauses in the same list (the Report's 4.4.1 also allows signatures of a pattern binding's variables)
 pub data ListFault : Node → Kind → Identifier → Type 0 where
   second_type : {ds : Declarations} {n : Identifier} → Repeats (type_names ds) n → ListFault (at_list ds) Duplicate n

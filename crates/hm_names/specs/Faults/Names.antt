@@ -1,4 +1,4 @@
--- Faults of names that are used, and of patterns (Report 3.17, 4.2.1, 5.5).
+-- Faults of names in use, and of patterns (Report 3.17, 4.2.1, 5.5).
 use Rattle.std.specs.Prelude.{◌≡◌, List, None, Contains}
 use Rattle.hm_types.specs.Interfaces.{Exports as Interface}
 use Rattle.hm_syntax.specs.Names.{Identifier}
@@ -18,14 +18,15 @@ use Rattle.hm_names.specs.Faults.Lists.{Repeats}
 abbrev pub IsLocal : Locals → Identifier → Type 0
 IsLocal xs n = (n.qualifier ≡ None) × Contains xs n.text
 
--- the node uses a name that is looked up in the scope
+-- the node has a name that is looked up in the scope
 pub data Uses (xs : Locals) : Node → Namespace → Identifier → Type 0 where
   a_variable : {n : Identifier} → ¬ (IsLocal xs n) → Uses xs (at_expression (variable_expression n)) Values n
   a_constructor : {n : Identifier} → ¬ (IsSpecial n) → Uses xs (at_expression (constructor_expression n)) Constructors n
   a_pattern : {n : Identifier} {ps : Patterns} → ¬ (IsSpecial n) → Uses xs (at_pattern (constructor_pattern n ps)) Constructors n
   a_type_constructor : {n : Identifier} {ts : TypeTrees} → Uses xs (at_type (constructor_type n ts)) Types n
 
--- names that mean nothing or too much, a type variable that is no parameter of its declaration, and a second occurrence of a variable in patterns that stand together
+-- unbound and ambiguous names; a type variable that isn't a parameter of its declaration; a second occurrence of a variable in the patterns of one
+-- clause, lambda or alternative
 pub data NameFault (m : Module) (fs : List Interface) (xs : Locals) : Node → Kind → Identifier → Type 0 where
   unbound : {k : Node} {s : Namespace} {n : Identifier} → Uses xs k s n → IsUnbound m fs s n → NameFault m fs xs k Unbound n
   ambiguous : {k : Node} {s : Namespace} {n : Identifier} → Uses xs k s n → IsAmbiguous m fs s n → NameFault m fs xs k Ambiguous n

@@ -1,4 +1,4 @@
--- The phases, and what a module's faults are.
+-- The phases, and the faults of a module.
 use Rattle.std.specs.Prelude.{◌≡◌, ℕ, ◌<◌, List, [], ◌∷◌, ◌++◌, Option, None, Some, ◌⊎◌, ◌↔◌, codes, Contains}
 use Rattle.hm_types.specs.Interfaces.{Exports as Interface}
 use Rattle.hm_syntax.specs.Names.{Identifier}
@@ -29,7 +29,7 @@ phase_number Exporting = 3
 phase_number Naming = 4
 phase_number Counting = 5
 
--- in the phase, a fault of the kind k at the name n
+-- the phase has a fault of kind k at the name n
 abbrev pub FaultAt : Module → List Interface → Phase → Kind → Identifier → Type 0
 FaultAt m fs Importing k n = ImportFault m fs k n
 FaultAt m fs Declaring k n = Somewhere m (λ xs t. ListFault t k n)
@@ -75,7 +75,7 @@ kind_number ClauseLength = 10
 kind_number Untyped = 11
 kind_number Recursive = 12
 
--- less by the first, or the same by it and less by the next
+-- less by the first number, or equal by it and less by the rest
 abbrev pub By : ℕ → ℕ → Type 0 → Type 0
 By a b Next = (a < b) ⊎ ((a ≡ b) × Next)
 
@@ -83,13 +83,13 @@ abbrev pub IsBefore : Fault → Fault → Type 0
 IsBefore f g =
     By f.place.line g.place.line (By f.place.column g.place.column (By (kind_number f.kind) (kind_number g.kind) (IsAtMost f.name g.name × ¬ (f.name ≡ g.name))))
 
--- each before the next, so that none is repeated
+-- each fault is before the next, so none occurs twice
 abbrev pub AreOrdered : List Fault → Type 0
 AreOrdered [] = Unit {0}
 AreOrdered (f ∷ []) = Unit {0}
 AreOrdered (f ∷ g ∷ fs) = IsBefore f g × AreOrdered (g ∷ fs)
 
--- What is answered of a module that isn't well-formed: exactly the faults of the first phase that has any, in order
+-- the faults of a module that isn't well-formed: exactly those of the first phase that has any, in order
 pub record AreFaults (m : Module) (fs : List Interface) (found : List Fault) : Type 0 where
   pub phase : Phase
   pub some : ¬ (found ≡ [])

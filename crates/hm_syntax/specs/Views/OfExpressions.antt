@@ -1,4 +1,4 @@
--- How expressions and declarations are seen.
+-- The models of expressions and declarations.
 use Rattle.hm_syntax.specs.Trees.{Expression, variable_expression, constructor_expression, literal_expression, application, lambda, let_expression, if_expression, case_expression, tuple_expression, list_expression, typed_expression, Declaration, data_declaration, newtype_declaration, synonym_declaration, signature, clause, pattern_binding}
 use Rattle.hm_syntax.specs.Lists.{patterns, expressions, declarations, alternatives, constructors}
 use Rattle.hm_syntax.specs.declared.ast.ExprKind.{ExprKind}

@@ -1,4 +1,4 @@
--- How literals are seen.
+-- The models of literals.
 use Rattle.hm_syntax.specs.Names.{LiteralTree, integer, character, string}
 use Rattle.hm_syntax.specs.declared.ast.LiteralKind.{LiteralKind}
 use Rattle.hm_syntax.specs.declared.ast.LiteralKind.TheVariants.{Integer, Character, Text}

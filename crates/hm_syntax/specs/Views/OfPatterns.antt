@@ -1,4 +1,4 @@
--- How patterns are seen.
+-- The models of patterns.
 use Rattle.hm_syntax.specs.Trees.{Pattern, variable_pattern, bound_pattern, constructor_pattern, literal_pattern, wildcard_pattern, tuple_pattern, list_pattern, lazy_pattern}
 use Rattle.hm_syntax.specs.Lists.{patterns}
 use Rattle.hm_syntax.specs.declared.ast.PatKind.{PatKind}

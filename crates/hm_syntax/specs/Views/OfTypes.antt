@@ -1,4 +1,4 @@
--- How types are seen.
+-- The models of types.
 use Rattle.hm_syntax.specs.Trees.{TypeTree, variable_type, constructor_type, function_type, tuple_type, list_type, unit_type}
 use Rattle.hm_syntax.specs.Lists.{types}
 use Rattle.hm_syntax.specs.declared.ast.TypeKind.{TypeKind}
