@@ -8,14 +8,14 @@ use std::test::Fail;
 use std::thread;
 use std::thread::Threads;
 
-/// A module behind the one that it imports.
+/// A module after the one that imports it.
 pub(crate) const TWO: &[u8] = b"module A where { import B ; x = y }\nmodule B where { y = 'c' }";
 
 /// Modules of which two are skipped.
 pub(crate) const SKIPPED: &[u8] =
     b"module A where { x = y }\nmodule B where { import A ; import C }\nmodule C where { f x = x x }\nmodule D where { import B }";
 
-/// What is reported of them.
+/// Their report.
 pub(crate) const SKIPPED_REPORT: &[u8] =
     b"faulty A\n  1:22 unbound y\nskipped B\n  by A\n  by C\nfaulty C\n  3:18 type f\nskipped D\n  by B\n4 modules: 0 good, 2 faulty, 2 skipped\n";
 
@@ -31,7 +31,7 @@ const FOUR: &[u8] =
 const TOO_LARGE: &[u8] =
     b"module A where { d x = (x, x) ; e x = d (d x) ; f x = e (e x) }\nmodule B where { import A ; g x = f (f x) ; h x = g (g x) ; i x = h (h x) ; k = i (h 1) }\nmodule C where { x = 1 }";
 
-/// One source.
+/// Returns one source.
 fn source_of(alloc: Global, text: &[u8]) -> Result<Vec<Vec<u8>>, AllocError> {
     let mut sources = Vec::new(alloc);
     sources.push(Vec::from_slice(alloc, text)?)?;
@@ -50,7 +50,7 @@ fn built<G: Gate + Sync>(
     Ok(build(rt, alloc, sources, workers, gate).map_err(|_| "no build")?)
 }
 
-/// What is reported of a build of the modules of one source.
+/// Returns the report of a build of the modules of one source.
 fn reported<G: Gate + Sync>(
     rt: &(impl AllocGlobal + Threads + Wait + Sync),
     text: &[u8],
@@ -61,7 +61,7 @@ fn reported<G: Gate + Sync>(
     Ok(report(rt.alloc(), &finished)?)
 }
 
-/// Holds each module until so many have entered, or many turns have passed, and counts those that were held in vain.
+/// A gate that holds each worker until a number of workers have entered, or many turns have passed. It counts the workers that waited in vain.
 #[derive(Drop)]
 struct Together {
     wanted: u64,
@@ -82,8 +82,8 @@ impl Gate for Together {
     }
 }
 
-/// Builds modules that don't import each other by as many workers as there are modules, each of which goes on only when all have come, and
-/// compares the report with that of one worker.
+/// Builds modules that don't import each other with a worker for each, where no worker continues before all have entered. Compares the report
+/// with that of one worker.
 fn check_together(
     rt: &(impl Abort + AllocGlobal + Threads + Wait + Sync),
     text: &[u8],
@@ -111,7 +111,7 @@ fn modules_are_checked_at_the_same_time(rt: HostRuntime) -> Result<(), Fail> {
     check_together(&rt, FOUR, 4)
 }
 
-/// Counts how often each of six modules enters.
+/// A gate that counts how often each of six modules enters.
 #[derive(Drop)]
 struct Counting {
     entered: [AtomicU64; 6],

@@ -1,9 +1,9 @@
-//! Readers and writers that misbehave.
+//! Readers and writers that fail.
 use std::alloc::Global;
 use std::io;
 use std::io::{ErrorKind, Read, Write};
 
-/// Gives one byte a read, each after an interrupted read, and fails at one read for good.
+/// A reader of one byte per read, with an interrupt before each, which fails for good at one read.
 #[derive(Drop)]
 pub(crate) struct Slow {
     bytes: &'static [u8],
@@ -13,7 +13,7 @@ pub(crate) struct Slow {
 }
 
 impl Slow {
-    /// Reads are counted from 1, so 0 never fails.
+    /// Returns a reader that fails at this read. Reads are counted from 1, so 0 never fails.
     pub(crate) fn new(bytes: &'static [u8], fails_at: u64) -> Slow {
         Slow {
             bytes,
@@ -45,7 +45,7 @@ impl Read for Slow {
     }
 }
 
-/// Is interrupted at each read.
+/// A reader whose reads are all interrupted.
 #[derive(Drop)]
 pub(crate) struct Never;
 
@@ -55,7 +55,7 @@ impl Read for Never {
     }
 }
 
-/// What a writer does once it has taken its bytes.
+/// What a writer does after it has taken its bytes.
 #[derive(Clone, Copy)]
 pub(crate) enum Then {
     Fails,
@@ -64,7 +64,7 @@ pub(crate) enum Then {
     FailsToFlush,
 }
 
-/// Takes some bytes, one a write, and then no more.
+/// A writer that takes some bytes, one per write, and then no more.
 #[derive(Drop)]
 pub(crate) struct Short {
     pub(crate) taken: Vec<u8>,

@@ -1,4 +1,4 @@
-//! Tests of builds and runs: gates, devices that fail, messages one by one, and what comes of refused calls.
+//! Tests of builds and runs: gates, failing devices, single messages, and calls that run out of memory.
 #![tactic(auto)]
 
 #[cfg(test)]

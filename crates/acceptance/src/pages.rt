@@ -1,10 +1,10 @@
-//! Messages made one by one: names of files that aren't UTF-8, standard input, colours, and bytes of no character before a place.
+//! Single messages: file names that aren't UTF-8, standard input, colours, and bytes before a place that aren't in a character.
 use hm_lex::Place;
 use hm_messages::{MessageFault, Paint, Topic, message, pages_of};
 use std::alloc::{AllocError, Global};
 use std::test::Fail;
 
-/// The message of an unknown name at a place of the first line of a source, where there is one.
+/// Returns the message of an unknown name at a place of the first line of a source, if it has one.
 fn told(
     alloc: Global,
     paint: Paint,

@@ -1,6 +1,7 @@
-//! Calls that are made alone, of what a build came to, for `tests/refuse_allocations.py --tests`, which refuses each of a test's allocations in
-//! turn. With ample memory each call has its right answer. A test whose call is refused memory ends with an error of its own; where memory is
-//! refused before that, the error is "no memory". Nothing else may come of a refusal.
+//! Single calls on builds, for `tests/refuse_allocations.py --tests`, which fails each of a test's allocations in turn.
+//!
+//! With enough memory each call has its right result. If the call itself runs out of memory, its test ends with an error of its own; before the
+//! call, the error is "no memory". A test has no other end.
 use crate::builds::{SKIPPED, SKIPPED_REPORT};
 use hm_build::{BuildFault, Finished, Open, build, journal_text, report};
 use std::alloc::{AllocError, Global};
@@ -8,13 +9,13 @@ use std::sync::Wait;
 use std::test::Fail;
 use std::thread::Threads;
 
-/// How a test ends where memory is refused before the call that it is about.
+/// The error of a test that runs out of memory before its call.
 const NO_MEMORY: &str = "no memory";
 
-/// How a test ends where memory is refused to that call.
+/// The error of a test whose call runs out of memory.
 const REFUSED: &str = "the call is refused";
 
-/// A build of the modules of one source by two workers.
+/// Builds the modules of one source with two workers.
 fn built(rt: &(impl AllocGlobal + Threads + Wait + Sync), text: &[u8]) -> Result<Finished, Fail> {
     let alloc: Global = rt.alloc();
     let mut sources = Vec::new(alloc);
@@ -28,7 +29,7 @@ fn built(rt: &(impl AllocGlobal + Threads + Wait + Sync), text: &[u8]) -> Result
     }
 }
 
-/// What a call answers, which has only want of memory as an error.
+/// Returns the result of a call whose only error is that memory ran out.
 fn answered<T>(answer: Result<T, AllocError>) -> Result<T, Fail> {
     match answer {
         Ok(found) => Ok(found),

@@ -1,4 +1,4 @@
-//! Runs whose readers or writers fail or are slow, and runs by numbers of workers that no build has.
+//! Runs with failing or slow readers and writers, and runs with numbers of workers that aren't allowed.
 ghost use Rattle.std.specs.Prelude.{All};
 ghost use Rattle.hm_devices.specs.Watching.{IsFresh};
 
@@ -12,14 +12,14 @@ use std::sync::Wait;
 use std::test::Fail;
 use std::thread::Threads;
 
-/// By two workers, without the journal. The trees are dropped.
+/// Two workers, no journal, and dropped trees.
 const OPTIONS: Options = Options {
     workers: 2,
     journal: false,
     trees: Trees::Dropped,
 };
 
-/// A run. It promises nothing, since the tests look at what comes of it: so the proofs of the tests don't carry the promises of `run`.
+/// Runs the checker. Has no contract, because the tests look at the result; so the proofs of the tests don't carry the contract of `run`.
 fn ran<T: AllocGlobal + Threads + Wait + Sync, R: Read, W: Write>(
     rt: &T,
     readers: &mut [Watched<R>],
@@ -64,7 +64,7 @@ fn leaves_a_prefix_of_each_length(rt: HostRuntime) -> Result<(), Fail> {
     Ok(())
 }
 
-/// Sources of which one is syntax, each with a number of workers that no build has.
+/// Sources with and without a syntax fault, each with a number of workers that isn't allowed.
 const REFUSED: [(&[u8], usize); 4] = [
     (b"module A where { x = }", 0),
     (b"module A where { x = }", 17),

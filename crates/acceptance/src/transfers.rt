@@ -1,4 +1,4 @@
-//! Plans from readers and to writers that fail or are slow.
+//! Runs of the plan with failing or slow readers and writers.
 ghost use Rattle.std.specs.Prelude.{All};
 ghost use Rattle.hm_devices.specs.Watching.{IsFresh};
 
@@ -10,8 +10,7 @@ use std::io::{ErrorKind, Read, Write};
 use std::test::Fail;
 use std::thread::Threads;
 
-/// A run that prints the plan. It promises nothing, since the tests look at what comes of it: so their proofs don't carry the promises of
-/// `run_plan`.
+/// Prints the plan. Has no contract, because the tests look at the result; so their proofs don't carry the contract of `run_plan`.
 fn planned<T: AllocGlobal + Threads, R: Read, W: Write>(
     rt: &T,
     readers: &mut [Watched<R>],
@@ -23,7 +22,7 @@ fn planned<T: AllocGlobal + Threads, R: Read, W: Write>(
     run_plan(rt, rt.alloc(), readers, writer, Trees::Dropped)
 }
 
-/// The kind of an error; none where there is no error.
+/// Returns the kind of an error, or `None` if there is no error.
 fn kind_of<T: Copy>(answer: io::Result<T>) -> Option<ErrorKind> {
     match answer {
         Ok(_) => None,
@@ -31,7 +30,7 @@ fn kind_of<T: Copy>(answer: io::Result<T>) -> Option<ErrorKind> {
     }
 }
 
-/// A watched reader answers what its device answers: an interrupt, a byte, an interrupt, a failure.
+/// A watched reader returns what its device returns: an interrupt, a byte, an interrupt, a failure.
 #[test]
 fn passes_on_what_a_reader_answers(rt: HostRuntime) -> Result<(), Fail> {
     let mut reader = Watched::new(Slow::new(b"ab", 4));
@@ -50,7 +49,7 @@ fn passes_on_what_a_reader_answers(rt: HostRuntime) -> Result<(), Fail> {
     Ok(())
 }
 
-/// A watched writer answers what its device answers: a byte is taken, then an interrupt.
+/// A watched writer returns what its device returns: a byte is taken, then an interrupt.
 #[test]
 fn passes_on_what_a_writer_answers(rt: HostRuntime) -> Result<(), Fail> {
     let mut device = Short::new(rt.alloc(), 1, Then::IsInterrupted);

@@ -1,5 +1,5 @@
-//! Trees that no source spells, whose local binders have a qualifier. A qualified name is never local (Haskell 98 Report, section 5.5.1), so
-//! such a binder binds its bare name.
+//! Trees that no source spells, with qualified local binders. A qualified name is never local (Haskell 98 Report, section 5.5.1), so each of
+//! these binders binds its bare name.
 use hm_check::check_module;
 use hm_lex::Place;
 use hm_syntax::{
@@ -23,7 +23,7 @@ fn name(alloc: Global, qualifier: Option<&str>, text: &str) -> Result<Name, Allo
     })
 }
 
-/// The call `Prelude.not 'c'`, which has no type.
+/// Returns the call `Prelude.not 'c'`, which has no type.
 fn call(alloc: Global) -> Result<Expr, AllocError> {
     let function = Expr {
         kind: ExprKind::Var(name(alloc, Some("Prelude"), "not")?),
@@ -39,7 +39,7 @@ fn call(alloc: Global) -> Result<Expr, AllocError> {
     })
 }
 
-/// A module with the one clause `h = \B -> body`, where B is the binder.
+/// Returns a module with the one clause `h = \B -> body`, where B is the binder.
 fn module_with(alloc: Global, binder: Name, body: Expr) -> Result<Module, AllocError> {
     let mut pats = Vec::new(alloc);
     pats.push(Pat {

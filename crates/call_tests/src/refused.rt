@@ -1,6 +1,7 @@
-//! Calls that are made alone, for `tests/refuse_allocations.py --tests`, which refuses each of a test's allocations in turn. With ample
-//! memory each call has its right answer. A test whose call is refused memory ends with an error of its own; where memory is refused before
-//! that, the error is "no memory". Nothing else may come of a refusal.
+//! Single calls, for `tests/refuse_allocations.py --tests`, which fails each of a test's allocations in turn.
+//!
+//! With enough memory each call has its right result. If the call itself runs out of memory, its test ends with an error of its own; before the
+//! call, the error is "no memory". A test has no other end.
 ghost use Rattle.std.specs.Prelude.{◌≡◌, []};
 ghost use Rattle.hm_graph.specs.Imports.{IsImportPlan, IsLawful};
 ghost use Rattle.hm_sources.specs.Names.{module_outlines};
@@ -31,7 +32,7 @@ const FOUR: Crew = Crew {
     room: 9,
 };
 
-/// How a test ends where memory is refused to the call that it is about.
+/// The error of a test whose call runs out of memory.
 const REFUSED: &str = "the call is refused";
 
 /// Four modules.
@@ -49,7 +50,7 @@ fn parse_alone(rt: HostRuntime) -> Result<(), Fail> {
     Ok(())
 }
 
-/// The kind of the only fault of scope of a module that imports none.
+/// Returns the kind of the only fault of scope of a module without imports.
 fn scope_fault(alloc: Global, module: &Module) -> Result<Option<Kind>, Fail> {
     if !are_imports_of(alloc, module, &[])? {
         return Err(Fail::from("it has imports"));
@@ -64,7 +65,7 @@ fn scope_fault(alloc: Global, module: &Module) -> Result<Option<Kind>, Fail> {
     }
 }
 
-/// Modules that import none, with the kind of the only fault of scope of each, and that of its check.
+/// Modules without imports, each with the kind of its only fault of scope, and that of its check.
 const ALONE: [(&[u8], Option<Kind>, Option<Kind>); 3] = [
     (
         b"module A where { x = y }",
@@ -88,7 +89,7 @@ fn scope_alone(rt: HostRuntime) -> Result<(), Fail> {
     Ok(())
 }
 
-/// The kind of a module's first fault.
+/// Returns the kind of a module's first fault.
 fn check_fault(alloc: Global, module: &Arc<Module>) -> Result<Option<Kind>, Fail> {
     match check_module(alloc, module, &[]) {
         Ok(outcome) => Ok(first_kind(&outcome)),
@@ -97,7 +98,7 @@ fn check_fault(alloc: Global, module: &Arc<Module>) -> Result<Option<Kind>, Fail
     }
 }
 
-/// The kind of the first fault of what a module came to.
+/// Returns the kind of the first fault of an outcome.
 fn first_kind(outcome: &Outcome) -> Option<Kind> {
     match outcome.verdict() {
         Verdict::Good(_) => None,
@@ -114,7 +115,7 @@ fn check_module_alone(rt: HostRuntime) -> Result<(), Fail> {
     Ok(())
 }
 
-/// Whether a store is one for two modules of which no worker has claimed one.
+/// Returns whether a store has two modules that no worker has claimed.
 fn is_untouched(store: &Store) -> bool {
     store.modules().len() == 2
         && store.status(0) == Status::Waiting
@@ -123,7 +124,7 @@ fn is_untouched(store: &Store) -> bool {
         && !store.is_stopped()
 }
 
-/// Whether a new store for these modules is untouched.
+/// Returns whether a new store for these modules is unchanged.
 fn makes_store(alloc: Global, modules: Vec<Module>, plan: Plan) -> Result<bool, Fail>
     requires lawful { IsLawful (module_outlines modules.items) }
     requires planned { IsImportPlan (module_outlines modules.items) plan }
@@ -144,7 +145,7 @@ fn new_store_alone(rt: HostRuntime) -> Result<(), Fail> {
     Ok(())
 }
 
-/// Whether each of four passes has its number and room.
+/// Returns whether each of four passes has its number and room.
 fn are_dealt<L: Ledger + Naming>(passes: &[Pass<L>]) -> bool {
     for (number, pass) in passes.iter().enumerate() {
         if pass.worker() != number || pass.room() != 9 {
@@ -192,7 +193,7 @@ fn shared_alone(rt: HostRuntime) -> Result<(), Fail> {
 /// A module with two polymorphic functions.
 const POLYMORPHIC: &[u8] = b"module A where { i x = x ; k x y = x }";
 
-/// Publishes module 0; None where that is done, and the outcome, handed back, where memory is refused.
+/// Publishes module 0. Returns the outcome if memory ran out, and `None` if it is published.
 fn handed_back<L: Ledger + Naming, R: Wait>(
     rt: &R,
     shared: &Shared<L, &R>,
@@ -209,8 +210,8 @@ fn handed_back<L: Ledger + Naming, R: Wait>(
     }
 }
 
-/// Whether the publication of module 0 isn't refused. Where memory is refused to it once, it is refused for memory again, since the list of
-/// publications is ahead of what look-ups see.
+/// Returns whether module 0 can be published. If memory runs out once, it must run out again, because the list of publications is ahead of the
+/// copies that look-ups read.
 fn publishes<L: Ledger + Naming, R: AllocGlobal + Wait>(
     rt: &R,
     shared: &Shared<L, &R>,
@@ -226,7 +227,7 @@ fn publishes<L: Ledger + Naming, R: AllocGlobal + Wait>(
     }
 }
 
-/// Claims module 0 and publishes it: whether it was published.
+/// Claims module 0 and publishes it. Returns whether it was published.
 fn claims_and_publishes<L: Ledger + Naming, R: Abort + AllocGlobal + Wait>(
     rt: &R,
     shared: &Shared<L, &R>,
@@ -239,7 +240,7 @@ fn claims_and_publishes<L: Ledger + Naming, R: Abort + AllocGlobal + Wait>(
     publishes(rt, shared, pass)
 }
 
-/// Whether a worker finds the interface of module 0 by a look, of which nobody has told it.
+/// Returns whether a worker that hasn't seen the publication of module 0 finds its interface.
 fn finds<L: Ledger + Naming>(pass: &mut Pass<L>) -> Result<bool, Fail> {
     if pass.room() == 0 {
         return Err(Fail::from("no room"));
@@ -251,7 +252,7 @@ fn finds<L: Ledger + Naming>(pass: &mut Pass<L>) -> Result<bool, Fail> {
     }
 }
 
-/// Whether a worker's stop is the first.
+/// Returns whether a worker's stop is the first.
 fn stops<L: Ledger + Naming, R: Wait>(
     rt: &R,
     shared: &Shared<L, &R>,
@@ -263,8 +264,8 @@ fn stops<L: Ledger + Naming, R: Wait>(
     Ok(shared.stop(rt, pass))
 }
 
-/// The first worker claims a module and publishes it, and the second finds it, and finds nothing before; the third stops the build. Whether the
-/// module was published.
+/// The first worker claims a module and publishes it; the second finds nothing before, and the interface after; the third stops the build.
+/// Returns whether the module was published.
 fn by_three<L: Ledger + Naming, R: Abort + AllocGlobal + Wait>(
     rt: &R,
     shared: &Shared<L, &R>,
@@ -280,7 +281,7 @@ fn by_three<L: Ledger + Naming, R: Abort + AllocGlobal + Wait>(
     Ok(done)
 }
 
-/// Four workers make these calls on a store that none has touched: the store, and whether the module was published.
+/// Has four workers make these calls on a new store. Returns the store, and whether the module was published.
 fn published<L: Ledger + Naming, R: Abort + AllocGlobal + Wait>(
     rt: &R,
     store: Store,
@@ -306,13 +307,13 @@ const CLAIMED: Entry = Entry::Claim {
     module: 0,
 };
 
-/// The next one, where the module is published.
+/// The next entry, if the module is published.
 const PUBLISHED: Entry = Entry::Publish {
     worker: 0,
     module: 0,
 };
 
-/// The last one.
+/// The last entry.
 const STOPPED: Entry = Entry::Stop { worker: 2 };
 
 #[test]

@@ -1,4 +1,4 @@
-//! Modules out of sources.
+//! Modules from sources.
 
 ghost use Rattle.std.specs.Prelude.{IfOk};
 ghost use Rattle.hm_lex.specs.Faults.{AreTokensOf};
@@ -10,10 +10,10 @@ use std::alloc::Global;
 use std::sync::Arc;
 use std::test::Fail;
 
-/// How a test ends where memory runs out before the call that it is about.
+/// The error of a test that runs out of memory before its call.
 pub(crate) const NO_MEMORY: &str = "no memory";
 
-/// The tokens of a source.
+/// Returns the tokens of a source.
 pub(crate) fn tokens_of(alloc: Global, source: &[u8]) -> Result<Vec<Token>, Fail>
     ensures { IfOk result (λ tokens. AreTokensOf source.now tokens.items) }
 {
@@ -24,7 +24,7 @@ pub(crate) fn tokens_of(alloc: Global, source: &[u8]) -> Result<Vec<Token>, Fail
     }
 }
 
-/// The modules of a source.
+/// Returns the modules of a source.
 fn modules_of(alloc: Global, source: &[u8]) -> Result<Vec<Module>, Fail> {
     let tokens = tokens_of(alloc, source)?;
     match parse(alloc, source, &tokens) {
@@ -34,7 +34,7 @@ fn modules_of(alloc: Global, source: &[u8]) -> Result<Vec<Module>, Fail> {
     }
 }
 
-/// The only module of a source.
+/// Returns the only module of a source.
 pub(crate) fn module_of(alloc: Global, source: &[u8]) -> Result<Arc<Module>, Fail> {
     let mut modules = modules_of(alloc, source)?;
     let module = modules.pop().ok_or("no module")?;

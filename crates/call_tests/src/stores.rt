@@ -15,7 +15,7 @@ use std::alloc::{AllocError, Global};
 use std::sync::Arc;
 use std::test::Fail;
 
-/// The outcome of the only module of a source, which imports none.
+/// Returns the outcome of the only module of a source. The module has no imports.
 pub(crate) fn outcome_of(alloc: Global, source: &[u8]) -> Result<Outcome, Fail> {
     match check_module(alloc, &module_of(alloc, source)?, &[]) {
         Ok(outcome) => Ok(outcome),
@@ -24,7 +24,7 @@ pub(crate) fn outcome_of(alloc: Global, source: &[u8]) -> Result<Outcome, Fail> 
     }
 }
 
-/// The modules of sources, and their plan.
+/// Returns the modules of sources, and their plan.
 pub(crate) fn set_of(alloc: Global, texts: &[&[u8]]) -> Result<(Vec<Module>, Plan), Fail>
     ensures lawful { IfOk result (λ set. IsLawful (module_outlines set.0.items)) }
     ensures planned { IfOk result (λ set. IsImportPlan (module_outlines set.0.items) set.1) }
@@ -40,7 +40,7 @@ pub(crate) fn set_of(alloc: Global, texts: &[&[u8]]) -> Result<(Vec<Module>, Pla
     }
 }
 
-/// Modules that a store can share.
+/// Shares modules, for a store.
 pub(crate) fn shared_modules(
     alloc: Global,
     modules: Vec<Module>,
@@ -54,7 +54,7 @@ pub(crate) fn shared_modules(
     Ok(shared)
 }
 
-/// A store for the modules of a lawful set.
+/// Returns a store for the modules of a lawful set.
 fn set_up(alloc: Global, modules: Vec<Module>, plan: Plan) -> Result<Store, AllocError>
     requires lawful { IsLawful (module_outlines modules.items) }
     requires planned { IsImportPlan (module_outlines modules.items) plan }
@@ -64,7 +64,7 @@ fn set_up(alloc: Global, modules: Vec<Module>, plan: Plan) -> Result<Store, Allo
     Ok(Store::new(alloc, modules, plan)?)
 }
 
-/// A store for the modules of sources, numbered in order.
+/// Returns a store for the modules of sources, numbered in order.
 pub(crate) fn store_of(alloc: Global, texts: &[&[u8]]) -> Result<Store, Fail>
     ensures { IfOk result (λ s. s.journal ≡ []) }
 {
@@ -77,5 +77,5 @@ pub(crate) fn store_of(alloc: Global, texts: &[&[u8]]) -> Result<Store, Fail>
 /// A module that imports `B`.
 pub(crate) const IMPORTER: &[u8] = b"module A where { import B ; x = y }";
 
-/// What it imports.
+/// The module that it imports.
 pub(crate) const IMPORTED: &[u8] = b"module B where { y = 'c' }";

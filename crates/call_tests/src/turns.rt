@@ -1,4 +1,4 @@
-//! Calls of workers in turn: on a store, and on one behind its lock.
+//! Calls of workers in turn, on a store and on a shared store.
 ghost use Rattle.std.specs.Prelude.{◌≡◌, []};
 
 use crate::sources::{NO_MEMORY, module_of};
@@ -17,7 +17,7 @@ use std::test::Fail;
 /// A module with the name of `IMPORTED`, and another interface.
 const OTHER: &[u8] = b"module B where { y = 1 }";
 
-/// What a store answers to a publication of module 1: a refusal, or None where it took the outcome of this source.
+/// Publishes the outcome of this source as module 1. Returns the refusal, or `None` if the store accepts it.
 fn answer(
     alloc: Global,
     store: &mut Store,
@@ -34,14 +34,14 @@ fn answer(
     }
 }
 
-/// Whether worker 0 gets module 1, and worker 1 has to wait and finds nothing.
+/// Returns whether worker 0 gets module 1, and worker 1 has to wait and finds nothing.
 fn begins(store: &mut Store) -> bool {
     let first = store.claim(0);
     let second = store.claim(1);
     first == Claimed::Job(1) && second == Claimed::Later && store.look(1).is_none()
 }
 
-/// Whether a publication of another worker and one of another module are refused, each for its reason.
+/// Returns whether a publication by another worker and one of another module are refused, each for its own reason.
 fn refuses(alloc: Global, store: &mut Store) -> Result<bool, Fail> {
     let other_worker = answer(alloc, store, 1, IMPORTED)?;
     let other_module = answer(alloc, store, 0, OTHER)?;
@@ -49,20 +49,20 @@ fn refuses(alloc: Global, store: &mut Store) -> Result<bool, Fail> {
     Ok(reasons == [Some(Refusal::NotYours), Some(Refusal::Stranger)] && store.journal().len() == 1)
 }
 
-/// Whether the publication of worker 0 is taken and found, and counted.
+/// Returns whether the publication by worker 0 is accepted, found and counted.
 fn takes(alloc: Global, store: &mut Store) -> Result<bool, Fail> {
     let taken = answer(alloc, store, 0, IMPORTED)?;
     Ok(taken.is_none() && store.look(1).is_some() && store.journal().len() == 2)
 }
 
-/// Whether the first stop ends the build, and the second is no entry.
+/// Returns whether the first stop ends the build, and the second adds no entry.
 fn stops_once(store: &mut Store) -> bool {
     let first = store.stop(1);
     let second = store.stop(0);
     first && !second && store.claim(0) == Claimed::Done && store.journal().len() == 3
 }
 
-/// How many publications there are before each entry, and behind the last.
+/// Returns whether the publications before each entry and after the last are counted right.
 fn counts_publications(store: &Store) -> bool {
     store.journal().len() == 3
         && store.publications(1) == 0
@@ -84,7 +84,7 @@ fn store_in_turn(rt: HostRuntime) -> Result<(), Fail> {
 /// A module with a name that `IMPORTER` doesn't import.
 const UNASKED: &[u8] = b"module C where { y = 'c' }";
 
-/// Whether the check of `IMPORTER` refuses the interface of another module than the one that it imports.
+/// Returns whether the check of `IMPORTER` refuses the interface of a module that it doesn't import.
 fn refuses_interfaces(alloc: Global) -> Result<bool, Fail> {
     let unasked = outcome_of(alloc, UNASKED)?;
     let Verdict::Good(interface) = unasked.verdict() else {
@@ -111,7 +111,7 @@ const CREW: Crew = Crew {
     room: 9,
 };
 
-/// What a worker's claim is told.
+/// Returns the turn that a worker's claim gets.
 fn claimed<L: Ledger + Naming, R: Wait>(
     rt: &R,
     shared: &Shared<L, &R>,
@@ -123,7 +123,7 @@ fn claimed<L: Ledger + Naming, R: Wait>(
     Ok(shared.claim(rt, pass))
 }
 
-/// Whether a worker finds the interface of module 1.
+/// Returns whether a worker finds the interface of module 1.
 fn finds<L: Ledger + Naming>(pass: &mut Pass<L>) -> Result<bool, Fail> {
     if pass.room() == 0 {
         return Err(Fail::from("no room"));
@@ -135,7 +135,7 @@ fn finds<L: Ledger + Naming>(pass: &mut Pass<L>) -> Result<bool, Fail> {
     }
 }
 
-/// Publishes a module, by its number and source.
+/// Publishes a module, given by its number and source.
 fn publishes<L: Ledger + Naming, R: AllocGlobal + Wait>(
     rt: &R,
     shared: &Shared<L, &R>,
@@ -154,8 +154,8 @@ fn publishes<L: Ledger + Naming, R: AllocGlobal + Wait>(
     }
 }
 
-/// Module 1 is claimed and published by the first worker. The second looks for it before and behind that, claims module 0, and looks again:
-/// whether it found it as often as it should.
+/// The first worker claims and publishes module 1. The second looks it up before and after that, claims module 0, and looks again. Returns
+/// whether it found the interface as often as expected.
 fn looks_on<L: Ledger + Naming, R: AllocGlobal + Wait>(
     rt: &R,
     shared: &Shared<L, &R>,
@@ -173,7 +173,7 @@ fn looks_on<L: Ledger + Naming, R: AllocGlobal + Wait>(
     Ok(job == Turn::Job(1) && !early && found && next == Turn::Job(0) && again)
 }
 
-/// Four modules, each of which imports none.
+/// Four modules without imports.
 const FOUR_MODULES: [&[u8]; 4] = [
     b"module A where { x = 1 }",
     b"module B where { x = 1 }",
@@ -181,7 +181,7 @@ const FOUR_MODULES: [&[u8]; 4] = [
     b"module D where { x = 1 }",
 ];
 
-/// Whether each worker gets the module with its own number.
+/// Returns whether each worker gets the module with its own number.
 fn all_claim<L: Ledger + Naming, R: Wait>(
     rt: &R,
     shared: &Shared<L, &R>,
@@ -196,7 +196,7 @@ fn all_claim<L: Ledger + Naming, R: Wait>(
     Ok(true)
 }
 
-/// Whether each worker is told that nothing is left.
+/// Returns whether each worker's claim returns `Done`.
 fn all_done<L: Ledger + Naming, R: Wait>(
     rt: &R,
     shared: &Shared<L, &R>,
@@ -210,7 +210,7 @@ fn all_done<L: Ledger + Naming, R: Wait>(
     Ok(true)
 }
 
-/// Whether a worker's stop is the first.
+/// Returns whether a worker's stop is the first.
 fn stops<L: Ledger + Naming, R: Wait>(
     rt: &R,
     shared: &Shared<L, &R>,
@@ -222,7 +222,7 @@ fn stops<L: Ledger + Naming, R: Wait>(
     Ok(shared.stop(rt, pass))
 }
 
-/// Four workers claim a module each. The third stops the build; the others publish theirs, and are told that nothing is left.
+/// Four workers claim a module each. The third stops the build; the others publish theirs, and then get `Done`.
 fn stops_between<L: Ledger + Naming, R: AllocGlobal + Wait>(
     rt: &R,
     shared: &Shared<L, &R>,
@@ -250,7 +250,7 @@ enum Script {
     StopBetween,
 }
 
-/// What came of a script: the store, the places of the second worker's calls in the journal, and whether each call had the right reply.
+/// The result of a script: the store, the places of the second worker's calls in the journal, and whether each call had the right reply.
 #[derive(Drop)]
 struct Played {
     store: Store,
@@ -258,7 +258,7 @@ struct Played {
     is_right: bool,
 }
 
-/// The places of the second worker's calls in the journal.
+/// Returns the places of the second worker's calls in the journal.
 fn places_of<L: Ledger + Naming>(
     alloc: Global,
     passes: Vec<Pass<L>>,
@@ -275,7 +275,7 @@ fn places_of<L: Ledger + Naming>(
     Ok(places)
 }
 
-/// Plays a script on a store that none has touched.
+/// Runs a script on a new store.
 fn play<L: Ledger + Naming, R: AllocGlobal + Wait>(
     rt: &R,
     store: Store,
@@ -302,7 +302,7 @@ fn play<L: Ledger + Naming, R: AllocGlobal + Wait>(
     })
 }
 
-/// What takes the name of a build by four workers.
+/// Returns the ghost tokens that name a build by four workers.
 fn brands() -> Brands
     ensures parts { result.blank.parts ≡ 4 }
 {
@@ -354,7 +354,7 @@ const STOPPED: [Entry; 8] = [
     },
 ];
 
-/// Whether a module is still claimed by the worker with its number.
+/// Returns whether the worker with a module's number has still claimed it.
 fn is_claimed(store: &Store, number: usize) -> bool {
     number < store.modules().len() && store.status(number) == Status::Claimed(number)
 }

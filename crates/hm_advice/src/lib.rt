@@ -1,7 +1,7 @@
-//! What a fault of syntax most likely is: what is so at its place, and a change of one token with which the source can be read.
+//! Finds advice for a syntax fault: a hint, or a change of one token after which the source can be parsed.
 //!
-//! The parser itself decides whether a change serves: the tokens with it spell modules. So each answer is a theorem about the
-//! grammar. Which of several changes is found first is a choice of this crate.
+//! The parser itself decides whether a change works, because the changed tokens must spell modules. So each result is a theorem about the
+//! grammar. This crate chooses which of several changes it finds first.
 #![tactic(auto)]
 
 mod advice;

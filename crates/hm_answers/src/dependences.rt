@@ -1,4 +1,4 @@
-//! Whether the declarations of a unit refer to typed nodes alone (Haskell 98 Report, section 4.5.1).
+//! Whether the declarations of a unit refer only to typed nodes (Haskell 98 Report, section 4.5.1).
 
 ghost use Rattle.std.specs.Prelude.{◌≡◌, ◌<◌, true, false, All, Contains, IfOk, OnOk, length};
 ghost use Rattle.hm_groups.specs.Nodes.{AllShown};
@@ -21,7 +21,7 @@ pub fn mark(typed: &mut [bool], group: &[usize])
     }
 }
 
-/// Takes the marks of the nodes of a group away.
+/// Clears the marks of the nodes of a group.
 pub fn unmark(typed: &mut [bool], group: &[usize])
     requires { All (λ j. j < length typed.old) group.now }
     ensures { IsMarked group.now false typed.old typed.new }
@@ -31,7 +31,7 @@ pub fn unmark(typed: &mut [bool], group: &[usize])
     }
 }
 
-/// Whether nodes are typed.
+/// Returns whether these nodes are typed.
 fn are_typed(typed: &[bool], nodes: &[usize]) -> bool
     requires { All (λ j. j < length typed.now) nodes.now }
     ensures { TellsNodes result typed.now (Contains nodes.now) }
@@ -44,7 +44,7 @@ fn are_typed(typed: &[bool], nodes: &[usize]) -> bool
     true
 }
 
-/// Whether each node to which a declaration refers is typed.
+/// Returns whether a declaration refers only to typed nodes.
 pub fn refers_to_typed(
     alloc: Global,
     numbers: &Numbers,
@@ -61,7 +61,7 @@ pub fn refers_to_typed(
     Ok(are_typed(typed, &found))
 }
 
-/// Whether each node to which the declarations of a group refer is typed.
+/// Returns whether the declarations of a group refer only to typed nodes.
 pub fn members_refer_to_typed(
     alloc: Global,
     list: &CheckedList<'_, '_, '_>,

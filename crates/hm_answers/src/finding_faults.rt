@@ -1,5 +1,5 @@
-//! The units of a list without signatures that are type faults (Haskell 98 Report, section 4.5.1):
-//! those without types of which all that they refer to outside has types.
+//! The units without signatures that are type faults (Haskell 98 Report, section 4.5.1): units
+//! without types that refer only to typed nodes outside.
 
 ghost use Rattle.std.specs.Prelude.{◌≡◌, ◌<◌, ℕ, All, IfOk, OnOk, List, [], false, length, slice_index_or};
 ghost use Rattle.hm_components.specs.Digraph.{lists};
@@ -13,7 +13,7 @@ use hm_expressions::CheckedList;
 use hm_groups::{Member, group_members};
 use std::alloc::{AllocError, Global};
 
-/// Whether a group has no types, though all that it refers to outside has.
+/// Returns whether a group has no types, though all nodes outside that it refers to have.
 fn is_faulty(
     alloc: Global,
     list: &CheckedList<'_, '_, '_>,
@@ -41,7 +41,7 @@ fn is_faulty(
     Ok(is_free)
 }
 
-/// For each group of a list whether its unit is a fault, by a table of the nodes that have types.
+/// Returns for each group of a list whether it is a fault, by a table of the nodes that have types.
 pub fn faulty_groups(
     alloc: Global,
     list: &CheckedList<'_, '_, '_>,
@@ -65,7 +65,7 @@ pub fn faulty_groups(
     Ok(faulty)
 }
 
-/// The place of the first declaration of a group.
+/// Returns the place of the first declaration of a group.
 pub fn first_place(members: &[Member]) -> usize
     requires { 0 < length members.now }
     ensures { IsFirstPlace members.now result }

@@ -1,4 +1,4 @@
-//! What inference tells of a list in the end: the canonical schemes of its variables, or the groups that are faults (Haskell 98 Report, section 4.5).
+//! The results of inference for a list: the canonical schemes of its variables, or its faulty groups (Haskell 98 Report, section 4.5).
 #![tactic(auto)]
 
 mod dependences;

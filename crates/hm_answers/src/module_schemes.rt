@@ -13,7 +13,7 @@ use hm_instances::canonical;
 use hm_names::Schemes;
 use std::alloc::{AllocError, Global};
 
-/// Gives a variable of the module `home` the canonical scheme that is assumed of it.
+/// Gives a variable of the module `home` the canonical form of its scheme in the environment.
 fn put_scheme(
     alloc: Global,
     schemes: &mut Schemes,
@@ -34,7 +34,7 @@ fn put_scheme(
     Ok(())
 }
 
-/// The canonical schemes of the variables of the module `home`, as they are assumed.
+/// Returns the canonical schemes of the variables of the module `home`, by the environment.
 pub fn own_schemes(
     alloc: Global,
     home: &str,

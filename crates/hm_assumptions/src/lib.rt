@@ -1,4 +1,5 @@
-//! What the inference of types stands on: its state, what is assumed of names and of constructors, the steps of the solver, instances of schemes, and patterns (Damas and Milner 1982, sections 5 and 6; Haskell 98 Report, section 3.17).
+//! The state of type inference: the solver, the schemes of names and constructors, instances, and the types of patterns (Damas and Milner 1982,
+//! sections 5 and 6; Haskell 98 Report, section 3.17).
 #![tactic(auto)]
 
 mod constructors;

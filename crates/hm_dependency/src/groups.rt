@@ -1,4 +1,4 @@
-//! The units of a declaration list (Haskell 98 Report, section 4.5.1), in an order in which each comes after those that it depends on.
+//! The units of a declaration list (Haskell 98 Report, section 4.5.1). Each comes after those that it depends on.
 
 ghost use Rattle.std.specs.Prelude.{◌≡◌, ℕ, [], ◌∷◌, IfOk, Err, length};
 ghost use Rattle.hm_components.specs.Digraph.{AreGroups, Graph, lists};
@@ -20,9 +20,9 @@ use std::alloc::{AllocError, Global};
 pub struct BindingGroups<'a> {
     /// The nodes: the variables and pattern bindings without signatures.
     pub numbers: Numbers<'a>,
-    /// For each node the places of the declarations of its binding.
+    /// For each node, the places of the declarations of its binding.
     pub rows: Vec<Vec<usize>>,
-    /// The groups of nodes in order.
+    /// The groups of nodes, in order.
     pub groups: Vec<Vec<usize>>,
 }
 
@@ -36,7 +36,7 @@ impl Drop for BindingGroups<'_> {
     }
 }
 
-/// The names of a list are distinct, those with signatures too; where they aren't the answer is `Repeated`.
+/// Returns `Repeated` if a name of a list is bound twice. Includes names with signatures.
 fn check_distinct(alloc: Global, decls: &[Decl]) -> Result<(), GroupFault>
     ensures distinct { IfOk result (λ _. (k : Known) → IsDistinct (names (bindings_of k (declarations decls.now) (declarations decls.now)))) }
     ensures repeated { result ≡ Err GroupFault.Repeated → (k : Known)
@@ -48,8 +48,8 @@ fn check_distinct(alloc: Global, decls: &[Decl]) -> Result<(), GroupFault>
     Ok(())
 }
 
-/// The nodes of a list whose names are distinct; where they aren't the answer is `Repeated`. Where no name has a signature, all names are
-/// nodes, so the list is gone through once.
+/// Returns the nodes of a list, or `Repeated` if a name is bound twice. If no name has a signature, all names are nodes, and one pass over the
+/// list is enough.
 fn distinct_nodes<'a>(
     alloc: Global,
     signed: &IndexSet<&str>,
@@ -71,7 +71,7 @@ fn distinct_nodes<'a>(
     Ok(list)
 }
 
-/// The group of one node.
+/// Returns the group of a single node.
 fn one_group(alloc: Global) -> Result<Vec<Vec<usize>>, AllocError>
     ensures { IfOk result (λ groups. lists groups.items ≡ (0 ∷ []) ∷ []) }
 {
@@ -82,7 +82,7 @@ fn one_group(alloc: Global) -> Result<Vec<Vec<usize>>, AllocError>
     Ok(groups)
 }
 
-/// The groups of a list's graph, in their order.
+/// Returns the groups of a list's graph, in order.
 fn graph_groups(
     alloc: Global,
     list: &NodeList<'_>,
@@ -95,7 +95,7 @@ fn graph_groups(
     graph_of(alloc, list, decls)?.groups()
 }
 
-/// The groups of a list, in their order. One node needs no graph.
+/// Returns the groups of a list, in order. A single node needs no graph.
 fn groups_of(
     alloc: Global,
     list: &NodeList<'_>,
@@ -115,7 +115,7 @@ fn groups_of(
     Ok(graph_groups(alloc, list, decls)?)
 }
 
-/// The units of a list. Where a name is bound twice the list has no typing, and the answer is `Repeated`.
+/// Returns the units of a list, or `Repeated` if a name is bound twice: then the list has no typing.
 pub fn binding_groups<'a>(alloc: Global, decls: &'a [Decl]) -> Result<BindingGroups<'a>, GroupFault>
     ensures nodes { IfOk result (λ found. found.numbers ≡ list_nodes (declarations decls.now) (declarations decls.now)) }
     ensures rows { IfOk result (λ found. AreRows decls.now (length found.numbers) (lists found.rows.items)) }

@@ -1,4 +1,4 @@
-//! What is known of a fault beyond its kind and its name: a name that it may be meant for, or what it stands for.
+//! Finds details of a fault beyond its kind and its name: a similar name, or the entities that an ambiguous name means.
 #![tactic(auto)]
 
 mod detail;

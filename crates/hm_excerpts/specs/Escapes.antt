@@ -1,4 +1,4 @@
--- How bytes are shown on a terminal: nothing in them moves its cursor, changes its colours or turns its reading order.
+-- Bytes as they are shown on a terminal. They can't move its cursor, change its colours or change the reading order.
 use Rattle.std.specs.Prelude.{ℕ, zero, suc, ◌-◌, ◌==◌, Bool, false, ◌||◌, List, [], ◌∷◌, ◌++◌, Option, Some, None, chars, codes, encode_utf8, if◌then◌else◌}
 use Rattle.std.specs.Fmt.{radix_digits}
 use Rattle.std.specs.Int.{is_in_range}
@@ -8,27 +8,27 @@ use Rattle.ucd_category.specs.GeneralCategoryGroup.{in_group}
 use Rattle.ucd_category.specs.declared.GeneralCategoryGroup.TheVariants.{Other}
 use Rattle.unicode_width.specs.Width.{str_width}
 
--- the character is of no use to a reader, or turns the reading order: Unicode's categories Cc, Cf, Co and Cn, and its separators of lines and paragraphs
+-- the character is invisible or changes the reading order: Unicode's categories Cc, Cf, Co and Cn, and its separators of lines and paragraphs
 abbrev pub is_hidden : ℕ → Bool
 is_hidden c = in_group Other (general_category c) || is_in_range 0x2028 0x2029 c
 
--- a character as it is shown: a tab as four spaces, a hidden one by its number
+-- a character as it is shown: a tab as four spaces, a hidden one as its number
 abbrev pub char_text : ℕ → List ℕ
 char_text c =
     if c == 9 then codes "    "
     else if is_hidden c then codes "\\u{" ++ radix_digits 16 false c ++ codes "}"
     else encode_utf8 c
 
--- a byte that is in no character of UTF-8
+-- a byte that isn't in a character of UTF-8, as it is shown
 abbrev pub byte_text : ℕ → List ℕ
 byte_text b = codes "\\x" ++ radix_digits 16 false b
 
--- what is shown of the front of a text that begins with this byte: its first character, or the byte
+-- the first piece of a text that begins with this byte, as it is shown: the first character, or the byte
 abbrev pub piece_text : Option ℕ → ℕ → List ℕ
 piece_text (Some c) b = char_text c
 piece_text None b = byte_text b
 
--- how many bytes of the text that are
+-- the number of bytes of that piece
 abbrev pub size_of : Option ℕ → ℕ → ℕ
 size_of (Some c) size = size
 size_of None size = 1
@@ -36,7 +36,7 @@ size_of None size = 1
 abbrev pub piece_size : Decoded → ℕ
 piece_size piece = size_of piece.char piece.size
 
--- behind the first n bytes: each character, and each byte that is in none
+-- the pieces after the first n bytes, as they are shown
 unfoldable pub shown_after : ℕ → List ℕ → List ℕ
 shown_after n [] = []
 shown_after (suc n) (b ∷ bs) = shown_after n bs
@@ -48,6 +48,6 @@ shown_after zero (b ∷ bs) =
 abbrev pub shown : List ℕ → List ℕ
 shown = shown_after 0
 
--- how many columns of a terminal they take (Unicode Standard Annex 11)
+-- the number of columns of a terminal that they take (Unicode Standard Annex 11)
 abbrev pub width : List ℕ → ℕ
 width bytes = str_width false (chars (shown bytes))

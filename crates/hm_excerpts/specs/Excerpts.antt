@@ -1,4 +1,4 @@
--- Places in a source, and what is shown of the line there.
+-- Places in a source, and the shown part of the line there.
 use Rattle.std.specs.Prelude.{◌≡◌, ℕ, ◌+◌, ◌≤◌, ◌<◌, Bool, true, false, List, [], ◌++◌, length, slice_index}
 use Rattle.std.specs.Int.{is_in_range}
 use Rattle.hm_lex.specs.declared.token.Place.{Place}
@@ -6,14 +6,14 @@ use Rattle.hm_lex.specs.Cut.{is_line_end, place_after}
 use Rattle.hm_excerpts.specs.declared.excerpt.Excerpt.{Excerpt}
 use Rattle.hm_excerpts.specs.Lines.{IsWithout}
 
--- the place lies in the source: it is the place behind some of its first bytes
+-- the place is in the source: it comes after some of its first bytes
 pub record IsPlaceIn (source : List ℕ) (place : Place) : Type 0 where
   pub before : List ℕ
   pub after : List ℕ
   pub whole : source ≡ before ++ after
   pub placed : place ≡ place_after before
 
--- the line at the place, without its end: what stands before the place, and what from it on
+-- the line at the place, without its end: the bytes before the place, and those from the place on
 pub record IsLineAround (source : List ℕ) (place : Place) (front back : List ℕ) : Type 0 where
   pub before : List ℕ
   pub after : List ℕ
@@ -24,15 +24,16 @@ pub record IsLineAround (source : List ℕ) (place : Place) (front back : List �
   pub front_plain : IsWithout is_line_end front
   pub back_plain : IsWithout is_line_end back
 
--- the byte stands inside a character of UTF-8
+-- the byte is inside a character of UTF-8, after its first byte
 abbrev pub continues : ℕ → Bool
 continues b = is_in_range 128 191 b
 
--- how many bytes are shown on each side of a place
+-- the number of bytes that are shown on each side of a place
 abbrev pub most_shown : ℕ
 most_shown = 80
 
--- what is shown of a line with these bytes before a place and behind it: of a longer side so many bytes, or up to three fewer, so that no character is cut
+-- the shown part of a line with these bytes before and after a place. Of a longer side it has `most_shown` bytes, or up to three fewer so that no
+-- character is cut
 pub record IsShownRound (front back : List ℕ) (e : Excerpt) : Type 0 where
   pub before : List ℕ
   pub after : List ℕ
@@ -45,7 +46,7 @@ pub record IsShownRound (front back : List ℕ) (e : Excerpt) : Type 0 where
   pub short_left : length e.left.now ≤ most_shown
   pub short_right : length e.right.now ≤ most_shown
 
--- the excerpt is what is shown of the line at the place
+-- the excerpt is the shown part of the line at the place
 pub record IsExcerptAt (source : List ℕ) (place : Place) (e : Excerpt) : Type 0 where
   pub front : List ℕ
   pub back : List ℕ

@@ -1,4 +1,4 @@
--- The lines of a source, by their numbers.
+-- The lines of a source, by number.
 use Rattle.std.specs.Prelude.{◌≡◌, ℕ, ◌+◌, ◌-◌, ◌≤◌, ◌<◌, Bool, false, List, length, take, drop, slice_index, slice_index_or, All}
 use Rattle.hm_lex.specs.declared.token.Place.{Place}
 use Rattle.hm_lex.specs.Cut.{is_line_end, place_after}
@@ -9,7 +9,7 @@ use Rattle.hm_excerpts.specs.declared.lines.Spot.{Spot}
 abbrev pub IsWithout : (ℕ → Bool) → List ℕ → Type 0
 IsWithout test text = All (λ b. test b ≡ false) text
 
--- the line with this number, from 0: where it begins, and that it has no line end
+-- the line with this number, from 0: it begins at the span's start, and has no line end
 pub record IsLineAt (source : List ℕ) (number : ℕ) (span : Span) : Type 0 where
   pub ordered : span.start ≤ span.end
   pub within : span.end ≤ length source
@@ -31,7 +31,7 @@ pub record AreLinesBefore (source : List ℕ) (spans : List Span) (start : ℕ) 
 abbrev pub AreLinesOf : List ℕ → List Span → Type 0
 AreLinesOf source spans = AreLinesBefore source spans (length source + 1)
 
--- the spot is the place's: the line with its number, and the bytes before its column
+-- the spot of the place: the line with its number, and the bytes before its column
 pub record IsSpotOf (source : List ℕ) (place : Place) (spot : Spot) : Type 0 where
   pub number : ℕ
   pub line : IsLineAt source number (record { start = spot.start; end = spot.end })

@@ -1,4 +1,4 @@
--- What is marked at a place: the name, the number or the symbols that stand there (Haskell 98 Report, section 2.2), else one character.
+-- The text that is marked at a place: a name, a number or symbols (Haskell 98 Report, section 2.2), else one character.
 use Rattle.std.specs.Prelude.{ℕ, ◌==◌, Bool, ◌||◌, List, [], ◌∷◌, if◌then◌else◌}
 use Rattle.std.specs.List.{prefix_len}
 use Rattle.bstr.specs.Utf8.{decoded}
@@ -8,7 +8,7 @@ use Rattle.hm_lex.specs.Bytes.{is_name_byte, is_symbol}
 abbrev pub is_of_word : ℕ → Bool
 is_of_word b = is_name_byte b || (b == 46)
 
--- how many bytes are marked at the front of a text
+-- the number of bytes that are marked at the front of a text
 abbrev pub marked : List ℕ → ℕ
 marked [] = 0
 marked (b ∷ bs) =

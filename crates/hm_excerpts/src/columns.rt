@@ -1,39 +1,39 @@
-//! Columns in a line: in bytes, in characters and in the units of UTF-16.
+//! Columns in a line: in bytes, in characters and in units of UTF-16.
 ghost use Rattle.std.specs.Prelude.{◌≡◌, ◌+◌, ◌≤◌, ◌^◌, ◌<◌, IfOk, count_by, drop, length, nat_le, take};
 ghost use Rattle.std.specs.Fmt.{is_char_start};
 ghost use Rattle.hm_excerpts.specs.Columns.{AreUnitsOf, characters, units_of, utf16_units};
 
 use std::alloc::{AllocError, Global};
 
-/// A column of a place, counted from 1 in three ways.
+/// The column of a place, counted from 1 in three units.
 #[derive(Clone, Copy, Debug, PartialEq, Eq)]
 pub struct Columns {
-    /// In bytes, as the report counts.
+    /// In bytes, as in the report.
     pub bytes: usize,
     /// In characters, as people count.
     pub characters: usize,
-    /// In units of UTF-16, as the protocol of language servers counts.
+    /// In units of UTF-16, as in the protocol of language servers.
     pub utf16: usize,
 }
 
-/// How many characters a text has, and how many of them have four bytes, and so two units of UTF-16.
+/// The number of characters in a text, and the number of those with four bytes, which have two units of UTF-16.
 #[derive(Clone, Copy)]
 pub(crate) struct Units {
     pub characters: usize,
     pub wide: usize,
 }
 
-/// How many bytes stand between two rows of a table of units.
+/// The number of bytes between two rows of a table of units.
 const STRIDE: usize = 1024;
 
-/// Whether a byte is the first of a character.
+/// Returns whether a byte is the first of a character.
 fn is_char_start(byte: u8) -> bool
     ensures { result ≡ is_char_start byte }
 {
     byte < 0x80 || byte >= 0xC0
 }
 
-/// How many characters a text has.
+/// Returns the number of characters in a text.
 fn characters(text: &[u8]) -> usize
     ensures count { result ≡ characters text.now }
     ensures few { result ≤ length text.now }
@@ -47,7 +47,7 @@ fn characters(text: &[u8]) -> usize
     count
 }
 
-/// How many characters of a text have four bytes.
+/// Returns the number of characters with four bytes.
 fn wide_characters(text: &[u8]) -> usize
     ensures count { result ≡ count_by (nat_le 0xF0) text.now }
     ensures few { result ≤ length text.now }
@@ -61,7 +61,7 @@ fn wide_characters(text: &[u8]) -> usize
     count
 }
 
-/// The units of a text.
+/// Returns the units of a text.
 fn units_in(text: &[u8]) -> Units
     ensures units { result ≡ units_of text.now }
     ensures characters { result.characters ≤ length text.now }
@@ -74,7 +74,7 @@ fn units_in(text: &[u8]) -> Units
 }
 
 impl Units {
-    /// The units of two texts in a row.
+    /// Returns the units of two texts together.
     fn plus(self, more: Units) -> Units
         requires characters { self.characters + more.characters < 2 ^ 64 }
         requires wide { self.wide + more.wide < 2 ^ 64 }
@@ -88,7 +88,7 @@ impl Units {
     }
 }
 
-/// The units of the source up to each stride, so that those of any part of it are counted within two strides.
+/// Returns the units of the source up to each stride. With it, counting the units of any part reads at most two strides.
 pub(crate) fn units_table(alloc: Global, source: &[u8]) -> Result<Vec<Units>, AllocError>
     ensures { IfOk result (λ table. AreUnitsOf source.now table.items) }
 {
@@ -105,7 +105,7 @@ pub(crate) fn units_table(alloc: Global, source: &[u8]) -> Result<Vec<Units>, Al
     Ok(table)
 }
 
-/// The units of the source up to a byte.
+/// Returns the units of the source up to a byte.
 fn units_before(source: &[u8], table: &[Units], end: usize) -> Units
     requires table { AreUnitsOf source.now table.now }
     requires within { end ≤ length source.now }
@@ -115,7 +115,7 @@ fn units_before(source: &[u8], table: &[Units], end: usize) -> Units
     table[row].plus(units_in(&source[row * STRIDE..end]))
 }
 
-/// The columns of the place so many bytes behind the beginning of a line.
+/// Returns the columns of the place at this offset from the start of a line.
 pub(crate) fn columns_at(source: &[u8], table: &[Units], start: usize, offset: usize) -> Columns
     requires table { AreUnitsOf source.now table.now }
     requires within { start + offset ≤ length source.now }

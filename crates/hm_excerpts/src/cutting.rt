@@ -1,23 +1,23 @@
-//! How much of a long line is shown.
+//! Cuts long lines to the part around a place.
 ghost use Rattle.std.specs.Prelude.{◌≡◌, ◌<◌, ◌≤◌, ◌+◌, length, drop, take};
 ghost use Rattle.hm_excerpts.specs.Excerpts.{IsShownRound, continues, most_shown};
 
 use crate::excerpt::Excerpt;
 
-/// How many bytes are shown on each side of a place.
+/// The number of bytes that are shown on each side of a place.
 const MOST_SHOWN: usize = 80;
 
-/// How many bytes a character of UTF-8 has behind its first one, at most.
+/// The number of bytes after the first in a character of UTF-8, at most.
 const LONGEST_REST: usize = 3;
 
-/// Whether a byte stands inside a character of UTF-8.
+/// Returns whether a byte is inside a character of UTF-8, after its first byte.
 fn continues(byte: u8) -> bool
     ensures { result ≡ continues byte }
 {
     matches!(byte, 0x80..=0xBF)
 }
 
-/// Where what is shown before a place begins: at a whole character.
+/// Returns where the shown part before a place begins: at a whole character.
 fn first_shown(front: &[u8]) -> usize
     ensures within { result ≤ length front.now }
     ensures short { length front.now ≤ result + most_shown }
@@ -35,7 +35,7 @@ fn first_shown(front: &[u8]) -> usize
     start + LONGEST_REST
 }
 
-/// Where what is shown behind a place ends: at a whole character.
+/// Returns where the shown part after a place ends: at a whole character.
 fn shown_end(back: &[u8]) -> usize
     ensures within { result ≤ length back.now }
     ensures short { result ≤ most_shown }
@@ -52,7 +52,7 @@ fn shown_end(back: &[u8]) -> usize
     MOST_SHOWN - LONGEST_REST
 }
 
-/// What is shown of a line that has these bytes before a place and behind it.
+/// Returns the shown part of a line with these bytes before and after a place.
 pub(crate) fn shown_round<'a>(front: &'a [u8], back: &'a [u8]) -> Excerpt<'a>
     ensures { IsShownRound front.now back.now result }
 {

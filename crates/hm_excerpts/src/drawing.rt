@@ -1,4 +1,4 @@
-//! An excerpt as text: what is shown of the line, and a mark in a line below.
+//! An excerpt as text: the shown part of the line, with a mark in the line below.
 ghost use Rattle.std.specs.Prelude.{◌≡◌, ◌++◌, IfOk, OnOk, replicate};
 ghost use Rattle.hm_excerpts.specs.Drawing.{dots, excerpt_text, indent, line_text, mark_text, mark_width, without_return};
 
@@ -7,21 +7,21 @@ use crate::excerpt::Excerpt;
 use crate::marks::marked;
 use std::alloc::{AllocError, Global};
 
-/// What stands where a line is cut.
+/// Returns the dots that replace a cut part of a line.
 fn dots(is_cut: bool) -> &'static [u8]
     ensures { result.now ≡ dots is_cut }
 {
     if is_cut { b"..." } else { b"" }
 }
 
-/// What stands below these dots.
+/// Returns the spaces below these dots.
 fn indent(is_cut: bool) -> &'static [u8]
     ensures { result.now ≡ indent is_cut }
 {
     if is_cut { b"   " } else { b"" }
 }
 
-/// A text without a carriage return at its end.
+/// Returns a text without a carriage return at its end.
 fn without_return(text: &[u8]) -> &[u8]
     ensures { result.now ≡ without_return text.now }
 {
@@ -31,7 +31,7 @@ fn without_return(text: &[u8]) -> &[u8]
     }
 }
 
-/// Appends so many copies of a byte.
+/// Appends `count` copies of a byte.
 fn add_copies(text: &mut Vec<u8>, byte: u8, count: usize) -> Result<(), AllocError>
     ensures { OnOk result (text.new.items ≡ text.old.items ++ replicate count byte) }
 {
@@ -41,7 +41,7 @@ fn add_copies(text: &mut Vec<u8>, byte: u8, count: usize) -> Result<(), AllocErr
     Ok(())
 }
 
-/// How many columns the mark takes below what stands at the place.
+/// Returns the number of columns of the mark.
 fn mark_width(alloc: Global, right: &[u8]) -> Result<usize, AllocError>
     ensures { IfOk result (λ columns. columns ≡ mark_width right.now) }
 {
@@ -60,7 +60,7 @@ fn add_line(alloc: Global, text: &mut Vec<u8>, excerpt: &Excerpt<'_>) -> Result<
     Ok(())
 }
 
-/// Appends the mark, below what stands at the place.
+/// Appends the mark below the place.
 fn add_mark(alloc: Global, text: &mut Vec<u8>, excerpt: &Excerpt<'_>) -> Result<(), AllocError>
     ensures { OnOk result (text.new.items ≡ text.old.items ++ mark_text excerpt.now) }
 {
@@ -72,7 +72,7 @@ fn add_mark(alloc: Global, text: &mut Vec<u8>, excerpt: &Excerpt<'_>) -> Result<
     Ok(())
 }
 
-/// Appends an excerpt: the line, and below it a mark under what stands at the place.
+/// Appends an excerpt: the line, and a mark below the place.
 pub fn add_excerpt(
     alloc: Global,
     text: &mut Vec<u8>,

@@ -1,4 +1,4 @@
-//! How bytes are shown on a terminal.
+//! Escapes bytes for a terminal.
 ghost use Rattle.std.specs.Prelude.{◌≡◌, ◌++◌, ◌<◌, IfOk, OnOk, length, slice_index, string_bytes};
 ghost use Rattle.hm_excerpts.specs.Escapes.{byte_text, char_text, is_hidden, piece_size, piece_text, shown, width};
 ghost use Rattle.bstr.specs.Utf8.{decoded};
@@ -8,7 +8,7 @@ use std::alloc::{AllocError, Global};
 use ucd_category::{GeneralCategory, GeneralCategoryGroup};
 use unicode_width::UnicodeWidthStr;
 
-/// Whether a character is of no use to a reader, or turns the reading order.
+/// Returns whether a character is invisible, or changes the reading order.
 fn is_hidden(character: char) -> bool
     ensures { result ≡ is_hidden character }
 {
@@ -16,7 +16,7 @@ fn is_hidden(character: char) -> bool
     GeneralCategoryGroup::Other.contains(category) || matches!(character, '\u{2028}'..='\u{2029}')
 }
 
-/// Appends a character as it is shown.
+/// Appends a character, escaped if needed.
 fn add_char(alloc: Global, text: &mut String, character: char) -> Result<(), AllocError>
     ensures { OnOk result (string_bytes text.new ≡ string_bytes text.old ++ char_text character) }
 {
@@ -32,7 +32,7 @@ fn add_char(alloc: Global, text: &mut String, character: char) -> Result<(), All
     Ok(())
 }
 
-/// Appends a byte that is in no character.
+/// Appends the escape of a byte that isn't in a character.
 fn add_byte(alloc: Global, text: &mut String, byte: u8) -> Result<(), AllocError>
     ensures { OnOk result (string_bytes text.new ≡ string_bytes text.old ++ byte_text byte) }
 {
@@ -41,7 +41,7 @@ fn add_byte(alloc: Global, text: &mut String, byte: u8) -> Result<(), AllocError
     Ok(())
 }
 
-/// Appends what is shown of the front of a text, and returns how many bytes that are.
+/// Appends the first piece of a text, escaped if needed, and returns its number of bytes.
 fn add_piece(alloc: Global, text: &mut String, bytes: &[u8]) -> Result<usize, AllocError>
     requires { 0 < length bytes.now }
     ensures text { OnOk result (string_bytes text.new ≡ string_bytes text.old ++ piece_text (decoded bytes.now).char (slice_index bytes.now 0)) }
@@ -60,8 +60,8 @@ fn add_piece(alloc: Global, text: &mut String, bytes: &[u8]) -> Result<usize, Al
     }
 }
 
-/// Bytes as they are shown: a control character, a mark of direction or another character that no reader sees by its number, as
-/// `\u{1b}`, a byte in no character of UTF-8 as `\xe9`, and a tab as four spaces.
+/// Returns bytes as they are shown on a terminal. A control character, a mark of direction or another invisible character becomes its number, as
+/// `\u{1b}`; a byte that isn't in a character of UTF-8 becomes `\xe9`, for example; a tab becomes four spaces.
 pub fn shown(alloc: Global, bytes: &[u8]) -> Result<String, AllocError>
     ensures { IfOk result (λ text. string_bytes text ≡ shown bytes.now) }
 {
@@ -73,7 +73,7 @@ pub fn shown(alloc: Global, bytes: &[u8]) -> Result<String, AllocError>
     Ok(text)
 }
 
-/// How many columns of a terminal these bytes take as they are shown (Unicode Standard Annex 11).
+/// Returns the number of columns of a terminal that the shown bytes take (Unicode Standard Annex 11).
 pub(crate) fn shown_width(alloc: Global, bytes: &[u8]) -> Result<usize, AllocError>
     ensures { IfOk result (λ columns. columns ≡ width bytes.now) }
 {

@@ -1,14 +1,14 @@
-//! What is shown of a line.
+//! The shown part of a line.
 
-/// What is shown of a line round a place.
+/// The shown part of a line around a place.
 #[derive(Clone, Copy, Debug)]
 pub struct Excerpt<'a> {
-    /// What is shown before the place.
+    /// The part before the place.
     pub left: &'a [u8],
-    /// What is shown from the place on.
+    /// The part from the place on.
     pub right: &'a [u8],
-    /// Whether the line begins before what is shown.
+    /// Whether the line begins before the shown part.
     pub is_cut_left: bool,
-    /// Whether the line goes on behind what is shown.
+    /// Whether the line continues after the shown part.
     pub is_cut_right: bool,
 }

@@ -1,7 +1,7 @@
-//! Worked examples: functions with empty bodies, whose contracts say what holds of them.
+//! Worked examples. Each is a function with an empty body, and its contract states the example.
 ghost use Rattle.hm_excerpts.specs.Worked.{ColumnsRow, EscapesRow, MarksRow};
 
-/// What is marked at a place, how bytes are shown, and the columns of a place.
+/// The mark at a place, bytes as they are shown, and the columns of a place.
 #[tactic(auto, using(crate::proofs::WorkedPlaces::worked_marks, crate::proofs::WorkedPlaces::worked_escapes, crate::proofs::WorkedPlaces::worked_columns))]
 pub fn worked_excerpts()
     ensures marks { MarksRow }

@@ -1,4 +1,4 @@
-//! Excerpts of sources: the line round a place, with a mark below it, and the columns of a place.
+//! Shows the line around a place in a source with a mark below it, and counts the columns of a place.
 #![tactic(auto)]
 
 mod columns;

@@ -1,4 +1,4 @@
-//! The lines of a source, by their numbers.
+//! The lines of a source, by number.
 ghost use Rattle.std.specs.Prelude.{◌≡◌, ◌≤◌, ◌<◌, ◌+◌, All, IfNone, IfOk, IfSome, length, slice_index, take};
 ghost use Rattle.hm_lex.specs.Cut.{is_line_end};
 ghost use Rattle.hm_excerpts.specs.Columns.{AreColumnsAt, IsMarkEnd};
@@ -20,7 +20,7 @@ struct Span {
     end: usize,
 }
 
-/// A source with its lines, so that a place is found without reading the source once more.
+/// A source with a table of its lines, so that finding a place doesn't read the source again.
 #[derive(Drop)]
 pub struct SourceLines<'a> {
     source: &'a [u8],
@@ -28,7 +28,7 @@ pub struct SourceLines<'a> {
     units: Vec<Units>,
 }
 
-/// A place in a source: the line `source[start..end]`, and so many bytes of it before the place.
+/// A place in a source: the line `source[start..end]`, and the number of its bytes before the place.
 #[derive(Clone, Copy)]
 struct Spot {
     start: usize,
@@ -48,7 +48,7 @@ impl<'a> Model for SourceLines<'a> {
     ghost invariant = { λ s. AreLinesOf s.source.now s.spans.items × AreUnitsOf s.source.now s.units.items };
 }
 
-/// The length of the line at the front.
+/// Returns the length of the line at the front.
 fn line_len(bytes: &[u8]) -> usize
     ensures within { result ≤ length bytes.now }
     ensures plain { IsWithout is_line_end (take result bytes.now) }
@@ -61,7 +61,7 @@ fn line_len(bytes: &[u8]) -> usize
     len
 }
 
-/// The lines of a source: one more than it has line ends.
+/// Returns the lines of a source: one more than it has line ends.
 fn spans_of(alloc: Global, source: &[u8]) -> Result<Vec<Span>, AllocError>
     ensures { IfOk result (λ spans. AreLinesOf source.now spans.items) }
 {
@@ -76,7 +76,7 @@ fn spans_of(alloc: Global, source: &[u8]) -> Result<Vec<Span>, AllocError>
 }
 
 impl<'a> SourceLines<'a> {
-    /// Looks for the lines of a source.
+    /// Makes the table of lines of a source.
     pub fn of(alloc: Global, source: &'a [u8]) -> Result<SourceLines<'a>, AllocError>
         ensures { IfOk result (λ lines. lines ≡ source.entry.now) }
     {
@@ -89,14 +89,14 @@ impl<'a> SourceLines<'a> {
         })
     }
 
-    /// The source.
+    /// Returns the source.
     pub fn source(&self) -> &'a [u8]
         ensures { result.now ≡ self.now }
     {
         self.source
     }
 
-    /// Where a place is, if it lies in the source.
+    /// Returns where a place is, if it is in the source.
     fn spot(&self, place: Place) -> Option<Spot>
         ensures some { IfSome result (λ s. IsSpotOf self.now place s) }
         ensures none { IfNone result (IsPlaceIn self.now place → ⊥) }
@@ -118,7 +118,7 @@ impl<'a> SourceLines<'a> {
         Some(Spot { start, end, offset })
     }
 
-    /// What is shown at a place, if it lies in the source.
+    /// Returns the excerpt at a place, if it is in the source.
     pub fn excerpt(&self, place: Place) -> Option<Excerpt<'a>>
         ensures some { IfSome result (IsExcerptAt self.now place) }
         ensures none { IfNone result (IsPlaceIn self.now place → ⊥) }
@@ -128,7 +128,7 @@ impl<'a> SourceLines<'a> {
         Some(shown_round(front, back))
     }
 
-    /// The columns of a place, if it lies in the source.
+    /// Returns the columns of a place, if it is in the source.
     pub fn columns(&self, place: Place) -> Option<Columns>
         ensures some { IfSome result (AreColumnsAt self.now place) }
         ensures none { IfNone result (IsPlaceIn self.now place → ⊥) }
@@ -141,7 +141,7 @@ impl<'a> SourceLines<'a> {
         Some(columns_at(self.source, &self.units, start, offset))
     }
 
-    /// The place behind what is marked at a place, if it lies in the source.
+    /// Returns the place after the mark at a place, if it is in the source.
     pub fn mark_end(&self, place: Place) -> Option<Place>
         ensures some { IfSome result (IsMarkEnd self.now place) }
         ensures inside { IfSome result (IsPlaceIn self.now) }

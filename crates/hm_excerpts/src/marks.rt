@@ -1,4 +1,4 @@
-//! What is marked at a place.
+//! The text that is marked at a place.
 ghost use Rattle.std.specs.Prelude.{◌≡◌, ◌≤◌, length};
 ghost use Rattle.std.specs.List.{prefix_len};
 ghost use Rattle.hm_lex.specs.Bytes.{class_of, is_name_byte, is_symbol};
@@ -6,7 +6,7 @@ ghost use Rattle.hm_excerpts.specs.Marks.{is_of_word, marked};
 
 use bstr::decode_utf8;
 
-/// Whether a byte is one of a name: a letter, a digit, `_` or `'`.
+/// Returns whether a byte may be in a name: a letter, a digit, `_` or `'`.
 #[tactic(auto, unfolding(hm_lex::specs::Bytes::class_of))]
 fn is_name_byte(byte: u8) -> bool
     ensures { result ≡ is_name_byte byte }
@@ -14,7 +14,7 @@ fn is_name_byte(byte: u8) -> bool
     matches!(byte, b'a'..=b'z' | b'A'..=b'Z' | b'0'..=b'9' | b'_' | b'\'')
 }
 
-/// Whether a byte is a symbol.
+/// Returns whether a byte is a symbol.
 #[tactic(auto, unfolding(hm_lex::specs::Bytes::class_of))]
 fn is_symbol(byte: u8) -> bool
     ensures { result ≡ is_symbol byte }
@@ -25,7 +25,7 @@ fn is_symbol(byte: u8) -> bool
     ) && byte != b','
 }
 
-/// The length of the name or the number at the front.
+/// Returns the length of the name or the number at the front.
 fn word_len(bytes: &[u8]) -> usize
     ensures run { result ≡ prefix_len is_of_word bytes.now }
     ensures within { result ≤ length bytes.now }
@@ -37,7 +37,7 @@ fn word_len(bytes: &[u8]) -> usize
     len
 }
 
-/// The length of the run of symbols at the front.
+/// Returns the length of the run of symbols at the front.
 fn symbols_len(bytes: &[u8]) -> usize
     ensures run { result ≡ prefix_len is_symbol bytes.now }
     ensures within { result ≤ length bytes.now }
@@ -49,7 +49,7 @@ fn symbols_len(bytes: &[u8]) -> usize
     len
 }
 
-/// How many bytes are marked at the front of a text.
+/// Returns the number of bytes that are marked at the front of a text.
 #[tactic(auto, using(crate::proofs::Escaping::size_fits))]
 pub(crate) fn marked(bytes: &[u8]) -> usize
     ensures marked { result ≡ marked bytes.now }

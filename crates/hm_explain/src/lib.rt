@@ -1,8 +1,8 @@
-//! Explains a type fault by the checker itself: a part of the definition is replaced by an expression of every type, and the module is
-//! checked again.
+//! Finds the part of a definition that is to blame for a type fault, by checking changed sources.
 //!
-//! The checker decides whether a part is to blame, so each answer is a theorem about the verdict of a source that a user can write. Which
-//! parts are tried, and which of several is told, is a choice of this crate.
+//! A part is replaced by an expression of every type, and the module is checked again. So the checker itself decides whether the part is to
+//! blame: each result is a theorem about the verdict of a source that a user can write. This crate chooses which parts it tries, and which of
+//! several it returns.
 #![tactic(auto)]
 
 mod binding;

@@ -19,15 +19,15 @@ use hm_types::Ty;
 use hm_unify::{Solver, UnifyFault};
 use std::alloc::Global;
 
-/// A node of a list, with the variables that are the types of all nodes.
+/// A node of a list, with the type variables of all nodes.
 #[derive(Clone, Copy)]
 pub(crate) struct TypedNode<'t> {
     pub types: &'t [usize],
     pub own: usize,
 }
 
-/// Gives variables the types of their nodes, which stand before the node `own`, that of the first
-/// variable next to it.
+/// Equates the types of variables with those of their nodes. These are before the node `own`, with
+/// that of the first variable next to it.
 fn equate_types(
     solver: &mut Solver,
     items: &[Variable<'_>],
@@ -50,8 +50,8 @@ fn equate_types(
     Ok(())
 }
 
-/// Matches the pattern of a binding against the type of its node; each of its variables has the
-/// type of its own node, and these stand before that of the binding in the order of the variables.
+/// Matches the pattern of a binding against the type of its node. Each of its variables gets the
+/// type of its own node. The nodes of the variables are before that of the binding, the first next to it.
 pub(crate) fn match_binding(
     alloc: Global,
     solver: &mut Solver,

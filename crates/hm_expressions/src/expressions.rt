@@ -1,4 +1,4 @@
-//! Expressions are checked against types (Damas and Milner 1982, section 6), with their right
+//! Checks expressions against types (Damas and Milner 1982, section 6), with their right
 //! sides and alternatives (Haskell 98 Report, section 3.13).
 
 ghost use Rattle.std.specs.Prelude.{◌≡◌, ℕ, ◌+◌, ◌<◌, ◌≤◌, ◌^◌, ◌++◌, List, All, length, cond, OnOk};
@@ -49,8 +49,8 @@ use hm_types::Ty;
 use hm_unify::UnifyFault;
 use indexmap::IndexMap;
 
-/// A binding list that is checked: the constructors that are known, its declarations, what is found
-/// of its groups, and the declared types of its variables, by their texts.
+/// A binding list that is checked: the known constructors, its declarations, its groups, and the
+/// declared types of its variables by their texts.
 #[derive(Clone, Copy)]
 pub struct CheckedList<'l, 'a, 'c> {
     pub constructors: &'l Constructors<'c>,
@@ -59,7 +59,7 @@ pub struct CheckedList<'l, 'a, 'c> {
     pub signatures: &'l IndexMap<&'a str, &'a TypeExpr>,
 }
 
-/// The types of a `case`: the variable that is the type of what is examined, and the type of the
+/// The types of a `case`: the variable for the type of the scrutinee, and the type of the
 /// whole.
 #[derive(Clone, Copy)]
 struct CaseTypes<'t> {
@@ -147,8 +147,8 @@ pub(crate) fn check_expression<'a>(
     }
 }
 
-/// Checks an expression that has a declared type: the expression has it with new rigid variables
-/// for those of the type, which don't escape, and the type is an instance of it (Haskell 98
+/// Checks an expression that has a declared type: the expression has this type with new rigid
+/// variables, which don't escape, and `t` is an instance of it (Haskell 98
 /// Report, section 3.16).
 #[cycle(checking)]
 fn check_typed<'a>(
@@ -173,7 +173,7 @@ fn check_typed<'a>(
     check_instance(inference.alloc, &mut inference.solver, &declared, t)
 }
 
-/// Whether an expression is a name, whose type is compared with another part by part.
+/// Returns whether an expression is a name. The type of a name is compared with another one part by part.
 fn is_name(e: &Expr) -> bool {
     match &e.kind {
         ExprKind::Var(_) | ExprKind::Con(_) => true,
@@ -182,8 +182,8 @@ fn is_name(e: &Expr) -> bool {
 }
 
 /// Checks an expression against the type of functions from the variable `argument` to a type.
-/// Unless it is a name, it is checked against a variable of its own first, so that what is applied
-/// to many arguments doesn't have its type built again for each of them.
+/// Unless it is a name, it is checked against a new variable first, so that a function with many
+/// arguments doesn't have its type built again for each of them.
 #[cycle(checking)]
 fn check_function<'a>(
     inference: &mut Inference<'a>,
@@ -236,7 +236,7 @@ pub(crate) fn check_expressions<'a>(
     Ok(())
 }
 
-/// Checks an expression, behind its guard, if it has one, against a type.
+/// Checks an expression, and its guard if it has one, against a type.
 #[cycle(checking)]
 pub(crate) fn check_body<'a>(
     inference: &mut Inference<'a>,
@@ -263,7 +263,7 @@ pub(crate) fn check_body<'a>(
     }
 }
 
-/// Checks the expressions of a right side, each behind its guard, against a type.
+/// Checks the expressions of a right side, with their guards, against a type.
 #[cycle(checking)]
 pub(crate) fn check_bodies<'a>(
     inference: &mut Inference<'a>,
@@ -286,7 +286,7 @@ pub(crate) fn check_bodies<'a>(
     Ok(())
 }
 
-/// Checks a right side, with what is bound by its `where`, against a type.
+/// Checks a right side, with the bindings of its `where`, against a type.
 #[cycle(checking)]
 pub(crate) fn check_right_side<'a>(
     inference: &mut Inference<'a>,
@@ -380,8 +380,8 @@ pub(crate) fn check_clause<'a>(
     Ok(())
 }
 
-/// Checks a declaration of a group: a clause has the type of its node; a pattern and its right
-/// side have that of theirs.
+/// Checks a declaration of a group: a clause has the type of its node, and a pattern and its right
+/// side have the type of theirs.
 #[cycle(checking)]
 fn check_member<'a>(
     inference: &mut Inference<'a>,
@@ -472,8 +472,8 @@ fn check_members<'a>(
     Ok(())
 }
 
-/// Infers the schemes of a group of a list, and binds its names in the environment. Variables that
-/// are in the value of one older than the group aren't quantified.
+/// Infers the schemes of a group of a list, and binds its names in the environment. Variables in
+/// the value of a variable older than the group aren't quantified.
 #[cycle(checking)]
 pub fn infer_group<'a>(
     inference: &mut Inference<'a>,
@@ -522,8 +522,8 @@ pub fn infer_group<'a>(
     Ok(())
 }
 
-/// Checks a clause of a variable that has a signature against the declared type, with new rigid
-/// variables for those of the type. Nothing is asked of other declarations.
+/// Checks a clause of a variable with a signature against the declared type, with new rigid
+/// variables. Requires nothing of other declarations.
 #[cycle(checking)]
 pub fn check_signed<'a>(
     inference: &mut Inference<'a>,
@@ -574,8 +574,8 @@ fn check_all_signed<'a>(
     Ok(())
 }
 
-/// Infers the schemes of a binding list, and binds its names in the environment: first those that
-/// are declared, then group after group, and at last the bindings with signatures are checked.
+/// Infers the schemes of a binding list, and binds its names in the environment: first the declared
+/// names, then the groups in order. Checks the bindings with signatures last.
 #[cycle(checking)]
 pub fn check_bindings<'a>(
     inference: &mut Inference<'a>,
@@ -603,7 +603,7 @@ pub fn check_bindings<'a>(
     check_list(inference, &checked)
 }
 
-/// The same for a list of which the groups and signatures are found.
+/// Does what `check_bindings` does, for a list with known groups and signatures.
 #[cycle(checking)]
 fn check_list<'a>(
     inference: &mut Inference<'a>,

@@ -27,7 +27,7 @@ use hm_types::Ty;
 use hm_unify::{Solver, UnifyFault};
 use std::alloc::{AllocError, Global};
 
-/// A group of a list whose nodes have types. Variables that are in the values of the first `older`
+/// A group of a list whose nodes have types. Variables in the values of the first `older` variables
 /// stay free in its schemes.
 #[derive(Clone, Copy)]
 pub(crate) struct TypedGroup<'g, 'a> {
@@ -37,7 +37,7 @@ pub(crate) struct TypedGroup<'g, 'a> {
     pub older: usize,
 }
 
-/// Gives the nodes of a group the variables from `first` on.
+/// Sets the types of a group's nodes to the variables from `first` on.
 pub(crate) fn place_types(types: &mut [usize], group: &[usize], first: usize)
     requires nodes { All (λ j. j < length types.old) group.now }
     requires fits { first + length group.now < 2 ^ 64 }
@@ -50,7 +50,7 @@ pub(crate) fn place_types(types: &mut [usize], group: &[usize], first: usize)
     }
 }
 
-/// Binds a node to a scheme, if it is a variable: a pattern binding's own name is never mentioned.
+/// Binds a node to a scheme if it is a variable. No expression refers to a pattern binding itself.
 fn bind_node<'a>(
     environment: &mut Environment<'a>,
     numbers: &Numbers<'a>,
@@ -94,8 +94,8 @@ pub(crate) fn bind_types<'a>(
     Ok(())
 }
 
-/// Binds the variables among the nodes of a group to the closures of their types, with what the
-/// solver knows put for their variables.
+/// Binds the variables among the nodes of a group to the closures of their types under the
+/// solution.
 pub(crate) fn bind_schemes<'a>(
     alloc: Global,
     solver: &Solver,
@@ -123,7 +123,7 @@ pub(crate) fn bind_schemes<'a>(
     Ok(())
 }
 
-/// Gives the nodes of a group new variables for their types, and binds its names to these. Answers
+/// Gives the nodes of a group new variables as types, and binds its names to these. Returns
 /// the declarations of the group.
 pub(crate) fn open_group<'a>(
     inference: &mut Inference<'a>,

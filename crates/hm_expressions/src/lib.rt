@@ -1,5 +1,6 @@
-//! Types of expressions and binding lists (Damas and Milner 1982, section 6; Haskell 98 Report, sections 3 and 4.5): expressions are checked
-//! against types and binding groups generalised, with a solver of equations.
+//! Infers the types of expressions and binding lists with the solver (Damas and Milner 1982, section 6; Haskell 98 Report, sections 3 and 4.5).
+//!
+//! Expressions are checked against types, and binding groups are generalised.
 #![tactic(auto)]
 
 mod bindings;

@@ -1,4 +1,4 @@
-//! The binding groups of a declaration list, as inference asks for them.
+//! The binding groups of a declaration list, with the error type of inference.
 
 ghost use Rattle.std.specs.Prelude.{◌≡◌, IfOk, Err, length};
 ghost use Rattle.hm_components.specs.Digraph.{lists};
@@ -17,7 +17,7 @@ use hm_syntax::Decl;
 use hm_unify::UnifyFault;
 use std::alloc::Global;
 
-/// The binding groups of a list. Where a name is bound twice the list has no typing, and the answer is `Clash`.
+/// Returns the binding groups of a list, or `Clash` if a name is bound twice: then the list has no typing.
 pub fn listed_groups<'a>(alloc: Global, decls: &'a [Decl]) -> Result<BindingGroups<'a>, UnifyFault>
     ensures nodes { IfOk result (λ found. found.numbers ≡ list_nodes (declarations decls.now) (declarations decls.now)) }
     ensures rows { IfOk result (λ found. AreRows decls.now (length found.numbers) (lists found.rows.items)) }

@@ -17,7 +17,7 @@ use hm_variables::key_of;
 use indexmap::IndexMap;
 use std::alloc::{AllocError, Global};
 
-/// Gives variables a declared type, in place of one that they had.
+/// Sets the declared type of variables, and replaces an earlier one.
 fn add_names<'a>(
     signatures: &mut IndexMap<&'a str, &'a TypeExpr>,
     names: &'a [Name],
@@ -32,7 +32,7 @@ fn add_names<'a>(
     Ok(())
 }
 
-/// Adds a declaration before others, if it is a signature.
+/// Adds the types of a declaration that is a signature. The table has those of the declarations after it.
 fn add_signature<'a>(
     signatures: &mut IndexMap<&'a str, &'a TypeExpr>,
     decl: &'a Decl,
@@ -45,8 +45,8 @@ fn add_signature<'a>(
     }
 }
 
-/// The declared types of the variables of a list, by their texts. Of two signatures of one
-/// variable the first counts.
+/// Returns the declared types of the variables of a list, by their texts. If a variable has two
+/// signatures, the first counts.
 pub fn signatures_of<'a>(
     alloc: Global,
     decls: &'a [Decl],
@@ -61,7 +61,7 @@ pub fn signatures_of<'a>(
     Ok(signatures)
 }
 
-/// The declared type of a variable, if it has a signature.
+/// Returns the declared type of a variable, if it has a signature.
 pub(crate) fn declared_for<'a>(
     signatures: &IndexMap<&str, &'a TypeExpr>,
     name: &Name,
@@ -74,8 +74,8 @@ pub(crate) fn declared_for<'a>(
     }
 }
 
-/// Binds the variable of a declaration, if a binding ends with it whose variable has a signature,
-/// to the declared scheme.
+/// Binds the variable of a declaration to its declared scheme, if the declaration ends a binding
+/// with a signature.
 fn bind_declared<'a>(
     alloc: Global,
     environment: &mut Environment<'a>,
@@ -102,7 +102,7 @@ fn bind_declared<'a>(
     Ok(())
 }
 
-/// Binds the variables of a list that have signatures to their declared schemes.
+/// Binds the variables of a list with signatures to their declared schemes.
 pub fn bind_signed<'a>(
     alloc: Global,
     environment: &mut Environment<'a>,

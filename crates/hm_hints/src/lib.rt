@@ -1,5 +1,5 @@
-//! What a fault of lexemes or of the grammar most likely is, and how it is told. A hint says only what is so of the bytes or the
-//! tokens at the place of the fault and before it.
+//! Finds the likely reason of a lexical or syntax fault, and its texts. A hint states only facts about the bytes or tokens at the place of the
+//! fault and before it.
 #![tactic(auto)]
 
 mod brackets;

@@ -1,4 +1,4 @@
-//! What imports and a module's own declarations bring into scope (Haskell 98 Report, sections 5.3 and 5.5).
+//! Builds a module's scope from its imports and its own declarations (Haskell 98 Report, sections 5.3 and 5.5).
 #![tactic(auto)]
 
 mod imported;

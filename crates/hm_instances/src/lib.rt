@@ -1,5 +1,4 @@
-//! Schemes and their instances: whether one scheme is at least as general as another (Damas and Milner 1982,
-//! section 3), and the canonical scheme of a type.
+//! Compares schemes by generality (Damas and Milner 1982, section 3), and makes the canonical scheme of a type.
 #![tactic(auto)]
 
 mod instances;

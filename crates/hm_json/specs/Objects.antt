@@ -24,7 +24,7 @@ position_data p = object (member (codes "byte") (count p.columns.bytes)
     (member (codes "line") (count p.line)
     (member (codes "utf16") (count p.columns.utf16) no_members))))
 
--- the message's object, with the members that are no texts or may be missing
+-- the message's object, with the members that aren't texts or may be missing
 abbrev pub joined_data : Message → Data → Data → Data → Data → Data → Data
 joined_data m end hint owner name start = object (member (codes "end") end
     (member (codes "file") (string m.file.now)
@@ -45,7 +45,7 @@ counts_data errors skipped = object (member (codes "errors") (count errors)
     (member (codes "level") (string (codes "end"))
     (member (codes "skipped") (count skipped) no_members)))
 
--- each object stands on a line of its own
+-- each object is on its own line
 abbrev pub message_text : Message → List ℕ
 message_text m = compact_text (message_data m) ++ codes "\n"
 

@@ -1,4 +1,4 @@
-//! Messages for programs: a JSON object for each, on a line of its own.
+//! Writes messages for programs as JSON objects, each on its own line.
 #![tactic(auto)]
 
 mod message;

@@ -1,7 +1,7 @@
-//! What a message says, before it is written.
+//! The data of a message.
 use hm_excerpts::Columns;
 
-/// Whether something is wrong, or is only said of what is wrong elsewhere.
+/// Whether a message is about an error, or is a note on one.
 #[derive(Clone, Copy, Debug, PartialEq, Eq)]
 pub enum Level {
     Error,
@@ -11,28 +11,28 @@ pub enum Level {
 /// A position in a source.
 #[derive(Clone, Copy, Debug, PartialEq, Eq)]
 pub struct Position {
-    /// Its line, from 1.
+    /// The line, from 1.
     pub line: usize,
     pub columns: Columns,
 }
 
-/// What a message says of a range of a source.
+/// A message about a range of a source.
 #[derive(Clone, Copy, Debug)]
 pub struct Message<'a> {
     /// The name of the source's file.
     pub file: &'a str,
     pub start: Position,
-    /// The position behind what is marked.
+    /// The position after the marked text.
     pub end: Position,
     pub level: Level,
-    /// The report's word for the fault, or that for the sort of note.
+    /// The report's word for the fault, or the word for the kind of note.
     pub kind: &'a str,
-    /// The module that it speaks of, where that is known.
+    /// The module that it is about, if known.
     pub module: Option<&'a str>,
-    /// The name that it is about, if it is about one.
+    /// The name that it is about, if any.
     pub name: Option<&'a str>,
     /// What is wrong, in a few words.
     pub text: &'a str,
-    /// The rule that is broken or what may help, if there is more to say.
+    /// The broken rule, or something that may help, if there is more to say.
     pub hint: Option<&'a str>,
 }

@@ -8,7 +8,7 @@ use crate::message::{Level, Message, Position};
 use serde_json::{Value, json};
 use std::alloc::{AllocError, Global};
 
-/// The word of a level.
+/// Returns the word of a level.
 fn level_word(level: Level) -> &'static str
     ensures { result.now ≡ level_word level }
 {
@@ -18,7 +18,7 @@ fn level_word(level: Level) -> &'static str
     }
 }
 
-/// A text, or null where there is none.
+/// Returns a text as a JSON value, or null if there is none.
 fn text_value(alloc: Global, text: Option<&str>) -> Result<Value, AllocError>
     ensures { IfOk result (λ value. view value ≡ text_data (option_map (λ t. t.now) text.entry)) }
 {
@@ -28,7 +28,7 @@ fn text_value(alloc: Global, text: Option<&str>) -> Result<Value, AllocError>
     }
 }
 
-/// A position as an object.
+/// Returns a position as an object.
 fn position_value(alloc: Global, position: Position) -> Result<Value, AllocError>
     ensures { IfOk result (λ value. view value ≡ position_data position) }
 {
@@ -39,7 +39,7 @@ fn position_value(alloc: Global, position: Position) -> Result<Value, AllocError
     json!(in alloc; {"byte": byte, "character": character, "line": line, "utf16": utf16})
 }
 
-/// The members of a message that are no texts, or may be missing.
+/// The members of a message that aren't texts, or may be missing.
 #[derive(Clone, Copy)]
 struct Parts<'a> {
     end: &'a Value,
@@ -49,7 +49,7 @@ struct Parts<'a> {
     start: &'a Value,
 }
 
-/// The object of a message with these parts.
+/// Returns the object of a message with these members.
 fn joined(alloc: Global, message: &Message<'_>, parts: Parts<'_>) -> Result<Value, AllocError>
     ensures { IfOk result (λ value. view value ≡ joined_data message.now (view parts.entry.end.now) (view parts.entry.hint.now) (view parts.entry.owner.now)
         (view parts.entry.name.now) (view parts.entry.start.now)) }
@@ -81,7 +81,7 @@ fn joined(alloc: Global, message: &Message<'_>, parts: Parts<'_>) -> Result<Valu
     })
 }
 
-/// A message as an object.
+/// Returns a message as an object.
 fn message_value(alloc: Global, message: &Message<'_>) -> Result<Value, AllocError>
     ensures { IfOk result (λ value. view value ≡ message_data message.now) }
 {
@@ -100,7 +100,7 @@ fn message_value(alloc: Global, message: &Message<'_>) -> Result<Value, AllocErr
     joined(alloc, message, parts)
 }
 
-/// The counts as an object.
+/// Returns the counts as an object.
 fn counts_value(alloc: Global, errors: usize, skipped: usize) -> Result<Value, AllocError>
     ensures { IfOk result (λ value. view value ≡ counts_data errors skipped) }
 {
@@ -109,7 +109,7 @@ fn counts_value(alloc: Global, errors: usize, skipped: usize) -> Result<Value, A
     json!(in alloc; {"errors": errors, "level": "end", "skipped": skipped})
 }
 
-/// A value on a line of its own.
+/// Returns a value as a line.
 fn line_of(alloc: Global, value: &Value) -> Result<String, AllocError>
     requires { has_float (view value.now) ≡ false }
     ensures { IfOk result (λ text. string_bytes text ≡ compact_text (view value.now) ++ codes "\n") }
@@ -119,7 +119,7 @@ fn line_of(alloc: Global, value: &Value) -> Result<String, AllocError>
     Ok(line)
 }
 
-/// A message as a JSON object, with a line end behind it.
+/// Returns a message as a JSON object and a line end.
 pub fn message_line(alloc: Global, message: &Message<'_>) -> Result<String, AllocError>
     ensures { IfOk result (λ text. string_bytes text ≡ message_text message.now) }
 {
@@ -127,7 +127,7 @@ pub fn message_line(alloc: Global, message: &Message<'_>) -> Result<String, Allo
     line_of(alloc, &value)
 }
 
-/// How many errors were told and how many modules are skipped, as a JSON object with a line end behind it.
+/// Returns the numbers of reported errors and of skipped modules as a JSON object and a line end.
 pub fn counts_line(alloc: Global, errors: usize, skipped: usize) -> Result<String, AllocError>
     ensures { IfOk result (λ text. string_bytes text ≡ counts_text errors skipped) }
 {

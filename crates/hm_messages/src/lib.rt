@@ -1,4 +1,4 @@
-//! Messages that an editor can jump to: a file, a place in it, what is wrong there in plain words, and the line of the source.
+//! Writes messages that editors can jump to: a file, a place in it, what is wrong in plain words, and the line of the source.
 #![tactic(auto)]
 
 mod counts;

@@ -1,11 +1,11 @@
-//! Modules of two parts of the sources as those of one.
+//! Joins the modules of two parts of the sources.
 ghost use Rattle.std.specs.Prelude.{ℕ, List, IfErr, IfOk};
 ghost use Rattle.hm_sources.specs.Parts.{FailsBehind, Follow};
 
 use hm_sources::SetError;
 use hm_syntax::Module;
 
-/// The modules of a part and of the part behind it, or why there are none: for the first part's reason, if it has one.
+/// Returns the modules of a part and of the next part. If both have a fault, returns that of the first.
 pub(crate) fn joined(
     first: Result<Vec<Module>, SetError>,
     later: Result<Vec<Module>, SetError>,

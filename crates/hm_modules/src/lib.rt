@@ -1,5 +1,6 @@
-//! The modules of a set of sources and their plan. Parts of the sources are lexed and parsed side by side, each by a thread of its own; of a
-//! source that is the only one the tokens are parsed so.
+//! Makes the modules of a set of sources and their plan with several threads.
+//!
+//! Each thread lexes and parses a part of the sources. If there is only one source, each thread parses a run of its tokens.
 #![tactic(auto)]
 
 mod joining;

@@ -1,4 +1,4 @@
-//! Modules that are made side by side.
+//! Makes modules in parallel.
 ghost use Rattle.std.specs.Prelude.{◌≡◌, ◌<◌, ◌≤◌, IfErr, IfOk, length, map, take};
 ghost use Rattle.hm_graph.specs.Imports.{IsImportPlan, IsLawful};
 ghost use Rattle.hm_sources.specs.Errors.{IsPlanError, IsSetError};
@@ -19,7 +19,7 @@ use std::sync::Wait;
 use std::thread;
 use std::thread::{Scope, Threads};
 
-/// The modules of a part, by this thread.
+/// Returns the modules of a part, made on this thread.
 fn made(alloc: Global, part: Part<'_>) -> Result<Vec<Module>, SetError>
     requires from { part.from ≤ part.to }
     requires to { part.to ≤ length part.sources.now }
@@ -30,8 +30,8 @@ fn made(alloc: Global, part: Part<'_>) -> Result<Vec<Module>, SetError>
     modules_between(alloc, part.sources, part.from, part.to)
 }
 
-/// The modules of the rest of the sources. A part of so many bytes at its front is another thread's, where one can be started, while this one goes on
-/// behind it.
+/// Returns the modules of the rest of the sources. Gives a part of at least this many bytes to another thread, if one can start, while this
+/// thread goes on after it.
 fn made_by_threads<'s, E, R: Threads>(
     rt: &R,
     scope: &Scope<'s, E>,
@@ -76,7 +76,7 @@ fn made_by_threads<'s, E, R: Threads>(
     }
 }
 
-/// All modules of the sources, in order of appearance, in as many parts as there are threads.
+/// Returns all modules of the sources, in order of appearance. Makes at most one part for each thread.
 fn made_of_all<'s, E, R: Threads>(
     rt: &R,
     scope: &Scope<'s, E>,
@@ -97,7 +97,7 @@ fn made_of_all<'s, E, R: Threads>(
     made_by_threads(rt, scope, alloc, rest, bytes)
 }
 
-/// All modules of several sources, in order of appearance, made by a pool. This thread is one of its threads.
+/// Returns all modules of several sources, in order of appearance, made by a pool. This thread is one of its threads.
 fn modules_of_all<T: Threads + Wait + Sync>(
     rt: &T,
     alloc: Global,
@@ -117,7 +117,8 @@ fn modules_of_all<T: Threads + Wait + Sync>(
     )
 }
 
-/// All modules of the sources, in order of appearance, made by a pool: of several sources each by one thread, of one alone by all.
+/// Returns all modules of the sources, in order of appearance, made by a pool. Several sources are divided between threads, a single one is cut
+/// into runs.
 fn source_modules<T: Threads + Wait + Sync>(
     rt: &T,
     alloc: Global,
@@ -134,7 +135,7 @@ fn source_modules<T: Threads + Wait + Sync>(
     }
 }
 
-/// The modules and the plan of a set of sources, made by a pool, or by as many of its threads as can be started.
+/// Returns the modules and the plan of a set of sources, made by a pool, or by as many of its threads as can start.
 pub fn set_modules_by<T: Threads + Wait + Sync>(
     rt: &T,
     alloc: Global,

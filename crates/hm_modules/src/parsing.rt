@@ -1,4 +1,4 @@
-//! The modules of one source, whose tokens several threads parse.
+//! Parses the tokens of one source with several threads.
 ghost use Rattle.std.specs.Prelude.{◌≡◌, ◌<◌, ◌≤◌, All, IfErr, IfOk, IfSome, length};
 ghost use Rattle.hm_lex.specs.Faults.{AreTokensOf};
 ghost use Rattle.hm_lex.specs.Texts.{LiesIn};
@@ -19,7 +19,7 @@ use std::sync::Wait;
 use std::thread;
 use std::thread::{Scope, Threads};
 
-/// The modules of a run, by this thread.
+/// Returns the modules of a run, parsed on this thread.
 fn parsed(alloc: Global, run: Run<'_>) -> Result<Option<Vec<Module>>, AllocError>
     requires { All (LiesIn run.text.now) run.tokens.now }
     ensures { IfOk result (λ found. IfSome found (λ modules. Spells modules.items run.entry.text.now run.entry.tokens.now)) }
@@ -27,8 +27,8 @@ fn parsed(alloc: Global, run: Run<'_>) -> Result<Option<Vec<Module>>, AllocError
     parse_run(alloc, run.text, run.tokens)
 }
 
-/// The modules of the rest of the tokens. A run of at least so many at its front is another thread's, where one can be started, while this one
-/// goes on behind it.
+/// Returns the modules of the rest of the tokens. Gives a run of at least `least` tokens to another thread, if one can start, while this
+/// thread goes on after it.
 fn parsed_by_threads<'s, E, R: Threads>(
     rt: &R,
     scope: &Scope<'s, E>,
@@ -66,7 +66,7 @@ fn parsed_by_threads<'s, E, R: Threads>(
     }
 }
 
-/// The modules that the tokens of a source spell, cut into as many runs as there are threads; none if a run spells none.
+/// Returns the modules that the tokens of a source spell, parsed in at most one run for each thread. Returns `None` if a run spells no modules.
 fn parsed_in_runs<T: Threads + Wait + Sync>(
     rt: &T,
     alloc: Global,
@@ -96,8 +96,8 @@ fn parsed_in_runs<T: Threads + Wait + Sync>(
     )
 }
 
-/// The modules of the only source of a set. Where a run spells none, as one does that a fault stands in, all tokens are parsed by this thread, so
-/// what is told of a fault is what `parse` tells.
+/// Returns the modules of the only source of a set. If a run spells no modules, for example because of a fault in it, this thread parses all
+/// tokens. So a fault is the one that `parse` returns.
 pub(crate) fn modules_of<T: Threads + Wait + Sync>(
     rt: &T,
     alloc: Global,

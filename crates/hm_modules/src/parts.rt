@@ -5,17 +5,17 @@ use hm_sources::SetError;
 use hm_syntax::Module;
 use std::thread::Promise;
 
-/// Some of the sources, from this number up to that one. They are counted from 0.
+/// The sources `from..to` of a set, numbered from 0.
 #[derive(Clone, Copy)]
 pub(crate) struct Part<'a> {
     pub sources: &'a [Vec<u8>],
     pub from: usize,
     pub to: usize,
-    /// How many bytes of stack a thread has that makes modules of them.
+    /// The bytes of stack for a thread that makes their modules.
     pub stack: usize,
 }
 
-/// What a thread promises of the modules of a part.
+/// What a thread promises about the modules of a part.
 impl<'a> Promise<Result<Vec<Module>, SetError>> for Part<'a> {
     ghost use Rattle.std.specs.Prelude.{IfErr, IfOk, map, take};
     ghost use Rattle.hm_sources.specs.Parts.{FailsBehind, Follow};
@@ -23,7 +23,7 @@ impl<'a> Promise<Result<Vec<Module>, SetError>> for Part<'a> {
     ghost kept_by = { λ p r. IfOk r (λ modules. Follow (map (λ s. s.items) (take p.from p.sources.now)) (map (λ s. s.items) (take p.to p.sources.now)) modules.items) × IfErr r (FailsBehind (map (λ s. s.items) p.sources.now) (map (λ s. s.items) (take p.from p.sources.now))) };
 }
 
-/// Where a part ends that begins at this source and has so many bytes: behind the last source, if it has fewer.
+/// Returns the end of a part that begins at this source and has at least this many bytes, or the number of sources if too few are left.
 pub(crate) fn part_end(sources: &[Vec<u8>], from: usize, bytes: usize) -> usize
     requires { from < length sources.now }
     ensures some { from < result }
@@ -39,7 +39,7 @@ pub(crate) fn part_end(sources: &[Vec<u8>], from: usize, bytes: usize) -> usize
     sources.len()
 }
 
-/// How many bytes a part has at least, if it isn't the last, so that there are no more than so many parts.
+/// Returns the least number of bytes of a part, for at most `parts` parts. Only the last part may have fewer.
 pub(crate) fn bytes_of_part(sources: &[Vec<u8>], parts: usize) -> usize {
     let mut all: usize = 0;
     for source in sources {

@@ -1,6 +1,6 @@
 //! The threads that make modules.
 
-/// So many threads, the caller's among them, each with so many bytes of stack.
+/// The number of threads, including the caller's, and the bytes of stack of each.
 #[derive(Clone, Copy, Debug, PartialEq, Eq)]
 pub struct Pool {
     pub threads: usize,

@@ -1,4 +1,4 @@
-//! Runs of the tokens of a source, each of which is to spell some of its modules.
+//! Runs of the tokens of a source. Each should spell some of its modules.
 ghost use Rattle.std.specs.Prelude.{◌≡◌, ◌++◌, ◌<◌, ◌≤◌, ℕ, List, All, IfOk, IfSome, length};
 ghost use Rattle.hm_lex.specs.Texts.{LiesIn};
 ghost use Rattle.hm_lex.specs.declared.token.Token.{Token as SourceToken};
@@ -10,16 +10,16 @@ use hm_syntax::Module;
 use std::alloc::AllocError;
 use std::thread::Promise;
 
-/// Some of the tokens of a source, one behind the other.
+/// Consecutive tokens of a source.
 #[derive(Clone, Copy)]
 pub(crate) struct Run<'a> {
     pub text: &'a [u8],
     pub tokens: &'a [Token],
-    /// How many bytes of stack a thread has that parses it.
+    /// The bytes of stack for a thread that parses them.
     pub stack: usize,
 }
 
-/// What a thread promises of the modules of a run.
+/// What a thread promises about the modules of a run.
 impl<'a> Promise<Result<Option<Vec<Module>>, AllocError>> for Run<'a> {
     ghost use Rattle.std.specs.Prelude.{IfOk, IfSome};
     ghost use Rattle.hm_grammar.specs.Grammar.Modules.{Spells};
@@ -27,7 +27,7 @@ impl<'a> Promise<Result<Option<Vec<Module>>, AllocError>> for Run<'a> {
     ghost kept_by = { λ p r. IfOk r (λ found. IfSome found (λ modules. Spells modules.items p.text.now p.tokens.now)) };
 }
 
-/// Whether a module may begin with a token that stands behind another one: both are so where a module has ended.
+/// Returns whether a module may begin at a token: it is `module`, and a `}` is before it. True wherever a module has ended.
 fn may_begin(text: &[u8], before: &Token, token: &Token) -> bool
     requires before { LiesIn text.now before.now }
     requires token { LiesIn text.now token.now }
@@ -36,7 +36,7 @@ fn may_begin(text: &[u8], before: &Token, token: &Token) -> bool
         && symbol_of(token.kind, text_of(text, token)).is(Symbol::Module)
 }
 
-/// Where a run ends that has at least so many tokens: before the next module, or behind the last token.
+/// Returns the end of a run of at least `least` tokens: before the next module, or after the last token.
 pub(crate) fn run_end(run: Run<'_>, least: usize) -> usize
     requires { All (LiesIn run.text.now) run.tokens.now }
     ensures some { result < length run.entry.tokens.now → 0 < result }
@@ -50,7 +50,7 @@ pub(crate) fn run_end(run: Run<'_>, least: usize) -> usize
     run.tokens.len()
 }
 
-/// The modules of a run and of the run behind it, if both have some.
+/// Returns the modules of a run and of the next run, if both spell modules.
 pub(crate) fn joined_runs(
     first: Result<Option<Vec<Module>>, AllocError>,
     later: Result<Option<Vec<Module>>, AllocError>,

@@ -1,4 +1,4 @@
-//! What a core assumes of the variables that it imports (Haskell 98 Report, section 5.3).
+//! The schemes of the variables that a core imports (Haskell 98 Report, section 5.3).
 
 ghost use Rattle.std.specs.Prelude.{◌≡◌, IfOk, OnOk, map};
 ghost use Rattle.std.specs.Arc.{arc_value};
@@ -14,7 +14,7 @@ use hm_types::{Interface, ValueEntry};
 use std::alloc::{AllocError, Global};
 use std::sync::Arc;
 
-/// Assumes its scheme of a variable.
+/// Binds a variable to its scheme.
 fn assume_value<'a>(
     environment: &mut Environment<'a>,
     entry: &'a ValueEntry,
@@ -27,7 +27,7 @@ fn assume_value<'a>(
     Ok(())
 }
 
-/// Assumes their schemes of variables, the first inside all others.
+/// Binds variables to their schemes. The first entry is the innermost.
 fn assume_values<'a>(
     environment: &mut Environment<'a>,
     values: &'a [ValueEntry],
@@ -42,8 +42,8 @@ fn assume_values<'a>(
     Ok(())
 }
 
-/// What is assumed of the variables that interfaces export. Of the entries of an entity the first
-/// counts.
+/// Returns an environment with the variables that interfaces export. If an entity has several
+/// entries, the first counts.
 pub fn imported_environment<'a>(
     alloc: Global,
     interfaces: &'a [Arc<Interface>],

@@ -16,7 +16,7 @@ use hm_types::{ConstructorEntry, Interface, Text};
 use std::alloc::{AllocError, Global};
 use std::sync::Arc;
 
-/// A type that a module declares: the module's name, its own, and its parameters.
+/// A declared type: the name of its module, its own name, and its parameters.
 #[derive(Clone, Copy)]
 struct Owner<'d, 'a> {
     home: &'a Text,
@@ -24,7 +24,7 @@ struct Owner<'d, 'a> {
     params: &'d [Name],
 }
 
-/// Adds a constructor of a type that is declared.
+/// Adds a constructor of a declared type.
 fn add_constructor<'a>(
     alloc: Global,
     entries: &mut Vec<Entry<'a>>,
@@ -44,7 +44,7 @@ fn add_constructor<'a>(
     Ok(())
 }
 
-/// Adds the constructors of a type that is declared.
+/// Adds the constructors of a declared type.
 fn add_constructors<'a>(
     alloc: Global,
     entries: &mut Vec<Entry<'a>>,
@@ -142,7 +142,7 @@ fn add_imported<'a>(
     Ok(())
 }
 
-/// The constructors of a core, those that it declares before those of its interfaces.
+/// Returns the constructors of a core: those that it declares, then those of its interfaces.
 pub fn known_constructors<'a>(alloc: Global, core: &'a Core) -> Result<Constructors<'a>, AllocError>
     requires { IsSomeCore core.now }
     ensures { IfOk result (λ constructors. known_of constructors ≡ known core.now) }

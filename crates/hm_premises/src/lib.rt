@@ -1,5 +1,5 @@
-//! What a core's inference begins with: the schemes of the variables that it imports, and of the constructors that it declares and imports
-//! (Haskell 98 Report, sections 4.2.1, 4.2.3 and 5.3).
+//! The start of a core's inference: the schemes of imported variables, and those of declared and imported constructors (Haskell 98 Report,
+//! sections 4.2.1, 4.2.3 and 5.3).
 #![tactic(auto)]
 
 mod assuming;

@@ -11,7 +11,7 @@ has_number n table = is_some (get nat_eq table n)
 abbrev pub IsAnswered : {S : Type 0} → Bool → ℕ → HashMap ℕ ℕ S → Type 0
 IsAnswered b n table = b ≡ has_number n table
 
--- whether the variable is there
+-- whether the variable was added
 abbrev pub has_leaf : Collected → Leaf → Bool
 has_leaf c (var n) = has_number n c.plain
 has_leaf c (rigid n) = has_number n c.rigid
@@ -23,12 +23,12 @@ pub record IsNumbered (c : Collected) : Type 0 where
   pub plain_places : Numbers c.plain plain
   pub rigid_places : Numbers c.rigid rigid
 
--- the number was added to those that are there
+-- the number was added to the table
 pub record Adds {S : Type 0} (n : ℕ) (before after : HashMap ℕ ℕ S) : Type 0 where
   pub numbered : (xs : List ℕ) → Numbers before xs → (ys : List ℕ) × Numbers after ys
   pub has : (m : ℕ) → (has_number m after ≡ true) ↔ ((has_number m before ≡ true) ⊎ (m ≡ n))
 
--- the variables that have P were added to those that are there
+-- the variables for which P holds were added
 pub record Gathers (P : Leaf → Type 0) (before after : Collected) : Type 0 where
   pub numbered : IsNumbered before → IsNumbered after
   pub has : (l : Leaf) → (has_leaf after l ≡ true) ↔ ((has_leaf before l ≡ true) ⊎ P l)

@@ -1,4 +1,5 @@
--- Whether rigid variables escape from what they were given for: one does that occurs in the value of an older variable (Damas and Milner 1982, section 5: a declared type's variables aren't free in the assumptions). Only the inference cites it.
+-- Rigid variables that escape: those in the value of an older variable (Damas and Milner 1982, section 5: the variables of a declared type aren't
+-- free in the assumptions). Only inference cites this.
 use Rattle.std.specs.Prelude.{ℕ, ◌+◌, ◌<◌, Result, Ok, Err}
 use Rattle.hm_types.specs.Monotypes.{rigid}
 use Rattle.hm_typing.specs.Problems.{MostGeneralUnifier}
@@ -9,11 +10,11 @@ use Rattle.hm_unify.specs.declared.faults.UnifyFault.TheVariants.{Clash, Memory}
 use Rattle.hm_schemes.specs.Generalisations.{IsSolution}
 use Rattle.hm_assumptions.specs.Problems.{problem}
 
--- rigid variable i, from the first on, occurs in the value of one that was given before them
+-- a rigid variable from number i on occurs in the value of a variable that was given before them
 abbrev pub Escapes : ℕ → Solving → ℕ → Type 0
 Escapes first s i = IsOuter s.equations first (rigid (first + i))
 
--- Ok: none of so many escapes. Clash: one does
+-- Ok: none of n rigid variables escapes. Clash: one does
 abbrev pub TellsEscape : {X : Type 0} → ℕ → ℕ → Solving → Result X UnifyFault → Type 0
 TellsEscape first count s (Ok x) = (m : MostGeneralUnifier (problem s)) × (IsSolution s.equations m.map × ((i : ℕ) → i < count → ¬ (Escapes first s i)))
 TellsEscape first count s (Err Clash) = (m : MostGeneralUnifier (problem s)) × (IsSolution s.equations m.map × ((i : ℕ) × ((i < count) × Escapes first s i)))

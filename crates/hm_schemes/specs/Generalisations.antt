@@ -10,19 +10,19 @@ use Rattle.hm_typing.specs.Schemes.{Monotype, Scheme, SchemeVariable, Free, Quan
 use Rattle.hm_typing.specs.Assumptions.{Assumptions, FreeIn}
 use Rattle.hm_typing.specs.Generalisation.{quantify}
 
--- m puts for each variable what the solution of the equations puts for it
+-- m gives each variable its value under the solution of the equations
 abbrev pub IsSolution : List Equation → (ℕ → Monotype) → Type 0
 IsSolution es m = (n : ℕ) → (m (number (var n)) ≡ monotype (solution es n)) × (m (number (rigid n)) ≡ Var (number (rigid n)))
 
--- of the variables of t those are kept that are free in A
+-- the kept variables of t are those that are free in A
 abbrev pub Keeps : (Leaf → Bool) → Mono → Assumptions → Type 0
 Keeps kept t A = (l : Leaf) → In l t → (kept l ≡ true) ↔ FreeIn (number l) A
 
--- so it is for the values of the variables that are the types of some nodes
+-- the same for the values of the type variables of these nodes
 abbrev pub KeepsEach : (Leaf → Bool) → List Equation → List ℕ → List ℕ → Assumptions → Type 0
 KeepsEach kept es types nodes A = (j : ℕ) → IsOneOf j nodes → Keeps kept (solution es (slice_index_or types j 0)) A
 
--- none is kept of the variables of these
+-- no variable in the values of these is kept
 abbrev pub KeepsNone : (Leaf → Bool) → List Equation → List ℕ → List ℕ → Type 0
 KeepsNone kept es types nodes = (j : ℕ) → IsOneOf j nodes → (l : Leaf) → In l (solution es (slice_index_or types j 0)) → kept l ≡ false
 
@@ -31,7 +31,7 @@ abbrev pub renumbered : (ℕ → ℕ) → SchemeVariable → Scheme
 renumbered slots (Free a) = Var (Free a)
 renumbered slots (Quantified a) = Var (Quantified (slots a))
 
--- σ is the closure of t under A: `back` undoes the numbering
+-- σ is the closure of t under A. `back` is the inverse of the numbering
 pub record IsGeneralisation (A : Assumptions) (t : Monotype) (σ : Scheme) : Type 0 where
   pub slots : ℕ → ℕ
   pub back : ℕ → ℕ

@@ -1,4 +1,4 @@
-//! The variables that occur in types.
+//! Collects the variables that occur in types.
 
 ghost use Rattle.std.specs.Prelude.{◌≡◌, ℕ, List, IfOk, OnOk, true};
 ghost use Rattle.hm_types.specs.Monotypes.{Leaf, var, rigid};
@@ -12,14 +12,14 @@ use hm_types::Ty;
 use std::alloc::{AllocError, Global};
 use std::collections::HashMap;
 
-/// Variables, and rigid ones, each with its place among those of its kind.
+/// Variables and rigid variables, each with its place among those of its kind.
 #[derive(Drop)]
 pub(crate) struct Collected {
     pub plain: HashMap<usize, usize>,
     pub rigid: HashMap<usize, usize>,
 }
 
-/// No variables.
+/// Returns an empty collection.
 pub(crate) fn none_collected(alloc: Global) -> Collected
     ensures numbered { IsNumbered result }
     ensures empty { (l : Leaf) → ¬ (has_leaf result l ≡ true) }
@@ -30,7 +30,7 @@ pub(crate) fn none_collected(alloc: Global) -> Collected
     }
 }
 
-/// Adds a number, unless it is there.
+/// Adds a number, unless it was added before.
 fn see(places: &mut HashMap<usize, usize>, n: usize) -> Result<(), AllocError>
     ensures { OnOk result (Adds n places.old places.new) }
 {
@@ -74,14 +74,14 @@ pub(crate) fn collect(seen: &mut Collected, t: &Ty) -> Result<(), AllocError>
     Ok(())
 }
 
-/// Whether a number is there.
+/// Returns whether a number was added.
 pub(crate) fn has_number(places: &HashMap<usize, usize>, n: usize) -> bool
     ensures { IsAnswered result n places.now }
 {
     places.contains_key(&n)
 }
 
-/// The place of a number, or how many there are.
+/// Returns the place of a number, or the count if it wasn't added.
 pub(crate) fn place_of(places: &HashMap<usize, usize>, n: usize) -> usize
     ensures { (xs : List ℕ) → Numbers places.now xs → result ≡ place n xs }
 {

@@ -1,4 +1,4 @@
-//! Declared types (Haskell 98 Report, sections 3.16 and 4.4.1) in the inference of types.
+//! Declared types in inference (Haskell 98 Report, sections 3.16 and 4.4.1).
 
 ghost use Rattle.std.specs.Prelude.{◌≡◌, ◌<◌, ◌+◌, ◌^◌, IfErr, IfOk, OnOk};
 ghost use Rattle.hm_types.specs.Shape.{type_of};
@@ -19,7 +19,7 @@ use hm_types::Ty;
 use hm_unify::{Solver, UnifyFault};
 use std::alloc::{AllocError, Global};
 
-/// The type that is declared.
+/// Returns the declared type for a type of a core.
 pub fn declare(alloc: Global, ty: &TypeExpr) -> Result<DeclaredType, AllocError>
     ensures body { IfOk result (λ d. monotype_of (type_of d.body) ≡ declared_type ty.now) }
     ensures given { IfOk result (λ d. IsWellFormed d.count (type_of d.body)) }
@@ -34,7 +34,7 @@ pub struct RigidType {
     pub first: usize,
 }
 
-/// Takes the variables of a declared type as rigid ones that were not given before.
+/// Replaces the variables of a declared type by new rigid variables.
 pub fn with_rigid_variables(
     alloc: Global,
     solver: &mut Solver,
@@ -56,7 +56,7 @@ pub fn with_rigid_variables(
     Ok(RigidType { body, first })
 }
 
-/// Makes a type equal to an instance of a declared type.
+/// Equates a type with an instance of a declared type.
 pub fn check_instance(
     alloc: Global,
     solver: &mut Solver,

@@ -1,11 +1,11 @@
-//! Rigid variables that escape from what they were given for.
+//! Rigid variables that escape from their declared type.
 
 ghost use Rattle.std.specs.Prelude.{◌≡◌, ◌<◌, ◌+◌, ◌^◌, ℕ, true, false};
 ghost use Rattle.hm_schemes.specs.Escapes.{Escapes, TellsEscape};
 
 use hm_unify::{Solver, UnifyFault};
 
-/// Whether one of the rigid variables from `first` on, so many, is in the value of an older one.
+/// Returns whether one of the `count` rigid variables from `first` on is in the value of an older variable.
 fn has_escaped(solver: &Solver, first: usize, count: usize) -> bool
     requires fits { first + count < 2 ^ 64 }
     ensures escaped { result ≡ true → (i : ℕ) × ((i < count) × Escapes first solver.now i) }
@@ -19,7 +19,7 @@ fn has_escaped(solver: &Solver, first: usize, count: usize) -> bool
     false
 }
 
-/// Refuses rigid variables that escape: those from `first` on, so many.
+/// Returns `Clash` if one of the `count` rigid variables from `first` on escapes.
 pub fn forbid_escape(solver: &Solver, first: usize, count: usize) -> Result<(), UnifyFault>
     requires fits { first + count < 2 ^ 64 }
     ensures { TellsEscape first count solver.now result }

@@ -1,4 +1,4 @@
-//! Types are generalised to schemes (Damas and Milner 1982, section 5; Haskell 98 Report, section 4.5.2).
+//! Generalises types to schemes (Damas and Milner 1982, section 5; Haskell 98 Report, section 4.5.2).
 
 ghost use Rattle.std.specs.Prelude.{◌≡◌, ℕ, List, ◌+◌, length, true, IfOk, OnOk};
 ghost use Rattle.hm_types.specs.Shape.{type_of};
@@ -21,7 +21,7 @@ use hm_types::{Ty, Types};
 use hm_unify::Solver;
 use std::alloc::{AllocError, Global};
 
-/// The sum, if it is a number.
+/// Returns the sum, unless it overflows.
 fn sum(a: usize, b: usize) -> Result<usize, AllocError>
     ensures { IfOk result (λ c. c ≡ a + b) }
 {
@@ -31,15 +31,15 @@ fn sum(a: usize, b: usize) -> Result<usize, AllocError>
     Ok(a + b)
 }
 
-/// The slot of a rigid variable: these come after the others.
+/// Returns the slot of a rigid variable. These come after the others.
 fn rigid_slot(slots: &Collected, n: usize) -> Result<usize, AllocError>
     ensures { IfOk result (λ k. (xs ys : List ℕ) → Numbers slots.now.plain xs → Numbers slots.now.rigid ys → k ≡ place n ys + length xs) }
 {
     sum(place_of(&slots.rigid, n), slots.plain.len())
 }
 
-/// What is quantified in the body of a scheme: so many variables, those that have slots, but for
-/// those that are in the values of the first `older`.
+/// The quantified variables of a scheme: `count` variables that have slots, without those in the
+/// values of the first `older` variables.
 #[derive(Clone, Copy)]
 struct Quantified<'q> {
     solver: &'q Solver,
@@ -48,7 +48,7 @@ struct Quantified<'q> {
     count: usize,
 }
 
-/// A type as the body of a scheme that quantifies these variables.
+/// Returns a type as the body of a scheme that quantifies these variables.
 fn close(alloc: Global, quantified: &Quantified<'_>, t: &Ty) -> Result<Ty, AllocError>
     ensures { IfOk result (λ u. (xs ys : List ℕ) → Numbers quantified.now.slots.now.plain xs → Numbers quantified.now.slots.now.rigid ys
         → type_of u ≡ put (λ l. leaf (closing (is_outer quantified.now.solver.now.equations quantified.now.older) quantified.now.count xs ys l))
@@ -78,16 +78,16 @@ fn close(alloc: Global, quantified: &Quantified<'_>, t: &Ty) -> Result<Ty, Alloc
     }
 }
 
-/// A scheme: the variables of `body` below `quantified` are quantified, and each other one stands
-/// for the variable whose number is less by as much.
+/// A scheme. The variables of `body` below `quantified` are quantified; each other number is that
+/// of a free variable plus `quantified`.
 #[derive(Drop)]
 pub struct Generalised {
     pub quantified: usize,
     pub body: Ty,
 }
 
-/// The scheme of a type, with what the solver knows put for its variables. Those that are in the
-/// values of the first `older` stay free.
+/// Returns the scheme of a type under the solution. Variables in the values of the first `older`
+/// variables stay free.
 pub fn generalise(
     alloc: Global,
     solver: &Solver,

@@ -1,4 +1,5 @@
-//! Schemes: types are generalised, declared types are taken with rigid variables or as schemes, and rigid variables may not escape (Damas and Milner 1982, section 5; Haskell 98 Report, sections 4.4.1 and 4.5.2).
+//! Generalises types to schemes, makes declared types rigid or instantiates them, and forbids rigid variables to escape (Damas and Milner 1982,
+//! section 5; Haskell 98 Report, sections 4.4.1 and 4.5.2).
 #![tactic(auto)]
 
 mod collecting;

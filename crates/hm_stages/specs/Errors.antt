@@ -1,4 +1,4 @@
--- Why there is no build, as the crate's own functions say it.
+-- Why a build fails, for the crate's own functions.
 use Rattle.std.specs.Prelude.{ℕ, ◌<◌, List, length}
 use Rattle.hm_syntax.specs.declared.ast.Module.{Module}
 use Rattle.hm_shared.specs.declared.dealing.SharedFault.{SharedFault}
@@ -12,7 +12,7 @@ use Rattle.hm_stages.specs.declared.faults.BuildFault.TheVariants as build
 abbrev pub IsModuleOf : List (List ℕ) → ℕ → Type 0
 IsModuleOf sources m = (modules : List Module) × AreModulesOf sources modules × (m < length modules)
 
--- why there is no build of the modules of sources: refused sources have this fault
+-- why a build of the modules of sources fails. For refused sources this is their fault
 abbrev pub IsBuildFault : List (List ℕ) → BuildFault → Type 0
 IsBuildFault sources (build.Refused fault) = IsRefusalOf sources fault
 IsBuildFault sources build.Workers = Unit {0}
@@ -21,7 +21,7 @@ IsBuildFault sources build.Memory = Unit {0}
 IsBuildFault sources (build.Exhausted m) = IsModuleOf sources m
 IsBuildFault sources build.Mixed = Unit {0}
 
--- the same, where the workers are not too few or too many
+-- the same, if the number of workers is allowed
 abbrev pub IsBuildError : List (List ℕ) → BuildFault → Type 0
 IsBuildError sources (build.Refused fault) = IsRefusalOf sources fault
 IsBuildError sources build.Workers = ⊥
@@ -30,7 +30,7 @@ IsBuildError sources build.Memory = Unit {0}
 IsBuildError sources (build.Exhausted m) = IsModuleOf sources m
 IsBuildError sources build.Mixed = Unit {0}
 
--- why there is no build where its store can't be shared
+-- why a build fails if its store can't be shared
 abbrev pub build_fault_of : SharedFault → BuildFault
 build_fault_of shared.Memory = build.Memory
 build_fault_of shared.NoReader = build.NoWorker

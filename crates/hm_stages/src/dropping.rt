@@ -1,4 +1,4 @@
-//! The trees of a build are dropped by as many threads as checked them.
+//! Drops the trees of a build by several threads.
 
 use crate::Finished;
 use crate::setting_up::lend_all;
@@ -7,7 +7,7 @@ use std::sync::Wait;
 use std::thread;
 use std::thread::{Builder, Threads};
 
-/// Drops these values: a part of them by each thread that can be started, and what is left by this one.
+/// Drops these values: each thread that can be started drops a part, and this thread the rest.
 fn drop_in_parts<T: Drop + Send, R: Threads + Wait + Sync>(
     rt: &R,
     alloc: Global,
@@ -37,7 +37,7 @@ fn drop_in_parts<T: Drop + Send, R: Threads + Wait + Sync>(
     })
 }
 
-/// Drops a build, its trees by so many threads with stacks of this size. Where there is no memory for that, this thread drops all.
+/// Drops a build. Up to `threads` threads with stacks of this size drop its trees. If memory runs out, this thread drops all.
 pub fn drop_by_threads<R: Threads + Wait + Sync>(
     rt: &R,
     alloc: Global,

@@ -1,10 +1,10 @@
-//! Why there is no build.
+//! Why a build fails.
 use hm_shared::SharedFault;
 use hm_sources::SetFault;
 use std::alloc::AllocError;
 use thiserror::Error;
 
-/// Why there is no build.
+/// Why a build fails.
 #[derive(Debug, Drop, Error)]
 pub enum BuildFault {
     /// The sources spell no lawful set of modules.
@@ -12,15 +12,15 @@ pub enum BuildFault {
     Refused(SetFault),
     #[error("workers not 1 to 16")]
     Workers,
-    /// No thread could be started, or no reader was made for a worker.
+    /// No thread could start, or a worker got no reader of the published interfaces.
     #[error("no worker")]
     NoWorker,
     #[error("no memory")]
     Memory,
-    /// There was no memory to check the module with this number. Modules count from 0, in order of appearance.
+    /// Memory ran out in the check of the module with this number. Modules are numbered from 0, in order of appearance.
     #[error("no memory for a module")]
     Exhausted(usize),
-    /// The workers don't agree with the store or with one another.
+    /// The workers contradict the store or each other.
     #[error("mixed")]
     Mixed,
 }

@@ -1,4 +1,4 @@
-//! A build that came to its end.
+//! Finished builds.
 ghost use Rattle.std.specs.Prelude.{◌≡◌, false, map};
 ghost use Rattle.std.specs.Arc.{arc_value};
 ghost use Rattle.hm_store.specs.Agreement.{Agree};
@@ -8,13 +8,13 @@ use hm_store::{Record, Store};
 use hm_syntax::Module;
 use std::sync::Arc;
 
-/// A build that came to its end. Its type keeps that each module is settled, that the build was not stopped, and that the records agree with
-/// the journal.
+/// A finished build. The type guarantees that each module is settled, that the build wasn't stopped, and that the records agree with the
+/// journal.
 #[derive(Drop)]
 pub struct Finished {
     /// The modules with their verdicts, and the journal.
     pub store: Store,
-    /// What each worker wrote down of its calls.
+    /// The record of each worker's calls.
     pub records: Vec<Record>,
     pub ghost settled: { IsAllSettled store },
     pub ghost running: { (state_of store).stopped ≡ false },
@@ -22,7 +22,7 @@ pub struct Finished {
 }
 
 impl Finished {
-    /// The modules of the sources, in order of appearance.
+    /// Returns the modules of the sources, in order of appearance.
     pub fn modules(&self) -> &[Arc<Module>]
         ensures { map arc_value result.now ≡ self.now.store.modules }
     {

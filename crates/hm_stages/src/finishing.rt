@@ -1,4 +1,4 @@
-//! What came of a build, once its workers are done.
+//! Ends a build after its workers.
 ghost use Rattle.std.specs.Prelude.{◌≡◌, ◌⊎◌, ℕ, List, IfErr, IfOk};
 ghost use Rattle.hm_reports.specs.FinishedBuilds.{IsFinished};
 ghost use Rattle.hm_sources.specs.SourceModules.{AreModulesOf};
@@ -8,7 +8,7 @@ use hm_reports::has_ended;
 use hm_store::{Record, Store};
 use std::alloc::Global;
 
-/// The build, where it ended and its records agree with its journal.
+/// Returns the build if it is complete and its records agree with its journal.
 pub fn finished(
     alloc: Global,
     store: Store,

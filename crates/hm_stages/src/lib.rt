@@ -1,5 +1,4 @@
-//! What a build is before its workers begin, and after they have ended: a store for the modules of sources, why there is none, a build that came to
-//! its end, its texts, and how its trees are dropped.
+//! Sets up and ends a build: its store, `BuildFault`, [`Finished`], its report and journal, and dropping its trees in parallel.
 #![tactic(auto)]
 
 mod dropping;

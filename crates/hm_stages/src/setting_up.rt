@@ -1,4 +1,4 @@
-//! Before the workers of a build begin: a store for the modules of sources, and the room for calls of a worker.
+//! Sets up a build: a store for the modules of sources, and the number of calls that a worker may make.
 ghost use Rattle.std.specs.Prelude.{◌≡◌, ◌^◌, [], IfErr, IfOk, map, min};
 ghost use Rattle.std.specs.Arc.{arc_value};
 ghost use Rattle.hm_graph.specs.Imports.{IsImportPlan, IsLawful};
@@ -18,17 +18,17 @@ use std::alloc::{AllocError, Global};
 use std::sync::{Arc, Wait};
 use std::thread::Threads;
 
-/// A set of modules that no worker has touched.
+/// A new store with its modules and Prelude's interface.
 #[derive(Drop)]
 pub struct Fresh {
     pub modules: Vec<Arc<Module>>,
-    /// The numbers of the modules that each imports, in order of first import.
+    /// For each module, the numbers of the modules that it imports, in order of first import.
     pub imports: Vec<Vec<usize>>,
     pub store: Store,
     pub prelude: SharedPrelude,
 }
 
-/// Modules that threads can share.
+/// Shares modules between threads.
 fn shared_modules(alloc: Global, modules: Vec<Module>) -> Result<Vec<Arc<Module>>, AllocError>
     ensures { IfOk result (λ shared. map arc_value shared.items ≡ modules.items) }
 {
@@ -39,7 +39,7 @@ fn shared_modules(alloc: Global, modules: Vec<Module>) -> Result<Vec<Arc<Module>
     Ok(shared)
 }
 
-/// The same modules once more. No tree is copied.
+/// Returns second owners of the modules. Copies no tree.
 pub(crate) fn lend_all(
     alloc: Global,
     modules: &[Arc<Module>],
@@ -53,7 +53,7 @@ pub(crate) fn lend_all(
     Ok(lent)
 }
 
-/// The numbers of the modules that each module imports.
+/// Returns for each module the numbers of the modules that it imports.
 fn import_rows(alloc: Global, plan: &Plan) -> Result<Vec<Vec<usize>>, AllocError>
     ensures { IfOk result (λ rows. map (λ row. row.items) rows.items ≡ plan.now) }
 {
@@ -64,7 +64,7 @@ fn import_rows(alloc: Global, plan: &Plan) -> Result<Vec<Vec<usize>>, AllocError
     Ok(rows)
 }
 
-/// A store for the modules of a lawful set.
+/// Returns a store for the modules of a lawful set.
 fn set_up(alloc: Global, modules: Vec<Module>, plan: Plan) -> Result<Fresh, AllocError>
     requires lawful { IsLawful (module_outlines modules.items) }
     requires planned { IsImportPlan (module_outlines modules.items) plan }
@@ -85,7 +85,7 @@ fn set_up(alloc: Global, modules: Vec<Module>, plan: Plan) -> Result<Fresh, Allo
     })
 }
 
-/// A store for the modules of sources, which a pool lexes and parses.
+/// Lexes and parses sources with a pool of threads, and returns a store for their modules.
 pub fn read<T: Threads + Wait + Sync>(
     rt: &T,
     alloc: Global,
@@ -105,7 +105,7 @@ pub fn read<T: Threads + Wait + Sync>(
     }
 }
 
-/// The calls that a worker may make, and no more than fit into memory.
+/// Returns the number of calls that a worker may make, at most 2^40.
 pub fn room_for(imports: &[Vec<usize>]) -> usize
     ensures { result ≡ min (room_of (map (λ row. row.items) imports.now)) (2 ^ 40) }
 {

@@ -1,4 +1,4 @@
-//! The texts of a build that came to its end.
+//! The texts of a finished build.
 ghost use Rattle.std.specs.Prelude.{◌≡◌, IfOk, string_bytes};
 ghost use Rattle.hm_verdicts.specs.Reports.{IsReport};
 ghost use Rattle.hm_store.specs.Builds.{set_of};
@@ -8,14 +8,14 @@ ghost use Rattle.hm_reports.specs.Journals.{journal_text as journal_bytes};
 use crate::Finished;
 use std::alloc::{AllocError, Global};
 
-/// The report of a build: a block for each module, ordered by name, and the counts.
+/// Returns the report of a build: a block for each module, ordered by name, and the counts.
 pub fn report(alloc: Global, finished: &Finished) -> Result<String, AllocError>
     ensures { IfOk result (λ text. IsReport (set_of finished.now.store) (settlement_in finished.now.store) (string_bytes text)) }
 {
     hm_reports::report(alloc, &finished.store)
 }
 
-/// The text of the journal of a build: a line for each entry, in order.
+/// Returns the text of the journal of a build: a line for each entry, in order.
 pub fn journal_text(alloc: Global, finished: &Finished) -> Result<String, AllocError>
     ensures { IfOk result (λ text. string_bytes text ≡ journal_bytes finished.now.store) }
 {

@@ -1,5 +1,5 @@
-//! What a module's scope is looked up in (Haskell 98 Report, section 5.5): the table of a scope, with its bindings and keys; sets of texts and of
-//! names; the entries of an interface by their names.
+//! Tables for look-ups in a module's scope (Haskell 98 Report, section 5.5): the scope's bindings by key, sets of texts and names, and the entries
+//! of an interface by name.
 #![tactic(auto)]
 
 mod bindings;

@@ -1,4 +1,4 @@
-//! What a run of the checker writes: the text and the status of a build or of a refusal, and the messages that explain it.
+//! Makes the output of a run: the text and the status of a build or of a refusal, and the messages that explain it.
 #![tactic(auto)]
 
 mod answers;

@@ -1,9 +1,9 @@
-//! The groups of a graph that is large.
+//! The groups of a large graph.
 
 use hm_graph::Digraph;
 use std::alloc::{AllocError, Global};
 
-/// A graph of so many nodes, each with an edge to the next, and the last to the first.
+/// Returns a graph with an edge from each node to the next, and from the last to the first.
 fn ring(alloc: Global, count: usize) -> Result<Digraph, AllocError> {
     let mut graph = Digraph::new(alloc, count)?;
     for node in 0..count {
@@ -14,12 +14,12 @@ fn ring(alloc: Global, count: usize) -> Result<Digraph, AllocError> {
     Ok(graph)
 }
 
-/// How many groups a graph has.
+/// Returns the number of groups of a graph.
 fn group_count(graph: &Digraph) -> Result<usize, AllocError> {
     Ok(graph.groups()?.len())
 }
 
-// A walk of all pairs of nodes would take ten thousand times as long.
+// Visiting all pairs of nodes would take ten thousand times as long.
 #[test]
 fn one_long_ring(rt: HostRuntime) -> Result<(), AllocError> {
     let graph = ring(rt.alloc(), 200_000)?;

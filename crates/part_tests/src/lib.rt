@@ -1,4 +1,4 @@
-//! Tests of tokens, trees, how deep sources nest, graphs and plans of imports.
+//! Tests of tokens, trees, the nesting of sources, graphs and import plans.
 #![tactic(auto)]
 
 #[cfg(test)]

@@ -1,9 +1,9 @@
-//! How deep sources nest at most, counted by hand.
+//! Bounds on the nesting of sources, counted by hand.
 
 use hm_sources::Nesting;
 use std::alloc::{AllocError, Global};
 
-/// A source, and how many levels it may have: its lexemes between separators, with those of its deepest brackets.
+/// A source, and its bound: its lexemes between separators, plus those of its deepest brackets.
 const ROWS: [(&str, usize); 14] = [
     ("", 0),
     ("module A where { }", 4),
@@ -13,7 +13,7 @@ const ROWS: [(&str, usize); 14] = [
     ("module A where { x = (f 1, [f 1 2 3]) }", 12),
     ("module A where { f x = x where { y = 1 ; z = x } }", 13),
     ("module A where { x = 1 }\nmodule B where { x = 1 }", 7),
-    // What stands in comments and literals counts for nothing.
+    // Comments and literals have no brackets or separators.
     (
         "module A where { x = 1 {- ( {- f f f -} ; -} -- f ( f\n }",
         7,
@@ -28,7 +28,7 @@ const ROWS: [(&str, usize); 14] = [
     ("module A where { f :: a -> b ; f x | x = \\y->y }", 13),
 ];
 
-/// What follows each of them, since there are at most as many levels as a quarter of a source's bytes.
+/// Appended to each source, because the bound is at most a quarter of a source's bytes.
 const BLANKS: [u8; 64] = [b' '; 64];
 
 /// Adds a source to others.

@@ -1,4 +1,4 @@
-//! Graphs and plans: each public call once.
+//! Graphs and plans: one test for each public call.
 ghost use Rattle.std.specs.Prelude.{◌≡◌, ◌<◌, length};
 
 use hm_graph::{Dependents, Digraph, Plan, PlanFault, import_plan};
@@ -19,21 +19,21 @@ fn add_three_edges(graph: &mut Digraph) -> Result<(), AllocError>
     Ok(())
 }
 
-/// Whether the first of the three nodes reaches itself, and the last is not reached from it.
+/// Returns whether the first of the three nodes reaches itself, and doesn't reach the last.
 fn has_paths(graph: &Digraph) -> Result<bool, AllocError>
     requires { length graph.now ≡ 3 }
 {
     Ok(graph.len() == 3 && graph.reaches(0, 0)? && !graph.reaches(0, 2)?)
 }
 
-/// Whether the groups are the first two nodes and the last.
+/// Returns whether the groups are the first two nodes and the last.
 fn are_two(groups: &[Vec<usize>]) -> bool {
     groups.len() == 2
         && groups[0].as_slice() == [0, 1].as_slice()
         && groups[1].as_slice() == [2].as_slice()
 }
 
-/// Whether those of a graph are.
+/// Returns whether a graph has these groups.
 fn has_two_groups(graph: &Digraph) -> Result<bool, AllocError> {
     Ok(are_two(&graph.groups()?))
 }
@@ -51,7 +51,7 @@ fn a_graph_of_three(rt: HostRuntime) -> Result<(), AllocError> {
 const THREE: &[u8] =
     b"module A where { import C ; import Prelude ; import B ; import C }\nmodule B where { }\nmodule C where { import B }";
 
-/// Whether the plan of the three modules has their imports and importers.
+/// Returns whether the plan of the three modules has their imports and importers.
 fn has_order(plan: &Plan) -> bool {
     plan.len() == 3
         && plan.imports(0) == [2, 1].as_slice()
@@ -61,7 +61,7 @@ fn has_order(plan: &Plan) -> bool {
         && plan.importers(1) == [0, 2].as_slice()
 }
 
-/// Whether of the three modules those are found that depend on the second, and then those that depend on the third.
+/// Returns whether the dependents of the second module are found, and then those of the third.
 fn finds_dependents(alloc: Global, plan: &Plan) -> Result<bool, AllocError> {
     if plan.len() != 3 {
         return Ok(false);
@@ -73,7 +73,7 @@ fn finds_dependents(alloc: Global, plan: &Plan) -> Result<bool, AllocError> {
     Ok(of_second && dependents.marks() == [true, false, false].as_slice())
 }
 
-/// The plan of these modules.
+/// Returns the plan of these modules.
 fn plan_of(alloc: Global, modules: &[Module]) -> Result<Plan, PlanFault> {
     let mut headers = Vec::new(alloc);
     for module in modules {
@@ -82,7 +82,7 @@ fn plan_of(alloc: Global, modules: &[Module]) -> Result<Plan, PlanFault> {
     import_plan(alloc, &headers)
 }
 
-/// The plan of the modules of a source.
+/// Returns the plan of the modules of a source.
 fn planned(alloc: Global, source: &[u8]) -> Result<Plan, Fail> {
     let Ok(tokens) = lex(alloc, source) else {
         return Err(Fail::from("no tokens"));

@@ -1,4 +1,4 @@
-//! How texts are cut into tokens.
+//! Texts and their tokens.
 use hm_lex::{Kind, Place, Token, lex};
 use std::alloc::Global;
 use std::test::Fail;
@@ -6,7 +6,7 @@ use std::test::Fail;
 /// The kind, the start and the end of a token.
 type Cut = (Kind, usize, usize);
 
-/// Whether tokens are cut like this.
+/// Returns whether the tokens have these kinds, starts and ends.
 fn are_cut(tokens: &[Token], wanted: &[Cut]) -> bool {
     if tokens.len() != wanted.len() {
         return false;
@@ -19,12 +19,12 @@ fn are_cut(tokens: &[Token], wanted: &[Cut]) -> bool {
     true
 }
 
-/// Whether a text is cut like this.
+/// Returns whether the tokens of a text have these kinds, starts and ends.
 fn is_cut(alloc: Global, text: &[u8], wanted: &[Cut]) -> bool {
     lex(alloc, text).is_ok_and(|tokens| are_cut(&tokens, wanted))
 }
 
-/// Texts, and how each is cut.
+/// Texts with their tokens.
 const CUTS: [(&[u8], &[Cut]); 9] = [
     (b"{- -- -}", &[]),
     (b"{-{--}-} x", &[(Kind::VarId, 9, 10)]),
@@ -76,7 +76,7 @@ fn cuts(rt: HostRuntime) -> Result<(), Fail> {
     Ok(())
 }
 
-/// Whether a text is one lexeme of this kind.
+/// Returns whether a text is one lexeme of this kind.
 fn is_one_lexeme(alloc: Global, text: &[u8], kind: Kind) -> bool {
     let Ok(tokens) = lex(alloc, text) else {
         return false;
@@ -91,7 +91,7 @@ fn is_one_lexeme(alloc: Global, text: &[u8], kind: Kind) -> bool {
             }
 }
 
-/// Quotes, each of which is one lexeme.
+/// Quoted texts, each of which is one lexeme.
 const QUOTES: [(Kind, &[u8]); 30] = [
     (Kind::Character, b"'a'"),
     (Kind::Character, b"'\"'"),

@@ -1,5 +1,5 @@
-//! The text of a module's tree, with the column of each name: applications and patterns with arguments stand in
-//! parentheses, a tuple or a list behind its word.
+//! Trees of modules as texts, with the column of each name. Applications and patterns with arguments are in parentheses, a tuple or a list
+//! comes after its word.
 use hm_parse::parse;
 use hm_syntax::{
     Alt, Constr, Decl, DeclKind, Expr, ExprKind, Import, ImportItem, ImportList, Literal,
@@ -7,7 +7,7 @@ use hm_syntax::{
 };
 use std::alloc::{AllocError, Global};
 
-/// What is still to be written. Of several types, patterns or expressions each stands behind a space.
+/// A piece that is still to be written. Each of several types, patterns or expressions comes after a space.
 #[derive(Clone, Copy, Drop)]
 enum Piece<'a> {
     Text(&'static str),
@@ -23,7 +23,7 @@ enum Piece<'a> {
     Exprs(&'a [Expr]),
     Alt(&'a Alt),
     Alts(&'a [Alt]),
-    /// A right side, and the words round each of its expressions.
+    /// A right side, and the words around each of its expressions.
     Rhs(&'a Rhs, &'static str),
     Constr(&'a Constr),
     Constrs(&'a [Constr]),
@@ -37,7 +37,7 @@ enum Piece<'a> {
 
 type Pieces<'a> = Vec<Piece<'a>>;
 
-/// What stands before the first hole of words with holes, and what stands behind it.
+/// Splits words at their first hole.
 fn cut(words: &'static str) -> (&'static str, &'static str) {
     match words.split_once('%') {
         Some((before, behind)) => (before, behind),
@@ -45,7 +45,7 @@ fn cut(words: &'static str) -> (&'static str, &'static str) {
     }
 }
 
-/// Puts words with a piece in their hole before all others.
+/// Puts words with a piece in their hole before all other pieces.
 fn one<'a>(
     pieces: &mut Pieces<'a>,
     words: &'static str,
@@ -58,7 +58,7 @@ fn one<'a>(
     Ok(())
 }
 
-/// The same with two pieces in two holes.
+/// Does the same with two pieces in two holes.
 fn two<'a>(
     pieces: &mut Pieces<'a>,
     words: &'static str,
@@ -72,7 +72,7 @@ fn two<'a>(
     Ok(())
 }
 
-/// The same with three.
+/// Does the same with three pieces.
 fn three<'a>(
     pieces: &mut Pieces<'a>,
     words: &'static str,
@@ -87,7 +87,7 @@ fn three<'a>(
     Ok(())
 }
 
-/// The words between an element of a list and those behind it, if there are any.
+/// Returns the words between an element of a list and the next, if there is one.
 fn between(is_last: bool, words: &'static str) -> &'static str {
     if is_last { "%%" } else { words }
 }
@@ -181,7 +181,7 @@ fn items_pieces<'a>(pieces: &mut Pieces<'a>, items: &'a [ImportItem]) -> Result<
     }
 }
 
-/// A name with what stands behind it, in parentheses unless that is nothing.
+/// Puts a name with its arguments, in parentheses if it has any.
 fn named<'a>(
     pieces: &mut Pieces<'a>,
     is_alone: bool,
@@ -268,7 +268,7 @@ fn expr_pieces<'a>(pieces: &mut Pieces<'a>, expr: &'a Expr) -> Result<(), AllocE
     }
 }
 
-/// The declarations behind `where`, if there are any.
+/// Puts the declarations after `where`, if there are any.
 fn local_pieces<'a>(pieces: &mut Pieces<'a>, local: &'a [Decl]) -> Result<(), AllocError> {
     if local.is_empty() {
         return Ok(());
@@ -379,7 +379,7 @@ fn subs_pieces<'a>(pieces: &mut Pieces<'a>, subs: &'a SubItems) -> Result<(), Al
     }
 }
 
-/// Writes a piece, or puts its parts before all others.
+/// Writes a piece, or puts its parts before all other pieces.
 fn put<'a>(text: &mut String, pieces: &mut Pieces<'a>, piece: Piece<'a>) -> Result<(), AllocError> {
     match piece {
         Piece::Text(part) => text.push_str(part),
@@ -417,7 +417,7 @@ fn put<'a>(text: &mut String, pieces: &mut Pieces<'a>, piece: Piece<'a>) -> Resu
     }
 }
 
-/// Puts the pieces of a module's imports and declarations, the first in front.
+/// Puts the pieces of a module's imports and declarations, the first one in front.
 fn begin<'a>(pieces: &mut Pieces<'a>, module: &'a Module) -> Result<(), AllocError> {
     pieces.push(Piece::Decls(&module.decls.items))?;
     for import in module.header.imports.items.iter().rev() {
@@ -428,7 +428,7 @@ fn begin<'a>(pieces: &mut Pieces<'a>, module: &'a Module) -> Result<(), AllocErr
 
 /// Writes all pieces.
 fn put_all(text: &mut String, pieces: &mut Pieces<'_>) -> Result<(), AllocError> {
-    // No row has so many pieces.
+    // No row has this many pieces.
     for _ in 0..1000 {
         let Some(piece) = pieces.pop() else {
             break;
@@ -438,7 +438,7 @@ fn put_all(text: &mut String, pieces: &mut Pieces<'_>) -> Result<(), AllocError>
     Ok(())
 }
 
-/// The text of a module's imports and declarations.
+/// Returns the text of a module's imports and declarations.
 fn module_text(alloc: Global, module: &Module) -> Result<String, AllocError> {
     let mut pieces = Vec::new(alloc);
     begin(&mut pieces, module)?;
@@ -447,7 +447,7 @@ fn module_text(alloc: Global, module: &Module) -> Result<String, AllocError> {
     Ok(text)
 }
 
-/// Whether this is one module, with this text.
+/// Returns whether this is one module with this text.
 fn is_one_module(alloc: Global, modules: &[Module], wanted: &str) -> Result<bool, AllocError> {
     if modules.len() != 1 {
         return Ok(false);
@@ -455,7 +455,7 @@ fn is_one_module(alloc: Global, modules: &[Module], wanted: &str) -> Result<bool
     Ok(module_text(alloc, &modules[0])?.as_str() == wanted)
 }
 
-/// Whether the source has one module, with this text.
+/// Returns whether the source has one module with this text.
 pub(crate) fn is_spelled(alloc: Global, source: &[u8], wanted: &str) -> Result<bool, AllocError> {
     let Ok(tokens) = hm_lex::lex(alloc, source) else {
         return Ok(false);

@@ -1,4 +1,4 @@
-//! Tests of instances and of the levels of types.
+//! Tests of instances, and of the limits for levels and nodes of types.
 #![tactic(auto)]
 
 #[cfg(test)]

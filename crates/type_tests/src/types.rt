@@ -10,7 +10,7 @@ use hm_types::{Entity, Head, Scheme, Text, Ty, Types};
 use std::alloc::{AllocError, Global};
 use std::test::Fail;
 
-/// Prelude's type of integers.
+/// Returns Prelude's type of integers.
 pub(crate) fn integer(alloc: Global) -> Result<Ty, AllocError>
     ensures not_rigid { IfOk result (λ t. HasNoRigid (type_of t)) }
     ensures arities { IfOk result (λ t. HasArities (type_of t)) }
@@ -35,7 +35,7 @@ enum Example {
     Any,
 }
 
-/// The type of an example.
+/// Returns the type of an example.
 fn type_of_example(alloc: Global, example: Example) -> Result<Ty, AllocError>
     ensures not_rigid { IfOk result (λ t. HasNoRigid (type_of t)) }
     ensures arities { IfOk result (λ t. HasArities (type_of t)) }
@@ -51,12 +51,12 @@ fn type_of_example(alloc: Global, example: Example) -> Result<Ty, AllocError>
     }
 }
 
-/// The canonical scheme of an example.
+/// Returns the canonical scheme of an example.
 fn scheme_of(alloc: Global, example: Example) -> Result<Scheme, AllocError> {
     canonical(alloc, &type_of_example(alloc, example)?)
 }
 
-/// Whether the scheme of the first is an instance of that of the second.
+/// Returns whether the scheme of the first is an instance of that of the second.
 fn is_instance(alloc: Global, special: Example, general: Example) -> Result<bool, AllocError> {
     let special = scheme_of(alloc, special)?;
     let general = scheme_of(alloc, general)?;

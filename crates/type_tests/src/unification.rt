@@ -1,4 +1,4 @@
-//! Limits of the levels and nodes of types, of which no clause tells: where a type would have more, a solver answers as where memory runs out.
+//! Limits for the levels and nodes of types. No clause states them: above a limit a solver fails like an allocation.
 
 ghost use Rattle.std.specs.Prelude.{◌≡◌, ◌<◌, IfOk, OnOk};
 ghost use Rattle.hm_types.specs.Shape.{type_of};
@@ -10,7 +10,7 @@ use hm_unify::{Solver, UnifyFault};
 use std::alloc::{AllocError, Global};
 use std::test::Fail;
 
-/// The function type from a variable to the integers.
+/// Returns the function type from a variable to the integers.
 fn function_of(alloc: Global, variable: usize) -> Result<Ty, AllocError>
     requires { variable < 3 }
     ensures { IfOk result (λ t. IsWellFormed 3 (type_of t)) }
@@ -19,7 +19,7 @@ fn function_of(alloc: Global, variable: usize) -> Result<Ty, AllocError>
     Ok(Ty::function(alloc, Ty::Var(variable), outcome)?)
 }
 
-/// Equates a variable with the function of another one: whether they unify.
+/// Equates a variable with the function type of another one. Returns whether they unify.
 fn bind(
     alloc: Global,
     solver: &mut Solver,
@@ -39,7 +39,7 @@ fn bind(
     }
 }
 
-/// Has a solver that has given no variable give three.
+/// Gives three variables from a solver that has given none.
 fn give_three(solver: &mut Solver) -> Result<(), AllocError>
     requires { solver.old.given ≡ 0 }
     ensures { OnOk result (solver.new.given ≡ 3) }
@@ -50,7 +50,7 @@ fn give_three(solver: &mut Solver) -> Result<(), AllocError>
     Ok(())
 }
 
-/// A solver whose types have at most so many levels, and in all so many nodes, and which has given the variables 0 to 2.
+/// Returns a solver with these limits, which has given the variables 0 to 2.
 fn solver_within(alloc: Global, levels: usize, nodes: usize) -> Result<Solver, AllocError>
     ensures { IfOk result (λ solver. solver.given ≡ 3) }
 {
@@ -59,8 +59,8 @@ fn solver_within(alloc: Global, levels: usize, nodes: usize) -> Result<Solver, A
     Ok(solver)
 }
 
-/// Whether the value of variable 0 is refused, where it is a function of variable 1, and that one of variable 2: it has three levels, of which
-/// a constant is the third. Each equation goes through two arguments, and the value through four.
+/// Returns whether the value of variable 0 is refused, if it is a function of variable 1, and that is a function of variable 2. It has three
+/// levels, with a constant as the third. Each equation visits two arguments, and the value four.
 fn has_long_value(alloc: Global, solver: &mut Solver) -> Result<Option<bool>, AllocError>
     requires { solver.old.given ≡ 3 }
 {
@@ -88,8 +88,8 @@ fn no_value_has_more_nodes_than_are_left(rt: HostRuntime) -> Result<(), Fail> {
     Ok(())
 }
 
-/// The same equations the other way round: whether the second, which binds a variable to the type of three levels, is refused, and the solver
-/// afterwards, but not a new one.
+/// Adds the same equations the other way round. Returns whether the second, which binds a variable to the type of three levels, is refused, and
+/// the solver after it, but not a new solver.
 fn is_refused(alloc: Global, solver: &mut Solver) -> Result<Option<bool>, AllocError>
     requires { solver.old.given ≡ 3 }
 {
