@@ -1,4 +1,5 @@
-//! Tables of what is known of types, synonyms and constructors, each by the first description of its entity (Haskell 98 Report, chapter 4).
+//! Tables of the types, synonyms and constructors that a module can use. If an entity has several descriptions, the first counts (Haskell 98
+//! Report, chapter 4).
 #![tactic(auto)]
 
 mod tables;

@@ -1,4 +1,4 @@
-//! What is known of type constructors, synonyms and constructors, each by the first description of its entity: the module's own, then those of
+//! Tables of type constructors, synonyms and constructors, each by the first description of its entity: the module's own, then those of
 //! the interfaces in order.
 
 ghost use Rattle.std.specs.Prelude.{◌≡◌, ◌++◌, ◌∷◌, [], List, map, option_map, cond, is_some, Some, IfOk, OnOk};
@@ -21,8 +21,8 @@ use std::alloc::{AllocError, Global};
 use std::cell::Cell;
 use std::marker::Model;
 
-/// What is known of type constructors, synonyms and constructors, and how many levels a type may have that a synonym stands for, and nodes all
-/// such types may still have.
+/// The arities of type constructors and constructors, and the synonyms; with limits for the types that synonyms stand for: the levels of one, and
+/// the nodes that all may still have.
 pub struct Tables<'a> {
     types: IndexMap<EntityKey<'a>, usize>,
     constructors: IndexMap<EntityKey<'a>, usize>,
@@ -58,7 +58,7 @@ impl<'a> Model for Tables<'a> {
     ghost view = { λ t. record { synonyms = map known_own t.own.entries ++ map known_imported t.imported.entries; types = map known_arity t.types.entries; constructors = map known_arity t.constructors.entries } };
 }
 
-/// Notes a number of arguments, unless one is known.
+/// Records a number of arguments, unless the entity has one.
 fn note_arity<'a>(
     table: &mut IndexMap<EntityKey<'a>, usize>,
     key: EntityKey<'a>,
@@ -75,7 +75,7 @@ fn note_arity<'a>(
     }
 }
 
-/// Notes what a declaration declares as a type.
+/// Records the type that a declaration declares.
 fn add_declared_type<'a>(
     types: &mut IndexMap<EntityKey<'a>, usize>,
     home: &'a str,
@@ -112,7 +112,7 @@ fn add_declared_type<'a>(
     }
 }
 
-/// Notes what declarations declare as types.
+/// Records the types that declarations declare.
 fn add_declared_types<'a>(
     types: &mut IndexMap<EntityKey<'a>, usize>,
     home: &'a str,
@@ -127,7 +127,7 @@ fn add_declared_types<'a>(
     Ok(())
 }
 
-/// Notes a constructor of a declaration.
+/// Records a constructor of a declaration.
 fn add_constructor<'a>(
     constructors: &mut IndexMap<EntityKey<'a>, usize>,
     home: &'a str,
@@ -143,7 +143,7 @@ fn add_constructor<'a>(
     Ok(note_arity(constructors, key, constr.args.len())?)
 }
 
-/// Notes the constructors of a declaration.
+/// Records the constructors of a declaration.
 fn add_constructor_row<'a>(
     constructors: &mut IndexMap<EntityKey<'a>, usize>,
     home: &'a str,
@@ -158,7 +158,7 @@ fn add_constructor_row<'a>(
     Ok(())
 }
 
-/// Notes what a declaration declares as constructors.
+/// Records the constructors of a declaration, if it declares a type.
 fn add_constructors_of<'a>(
     constructors: &mut IndexMap<EntityKey<'a>, usize>,
     home: &'a str,
@@ -177,7 +177,7 @@ fn add_constructors_of<'a>(
     }
 }
 
-/// Notes what declarations declare as constructors.
+/// Records the constructors of declarations.
 fn add_declared_constructors<'a>(
     constructors: &mut IndexMap<EntityKey<'a>, usize>,
     home: &'a str,
@@ -192,7 +192,7 @@ fn add_declared_constructors<'a>(
     Ok(())
 }
 
-/// Notes the types of an interface.
+/// Records the types of an interface.
 fn add_types<'a>(
     types: &mut IndexMap<EntityKey<'a>, usize>,
     entries: &'a [TypeEntry],
@@ -210,7 +210,7 @@ fn add_types<'a>(
     Ok(())
 }
 
-/// Notes a synonym of an interface, unless its entity is known as a type.
+/// Records a synonym of an interface, unless its entity is known as a type.
 fn add_synonym<'a>(
     types: &mut IndexMap<EntityKey<'a>, usize>,
     synonyms: &mut IndexMap<EntityKey<'a>, &'a Synonym>,
@@ -230,7 +230,7 @@ fn add_synonym<'a>(
     }
 }
 
-/// Notes the synonyms of an interface.
+/// Records the synonyms of an interface.
 fn add_synonyms<'a>(
     types: &mut IndexMap<EntityKey<'a>, usize>,
     synonyms: &mut IndexMap<EntityKey<'a>, &'a Synonym>,
@@ -245,7 +245,7 @@ fn add_synonyms<'a>(
     Ok(())
 }
 
-/// Notes the types and synonyms of interfaces.
+/// Records the types and synonyms of interfaces.
 fn add_imported_types<'a>(
     types: &mut IndexMap<EntityKey<'a>, usize>,
     synonyms: &mut IndexMap<EntityKey<'a>, &'a Synonym>,
@@ -262,7 +262,7 @@ fn add_imported_types<'a>(
     Ok(())
 }
 
-/// Notes the constructors of an interface.
+/// Records the constructors of an interface.
 fn add_constructor_entries<'a>(
     constructors: &mut IndexMap<EntityKey<'a>, usize>,
     entries: &'a [ConstructorEntry],
@@ -280,7 +280,7 @@ fn add_constructor_entries<'a>(
     Ok(())
 }
 
-/// Notes the constructors of interfaces.
+/// Records the constructors of interfaces.
 fn add_imported_constructors<'a>(
     constructors: &mut IndexMap<EntityKey<'a>, usize>,
     interfaces: &[&'a Interface],
@@ -294,14 +294,14 @@ fn add_imported_constructors<'a>(
     Ok(())
 }
 
-/// What is known of types: how many arguments each takes, and which of them are synonyms of interfaces.
+/// The arity of each type constructor, and the synonyms of interfaces.
 #[derive(Drop)]
 struct KnownTypes<'a> {
     types: IndexMap<EntityKey<'a>, usize>,
     imported: IndexMap<EntityKey<'a>, &'a Synonym>,
 }
 
-/// The types and synonyms of a module's declarations and of these interfaces.
+/// Returns the types and synonyms of a module's declarations and of these interfaces.
 fn known_types<'a>(
     alloc: Global,
     home: &'a str,
@@ -318,7 +318,7 @@ fn known_types<'a>(
     Ok(KnownTypes { types, imported })
 }
 
-/// The constructors of a module's declarations and of these interfaces.
+/// Returns the constructors of a module's declarations and of these interfaces.
 fn known_constructors<'a>(
     alloc: Global,
     home: &'a str,
@@ -335,7 +335,7 @@ fn known_constructors<'a>(
 }
 
 impl<'a> Tables<'a> {
-    /// What is known in a module for these interfaces, but the module's own synonyms.
+    /// Returns the tables of a module for these interfaces, without the module's own synonyms.
     pub fn of(
         alloc: Global,
         program: &'a Module,
@@ -358,7 +358,7 @@ impl<'a> Tables<'a> {
         })
     }
 
-    /// The same without synonyms, so that none is expanded.
+    /// Returns the same tables without synonyms, so that none is expanded.
     pub fn without_synonyms(self, alloc: Global) -> Tables<'a>
         ensures types { result.types ≡ self.entry.types }
         ensures constructors { result.constructors ≡ self.entry.constructors }
@@ -381,17 +381,17 @@ impl<'a> Tables<'a> {
         }
     }
 
-    /// How many levels a type may have that a synonym stands for.
+    /// Returns the number of levels of a type that a synonym stands for.
     pub fn levels(&self) -> usize {
         self.levels
     }
 
-    /// How many nodes types may still have that synonyms stand for. Whoever makes them counts them off.
+    /// Returns the number of nodes that types for synonyms may still have. Code that makes nodes must count them down.
     pub fn nodes(&self) -> &Cell<usize> {
         &self.nodes
     }
 
-    /// Adds a synonym of the module, whose right side is finished.
+    /// Adds a synonym of the module with a finished right side.
     pub fn add_synonym(
         &mut self,
         home: &'a str,
@@ -408,21 +408,21 @@ impl<'a> Tables<'a> {
         Ok(())
     }
 
-    /// How many arguments a type constructor takes.
+    /// Returns the number of arguments of a type constructor.
     pub fn type_arity(&self, entity: &EntityRef<'_>) -> Option<usize>
         ensures { result ≡ arity_among self.now.types entity.now }
     {
         arity_in(&self.types, entity)
     }
 
-    /// How many arguments a constructor takes.
+    /// Returns the number of arguments of a constructor.
     pub fn constructor_arity(&self, entity: &EntityRef<'_>) -> Option<usize>
         ensures { result ≡ arity_among self.now.constructors entity.now }
     {
         arity_in(&self.constructors, entity)
     }
 
-    /// The synonym that a resolved name is.
+    /// Returns the synonym with a resolved name.
     pub fn synonym<'s>(&'s self, name: &'s Name) -> Option<&'s Synonym>
         ensures { option_map (λ s. s.now) result ≡ synonym_among self.now.synonyms (entity_of name.now) }
     {
@@ -437,7 +437,7 @@ impl<'a> Tables<'a> {
     }
 }
 
-/// The number of arguments that a table has for an entity.
+/// Returns the number of arguments of an entity in a table.
 fn arity_in(table: &IndexMap<EntityKey<'_>, usize>, entity: &EntityRef<'_>) -> Option<usize>
     ensures { result ≡ arity_among (map known_arity table.now.entries) entity.now }
 {
@@ -451,7 +451,7 @@ fn arity_in(table: &IndexMap<EntityKey<'_>, usize>, entity: &EntityRef<'_>) -> O
     }
 }
 
-/// The key of a resolved name.
+/// Returns the key of a resolved name.
 fn key_of(name: &Name) -> EntityKey<'_>
     ensures { entity_at result ≡ entity_of name.now }
 {

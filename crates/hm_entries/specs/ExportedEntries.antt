@@ -1,4 +1,4 @@
--- Entries of an interface, one export after the other. No public clause names these.
+-- Entries of an interface, export by export. No public clause names these.
 use Rattle.std.specs.Prelude.{◌≡◌, ◌↔◌, ℕ, List, ◌++◌, map, Option, Some, Contains}
 use Rattle.std.specs.Borrow.{Bor}
 use Rattle.indexmap.specs.IndexMap.{get_by}
@@ -43,7 +43,7 @@ AreConstructorEntries c xs rs = AreEntries (λ (r : ConstructorEntry). r.name) (
 abbrev pub AreValueEntries : ModuleCore → (List ℕ → Option TypeScheme) → List Exported → List ValueEntry → Type 0
 AreValueEntries c given xs rs = AreEntries (λ (r : ValueEntry). r.name) (λ r. r.entity) (λ r. HasScheme c given r.entity r.scheme) xs rs
 
--- what the tables know is what is known in the core
+-- the tables have the descriptions of the core's entities
 abbrev pub AreTypesOf : ModuleCore → Table KnownType → Type 0
 AreTypesOf c table = KnowsTypes (declared_types c.name c.decls ++ imported_types c.interfaces) table
 
@@ -55,10 +55,10 @@ pub record AreValuesOf (c : ModuleCore) (v : Values) : Type 0 where
   pub top : (e : Entity) → IsTop c e ↔ ((e.«module» ≡ c.name) × Contains v.own e.name)
   pub imported : KnowsValues (imported_values c.interfaces) v.imported
 
--- the synonyms that are declared have distinct parameters, and no other variables
+-- the declared synonyms have distinct parameters, and no other variables
 abbrev pub HasSoundSynonyms : Table KnownType → Type 0
 HasSoundSynonyms table = (k : EntityKey) (ps : Bor (List Identifier)) (t : Bor TypeTree) → get_by (same_key k) table ≡ Some (Declared ps t) → IsSound ps.now t.now
 
--- the types that are declared have distinct parameters
+-- the declared types have distinct parameters
 abbrev pub HasDistinctParameters : Table KnownConstructor → Type 0
 HasDistinctParameters table = (k : EntityKey) (t : Bor Identifier) (ps : Bor (List Identifier)) (c : Bor DataConstructor) → get_by (same_key k) table ≡ Some (constructor.Declared t ps c) → (n : Identifier) → ¬ (Repeats ps.now n)

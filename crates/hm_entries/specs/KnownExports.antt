@@ -1,4 +1,4 @@
--- What is known of the entities that a core can export. No public clause names these.
+-- Descriptions of the entities that a core can export. No public clause names these.
 use Rattle.std.specs.Prelude.{◌≡◌, ℕ, List, [], ◌∷◌, ◌++◌, map, option_map}
 use Rattle.std.specs.Borrow.{Bor}
 use Rattle.std.specs.declared.hash.FoldHasher.{FoldHasher}
@@ -25,7 +25,7 @@ use Rattle.hm_owners.specs.Owners.{same_key}
 abbrev pub Table : Type 0 → Type 0
 Table V = IndexMap EntityKey V (BuildHasherDefault FoldHasher)
 
--- the table tells of each entity what its first description tells
+-- the table has for each entity its first description
 abbrev pub IsFirst : {D V R : Type 0} → (D → Entity) → (D → R) → (V → R) → List D → Table V → Type 0
 IsFirst of told seen ds table = (k : EntityKey) → option_map seen (get_by (same_key k) table) ≡ option_map told (first_of of (entity_at k) ds)
 
@@ -37,7 +37,7 @@ meaning_of (Imported s) = imported_synonym s.now
 abbrev pub KnowsTypes : List TypeDescription → Table KnownType → Type 0
 KnowsTypes ds table = IsFirst (λ d. d.entity) (λ d. d.meaning) meaning_of ds table
 
--- where a constructor comes from: a declaration, with the name of its type and its parameters, or an entry
+-- the source of a constructor: a declaration, with the name of its type and its parameters, or an entry
 pub data ConstructorSource : Type 0 where
   declared : Identifier → List Identifier → DataConstructor → ConstructorSource
   imported : ConstructorEntry → ConstructorSource

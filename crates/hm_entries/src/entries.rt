@@ -1,4 +1,4 @@
-//! The entries of the interface of a module whose variables have schemes.
+//! The entries of a core's interface.
 
 ghost use Rattle.std.specs.Prelude.{◌≡◌, ◌↔◌, ◌++◌, ◌∷◌, [], List, map, Some, IfOk, OnOk, option_map};
 ghost use Rattle.hm_types.specs.declared.Entity.{Entity};
@@ -24,7 +24,7 @@ use hm_types::{
 use indexmap::IndexMap;
 use std::alloc::{AllocError, Global};
 
-/// The key of an exported entity.
+/// Returns the key of an exported entity.
 fn key_of(exported: &Exported) -> EntityKey<'_>
     ensures { entity_at result ≡ exported.now.entity }
 {
@@ -175,8 +175,8 @@ fn add_constructors(
     Ok(())
 }
 
-/// What the schemes of exported variables are looked up in: the core's own variables with the schemes that are handed in, and
-/// what it imports.
+/// The tables for the schemes of exported variables: the core's own variables with their given schemes, and the
+/// imported ones.
 #[derive(Drop)]
 struct Values<'a> {
     home: &'a str,
@@ -185,7 +185,7 @@ struct Values<'a> {
     imported: IndexMap<EntityKey<'a>, &'a ValueEntry>,
 }
 
-/// The scheme of an exported variable.
+/// Returns the scheme of an exported variable.
 fn scheme_of<'v>(values: &'v Values<'_>, exported: &'v Exported) -> Option<&'v Scheme>
     ensures { (c : ModuleCore) → AreValuesOf c values.now → (t : TypeScheme)
         → (option_map (λ x. x.now) result ≡ Some t) ↔ HasScheme c (scheme_of values.now.schemes.now) exported.now.entity t }
@@ -243,7 +243,7 @@ pub struct TypeEntries {
     pub synonyms: Vec<SynonymEntry>,
 }
 
-/// The entries of the types and synonyms that a core exports.
+/// Returns the entries of the types and synonyms that a core exports.
 pub fn type_entries(
     alloc: Global,
     core: &Core,
@@ -263,7 +263,7 @@ pub fn type_entries(
     Ok(TypeEntries { types, synonyms })
 }
 
-/// The entries of the constructors that a core exports.
+/// Returns the entries of the constructors that a core exports.
 pub fn constructor_entries(
     alloc: Global,
     core: &Core,
@@ -281,7 +281,7 @@ pub fn constructor_entries(
     Ok(entries)
 }
 
-/// The entries of the variables that a core exports.
+/// Returns the entries of the variables that a core exports.
 pub fn value_entries<'a>(
     alloc: Global,
     core: &'a Core,

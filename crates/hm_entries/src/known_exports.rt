@@ -1,4 +1,4 @@
-//! What is known of the entities that a core can export, each by the first description of its entity: the core's own, then
+//! Descriptions of the entities that a core can export. The first description of an entity counts: the core's own, then
 //! those of its interfaces in order.
 
 ghost use Rattle.std.specs.Prelude.{◌≡◌, ◌↔◌, ◌++◌, ◌∷◌, [], ℕ, List, map, cond, is_some, Some, IfOk, OnOk, Contains};
@@ -24,25 +24,25 @@ use hm_types::{ConstructorEntry, Interface, Synonym, SynonymEntry, TypeEntry, Va
 use indexmap::IndexMap;
 use std::alloc::{AllocError, Global};
 
-/// What a type constructor is (Report, sections 4.2.1 to 4.2.3).
+/// The description of a type constructor (Report, sections 4.2.1 to 4.2.3).
 #[derive(Drop)]
 pub(crate) enum KnownType<'a> {
-    /// A data type or newtype with so many parameters.
+    /// A data type or newtype with this many parameters.
     Algebraic(usize),
-    /// A synonym of the core, by its parameters and its right side.
+    /// A synonym of the core: its parameters and its right side.
     Declared(&'a [Name], &'a TypeExpr),
     Imported(&'a Synonym),
 }
 
-/// What a constructor is (Report, sections 4.2.1 and 4.2.3).
+/// The description of a constructor (Report, sections 4.2.1 and 4.2.3).
 #[derive(Drop)]
 pub(crate) enum KnownConstructor<'a> {
-    /// One of the core, by the name and the parameters of its type.
+    /// A constructor of the core, with the name and the parameters of its type.
     Declared(&'a Name, &'a [Name], &'a Constr),
     Imported(&'a ConstructorEntry),
 }
 
-/// Notes what is known of an entity, unless it is known.
+/// Records the description of an entity, unless it has one.
 fn note<'a, V: Drop>(
     table: &mut IndexMap<EntityKey<'a>, V>,
     key: EntityKey<'a>,
@@ -59,7 +59,7 @@ fn note<'a, V: Drop>(
     Ok(())
 }
 
-/// The key of an entity of the core.
+/// Returns the key of an entity of the core.
 fn own_key<'a>(home: &'a str, name: &'a Name) -> EntityKey<'a>
     ensures { entity_at result ≡ named home.now name.now.text }
 {
@@ -69,7 +69,7 @@ fn own_key<'a>(home: &'a str, name: &'a Name) -> EntityKey<'a>
     }
 }
 
-/// Notes the type that a declaration declares.
+/// Records the type that a declaration declares.
 fn note_type<'a>(
     types: &mut IndexMap<EntityKey<'a>, KnownType<'a>>,
     home: &'a str,
@@ -99,7 +99,7 @@ fn note_type<'a>(
     }
 }
 
-/// Notes the types that declarations declare.
+/// Records the types that declarations declare.
 fn note_types<'a>(
     types: &mut IndexMap<EntityKey<'a>, KnownType<'a>>,
     home: &'a str,
@@ -113,7 +113,7 @@ fn note_types<'a>(
     Ok(())
 }
 
-/// Notes the types of an interface.
+/// Records the types of an interface.
 fn note_type_entries<'a>(
     types: &mut IndexMap<EntityKey<'a>, KnownType<'a>>,
     entries: &'a [TypeEntry],
@@ -128,7 +128,7 @@ fn note_type_entries<'a>(
     Ok(())
 }
 
-/// Notes the synonyms of an interface.
+/// Records the synonyms of an interface.
 fn note_synonym_entries<'a>(
     types: &mut IndexMap<EntityKey<'a>, KnownType<'a>>,
     entries: &'a [SynonymEntry],
@@ -143,7 +143,7 @@ fn note_synonym_entries<'a>(
     Ok(())
 }
 
-/// The type constructors that a core can export.
+/// Returns the type constructors that a core can export.
 pub(crate) fn known_types<'a>(
     alloc: Global,
     home: &'a str,
@@ -161,7 +161,7 @@ pub(crate) fn known_types<'a>(
     Ok(known)
 }
 
-/// Notes the constructors of a type of the core.
+/// Records the constructors of a type of the core.
 fn note_constructors<'a>(
     constructors: &mut IndexMap<EntityKey<'a>, KnownConstructor<'a>>,
     home: &'a str,
@@ -182,7 +182,7 @@ fn note_constructors<'a>(
     Ok(())
 }
 
-/// Notes the constructors that a declaration declares.
+/// Records the constructors that a declaration declares.
 fn note_declared<'a>(
     constructors: &mut IndexMap<EntityKey<'a>, KnownConstructor<'a>>,
     home: &'a str,
@@ -213,7 +213,7 @@ fn note_declared<'a>(
     }
 }
 
-/// Notes the constructors that declarations declare.
+/// Records the constructors that declarations declare.
 fn note_all_declared<'a>(
     constructors: &mut IndexMap<EntityKey<'a>, KnownConstructor<'a>>,
     home: &'a str,
@@ -228,7 +228,7 @@ fn note_all_declared<'a>(
     Ok(())
 }
 
-/// Notes the constructors of an interface.
+/// Records the constructors of an interface.
 fn note_constructor_entries<'a>(
     constructors: &mut IndexMap<EntityKey<'a>, KnownConstructor<'a>>,
     entries: &'a [ConstructorEntry],
@@ -243,7 +243,7 @@ fn note_constructor_entries<'a>(
     Ok(())
 }
 
-/// The constructors that a core can export.
+/// Returns the constructors that a core can export.
 pub(crate) fn known_constructors<'a>(
     alloc: Global,
     home: &'a str,
@@ -260,7 +260,7 @@ pub(crate) fn known_constructors<'a>(
     Ok(known)
 }
 
-/// Notes the variables of an interface.
+/// Records the variables of an interface.
 fn note_value_entries<'a>(
     values: &mut IndexMap<EntityKey<'a>, &'a ValueEntry>,
     entries: &'a [ValueEntry],
@@ -274,7 +274,7 @@ fn note_value_entries<'a>(
     Ok(())
 }
 
-/// The variables that a core imports.
+/// Returns the variables that a core imports.
 pub(crate) fn known_values<'a>(
     alloc: Global,
     interfaces: &[&'a Interface],
@@ -319,7 +319,7 @@ fn add_bound<'a>(alloc: Global, out: &mut TextSet<'a>, decl: &'a Decl) -> Result
     }
 }
 
-/// The variables that declarations bind.
+/// Returns the variables that declarations bind.
 pub(crate) fn bound_variables<'a>(
     alloc: Global,
     decls: &'a [Decl],

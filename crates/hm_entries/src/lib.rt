@@ -1,4 +1,4 @@
-//! The entries of the interface of a core, for given schemes of its variables.
+//! Makes the entries of a core's interface, for given schemes of its variables.
 #![tactic(auto)]
 
 mod entries;

@@ -10,14 +10,14 @@ use hm_tables::EntityRef;
 use hm_types::Text;
 use std::alloc::{AllocError, Global};
 
-/// The same name at the same place.
+/// Returns the same name at the same place.
 pub fn copy_name(name: &Name) -> Result<Name, AllocError>
     ensures { IfOk result (λ copy. copy ≡ name.now) }
 {
     name.copy()
 }
 
-/// Names of its own for each that is lent.
+/// Returns owned copies of borrowed names.
 pub fn owned_names(alloc: Global, names: &LentNames<'_>) -> Result<Vec<Name>, AllocError>
     ensures { IfOk result (λ copies. copies.items ≡ names.now) }
 {
@@ -29,7 +29,7 @@ pub fn owned_names(alloc: Global, names: &LentNames<'_>) -> Result<Vec<Name>, Al
     Ok(copies)
 }
 
-/// The same names.
+/// Returns copies of names.
 pub fn copy_names(alloc: Global, names: &[Name]) -> Result<Vec<Name>, AllocError>
     ensures { IfOk result (λ copies. copies.items ≡ names.now) }
 {
@@ -40,7 +40,7 @@ pub fn copy_names(alloc: Global, names: &[Name]) -> Result<Vec<Name>, AllocError
     Ok(copies)
 }
 
-/// The name of an entity, in the place of a name.
+/// Returns the name of an entity, at the place of a name.
 pub fn entity_name(alloc: Global, name: &Name, entity: &EntityRef<'_>) -> Result<Name, AllocError>
     ensures { IfOk result (λ copy. copy ≡ as_entity name.now entity.now) }
 {
@@ -51,7 +51,7 @@ pub fn entity_name(alloc: Global, name: &Name, entity: &EntityRef<'_>) -> Result
     })
 }
 
-/// What a name becomes that is bound in the list of this module, or in another: an entity, or the bare name.
+/// Returns the replacement of a name that is bound in the list of this module, or in another list: an entity, or the bare name.
 pub fn bound_name(alloc: Global, home: &Option<Text>, name: &Name) -> Result<Name, AllocError>
     ensures { IfOk result (λ copy. copy ≡ binder_of home.now name.now) }
 {
@@ -69,7 +69,7 @@ pub fn bound_name(alloc: Global, home: &Option<Text>, name: &Name) -> Result<Nam
     }
 }
 
-/// The same of names in a row.
+/// Returns the replacements of a row of names.
 pub fn bound_names(
     alloc: Global,
     home: &Option<Text>,
@@ -84,7 +84,7 @@ pub fn bound_names(
     Ok(copies)
 }
 
-/// The same literal.
+/// Returns a copy of a literal.
 pub fn copy_literal(literal: &Literal) -> Result<Literal, AllocError>
     ensures { IfOk result (λ copy. copy ≡ literal.now) }
 {
@@ -101,7 +101,7 @@ pub fn copy_literal(literal: &Literal) -> Result<Literal, AllocError>
     }
 }
 
-/// Whether a name is written without a qualifier.
+/// Returns whether a name has no qualifier.
 pub fn is_unqualified(name: &Name) -> bool
     ensures { result ≡ no_qualifier name.now.qualifier }
 {
@@ -111,7 +111,7 @@ pub fn is_unqualified(name: &Name) -> bool
     }
 }
 
-/// Whether a name is that of a special constructor.
+/// Returns whether a name is that of a special constructor.
 pub fn is_special(name: &Name) -> bool
     ensures { result ≡ is_special name.now }
 {
@@ -121,7 +121,7 @@ pub fn is_special(name: &Name) -> bool
     }
 }
 
-/// How many arguments a special constructor takes.
+/// Returns the number of arguments of a special constructor.
 pub fn special_arity(name: &Name) -> Option<usize>
     ensures { result ≡ option_map special_arity (special_of name.now) }
 {

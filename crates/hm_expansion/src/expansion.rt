@@ -11,18 +11,17 @@ use hm_types::{Entity, Head, Ty};
 use std::alloc::{AllocError, Global};
 use std::cell::Cell;
 
-/// How large a type may become in which synonyms are expanded. What would be larger is refused for want of memory.
+/// Limits for a type in which synonyms are expanded. A larger type is refused like a failed allocation.
 #[derive(Clone, Copy)]
 pub struct Room<'r> {
-    /// How many levels it may have.
+    /// The number of levels that it may have.
     pub levels: usize,
-    /// How many nodes may still be made, of this type and of all others.
+    /// The number of nodes that may still be made, for this type and all others.
     pub nodes: &'r Cell<usize>,
 }
 
 impl<'r> Room<'r> {
-    /// Makes a node with a name of so many bytes. Answers the room for what stands below it. A node counts for a further one for each 64 bytes
-    /// of its name.
+    /// Counts a node with a name of this many bytes: one, and one more for each 64 bytes of the name. Returns the limits for the parts below it.
     fn below(self, bytes: usize) -> Result<Room<'r>, AllocError> {
         let needed = bytes / 64 + 1;
         let left = self.nodes.get();
@@ -37,7 +36,7 @@ impl<'r> Room<'r> {
     }
 }
 
-/// How many bytes the name of a type constructor has.
+/// Returns the number of bytes in the name of a type constructor.
 fn head_bytes(head: &Head) -> usize {
     match head {
         Head::Named(entity) => {
@@ -48,7 +47,7 @@ fn head_bytes(head: &Head) -> usize {
     }
 }
 
-/// How many bytes a name has.
+/// Returns the number of bytes in a name.
 fn name_bytes(name: &Name) -> usize {
     match &name.qualifier {
         None => name.as_str().len(),
@@ -56,7 +55,7 @@ fn name_bytes(name: &Name) -> usize {
     }
 }
 
-/// How many bytes the name has that stands at a node of a type.
+/// Returns the number of bytes in the name at a node of a type.
 fn node_bytes(ty: &TypeExpr) -> usize {
     match &ty.kind {
         TypeKind::Var(name) => name_bytes(name),
@@ -65,7 +64,7 @@ fn node_bytes(ty: &TypeExpr) -> usize {
     }
 }
 
-/// A copy of a type, if there is room for it.
+/// Returns a copy of a type, if it is within the limits.
 #[cycle(copies)]
 #[tactic(auto, using(hm_names::proofs::Rows::type_falls))]
 fn copy_type(alloc: Global, room: Room<'_>, ty: &TypeExpr) -> Result<TypeExpr, AllocError>
@@ -108,7 +107,7 @@ fn copy_type(alloc: Global, room: Room<'_>, ty: &TypeExpr) -> Result<TypeExpr, A
     }
 }
 
-/// Copies of types in a row, if there is room for each.
+/// Returns copies of a row of types, if each is within the limits.
 #[cycle(copies)]
 #[tactic(auto, using(hm_names::proofs::Rows::type_falls))]
 fn copy_types(alloc: Global, room: Room<'_>, row: &[TypeExpr]) -> Result<Vec<TypeExpr>, AllocError>
@@ -121,7 +120,7 @@ fn copy_types(alloc: Global, room: Room<'_>, row: &[TypeExpr]) -> Result<Vec<Typ
     Ok(copies)
 }
 
-/// An argument by its number, if there is room for it. A synonym that is used rightly has one for each parameter.
+/// Returns a copy of the argument with this number, if it is within the limits. A well-formed use of a synonym has one for each parameter.
 #[tactic(auto, using(crate::proofs::Expanded::argument_at, crate::proofs::Expanded::argument_past))]
 fn argument(
     alloc: Global,
@@ -139,7 +138,7 @@ fn argument(
     })
 }
 
-/// The name of an entity, in the place of a name.
+/// Returns the name of an entity, at the place of a name.
 fn name_of_entity(alloc: Global, name: &Name, entity: &Entity) -> Result<Name, AllocError>
     ensures { IfOk result (λ copy. copy ≡ as_entity name.now entity.now) }
 {
@@ -150,7 +149,7 @@ fn name_of_entity(alloc: Global, name: &Name, entity: &Entity) -> Result<Name, A
     })
 }
 
-/// A type constructor with its arguments, each named one at the place of a name.
+/// Returns a type constructor with its arguments, with names at the place of a name.
 fn applied(
     alloc: Global,
     name: &Name,
@@ -198,7 +197,7 @@ fn applied(
     }
 }
 
-/// The right side of a synonym, with the arguments in the place of its parameters, if there is room for it.
+/// Returns the right side of a synonym with the arguments in place of its parameters, if it is within the limits.
 #[tactic(auto, using(crate::proofs::Expanded::all_filled))]
 pub fn filled(
     alloc: Global,

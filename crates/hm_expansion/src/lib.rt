@@ -1,4 +1,4 @@
-//! Copies of names, literals and types, and the expansion of type synonyms (Haskell 98 Report, section 4.2.2).
+//! Copies names, literals and types, and expands type synonyms (Haskell 98 Report, section 4.2.2).
 #![tactic(auto)]
 
 mod copies;

@@ -6,7 +6,7 @@ use Rattle.hm_names.specs.contracts.namespace.Namespace.{the_type}
 use Rattle.hm_export_groups.specs.declared.bare_pairs.BareKey.{BareKey}
 use Rattle.hm_names.specs.Bindings.{Pair}
 
--- what `==` answers of two keys
+-- the result of `==` for two keys
 abbrev pub same_bare : BareKey → BareKey → Bool
 same_bare j k = sameb the_type j.space k.space && (bytes_eq j.text.now k.text.now && (bytes_eq j.«module».now k.«module».now && bytes_eq j.name.now k.name.now))
 
@@ -17,6 +17,6 @@ pair_at k = record { space = k.space; qualifier = None; text = k.text.now; entit
 abbrev pub pairs_at : List BareKey → List Pair
 pairs_at ks = map pair_at ks
 
--- the entity of a pair under its bare name
+-- the entity of a pair with its bare name
 abbrev pub bare_of : Pair → Pair
 bare_of p = record { space = p.space; qualifier = None; text = p.text; entity = p.entity }

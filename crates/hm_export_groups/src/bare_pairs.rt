@@ -10,7 +10,7 @@ use indexmap::IndexSet;
 use std::alloc::{AllocError, Global};
 use std::marker::Model;
 
-/// A bare name with an entity that it stands for, as a key.
+/// A bare name with an entity that it means, as a key.
 #[derive(Clone, Copy, Hash, PartialEq, Eq)]
 struct BareKey<'a> {
     space: Namespace,
@@ -19,7 +19,7 @@ struct BareKey<'a> {
     name: &'a str,
 }
 
-/// A set of bare names, each with an entity that it stands for.
+/// A set of bare names, each with an entity that it means.
 #[derive(Drop)]
 pub(crate) struct BarePairs<'a> {
     keys: IndexSet<BareKey<'a>>,
@@ -35,7 +35,7 @@ impl<'a> Model for BarePairs<'a> {
     ghost view = { λ s. pairs_at s.keys.keys };
 }
 
-/// The key of a binding without its qualifier.
+/// Returns the key of a binding without its qualifier.
 fn bare_key<'a>(binding: &Binding<'a>) -> BareKey<'a>
     ensures { pair_at result ≡ bare_of binding.now }
 {
@@ -48,7 +48,7 @@ fn bare_key<'a>(binding: &Binding<'a>) -> BareKey<'a>
 }
 
 impl<'a> BarePairs<'a> {
-    /// No names.
+    /// Returns an empty set.
     pub(crate) fn new(alloc: Global) -> BarePairs<'a>
         ensures { result ≡ [] }
     {
@@ -57,14 +57,14 @@ impl<'a> BarePairs<'a> {
         }
     }
 
-    /// Whether the set has the bare name of a binding, with its entity.
+    /// Returns whether the set has the bare name of a binding, with its entity.
     pub(crate) fn contains(&self, binding: &Binding<'a>) -> bool
         ensures { IsTrue result ↔ Contains self.now (bare_of binding.now) }
     {
         self.keys.contains(&bare_key(binding))
     }
 
-    /// Adds it.
+    /// Adds the bare name of a binding, with its entity.
     pub(crate) fn insert(&mut self, binding: &Binding<'a>) -> Result<(), AllocError>
         ensures { OnOk result (Adds self.old self.new (λ p. bare_of binding.now ≡ p)) }
     {
@@ -73,7 +73,7 @@ impl<'a> BarePairs<'a> {
     }
 }
 
-/// Adds a binding, if it has no qualifier.
+/// Adds a binding if it has no qualifier.
 fn add_bare<'a>(bare: &mut BarePairs<'a>, pair: &Binding<'a>) -> Result<(), AllocError>
     ensures { OnOk result (Adds bare.old bare.new (λ p. (pair.now.qualifier ≡ None) × (pair.now ≡ p))) }
 {
@@ -84,7 +84,7 @@ fn add_bare<'a>(bare: &mut BarePairs<'a>, pair: &Binding<'a>) -> Result<(), Allo
     Ok(())
 }
 
-/// The bindings that have no qualifier.
+/// Returns the bindings without a qualifier.
 pub(crate) fn bare_pairs<'a>(
     alloc: Global,
     pairs: &[Binding<'a>],

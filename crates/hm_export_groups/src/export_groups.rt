@@ -1,4 +1,4 @@
-//! Bindings in groups: what an item of an export list selects at once.
+//! Bindings grouped by the items of an export list that select them.
 
 ghost use Rattle.std.specs.Prelude.{◌≡◌, ◌↔◌, ◌⊎◌, ◌++◌, ◌∷◌, [], List, map, cond, option_map, None, IfOk, OnOk, IsTrue, Contains};
 ghost use Rattle.hm_export_groups.specs.BarePairs.{bare_of};
@@ -19,7 +19,7 @@ use hm_types::Interface;
 use indexmap::IndexMap;
 use std::alloc::{AllocError, Global};
 
-/// What an item, or a part of one, selects: what is in scope under a qualifier, the constructors of a type, or those of
+/// The selection of an item, or of a part of one: the bindings under a qualifier, the constructors of a type, or those with
 /// one name.
 #[derive(Clone, Copy, Hash, PartialEq, Eq)]
 pub struct Selector<'a> {
@@ -29,7 +29,7 @@ pub struct Selector<'a> {
 }
 
 impl<'a> Selector<'a> {
-    /// What is in scope both bare and under this qualifier.
+    /// Selects the bindings that are in scope both bare and under this qualifier.
     pub fn whole(qualifier: &'a str) -> Selector<'a>
         ensures { result ≡ record { «module» = qualifier.entry; owner = None; part = None } }
     {
@@ -40,7 +40,7 @@ impl<'a> Selector<'a> {
         }
     }
 
-    /// The constructors of a type that are in scope.
+    /// Selects the constructors of a type that are in scope.
     pub fn constructors(owner: &EntityRef<'a>) -> Selector<'a>
         ensures module { result.«module».now ≡ owner.now.«module» }
         ensures owner { option_map (λ t. t.now) result.owner ≡ Some owner.now.name }
@@ -53,7 +53,7 @@ impl<'a> Selector<'a> {
         }
     }
 
-    /// Those of this name.
+    /// Selects the constructors of a type that are in scope under this name.
     pub fn constructor(owner: &EntityRef<'a>, text: &'a str) -> Selector<'a>
         ensures module { result.«module».now ≡ owner.now.«module» }
         ensures owner { option_map (λ t. t.now) result.owner ≡ Some owner.now.name }
@@ -87,7 +87,7 @@ pub fn add_to_group<'a>(
     Ok(())
 }
 
-/// Adds the bindings of a group to others. Whether there is one.
+/// Adds copies of the bindings of a group to others. Returns whether the group exists.
 pub fn add_group<'a>(
     out: &mut Vec<Binding<'a>>,
     groups: &IndexMap<Selector<'a>, Vec<Binding<'a>>>,
@@ -115,7 +115,7 @@ fn add_copies<'a>(out: &mut Vec<Binding<'a>>, bindings: &[Binding<'a>]) -> Resul
     Ok(())
 }
 
-/// The same binding.
+/// Returns a copy of a binding.
 pub fn copy_of<'a>(binding: &Binding<'a>) -> Binding<'a>
     ensures { result ≡ binding.now }
 {
@@ -127,7 +127,7 @@ pub fn copy_of<'a>(binding: &Binding<'a>) -> Binding<'a>
     )
 }
 
-/// Adds a binding to the group of its qualifier, if it is in scope without the qualifier too.
+/// Adds a binding to the group of its qualifier, if it is in scope bare too.
 fn add_qualified<'a>(
     alloc: Global,
     groups: &mut IndexMap<Selector<'a>, Vec<Binding<'a>>>,
@@ -177,7 +177,7 @@ fn add_owned<'a>(
     Ok(())
 }
 
-/// Adds a binding to the groups to which it belongs.
+/// Adds a binding to its groups.
 fn add_pair<'a>(
     alloc: Global,
     groups: &mut IndexMap<Selector<'a>, Vec<Binding<'a>>>,
@@ -193,7 +193,7 @@ fn add_pair<'a>(
     Ok(())
 }
 
-/// Adds bindings to the groups to which they belong.
+/// Adds bindings to their groups.
 fn add_pairs<'a>(
     alloc: Global,
     groups: &mut IndexMap<Selector<'a>, Vec<Binding<'a>>>,
@@ -210,7 +210,7 @@ fn add_pairs<'a>(
     Ok(())
 }
 
-/// Bindings in groups by what selects them, where these are the bare ones, and these the types of constructors.
+/// Groups bindings by their selectors, for these bare bindings and these types of constructors.
 fn groups_with<'a>(
     alloc: Global,
     bare: &BarePairs<'a>,
@@ -226,7 +226,7 @@ fn groups_with<'a>(
     Ok(groups)
 }
 
-/// What is in a scope, in groups by what selects it.
+/// Groups the bindings of a scope by their selectors.
 pub fn groups_of<'a>(
     alloc: Global,
     program: &'a Module,
@@ -241,7 +241,7 @@ pub fn groups_of<'a>(
     Ok(groups_with(alloc, &bare, &owners, pairs)?)
 }
 
-/// The entity of a binding under its bare name.
+/// Returns the entity of a binding with its bare name.
 fn bare_copy<'a>(binding: &Binding<'a>) -> Binding<'a>
     ensures { result ≡ bare_of binding.now }
 {

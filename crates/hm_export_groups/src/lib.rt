@@ -1,4 +1,4 @@
-//! What an item of an export list selects at once (Haskell 98 Report, section 5.2): the bindings of a scope in groups.
+//! Groups the bindings of a scope by the items of an export list that select them (Haskell 98 Report, section 5.2).
 #![tactic(auto)]
 
 mod bare_pairs;

@@ -1,4 +1,4 @@
--- What is answered of the exports of a module. No public clause names these.
+-- The result for the exports of a module. No public clause names these.
 use Rattle.std.specs.Prelude.{◌≡◌, ℕ, List, ◌∷◌, ◌++◌, None, Contains, ◌↔◌, ◌⊎◌}
 use Rattle.hm_types.specs.declared.Entity.{Entity}
 use Rattle.hm_types.specs.Interfaces.{Exports as Interface}
@@ -13,13 +13,13 @@ use Rattle.hm_exports.specs.ExportItems.{GivesPair, ItemFault, ClashFault}
 use Rattle.hm_names.specs.Faults.Phases.{HasFault, Exporting}
 use Rattle.hm_tables.specs.Tables.{Table, IsTable}
 
--- the exported entities under their names, and the faults of the export list
+-- the exported entities with their names, and the faults of the export list
 pub record AreExportsOf (m : Module) (fs : List Interface) (e : ModuleExports) : Type 0 where
   pub given_names : (s : Namespace) (x : List ℕ) (k : Entity) → Contains e.given.items (record { space = s; qualifier = None; text = x; entity = k }) ↔ IsExported m fs s x k
   pub bare : (p : Pair) → Contains e.given.items p → p.qualifier ≡ None
   pub exact : (f : Fault) → Contains e.faults.items f ↔ HasFault m fs Exporting f
 
--- what the items of an export list give, and their faults. No public clause names these
+-- the exports of the items of an export list, and their faults. No public clause names these
 pub record AreListedExports (m : Module) (fs : List Interface) (items : List Export) (e : ModuleExports) : Type 0 where
   pub given : (p : Pair) → Contains e.given.items p ↔ ((i : Export) × (Contains items i × GivesPair m fs i p))
   pub found : (g : Fault) → Contains e.faults.items g ↔ (((i : Export) × (Contains items i × ItemFault m fs i g)) ⊎ ((before : List Export) × ((after : List Export) × ((i : Export) × ((items ≡ before ++ (i ∷ after)) × ClashFault m fs before i g)))))

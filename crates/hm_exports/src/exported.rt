@@ -1,4 +1,4 @@
-//! The exports of a core, by their names.
+//! The exports of a core, by name.
 
 ghost use Rattle.std.specs.Prelude.{◌≡◌, ◌↔◌, ◌++◌, ◌∷◌, [], ℕ, List, map, IfOk, OnOk, Contains};
 ghost use Rattle.hm_types.specs.declared.Entity.{Entity};
@@ -13,7 +13,7 @@ use hm_tables::{Binding, TextSet};
 use hm_types::{Entity, Text};
 use std::alloc::{AllocError, Global};
 
-/// Adds a binding, if it is of the namespace and its name is new.
+/// Adds a binding if it is in the namespace and has a new name.
 fn add_once<'a>(
     names: &mut TextSet<'a>,
     out: &mut Vec<Binding<'a>>,
@@ -33,7 +33,7 @@ fn add_once<'a>(
     Ok(())
 }
 
-/// The bindings of a namespace, one for each name.
+/// Returns the bindings of a namespace, one for each name.
 fn of_namespace<'a>(
     alloc: Global,
     given: &[Binding<'a>],
@@ -49,7 +49,7 @@ fn of_namespace<'a>(
     Ok(out)
 }
 
-/// Returns the text of a binding. It is shared with the entity's name, which nearly always is the same.
+/// Returns the text of a binding. Usually this is the text of the entity's name, which is then shared.
 fn text_of(alloc: Global, binding: &Binding<'_>) -> Result<Text, AllocError>
     ensures { IfOk result (λ text. text ≡ binding.now.text) }
 {
@@ -60,7 +60,7 @@ fn text_of(alloc: Global, binding: &Binding<'_>) -> Result<Text, AllocError>
     Ok(Text::from_str(alloc, binding.text())?)
 }
 
-/// The entity of a binding, under its name.
+/// Returns the entity of a binding, with its exported name.
 fn exported(alloc: Global, binding: &Binding<'_>) -> Result<Exported, AllocError>
     ensures { IfOk result (λ e. e ≡ exported_of binding.now) }
 {
@@ -75,7 +75,7 @@ fn exported(alloc: Global, binding: &Binding<'_>) -> Result<Exported, AllocError
     })
 }
 
-/// What is exported in a namespace, ordered by name, each name once.
+/// Returns the exports of a namespace, ordered by name, each name once.
 pub fn exported_in(
     alloc: Global,
     given: &[Binding<'_>],

@@ -1,4 +1,4 @@
-//! What a module exports, and the faults of its export list (Report, section 5.2).
+//! Finds a module's exports and the faults of its export list (Report, section 5.2).
 
 ghost use Rattle.std.specs.Prelude.{◌≡◌, ◌↔◌, ◌++◌, ◌∷◌, [], IfOk, OnOk, Contains, List, map, option_map, None, Some};
 ghost use Rattle.hm_types.specs.Interfaces.{Exports as Interface};
@@ -27,7 +27,7 @@ use hm_types::{Interface, Text};
 use indexmap::IndexMap;
 use std::alloc::{AllocError, Global};
 
-/// What the exports of a module are looked up in.
+/// The tables in which the items of an export list are looked up.
 #[derive(Drop)]
 struct Exporter<'s, 'a> {
     alloc: Global,
@@ -36,7 +36,7 @@ struct Exporter<'s, 'a> {
     groups: IndexMap<Selector<'a>, Vec<Binding<'a>>>,
 }
 
-/// What a module exports under which names, and the faults of its export list.
+/// The exports of a module with their names, and the faults of its export list.
 #[derive(Drop)]
 pub struct ModuleExports<'a> {
     pub given: Vec<Binding<'a>>,
@@ -70,7 +70,7 @@ fn add_given<'a>(
     Ok(())
 }
 
-/// The entity that an exported name means. If it means none or several, the fault is added.
+/// Returns the entity that an exported name means. If it means none or several, adds the fault.
 fn exported_entity<'a>(
     exporter: &Exporter<'_, 'a>,
     faults: &mut Vec<Fault>,
@@ -93,7 +93,7 @@ fn exported_entity<'a>(
     }
 }
 
-/// Adds what a constructor gives that is listed behind a type, or its fault.
+/// Adds the export of a constructor that is listed after a type, or its fault.
 fn add_part<'a>(
     exporter: &Exporter<'_, 'a>,
     out: &mut Vec<Binding<'a>>,
@@ -114,7 +114,7 @@ fn add_part<'a>(
     Ok(())
 }
 
-/// Adds what the constructors give that are listed behind a type, and their faults.
+/// Adds the exports of the constructors that are listed after a type, and their faults.
 fn add_parts<'a>(
     exporter: &Exporter<'_, 'a>,
     out: &mut Vec<Binding<'a>>,
@@ -134,7 +134,7 @@ fn add_parts<'a>(
     Ok(())
 }
 
-/// Adds what stands behind an exported type.
+/// Adds the exports of the list after a type.
 fn add_behind<'a>(
     exporter: &Exporter<'_, 'a>,
     out: &mut Vec<Binding<'a>>,
@@ -160,7 +160,7 @@ fn add_behind<'a>(
     }
 }
 
-/// Adds what an exported variable gives, or its fault.
+/// Adds the export of a variable, or its fault.
 fn add_value<'a>(
     exporter: &Exporter<'_, 'a>,
     out: &mut Vec<Binding<'a>>,
@@ -179,7 +179,7 @@ fn add_value<'a>(
     Ok(())
 }
 
-/// Adds what an exported type gives with its constructors, and its faults.
+/// Adds the exports of a type with its constructors, and their faults.
 fn add_type<'a>(
     exporter: &Exporter<'_, 'a>,
     out: &mut Vec<Binding<'a>>,
@@ -200,7 +200,7 @@ fn add_type<'a>(
     Ok(())
 }
 
-/// Adds what is exported of a module whole, or the fault of its name.
+/// Adds the exports of an item `module x`, or the fault of its name.
 fn add_whole<'a>(
     exporter: &Exporter<'_, 'a>,
     out: &mut Vec<Binding<'a>>,
@@ -220,7 +220,7 @@ fn add_whole<'a>(
     Ok(())
 }
 
-/// Adds what an item of the export list gives, and its faults but its clash.
+/// Adds the exports of an item of the export list, and its faults except its clash.
 fn add_item<'a>(
     exporter: &Exporter<'_, 'a>,
     out: &mut Vec<Binding<'a>>,
@@ -248,7 +248,7 @@ fn add_item<'a>(
     }
 }
 
-/// The place of an item of the export list.
+/// Returns the place of an item of the export list.
 fn item_place(item: &Export) -> Place
     ensures line { result.line ≡ (item_name item.now).line }
     ensures column { result.column ≡ (item_name item.now).column }
@@ -260,7 +260,7 @@ fn item_place(item: &Export) -> Place
     }
 }
 
-/// The lesser of a name and that of a binding, if that means several entities.
+/// Returns the lesser of a name and that of a binding, if the latter means several entities.
 fn lesser<'a>(
     table: &IndexMap<Key<'a>, Slot<'a>>,
     least: Option<&'a str>,
@@ -281,7 +281,7 @@ fn lesser<'a>(
     Some(text)
 }
 
-/// The least of the names that are given and that mean several of the entities in the table.
+/// Returns the least of the given names that mean several entities in the table.
 fn least_clash<'a>(table: &IndexMap<Key<'a>, Slot<'a>>, given: &[Binding<'a>]) -> Option<&'a str>
     ensures { (all : List Pair) → IsTable all table.now → IsLeastOf all given.now (option_map (λ x. x.now) result) }
 {
@@ -314,7 +314,7 @@ fn add_clash<'a>(
     Ok(())
 }
 
-/// Adds what an item gives to what is given, and to its table.
+/// Adds the exports of an item to those given so far, and to their table.
 fn add_all<'a>(
     given: &mut Vec<Binding<'a>>,
     table: &mut IndexMap<Key<'a>, Slot<'a>>,
@@ -330,7 +330,7 @@ fn add_all<'a>(
     Ok(())
 }
 
-/// Adds what an item of the export list gives, and its faults.
+/// Adds the exports of an item of the export list, and its faults.
 fn add_export<'a>(
     exporter: &Exporter<'_, 'a>,
     exports: &mut ModuleExports<'a>,
@@ -347,7 +347,7 @@ fn add_export<'a>(
     Ok(())
 }
 
-/// What the items of an export list give, and their faults.
+/// Returns the exports of the items of an export list, and their faults.
 fn listed_exports<'a>(
     exporter: &Exporter<'_, 'a>,
     items: &'a [Export],
@@ -365,7 +365,7 @@ fn listed_exports<'a>(
     Ok(exports)
 }
 
-/// Adds a binding, if it has no qualifier.
+/// Adds a binding if it has no qualifier.
 fn add_bare<'a>(out: &mut Vec<Binding<'a>>, pair: &Binding<'a>) -> Result<(), AllocError>
     ensures { OnOk result (Adds out.old.items out.new.items (λ p. (pair.now.qualifier ≡ None) × (pair.now ≡ p))) }
 {
@@ -376,7 +376,7 @@ fn add_bare<'a>(out: &mut Vec<Binding<'a>>, pair: &Binding<'a>) -> Result<(), Al
     Ok(())
 }
 
-/// What a module declares, under bare names.
+/// Returns a module's declared entities, under bare names.
 fn declared_exports<'a>(alloc: Global, program: &'a Module) -> Result<Vec<Binding<'a>>, AllocError>
     ensures { IfOk result (λ given. (p : Pair) → Contains given.items p ↔ (IsOwnPair program.now p × (p.qualifier ≡ None))) }
 {
@@ -389,7 +389,7 @@ fn declared_exports<'a>(alloc: Global, program: &'a Module) -> Result<Vec<Bindin
     Ok(given)
 }
 
-/// What a module exports, each entity once or more, and the faults of its export list.
+/// Returns the exports of a module, each entity once or more, and the faults of its export list.
 pub fn module_exports<'a>(
     alloc: Global,
     program: &'a Module,

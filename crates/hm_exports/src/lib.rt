@@ -1,4 +1,4 @@
-//! What a module exports (Haskell 98 Report, section 5.2): its export list with the faults in it.
+//! The exports of a module and the faults of its export list (Haskell 98 Report, section 5.2).
 #![tactic(auto)]
 
 mod exported;

@@ -1,4 +1,4 @@
--- What binding the names of a group does to the environment, and what is seen of a list while its groups are inferred. No public clause names it.
+-- The environment after the names of a group are bound, and during the inference of a list's groups. No public clause names it.
 use Rattle.std.specs.Prelude.{◌≡◌, ℕ, ◌+◌, ◌<◌, ◌⊎◌, ◌↔◌, Bool, true, List, [], ◌∷◌, ◌++◌, map, length, slice_index_or}
 use Rattle.hm_types.specs.Types.{put}
 use Rattle.hm_typing.specs.Names.{Identifier, IsOneOf}
@@ -14,11 +14,11 @@ use Rattle.hm_assumptions.specs.Environments.{Assumed, OpenScheme, assumptions, 
 use Rattle.hm_expressions.specs.Lists.{IsWritten}
 use Rattle.hm_expressions.specs.GroupQuestions.{type_at}
 
--- two schemes have the same instances, whatever is put for their free variables
+-- two schemes have the same instances, for any values of their free variables
 abbrev pub SameInstances : Scheme → Scheme → Type 0
 SameInstances σ ρ = (r : ℕ → Monotype) (t : Monotype) → IsInstance t (scheme_put r σ) ↔ IsInstance t (scheme_put r ρ)
 
--- es' assumes of the names xs what σ tells, and of all others what es assumes; only names that can be mentioned count
+-- es' assumes for the names xs their schemes in σ, and for all others what es assumes. Only names that a source can mention count
 pub record Binds (xs : List Identifier) (σ : Identifier → Scheme) (es es' : List Assumed) : Type 0 where
   pub added : List Assumed
   pub entries : es' ≡ added ++ es
@@ -33,15 +33,15 @@ BindsNode y s es es' = (xs : List Identifier) (σ : Identifier → Scheme) (base
 abbrev pub names_at : Known → Declarations → List ℕ → List Identifier
 names_at k all group = map (node_name k all) group
 
--- the nodes of the group are bound to the types that they have
+-- the nodes of the group are bound to their types
 abbrev pub BindsTypes : Known → Declarations → List ℕ → List ℕ → List Assumed → List Assumed → Type 0
 BindsTypes k all types group es es' = (τ : Identifier → Monotype) → ((j : ℕ) → IsOneOf j group → τ (node_name k all j) ≡ type_at types j) → Binds (names_at k all group) (λ x. monomorphic (τ x)) es es'
 
--- or to the closures of these under A, after the solution m
+-- the nodes of the group are bound to the closures of their types under A, after the solution m
 abbrev pub BindsSchemes : Known → Declarations → List ℕ → (ℕ → Monotype) → Assumptions → List ℕ → List Assumed → List Assumed → Type 0
 BindsSchemes k all types m A group es es' = (B : Identifier → Scheme) → ((j : ℕ) → IsOneOf j group → B (node_name k all j) ≡ quantify (assumptions_put m A) (put m (type_at types j))) → Binds (names_at k all group) B es es'
 
--- while the groups of a list are inferred: a name that is finished or has a signature has its scheme, one that isn't of the list has what A assumes
+-- during the inference of a list's groups: a finished or signed name has its scheme, a name outside the list what A assumes
 pub record Sees (ds : Bindings) (A : Assumptions) (finished : Identifier → Bool) (B : Identifier → Scheme) (es : List Assumed) : Type 0 where
   pub known : (r : ℕ → Monotype) (x : Identifier) → IsWritten x → (finished x ≡ true) ⊎ IsSigned x ds → (t : Monotype) → Has (assumptions_put r (assumptions es)) x t ↔ IsInstance t (scheme_put r (B x))
   pub others : (r : ℕ → Monotype) (x : Identifier) → IsWritten x → ¬ (IsOneOf x (names ds)) → (t : Monotype) → Has (assumptions_put r (assumptions es)) x t ↔ Has (assumptions_put r A) x t

@@ -1,4 +1,4 @@
--- What the inference of a binding list answers, for the body that follows it.
+-- The result of inferring a binding list, for the body that follows it.
 use Rattle.std.specs.Prelude.{◌≡◌, ℕ, ◌<◌, ◌≤◌, ◌↔◌, List, ◌++◌, Result, Ok, Err}
 use Rattle.hm_typing.specs.Names.{Identifier, IsOneOf, local, global, binding}
 use Rattle.hm_typing.specs.Schemes.{Monotype, Scheme, IsAtMostAsGeneral, scheme_put, Free}
@@ -13,7 +13,7 @@ use Rattle.hm_unify.specs.declared.faults.UnifyFault.TheVariants.{Clash, Memory}
 use Rattle.hm_assumptions.specs.Problems.{problem, bound}
 use Rattle.hm_assumptions.specs.Environments.{Assumed, assumptions, AreAssumed}
 
--- B is the most general family of schemes that types the list under A, as the problem of s' tells it
+-- B is the most general family of schemes that types the list under A, by the problem of s'
 pub record IsListed (A : Assumptions) (ds : Bindings) (B : Identifier → Scheme) (s s' : Solving) : Type 0 where
   pub grows : s.given ≤ s'.given
   pub below : FactsBelow (bound s') (problem s')
@@ -23,17 +23,17 @@ pub record IsListed (A : Assumptions) (ds : Bindings) (B : Identifier → Scheme
   pub complete : (r : ℕ → Monotype) → Unifies r (problem s) → (B' : Identifier → Scheme) → DerivedSchemes (assumptions_put r A) ds B' →
       (q : ℕ → Monotype) × ((x : ℕ) → x < bound s → q x ≡ r x) × Unifies q (problem s') × ((x : Identifier) → IsOneOf x (names ds) → IsAtMostAsGeneral (B' x) (scheme_put q (B x)))
 
--- a name that a source can mention: a pattern binding's own name can't be
+-- a name that a source can mention. It can't mention a pattern binding's own name
 abbrev pub IsWritten : Identifier → Type 0
 IsWritten (local x) = Unit {0}
 IsWritten (global e) = Unit {0}
 IsWritten (binding m k) = ⊥
 
--- each name that can be mentioned has the same instances under both, whatever is put for the free variables
+-- each name that a source can mention has the same instances under both, for any values of the free variables
 abbrev pub AreAlike : Assumptions → Assumptions → Type 0
 AreAlike A C = (r : ℕ → Monotype) (x : Identifier) → IsWritten x → (t : Monotype) → Has (assumptions_put r A) x t ↔ Has (assumptions_put r C) x t
 
--- the list's names are bound in the environment
+-- the environment has the names of the list
 pub record IsBound (ds : Bindings) (s : Solving) (es : List Assumed) (s' : Solving) (es' : List Assumed) : Type 0 where
   pub schemes : Identifier → Scheme
   pub added : List Assumed

@@ -10,7 +10,7 @@ use Rattle.hm_unify.specs.declared.faults.UnifyFault.TheVariants.{Clash, Memory}
 use Rattle.hm_assumptions.specs.Environments.{Assumed, assumptions}
 use Rattle.hm_expressions.specs.Lists.{IsWritten}
 
--- the environment gives each name that can be mentioned the instances of its principal scheme, with some types put for free variables
+-- the environment gives each name that a source can mention the instances of its principal scheme, with some types for free variables
 pub record IsInferred (ds : Bindings) (es es' : List Assumed) : Type 0 where
   pub schemes : Identifier → Scheme
   pub principal : HasPrincipalSchemes (assumptions es) ds schemes

@@ -1,4 +1,4 @@
--- Between two groups of a list: what the schemes of the names that are finished have to do with the solver's problem. No public clause names these.
+-- The state between two groups of a list: how the schemes of the finished names relate to the solver's problem. No public clause names these.
 use Rattle.std.specs.Prelude.{◌≡◌, ℕ, ◌<◌, ◌≤◌, ◌||◌, Bool, true, false, List, Option, length, Result, Ok, Err}
 use Rattle.std.specs.Bool.{Decides}
 use Rattle.hm_typing.specs.Names.{Identifier, IsOneOf}
@@ -22,11 +22,11 @@ use Rattle.hm_assumptions.specs.Environments.{Assumed, assumptions, AreAssumed}
 use Rattle.hm_expressions.specs.Lists.{RefusesList}
 use Rattle.hm_expressions.specs.BoundNames.{Sees, names_at}
 
--- what follows is at least as general as Γ
+-- the rest is checked under assumptions that are at least as general as Γ
 abbrev pub Following : Assumptions → Assumptions → (ℕ → Monotype) → Type 0
 Following Γ C r = AreAtMostAsGeneral Γ C
 
--- the names that are finished have the schemes B: the state s' asks what the state s asks, and that
+-- the finished names have the schemes B: the constraints of s' are those of s, and that
 pub record IsStage (ds : Bindings) (L : Layout ds) (A : Assumptions) (finished : Identifier → Bool) (B : Identifier → Scheme) (s s' : Solving) : Type 0 where
   pub grows : s.given ≤ s'.given
   pub below : FactsBelow (bound s') (problem s')
@@ -35,32 +35,32 @@ pub record IsStage (ds : Bindings) (L : Layout ds) (A : Assumptions) (finished :
   pub complete : (r : ℕ → Monotype) → Unifies r (problem s) → (Γ : Assumptions) → Stage L.own ds (Following Γ) A (λ x. false) L.declared r →
       (q : ℕ → Monotype) × ((x : ℕ) → x < bound s → q x ≡ r x) × Unifies q (problem s') × Stage L.own ds (Following Γ) A finished B q
 
--- one list has the bindings of these declarations
+-- the binding list of these declarations
 abbrev pub list_of : Known → List Declaration → Bindings
 list_of k decls = bindings_of k (declarations decls) (declarations decls)
 
--- no two nodes of a list have one name
+-- no two nodes of a list have the same name
 abbrev pub AreApart : Known → List Declaration → ℕ → Type 0
 AreApart k decls n = (i j : ℕ) → i < n → j < n → node_name k (declarations decls) i ≡ node_name k (declarations decls) j → i ≡ j
 
--- what is left after a group: its names are finished too; or the list has no typing
+-- after a group: its names are finished too; or the list has no typing
 abbrev pub AfterGroup : {X : Type 0} (ds : Bindings) → Layout ds → List Assumed → (Identifier → Bool) → (Identifier → Bool) → Solving → Solving → List Assumed → Result X UnifyFault → Type 0
 AfterGroup ds L base finished g s s1 es1 (Ok x) = (B : Identifier → Scheme) × (IsStage ds L (assumptions base) (λ y. finished y || g y) B s s1 × Sees ds (assumptions base) (λ y. finished y || g y) B es1)
 AfterGroup ds L base finished g s s1 es1 (Err e) = RefusesList ds s base e
 
--- the next group of a list is inferred, in whatever stage
+-- inferring the next group of a list, from any stage
 abbrev pub InfersGroup : {X : Type 0} → Known → List Declaration → List ℕ → List Assumed → Solving → List Assumed → Solving → List Assumed → Result X UnifyFault → Type 0
 InfersGroup k decls group base s0 es0 s1 es1 outcome =
     (L : Layout (list_of k decls)) (finished g : Identifier → Bool) (B : Identifier → Scheme) (s : Solving) → IsNext (list_of k decls) L.own finished g → ((y : Identifier) → Decides (g y) (IsOneOf y (names_at k (declarations decls) group))) → AreAssumed s.given base →
     IsStage (list_of k decls) L (assumptions base) finished B s s0 → Sees (list_of k decls) (assumptions base) finished B es0 → AfterGroup (list_of k decls) L base finished g s s1 es1 outcome
 
--- where nothing is free in what was assumed outside the list, nor in the environment, nothing is after the group
+-- if the assumptions outside the list and the environment have no free variables, they have none after the group
 abbrev pub ClosesGroup : Known → List Declaration → List ℕ → List Assumed → Solving → List Assumed → List Assumed → Type 0
 ClosesGroup k decls group base s0 es0 es1 =
     (L : Layout (list_of k decls)) (finished g : Identifier → Bool) (B : Identifier → Scheme) (s : Solving) → IsNext (list_of k decls) L.own finished g → ((y : Identifier) → Decides (g y) (IsOneOf y (names_at k (declarations decls) group))) → AreAssumed s.given base →
     IsStage (list_of k decls) L (assumptions base) finished B s s0 → Sees (list_of k decls) (assumptions base) finished B es0 → AreAssumed 0 base → AreAssumed 0 es0 → AreAssumed 0 es1
 
--- what is found of a list: its nodes, which are apart, and the rows of its declarations
+-- the nodes of a list, which are distinct, and the rows of its declarations
 pub record IsListFound (k : Known) (decls : List Declaration) (nodes : List (Option Variable)) (rows : List (List ℕ)) : Type 0 where
   pub nodes_are : nodes ≡ list_nodes (declarations decls) (declarations decls)
   pub rows_are : AreRows decls (length nodes) rows

@@ -1,4 +1,4 @@
--- What a group asks of a list, declaration by declaration: each clause on its own, each pattern binding. No public clause names it.
+-- The constraints of a group on a list, one declaration at a time: each clause alone, each pattern binding. No public clause names it.
 use Rattle.std.specs.Prelude.{◌≡◌, Bool, true}
 use Rattle.hm_typing.specs.Names.{Identifier, binding}
 use Rattle.hm_typing.specs.Schemes.{Monotype}
@@ -37,7 +37,7 @@ DeclarationsHave g C τ k all (more_declarations (pattern_binding l c p r) ds) =
     (g (binding k.home (declaration_count ds)) ≡ true → Matches τ (pattern_of k p) (τ (binding k.home (declaration_count ds))) × DeriveClauses C (typed.clause typed.no_pattern (right_sides_of k r) (where_of k r) typed.no_clause) (τ (binding k.home (declaration_count ds))))
     × DeclarationsHave g C τ k all ds
 
--- what it asks of a declaration before others
+-- the constraint on a declaration before others
 abbrev pub OneHas : (Identifier → Bool) → Assumptions → (Identifier → Monotype) → Known → Declarations → Declaration → Declarations → Type 0
 OneHas g C τ k all (data_declaration n ps cs) ds = Unit {0}
 OneHas g C τ k all (newtype_declaration n ps c) ds = Unit {0}

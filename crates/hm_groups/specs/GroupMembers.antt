@@ -1,4 +1,4 @@
--- The declarations of a binding group. Only this crate's functions and those of the inference cite it.
+-- The declarations of a binding group. Only functions of this crate and of inference cite it.
 use Rattle.std.specs.Prelude.{◌≡◌, ℕ, ◌⊎◌, ◌↔◌, List, Contains}
 use Rattle.hm_typing.specs.Names.{IsOneOf}
 use Rattle.hm_components.specs.Digraph.{Edge}

@@ -1,4 +1,5 @@
--- The nodes and edges of a declaration list's graph. Nodes are numbered from the last binding to the first, as hm_scope's bindings_of is built. No public clause names these.
+-- The nodes and edges of a declaration list's graph. Nodes are numbered from the last binding to the first, as bindings_of builds the list. No public
+-- clause names these.
 use Rattle.std.specs.Prelude.{◌≡◌, ℕ, ◌+◌, ◌<◌, ◌⊎◌, ◌↔◌, Bool, true, false, cond, List, [], ◌∷◌, ◌++◌, length, map, Option, Some, None, is_some, slice_index_or}
 use Rattle.std.specs.Str.{bytes_eq}
 use Rattle.std.specs.List.{slice_get}
@@ -14,7 +15,7 @@ use Rattle.hm_groups.specs.References.{pattern_variables, DeclarationRefers}
 use Rattle.hm_groups.specs.Walks.{IsNodeWith}
 use Rattle.hm_typing.specs.Names.{IsOneOf}
 
--- a set of the texts that have signatures
+-- a set of the texts with signatures
 abbrev pub Texts : Type 0
 Texts = IndexSet (Bor (List ℕ)) (BuildHasherDefault FoldHasher)
 
@@ -27,7 +28,7 @@ is_signed all x = is_some (signature_of x all)
 abbrev pub AreSigned : Declarations → Texts → Type 0
 AreSigned all texts = (x : List ℕ) → has_text texts x ≡ is_signed all x
 
--- the nodes that a declaration adds, before those behind it
+-- the nodes that a declaration adds, before those of the declarations after it
 abbrev pub new_nodes : Declarations → Declaration → Declarations → List (Option Variable)
 new_nodes all (data_declaration n ps cs) ds = []
 new_nodes all (newtype_declaration n ps c) ds = []
@@ -40,7 +41,7 @@ abbrev pub list_nodes : Declarations → Declarations → List (Option Variable)
 list_nodes all no_declarations = []
 list_nodes all (more_declarations d ds) = list_nodes all ds ++ new_nodes all d ds
 
--- a variable stands at two places
+-- a variable is at two places
 pub record IsRepeated (nodes : List (Option Variable)) : Type 0 where
   pub variable : Variable
   pub first : ℕ
@@ -49,7 +50,7 @@ pub record IsRepeated (nodes : List (Option Variable)) : Type 0 where
   pub at_first : slice_get nodes first ≡ Some (Some variable)
   pub at_second : slice_get nodes second ≡ Some (Some variable)
 
--- the node whose binding the first declaration belongs to
+-- the node of the first declaration's binding
 abbrev mutual
   pub owner : Declarations → Declarations → Option ℕ
   owner all no_declarations = None
@@ -63,12 +64,12 @@ abbrev mutual
   owner_of all (clause n ps r) ds behind = cond (is_continued n.text ps ds) behind (cond (is_signed all n.text) None (Some (length (list_nodes all ds))))
   owner_of all (pattern_binding l c p r) ds behind = Some (length (list_nodes all ds) + length (pattern_variables p))
 
--- the owners of all declarations, the last declaration's first
+-- the nodes of all declarations' bindings, the last declaration's first
 abbrev pub owners : Declarations → Declarations → List (Option ℕ)
 owners all no_declarations = []
 owners all (more_declarations d ds) = owners all ds ++ owner all (more_declarations d ds) ∷ []
 
--- the variables of a pattern binding and its own node lead to each other
+-- edges between the variables of a pattern binding and its own node, both ways
 abbrev pub Star : List (Option Variable) → Declaration → ℕ → ℕ → ℕ → Type 0
 Star nodes (data_declaration n ps cs) own from to = ⊥
 Star nodes (newtype_declaration n ps c) own from to = ⊥
@@ -77,7 +78,7 @@ Star nodes (signature ns t) own from to = ⊥
 Star nodes (clause n ps r) own from to = ⊥
 Star nodes (pattern_binding l c p r) own from to = ((from ≡ own) × IsNodeWith nodes (λ y. IsOneOf y (pattern_variables p)) to) ⊎ ((to ≡ own) × IsNodeWith nodes (λ y. IsOneOf y (pattern_variables p)) from)
 
--- the edges of a declaration with its node: to those that it refers to, and its star
+-- the edges of a declaration with its node: to the nodes to which it refers, and its star
 abbrev pub DeclarationEdge : List (Option Variable) → Declaration → ℕ → ℕ → ℕ → Type 0
 DeclarationEdge nodes d own from to = ((from ≡ own) × IsNodeWith nodes (λ y. DeclarationRefers y d) to) ⊎ Star nodes d own from to
 
@@ -86,7 +87,7 @@ abbrev pub ListEdge : Declarations → List (Option Variable) → Declarations �
 ListEdge all nodes no_declarations from to = ⊥
 ListEdge all nodes (more_declarations d ds) from to = ((own : ℕ) × (owner all (more_declarations d ds) ≡ Some own) × DeclarationEdge nodes d own from to) ⊎ ListEdge all nodes ds from to
 
--- a graph has these edges beside those of an older one
+-- a graph has these edges and those of an older one
 abbrev pub AddsEdges : Graph → Graph → (ℕ → ℕ → Type 0) → Type 0
 AddsEdges old new E = (x y : ℕ) → Edge new x y ↔ (Edge old x y ⊎ E x y)
 

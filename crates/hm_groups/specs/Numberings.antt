@@ -12,7 +12,7 @@ nodes_of ks = map (option_map variable_of_key) ks
 abbrev pub IsNode : List (Option Variable) → Variable → Type 0
 IsNode nodes x = (k : ℕ) × (slice_get nodes k ≡ Some (Some x))
 
--- the table has the number of each variable among the nodes, and each is there once
+-- the table has the number of each variable among the nodes, each once
 pub record IsNumbering (nodes : List (Option Variable)) (table : Table) : Type 0 where
   pub some : (x : Variable) (k : ℕ) → number_of table x ≡ Some k → slice_get nodes k ≡ Some (Some x)
   pub none : (x : Variable) → number_of table x ≡ None → ¬ (IsNode nodes x)

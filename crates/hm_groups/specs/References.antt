@@ -1,4 +1,5 @@
--- References over trees: a variable occurs free (Report 3 and 4.5.1), with the scopes of patterns, let and where. It is specs/Mentions of hm_typing, over the trees of a source.
+-- References over trees: free occurrences of a variable (Report 3 and 4.5.1), with the scopes of patterns, let and where. This is specs/Mentions of
+-- hm_typing, over the trees of a source.
 use Rattle.std.specs.Prelude.{◌≡◌, cond, ◌⊎◌, List, [], ◌∷◌, ◌++◌}
 use Rattle.hm_syntax.specs.Trees.{Pattern, variable_pattern, bound_pattern, constructor_pattern, literal_pattern, wildcard_pattern, tuple_pattern, list_pattern, lazy_pattern, Patterns, no_patterns, more_patterns, Expression, variable_expression, constructor_expression, literal_expression, application, lambda, let_expression, if_expression, case_expression, tuple_expression, list_expression, typed_expression, Expressions, no_expressions, more_expressions, Declaration, data_declaration, newtype_declaration, synonym_declaration, signature, clause, pattern_binding, Declarations, no_declarations, more_declarations, RightSide, right_side, Bodies, no_bodies, plain_body, guarded_body, Alternative, alternative, Alternatives, no_alternatives, more_alternatives}
 use Rattle.hm_typing.specs.Names.{IsOneOf}
@@ -21,7 +22,7 @@ abbrev mutual
   patterns_variables no_patterns = []
   patterns_variables (more_patterns p ps) = pattern_variables p ++ patterns_variables ps
 
--- the variables of the binding that a declaration ends, before those behind it: one clause of a binding counts, its last
+-- the variables of the binding that a declaration ends, before those after it. Of the clauses of a binding, only the last counts
 abbrev pub binding_variables : Declaration → Declarations → List Variable
 binding_variables (data_declaration n ps cs) ds = []
 binding_variables (newtype_declaration n ps c) ds = []

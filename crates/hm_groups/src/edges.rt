@@ -13,7 +13,7 @@ use hm_graph::Digraph;
 use hm_syntax::{Decl, DeclKind};
 use std::alloc::{AllocError, Global};
 
-/// Adds the edges from a node to those of a row.
+/// Adds the edges from a node to the nodes of a row.
 fn add_row(graph: &mut Digraph, from: usize, row: &[usize]) -> Result<(), AllocError>
     requires from { from < length graph.old }
     requires row { All (λ y. y < length graph.old) row.now }
@@ -26,7 +26,7 @@ fn add_row(graph: &mut Digraph, from: usize, row: &[usize]) -> Result<(), AllocE
     Ok(())
 }
 
-/// Adds the edges to a node from those of a row.
+/// Adds the edges to a node from the nodes of a row.
 fn add_column(graph: &mut Digraph, row: &[usize], to: usize) -> Result<(), AllocError>
     requires to { to < length graph.old }
     requires row { All (λ y. y < length graph.old) row.now }
@@ -39,7 +39,7 @@ fn add_column(graph: &mut Digraph, row: &[usize], to: usize) -> Result<(), Alloc
     Ok(())
 }
 
-/// A declaration of a list, and the numbers of the list's nodes.
+/// A declaration of a list, with the numbers of the list's nodes.
 #[derive(Clone, Copy)]
 struct NumberedDecl<'r, 'a> {
     numbers: &'r Numbers<'a>,
@@ -78,7 +78,7 @@ fn add_star(
     Ok(())
 }
 
-/// Adds the edges from a node to those that a declaration refers to.
+/// Adds the edges from a node to those to which a declaration refers.
 fn add_references(
     alloc: Global,
     graph: &mut Digraph,
@@ -149,7 +149,7 @@ fn add_all(
     Ok(())
 }
 
-/// The graph of a list, whose nodes are given.
+/// Returns the graph of a list with these nodes.
 pub fn graph_of(alloc: Global, list: &NodeList, decls: &[Decl]) -> Result<Digraph, AllocError>
     requires nodes { list.now.numbers ≡ list_nodes (declarations decls.now) (declarations decls.now) }
     requires owners { list.now.owners.items ≡ owners (declarations decls.now) (declarations decls.now) }

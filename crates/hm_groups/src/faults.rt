@@ -2,12 +2,12 @@
 
 use std::alloc::{AllocError, AllocFailed};
 
-/// Why the binding groups of a list were not found.
+/// Why a list has no binding groups.
 #[derive(Debug, Drop)]
 pub enum GroupFault {
     /// The list binds a name twice, so it has no typing.
     Repeated,
-    /// A growth was refused.
+    /// Memory ran out.
     Memory,
 }
 

@@ -1,4 +1,4 @@
-//! Inner scopes of a walk: their variables hide nodes.
+//! Inner scopes of a walk, in which local variables hide nodes.
 
 ghost use Rattle.std.specs.Prelude.{◌≡◌, OnOk, [], ◌∷◌, ◌<◌, length, All};
 ghost use Rattle.hm_syntax.specs.Lists.{patterns, declarations};
@@ -11,7 +11,7 @@ use crate::numbers::Numbers;
 use hm_syntax::{Decl, DeclKind, Name, Pat, PatKind};
 use std::alloc::AllocError;
 
-/// Hides a variable, and notes its number where it was shown.
+/// Hides a variable. Records its number if it was shown.
 pub(crate) fn hide(
     numbers: &Numbers,
     name: &Name,
@@ -74,7 +74,7 @@ pub(crate) fn hide_patterns(
     Ok(())
 }
 
-/// Whether the first of the declarations behind a clause goes on its binding.
+/// Returns whether the first declaration after a clause continues its binding.
 pub fn is_continued(name: &Name, pats: &[Pat], rest: &[Decl]) -> bool
     ensures { result ≡ goes_on name.now.text (patterns pats.now) (declarations rest.now) }
 {
@@ -134,7 +134,7 @@ pub(crate) fn hide_list(
     Ok(())
 }
 
-/// Shows the numbers noted again.
+/// Shows the recorded numbers again.
 pub(crate) fn show(noted: &[usize], shown: &mut [bool])
     requires { All (λ k. k < length shown.old) noted.now }
     ensures { Shows noted.now shown.old shown.new }

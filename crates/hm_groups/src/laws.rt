@@ -1,4 +1,4 @@
-//! Laws of the definitions, each the contract of a function that does nothing.
+//! Laws of declaration lists. Each law is a function with an empty body, and its contract is the law.
 
 ghost use Rattle.std.specs.Prelude.{◌↔◌, Bool};
 ghost use Rattle.hm_groups.specs.Checked.{GroupUnder, DeclarationsHave};
@@ -13,7 +13,7 @@ ghost use Rattle.hm_names.specs.Syntax.{Known, expression_of, bindings_of};
 ghost use Rattle.hm_variables.specs.Variables.{Variable, identifier};
 ghost use Rattle.hm_groups.specs.References.{Refers, DeclarationsRefer};
 
-/// What the walk finds is what the typing calls a mention: of expressions, and of the right sides of a list.
+/// The references that the walk finds are the mentions of the typing: for expressions, and for the right sides of a list.
 #[tactic(auto, using(crate::proofs::Mentioned::refers_same, crate::proofs::Mentioned::declarations_same))]
 pub fn references_are_mentions()
     ensures expressions { (k : Known) (y : Variable) (e : Expression) → Mentions (identifier y) (expression_of k e) ↔ Refers y e }
@@ -25,7 +25,7 @@ pub fn nodes_are_names()
     ensures { (k : Known) (all ds : Declarations) (x : Identifier) → IsOneOf x (node_names k all ds) ↔ IsUnsigned x (bindings_of k all ds) }
 {}
 
-/// What a group of a list asks of its bindings is what it asks of its declarations, one by one.
+/// The constraints of a group on its bindings are those on its declarations, one by one.
 pub fn groups_ask_of_declarations()
     ensures { (g : Identifier → Bool) (C : Assumptions) (τ : Identifier → Monotype) (k : Known) (all ds : Declarations)
         → GroupUnder g C τ (bindings_of k all ds) ↔ DeclarationsHave g C τ k all ds }

@@ -1,4 +1,4 @@
-//! The graph of a declaration list: its nodes, what they refer to, and the declarations of each (Haskell 98 Report, section 4.5.1).
+//! The graph of a declaration list: its nodes, their references, and the declarations of each (Haskell 98 Report, section 4.5.1).
 #![tactic(auto)]
 
 mod edges;

@@ -6,7 +6,7 @@ ghost use Rattle.hm_groups.specs.GroupMembers.{AreMembersOf, AddsRow};
 
 use std::alloc::{AllocError, Global};
 
-/// A declaration of a group, by its place in the list, and the node whose binding it belongs to.
+/// A declaration of a group: its place in the list, and the node of its binding.
 #[derive(Clone, Copy, Drop)]
 pub struct Member {
     pub place: usize,
@@ -26,7 +26,7 @@ fn add_row(members: &mut Vec<Member>, row: &[usize], node: usize) -> Result<(), 
     Ok(())
 }
 
-/// The declarations of a group of nodes, from the rows of all nodes.
+/// Returns the declarations of a group of nodes, from the rows of all nodes.
 pub fn group_members(
     alloc: Global,
     rows: &[Vec<usize>],

@@ -1,4 +1,4 @@
-//! The nodes of a list, from its last binding to its first.
+//! Finds the nodes of a list, from its last binding to its first.
 
 ghost use Rattle.std.specs.Prelude.{◌≡◌, [], ◌∷◌, ◌++◌, ◌+◌, IfOk, OnOk, Err, Some, None, map, length};
 ghost use Rattle.hm_syntax.specs.Lists.{declarations, patterns};
@@ -13,7 +13,7 @@ use hm_syntax::{Decl, DeclKind, Name, Pat, PatKind};
 use indexmap::IndexSet;
 use std::alloc::Global;
 
-/// Whether the text of a name is in the set.
+/// Returns whether the text of a name is in the set.
 fn is_signed(signed: &IndexSet<&str>, name: &Name) -> bool
     ensures { result ≡ has_text signed.now name.now.text }
 {
@@ -54,7 +54,7 @@ fn add_all_variables<'a>(numbers: &mut Numbers<'a>, pats: &'a [Pat]) -> Result<(
     Ok(())
 }
 
-/// Adds the nodes of a declaration, and answers the node whose binding it belongs to. `behind` is that of the declaration behind it.
+/// Adds the nodes of a declaration, and returns the node of its binding. `behind` is that of the next declaration.
 fn add_declaration<'a>(
     numbers: &mut Numbers<'a>,
     signed: &IndexSet<&str>,
@@ -95,14 +95,14 @@ fn add_declaration<'a>(
     }
 }
 
-/// The nodes of a list, and for each declaration, the last one first, the node whose binding it belongs to.
+/// The nodes of a list, and for each declaration, the last one first, the node of its binding.
 #[derive(Drop)]
 pub struct NodeList<'a> {
     pub numbers: Numbers<'a>,
     pub owners: Vec<Option<usize>>,
 }
 
-/// The nodes of a list. Where a variable is bound twice the list has no typing.
+/// Returns the nodes of a list, or `Repeated` if a variable is bound twice: then the list has no typing.
 pub fn node_list<'a>(
     alloc: Global,
     signed: &IndexSet<&str>,

@@ -1,4 +1,4 @@
-//! Numbers of the variables of a declaration list.
+//! The numbers of a declaration list's nodes.
 
 ghost use Rattle.std.specs.Prelude.{◌≡◌, ℕ, ◌∷◌, [], ◌++◌, Some, None, IfOk, OnOk, OnErr, IfSome, IfNone, ◌<◌, option_map, length};
 ghost use Rattle.std.specs.List.{slice_get};
@@ -13,8 +13,8 @@ use indexmap::IndexMap;
 use std::alloc::{AllocError, Global};
 use std::marker::Model;
 
-/// The nodes of a declaration list in order: its variables without signatures, and its pattern bindings, which have no name in a source.
-/// Contracts see a list in which a pattern binding is None.
+/// The nodes of a declaration list, in order: its variables without signatures, and its pattern bindings, which have no name in a source.
+/// Contracts see a list in which a pattern binding is `None`.
 pub struct Numbers<'a> {
     nodes: Vec<Option<LentName<'a>>>,
     table: IndexMap<LentName<'a>, usize>,
@@ -42,7 +42,7 @@ impl<'a> Model for Numbers<'a> {
 }
 
 impl<'a> Numbers<'a> {
-    /// No nodes.
+    /// Returns a list without nodes.
     pub(crate) fn new(alloc: Global) -> Numbers<'a>
         ensures { result ≡ [] }
     {
@@ -52,21 +52,21 @@ impl<'a> Numbers<'a> {
         }
     }
 
-    /// How many nodes there are.
+    /// Returns the number of nodes.
     pub fn len(&self) -> usize
         ensures { result ≡ length self.now }
     {
         self.nodes.len()
     }
 
-    /// Each variable is a node once. It does nothing: its clause is what a caller knows from then on.
+    /// Shows that each variable is a node only once.
     pub fn has_each_once(&self)
         ensures { (x : Variable) (j k : ℕ) → slice_get self.now j ≡ Some (Some x) → slice_get self.now k ≡ Some (Some x) → j ≡ k }
     {
         let _count = self.nodes.len();
     }
 
-    /// The variable of a node, or None where the node is a pattern binding.
+    /// Returns the variable of a node, or `None` for a pattern binding.
     pub fn variable(&self, number: usize) -> Option<LentName<'a>>
         requires { number < length self.now }
         ensures { slice_get self.now number ≡ Some (option_map variable_of_key result) }
@@ -74,7 +74,7 @@ impl<'a> Numbers<'a> {
         self.nodes[number]
     }
 
-    /// The number of a variable, if it is a node.
+    /// Returns the number of a variable, if it is a node.
     pub(crate) fn number(&self, name: &Name) -> Option<usize>
         ensures some { IfSome result (λ k. slice_get self.now k ≡ Some (Some (variable_of name.now))) }
         ensures none { IfNone result (¬ (IsNode self.now (variable_of name.now))) }

@@ -9,7 +9,7 @@ ghost use Rattle.hm_groups.specs.Nodes.{AddsEdges, list_nodes, owners};
 use hm_syntax::Decl;
 use std::alloc::{AllocError, Global};
 
-/// Rows without an element.
+/// Returns empty rows.
 fn empty_rows(alloc: Global, count: usize) -> Result<Vec<Vec<usize>>, AllocError>
     ensures { IfOk result (λ rows. lists rows.items ≡ replicate count []) }
 {
@@ -38,7 +38,7 @@ fn add_place(
     Ok(())
 }
 
-/// For each node the places of the declarations of its binding. `nodes` has the node of each declaration, the last one first.
+/// Returns for each node the places of the declarations of its binding. `nodes` has the node of each declaration, the last one first.
 pub fn rows_of(
     alloc: Global,
     nodes: &[Option<usize>],

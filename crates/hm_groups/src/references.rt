@@ -1,4 +1,4 @@
-//! The nodes that a right side refers to: one walk over the tree, in which the variables of an inner scope hide nodes.
+//! Finds the nodes to which a right side refers, in one walk over the tree. Variables of an inner scope hide nodes.
 
 ghost use Rattle.std.specs.Prelude.{◌≡◌, ◌↔◌, ℕ, Contains, IfOk, OnOk, length};
 ghost use Rattle.hm_syntax.specs.Lists.{expressions, declarations, alternatives, body, bodies};
@@ -13,7 +13,7 @@ use crate::numbers::Numbers;
 use hm_syntax::{Alt, Decl, DeclKind, Expr, ExprKind, Name, Rhs};
 use std::alloc::{AllocError, Global};
 
-/// Finds the nodes that an expression refers to.
+/// Finds the nodes to which an expression refers.
 #[cycle(walk)]
 fn find_in_expr(
     alloc: Global,
@@ -62,7 +62,7 @@ fn find_in_expr(
     Ok(())
 }
 
-/// Finds the node that a variable is.
+/// Finds the node of a variable.
 fn find_name(
     numbers: &Numbers,
     shown: &[bool],
@@ -80,7 +80,7 @@ fn find_name(
     Ok(())
 }
 
-/// Finds the nodes that expressions refer to.
+/// Finds the nodes to which expressions refer.
 #[cycle(walk)]
 fn find_in_exprs(
     alloc: Global,
@@ -98,7 +98,7 @@ fn find_in_exprs(
     Ok(())
 }
 
-/// Finds the nodes that alternatives refer to.
+/// Finds the nodes to which alternatives refer.
 #[cycle(walk)]
 fn find_in_alts(
     alloc: Global,
@@ -116,7 +116,7 @@ fn find_in_alts(
     Ok(())
 }
 
-/// Finds the nodes that an alternative refers to.
+/// Finds the nodes to which an alternative refers.
 #[cycle(walk)]
 fn find_in_alt(
     alloc: Global,
@@ -135,7 +135,7 @@ fn find_in_alt(
     Ok(())
 }
 
-/// Finds the nodes that the right sides of a clause or an alternative refer to, and what stands behind its `where`.
+/// Finds the nodes to which the right sides of a clause or an alternative refer, and the declarations of its `where`.
 #[cycle(walk)]
 fn find_in_rhs(
     alloc: Global,
@@ -155,7 +155,7 @@ fn find_in_rhs(
     Ok(())
 }
 
-/// Finds the nodes that guards and right sides refer to.
+/// Finds the nodes to which guards and right sides refer.
 #[cycle(walk)]
 fn find_in_parts(
     alloc: Global,
@@ -173,7 +173,7 @@ fn find_in_parts(
     Ok(())
 }
 
-/// Finds the nodes that a right side with its guard, if it has one, refers to.
+/// Finds the nodes to which a right side and its guard, if it has one, refer.
 #[cycle(walk)]
 fn find_in_part(
     alloc: Global,
@@ -198,7 +198,7 @@ fn find_in_part(
     }
 }
 
-/// Finds the nodes that a list's right sides refer to.
+/// Finds the nodes to which a list's right sides refer.
 #[cycle(walk)]
 fn find_in_decls(
     alloc: Global,
@@ -216,7 +216,7 @@ fn find_in_decls(
     Ok(())
 }
 
-/// Finds the nodes that a declaration's right side refers to.
+/// Finds the nodes to which a declaration's right side refers.
 #[cycle(walk)]
 pub(crate) fn find_in_decl(
     alloc: Global,
@@ -245,7 +245,7 @@ pub(crate) fn find_in_decl(
     Ok(())
 }
 
-/// The nodes that a declaration refers to. All nodes are shown, as they are afterwards.
+/// Returns the nodes to which a declaration refers. All nodes are shown before and after.
 pub fn referred_nodes(
     alloc: Global,
     numbers: &Numbers,

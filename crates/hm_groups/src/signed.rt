@@ -1,4 +1,4 @@
-//! Which variables of a list have signatures.
+//! Finds the variables of a list that have signatures.
 
 ghost use Rattle.std.specs.Prelude.{◌≡◌, ℕ, List, ◌||◌, IfOk, OnOk};
 ghost use Rattle.hm_syntax.specs.Lists.{declarations};
@@ -20,7 +20,7 @@ fn add_texts<'a>(texts: &mut IndexSet<&'a str>, names: &'a [Name]) -> Result<(),
     Ok(())
 }
 
-/// Adds the texts of a signature's names, where the declaration is one.
+/// Adds the texts of a signature's names, if the declaration is one.
 fn add_signature<'a>(texts: &mut IndexSet<&'a str>, decl: &'a Decl) -> Result<(), AllocError>
     ensures { OnOk result ((x : List ℕ) → has_text texts.new x ≡ (is_signed (more_declarations decl.now no_declarations) x || has_text texts.old x)) }
 {
@@ -30,7 +30,7 @@ fn add_signature<'a>(texts: &mut IndexSet<&'a str>, decl: &'a Decl) -> Result<()
     }
 }
 
-/// The texts of the variables that have signatures in a list.
+/// Returns the texts of the variables with signatures in a list.
 pub fn signed_texts<'a>(alloc: Global, decls: &'a [Decl]) -> Result<IndexSet<&'a str>, AllocError>
     ensures { IfOk result (AreSigned (declarations decls.now)) }
 {

@@ -12,12 +12,12 @@ use Rattle.hm_syntax.specs.declared.ast.SubItems.TheVariants as subs
 use Rattle.hm_names.specs.declared.namespace.Namespace.TheVariants.{Types, Values}
 use Rattle.hm_names.specs.Entities.{Exports, Belongs}
 
--- the item lists at k what f doesn't export
+-- the item lists at k a name that f doesn't export
 pub data IsItemFault (f : Interface) (k : Identifier) : ImportItem → Type 0 where
   a_value : ((e : Entity) → ¬ Exports f k.text e Values) → IsItemFault f k (item.Var k)
   a_type : {s : SubItems} → ((e : Entity) → ¬ Exports f k.text e Types) → IsItemFault f k (item.Con k s)
   a_constructor : {v : Identifier} {cs : List Identifier} {e : Entity} → Exports f v.text e Types → Contains cs k → ¬ Belongs f v.text k.text → IsItemFault f k (item.Con v (subs.Some cs))
 
--- an item of the list does
+-- an item of the list does that
 pub data IsListFault (f : Interface) (k : Identifier) : ImportList → Type 0 where
   an_item : {is : List ImportItem} {j : ImportItem} → Contains is j → IsItemFault f k j → IsListFault f k (list.Only is)

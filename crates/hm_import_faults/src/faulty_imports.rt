@@ -1,4 +1,4 @@
-//! Faults of import lists (Report, section 5.3.1).
+//! The faults of import lists (Report, section 5.3.1).
 
 ghost use Rattle.std.specs.Prelude.{◌≡◌, ◌↔◌, IfOk, OnOk, IsTrue, Contains, map};
 ghost use Rattle.std.specs.Borrow.{Bor};
@@ -20,7 +20,7 @@ use hm_tables::entry_named;
 use hm_types::Interface;
 use std::alloc::{AllocError, Global};
 
-/// Whether an interface exports a type or a synonym of this name.
+/// Returns whether an interface exports a type or a synonym with this name.
 fn exports_type(interface: &Interface, text: &str) -> bool
     ensures { IsTrue result ↔ ((e : Entity) × Exports interface.now text.now e Types) }
 {
@@ -33,7 +33,7 @@ fn exports_type(interface: &Interface, text: &str) -> bool
     }
 }
 
-/// Whether an interface exports a variable of this name.
+/// Returns whether an interface exports a variable with this name.
 fn exports_value(interface: &Interface, text: &str) -> bool
     ensures { IsTrue result ↔ ((e : Entity) × Exports interface.now text.now e Values) }
 {
@@ -43,7 +43,7 @@ fn exports_value(interface: &Interface, text: &str) -> bool
     }
 }
 
-/// Whether an interface exports a type of the first name and a constructor of it of the second.
+/// Returns whether an interface exports a type with the first name, and a constructor of it with the second.
 fn belongs(interface: &Interface, owner: &str, text: &str) -> bool
     ensures { IsTrue result ↔ Belongs interface.now owner.now text.now }
 {
@@ -65,7 +65,7 @@ fn add_fault(alloc: Global, faults: &mut Vec<Fault>, name: &Name) -> Result<(), 
     Ok(())
 }
 
-/// Adds the fault of a constructor that is listed behind a type, unless it is one of it.
+/// Adds the fault of a constructor that is listed after a type, unless it belongs to the type.
 fn add_part_fault(
     alloc: Global,
     faults: &mut Vec<Fault>,
@@ -83,7 +83,7 @@ fn add_part_fault(
     Ok(())
 }
 
-/// Adds the faults of the constructors that are listed behind a type.
+/// Adds the faults of the constructors that are listed after a type.
 fn add_part_faults(
     alloc: Global,
     faults: &mut Vec<Fault>,
@@ -171,7 +171,7 @@ fn add_list_faults(
     }
 }
 
-/// Adds the faults of an import, if the interface is that of its module.
+/// Adds the faults of an import, if this is the interface of its module.
 fn add_named_faults(
     alloc: Global,
     faults: &mut Vec<Fault>,
@@ -205,7 +205,7 @@ fn add_import_faults(
     Ok(())
 }
 
-/// The faults of the imports of a module, for the interfaces of the imported modules.
+/// Returns the faults of the imports of a module, for the interfaces of the imported modules.
 pub fn import_faults(
     alloc: Global,
     program: &Module,

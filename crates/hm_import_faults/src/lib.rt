@@ -1,4 +1,4 @@
-//! The faults of import lists (Haskell 98 Report, section 5.3.1).
+//! Finds the faults of import lists (Haskell 98 Report, section 5.3.1).
 #![tactic(auto)]
 
 mod faulty_imports;

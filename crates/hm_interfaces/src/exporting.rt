@@ -1,4 +1,4 @@
-//! The interface of a module whose variables have schemes.
+//! Makes the interface of a core.
 
 ghost use Rattle.std.specs.Prelude.{◌≡◌, map, IfOk, IsSome};
 ghost use Rattle.std.specs.Arc.{arc_value};
@@ -13,7 +13,7 @@ use hm_types::Interface;
 use std::alloc::{AllocError, Global};
 use std::sync::Arc;
 
-/// The interfaces of a core, lent.
+/// Borrows the interfaces of a core.
 fn lent<'a>(
     alloc: Global,
     interfaces: &'a [Arc<Interface>],
@@ -27,7 +27,7 @@ fn lent<'a>(
     Ok(lent)
 }
 
-/// The interface of a core, with a scheme for each of its variables.
+/// Returns the interface of a core, with a scheme for each of its variables.
 pub fn export(alloc: Global, core: &Core, schemes: &Schemes) -> Result<Interface, AllocError>
     requires core { IsSomeCore core.now }
     requires schemes { (e : Entity) → IsTop core.now e → IsSome (scheme_of schemes.now e.name) }

@@ -1,4 +1,4 @@
-//! The interface of a core, for given schemes of its variables.
+//! Makes the interface of a core, for given schemes of its variables.
 #![tactic(auto)]
 
 mod exporting;

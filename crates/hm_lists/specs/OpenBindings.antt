@@ -1,4 +1,4 @@
--- The binding that the next clause may go on, as the code has it. No public clause names these.
+-- The binding that the next clause may continue, as the code has it. No public clause names these.
 use Rattle.std.specs.Prelude.{ℕ, List, Option, option_map}
 use Rattle.std.specs.Borrow.{Bor}
 use Rattle.hm_names.specs.Faults.Lists.{OpenBinding}

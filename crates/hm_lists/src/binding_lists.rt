@@ -28,7 +28,7 @@ fn add_pattern_binding<'a>(
     Ok(())
 }
 
-/// Adds the variables of the binding that a declaration begins, and gives what the next clause may go on.
+/// Adds the variables of the binding that a declaration begins, and returns the binding that the next clause may continue.
 fn add_binding<'a>(
     alloc: Global,
     out: &mut LentNames<'a>,
@@ -57,7 +57,7 @@ fn add_binding<'a>(
     }
 }
 
-/// The variables of the bindings of a list.
+/// Returns the variables of the bindings of a list.
 pub(crate) fn binding_names<'a>(
     alloc: Global,
     decls: &'a [Decl],
@@ -72,7 +72,7 @@ pub(crate) fn binding_names<'a>(
     Ok(names)
 }
 
-/// Adds the variable of a clause of another length than its binding's first, and gives what the next clause may go on.
+/// Adds the variable of a clause of the wrong length, and returns the binding that the next clause may continue.
 fn add_other_length<'a>(
     out: &mut LentNames<'a>,
     begun: OpenBinding<'a>,
@@ -99,7 +99,7 @@ fn add_other_length<'a>(
     }
 }
 
-/// The clauses that go on a binding with another number of patterns than its first one has.
+/// Returns the clauses that continue a binding with another number of patterns than its first clause.
 pub(crate) fn other_lengths<'a>(
     alloc: Global,
     decls: &'a [Decl],

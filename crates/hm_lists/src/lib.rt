@@ -1,5 +1,5 @@
-//! Names in lists (Haskell 98 Report, sections 4.2, 4.4.1 and 4.4.3): what a declaration list has twice or lacks, clauses of another length than
-//! their binding's first, and which names are local at a place of a tree.
+//! The names in declaration lists (Haskell 98 Report, sections 4.2, 4.4.1 and 4.4.3): duplicates, signatures without bindings, clauses of the wrong
+//! length; and the local names at a place of a tree.
 #![tactic(auto)]
 
 mod binding_lists;

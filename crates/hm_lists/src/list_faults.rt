@@ -1,4 +1,4 @@
-//! The faults of a declaration list by itself (Report, sections 4.2, 4.4.1 and 4.4.3).
+//! The faults of a declaration list without those of its parts (Report, sections 4.2, 4.4.1 and 4.4.3).
 
 ghost use Rattle.std.specs.Prelude.{◌≡◌, ◌++◌, OnOk, map};
 ghost use Rattle.hm_syntax.specs.Lists.{declarations};
@@ -12,7 +12,7 @@ use hm_names::{Fault, Kind, LentNames, fault_at};
 use hm_syntax::Decl;
 use std::alloc::{AllocError, Global};
 
-/// Adds a fault of each name.
+/// Adds a fault for each name.
 fn add_faults(
     alloc: Global,
     faults: &mut Vec<Fault>,
@@ -28,7 +28,7 @@ fn add_faults(
     Ok(())
 }
 
-/// Adds what is declared twice in a list, signatures without a binding, and clauses of another length than their binding's first.
+/// Adds the faults of a list: duplicates, signatures without a binding, and clauses of another length than the first of their binding.
 pub fn add_list_faults(
     alloc: Global,
     faults: &mut Vec<Fault>,

@@ -1,4 +1,4 @@
-//! What declaration lists declare, in order.
+//! The names that declaration lists declare, in order.
 
 ghost use Rattle.std.specs.Prelude.{◌≡◌, ◌++◌, ◌∷◌, [], IfOk, OnOk, map};
 ghost use Rattle.hm_syntax.specs.Lists.{declarations};
@@ -45,7 +45,7 @@ fn add_type<'a>(out: &mut LentNames<'a>, decl: &'a Decl) -> Result<(), AllocErro
     }
 }
 
-/// The types that a list declares.
+/// Returns the types that a list declares.
 pub(crate) fn type_names<'a>(alloc: Global, decls: &'a [Decl]) -> Result<LentNames<'a>, AllocError>
     ensures { IfOk result (λ names. names ≡ type_names (declarations decls.now)) }
 {
@@ -70,7 +70,7 @@ fn add_declared_constructors<'a>(out: &mut LentNames<'a>, decl: &'a Decl) -> Res
     }
 }
 
-/// The constructors that a list declares.
+/// Returns the constructors that a list declares.
 pub(crate) fn constructor_names<'a>(
     alloc: Global,
     decls: &'a [Decl],
@@ -84,7 +84,7 @@ pub(crate) fn constructor_names<'a>(
     Ok(names)
 }
 
-/// Adds the variables that a declaration gives a signature.
+/// Adds the variables in a signature.
 fn add_signed<'a>(out: &mut LentNames<'a>, decl: &'a Decl) -> Result<(), AllocError>
     ensures { OnOk result ((ds : Declarations) → out.new ++ signed_names ds ≡ out.old ++ signed_names (more_declarations decl.now ds)) }
 {
@@ -98,7 +98,7 @@ fn add_signed<'a>(out: &mut LentNames<'a>, decl: &'a Decl) -> Result<(), AllocEr
     }
 }
 
-/// The variables that have a signature in a list.
+/// Returns the variables with a signature in a list.
 pub(crate) fn signed_names<'a>(
     alloc: Global,
     decls: &'a [Decl],
@@ -126,7 +126,7 @@ fn add_clause<'a>(out: &mut LentNames<'a>, decl: &'a Decl) -> Result<(), AllocEr
     }
 }
 
-/// The variables that a list binds by clauses, each clause's.
+/// Returns the variables that a list binds by clauses, once for each clause.
 pub(crate) fn clause_names<'a>(
     alloc: Global,
     decls: &'a [Decl],

@@ -12,7 +12,7 @@ use std::alloc::{AllocError, Global};
 use std::collections::HashMap;
 use std::marker::Model;
 
-/// Names that one list of declarations or patterns binds.
+/// The names that one list of declarations or patterns binds.
 #[derive(Drop)]
 struct Group {
     names: Vec<Name>,
@@ -27,7 +27,7 @@ impl Model for Group {
     ghost view = { λ g. texts g.names.items };
 }
 
-/// Notes that a name is bound at this depth, unless it is bound further out.
+/// Records that a name is bound at this depth, unless it is bound further out.
 fn note(
     alloc: Global,
     depths: &mut HashMap<String, usize>,
@@ -46,7 +46,7 @@ fn note(
     }
 }
 
-/// Notes that names are bound at this depth, but for those that are bound further out.
+/// Records that names are bound at this depth, except those that are bound further out.
 fn note_all(
     alloc: Global,
     depths: &mut HashMap<String, usize>,
@@ -62,7 +62,7 @@ fn note_all(
     Ok(())
 }
 
-/// Forgets a name that is bound at this depth first.
+/// Removes a name if its outermost binding is at this depth.
 fn forget(depths: &mut HashMap<String, usize>, name: &Name, depth: usize)
     ensures { (x : List ℕ) → get_by_text depths.new x
         ≡ cond (bytes_eq name.now.text x) (unless_at depth (get_by_text depths.old x)) (get_by_text depths.old x) }
@@ -77,7 +77,7 @@ fn forget(depths: &mut HashMap<String, usize>, name: &Name, depth: usize)
     }
 }
 
-/// Forgets those of the names that are bound at this depth first.
+/// Removes the names with an outermost binding at this depth.
 fn forget_all(depths: &mut HashMap<String, usize>, names: &[Name], depth: usize)
     ensures { (x : List ℕ) → get_by_text depths.new x
         ≡ cond (is_text_among x (texts names.now)) (unless_at depth (get_by_text depths.old x)) (get_by_text depths.old x) }
@@ -87,8 +87,9 @@ fn forget_all(depths: &mut HashMap<String, usize>, names: &[Name], depth: usize)
     }
 }
 
-/// The local names at a place, each list of them by itself. Contracts see the innermost first. A table has, for each text, the depth of the
-/// outermost list with a name of this text, so that nesting costs a look-up nothing.
+/// The local names at a place, in lists. Contracts see the innermost list first.
+///
+/// A table has, for each text, the depth of the outermost list with this text. So the time of a look-up doesn't depend on nesting.
 pub struct Locals {
     alloc: Global,
     groups: Vec<Group>,
@@ -117,7 +118,7 @@ impl Model for Locals {
 }
 
 impl Locals {
-    /// No names.
+    /// Returns no local names.
     pub fn new(alloc: Global) -> Locals
         ensures { result ≡ [] }
     {
@@ -128,7 +129,7 @@ impl Locals {
         }
     }
 
-    /// Goes to where these names are bound too. Where memory runs out, no name is left.
+    /// Adds a list of names that are bound in an inner scope. If memory runs out, removes all names.
     pub fn enter(&mut self, names: Vec<Name>) -> Result<(), AllocError>
         ensures { OnOk result (self.new ≡ texts names.items ∷ self.old) }
     {
@@ -142,14 +143,14 @@ impl Locals {
         }
     }
 
-    /// Goes back to where the names of the last `enter` were not bound.
+    /// Removes the list of the last `enter`.
     pub fn leave(&mut self)
         ensures { self.new ≡ rest_of self.old }
     {
         leave_group(&mut self.groups, &mut self.depths);
     }
 
-    /// Whether a name with this text is bound.
+    /// Returns whether a name with this text is bound.
     pub fn contains(&self, text: &str) -> bool
         ensures { result ≡ is_text_among text.now (all_of self.now) }
     {
@@ -172,7 +173,7 @@ fn enter_group(
     Ok(())
 }
 
-/// Takes the last list of names away.
+/// Removes the last list of names.
 fn leave_group(groups: &mut Vec<Group>, depths: &mut HashMap<String, usize>)
     ensures groups { reverse groups.new.items ≡ rest_of (reverse groups.old.items) }
     ensures depths { IsDepthTable groups.old.items depths.old → IsDepthTable groups.new.items depths.new }

@@ -1,4 +1,4 @@
-//! Clauses that stand together are one binding (Report, section 4.4.3.1).
+//! Adjacent clauses of one variable are one binding (Report, section 4.4.3.1).
 
 ghost use Rattle.std.specs.Prelude.{◌≡◌, None};
 ghost use Rattle.hm_syntax.specs.Lists.{patterns};
@@ -7,7 +7,7 @@ ghost use Rattle.hm_names.specs.Faults.Lists.{opened, goes_on, has_other_length}
 use hm_syntax::{Name, Pat};
 use std::marker::Model;
 
-/// The binding that the next clause may go on: its variable, and how many patterns its first clause has.
+/// The binding that the next clause may continue: its variable, and the number of patterns of its first clause.
 #[derive(Drop)]
 pub(crate) struct OpenBinding<'a> {
     binding: Option<(&'a str, usize)>,
@@ -23,14 +23,14 @@ impl<'a> Model for OpenBinding<'a> {
 }
 
 impl<'a> OpenBinding<'a> {
-    /// No binding that a clause may go on.
+    /// Returns that no clause can continue a binding.
     pub(crate) fn none() -> OpenBinding<'a>
         ensures { result ≡ None }
     {
         OpenBinding { binding: None }
     }
 
-    /// What a first clause opens.
+    /// Returns the binding that a first clause opens.
     pub(crate) fn opened(name: &'a Name, pats: &[Pat]) -> OpenBinding<'a>
         ensures { result ≡ opened name.now (patterns pats.now) }
     {
@@ -42,7 +42,7 @@ impl<'a> OpenBinding<'a> {
         }
     }
 
-    /// Whether a clause goes on.
+    /// Returns whether a clause continues the binding.
     pub(crate) fn goes_on(&self, name: &Name, pats: &[Pat]) -> bool
         ensures { result ≡ goes_on self.now name.now (patterns pats.now) }
     {
@@ -55,7 +55,7 @@ impl<'a> OpenBinding<'a> {
         !pats.is_empty()
     }
 
-    /// Whether a clause has another number of patterns than the first.
+    /// Returns whether a clause has another number of patterns than the first.
     pub(crate) fn has_other_length(&self, pats: &[Pat]) -> bool
         ensures { result ≡ has_other_length self.now (patterns pats.now) }
     {

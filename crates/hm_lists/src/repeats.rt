@@ -1,4 +1,4 @@
-//! Names that stand twice, and names that are missing from a list.
+//! Names that occur twice in a list, and names that a list lacks.
 
 ghost use Rattle.std.specs.Prelude.{◌≡◌, ◌++◌, ℕ, List, [], IfOk, OnOk, map};
 ghost use Rattle.hm_names.specs.Faults.Lists.{firsts};
@@ -12,7 +12,7 @@ use hm_syntax::Name;
 use hm_tables::TextSet;
 use std::alloc::{AllocError, Global};
 
-/// Adds a fault of each name behind another of its text.
+/// Adds a fault for each name that comes after another with the same text.
 pub fn add_repeated(
     alloc: Global,
     faults: &mut Vec<Fault>,
@@ -34,7 +34,7 @@ pub fn add_repeated(
     Ok(())
 }
 
-/// The texts of names.
+/// Returns the texts of names.
 fn texts_of<'a>(alloc: Global, names: &[&'a Name]) -> Result<TextSet<'a>, AllocError>
     ensures { IfOk result (λ set. (x : List ℕ) → is_text_among x set ≡ is_text_among x (texts (map (λ n. n.now) names.now))) }
 {
@@ -45,7 +45,7 @@ fn texts_of<'a>(alloc: Global, names: &[&'a Name]) -> Result<TextSet<'a>, AllocE
     Ok(set)
 }
 
-/// Adds a fault of each name whose text isn't that of one of these.
+/// Adds a fault for each name whose text isn't among these.
 pub fn add_outside(
     alloc: Global,
     faults: &mut Vec<Fault>,
@@ -68,7 +68,7 @@ pub fn add_outside(
     Ok(())
 }
 
-/// Adds each name that is the first of its text.
+/// Adds each name that is the first with its text.
 pub(crate) fn add_firsts<'a>(
     alloc: Global,
     out: &mut LentNames<'a>,

@@ -1,4 +1,4 @@
--- A table of the types to which constructors belong. No public clause names it.
+-- A table of the types of constructors. No public clause names it.
 use Rattle.std.specs.Prelude.{◌≡◌, List, option_map, Bool, ◌&&◌}
 use Rattle.std.specs.Str.{bytes_eq}
 use Rattle.std.specs.declared.hash.FoldHasher.{FoldHasher}
@@ -9,7 +9,7 @@ use Rattle.hm_tables.specs.declared.keys.EntityKey.{EntityKey}
 use Rattle.hm_names.specs.Described.{ConstructorDescription, first_of}
 use Rattle.hm_tables.specs.KnownTables.{entity_at}
 
--- what `==` answers of two keys
+-- the result of `==` for two keys
 abbrev pub same_key : EntityKey → EntityKey → Bool
 same_key j k = bytes_eq j.«module».now k.«module».now && bytes_eq j.name.now k.name.now
 

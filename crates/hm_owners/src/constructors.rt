@@ -1,4 +1,4 @@
-//! The types to which constructors belong.
+//! The types of constructors.
 
 ghost use Rattle.std.specs.Prelude.{◌≡◌, ◌++◌, ◌∷◌, [], List, map, IfOk, OnOk, option_map, ℕ};
 ghost use Rattle.hm_names.specs.Described.{ConstructorDescription, described, declared_constructors, first_of, imported_constructors};
@@ -10,7 +10,7 @@ use hm_types::{ConstructorEntry, Interface, Text};
 use indexmap::IndexMap;
 use std::alloc::{AllocError, Global};
 
-/// Notes the type of a constructor, unless it has one.
+/// Records the type of a constructor, unless it has one.
 fn note_owner<'a>(
     owners: &mut IndexMap<EntityKey<'a>, EntityRef<'a>>,
     constructor: &EntityRef<'a>,
@@ -30,7 +30,7 @@ fn note_owner<'a>(
     Ok(())
 }
 
-/// Notes the type of a constructor of its declaration.
+/// Records the type of a constructor in its declaration.
 fn note_constructor<'a>(
     owners: &mut IndexMap<EntityKey<'a>, EntityRef<'a>>,
     module: &'a Text,
@@ -45,7 +45,7 @@ fn note_constructor<'a>(
     Ok(())
 }
 
-/// Notes the type of each constructor of its declaration.
+/// Records the type of each constructor of a declaration.
 fn note_constructors<'a>(
     owners: &mut IndexMap<EntityKey<'a>, EntityRef<'a>>,
     module: &'a Text,
@@ -61,7 +61,7 @@ fn note_constructors<'a>(
     Ok(())
 }
 
-/// Notes the types of the constructors that a declaration declares.
+/// Records the types of the constructors that a declaration declares.
 fn note_declaration<'a>(
     owners: &mut IndexMap<EntityKey<'a>, EntityRef<'a>>,
     module: &'a Text,
@@ -86,7 +86,7 @@ fn note_declaration<'a>(
     }
 }
 
-/// Notes the types of the constructors that a module declares.
+/// Records the types of the constructors that a module declares.
 fn note_declared<'a>(
     owners: &mut IndexMap<EntityKey<'a>, EntityRef<'a>>,
     program: &'a Module,
@@ -101,7 +101,7 @@ fn note_declared<'a>(
     Ok(())
 }
 
-/// Notes the types of the constructors of an interface.
+/// Records the types of the constructors of an interface.
 fn note_exported<'a>(
     owners: &mut IndexMap<EntityKey<'a>, EntityRef<'a>>,
     entries: &'a [ConstructorEntry],
@@ -116,7 +116,7 @@ fn note_exported<'a>(
     Ok(())
 }
 
-/// The type of each constructor, by its first description: the module's own, then those of the interfaces in order.
+/// Returns the type of each constructor, by its first description: the module's own, then those of the interfaces in order.
 pub fn owners_of<'a>(
     alloc: Global,
     program: &'a Module,
@@ -133,7 +133,7 @@ pub fn owners_of<'a>(
     Ok(owners)
 }
 
-/// The type to which a constructor belongs.
+/// Returns the type of a constructor.
 pub fn owner_of<'o, 'a>(
     owners: &'o IndexMap<EntityKey<'a>, EntityRef<'a>>,
     constructor: &EntityRef<'a>,

@@ -1,4 +1,4 @@
-//! The types to which constructors belong (Haskell 98 Report, section 5.2), each by the first description of its constructor.
+//! A table of the type of each constructor, by the first description of the constructor (Haskell 98 Report, section 5.2).
 #![tactic(auto)]
 
 mod constructors;

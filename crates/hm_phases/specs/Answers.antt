@@ -1,4 +1,4 @@
--- What is answered for the faults of one phase, and of all. No public clause names these.
+-- The results of one phase, and of all phases. No public clause names these.
 use Rattle.std.specs.Prelude.{Bool, true, false, ◌<◌, ◌↔◌, List, Option, None, Some, Contains}
 use Rattle.hm_types.specs.Interfaces.{Exports as Interface}
 use Rattle.hm_syntax.specs.declared.ast.Module.{Module}
@@ -7,16 +7,16 @@ use Rattle.hm_names.specs.declared.faults.Kind.TheVariants.{NotExported, Duplica
 use Rattle.hm_names.specs.declared.faults.Fault.{Fault}
 use Rattle.hm_names.specs.Faults.Phases.{Phase, phase_number, HasFault, IsWellFormed, AreFaults}
 
--- the list has just the faults of the phase
+-- the list has exactly the faults of the phase
 abbrev pub AreExact : Module → List Interface → Phase → List Fault → Type 0
 AreExact m fs p found = (f : Fault) → Contains found f ↔ HasFault m fs p f
 
--- no answer where the phase has no fault, and else the answer of the module, if no phase before it has any
+-- no result if the phase has no fault; else the faults of the module, if no earlier phase has any
 abbrev pub IsPhaseAnswer : Module → List Interface → Phase → Option (List Fault) → Type 0
 IsPhaseAnswer m fs p None = (f : Fault) → ¬ (HasFault m fs p f)
 IsPhaseAnswer m fs p (Some found) = ((q : Phase) → phase_number q < phase_number p → (f : Fault) → ¬ (HasFault m fs q f)) → AreFaults m fs found
 
--- the kinds of faults that are found in trees, by phases: of declaration lists, of names, and of numbers of arguments and patterns
+-- the kinds of faults in trees, by phase: of declaration lists, of names, and of numbers of arguments and patterns
 abbrev pub lists_kind : Kind → Bool
 lists_kind NotExported = false
 lists_kind Duplicate = true
@@ -68,7 +68,7 @@ numbers_kind Recursive = false
 abbrev pub is_of_numbers : Fault → Bool
 is_of_numbers f = numbers_kind f.kind
 
--- no answer where the module is well-formed, and else its faults
+-- no result if the module is well-formed, else its faults
 abbrev pub AreFirstFaults : Module → List Interface → Option (List Fault) → Type 0
 AreFirstFaults m fs None = IsWellFormed m fs
 AreFirstFaults m fs (Some found) = AreFaults m fs found

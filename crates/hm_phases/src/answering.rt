@@ -1,4 +1,4 @@
-//! What is answered for the faults of one phase.
+//! The result for the faults of one phase.
 
 ghost use Rattle.std.specs.Prelude.{IfOk, List};
 ghost use Rattle.hm_syntax.specs.declared.ast.Module.{Module};
@@ -10,7 +10,7 @@ use hm_names::{Fault, sort_faults};
 use hm_syntax::Row;
 use std::alloc::AllocError;
 
-/// The answer for a module with these faults of one phase, if there are any.
+/// Returns the faults of one phase, in order, or `None` if there are none.
 pub fn phase_answer(faults: Vec<Fault>) -> Result<Option<Row<Fault>>, AllocError>
     ensures { IfOk result (λ answer. (m : Module) (fs : List Interface) (p : Phase) → AreExact m fs p faults.items → IsPhaseAnswer m fs p answer) }
 {
@@ -21,7 +21,7 @@ pub fn phase_answer(faults: Vec<Fault>) -> Result<Option<Row<Fault>>, AllocError
     Ok(Some(Row { items }))
 }
 
-/// The faults of the first of the phases behind that of the imports that has any, in order.
+/// Returns the faults of the first phase after imports that has any, in order, or `None` if none has.
 pub fn first_faults(
     lists: Vec<Fault>,
     exports: Vec<Fault>,

@@ -1,4 +1,4 @@
-//! The faults of a module by the phases in which they are looked for, and what is answered for them.
+//! Sorts the faults of a module by phase, and returns those of the first phase that has any.
 #![tactic(auto)]
 
 mod answering;

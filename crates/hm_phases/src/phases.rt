@@ -1,4 +1,4 @@
-//! Faults by the phases in which they are looked for.
+//! Faults by phase.
 
 ghost use Rattle.std.specs.Prelude.{◌≡◌, ◌++◌, ◌∷◌, [], IfOk, OnOk, filter};
 ghost use Rattle.hm_phases.specs.Answers.{is_of_lists, is_of_names, is_of_numbers};
@@ -37,7 +37,7 @@ fn add_fault(parts: &mut TreeFaults, fault: Fault) -> Result<(), AllocError>
     Ok(())
 }
 
-/// The faults that a walk over a module's trees noted, by phases.
+/// Sorts the faults of a walk over a module's trees by phase.
 pub fn by_phases(alloc: Global, faults: Vec<Fault>) -> Result<TreeFaults, AllocError>
     ensures lists { IfOk result (λ parts. parts.lists.items ≡ filter is_of_lists faults.items) }
     ensures names { IfOk result (λ parts. parts.names.items ≡ filter is_of_names faults.items) }

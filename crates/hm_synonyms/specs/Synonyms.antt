@@ -1,4 +1,4 @@
--- The references of a module's synonyms to each other, as they are computed. No public clause names these.
+-- The references of a module's synonyms to each other, as the code computes them. No public clause names these.
 use Rattle.std.specs.Prelude.{◌≡◌, ℕ, ◌<◌, ◌↔◌, ◌⊎◌, Bool, true, false, List, [], map, length, Some, slice_index, slice_index_or, take, Contains}
 use Rattle.hm_types.specs.Interfaces.{Exports as Interface}
 use Rattle.hm_syntax.specs.Names.{Identifier}
@@ -25,7 +25,7 @@ use Rattle.hm_names.specs.Faults.Phases.{IsWellFormed, fault}
 abbrev pub DeclaresSynonym : List Declaration → List ℕ → Type 0
 DeclaresSynonym ds x = (n : Identifier) × (ps : List Identifier) × (t : TypeTree) × (Contains ds (synonym_declaration n ps t) × (n.text ≡ x))
 
--- no name stands twice
+-- no name occurs twice
 abbrev pub IsOnce : List (List ℕ) → Type 0
 IsOnce names = (i j : ℕ) → i < length names → j < length names → slice_index_or names i [] ≡ slice_index_or names j [] → i ≡ j
 
@@ -34,13 +34,13 @@ pub record AreSynonyms (ds : List Declaration) (names : List (List ℕ)) : Type 
   pub all : (x : List ℕ) → Contains names x ↔ DeclaresSynonym ds x
   pub once : IsOnce names
 
--- the graph has a node for each name, and an edge where a synonym refers to a synonym
+-- the graph has a node for each name, and an edge from each synonym to those to which it refers
 pub record IsReferenceGraph (m : Module) (fs : List Interface) (names : List (List ℕ)) (graph : Graph) : Type 0 where
   pub nodes : length graph ≡ length names
   pub edges : (i j : ℕ) → i < length names → j < length names → Edge graph i j ↔ RefersTo m fs (slice_index_or names i []) (slice_index_or names j [])
   pub within : (i j : ℕ) → Edge graph i j → j < length names
 
--- one of the names means the own entity x
+-- one of the names means the module's own entity x
 abbrev pub NamesOwn : Module → List Interface → List Identifier → List ℕ → Type 0
 NamesOwn m fs used x = (k : Identifier) × (Contains used k × Means m fs Types k (own m x))
 
@@ -50,17 +50,17 @@ pub record HasSynonymFault (m : Module) (fs : List Interface) (f : Fault) : Type
   pub stands : SynonymFault m fs kind name
   pub is : f ≡ fault kind name
 
--- the declaration that is lent
+-- the declaration that is borrowed
 abbrev pub declaration_of : OwnSynonym → Declaration
 declaration_of s = synonym_declaration s.name.now s.params.now s.ty.now
 
--- the synonyms of these declarations, by their names, each with a declaration of it
+-- the synonyms of these declarations by name, each with a declaration of it
 pub record AreOwnSynonyms (ds : List Declaration) (synonyms : OwnSynonyms) : Type 0 where
   pub names : AreSynonyms ds synonyms.names
   pub same : synonyms.names ≡ map (λ s. s.name.now.text) synonyms.declared.items
   pub stand : (s : OwnSynonym) → Contains synonyms.declared.items s → Contains ds (declaration_of s)
 
--- among these declarations the synonym x is declared, with a right side in which the type constructor y of the module stands
+-- these declarations declare the synonym x, and its right side has the type constructor y of the module
 pub record RefersIn (m : Module) (fs : List Interface) (ds : List Declaration) (x y : List ℕ) : Type 0 where
   pub name : Identifier
   pub parameters : List Identifier
@@ -81,7 +81,7 @@ pub record IsMarked (names : List (List ℕ)) (marks : List Bool) (x : List ℕ)
   pub is_name : slice_index_or names place [] ≡ x
   pub marked : slice_index_or marks place false ≡ true
 
--- the fault of a declaration of a synonym that is marked
+-- the fault of a declaration of a marked synonym
 pub record IsMarkedFault (names : List (List ℕ)) (marks : List Bool) (ds : List Declaration) (f : Fault) : Type 0 where
   pub name : Identifier
   pub parameters : List Identifier
@@ -90,15 +90,15 @@ pub record IsMarkedFault (names : List (List ℕ)) (marks : List Bool) (ds : Lis
   pub marked : IsMarked names marks name.text
   pub is : f ≡ fault Recursive name
 
--- what is looked up of each type constructor's synonym is what its description says
+-- the tables have for each type constructor the synonym of its description
 abbrev pub AreResolved : Module → List Interface → Lookups → Type 0
 AreResolved m fs k = (e : Entity) (d : TypeDescription) → type_meant m.header.name.text m.decls fs e ≡ Some d → synonym_among k.synonyms e ≡ synonym_meant (resolver_of k) d.meaning
 
--- the synonym that is known of an entity is the one that the resolver has
+-- the tables have for an entity the synonym that the resolver has
 abbrev pub IsSettled : Resolver → List KnownSynonym → Entity → Type 0
 IsSettled r synonyms e = synonym_among synonyms e ≡ r.synonym e
 
--- Each type constructor in the right side of a synonym of the order is settled, or a synonym that stands before it there
+-- each type constructor in the right side of a synonym of the order is settled, or a synonym earlier in the order
 pub record IsExpandable (m : Module) (fs : List Interface) (r : Resolver) (declared : List OwnSynonym) (order : List ℕ) (known : List KnownSynonym) : Type 0 where
   pub resolver : IsResolver m fs r
   pub well_formed : IsWellFormed m fs
@@ -107,7 +107,7 @@ pub record IsExpandable (m : Module) (fs : List Interface) (r : Resolver) (decla
       Contains (constructors_in (slice_index_or declared (slice_index order i) d).ty.now) o → Means m fs Types o e →
       IsSettled r known e ⊎ ((k : ℕ) × (Contains (take i order) k × ((k < length declared) × (e ≡ own m (slice_index_or declared k d).name.now.text))))
 
--- what was settled is, and so are the synonyms of the order
+-- settled entities stay settled, and the synonyms of the order become settled
 pub record Finishes (r : Resolver) (home : List ℕ) (declared : List OwnSynonym) (order : List ℕ) (old new : List KnownSynonym) : Type 0 where
   pub kept : (e : Entity) → IsSettled r old e → IsSettled r new e
   pub finished : (k : ℕ) (d : OwnSynonym) → Contains order k → k < length declared → IsSettled r new (named home (slice_index_or declared k d).name.now.text)

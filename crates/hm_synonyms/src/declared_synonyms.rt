@@ -1,4 +1,4 @@
-//! The synonyms that a module declares, and their references to each other (Report, section 4.2.2).
+//! A module's declared synonyms, and their references to each other (Report, section 4.2.2).
 
 ghost use Rattle.std.specs.Prelude.{◌≡◌, ◌<◌, ◌⊎◌, ℕ, List, [], ◌∷◌, ◌++◌, IfOk, OnOk, IfSome, IfNone, Contains, length, map, slice_index_or};
 ghost use Rattle.hm_syntax.specs.declared.ast.Module.{Module};
@@ -17,7 +17,7 @@ use hm_syntax::{Decl, DeclKind, Module, Name, TypeExpr};
 use hm_tables::{Meaning, Scope, TextSet};
 use std::alloc::{AllocError, Global};
 
-/// A synonym that a module declares.
+/// A declared synonym.
 #[derive(Drop)]
 pub struct OwnSynonym<'a> {
     pub name: &'a Name,
@@ -25,7 +25,7 @@ pub struct OwnSynonym<'a> {
     pub ty: &'a TypeExpr,
 }
 
-/// The synonyms that a module declares, numbered in order, each name once.
+/// A module's declared synonyms, numbered in order, each name once.
 #[derive(Drop)]
 pub struct OwnSynonyms<'a> {
     pub names: TextSet<'a>,
@@ -33,7 +33,7 @@ pub struct OwnSynonyms<'a> {
     pub declared: Vec<OwnSynonym<'a>>,
 }
 
-/// Adds a synonym, unless its name stands there.
+/// Adds a synonym, unless its name was added before.
 fn add_synonym<'a>(
     synonyms: &mut OwnSynonyms<'a>,
     synonym: OwnSynonym<'a>,
@@ -63,7 +63,7 @@ fn add_declared<'a>(synonyms: &mut OwnSynonyms<'a>, decl: &'a Decl) -> Result<()
     }
 }
 
-/// The synonyms of a module.
+/// Returns the synonyms of a module.
 pub fn own_synonyms<'a>(alloc: Global, decls: &'a [Decl]) -> Result<OwnSynonyms<'a>, AllocError>
     ensures { IfOk result (λ synonyms. AreOwnSynonyms decls.now synonyms) }
 {
@@ -77,7 +77,7 @@ pub fn own_synonyms<'a>(alloc: Global, decls: &'a [Decl]) -> Result<OwnSynonyms<
     Ok(synonyms)
 }
 
-/// Which synonym of the module a type constructor is.
+/// Returns the number of the module's synonym that a type constructor means, if it means one.
 fn own_synonym(scope: &Scope<'_>, home: &str, names: &TextSet<'_>, name: &Name) -> Option<usize>
     ensures within { IfSome result (λ j. j < length names.now) }
     ensures own { IfSome result (λ j. (m : Module) (fs : List Interface) → IsScopeOf m fs scope.now → home.now ≡ m.header.name.text
@@ -106,7 +106,7 @@ struct ScopedNames<'r, 'a> {
     names: &'r TextSet<'a>,
 }
 
-/// Adds the edge from a synonym to the one that a type constructor is, if it is one of the module.
+/// Adds the edge from a synonym to the one that a type constructor means, if it is one of the module.
 fn add_reference(
     graph: &mut Digraph,
     scoped: &ScopedNames<'_, '_>,
@@ -129,7 +129,7 @@ fn add_reference(
     }
 }
 
-/// Adds the edges from a synonym to those among these type constructors.
+/// Adds the edges from a synonym to the synonyms among these type constructors.
 fn add_references(
     graph: &mut Digraph,
     scoped: &ScopedNames<'_, '_>,
@@ -181,7 +181,7 @@ fn add_declaration(
     }
 }
 
-/// The graph of the synonyms of a module, with an edge where one refers to another.
+/// Returns the graph of a module's synonyms, with an edge from each synonym to those to which it refers.
 pub fn reference_graph(
     alloc: Global,
     scope: &Scope<'_>,

@@ -1,4 +1,4 @@
-//! The synonyms that a module declares (Haskell 98 Report, section 4.2.2): the graph of their references, and those that reach themselves.
+//! A module's synonyms (Haskell 98 Report, section 4.2.2): the graph of their references, and the recursive ones.
 #![tactic(auto)]
 
 mod declared_synonyms;

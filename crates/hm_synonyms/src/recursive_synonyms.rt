@@ -1,4 +1,4 @@
-//! Synonyms that reach themselves (Report, section 4.2.2).
+//! Recursive synonyms (Report, section 4.2.2).
 
 ghost use Rattle.std.specs.Prelude.{◌≡◌, ◌<◌, ◌↔◌, ℕ, List, [], ◌∷◌, IsTrue, IfOk, OnOk, Contains, length};
 ghost use Rattle.hm_types.specs.Interfaces.{Exports as Interface};
@@ -12,7 +12,7 @@ use hm_syntax::{Decl, DeclKind, Module, Name};
 use hm_tables::TextSet;
 use std::alloc::{AllocError, Global};
 
-/// Whether the synonym of this name is marked.
+/// Returns whether the synonym with this name is marked.
 fn is_marked(names: &TextSet<'_>, marks: &[bool], name: &Name) -> bool
     requires { length marks.now ≡ length names.now }
     ensures { IsOnce names.now → (IsTrue result ↔ IsMarked names.now marks.now name.now.text) }
@@ -23,7 +23,7 @@ fn is_marked(names: &TextSet<'_>, marks: &[bool], name: &Name) -> bool
     }
 }
 
-/// Adds the fault of a declaration of a synonym that is marked.
+/// Adds the fault of a declaration of a marked synonym.
 fn add_recursive(
     alloc: Global,
     faults: &mut Vec<Fault>,
@@ -50,7 +50,7 @@ fn add_recursive(
     }
 }
 
-/// The faults of synonyms that reach themselves.
+/// Returns the faults of recursive synonyms.
 pub fn synonym_faults(
     alloc: Global,
     program: &Module,

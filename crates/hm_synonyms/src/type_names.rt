@@ -1,4 +1,4 @@
-//! The type constructors in types, lent, in order.
+//! The type constructors in types, borrowed, in order.
 
 ghost use Rattle.std.specs.Prelude.{◌≡◌, ◌++◌, OnOk};
 ghost use Rattle.hm_syntax.specs.Lists.{types};
@@ -32,7 +32,7 @@ pub(crate) fn add_type<'a>(out: &mut LentNames<'a>, ty: &'a TypeExpr) -> Result<
     }
 }
 
-/// Adds the type constructors in types in a row.
+/// Adds the type constructors in a row of types.
 #[cycle(types)]
 #[tactic(auto, using(hm_names::proofs::Rows::type_falls))]
 pub(crate) fn add_types<'a>(out: &mut LentNames<'a>, row: &'a [TypeExpr]) -> Result<(), AllocError>

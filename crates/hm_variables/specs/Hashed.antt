@@ -1,4 +1,4 @@
--- What a key feeds a hasher. No clause names this.
+-- The bytes that a key writes to a hasher. No clause names this.
 use Rattle.std.specs.Prelude.{ℕ, Bool, true, false, ◌&&◌, List, [], ◌∷◌, Option, None, Some}
 use Rattle.std.specs.Borrow.{Bor}
 use Rattle.std.proofs.Common.{◌≡◌, refl, ap, ◌∙◌, bytes_eq}
@@ -7,7 +7,7 @@ use Rattle.std.proofs.lemmas.Slice.Eq.{bytes_eq-Decides}
 use Rattle.hm_variables.specs.declared.lent_names.LentName.{LentName}
 use Rattle.hm_variables.specs.contracts.lent_names.LentNamePartialEq as LentNamePartialEq
 
--- the text behind its qualifier, if it has one
+-- the text after its qualifier, if it has one
 abbrev pub writes_behind : Option (Bor (List ℕ)) → Bor (List ℕ) → List (List ℕ)
 writes_behind None t = t.now ∷ []
 writes_behind (Some q) t = q.now ∷ t.now ∷ []
@@ -15,7 +15,7 @@ writes_behind (Some q) t = q.now ∷ t.now ∷ []
 abbrev pub writes_of : LentName → List (List ℕ)
 writes_of k = writes_behind k.qualifier k.text
 
--- What is equal is fed alike
+-- Equal keys write the same bytes
 
 first_true : (a b : Bool) → (a && b) ≡ true → a ≡ true
 first_true true b e = refl

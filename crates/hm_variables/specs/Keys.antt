@@ -1,4 +1,4 @@
--- Keys of tables as variables. Only this crate's functions, and those of binding groups and of the inference, cite it.
+-- Keys of tables as variables. Only functions of this crate, of binding groups and of inference cite it.
 use Rattle.std.specs.Prelude.{List, ℕ, Bool, true, false, ◌&&◌, Option, None, Some, option_map}
 use Rattle.std.specs.Str.{bytes_eq}
 use Rattle.std.specs.Borrow.{Bor}
@@ -20,7 +20,7 @@ same_qualifier (Some x) (Some y) = bytes_eq x y
 abbrev pub same_variable : Variable → Variable → Bool
 same_variable x y = same_qualifier x.qualifier y.qualifier && bytes_eq x.text y.text
 
--- a table of numbers under variables
+-- a table of numbers by variable
 abbrev pub Table : Type 0
 Table = IndexMap LentName ℕ (BuildHasherDefault FoldHasher)
 

@@ -11,6 +11,6 @@ pub record Variable : Type 0 where
 abbrev pub variable_of : written.Identifier → Variable
 variable_of n = record { qualifier = n.qualifier; text = n.text }
 
--- as a name of the typing
+-- the name in the typing
 abbrev pub identifier : Variable → Identifier
 identifier x = name_in x.qualifier x.text

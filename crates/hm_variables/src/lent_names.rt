@@ -8,14 +8,14 @@ ghost use Rattle.hm_variables.specs.Hashed.{same_writes, writes_of};
 use hm_syntax::Name;
 use std::hash::{Hash, Hasher};
 
-/// A variable by its qualifier and text, lent by a tree.
+/// A variable, by its qualifier and text, borrowed from a tree.
 #[derive(Clone, Copy, Debug, PartialEq, Eq)]
 pub struct LentName<'a> {
     pub qualifier: Option<&'a str>,
     pub text: &'a str,
 }
 
-/// Feeds the texts and no more, since a derived one also feeds a number for the qualifier and a byte behind each text.
+/// Hashes only the texts. The derived one would also hash a number for the qualifier and a byte after each text.
 impl<'a> Hash for LentName<'a> {
     ghost hash_input = { writes_of };
 
@@ -29,7 +29,7 @@ impl<'a> Hash for LentName<'a> {
     }
 }
 
-/// The variable that a name is.
+/// Returns the variable with this name.
 pub fn key_of(name: &Name) -> LentName<'_>
     ensures { variable_of_key result ≡ variable_of name.now }
 {
