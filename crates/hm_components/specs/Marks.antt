@@ -1,4 +1,4 @@
--- What the search and the placing of groups keep in their tables. No public clause names these.
+-- The tables of the search and of the placing of groups. No public clause names these.
 use Rattle.std.specs.Prelude.{ℕ, ◌≡◌, ◌≢◌, ◌+◌, ◌<◌, ◌⊎◌, ◌↔◌, Bool, true, false, not, List, length, slice_index_or, Contains, count_by, Vec, []}
 use Rattle.std.specs.List.Sorted.{IsStrictlyIncreasing}
 use Rattle.std.specs.declared.alloc.Global.{Global}
@@ -7,11 +7,11 @@ use Rattle.hm_components.specs.Digraph.{Graph, Reaches, lists}
 abbrev pub IsMarked : List Bool → ℕ → Type 0
 IsMarked marks k = slice_index_or marks k false ≡ true
 
--- what is left to do: the nodes without a mark and those that wait
+-- the work to do: the number of nodes without a mark and of those that wait
 abbrev pub work_left : List Bool → List ℕ → ℕ
 work_left marks waiting = count_by not marks + length waiting
 
--- each number of `row` has a mark now, and waits if it had none
+-- each number of `row` now has a mark, and waits if it had none
 pub record MarksRow (row : List ℕ) (old new : List Bool) (waiting_old waiting_new : List ℕ) : Type 0 where
   pub nodes : length new ≡ length old
   pub marks : (k : ℕ) → IsMarked new k ↔ (IsMarked old k ⊎ Contains row k)
@@ -41,27 +41,27 @@ pub record IsTable (graph : Graph) (table : List (Vec Bool Global)) : Type 0 whe
   pub square : IsSquare table (length graph)
   pub reached : (x y : ℕ) → x < length graph → (bit table x y ≡ true) ↔ Reaches graph x y
 
--- the node y keeps the group of x from coming: x reaches y, not the other way, and y is not yet placed
+-- the node y blocks the group of x: x reaches y, y doesn't reach x, and y isn't placed
 pub record Blocks (table : List (Vec Bool Global)) (placed : List Bool) (x y : ℕ) : Type 0 where
   pub ahead : bit table x y ≡ true
   pub not_back : bit table y x ≡ false
   pub unplaced : slice_index_or placed y false ≡ false
 
--- below its limit no node blocks x
+-- no node below its limit blocks x
 abbrev pub AreLimits : List (Vec Bool Global) → List Bool → List ℕ → Type 0
 AreLimits table placed limits = (x y : ℕ) → x < length limits → y < slice_index_or limits x 0 → ¬ Blocks table placed x y
 
--- the node is not placed, and no node blocks it
+-- the node isn't placed, and no node blocks it
 pub record IsReady (table : List (Vec Bool Global)) (placed : List Bool) (x : ℕ) : Type 0 where
   pub node : x < length placed
   pub unplaced : slice_index_or placed x false ≡ false
   pub free : (y : ℕ) → y < length placed → ¬ Blocks table placed x y
 
--- the node is placed, or some node blocks it
+-- the node is placed, or a node blocks it
 abbrev pub IsHeld : List (Vec Bool Global) → List Bool → ℕ → Type 0
 IsHeld table placed x = IsMarked placed x ⊎ ((y : ℕ) × (y < length placed) × Blocks table placed x y)
 
--- x, and the nodes that reach it and that it reaches
+-- x, and the nodes that it reaches and that reach it
 abbrev pub IsMember : List (Vec Bool Global) → ℕ → ℕ → Type 0
 IsMember table x y = (x ≡ y) ⊎ ((bit table x y ≡ true) × (bit table y x ≡ true))
 
@@ -69,7 +69,7 @@ pub record IsRowOf (table : List (Vec Bool Global)) (x : ℕ) (group : List ℕ)
   pub members : (y : ℕ) → Contains group y ↔ ((y < length table) × IsMember table x y)
   pub ascending : IsStrictlyIncreasing group
 
--- each number of `group` has a mark now, and what had one
+-- the numbers of `group` now have a mark, and so have those that had one
 pub record PlacesGroup (group : List ℕ) (old new : List Bool) : Type 0 where
   pub nodes : length new ≡ length old
   pub marks : (k : ℕ) → IsMarked new k ↔ (IsMarked old k ⊎ Contains group k)

@@ -1,4 +1,4 @@
--- A worked graph, and what is said of the order of its nodes.
+-- A worked example: a graph, and the orders of its nodes.
 use Rattle.std.specs.Prelude.{[], ◌∷◌}
 use Rattle.hm_components.specs.Digraph.{Graph}
 use Rattle.hm_components.specs.NodeOrders.{IsOrder}
@@ -7,7 +7,7 @@ use Rattle.hm_components.specs.NodeOrders.{IsOrder}
 abbrev pub three : Graph
 three = (2 ∷ []) ∷ [] ∷ (0 ∷ 1 ∷ []) ∷ []
 
--- node 1 comes first, and then 0 and 2 in either order; not behind 0, which reaches it through 2, and not twice
+-- node 1 comes first, then 0 and 2 in any order. It doesn't come after 0, which reaches it through 2, and no node comes twice
 pub record OrdersRow : Type 0 where
   pub first : IsOrder three (1 ∷ 0 ∷ 2 ∷ [])
   pub either : IsOrder three (1 ∷ 2 ∷ 0 ∷ [])

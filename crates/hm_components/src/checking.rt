@@ -1,10 +1,10 @@
 //! Tests whether lists of nodes are the groups of a graph in their order, in time and memory linear in
 //! its nodes and edges.
 //!
-//! The lists are the strong components where each node stands in one of them, each member of a list is
-//! reached from the list's first one and reaches it without leaving the list, and no edge leads to a
-//! later list. Their order is that of `specs/Digraph` where of each list the following holds: behind the
-//! last list that it has an edge to, all lists before it have smaller first members.
+//! The lists are the strong components if each node is in exactly one list, the first member of a list
+//! and each other member reach each other inside the list, and no edge leads to a
+//! later list. They are in the order of `specs/Digraph` if this holds for each list: after the
+//! last list to which it has an edge, all lists before it have smaller first members.
 
 ghost use Rattle.std.specs.Prelude.{◌≡◌, ℕ, ◌+◌, ◌<◌, ◌≤◌, ◌⊎◌, [], length, IsTrue, IfOk, OnOk, IfSome, All, Contains, vec_len, slice_index_or};
 ghost use Rattle.hm_components.specs.Digraph.{Edge, Reaches, AreGroups, lists};
@@ -14,7 +14,7 @@ ghost use Rattle.std.specs.List.Sorted.{IsStrictlyIncreasing};
 
 use std::alloc::{AllocError, Global};
 
-/// The number of the list in which each node stands; none where a node stands in no list.
+/// Returns the number of each node's list, or `None` if a node is in no list.
 fn list_numbers(
     alloc: Global,
     groups: &[Vec<usize>],
@@ -40,7 +40,7 @@ fn list_numbers(
     Ok(Some(numbers))
 }
 
-/// Whether each node stands at its place in the list of its number.
+/// Returns whether each node is at its place in the list with its number.
 fn is_covered(groups: &[Vec<usize>], numbers: &[usize], places: &[usize]) -> bool
     requires { length places.now ≡ length numbers.now }
     ensures { IsTrue result → IsCovered (lists groups.now) (length numbers.now) numbers.now }
@@ -57,7 +57,7 @@ fn is_covered(groups: &[Vec<usize>], numbers: &[usize], places: &[usize]) -> boo
     true
 }
 
-/// Whether each member of the list is a node with the list's number.
+/// Returns whether each member of the list is a node with the list's number.
 fn has_number(group: &[usize], number: usize, numbers: &[usize]) -> bool
     ensures { IsTrue result → All (λ x. (x < length numbers.now) × (number_of numbers.now x ≡ number)) group.now }
 {
@@ -69,7 +69,7 @@ fn has_number(group: &[usize], number: usize, numbers: &[usize]) -> bool
     true
 }
 
-/// Whether each member of each list is a node with that list's number.
+/// Returns whether each member of each list is a node with that list's number.
 fn are_members(groups: &[Vec<usize>], numbers: &[usize]) -> bool
     ensures { IsTrue result → AreMembers (lists groups.now) numbers.now }
 {
@@ -81,7 +81,7 @@ fn are_members(groups: &[Vec<usize>], numbers: &[usize]) -> bool
     true
 }
 
-/// Whether the list ascends.
+/// Returns whether the list ascends.
 fn is_ascending(group: &[usize]) -> bool
     ensures { IsTrue result → IsStrictlyIncreasing group.now }
 {
@@ -93,7 +93,7 @@ fn is_ascending(group: &[usize]) -> bool
     true
 }
 
-/// Whether each list ascends.
+/// Returns whether each list ascends.
 fn all_ascend(groups: &[Vec<usize>]) -> bool
     ensures { IsTrue result → AllAscending (lists groups.now) }
 {
@@ -105,7 +105,7 @@ fn all_ascend(groups: &[Vec<usize>]) -> bool
     true
 }
 
-/// The first member of each list; none where a list is empty.
+/// Returns the first member of each list, or `None` if a list is empty.
 fn first_members(alloc: Global, groups: &[Vec<usize>]) -> Result<Option<Vec<usize>>, AllocError>
     ensures { IfOk result (λ found. IfSome found (λ leasts. AreLeasts (lists groups.now) leasts.items)) }
 {
@@ -120,7 +120,7 @@ fn first_members(alloc: Global, groups: &[Vec<usize>]) -> Result<Option<Vec<usiz
     Ok(Some(leasts))
 }
 
-/// Whether no node of the row stands in a list behind that of this number.
+/// Returns whether no node of the row is in a list after the one with this number.
 fn is_not_ahead(row: &[usize], number: usize, numbers: &[usize]) -> bool
     requires { All (λ y. y < length numbers.now) row.now }
     ensures { IsTrue result → All (λ y. number_of numbers.now y ≤ number) row.now }
@@ -133,7 +133,7 @@ fn is_not_ahead(row: &[usize], number: usize, numbers: &[usize]) -> bool
     true
 }
 
-/// Whether no edge leads to a later list.
+/// Returns whether no edge leads to a later list.
 fn no_edge_ahead(rows: &[Vec<usize>], numbers: &[usize]) -> bool
     requires closed { IsClosed (lists rows.now) }
     requires len { length numbers.now ≡ length rows.now }
@@ -147,7 +147,7 @@ fn no_edge_ahead(rows: &[Vec<usize>], numbers: &[usize]) -> bool
     true
 }
 
-/// Marks the nodes of a row that stand in the list of this number; those that had no mark wait.
+/// Marks the nodes of a row that are in the list with this number. Those without a mark before are added to `waiting`.
 fn mark_within(
     row: &[usize],
     number: usize,
@@ -168,7 +168,7 @@ fn mark_within(
     Ok(())
 }
 
-/// The marks of the nodes that the first member of their list reaches without leaving the list.
+/// Returns the marks of the nodes that the first member of their list reaches inside the list.
 fn reached_within(
     alloc: Global,
     rows: &[Vec<usize>],
@@ -192,7 +192,7 @@ fn reached_within(
     Ok(marks)
 }
 
-/// Whether each node is the first of its list or is reached from it, by these rows.
+/// Returns whether each node is the first of its list or is reached from it, by these rows.
 fn all_reached_within(
     alloc: Global,
     rows: &[Vec<usize>],
@@ -214,7 +214,7 @@ fn all_reached_within(
     Ok(true)
 }
 
-/// The earliest place of a list, after the edges of this row: behind each list that one of them leads to.
+/// Returns the earliest place of a list after the edges of this row: after each list to which one of them leads.
 fn raised_place(row: &[usize], number: usize, numbers: &[usize], earliest: usize) -> usize
     requires { All (λ y. y < length numbers.now) row.now }
     ensures { (result ≡ earliest) ⊎ ((y : ℕ) × Contains row.now y × (number_of numbers.now y < number) × (result ≡ number_of numbers.now y + 1)) }
@@ -229,7 +229,7 @@ fn raised_place(row: &[usize], number: usize, numbers: &[usize], earliest: usize
     raised
 }
 
-/// For each list the earliest place that its edges allow: behind the last list that it has an edge to, or 0.
+/// Returns for each list the earliest place that its edges allow: after the last list to which it has an edge, or 0.
 fn earliest_places(
     alloc: Global,
     rows: &[Vec<usize>],
@@ -249,7 +249,7 @@ fn earliest_places(
     Ok(earliest)
 }
 
-/// The least place such that from there to `start` no member is greater than the one at `start`.
+/// Returns the least place such that no member from there to `start` is greater than the one at `start`.
 fn place_before(leasts: &[usize], places: &[usize], start: usize) -> usize
     requires start { start < length leasts.now }
     requires len { length places.now ≡ start }
@@ -264,7 +264,7 @@ fn place_before(leasts: &[usize], places: &[usize], start: usize) -> usize
     place
 }
 
-/// Whether each list stands behind one that it has an edge to, or as early as its first member allows.
+/// Returns whether each list is directly after one to which it has an edge, or as early as its first member allows.
 fn is_least_first(alloc: Global, leasts: &[usize], earliest: &[usize]) -> Result<bool, AllocError>
     requires { length earliest.now ≡ length leasts.now }
     ensures { IfOk result (λ first. IsTrue first → IsLeastFirst leasts.now earliest.now) }
@@ -288,7 +288,7 @@ struct NumberedLists<'a> {
     leasts: &'a [usize],
 }
 
-/// Whether each node is the first of its list, or is reached from it and reaches it without leaving the list, where
+/// Returns whether each node is the first of its list, or reaches it and is reached from it inside the list.
 /// `back` has the edges reversed.
 fn are_joined(
     alloc: Global,
@@ -313,7 +313,7 @@ fn are_joined(
     Ok(all_reached_within(alloc, back, list.numbers, list.leasts)?)
 }
 
-/// Whether each list stands behind one that it has an edge to, or as early as its first member allows.
+/// Returns whether each list is directly after one to which it has an edge, or as early as its first member allows.
 fn are_in_order(
     alloc: Global,
     rows: &[Vec<usize>],
@@ -328,8 +328,8 @@ fn are_in_order(
     Ok(is_least_first(alloc, list.leasts, &earliest)?)
 }
 
-/// Whether lists in which each node has its number, and whose first members these are, are the groups in their
-/// order, where `back` has the edges reversed.
+/// Returns whether these lists are the groups in their order, by the number of each node and the first members.
+/// `back` has the edges reversed.
 fn are_numbered_groups(
     alloc: Global,
     rows: &[Vec<usize>],
@@ -359,7 +359,7 @@ fn are_numbered_groups(
     Ok(are_in_order(alloc, rows, list)?)
 }
 
-/// Whether the lists are the groups in their order, where `back` has the edges reversed.
+/// Returns whether the lists are the groups in their order. `back` has the edges reversed.
 pub(crate) fn are_groups(
     alloc: Global,
     rows: &[Vec<usize>],

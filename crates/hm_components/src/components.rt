@@ -1,7 +1,7 @@
-//! The strong components of a graph by two depth-first searches (Kosaraju), and their order by counting
-//! for each the edges to components that have no place yet (Kahn).
+//! Finds the strong components of a graph by two depth-first searches (Kosaraju), and their order by counting
+//! for each the edges to components without a place (Kahn).
 //!
-//! Nothing is claimed here but safety: `checking` decides whether what comes out are the groups.
+//! Only safety is proved here. `checking` decides whether the results are the groups.
 
 ghost use Rattle.std.specs.Prelude.{◌≡◌, ℕ, ◌+◌, ◌<◌, ◌≤◌, [], length, IfOk, OnOk, All, vec_len};
 ghost use Rattle.hm_components.specs.Digraph.{lists};
@@ -12,7 +12,7 @@ use std::alloc::{AllocError, Global};
 use std::cmp::Reverse;
 use std::collections::BinaryHeap;
 
-/// The most steps that a depth-first search over these rows takes: two for each node and one for each
+/// Returns the most steps of a depth-first search over these rows: two for each node and one for each
 /// edge.
 fn step_limit(rows: &[Vec<usize>]) -> usize {
     let mut limit = rows.len().saturating_add(rows.len());
@@ -57,7 +57,7 @@ fn step_on(
     Ok(())
 }
 
-/// Lets a depth-first search begin at each node that it hasn't seen.
+/// Starts a depth-first search at each node that wasn't visited before.
 fn visit_all(
     rows: &[Vec<usize>],
     next: &mut [usize],
@@ -88,7 +88,7 @@ fn visit_all(
     Ok(())
 }
 
-/// The nodes in the order in which a depth-first search leaves them.
+/// Returns the nodes in the order in which a depth-first search leaves them.
 fn finish_order(alloc: Global, rows: &[Vec<usize>]) -> Result<Vec<usize>, AllocError>
     requires { IsClosed (lists rows.now) }
     ensures { IfOk result (λ order. All (λ x. x < length rows.now) order.items) }
@@ -101,8 +101,8 @@ fn finish_order(alloc: Global, rows: &[Vec<usize>]) -> Result<Vec<usize>, AllocE
     Ok(order)
 }
 
-/// Gives the number `start` to the node `start` and to the nodes without a mark that it reaches through
-/// such nodes, and marks them.
+/// Gives the number `start` to the node `start` and to the nodes that it reaches through
+/// nodes without a mark, and marks them.
 fn number_component(
     alloc: Global,
     rows: &[Vec<usize>],
@@ -127,7 +127,7 @@ fn number_component(
     Ok(())
 }
 
-/// For each node a number that it shares with its strong component, where `order` is that in which a
+/// Returns a number for each node, the same for all nodes of a strong component. `order` is that in which a
 /// search leaves the nodes, and `back` has the edges reversed.
 fn component_numbers(
     alloc: Global,
@@ -150,7 +150,7 @@ fn component_numbers(
     Ok(numbers)
 }
 
-/// Adds a component of this node alone.
+/// Adds a component with only this node.
 fn add_component(
     alloc: Global,
     components: &mut Vec<Vec<usize>>,
@@ -161,7 +161,7 @@ fn add_component(
     Ok(())
 }
 
-/// The nodes by their numbers, each list ascending, the lists by their least members.
+/// Returns the nodes by their numbers: each list ascending, the lists ordered by their least members.
 fn lists_by_number(alloc: Global, numbers: &[usize]) -> Result<Vec<Vec<usize>>, AllocError>
     requires { All (λ x. x < length numbers.now) numbers.now }
 {
@@ -182,7 +182,7 @@ fn lists_by_number(alloc: Global, numbers: &[usize]) -> Result<Vec<Vec<usize>>, 
     Ok(components)
 }
 
-/// For each node the number of its component.
+/// Returns for each node the number of its component.
 fn numbers_of_components(
     alloc: Global,
     components: &[Vec<usize>],
@@ -212,7 +212,7 @@ fn count_edges_out(row: &[usize], number: usize, numbers: &[usize], degrees: &mu
     }
 }
 
-/// For each component how many edges lead from it to another.
+/// Returns for each component the number of edges that lead from it to others.
 fn out_degrees(
     alloc: Global,
     rows: &[Vec<usize>],
@@ -229,16 +229,16 @@ fn out_degrees(
     Ok(degrees)
 }
 
-/// For each component how many edges lead from it to others that have no place yet, and the components
-/// that are ready, since none does.
+/// For each component, the number of edges to others without a place; and the ready components, which
+/// have no such edge.
 #[derive(Drop)]
 struct EdgesLeft {
     degrees: Vec<usize>,
     ready: BinaryHeap<Reverse<usize>>,
 }
 
-/// Takes away the edges that lead to the node with this row of `back`; the components that then have no
-/// edge to another are ready.
+/// Removes the edges that lead to the node with this row of `back`. Components that then have no
+/// edge to another become ready.
 fn lower_degrees(
     row: &[usize],
     number: usize,
@@ -259,7 +259,7 @@ fn lower_degrees(
     Ok(())
 }
 
-/// Takes away the edges that lead to the members of a component.
+/// Removes the edges that lead to the members of a component.
 fn place_component(
     component: &[usize],
     number: usize,
@@ -278,7 +278,7 @@ fn place_component(
     Ok(())
 }
 
-/// The edges between components, of which none has a place yet.
+/// Returns the edges between components, before any has a place.
 fn edges_left(
     alloc: Global,
     rows: &[Vec<usize>],
@@ -298,7 +298,7 @@ fn edges_left(
     Ok(EdgesLeft { degrees, ready })
 }
 
-/// The components in the order in which they get ready; among those that are ready the first comes.
+/// Returns the components in the order in which they become ready, the first of several ready ones first.
 fn placed_when_ready(
     alloc: Global,
     back: &[Vec<usize>],
@@ -323,8 +323,8 @@ fn placed_when_ready(
     Ok(groups)
 }
 
-/// The components in an order where each stands after all others that it has edges to; among those that
-/// may come next the first comes.
+/// Returns the components, each after all others to which it has edges. If several may come
+/// next, the first does.
 fn sorted_by_reach(
     alloc: Global,
     rows: &[Vec<usize>],
@@ -340,7 +340,7 @@ fn sorted_by_reach(
     placed_when_ready(alloc, back, components, &numbers, &mut left)
 }
 
-/// What should be the groups of a graph in their order, where `back` has its edges reversed.
+/// Returns the likely groups of a graph in their order. `back` has its edges reversed.
 pub(crate) fn candidate_groups(
     alloc: Global,
     rows: &[Vec<usize>],

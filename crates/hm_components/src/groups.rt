@@ -1,4 +1,4 @@
-//! The groups of a graph's nodes that reach each other, in their order, and what a node reaches.
+//! Finds the groups of nodes that reach each other, in their order, and the nodes that a node reaches.
 
 ghost use Rattle.std.specs.Prelude.{◌≡◌, ℕ, ◌+◌, ◌<◌, ◌≤◌, ◌↔◌, [], length, IsTrue, IfOk, OnOk, IfSome, IfNone, All, vec_len, replicate};
 ghost use Rattle.std.specs.Vec.{vec_capacity};
@@ -10,7 +10,7 @@ use crate::components::candidate_groups;
 use crate::reversal::reversed_rows;
 use std::alloc::{AllocError, Global};
 
-/// Rows without an element.
+/// Returns `count` empty rows.
 pub fn empty_rows(alloc: Global, count: usize) -> Result<Vec<Vec<usize>>, AllocError>
     ensures { IfOk result (λ rows. lists rows.items ≡ replicate count []) }
 {
@@ -21,7 +21,7 @@ pub fn empty_rows(alloc: Global, count: usize) -> Result<Vec<Vec<usize>>, AllocE
     Ok(rows)
 }
 
-/// Marks the numbers of a row; those that had no mark wait.
+/// Marks the numbers of a row. Those without a mark before are added to `waiting`.
 pub(crate) fn mark_row(
     row: &[usize],
     marks: &mut [bool],
@@ -39,7 +39,7 @@ pub(crate) fn mark_row(
     Ok(())
 }
 
-/// Marks the numbers of a row; those that had no mark wait. There is room for them.
+/// Marks the numbers of a row. Those without a mark before are added to `waiting`, which must have room.
 fn mark_in_room(row: &[usize], marks: &mut [bool], waiting: &mut Vec<usize>)
     requires within { All (λ y. y < length marks.old) row.now }
     requires room { work_left marks.old waiting.old.items ≤ vec_capacity waiting.old }
@@ -54,7 +54,7 @@ fn mark_in_room(row: &[usize], marks: &mut [bool], waiting: &mut Vec<usize>)
     }
 }
 
-/// Marks the nodes that `from` reaches, where nothing has a mark or waits, and takes no memory.
+/// Marks the nodes that `from` reaches. Starts without marks and waiting nodes, and allocates nothing.
 pub fn mark_reached(rows: &[Vec<usize>], from: usize, marks: &mut [bool], waiting: &mut Vec<usize>)
     requires from { from < length rows.now }
     requires closed { IsClosed (lists rows.now) }
@@ -72,7 +72,7 @@ pub fn mark_reached(rows: &[Vec<usize>], from: usize, marks: &mut [bool], waitin
     }
 }
 
-/// The marks of the nodes that `from` reaches.
+/// Returns the marks of the nodes that `from` reaches.
 pub fn reached_from(
     alloc: Global,
     rows: &[Vec<usize>],
@@ -88,7 +88,7 @@ pub fn reached_from(
     Ok(marks)
 }
 
-/// For each node the marks of the nodes that it reaches.
+/// Returns for each node the marks of the nodes that it reaches.
 fn closure_table(alloc: Global, rows: &[Vec<usize>]) -> Result<Vec<Vec<bool>>, AllocError>
     requires { IsClosed (lists rows.now) }
     ensures { IfOk result (λ table. IsTable (lists rows.now) table.items) }
@@ -100,7 +100,7 @@ fn closure_table(alloc: Global, rows: &[Vec<usize>]) -> Result<Vec<Vec<bool>>, A
     Ok(table)
 }
 
-/// The first node from `start` on that blocks `x`, or the number of nodes.
+/// Returns the first node from `start` on that blocks `x`, or the number of nodes.
 fn first_blocker(table: &[Vec<bool>], placed: &[bool], x: usize, start: usize) -> usize
     requires square { IsSquare table.now (length placed.now) }
     requires x { x < length placed.now }
@@ -118,7 +118,7 @@ fn first_blocker(table: &[Vec<bool>], placed: &[bool], x: usize, start: usize) -
     placed.len()
 }
 
-/// The least node that is not placed and that no node blocks. The limits are raised on the way.
+/// Returns the least node that isn't placed and that no node blocks. Raises the limits on the way.
 fn next_ready(table: &[Vec<bool>], placed: &[bool], limits: &mut [usize]) -> Option<usize>
     requires square { IsSquare table.now (length placed.now) }
     requires len { length limits.old ≡ length placed.now }
@@ -142,7 +142,7 @@ fn next_ready(table: &[Vec<bool>], placed: &[bool], limits: &mut [usize]) -> Opt
     None
 }
 
-/// Whether two nodes are in one group.
+/// Returns whether two nodes are in one group.
 fn is_together(table: &[Vec<bool>], x: usize, y: usize) -> bool
     requires square { IsSquare table.now (length table.now) }
     requires x { x < length table.now }
@@ -152,7 +152,7 @@ fn is_together(table: &[Vec<bool>], x: usize, y: usize) -> bool
     x == y || (table[x][y] && table[y][x])
 }
 
-/// The group of `x`, ascending.
+/// Returns the group of `x`, ascending.
 fn group_of(alloc: Global, table: &[Vec<bool>], x: usize) -> Result<Vec<usize>, AllocError>
     requires square { IsSquare table.now (length table.now) }
     requires x { x < length table.now }
@@ -177,7 +177,7 @@ pub(crate) fn place(group: &[usize], placed: &mut [bool])
     }
 }
 
-/// The groups in their order, by the table of what reaches what.
+/// Returns the groups in their order, by the table of the nodes that each node reaches.
 fn groups_by_closure(alloc: Global, rows: &[Vec<usize>]) -> Result<Vec<Vec<usize>>, AllocError>
     requires { IsClosed (lists rows.now) }
     ensures { IfOk result (λ groups. AreGroups (lists rows.now) (lists groups.items)) }
@@ -186,7 +186,7 @@ fn groups_by_closure(alloc: Global, rows: &[Vec<usize>]) -> Result<Vec<Vec<usize
     ordered_groups(alloc, &table)
 }
 
-/// The groups in their order.
+/// Returns the groups in their order.
 fn ordered_groups(alloc: Global, table: &[Vec<bool>]) -> Result<Vec<Vec<usize>>, AllocError>
     requires { IsSquare table.now (length table.now) }
     ensures { IfOk result (λ groups. (graph : Graph) → IsTable graph table.now → AreGroups graph (lists groups.items)) }
@@ -202,7 +202,7 @@ fn ordered_groups(alloc: Global, table: &[Vec<bool>]) -> Result<Vec<Vec<usize>>,
     Ok(groups)
 }
 
-/// The groups in their order as two searches find them, if the test accepts them: always, as far as is known.
+/// Returns the groups in their order as two searches find them, or `None` if the test refuses them. No graph is known for which it does.
 fn groups_by_search(
     alloc: Global,
     rows: &[Vec<usize>],
@@ -218,7 +218,7 @@ fn groups_by_search(
     Ok(None)
 }
 
-/// The groups of a graph of one node.
+/// Returns the groups of a graph with one node.
 fn lone_group(alloc: Global, rows: &[Vec<usize>]) -> Result<Vec<Vec<usize>>, AllocError>
     requires closed { IsClosed (lists rows.now) }
     requires one { length rows.now ≡ 1 }
@@ -231,7 +231,7 @@ fn lone_group(alloc: Global, rows: &[Vec<usize>]) -> Result<Vec<Vec<usize>>, All
     Ok(groups)
 }
 
-/// The groups in their order, in linear time but for a logarithm; or by the closure, in quadratic time and memory.
+/// Returns the groups in their order. Takes linear time up to a logarithm; if the test refuses that result, quadratic time and memory.
 pub fn groups_of(alloc: Global, rows: &[Vec<usize>]) -> Result<Vec<Vec<usize>>, AllocError>
     requires { IsClosed (lists rows.now) }
     ensures { IfOk result (λ groups. AreGroups (lists rows.now) (lists groups.items)) }

@@ -1,5 +1,5 @@
-//! What the nodes of a directed graph reach, and the groups of nodes that reach each other, where for each
-//! node a row has the nodes to which its edges lead. `specs/Digraph` says what that means.
+//! Reachability in directed graphs, and the groups of nodes that reach each other. A graph is a row of successors for each node.
+//! `specs/Digraph` defines both.
 #![tactic(auto)]
 
 mod checking;

@@ -1,4 +1,4 @@
-//! The nodes of a graph that reach themselves, and an order of its nodes.
+//! Finds the nodes of a graph that reach themselves, and an order of its nodes.
 
 ghost use Rattle.std.specs.Prelude.{◌≡◌, ℕ, ◌<◌, ◌↔◌, length, IsTrue, IfOk};
 ghost use Rattle.std.specs.List.{concat};
@@ -8,7 +8,7 @@ ghost use Rattle.hm_components.specs.Marks.{IsClosed, IsMarked, IsShared};
 use crate::groups::{groups_of, place};
 use std::alloc::{AllocError, Global};
 
-/// The marks of the nodes that another node reaches and is reached by: the members of the groups of two
+/// Returns the marks of the nodes that reach another node and are reached by it: the members of groups with two
 /// nodes or more.
 fn shared_marks(alloc: Global, rows: &[Vec<usize>]) -> Result<Vec<bool>, AllocError>
     requires { IsClosed (lists rows.now) }
@@ -25,7 +25,7 @@ fn shared_marks(alloc: Global, rows: &[Vec<usize>]) -> Result<Vec<bool>, AllocEr
     Ok(marks)
 }
 
-/// Whether a node reaches itself: another one shares its group, or it has an edge to itself.
+/// Returns whether a node reaches itself: it shares its group with another node, or has an edge to itself.
 fn is_in_cycle(rows: &[Vec<usize>], shared: &[bool], number: usize) -> bool
     requires number { number < length rows.now }
     requires len { length shared.now ≡ length rows.now }
@@ -35,7 +35,7 @@ fn is_in_cycle(rows: &[Vec<usize>], shared: &[bool], number: usize) -> bool
     shared[number] || rows[number].contains(&number)
 }
 
-/// For each node, whether it reaches itself.
+/// Returns for each node whether it reaches itself.
 pub fn recursive_marks(alloc: Global, rows: &[Vec<usize>]) -> Result<Vec<bool>, AllocError>
     requires { IsClosed (lists rows.now) }
     ensures nodes { IfOk result (λ marks. length marks.items ≡ length (lists rows.now)) }
@@ -49,7 +49,7 @@ pub fn recursive_marks(alloc: Global, rows: &[Vec<usize>]) -> Result<Vec<bool>, 
     Ok(marks)
 }
 
-/// Groups in a row.
+/// Joins groups to one row.
 pub fn joined(alloc: Global, groups: &[Vec<usize>]) -> Result<Vec<usize>, AllocError>
     ensures { IfOk result (λ all. all.items ≡ concat (lists groups.now)) }
 {

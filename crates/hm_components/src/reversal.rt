@@ -20,7 +20,7 @@ fn reverse_row(back: &mut Vec<Vec<usize>>, row: &[usize], from: usize) -> Result
     Ok(())
 }
 
-/// The rows with the edges reversed.
+/// Returns the rows of the graph with its edges reversed.
 pub(crate) fn reversed_rows(
     alloc: Global,
     rows: &[Vec<usize>],

@@ -1,4 +1,4 @@
-//! Declarations that hold no expression.
+//! Declarations without expressions.
 
 ghost use Rattle.std.specs.Prelude.{◌≡◌, ◌↔◌, IsTrue};
 ghost use Rattle.hm_syntax.specs.Lists.{constructors};
@@ -9,7 +9,7 @@ use crate::rows::{Part, are_same};
 use crate::types::{are_same_constructors, is_same_type};
 use hm_syntax::{Constr, Decl, DeclKind, Name, TypeExpr};
 
-/// Whether a declaration is that of a data type with these parts.
+/// Returns whether a declaration is that of a data type with these parts.
 pub(crate) fn is_data_type(decl: &Decl, name: &Name, params: &[Name], constrs: &[Constr]) -> bool
     ensures { IsTrue result ↔ (decl.now ≡ data_declaration name.now params.now (constructors constrs.now)) }
 {
@@ -27,7 +27,7 @@ pub(crate) fn is_data_type(decl: &Decl, name: &Name, params: &[Name], constrs: &
     }
 }
 
-/// Whether a declaration is the renaming of a type with these parts.
+/// Returns whether a declaration is that of a newtype with these parts.
 pub(crate) fn is_newtype(decl: &Decl, name: &Name, params: &[Name], constr: &Constr) -> bool
     ensures { IsTrue result ↔ (decl.now ≡ newtype_declaration name.now params.now constr.now) }
 {
@@ -41,7 +41,7 @@ pub(crate) fn is_newtype(decl: &Decl, name: &Name, params: &[Name], constr: &Con
     }
 }
 
-/// Whether a declaration is that of a type synonym with these parts.
+/// Returns whether a declaration is that of a type synonym with these parts.
 pub(crate) fn is_synonym(decl: &Decl, name: &Name, params: &[Name], ty: &TypeExpr) -> bool
     ensures { IsTrue result ↔ (decl.now ≡ synonym_declaration name.now params.now ty.now) }
 {
@@ -55,7 +55,7 @@ pub(crate) fn is_synonym(decl: &Decl, name: &Name, params: &[Name], ty: &TypeExp
     }
 }
 
-/// Whether a declaration is the signature of these variables with this type.
+/// Returns whether a declaration is the signature of these variables with this type.
 pub(crate) fn is_signature(decl: &Decl, names: &[Name], ty: &TypeExpr) -> bool
     ensures { IsTrue result ↔ (decl.now ≡ signature names.now ty.now) }
 {

@@ -1,4 +1,4 @@
-//! Expressions, and the declarations that hold them.
+//! Expressions, and declarations with expressions.
 
 ghost use Rattle.std.specs.Prelude.{◌≡◌, ◌↔◌, IsTrue};
 ghost use Rattle.hm_syntax.specs.Lists.{patterns, expressions, declarations, alternatives, bodies};
@@ -12,7 +12,7 @@ use crate::types::is_same_type;
 use hm_lex::Place;
 use hm_syntax::{Alt, Decl, DeclKind, Expr, ExprKind, Name, Pat, Rhs};
 
-/// Whether two expressions are the same.
+/// Returns whether two expressions are the same.
 #[cycle(exprs)]
 pub(crate) fn is_same_expr(expr: &Expr, other: &Expr) -> bool
     ensures { IsTrue result ↔ (expr.now ≡ other.now) }
@@ -45,7 +45,7 @@ pub(crate) fn is_same_expr(expr: &Expr, other: &Expr) -> bool
     }
 }
 
-/// Whether two rows of expressions are the same.
+/// Returns whether two rows of expressions are the same.
 #[cycle(exprs)]
 #[tactic(auto, using(crate::proofs::Falls::expression_falls, crate::proofs::SameRows::expressions_same))]
 fn are_same_exprs(lefts: &[Expr], rights: &[Expr]) -> bool
@@ -62,7 +62,7 @@ fn are_same_exprs(lefts: &[Expr], rights: &[Expr]) -> bool
     true
 }
 
-/// Whether two alternatives are the same.
+/// Returns whether two alternatives are the same.
 #[cycle(exprs)]
 fn is_same_alt(alt: &Alt, other: &Alt) -> bool
     ensures { IsTrue result ↔ (alt.now ≡ other.now) }
@@ -70,7 +70,7 @@ fn is_same_alt(alt: &Alt, other: &Alt) -> bool
     is_same_pattern(&alt.pat, &other.pat) && is_same_rhs(&alt.rhs, &other.rhs)
 }
 
-/// Whether two rows of alternatives are the same.
+/// Returns whether two rows of alternatives are the same.
 #[cycle(exprs)]
 #[tactic(auto, using(crate::proofs::Falls::alternative_falls, crate::proofs::SameRows::alternatives_same))]
 fn are_same_alts(lefts: &[Alt], rights: &[Alt]) -> bool
@@ -87,7 +87,7 @@ fn are_same_alts(lefts: &[Alt], rights: &[Alt]) -> bool
     true
 }
 
-/// Whether two right sides are the same.
+/// Returns whether two right sides are the same.
 #[cycle(exprs)]
 fn is_same_rhs(rhs: &Rhs, other: &Rhs) -> bool
     ensures { IsTrue result ↔ (rhs.now ≡ other.now) }
@@ -95,7 +95,7 @@ fn is_same_rhs(rhs: &Rhs, other: &Rhs) -> bool
     are_same_parts(&rhs.parts, &other.parts) && are_same_decls(&rhs.local, &other.local)
 }
 
-/// Whether two expressions and their guards, if they have one, are the same.
+/// Returns whether two expressions and their guards, if they have one, are the same.
 #[cycle(exprs)]
 fn is_same_part(part: &(Option<Expr>, Expr), other: &(Option<Expr>, Expr)) -> bool
     ensures { IsTrue result ↔ (part.now ≡ other.now) }
@@ -109,7 +109,7 @@ fn is_same_part(part: &(Option<Expr>, Expr), other: &(Option<Expr>, Expr)) -> bo
     }
 }
 
-/// Whether two rows of expressions with their guards are the same.
+/// Returns whether two rows of expressions with their guards are the same.
 #[cycle(exprs)]
 #[tactic(auto, using(crate::proofs::Falls::part_falls, crate::proofs::SameRows::bodies_same))]
 fn are_same_parts(lefts: &[(Option<Expr>, Expr)], rights: &[(Option<Expr>, Expr)]) -> bool
@@ -126,7 +126,7 @@ fn are_same_parts(lefts: &[(Option<Expr>, Expr)], rights: &[(Option<Expr>, Expr)
     true
 }
 
-/// Whether two declarations are the same.
+/// Returns whether two declarations are the same.
 #[cycle(exprs)]
 fn is_same_decl(decl: &Decl, other: &Decl) -> bool
     ensures { IsTrue result ↔ (decl.now ≡ other.now) }
@@ -149,7 +149,7 @@ fn is_same_decl(decl: &Decl, other: &Decl) -> bool
     }
 }
 
-/// Whether a declaration is a clause with these parts.
+/// Returns whether a declaration is a clause with these parts.
 #[cycle(exprs)]
 fn is_clause(decl: &Decl, name: &Name, pats: &[Pat], rhs: &Rhs) -> bool
     ensures { IsTrue result ↔ (decl.now ≡ clause name.now (patterns pats.now) rhs.now) }
@@ -164,7 +164,7 @@ fn is_clause(decl: &Decl, name: &Name, pats: &[Pat], rhs: &Rhs) -> bool
     }
 }
 
-/// Whether a declaration is a pattern binding with these parts.
+/// Returns whether a declaration is a pattern binding with these parts.
 #[cycle(exprs)]
 fn is_pattern_binding(decl: &Decl, place: &Place, pat: &Pat, rhs: &Rhs) -> bool
     ensures { IsTrue result ↔ (decl.now ≡ pattern_binding place.now.line place.now.column pat.now rhs.now) }
@@ -179,7 +179,7 @@ fn is_pattern_binding(decl: &Decl, place: &Place, pat: &Pat, rhs: &Rhs) -> bool
     }
 }
 
-/// Whether two rows of declarations are the same.
+/// Returns whether two rows of declarations are the same.
 #[cycle(exprs)]
 #[tactic(auto, using(crate::proofs::Falls::declaration_falls, crate::proofs::SameRows::declarations_same))]
 fn are_same_decls(lefts: &[Decl], rights: &[Decl]) -> bool

@@ -1,4 +1,4 @@
-//! What stands before a module's declarations.
+//! The parts of modules before their declarations.
 
 ghost use Rattle.std.specs.Prelude.{◌≡◌, ◌↔◌, IsTrue};
 
@@ -6,7 +6,7 @@ use crate::names::is_same_name;
 use crate::rows::{Part, are_same};
 use hm_syntax::{Export, Header, Import, ImportItem, ImportList, Name, Row, SubItems};
 
-/// Whether two lists behind a type are the same.
+/// Returns whether two lists after a type are the same.
 fn is_same_subs(subs: &SubItems, other: &SubItems) -> bool
     ensures { IsTrue result ↔ (subs.now ≡ other.now) }
 {
@@ -46,7 +46,7 @@ impl Part for ImportItem {
     }
 }
 
-/// Whether two import lists are the same.
+/// Returns whether two import lists are the same.
 fn is_same_list(list: &ImportList, other: &ImportList) -> bool
     ensures { IsTrue result ↔ (list.now ≡ other.now) }
 {
@@ -63,7 +63,7 @@ fn is_same_list(list: &ImportList, other: &ImportList) -> bool
     }
 }
 
-/// Whether two names behind `as` are the same, or both are missing.
+/// Returns whether two names after `as` are the same, or both are missing.
 fn is_same_alias(alias: &Option<Name>, other: &Option<Name>) -> bool
     ensures { IsTrue result ↔ (alias.now ≡ other.now) }
 {
@@ -83,7 +83,7 @@ impl Part for Import {
     }
 }
 
-/// Whether two export lists are the same, or both are missing.
+/// Returns whether two export lists are the same, or both are missing.
 fn are_same_exports(exports: &Option<Row<Export>>, other: &Option<Row<Export>>) -> bool
     ensures { IsTrue result ↔ (exports.now ≡ other.now) }
 {
@@ -94,7 +94,7 @@ fn are_same_exports(exports: &Option<Row<Export>>, other: &Option<Row<Export>>) 
     }
 }
 
-/// Whether two headers are the same.
+/// Returns whether two headers are the same.
 pub(crate) fn is_same_header(header: &Header, other: &Header) -> bool
     ensures { IsTrue result ↔ (header.now ≡ other.now) }
 {

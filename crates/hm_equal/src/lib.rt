@@ -1,4 +1,4 @@
-//! Whether two modules are the same tree.
+//! Compares the trees of two modules.
 #![tactic(auto)]
 
 mod declarations;

@@ -6,7 +6,7 @@ use crate::headers::is_same_header;
 use crate::rows::are_same;
 use hm_syntax::Module;
 
-/// Whether both trees are the same, places included.
+/// Returns whether both trees are the same, including places.
 pub fn is_same_module(module: &Module, other: &Module) -> bool
     ensures { IsTrue result ↔ («module».now ≡ other.now) }
 {

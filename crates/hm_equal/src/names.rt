@@ -7,14 +7,14 @@ use hm_lex::Place;
 use hm_syntax::{Literal, LiteralKind, Name};
 use hm_texts::Text;
 
-/// Whether two places are the same.
+/// Returns whether two places are the same.
 pub(crate) fn is_same_place(place: &Place, other: &Place) -> bool
     ensures { IsTrue result ↔ (place.now ≡ other.now) }
 {
     place.line == other.line && place.column == other.column
 }
 
-/// Whether two names have the same qualifier, or both have none.
+/// Returns whether two names have the same qualifier, or both have none.
 fn is_same_qualifier(qualifier: &Option<Text>, other: &Option<Text>) -> bool
     ensures { IsTrue result ↔ (qualifier.now ≡ other.now) }
 {
@@ -25,7 +25,7 @@ fn is_same_qualifier(qualifier: &Option<Text>, other: &Option<Text>) -> bool
     }
 }
 
-/// Whether two names are the same, places included.
+/// Returns whether two names are the same, including places.
 pub(crate) fn is_same_name(name: &Name, other: &Name) -> bool
     ensures { IsTrue result ↔ (name.now ≡ other.now) }
 {
@@ -40,7 +40,7 @@ impl Part for Name {
     }
 }
 
-/// Whether two literals have the same kind and text.
+/// Returns whether two literals have the same kind and text.
 pub(crate) fn is_same_literal(literal: &Literal, other: &Literal) -> bool
     ensures { IsTrue result ↔ (literal.now ≡ other.now) }
 {

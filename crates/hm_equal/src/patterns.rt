@@ -6,7 +6,7 @@ ghost use Rattle.hm_syntax.specs.Lists.{patterns};
 use crate::names::{is_same_literal, is_same_name};
 use hm_syntax::{Pat, PatKind};
 
-/// Whether two patterns are the same.
+/// Returns whether two patterns are the same.
 #[cycle(pats)]
 #[tactic(auto, using(crate::proofs::Falls::pattern_falls, crate::proofs::SameRows::patterns_same))]
 pub(crate) fn is_same_pattern(pat: &Pat, other: &Pat) -> bool
@@ -29,7 +29,7 @@ pub(crate) fn is_same_pattern(pat: &Pat, other: &Pat) -> bool
     }
 }
 
-/// Whether two rows of patterns are the same.
+/// Returns whether two rows of patterns are the same.
 #[cycle(pats)]
 #[tactic(auto, using(crate::proofs::Falls::pattern_falls, crate::proofs::SameRows::patterns_same))]
 pub(crate) fn are_same_patterns(lefts: &[Pat], rights: &[Pat]) -> bool

@@ -2,14 +2,14 @@
 
 ghost use Rattle.std.specs.Prelude.{◌≡◌, ◌↔◌, IsTrue};
 
-/// What can be compared.
+/// Parts that can be compared.
 pub(crate) trait Part {
-    /// Whether both are the same.
+    /// Returns whether both are the same.
     fn is_same(&self, other: &Self) -> bool
         ensures { IsTrue result ↔ (self.now ≡ other.now) };
 }
 
-/// Whether two rows have the same parts in the same order.
+/// Returns whether two rows have the same parts in the same order.
 pub(crate) fn are_same<P: Part>(lefts: &[P], rights: &[P]) -> bool
     ensures { IsTrue result ↔ (lefts.now ≡ rights.now) }
 {

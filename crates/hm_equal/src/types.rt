@@ -7,7 +7,7 @@ use crate::names::is_same_name;
 use crate::rows::{Part, are_same};
 use hm_syntax::{Constr, TypeExpr, TypeKind};
 
-/// Whether two types are the same.
+/// Returns whether two types are the same.
 #[cycle(types)]
 #[tactic(auto, using(crate::proofs::Falls::type_falls, crate::proofs::SameRows::types_same))]
 pub(crate) fn is_same_type(ty: &TypeExpr, other: &TypeExpr) -> bool
@@ -28,7 +28,7 @@ pub(crate) fn is_same_type(ty: &TypeExpr, other: &TypeExpr) -> bool
     }
 }
 
-/// Whether two rows of types are the same.
+/// Returns whether two rows of types are the same.
 #[cycle(types)]
 #[tactic(auto, using(crate::proofs::Falls::type_falls, crate::proofs::SameRows::types_same))]
 pub(crate) fn are_same_types(lefts: &[TypeExpr], rights: &[TypeExpr]) -> bool
@@ -51,7 +51,7 @@ impl Part for Constr {
     }
 }
 
-/// Whether two rows of constructors are the same.
+/// Returns whether two rows of constructors are the same.
 #[tactic(auto, using(crate::proofs::SameRows::constructors_same))]
 pub(crate) fn are_same_constructors(lefts: &[Constr], rights: &[Constr]) -> bool
     ensures { IsTrue result ↔ (constructors lefts.now ≡ constructors rights.now) }

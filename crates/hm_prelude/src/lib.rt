@@ -1,4 +1,4 @@
-//! Prelude's interface: a selection from the Haskell 98 Report, chapter 8.
+//! The interface of Prelude: a selection from the Haskell 98 Report, chapter 8. A build makes it once, as a [`SharedPrelude`].
 #![tactic(auto)]
 
 mod polish;

@@ -1,4 +1,4 @@
-//! Types of Prelude in Polish notation, in which each constructor stands before its arguments.
+//! Types of Prelude in Polish notation: each constructor comes before its arguments.
 
 ghost use Rattle.std.specs.Prelude.{◌≡◌, IfOk, OnOk, drop, reverse, take};
 ghost use Rattle.hm_types.specs.Monotypes.{arguments_of};
@@ -27,7 +27,7 @@ pub(crate) enum Part {
     Ordering,
 }
 
-/// What Prelude defines under a name.
+/// Returns the entity that Prelude defines under a name.
 pub(crate) fn in_prelude(alloc: Global, name: &str) -> Result<Entity, AllocError>
     ensures { IfOk result (λ entity. entity ≡ in_prelude name.now) }
 {
@@ -37,7 +37,7 @@ pub(crate) fn in_prelude(alloc: Global, name: &str) -> Result<Entity, AllocError
     })
 }
 
-/// The type that the parts write.
+/// Returns the type for these parts.
 pub(crate) fn read(alloc: Global, parts: &[Part]) -> Result<Ty, AllocError>
     ensures { IfOk result (λ t. type_of t ≡ read_as parts.now) }
 {
@@ -51,7 +51,7 @@ pub(crate) fn read(alloc: Global, parts: &[Part]) -> Result<Ty, AllocError>
     }
 }
 
-/// Puts one more part before the types of a stack, the first of which is on top.
+/// Adds one more part before the types on a stack. The first type is on top.
 fn put(alloc: Global, stack: &mut Vec<Ty>, part: Part) -> Result<(), AllocError>
     ensures { OnOk result (reverse (types_of stack.new.items) ≡ with_part part (reverse (types_of stack.old.items))) }
 {
@@ -71,7 +71,7 @@ fn put(alloc: Global, stack: &mut Vec<Ty>, part: Part) -> Result<(), AllocError>
     }
 }
 
-/// As `apply`, for a type constructor of Prelude.
+/// Does what `apply` does, for a type constructor of Prelude.
 fn apply_named(
     alloc: Global,
     stack: &mut Vec<Ty>,
@@ -84,7 +84,7 @@ fn apply_named(
     apply(alloc, stack, head, arity)
 }
 
-/// Takes the arguments of a constructor from a stack, and puts the type there that they make.
+/// Replaces the arguments of a constructor on a stack by the type with these arguments.
 fn apply(alloc: Global, stack: &mut Vec<Ty>, head: Head, arity: usize) -> Result<(), AllocError>
     ensures { OnOk result (reverse (types_of stack.new.items) ≡ applied head arity (reverse (types_of stack.old.items))) }
 {
@@ -93,7 +93,7 @@ fn apply(alloc: Global, stack: &mut Vec<Ty>, head: Head, arity: usize) -> Result
     Ok(())
 }
 
-/// Takes types from the top of a stack, the topmost first.
+/// Removes `count` types from a stack, and returns them, the topmost first.
 fn pop_many(alloc: Global, stack: &mut Vec<Ty>, count: usize) -> Result<Vec<Ty>, AllocError>
     ensures taken { IfOk result (λ taken. types_of taken.items ≡ take count (reverse (types_of stack.old.items))) }
     ensures left { OnOk result (reverse (types_of stack.new.items) ≡ drop count (reverse (types_of stack.old.items))) }

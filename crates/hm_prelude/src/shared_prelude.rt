@@ -8,7 +8,7 @@ use hm_types::Interface;
 use std::alloc::{AllocError, Global};
 use std::sync::Arc;
 
-/// Prelude's interface, made once and lent to each check.
+/// Prelude's interface, made once and shared by all checks.
 #[derive(Drop)]
 pub struct SharedPrelude {
     interface: Arc<Interface>,
@@ -22,7 +22,7 @@ impl SharedPrelude {
         Ok(SharedPrelude { interface })
     }
 
-    /// The interface.
+    /// Returns the interface.
     pub fn interface(&self) -> &Arc<Interface>
         ensures { arc_value result.now ≡ prelude_interface }
     {

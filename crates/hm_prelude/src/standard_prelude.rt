@@ -28,8 +28,8 @@ const TYPES: [(&str, usize); 6] = [
 /// The synonyms, which have no parameters.
 const SYNONYMS: [(&str, &[Part]); 1] = [("String", &[List, Char])];
 
-/// The constructors, with the types that they belong to, their numbers of arguments, how many type
-/// variables their own types have, and these types.
+/// The constructors, with their type constructors, their numbers of arguments, the numbers of type
+/// variables in their types, and these types.
 const CONSTRUCTORS: [(&str, &str, usize, usize, &[Part]); 9] = [
     ("EQ", "Ordering", 0, 0, &[Ordering]),
     ("False", "Bool", 0, 0, &[Bool]),
@@ -229,7 +229,7 @@ const VALUES: [(&str, usize, &[Part]); 55] = [
     ),
 ];
 
-/// The interface of Prelude.
+/// Returns the interface of Prelude.
 pub fn prelude(alloc: Global) -> Result<Interface, AllocError>
     ensures { IfOk result (λ interface. interface ≡ prelude_interface) }
 {
@@ -313,7 +313,7 @@ fn synonym_entry(alloc: Global, name: &str, parts: &[Part]) -> Result<SynonymEnt
     })
 }
 
-/// The entry of a constructor that a row of the table tells.
+/// Returns the entry of a constructor from a row of the table.
 fn constructor_entry(
     alloc: Global,
     row: &(&str, &str, usize, usize, &[Part]),
@@ -355,7 +355,7 @@ fn value_entry(
     })
 }
 
-/// The scheme of a type that is written in parts, whose variables are numbered in order.
+/// Returns the scheme of a type that is written in parts. Its variables are numbered in order.
 fn scheme(alloc: Global, variables: usize, parts: &[Part]) -> Result<Scheme, AllocError>
     requires not_rigid { HasNoRigid (read_as parts.now) }
     requires arities { HasArities (read_as parts.now) }

@@ -15,7 +15,7 @@ use hm_syntax::{Alt, Decl, DeclKind, Expr, ExprKind, Name, Pat, Rhs, TypeExpr};
 use hm_types::Text;
 use std::alloc::{AllocError, Global};
 
-/// A clause of a variable's binding, lent by its declaration.
+/// A clause of a variable's binding, borrowed from its declaration.
 #[derive(Clone, Copy)]
 struct FunctionClause<'t> {
     name: &'t Name,
@@ -23,7 +23,7 @@ struct FunctionClause<'t> {
     rhs: &'t Rhs,
 }
 
-/// A pattern binding, lent by its declaration.
+/// A pattern binding, borrowed from its declaration.
 #[derive(Clone, Copy)]
 struct PatternBinding<'t> {
     place: Place,
@@ -32,7 +32,7 @@ struct PatternBinding<'t> {
 }
 
 impl Resolving<'_> {
-    /// An expression with its names resolved.
+    /// Returns an expression with its names resolved.
     #[cycle(exprs)]
     #[tactic(auto, using(hm_names::proofs::Rows::expressions_map))]
     pub(crate) fn expr(&mut self, alloc: Global, expr: &Expr) -> Result<Expr, AllocError>
@@ -68,7 +68,7 @@ impl Resolving<'_> {
         }
     }
 
-    /// Expressions in a row, with their names resolved.
+    /// Returns a row of expressions with their names resolved.
     #[cycle(exprs)]
     #[tactic(auto, using(hm_names::proofs::Rows::expression_falls))]
     #[inline(never)]
@@ -184,7 +184,7 @@ impl Resolving<'_> {
         })
     }
 
-    /// An alternative of a `case`.
+    /// Returns an alternative of a `case` with its names resolved.
     #[cycle(exprs)]
     #[tactic(auto, using(hm_names::proofs::Rows::noting_more), unfolding(hm_names::specs::Found::alternative_with))]
     fn alt(&mut self, alloc: Global, alt: &Alt) -> Result<Alt, AllocError>
@@ -211,7 +211,7 @@ impl Resolving<'_> {
         Ok(resolved)
     }
 
-    /// A right side, whose local declarations scope over all of it.
+    /// Returns a right side with its names resolved. Its local declarations scope over all of it.
     #[cycle(exprs)]
     #[tactic(auto, using(hm_names::proofs::Rows::noting_more, hm_names::proofs::Rows::declarations_map, hm_names::proofs::Rows::parts_map, hm_names::proofs::Rows::parts_are))]
     fn rhs(&mut self, alloc: Global, rhs: &Rhs) -> Result<Rhs, AllocError>
@@ -225,7 +225,7 @@ impl Resolving<'_> {
         Ok(Rhs { parts, local })
     }
 
-    /// The expressions of a right side, each behind its guard, if it has one.
+    /// Returns the expressions of a right side with their guards, with their names resolved.
     #[cycle(exprs)]
     #[tactic(auto, using(hm_names::proofs::Rows::part_falls))]
     fn part_row(
@@ -269,7 +269,7 @@ impl Resolving<'_> {
         }
     }
 
-    /// A declaration, whose list's names are local already. The names that it declares stay as they are.
+    /// Returns a declaration with its names resolved. The names of its list must be local already. Names that it declares stay as they are.
     #[cycle(exprs)]
     fn decl(&mut self, alloc: Global, home: &Option<Text>, decl: &Decl) -> Result<Decl, AllocError>
         ensures tree { IfOk result (λ d. d ≡ declaration_with (resolver_of self.old.known) (binder_of home.now) (locals_of self.old) decl.now) }
@@ -309,7 +309,7 @@ impl Resolving<'_> {
         }
     }
 
-    /// One clause of a variable's binding.
+    /// Returns a clause of a variable's binding with its names resolved.
     #[cycle(exprs)]
     #[tactic(auto, using(hm_names::proofs::Rows::noting_more, hm_names::proofs::Rows::patterns_map))]
     #[inline(never)]
@@ -337,7 +337,7 @@ impl Resolving<'_> {
         })
     }
 
-    /// A pattern binding, whose variables are among its list's names.
+    /// Returns a pattern binding with its names resolved. Its variables must be local already.
     #[cycle(exprs)]
     #[tactic(auto, using(hm_names::proofs::Rows::noting_more))]
     #[inline(never)]
@@ -361,7 +361,7 @@ impl Resolving<'_> {
         })
     }
 
-    /// Declarations, whose names are local already.
+    /// Returns declarations with their names resolved. The names that they declare must be local already.
     #[cycle(exprs)]
     #[tactic(auto, using(hm_names::proofs::Rows::declaration_falls))]
     pub(crate) fn decl_row(
@@ -380,7 +380,7 @@ impl Resolving<'_> {
         Ok(resolved)
     }
 
-    /// The declarations of a list that is not a module's, whose names are local already.
+    /// Returns the declarations of a local list with their names resolved. The names that they declare must be local already.
     #[cycle(exprs)]
     #[tactic(auto, using(hm_names::proofs::Rows::noting_more))]
     fn decl_list(&mut self, alloc: Global, decls: &[Decl]) -> Result<Vec<Decl>, AllocError>
@@ -393,7 +393,7 @@ impl Resolving<'_> {
         Ok(self.decl_row(alloc, &home, decls)?)
     }
 
-    /// Goes to where the names of a list of declarations are bound too.
+    /// Enters the scope of the names that a list of declarations binds.
     fn enter_list(&mut self, alloc: Global, decls: &[Decl]) -> Result<(), AllocError>
         ensures { OnOk result (self.new ≡ entering (texts (bound_names (declarations decls.now))) self.old) }
     {

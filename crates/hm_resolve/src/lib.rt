@@ -1,9 +1,10 @@
-//! One walk over the trees of a module (Haskell 98 Report, chapters 3 and 4): each name is resolved, each synonym expanded, and the faults of
-//! declaration lists, names and numbers of arguments are noted.
+//! Resolves the names of a module in one walk over its trees (Haskell 98 Report, chapters 3 and 4).
+//!
+//! The walk replaces each name by its entity, expands synonyms, and finds the faults of declaration lists, names and numbers of arguments.
 #![tactic(auto)]
 
-/// What a call gives. Where it is refused, it hands that on, and first drops what is held by calls of their own: a `?` would drop it by the
-/// steps of the function that it stands in, which the prover goes through one by one.
+/// Returns the value of a call, or returns its error after dropping the held values by calls. `?` would drop them inline, and the prover would
+/// check the steps of each drop again at its place.
 macro_rules! or_drop {
     ($call:expr, $($held:expr),+) => {
         match $call {

@@ -1,5 +1,4 @@
-//! What the walk notes of lists: names that stand twice, names that are missing, and faults of declaration lists (Report, sections 4.2, 4.4.1
-//! and 4.4.3).
+//! Faults of lists: duplicates, missing names, and the faults of declaration lists (Report, sections 4.2, 4.4.1 and 4.4.3).
 ghost use Rattle.std.specs.Prelude.{◌≡◌, [], OnOk, map};
 ghost use Rattle.hm_syntax.specs.Lists.{declarations};
 ghost use Rattle.hm_names.specs.Variables.{texts};
@@ -13,7 +12,7 @@ use hm_syntax::Decl;
 use std::alloc::{AllocError, Global};
 
 impl Resolving<'_> {
-    /// Notes each name behind another of its text.
+    /// Adds a fault for each name that comes after another with the same text.
     pub(crate) fn repeated(
         &mut self,
         alloc: Global,
@@ -26,7 +25,7 @@ impl Resolving<'_> {
         Ok(())
     }
 
-    /// Notes each name whose text isn't that of one of these.
+    /// Adds a fault for each name whose text isn't among these.
     pub(crate) fn outside(
         &mut self,
         alloc: Global,
@@ -40,7 +39,8 @@ impl Resolving<'_> {
         Ok(())
     }
 
-    /// Notes what is declared twice in a list, signatures without a binding, and clauses of another length than their binding's first.
+    /// Adds the faults of a declaration list: duplicates, signatures without a binding, and clauses of another length than the first of their
+    /// binding.
     pub(crate) fn note_list(&mut self, alloc: Global, decls: &[Decl]) -> Result<(), AllocError>
         ensures { OnOk result (self.new ≡ noting (list_faults (declarations decls.now)) self.old) }
     {

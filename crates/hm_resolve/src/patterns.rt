@@ -13,7 +13,7 @@ use hm_types::Text;
 use std::alloc::{AllocError, Global};
 
 impl Resolving<'_> {
-    /// A pattern with its names resolved.
+    /// Returns a pattern with its names resolved.
     #[cycle(patterns)]
     #[tactic(auto, using(hm_names::proofs::Rows::patterns_map, hm_names::proofs::Rows::pattern_falls))]
     pub(crate) fn pat(
@@ -70,7 +70,7 @@ impl Resolving<'_> {
         }
     }
 
-    /// Patterns in a row, with their names resolved.
+    /// Returns a row of patterns with their names resolved.
     #[cycle(patterns)]
     #[tactic(auto, using(hm_names::proofs::Rows::pattern_falls))]
     pub(crate) fn pat_row(
@@ -89,7 +89,7 @@ impl Resolving<'_> {
         Ok(resolved)
     }
 
-    /// Patterns that stand together, with their names resolved, and their variables.
+    /// Returns the patterns of one clause, lambda or alternative with their names resolved, and their variables.
     #[tactic(auto, using(hm_names::proofs::Rows::noting_more))]
     pub(crate) fn head(
         &mut self,
@@ -108,7 +108,7 @@ impl Resolving<'_> {
         Ok((resolved, owned_names(alloc, &names)?))
     }
 
-    /// A pattern that stands alone, with its names resolved, and its variables.
+    /// Returns a single pattern with its names resolved, and its variables.
     #[tactic(auto, using(hm_names::proofs::Rows::noting_more))]
     pub(crate) fn lone(
         &mut self,

@@ -1,4 +1,4 @@
-//! The walk over the trees of a module: it gathers the faults of names, and copies each tree with its names resolved.
+//! The walk over the trees of a module. It copies each tree with its names resolved, and collects the faults of names.
 ghost use Rattle.std.specs.Prelude.{◌≡◌, ◌++◌, [], ◌∷◌, IfOk, OnOk};
 ghost use Rattle.hm_names.specs.declared.namespace.Namespace.TheVariants.{Types, Constructors, Values};
 ghost use Rattle.hm_syntax.specs.Trees.{variable_expression, constructor_expression};
@@ -23,7 +23,7 @@ use hm_tables::{Meaning, Scope};
 use std::alloc::{AllocError, Global};
 use std::marker::Model;
 
-/// Where the walk is: the scope, the local names around, and the faults so far.
+/// The state of the walk: the scope, the local names, and the faults so far.
 #[derive(Drop)]
 pub struct Resolving<'a> {
     scope: &'a Scope<'a>,
@@ -45,7 +45,7 @@ impl<'a> Model for Resolving<'a> {
 }
 
 impl<'a> Resolving<'a> {
-    /// At the top of a module, where nothing is noted.
+    /// Returns the state at the top of a module, without faults.
     pub fn new(alloc: Global, scope: &'a Scope<'a>, tables: &'a Tables<'a>) -> Resolving<'a>
         ensures { result ≡ record { known = lookups_in scope.now tables.now.synonyms tables.now.types tables.now.constructors; groups = []; faults = [] } }
     {
@@ -57,7 +57,7 @@ impl<'a> Resolving<'a> {
         }
     }
 
-    /// The faults that are noted.
+    /// Returns the faults.
     pub(crate) fn into_faults(self) -> Vec<Fault>
         ensures { result.items ≡ self.entry.faults }
     {
@@ -66,7 +66,7 @@ impl<'a> Resolving<'a> {
 }
 
 impl Resolving<'_> {
-    /// Notes a fault at a name.
+    /// Adds a fault at a name.
     pub(crate) fn note(&mut self, alloc: Global, kind: Kind, name: &Name) -> Result<(), AllocError>
         ensures { OnOk result (self.new ≡ noting (fault kind name.now ∷ []) self.old) }
     {
@@ -74,7 +74,7 @@ impl Resolving<'_> {
         Ok(())
     }
 
-    /// What a name becomes, and its fault, if it has one.
+    /// Resolves a name, and adds its fault if it has one.
     #[tactic(auto, unfolding(hm_names::specs::Found::resolved_name, hm_names::specs::Found::name_faults))]
     fn name(&mut self, alloc: Global, space: Namespace, name: &Name) -> Result<Name, AllocError>
         ensures name { IfOk result (λ n. n ≡ resolved_name self.old.known.pairs space (locals_of self.old) name.now) }
@@ -96,7 +96,7 @@ impl Resolving<'_> {
         }
     }
 
-    /// What the name of a type constructor with so many arguments becomes, and its faults.
+    /// Resolves the name of a type constructor with `count` arguments, and adds its faults.
     #[tactic(auto, using(hm_names::proofs::Rows::noting_more, hm_names::proofs::Rows::types_counted), unfolding(hm_names::specs::Found::resolved_name, hm_names::specs::Found::name_faults, hm_names::specs::Found::type_name_faults))]
     pub(crate) fn type_name(
         &mut self,
@@ -112,7 +112,7 @@ impl Resolving<'_> {
         Ok(resolved)
     }
 
-    /// What the name of a constructor becomes, and its faults, in a pattern with so many arguments.
+    /// Resolves the name of a constructor in a pattern with `count` arguments, and adds its faults.
     #[tactic(auto, using(hm_names::proofs::Rows::noting_more, hm_names::proofs::Rows::patterns_counted), unfolding(hm_names::specs::Found::resolved_name, hm_names::specs::Found::name_faults, hm_names::specs::Found::pattern_name_faults))]
     pub(crate) fn pattern_name(
         &mut self,
@@ -128,7 +128,7 @@ impl Resolving<'_> {
         Ok(resolved)
     }
 
-    /// Notes a name that has another number of arguments.
+    /// Adds the fault of a name with another number of arguments than the known one.
     fn arity(
         &mut self,
         alloc: Global,
@@ -149,7 +149,7 @@ impl Resolving<'_> {
         }
     }
 
-    /// Notes a type constructor with another number of arguments than it has.
+    /// Adds the fault of a type constructor with a wrong number of arguments.
     fn type_arity(&mut self, alloc: Global, name: &Name, count: usize) -> Result<(), AllocError>
         ensures { OnOk result (self.new ≡ noting
             (other_arity (type_arity_meant self.old.known (meaning_in self.old.known.pairs Types name.now)) count name.now) self.old) }
@@ -164,7 +164,7 @@ impl Resolving<'_> {
         }
     }
 
-    /// Notes a constructor in a pattern with another number of arguments than it has.
+    /// Adds the fault of a constructor in a pattern with a wrong number of arguments.
     fn pattern_arity(&mut self, alloc: Global, name: &Name, count: usize) -> Result<(), AllocError>
         ensures { OnOk result (self.new ≡ noting (other_arity (pattern_arity self.old.known (special_of name.now) name.now) count name.now) self.old) }
     {
@@ -181,7 +181,7 @@ impl Resolving<'_> {
         }
     }
 
-    /// A type constructor with its arguments, or what the synonym stands for that it is.
+    /// Returns a type constructor with its arguments or, for a synonym, the type that it stands for.
     pub(crate) fn constructed(
         &self,
         alloc: Global,
@@ -204,12 +204,12 @@ impl Resolving<'_> {
         }
     }
 
-    /// How many nodes types may still have that synonyms stand for.
+    /// Returns the number of nodes that types for synonyms may still have.
     pub(crate) fn nodes_left(&self) -> usize {
         self.tables.nodes().get()
     }
 
-    /// Counts the nodes again that were made since so many were left, once for each further one of `count` names of one type.
+    /// Counts again the nodes that were made since `before` nodes were left: once for each name after the first of `count` names with one type.
     pub(crate) fn count_again(&self, before: usize, count: usize) -> Result<(), AllocError> {
         let left = self.nodes_left();
         let made = before.saturating_sub(left);
@@ -221,7 +221,7 @@ impl Resolving<'_> {
         Ok(())
     }
 
-    /// A variable that stands as an expression.
+    /// Resolves a variable in an expression.
     pub(crate) fn variable(&mut self, alloc: Global, name: &Name) -> Result<Expr, AllocError>
         ensures tree { IfOk result (λ e. e ≡ expression_with (resolver_of self.old.known) (locals_of self.old) (variable_expression name.now)) }
         ensures state { OnOk result (self.new ≡ noting (expression_faults self.old.known (locals_of self.old) (variable_expression name.now)) self.old) }
@@ -232,7 +232,7 @@ impl Resolving<'_> {
         })
     }
 
-    /// A constructor that stands as an expression.
+    /// Resolves a constructor in an expression.
     #[tactic(auto, unfolding(hm_names::specs::Found::resolved_name, hm_names::specs::Found::name_faults))]
     pub(crate) fn constructor(&mut self, alloc: Global, name: &Name) -> Result<Expr, AllocError>
         ensures tree { IfOk result (λ e. e ≡ expression_with (resolver_of self.old.known) (locals_of self.old) (constructor_expression name.now)) }
@@ -244,7 +244,7 @@ impl Resolving<'_> {
         })
     }
 
-    /// Whether a name stays as it is: a local one, or that of a special constructor.
+    /// Returns whether a name stays as it is: it is local, or that of a special constructor.
     fn stays(&self, space: Namespace, name: &Name) -> bool
         ensures { result ≡ stays (locals_of self.now) space name.now }
     {
@@ -255,14 +255,14 @@ impl Resolving<'_> {
         }
     }
 
-    /// Goes to where these names are bound too.
+    /// Enters the scope of these names.
     pub(crate) fn enter(&mut self, names: Vec<Name>) -> Result<(), AllocError>
         ensures { OnOk result (self.new ≡ entering (texts names.items) self.old) }
     {
         self.locals.enter(names)
     }
 
-    /// Goes back to where the names of the last `enter` were not bound.
+    /// Leaves the scope of the last `enter`.
     pub(crate) fn leave(&mut self)
         ensures { self.new ≡ leaving self.old }
     {

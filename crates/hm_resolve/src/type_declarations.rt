@@ -14,7 +14,7 @@ use hm_syntax::{Constr, Decl, DeclKind, Name, TypeExpr};
 use hm_types::Text;
 use std::alloc::{AllocError, Global};
 
-/// What a declaration of a type has before its `=`, and the module that declares it.
+/// The part of a type's declaration before its `=`, and the module that declares it.
 #[derive(Clone, Copy)]
 pub(crate) struct TypeHead<'t> {
     pub(crate) home: &'t Option<Text>,
@@ -23,7 +23,7 @@ pub(crate) struct TypeHead<'t> {
 }
 
 impl Resolving<'_> {
-    /// Notes each second parameter, and each type variable that is no parameter.
+    /// Adds a fault for each second parameter, and for each type variable that isn't a parameter.
     #[tactic(auto, using(hm_names::proofs::Rows::noting_more))]
     fn parameters(
         &mut self,
@@ -39,7 +39,7 @@ impl Resolving<'_> {
         Ok(self.outside(alloc, Kind::Unbound, &lent, variables)?)
     }
 
-    /// Notes what is wrong with the parameters of a data type.
+    /// Adds the faults of the parameters of a data type.
     fn data_parameters(
         &mut self,
         alloc: Global,
@@ -53,7 +53,7 @@ impl Resolving<'_> {
         Ok(self.parameters(alloc, params, &variables)?)
     }
 
-    /// Notes what is wrong with the parameters of a newtype.
+    /// Adds the faults of the parameters of a newtype.
     fn newtype_parameters(
         &mut self,
         alloc: Global,
@@ -67,7 +67,7 @@ impl Resolving<'_> {
         Ok(self.parameters(alloc, params, &variables)?)
     }
 
-    /// Notes what is wrong with the parameters of a synonym.
+    /// Adds the faults of the parameters of a synonym.
     fn synonym_parameters(
         &mut self,
         alloc: Global,
@@ -81,7 +81,7 @@ impl Resolving<'_> {
         Ok(self.parameters(alloc, params, &variables)?)
     }
 
-    /// A constructor with the names in its types resolved.
+    /// Returns a constructor with the names in its types resolved.
     #[tactic(auto, using(hm_names::proofs::Rows::types_map))]
     fn constr(
         &mut self,
@@ -115,7 +115,7 @@ impl Resolving<'_> {
         Ok(resolved)
     }
 
-    /// A `data` declaration.
+    /// Returns a `data` declaration with its names resolved.
     #[inline(never)]
     #[tactic(auto, using(hm_names::proofs::Rows::constructors_map, hm_names::proofs::Rows::noting_more))]
     pub(crate) fn data_type(
@@ -143,7 +143,7 @@ impl Resolving<'_> {
         })
     }
 
-    /// A `newtype` declaration.
+    /// Returns a `newtype` declaration with its names resolved.
     #[inline(never)]
     #[tactic(auto, using(hm_names::proofs::Rows::noting_more))]
     pub(crate) fn newtype(
@@ -170,7 +170,7 @@ impl Resolving<'_> {
         })
     }
 
-    /// A `type` declaration.
+    /// Returns a `type` declaration with its names resolved.
     #[inline(never)]
     #[tactic(auto, using(hm_names::proofs::Rows::noting_more))]
     pub(crate) fn synonym(
@@ -193,7 +193,7 @@ impl Resolving<'_> {
         })
     }
 
-    /// A signature.
+    /// Returns a signature with its names resolved.
     #[inline(never)]
     pub(crate) fn signature(
         &mut self,

@@ -10,7 +10,7 @@ use hm_syntax::{TypeExpr, TypeKind};
 use std::alloc::{AllocError, Global};
 
 impl Resolving<'_> {
-    /// A type with its names resolved.
+    /// Returns a type with its names resolved and its synonyms expanded.
     #[cycle(types)]
     #[tactic(auto, using(hm_names::proofs::Rows::types_map, hm_names::proofs::Rows::type_falls))]
     pub fn type_expr(&mut self, alloc: Global, ty: &TypeExpr) -> Result<TypeExpr, AllocError>
@@ -51,7 +51,7 @@ impl Resolving<'_> {
         }
     }
 
-    /// Types in a row, with their names resolved.
+    /// Returns a row of types with their names resolved and their synonyms expanded.
     #[cycle(types)]
     #[tactic(auto, using(hm_names::proofs::Rows::types_map, hm_names::proofs::Rows::type_falls))]
     pub(crate) fn type_row(

@@ -15,16 +15,16 @@ use hm_tables::Scope;
 use hm_types::Text;
 use std::alloc::{AllocError, Global};
 
-/// What the walk over a module finds.
+/// The result of the walk over a module.
 #[derive(Drop)]
 pub struct Walked {
-    /// The declarations with their names resolved, which is of use where there are no faults.
+    /// The declarations with their names resolved. Only useful if there are no faults.
     pub decls: Vec<Decl>,
-    /// The faults of declaration lists, of names and of numbers of arguments, in no order.
+    /// The faults of declaration lists, of names and of numbers of arguments, unordered.
     pub faults: Vec<Fault>,
 }
 
-/// The faults that stand somewhere in a module's trees, and its declarations with their names resolved.
+/// Returns the faults in a module's trees, and its declarations with their names resolved.
 #[tactic(auto, using(hm_names::proofs::Standing::noted_somewhere))]
 pub fn walk(
     alloc: Global,

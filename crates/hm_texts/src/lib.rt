@@ -1,7 +1,6 @@
-//! Texts whose bytes are shared: names and the parts of names.
+//! Texts with shared bytes, for names and parts of names; and a table with which a parser shares them.
 //!
-//! A `Text` is made once, and each copy of it counts one more owner. A `TextTable` makes one text for all places of a source that have the same
-//! bytes.
+//! Copying a [`Text`] only counts one more owner. A [`TextTable`] returns the same text for all places of a source with the same bytes.
 #![tactic(auto)]
 
 ghost use Rattle.std.specs.Prelude.{◌≡◌, ◌↔◌, IfOk, IsTrue, string_bytes};
@@ -34,7 +33,7 @@ impl Model for Text {
 }
 
 impl Text {
-    /// The name of a `String`, where memory allows.
+    /// Makes a text of a `String`, unless memory runs out.
     pub fn new(text: String) -> Result<Text, AllocError>
         ensures { IfOk result (λ name. name ≡ string_bytes text) }
     {
@@ -43,21 +42,21 @@ impl Text {
         })
     }
 
-    /// The name of a `str`, where memory allows.
+    /// Makes a text of a `str`, unless memory runs out.
     pub fn from_str(alloc: Global, text: &str) -> Result<Text, AllocError>
         ensures { IfOk result (λ name. name ≡ text.now) }
     {
         Text::new(String::from_str(alloc, text)?)
     }
 
-    /// The name, lent.
+    /// Returns the text as a `str`.
     pub fn as_str(&self) -> &str
         ensures { result.now ≡ self.now }
     {
         self.text.as_str()
     }
 
-    /// A copy, where memory allows.
+    /// Returns a copy that shares the bytes, unless memory runs out.
     pub fn copy(&self) -> Result<Text, AllocError>
         ensures { IfOk result (λ text. text ≡ self.now) }
     {
@@ -66,7 +65,7 @@ impl Text {
         })
     }
 
-    /// Whether both have the same bytes.
+    /// Returns whether both have the same bytes.
     pub fn is_same(&self, other: &Text) -> bool
         ensures { IsTrue result ↔ (self.now ≡ other.now) }
     {

@@ -1,4 +1,4 @@
-//! Texts that are made once for each row of bytes.
+//! A table that makes one text for equal bytes.
 
 ghost use Rattle.std.specs.Prelude.{◌≡◌, IfOk};
 ghost use Rattle.std.specs.Str.{IsUtf8};
@@ -7,12 +7,12 @@ use crate::Text;
 use std::alloc::{AllocError, Global};
 use std::collections::HashMap;
 
-/// A table of more texts than this is replaced by a new one, so that clearing it never takes long.
+/// A table with more texts than this is replaced instead of cleared, because clearing takes long.
 const MOST_CLEARED: usize = 1024;
 
 /// The texts that were made so far, by their bytes in a source.
 ///
-/// A text that is found is compared with the bytes that are looked up. So no contract depends on what the table has.
+/// A found text is compared with the bytes that are looked up, so no contract depends on the contents of the table.
 #[derive(Drop)]
 pub struct TextTable<'a> {
     texts: HashMap<&'a [u8], Text>,

@@ -1,4 +1,4 @@
-//! The texts of types and schemes, in the notation of the Haskell 98 Report, and of interfaces.
+//! The texts of types and schemes in the notation of the Haskell 98 Report, and of interfaces.
 #![tactic(auto)]
 
 mod interface_lines;

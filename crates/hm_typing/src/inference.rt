@@ -1,4 +1,4 @@
-//! Laws on which inference stands.
+//! Laws for inference.
 
 ghost use Rattle.hm_typing.specs.Laws.{
   EveryExpressionIsAnswered,
@@ -11,12 +11,12 @@ ghost use Rattle.hm_typing.specs.Laws.{
   UnitsGeneraliseAlike,
 };
 
-/// Each unification problem has a most general unifier, or none (Damas and Milner 1982, section 6, after Robinson).
+/// Each unification problem has a most general unifier, or no unifier (Damas and Milner 1982, section 6, after Robinson).
 pub fn unification_is_decided()
     ensures { UnificationIsDecided }
 {}
 
-/// Every expression has an answer under every unification problem, sound and complete.
+/// For each expression and each unification problem there is a problem with exactly the solutions that type the expression, or there is none.
 pub fn every_expression_is_answered()
     ensures { EveryExpressionIsAnswered }
 {}
@@ -26,15 +26,15 @@ pub fn principal_or_none()
     ensures { PrincipalOrNone }
 {}
 
-/// Generalisation may keep any set of variables that has those free in the assumptions after solving, and only such as stand in the outer
-/// problem: it gives the same schemes.
+/// Generalisation may keep any set of variables that has all variables free in the assumptions after solving, and otherwise only variables
+/// from the outer problem. The schemes are the same.
 pub fn generalisation_may_keep_outer_variables()
     ensures expressions { ExpressionsGeneraliseAlike }
     ensures units { UnitsGeneraliseAlike }
 {}
 
-/// The groups of mutual reach of a list of bindings, in an order in which each comes after all others that it reaches, are an order in
-/// which its units can be inferred; a graph's groups, over numbered names, are such groups; and each list has some.
+/// Groups of mutual reach, each after all others that it reaches, are an order in which the units of a list can be inferred. The groups of a
+/// graph over numbered names are such groups. Each list has some.
 pub fn groups_are_an_order()
     ensures groups_give_order { GroupsGiveOrder }
     ensures numbered_groups { NumberedGroupsAreGroups }

@@ -1,5 +1,6 @@
-//! The laws of typing: what a type of an expression is, which schemes type a list of bindings or a set of modules, and what is proved of
-//! these definitions. The functions do nothing; each has a law as its contract.
+//! Laws of the typing relation: types of expressions, schemes of binding lists, and assignments of sets of modules.
+//!
+//! The definitions are in `specs/`. Each law is a function with an empty body, and its contract is the law.
 #![tactic(auto)]
 
 mod inference;

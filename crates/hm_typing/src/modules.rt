@@ -2,13 +2,13 @@
 
 ghost use Rattle.hm_typing.specs.Laws.{Composes, Extends, GoodHasPrincipal, ImportsHavePrincipal};
 
-/// Principal assignments compose over the import order, and that of a module's imports is extended by its own principal schemes.
+/// Principal assignments compose along imports: that of a module's imports, extended by its own principal schemes, is principal.
 pub fn principal_assignments_compose()
     ensures composes { Composes }
     ensures extends { Extends }
 {}
 
-/// In a lawful set all that a module imports has a principal assignment where its imports are good, and so has the closure of a good module.
+/// In a lawful set, if the imports of a module are good, all that it imports has a principal assignment. So has the closure of a good module.
 pub fn good_modules_have_principal_assignments()
     ensures imports { ImportsHavePrincipal }
     ensures closure { GoodHasPrincipal }

@@ -1,4 +1,4 @@
-//! Worked sources: which of them are typed, and which have no typing.
+//! Worked sources: some have types, and some have no typing.
 
 ghost use Rattle.hm_typing.specs.Assumptions.{empty};
 ghost use Rattle.hm_types.specs.Types.{Var};
@@ -61,7 +61,7 @@ ghost use Rattle.hm_typing.specs.Syntax.{bool};
 ghost use Rattle.hm_typing.specs.Verdicts.{AreTypeFaults};
 ghost use Rattle.std.specs.Prelude.{[], ◌∷◌};
 
-/// Sources that are typed, with the scheme that a name of theirs has at least.
+/// Sources with types, each with a scheme that is at most as general as that of one of its names.
 pub fn sources_with_types()
     ensures polymorphic_let { IsTyped empty polymorphic_let (pair_type int char) }
     ensures narrow_signature { IsTypedWith empty narrow_signature g (closed (arrow int int)) }
@@ -81,9 +81,9 @@ pub fn sources_with_types()
     ensures guarded_pattern_second { IsTypedWith empty guarded_pattern y (closed bool) }
 {}
 
-/// Sources that have no typing: a lambda's variable isn't generalised, no type contains itself, a signature isn't more general than its
-/// binding, its variables don't escape, and its scheme is the one that is used; the names of a pattern binding are one unit, in which none
-/// is generalised, and its guards are of type Bool.
+/// Sources without a typing. A lambda's variable isn't generalised. No type contains itself. A signature isn't more general than its binding,
+/// its variables don't escape, and its scheme is the one in use. The names of a pattern binding are one unit, in which none is generalised,
+/// and its guards have the type Bool.
 pub fn sources_without_types()
     ensures lambda_is_monomorphic { HasNoType empty polymorphic_lambda }
     ensures no_infinite_type { HasNoSchemes empty self_application }
@@ -96,9 +96,9 @@ pub fn sources_without_types()
     ensures letter_as_guard { HasNoSchemes empty letter_as_guard }
 {}
 
-/// Sources with type faults. Of `f x = x x ; g = f 1 ; s :: Int ; s = 'c' ; t = not s` they are exactly `f`, `s` and `t`: `g` depends on
-/// `f`, and `t` sees the scheme that is declared of `s`. Of `(f, g) = (\x -> x, f 1) ; h = f 'c'` it is `h`; of `(f, g) = (not 1, 1) ; h = not g` the unit of the
-/// pattern alone; of `3 = 'c' ; _ = not 1` both bindings, each a unit by itself.
+/// Sources with type faults. In `f x = x x ; g = f 1 ; s :: Int ; s = 'c' ; t = not s` they are exactly `f`, `s` and `t`: `g` depends on `f`, and
+/// `t` sees the declared scheme of `s`. In `(f, g) = (\x -> x, f 1) ; h = f 'c'` it is `h`. In `(f, g) = (not 1, 1) ; h = not g` it is only
+/// the unit of the pattern. In `3 = 'c' ; _ = not 1` both bindings are faults, each in its own unit.
 pub fn sources_with_faults()
     ensures some_faults { AreTypeFaults with_not some_faults (f ∷ s ∷ t ∷ []) }
     ensures pattern_is_one_unit { AreTypeFaults empty pattern_is_one_unit (h ∷ []) }

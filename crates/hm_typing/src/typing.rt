@@ -2,7 +2,7 @@
 
 ghost use Rattle.hm_typing.specs.Laws.{FormsAgree, Substitutes, Survives};
 
-/// Typing survives more general assumptions and substitutions, and its two forms agree (Damas and Milner 1982, propositions 1 and 2).
+/// Typing is preserved by more general assumptions and by substitutions, and its two forms agree (Damas and Milner 1982, propositions 1 and 2).
 pub fn typing_is_stable()
     ensures survives { Survives }
     ensures substitutes { Substitutes }

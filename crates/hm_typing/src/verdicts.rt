@@ -14,8 +14,8 @@ ghost use Rattle.hm_typing.specs.Laws.{
   TypedWithoutFaults,
 };
 
-/// The type faults of a list of bindings under closed assumptions are found, signed bindings included; it has none exactly where it is
-/// typed; so it is good with its principal schemes, or faulty with its type faults, and not both.
+/// Under closed assumptions, the type faults of a list can be found, including those of signed bindings. A list has none if and only if it is
+/// typed. So a list is either good with its principal schemes or faulty with its type faults.
 pub fn lists_have_verdicts()
     ensures faults_are_found { FaultsAreFound }
     ensures typed_without_faults { TypedWithoutFaults }
@@ -23,14 +23,14 @@ pub fn lists_have_verdicts()
     ensures has_one_verdict { HasOneVerdict }
 {}
 
-/// A module of a lawful set is good exactly where it is well-formed, all its imports are good and its own list is typed under their
-/// principal assignment; it is faulty exactly where instead that list has type faults.
+/// A module of a lawful set is good if and only if it is well-formed, all its imports are good, and its list is typed under their principal
+/// assignment. It is faulty if and only if instead that list has type faults.
 pub fn modules_are_judged_by_their_imports()
     ensures good_where_typed { GoodWhereTyped }
     ensures faulty_where_faults { FaultyWhereFaults }
 {}
 
-/// Whether a module of a lawful set is good is decided. A well-formed one is good, skipped or faulty, and no two of these.
+/// It is decidable whether a module of a lawful set is good. A well-formed module is exactly one of good, skipped and faulty.
 pub fn modules_have_verdicts()
     ensures good_is_decided { GoodIsDecided }
     ensures one_of_three { IsOneOfThree }
