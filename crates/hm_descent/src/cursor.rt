@@ -1,4 +1,4 @@
-//! The tokens that are left of a source, and the steps that every part of the parser takes on them.
+//! The rest of a source's tokens, and the steps on them that all parts of the parser take.
 ghost use Rattle.std.specs.Prelude.{◌≡◌, IfOk};
 ghost use Rattle.hm_grammar.specs.Reading.Basics.{peek, is_at, is_done, is_at_word, tail, expect, name_at, module_name_at, modid_at, item_end, past_semicolons};
 ghost use Rattle.hm_grammar.specs.Reading.Constructors.{IsPlaceAt};
@@ -13,7 +13,7 @@ use hm_texts::TextTable;
 use std::alloc::Global;
 use std::marker::Model;
 
-/// What the first token is to the grammar.
+/// Returns the symbol of the first token.
 fn first_symbol(source: &[u8], tokens: &[Token]) -> Symbol
     requires { AllLieIn source.now tokens.now }
     ensures { result ≡ peek (terminals source.now tokens.now) }
@@ -24,7 +24,7 @@ fn first_symbol(source: &[u8], tokens: &[Token]) -> Symbol
     }
 }
 
-/// Where an expression stands.
+/// The position of an expression.
 #[derive(Clone, Copy)]
 pub(crate) enum Context {
     /// At the right end of an alternative's guard, before its arrow.
@@ -33,7 +33,7 @@ pub(crate) enum Context {
 }
 
 impl Context {
-    /// Where a guard stands that this mark follows.
+    /// Returns the position of a guard that this mark follows.
     pub(crate) fn of_guard(mark: Symbol) -> Context {
         if mark.is(Symbol::Arrow) {
             Context::AlternativeGuard
@@ -43,17 +43,17 @@ impl Context {
     }
 }
 
-/// The tokens that are left of a source. The parser goes down the grammar, with one token of look-ahead.
+/// The parser: the rest of a source's tokens. It descends through the grammar, with one token of look-ahead.
 #[derive(Drop)]
 pub struct Parser<'a> {
     source: &'a [u8],
     tokens: &'a [Token],
-    /// What the first of the tokens is to the grammar.
+    /// The symbol of the first token.
     next: Symbol,
     /// The place just past the last byte of the source.
     end: Place,
-    /// The first `::` whose type would end an alternative's guard. The arrow behind the guard would belong to the type,
-    /// so no source goes on from that `::`.
+    /// The first `::` with a type that would end an alternative's guard. The arrow after the guard would belong to the type,
+    /// so no source has this `::` there.
     guard_type: Option<Place>,
     /// The texts of the names that were read, by their bytes in the source.
     texts: TextTable<'a>,
@@ -73,7 +73,7 @@ impl<'a> Model for Parser<'a> {
 }
 
 impl<'a> Parser<'a> {
-    /// A parser before all of these tokens of a source, whose last byte stands just before `end`.
+    /// Returns a parser of these tokens of a source. `end` is the place just past the last byte.
     pub fn new(alloc: Global, source: &'a [u8], tokens: &'a [Token], end: Place) -> Parser<'a>
         requires { AllLieIn source.now tokens.now }
         ensures { result ≡ terminals source.now tokens.now }
@@ -88,8 +88,8 @@ impl<'a> Parser<'a> {
         }
     }
 
-    /// Forgets the texts of the names that were read. The names of later modules share none of them, so threads that work on different modules
-    /// don't count the owners of one text.
+    /// Forgets the texts of the names that were read. Names of later modules share none of them, so threads that work on different modules
+    /// don't count owners of the same text.
     pub fn forget_texts(&mut self, alloc: Global)
         ensures { self.new ≡ self.old }
     {
@@ -98,14 +98,14 @@ impl<'a> Parser<'a> {
 }
 
 impl Parser<'_> {
-    /// What stands next.
+    /// Returns the next symbol.
     pub(crate) fn symbol(&self) -> Symbol
         ensures { result ≡ peek self.now }
     {
         self.next
     }
 
-    /// What stands behind what stands next.
+    /// Returns the symbol after the next.
     pub(crate) fn second(&self) -> Symbol
         ensures { result ≡ peek (tail self.now) }
     {
@@ -127,7 +127,7 @@ impl Parser<'_> {
         self.tokens.is_empty()
     }
 
-    /// Whether a variable with this text stands next.
+    /// Returns whether the next token is a variable with this text.
     pub(crate) fn is_at_word(&self, word: &[u8]) -> bool
         ensures { result ≡ is_at_word word.now self.now }
     {
@@ -137,7 +137,7 @@ impl Parser<'_> {
         }
     }
 
-    /// The place of what stands next.
+    /// Returns the place of the next token.
     pub(crate) fn place(&self) -> Place
         ensures { IsPlaceAt self.now result }
     {
@@ -157,7 +157,7 @@ impl Parser<'_> {
         }
     }
 
-    /// Notes what stands next, which is `::`, where its type would end an alternative's guard.
+    /// Records the place of the next token, a `::`, if its type would end an alternative's guard.
     pub(crate) fn note_type(&mut self, context: Context)
         ensures { self.new ≡ self.old }
     {
@@ -171,7 +171,7 @@ impl Parser<'_> {
         }
     }
 
-    /// The first token from which no source goes on, where reading stopped at this place.
+    /// Returns the place of the first token from which no source goes on, if the parser stopped at this place.
     pub fn first_fault(&self, stopped: Place) -> Place {
         match self.guard_type {
             Some(place) => place,
@@ -179,7 +179,7 @@ impl Parser<'_> {
         }
     }
 
-    /// Goes past this symbol.
+    /// Skips this symbol, or fails at another one.
     pub fn expect(&mut self, symbol: Symbol) -> Result<(), ParseFault>
         ensures { Gives (λ _. self.new) result (expect symbol self.old) }
     {
@@ -191,7 +191,7 @@ impl Parser<'_> {
         }
     }
 
-    /// Goes past a token, which is a name.
+    /// Reads a token that is a name.
     pub(crate) fn name(&mut self, alloc: Global) -> Result<Name, ParseFault>
         ensures { Gives (λ n. (n, self.new)) result (name_at self.old) }
     {
@@ -212,7 +212,7 @@ impl Parser<'_> {
         }
     }
 
-    /// Goes past a token, whose whole text is a name.
+    /// Reads a token whose whole text is a name.
     pub(crate) fn module_name(&mut self, alloc: Global) -> Result<Name, ParseFault>
         ensures { Gives (λ n. (n, self.new)) result (module_name_at self.old) }
     {
@@ -232,7 +232,7 @@ impl Parser<'_> {
         }
     }
 
-    /// The name of a module.
+    /// Reads the name of a module.
     #[tactic(auto, unfolding(hm_grammar::specs::Reading::Basics::modid_at))]
     pub fn modid(&mut self, alloc: Global) -> Result<Name, ParseFault>
         ensures { Gives (λ n. (n, self.new)) result (modid_at self.old) }
@@ -244,7 +244,7 @@ impl Parser<'_> {
         }
     }
 
-    /// Goes past the separator behind an item, or stays before the end of the items.
+    /// Skips the separator after an item. Doesn't skip the end of the items.
     #[tactic(auto, unfolding(hm_grammar::specs::Reading::Basics::item_end))]
     pub(crate) fn item_end(&mut self, separator: Symbol, end: Symbol) -> Result<(), ParseFault>
         ensures { Gives (λ _. self.new) result (item_end separator end self.old) }
@@ -259,7 +259,7 @@ impl Parser<'_> {
         }
     }
 
-    /// Goes past the separator behind an item, or stays before the end of the items, and hands the item back.
+    /// Skips the separator after an item, but not the end of the items, and returns the item.
     pub fn ended<T: Drop>(
         &mut self,
         item: T,
@@ -273,7 +273,7 @@ impl Parser<'_> {
         Ok(item)
     }
 
-    /// Goes past this symbol behind a part, and hands the part back.
+    /// Skips this symbol after a part, and returns the part.
     pub(crate) fn before<T: Drop>(&mut self, part: T, symbol: Symbol) -> Result<T, ParseFault>
         ensures read { Gives (λ _. self.new) result (expect symbol self.old) }
         ensures part { IfOk result (λ it. it ≡ part) }
@@ -282,7 +282,7 @@ impl Parser<'_> {
         Ok(part)
     }
 
-    /// Goes past the semicolons that stand next.
+    /// Skips semicolons.
     #[tactic(auto, using(crate::proofs::Loops::semicolons_go_on, crate::proofs::Loops::semicolons_end, crate::proofs::Loops::semicolon_shorter))]
     pub fn past_semicolons(&mut self)
         ensures { self.new ≡ past_semicolons self.old }

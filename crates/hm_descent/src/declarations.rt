@@ -8,7 +8,7 @@ use hm_syntax::Decl;
 use std::alloc::Global;
 
 impl Parser<'_> {
-    /// A declaration of a type, a signature, a clause or a pattern binding.
+    /// Reads a declaration of a type, a signature, a clause or a pattern binding.
     #[tactic(auto, unfolding(hm_grammar::specs::Reading::Topdecls::topdecl_at))]
     pub fn topdecl(&mut self, alloc: Global) -> Result<Decl, ParseFault>
         ensures { Gives (λ d. (d, self.new)) result (topdecl_at self.old) }

@@ -14,7 +14,7 @@ use hm_syntax::{Alt, Decl, DeclKind, Expr, ExprKind, Name, Pat, PatKind, Rhs};
 use std::alloc::{AllocError, Global};
 
 impl Parser<'_> {
-    /// An expression. A type may stand behind it, where it is closed.
+    /// Reads an expression. A type may follow it if it is closed.
     #[cycle(exprs)]
     #[tactic(auto, using(crate::proofs::ExpressionLoops::chain_shorter, crate::proofs::ColonLoops::exp_open, crate::proofs::ColonLoops::exp_open_none), unfolding(hm_grammar::specs::Reading::Expressions::exp_with))]
     pub(crate) fn exp(&mut self, alloc: Global, context: Context) -> Result<Expr, ParseFault>
@@ -32,7 +32,7 @@ impl Parser<'_> {
         Ok(self.typed(alloc, e)?)
     }
 
-    /// An expression in a box of its own.
+    /// Reads an expression into a box.
     #[cycle(exprs)]
     fn boxed_exp(&mut self, alloc: Global, context: Context) -> Result<Box<Expr>, ParseFault>
         ensures { Gives (λ b. (b.value, self.new)) result (exp_with all_expressions self.old) }
@@ -41,7 +41,7 @@ impl Parser<'_> {
         Ok(boxed(alloc, e)?)
     }
 
-    /// What follows `::` behind an expression.
+    /// Reads the type after `::` of an expression.
     #[inline(never)]
     fn typed(&mut self, alloc: Global, e: Expr) -> Result<Expr, ParseFault>
         ensures { Gives (λ whole. (whole, self.new)) result (typed_behind e self.old) }
@@ -53,7 +53,7 @@ impl Parser<'_> {
         })
     }
 
-    /// Operands with colons between, or what extends as far right as it can; true where it is open.
+    /// Reads operands with colons between them, or an expression that extends as far right as it can. Returns whether it is open.
     #[cycle(exprs)]
     #[tactic(auto, using(crate::proofs::ColonLoops::chain_open, crate::proofs::ColonLoops::chain_open_none, crate::proofs::ColonLoops::chain_closed, crate::proofs::ColonLoops::chain_closed_none, crate::proofs::ColonLoops::chain_alone, crate::proofs::ExpressionLoops::opd_shorter))]
     fn chain(&mut self, alloc: Global, context: Context) -> Result<(Expr, bool), ParseFault>
@@ -70,7 +70,7 @@ impl Parser<'_> {
         Ok(self.colons(alloc, context, first)?)
     }
 
-    /// What follows the first operand of a chain. The operands are kept, and put together from the last.
+    /// Reads the rest of a chain after its first operand. Keeps the operands, and joins them from the last.
     #[cycle(exprs)]
     #[tactic(auto, using(crate::proofs::ColonLoops::behind_nothing, crate::proofs::ColonLoops::colons_open, crate::proofs::ColonLoops::colons_open_none, crate::proofs::ColonLoops::colons_go_on, crate::proofs::ColonLoops::colons_none, crate::proofs::ColonLoops::colons_end, crate::proofs::ExpressionLoops::opd_shorter, crate::proofs::ExpressionLoops::colon_shorter))]
     #[inline(never)]
@@ -98,7 +98,7 @@ impl Parser<'_> {
         Ok((whole, false))
     }
 
-    /// A lambda, a `let` or an `if`.
+    /// Reads a lambda, a `let` or an `if`.
     #[cycle(exprs)]
     #[tactic(auto, using(crate::proofs::ExpressionLoops::backslash_shorter, crate::proofs::ExpressionLoops::let_shorter, crate::proofs::ExpressionLoops::if_shorter))]
     #[inline(never)]
@@ -122,7 +122,7 @@ impl Parser<'_> {
         }
     }
 
-    /// What follows a backslash.
+    /// Reads a lambda after its backslash.
     #[cycle(exprs)]
     #[tactic(auto, using(crate::proofs::ExpressionLoops::apat_shorter, crate::proofs::ExpressionLoops::apats_shorter, crate::proofs::ExpressionLoops::expect_shorter), unfolding(hm_grammar::specs::Reading::Expressions::lambda_with))]
     fn lambda(&mut self, alloc: Global, context: Context) -> Result<Expr, ParseFault>
@@ -138,7 +138,7 @@ impl Parser<'_> {
         })
     }
 
-    /// What follows `let`.
+    /// Reads a `let` after that word.
     #[cycle(exprs)]
     #[tactic(auto, using(crate::proofs::ExpressionLoops::decls_shorter, crate::proofs::ExpressionLoops::expect_shorter), unfolding(hm_grammar::specs::Reading::Expressions::let_with))]
     fn let_in(&mut self, alloc: Global, context: Context) -> Result<Expr, ParseFault>
@@ -152,7 +152,7 @@ impl Parser<'_> {
         })
     }
 
-    /// What follows `if`.
+    /// Reads an `if` after that word.
     #[cycle(exprs)]
     #[tactic(auto, using(crate::proofs::ExpressionLoops::exp_shorter, crate::proofs::ExpressionLoops::expect_shorter), unfolding(hm_grammar::specs::Reading::Expressions::if_with))]
     fn if_then_else(&mut self, alloc: Global, context: Context) -> Result<Expr, ParseFault>
@@ -168,7 +168,7 @@ impl Parser<'_> {
         })
     }
 
-    /// An application, or a `case`.
+    /// Reads an application or a `case`.
     #[cycle(exprs)]
     #[tactic(auto, using(crate::proofs::ExpressionLoops::aexp_shorter, crate::proofs::ExpressionLoops::case_shorter, crate::proofs::ExpressionLoops::args_go_on, crate::proofs::ExpressionLoops::args_end, crate::proofs::ExpressionLoops::args_fail), unfolding(hm_grammar::specs::Reading::Expressions::opd_with))]
     #[inline(never)]
@@ -191,7 +191,7 @@ impl Parser<'_> {
         Ok(head)
     }
 
-    /// What follows `case`.
+    /// Reads a `case` after that word.
     #[cycle(exprs)]
     #[tactic(auto, using(crate::proofs::ExpressionLoops::exp_shorter, crate::proofs::ExpressionLoops::expect_shorter), unfolding(hm_grammar::specs::Reading::Expressions::case_with))]
     fn case_of(&mut self, alloc: Global) -> Result<Expr, ParseFault>
@@ -206,7 +206,7 @@ impl Parser<'_> {
         })
     }
 
-    /// The alternatives of a `case`, at least one, through the brace that ends them.
+    /// Reads the alternatives of a `case`, at least one, and the brace that ends them.
     #[cycle(exprs)]
     #[tactic(auto, using(crate::proofs::ExpressionLoops::past_shorter, crate::proofs::ExpressionLoops::alts_go_on, crate::proofs::ExpressionLoops::alts_end, crate::proofs::ExpressionLoops::alts_fail, crate::proofs::ExpressionLoops::alts_start, crate::proofs::ExpressionLoops::next_alts_shorter), unfolding(hm_grammar::specs::Reading::Expressions::alts_with))]
     fn alts(&mut self, alloc: Global) -> Result<Vec<Alt>, ParseFault>
@@ -224,7 +224,7 @@ impl Parser<'_> {
         Ok(found)
     }
 
-    /// One more alternative, or none at the brace that ends them.
+    /// Reads an alternative, or returns `None` at the brace that ends them.
     #[cycle(exprs)]
     #[tactic(auto, using(crate::proofs::ExpressionLoops::past_shorter, crate::proofs::ExpressionLoops::pattern_shorter), unfolding(hm_grammar::specs::Reading::Expressions::next_item_of, hm_grammar::specs::Reading::Expressions::alt_with))]
     fn next_alt(&mut self, alloc: Global) -> Result<Option<Alt>, ParseFault>
@@ -241,7 +241,7 @@ impl Parser<'_> {
         Ok(Some(self.ended(alt, Symbol::Semicolon, Symbol::RightBrace)?))
     }
 
-    /// A right side, behind this mark or behind guards and this mark, with its local declarations.
+    /// Reads a right side with its local declarations. It begins with this mark, or with guards and this mark.
     #[cycle(exprs)]
     #[tactic(auto, using(crate::proofs::ExpressionLoops::bodies_shorter), unfolding(hm_grammar::specs::Reading::Expressions::rhs_with))]
     fn rhs(&mut self, alloc: Global, mark: Symbol) -> Result<Rhs, ParseFault>
@@ -253,7 +253,7 @@ impl Parser<'_> {
         Ok(Rhs { parts, local })
     }
 
-    /// The declarations behind `where`, if it stands here.
+    /// Reads the declarations after `where`, if that is the next word.
     #[cycle(exprs)]
     #[tactic(auto, using(crate::proofs::ExpressionLoops::where_shorter), unfolding(hm_grammar::specs::Reading::Expressions::where_with))]
     fn local_decls(&mut self, alloc: Global) -> Result<Vec<Decl>, ParseFault>
@@ -267,7 +267,7 @@ impl Parser<'_> {
         }
     }
 
-    /// The expressions of a right side, each behind its guard, if it has one.
+    /// Reads the expressions of a right side, with their guards.
     #[cycle(exprs)]
     #[tactic(auto, using(crate::proofs::ExpressionLoops::symbol_shorter, crate::proofs::ExpressionLoops::bar_shorter), unfolding(hm_grammar::specs::Reading::Expressions::bodies_with))]
     fn bodies(
@@ -291,7 +291,7 @@ impl Parser<'_> {
         self.guards(alloc, mark, first)
     }
 
-    /// What follows the first guard with its expression.
+    /// Reads the guards after the first one and its expression.
     #[cycle(exprs)]
     #[tactic(auto, using(crate::proofs::ExpressionLoops::guards_go_on, crate::proofs::ExpressionLoops::guards_end, crate::proofs::ExpressionLoops::guards_fail, crate::proofs::ExpressionLoops::next_guarded_shorter))]
     fn guards(
@@ -310,7 +310,7 @@ impl Parser<'_> {
         Ok(found)
     }
 
-    /// What follows a bar: a guard, the mark and an expression.
+    /// Reads a guard, the mark and an expression after a bar.
     #[cycle(exprs)]
     #[tactic(auto, using(crate::proofs::ExpressionLoops::chain_shorter, crate::proofs::ExpressionLoops::expect_shorter), unfolding(hm_grammar::specs::Reading::Expressions::guarded_in))]
     fn guarded(&mut self, alloc: Global, mark: Symbol) -> Result<(Option<Expr>, Expr), ParseFault>
@@ -339,7 +339,7 @@ impl Parser<'_> {
         }
     }
 
-    /// An expression that needs no parentheses.
+    /// Reads an expression that needs no parentheses.
     #[cycle(exprs)]
     #[tactic(auto, using(crate::proofs::Loops::open_shorter, crate::proofs::TypeLoops::square_shorter, crate::proofs::ExpressionLoops::exp_shorter), unfolding(hm_grammar::specs::Reading::Expressions::aexp_step))]
     pub(crate) fn aexp(&mut self, alloc: Global) -> Result<Expr, ParseFault>
@@ -377,7 +377,7 @@ impl Parser<'_> {
         }
     }
 
-    /// What follows `(` and an expression.
+    /// Reads the rest after `(` and an expression.
     #[cycle(exprs)]
     #[tactic(auto, unfolding(hm_grammar::specs::Reading::Basics::closing))]
     fn exp_closing(&mut self, alloc: Global, first: Expr) -> Result<Expr, ParseFault>
@@ -389,7 +389,7 @@ impl Parser<'_> {
         self.exp_tuple(alloc, first)
     }
 
-    /// What follows the first component of a tuple. A comma behind the last that is allowed is a fault.
+    /// Reads a tuple after its first component. A comma after the last allowed component is a fault.
     #[cycle(exprs)]
     #[tactic(auto, using(crate::proofs::TypeLoops::comma_shorter, crate::proofs::ExpressionLoops::exp_shorter, crate::proofs::ExpressionLoops::components_go_on, crate::proofs::ExpressionLoops::components_end, crate::proofs::ExpressionLoops::components_open, crate::proofs::ExpressionLoops::components_fail, crate::proofs::ExpressionLoops::components_many))]
     fn exp_tuple(&mut self, alloc: Global, first: Expr) -> Result<Expr, ParseFault>
@@ -409,7 +409,7 @@ impl Parser<'_> {
         })
     }
 
-    /// What follows `[`.
+    /// Reads a list after `[`.
     #[cycle(exprs)]
     #[tactic(auto, using(crate::proofs::TypeLoops::comma_shorter, crate::proofs::ExpressionLoops::exp_shorter, crate::proofs::ExpressionLoops::components_go_on, crate::proofs::ExpressionLoops::elements_none, crate::proofs::ExpressionLoops::elements_open, crate::proofs::ExpressionLoops::elements_fail))]
     fn exp_list(&mut self, alloc: Global) -> Result<Expr, ParseFault>
@@ -427,7 +427,7 @@ impl Parser<'_> {
         })
     }
 
-    /// Declarations between braces.
+    /// Reads declarations between braces.
     #[cycle(exprs)]
     #[tactic(auto, using(crate::proofs::ExpressionLoops::decls_is, crate::proofs::ExpressionLoops::expect_shorter, crate::proofs::ExpressionLoops::decls_go_on, crate::proofs::ExpressionLoops::decls_end, crate::proofs::ExpressionLoops::decls_fail, crate::proofs::ExpressionLoops::decls_start, crate::proofs::ExpressionLoops::next_decls_shorter), unfolding(hm_grammar::specs::Reading::Expressions::decls_step))]
     fn decls(&mut self, alloc: Global) -> Result<Vec<Decl>, ParseFault>
@@ -441,7 +441,7 @@ impl Parser<'_> {
         Ok(found)
     }
 
-    /// One more declaration, or none at the brace that ends them.
+    /// Reads a declaration, or returns `None` at the brace that ends them.
     #[cycle(exprs)]
     #[tactic(auto, using(crate::proofs::ExpressionLoops::past_shorter), unfolding(hm_grammar::specs::Reading::Expressions::next_item_of))]
     fn next_decl(&mut self, alloc: Global) -> Result<Option<Decl>, ParseFault>
@@ -456,7 +456,7 @@ impl Parser<'_> {
         Ok(Some(self.ended(decl, Symbol::Semicolon, Symbol::RightBrace)?))
     }
 
-    /// A signature, a clause or a pattern binding.
+    /// Reads a signature, a clause or a pattern binding.
     #[cycle(exprs)]
     #[tactic(auto, using(crate::proofs::ExpressionLoops::variable_shorter), unfolding(hm_grammar::specs::Reading::Expressions::decl_with, hm_grammar::specs::Reading::Expressions::named_with))]
     pub(crate) fn decl(&mut self, alloc: Global) -> Result<Decl, ParseFault>
@@ -472,7 +472,7 @@ impl Parser<'_> {
         self.clause(alloc, name)
     }
 
-    /// What follows the name of a clause.
+    /// Reads a clause after its name.
     #[cycle(exprs)]
     #[tactic(auto, using(crate::proofs::ExpressionLoops::apats_shorter), unfolding(hm_grammar::specs::Reading::Expressions::clause_with))]
     fn clause(&mut self, alloc: Global, name: Name) -> Result<Decl, ParseFault>
@@ -485,7 +485,7 @@ impl Parser<'_> {
         })
     }
 
-    /// Whether a declaration that stands here is a pattern binding, by its first two tokens.
+    /// Returns whether a pattern binding begins here, by the first two tokens of a declaration.
     #[tactic(auto, unfolding(hm_grammar::specs::Reading::Expressions::begins_binding))]
     fn begins_binding(&self) -> bool
         ensures { result ≡ begins_binding self.now }
@@ -497,7 +497,7 @@ impl Parser<'_> {
         }
     }
 
-    /// A pattern binding. One of a lone variable is a clause.
+    /// Reads a pattern binding. A binding of a single variable becomes a clause.
     #[cycle(exprs)]
     #[tactic(auto, using(crate::proofs::ExpressionLoops::pattern_shorter, crate::proofs::ExpressionLoops::binding_is), unfolding(hm_grammar::specs::Reading::Expressions::binding_with))]
     #[inline(never)]
@@ -510,7 +510,7 @@ impl Parser<'_> {
         Ok(binding_of(alloc, place, pat, rhs)?)
     }
 
-    /// The name of a variable.
+    /// Reads the name of a variable.
     #[tactic(auto, unfolding(hm_grammar::specs::Reading::Expressions::var_at))]
     fn var(&mut self, alloc: Global) -> Result<Name, ParseFault>
         ensures { Gives (λ n. (n, self.new)) result (var_at self.old) }
@@ -522,7 +522,7 @@ impl Parser<'_> {
         }
     }
 
-    /// A comma and a variable.
+    /// Reads a comma and a variable, if a comma is next.
     #[tactic(auto, unfolding(hm_grammar::specs::Reading::Basics::next_of))]
     fn next_var(&mut self, alloc: Global) -> Result<Option<Name>, ParseFault>
         ensures { Gives (λ n. (n, self.new)) result (next_of var_at self.old) }
@@ -535,7 +535,7 @@ impl Parser<'_> {
         }
     }
 
-    /// A variable that was read, and those behind it.
+    /// Reads the variables after a first one.
     #[tactic(auto, using(crate::proofs::ExpressionLoops::vars_go_on, crate::proofs::ExpressionLoops::vars_end, crate::proofs::ExpressionLoops::vars_fail, crate::proofs::ExpressionLoops::next_vars_shorter))]
     fn vars(&mut self, alloc: Global, first: Name) -> Result<Vec<Name>, ParseFault>
         ensures { Gives (λ v. (v.items, self.new)) result (behind (first ∷ []) (loop (next_of var_at) self.old)) }
@@ -547,7 +547,7 @@ impl Parser<'_> {
         Ok(found)
     }
 
-    /// What follows the first variable of a signature.
+    /// Reads a signature after its first variable.
     #[tactic(auto, unfolding(hm_grammar::specs::Reading::Expressions::signature_with))]
     fn signature(&mut self, alloc: Global, first: Name) -> Result<Decl, ParseFault>
         ensures { Gives (λ d. (d, self.new)) result (signature_with all_expressions first self.old) }
@@ -561,7 +561,7 @@ impl Parser<'_> {
     }
 }
 
-/// A pattern binding whose first token has this place; of a lone variable, its clause.
+/// Returns a pattern binding whose first token has this place, or the clause of a single variable.
 fn binding_of(alloc: Global, place: Place, pat: Pat, rhs: Rhs) -> Result<Decl, AllocError>
     ensures { IfOk result (λ d. d ≡ binding_of place.line place.column pat rhs) }
 {
@@ -576,7 +576,7 @@ fn binding_of(alloc: Global, place: Place, pat: Pat, rhs: Rhs) -> Result<Decl, A
     Ok(Decl { kind })
 }
 
-/// The operands, each with the colon behind it, before the last: colons group to the right.
+/// Joins the operands, each with the colon after it, and the last: colons associate to the right.
 #[tactic(auto, using(crate::proofs::ColonLoops::consed_on))]
 #[inline(never)]
 fn cons_all(alloc: Global, operands: Vec<(Expr, Name)>, last: Expr) -> Result<Expr, AllocError>
@@ -590,7 +590,7 @@ fn cons_all(alloc: Global, operands: Vec<(Expr, Name)>, last: Expr) -> Result<Ex
     Ok(whole)
 }
 
-/// An operand, a colon and what stands behind it.
+/// Joins an operand, a colon and the expression after it.
 fn cons(alloc: Global, operand: Expr, colon: Name, rest: Expr) -> Result<Expr, AllocError>
     ensures { IfOk result (λ e. e ≡ cons_expression colon operand rest) }
 {

@@ -1,4 +1,4 @@
-//! What stands before a module's declarations: its export list and its imports (Haskell 98 Report, sections 5.2 and 5.3).
+//! The part of a module before its declarations: its export list and its imports (Haskell 98 Report, sections 5.2 and 5.3).
 ghost use Rattle.std.specs.Prelude.{◌≡◌, codes, option_map};
 ghost use Rattle.hm_grammar.specs.Reading.Basics.{tail, is_at_word, loop};
 ghost use Rattle.hm_grammar.specs.Reading.Headers.{con_at, next_con, con_row, subs_in, subs_at, export_at, item_at, next_export, next_item, exports_in, items_in, exports_at, qualified_at, alias_at, list_at, import_in, import_at, import_from, next_import};
@@ -22,7 +22,7 @@ impl Parser<'_> {
         }
     }
 
-    /// A comma and a constructor.
+    /// Reads a comma and a constructor, if a comma is next.
     #[tactic(auto, unfolding(hm_grammar::specs::Reading::Headers::next_con))]
     pub(crate) fn next_con(&mut self, alloc: Global) -> Result<Option<Name>, ParseFault>
         ensures { Gives (λ n. (n, self.new)) result (next_con self.old) }
@@ -35,7 +35,7 @@ impl Parser<'_> {
         }
     }
 
-    /// Constructors with commas between, at least one.
+    /// Reads constructors with commas between them, at least one.
     #[tactic(auto, using(crate::proofs::Loops::cons_go_on, crate::proofs::Loops::cons_end, crate::proofs::Loops::cons_fail, crate::proofs::Loops::cons_shorter), unfolding(hm_grammar::specs::Reading::Headers::con_row))]
     pub(crate) fn con_row(&mut self, alloc: Global) -> Result<Row<Name>, ParseFault>
         ensures { Gives (λ s. (s, self.new)) result (con_row self.old) }
@@ -48,7 +48,7 @@ impl Parser<'_> {
         Ok(Row { items })
     }
 
-    /// What follows `(` behind a type.
+    /// Reads the list after a type, after its `(`.
     #[tactic(auto, unfolding(hm_grammar::specs::Reading::Headers::subs_in))]
     pub(crate) fn subs_in(&mut self, alloc: Global) -> Result<SubItems, ParseFault>
         ensures { Gives (λ s. (s, self.new)) result (subs_in self.old) }
@@ -113,7 +113,7 @@ impl Parser<'_> {
         }
     }
 
-    /// One more export with the comma behind it, or the end of the list.
+    /// Reads an export and the comma after it, or returns `None` at the end of the list.
     #[tactic(auto, unfolding(hm_grammar::specs::Reading::Headers::next_export))]
     pub(crate) fn next_export(&mut self, alloc: Global) -> Result<Option<Export>, ParseFault>
         ensures { Gives (λ e. (e, self.new)) result (next_export self.old) }
@@ -126,7 +126,7 @@ impl Parser<'_> {
         Ok(Some(self.ended(export, Symbol::Comma, Symbol::Close)?))
     }
 
-    /// One more item with the comma behind it, or the end of the list.
+    /// Reads an item and the comma after it, or returns `None` at the end of the list.
     #[tactic(auto, unfolding(hm_grammar::specs::Reading::Headers::next_item))]
     pub(crate) fn next_item(&mut self, alloc: Global) -> Result<Option<ImportItem>, ParseFault>
         ensures { Gives (λ e. (e, self.new)) result (next_item self.old) }
@@ -139,7 +139,7 @@ impl Parser<'_> {
         Ok(Some(self.ended(item, Symbol::Comma, Symbol::Close)?))
     }
 
-    /// What follows `(` of an export list.
+    /// Reads an export list after its `(`.
     #[tactic(auto, using(crate::proofs::Loops::exports_go_on, crate::proofs::Loops::exports_end, crate::proofs::Loops::exports_fail, crate::proofs::Loops::exports_start, crate::proofs::Loops::exports_shorter), unfolding(hm_grammar::specs::Reading::Headers::exports_in))]
     pub(crate) fn exports_in(&mut self, alloc: Global) -> Result<Row<Export>, ParseFault>
         ensures { Gives (λ e. (e, self.new)) result (exports_in self.old) }
@@ -157,7 +157,7 @@ impl Parser<'_> {
         Ok(Row { items })
     }
 
-    /// What follows `(` of an import list.
+    /// Reads an import list after its `(`.
     #[tactic(auto, using(crate::proofs::Loops::items_go_on, crate::proofs::Loops::items_end, crate::proofs::Loops::items_fail, crate::proofs::Loops::items_start, crate::proofs::Loops::items_shorter), unfolding(hm_grammar::specs::Reading::Headers::items_in))]
     pub(crate) fn items_in(&mut self, alloc: Global) -> Result<Row<ImportItem>, ParseFault>
         ensures { Gives (λ e. (e, self.new)) result (items_in self.old) }
@@ -187,7 +187,7 @@ impl Parser<'_> {
         }
     }
 
-    /// Whether the import is qualified; goes past that word.
+    /// Skips `qualified` if it is next. Returns whether it was.
     pub(crate) fn qualified(&mut self) -> bool
         ensures { (result, self.new) ≡ qualified_at self.old }
     {
@@ -226,7 +226,7 @@ impl Parser<'_> {
         }
     }
 
-    /// What follows `import`.
+    /// Reads an import after that word.
     #[tactic(auto, unfolding(hm_grammar::specs::Reading::Headers::import_at, hm_grammar::specs::Reading::Headers::import_in))]
     pub(crate) fn import(&mut self, alloc: Global) -> Result<Import, ParseFault>
         ensures { Gives (λ e. (e, self.new)) result (import_at self.old) }
@@ -243,7 +243,7 @@ impl Parser<'_> {
         })
     }
 
-    /// One more import, or none where something else stands next.
+    /// Reads an import, or returns `None` if none is next.
     #[tactic(auto, unfolding(hm_grammar::specs::Reading::Headers::next_import, hm_grammar::specs::Reading::Headers::import_from))]
     pub fn next_import(&mut self, alloc: Global) -> Result<Option<Import>, ParseFault>
         ensures { Gives (λ e. (e, self.new)) result (next_import self.old) }

@@ -1,8 +1,8 @@
-//! The descent through the grammar of modules: a parser over the tokens of a source, which reads their parts.
+//! Parses the parts of modules: a recursive-descent parser over the tokens of a source.
 #![tactic(auto)]
 
-/// The answer of a call, or the return of its fault, before which the parts that are held are dropped. `?` does the same, but each drop that
-/// it makes is proved once more at its place, where one by a call has been proved.
+/// Returns the value of a call, or returns its fault after dropping the held parts by calls. `?` would drop them inline, and each of its drops
+/// would be proved again at its place.
 macro_rules! or_drop {
     ($call:expr, $($held:expr),+) => {
         match $call {

@@ -1,17 +1,17 @@
-//! Steps that take a part of a tree and hand it on, or drop it where the allocator refuses. They are of any type, so that
-//! what the drop of a tree does isn't proved once more at each place where one may be lost.
+//! Steps that take a part of a tree and return it, or drop it if an allocation fails. They are generic, so the drop of a tree isn't proved
+//! again at each place where one may be lost.
 ghost use Rattle.std.specs.Prelude.{◌≡◌, [], ◌∷◌, IfOk};
 
 use std::alloc::{AllocError, Global};
 
-/// The part in a box of its own.
+/// Returns the part in a box.
 pub(crate) fn boxed<T: Drop>(alloc: Global, part: T) -> Result<Box<T>, AllocError>
     ensures { IfOk result (λ b. b.value ≡ part) }
 {
     Ok(Box::new(alloc, part)?)
 }
 
-/// Both parts, each in a box of its own.
+/// Returns both parts, each in a box.
 pub(crate) fn both_boxed<T: Drop, U: Drop>(
     alloc: Global,
     first: T,
@@ -24,7 +24,7 @@ pub(crate) fn both_boxed<T: Drop, U: Drop>(
     Ok((first, second))
 }
 
-/// A list of this part alone.
+/// Returns a list with only this part.
 pub(crate) fn only<T: Drop>(alloc: Global, part: T) -> Result<Vec<T>, AllocError>
     ensures { IfOk result (λ parts. parts.items ≡ part ∷ []) }
 {
@@ -33,7 +33,7 @@ pub(crate) fn only<T: Drop>(alloc: Global, part: T) -> Result<Vec<T>, AllocError
     Ok(parts)
 }
 
-/// The list with this part before its first.
+/// Returns the list with this part before its first.
 pub(crate) fn put_first<T: Drop>(first: T, rest: Vec<T>) -> Result<Vec<T>, AllocError>
     ensures { IfOk result (λ parts. parts.items ≡ first ∷ rest.items) }
 {

@@ -1,4 +1,4 @@
-//! Patterns (Haskell 98 Report, section 3.17), and the constructors and literals that stand in them (section 3.2).
+//! Patterns (Haskell 98 Report, section 3.17), and the constructors and literals in them (section 3.2).
 ghost use Rattle.std.specs.Prelude.{◌≡◌, ◌≤◌, ◌+◌, length, [], ◌∷◌, IfOk, OnOk, true, codes};
 ghost use Rattle.hm_grammar.specs.Reading.Basics.{peek, tail, is_at, loop, closing, tuple_behind, list_in};
 ghost use Rattle.hm_grammar.specs.Reading.Constructors.{begins_gcon, special_at, commas_at, mark_by, mark_at, gcon_at, literal_at};
@@ -15,10 +15,10 @@ use hm_syntax::{Literal, LiteralKind, Name, Pat, PatKind};
 use hm_texts::Text;
 use std::alloc::{AllocError, Global};
 
-/// How many commas the constructor of a tuple may have.
+/// The largest number of commas in the constructor of a tuple.
 const MAX_COMMAS: usize = 14;
 
-/// The constructor of tuples with one component more than it has commas.
+/// Returns the constructor of tuples with one component more than it has commas.
 #[tactic(auto, using(crate::proofs::MarkLoops::marks_text, crate::proofs::MarkLoops::marks_closed))]
 fn tuple_text(alloc: Global, commas: usize) -> Result<Text, AllocError>
     ensures { IfOk result (λ text. text ≡ tuple_text commas) }
@@ -33,7 +33,7 @@ fn tuple_text(alloc: Global, commas: usize) -> Result<Text, AllocError>
     Ok(Text::new(text)?)
 }
 
-/// The text of a name, whose other parts are dropped.
+/// Returns the text of a name, and drops its other parts.
 fn into_text(name: Name) -> Result<Text, AllocError>
     ensures { IfOk result (λ text. text ≡ name.text) }
 {
@@ -41,7 +41,7 @@ fn into_text(name: Name) -> Result<Text, AllocError>
 }
 
 impl Parser<'_> {
-    /// Whether a constructor stands next that isn't a pattern or an expression in brackets.
+    /// Returns whether a constructor is next that isn't a pattern or an expression in brackets.
     #[tactic(auto, unfolding(hm_grammar::specs::Reading::Constructors::begins_gcon))]
     pub(crate) fn begins_gcon(&self) -> bool
         ensures { result ≡ begins_gcon self.now }
@@ -54,7 +54,7 @@ impl Parser<'_> {
         }
     }
 
-    /// Goes past commas, and tells how many they were. One more than are allowed is a fault.
+    /// Skips commas, and returns their number. One more than allowed is a fault.
     #[tactic(auto, using(crate::proofs::MarkLoops::marks_fewer, crate::proofs::MarkLoops::marks_rest, crate::proofs::MarkLoops::marks_end, crate::proofs::MarkLoops::marks_many, crate::proofs::TypeLoops::comma_shorter))]
     pub(crate) fn commas(&mut self) -> Result<usize, ParseFault>
         ensures { Gives (λ n. (n, self.new)) result (commas_at self.old) }
@@ -70,7 +70,7 @@ impl Parser<'_> {
         Ok(commas)
     }
 
-    /// The text of a special constructor, behind its `(`.
+    /// Reads the text of a special constructor after its `(`.
     #[tactic(auto, unfolding(hm_grammar::specs::Reading::Constructors::mark_at))]
     pub(crate) fn mark(&mut self, alloc: Global) -> Result<Text, ParseFault>
         ensures { Gives (λ text. (text, self.new)) result (mark_at self.old) }
@@ -90,7 +90,7 @@ impl Parser<'_> {
         }
     }
 
-    /// The text of the constructor of a tuple, from its first comma.
+    /// Reads the text of a tuple constructor from its first comma.
     fn tuple_mark(&mut self, alloc: Global) -> Result<Text, ParseFault>
         ensures { Gives (λ text. (text, self.new)) result (mark_by Comma self.old) }
     {
@@ -99,7 +99,7 @@ impl Parser<'_> {
         Ok(tuple_text(alloc, commas)?)
     }
 
-    /// A constructor.
+    /// Reads a constructor.
     #[tactic(auto, using(crate::proofs::MarkLoops::open_is, crate::proofs::MarkLoops::square_is), unfolding(hm_grammar::specs::Reading::Constructors::gcon_at))]
     pub(crate) fn gcon(&mut self, alloc: Global) -> Result<Name, ParseFault>
         ensures { Gives (λ n. (n, self.new)) result (gcon_at self.old) }
@@ -130,7 +130,7 @@ impl Parser<'_> {
         }
     }
 
-    /// A literal, quotes included.
+    /// Reads a literal, including its quotes.
     #[tactic(auto, unfolding(hm_grammar::specs::Reading::Constructors::literal_at))]
     pub(crate) fn literal(&mut self, alloc: Global) -> Result<Literal, ParseFault>
         ensures { Gives (λ l. (l, self.new)) result (literal_at self.old) }
@@ -158,7 +158,7 @@ impl Parser<'_> {
         }
     }
 
-    /// Goes past a colon, as a name.
+    /// Reads a colon as a name.
     #[tactic(auto, using(crate::proofs::MarkLoops::colon_is))]
     pub(crate) fn colon(&mut self, alloc: Global) -> Result<Name, AllocError>
         requires { is_at Colon self.old ≡ true }
@@ -175,7 +175,7 @@ impl Parser<'_> {
         })
     }
 
-    /// Goes past a colon, as a name, and hands it back behind the part before it.
+    /// Reads a colon as a name, and returns it after the part before it.
     pub(crate) fn with_colon<T: Drop>(
         &mut self,
         alloc: Global,
@@ -222,7 +222,7 @@ impl Parser<'_> {
         })
     }
 
-    /// Patterns that need no parentheses, as many as stand here.
+    /// Reads patterns that need no parentheses, up to another token.
     #[cycle(pats)]
     #[tactic(auto, using(crate::proofs::PatternLoops::apats_go_on, crate::proofs::PatternLoops::apats_end, crate::proofs::PatternLoops::apats_fail, crate::proofs::PatternLoops::apats_start, crate::proofs::PatternLoops::apats_shorter), unfolding(hm_grammar::specs::Reading::Patterns::apats_with))]
     pub(crate) fn apats(&mut self, alloc: Global) -> Result<Vec<Pat>, ParseFault>
@@ -247,7 +247,7 @@ impl Parser<'_> {
         }
     }
 
-    /// A pattern that needs no parentheses.
+    /// Reads a pattern that needs no parentheses.
     #[cycle(pats)]
     #[tactic(auto, using(crate::proofs::PatternLoops::apat_is, crate::proofs::PatternLoops::pattern_shorter, crate::proofs::Loops::open_shorter, crate::proofs::TypeLoops::square_shorter, crate::proofs::PatternLoops::tilde_shorter), unfolding(hm_grammar::specs::Reading::Patterns::apat_step))]
     pub(crate) fn apat(&mut self, alloc: Global) -> Result<Pat, ParseFault>
@@ -294,7 +294,7 @@ impl Parser<'_> {
         }
     }
 
-    /// A variable, and perhaps `@` and a pattern.
+    /// Reads a variable, and `@` with a pattern if that is next.
     #[cycle(pats)]
     #[tactic(auto, using(crate::proofs::PatternLoops::apat_is, crate::proofs::TypeLoops::name_shorter, crate::proofs::TypeLoops::tail_length), unfolding(hm_grammar::specs::Reading::Patterns::bound_with))]
     fn bound_pat(&mut self, alloc: Global) -> Result<Pat, ParseFault>
@@ -314,7 +314,7 @@ impl Parser<'_> {
         })
     }
 
-    /// What follows `(` and a pattern.
+    /// Reads the rest after `(` and a pattern.
     #[cycle(pats)]
     #[tactic(auto, unfolding(hm_grammar::specs::Reading::Basics::closing))]
     fn pat_closing(&mut self, alloc: Global, first: Pat) -> Result<Pat, ParseFault>
@@ -326,7 +326,7 @@ impl Parser<'_> {
         self.pat_tuple(alloc, first)
     }
 
-    /// What follows the first component of a tuple. A comma behind the last that is allowed is a fault.
+    /// Reads a tuple after its first component. A comma after the last allowed component is a fault.
     #[cycle(pats)]
     #[tactic(auto, using(crate::proofs::TypeLoops::comma_shorter, crate::proofs::PatternLoops::pattern_shorter, crate::proofs::PatternLoops::components_go_on, crate::proofs::PatternLoops::components_open, crate::proofs::PatternLoops::components_fail, crate::proofs::PatternLoops::components_many))]
     fn pat_tuple(&mut self, alloc: Global, first: Pat) -> Result<Pat, ParseFault>
@@ -346,7 +346,7 @@ impl Parser<'_> {
         })
     }
 
-    /// What follows `[`.
+    /// Reads a list after `[`.
     #[cycle(pats)]
     #[tactic(auto, using(crate::proofs::TypeLoops::comma_shorter, crate::proofs::PatternLoops::pattern_shorter, crate::proofs::PatternLoops::components_go_on, crate::proofs::PatternLoops::elements_none, crate::proofs::PatternLoops::elements_end, crate::proofs::PatternLoops::elements_open, crate::proofs::PatternLoops::elements_fail))]
     fn pat_list(&mut self, alloc: Global) -> Result<Pat, ParseFault>

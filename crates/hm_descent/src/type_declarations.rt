@@ -22,7 +22,7 @@ impl Parser<'_> {
         }
     }
 
-    /// The parameters of a type.
+    /// Reads the parameters of a type.
     #[tactic(auto, using(crate::proofs::TypeDeclarationLoops::tyvars_go_on, crate::proofs::TypeDeclarationLoops::tyvars_end, crate::proofs::TypeDeclarationLoops::tyvars_fail, crate::proofs::TypeDeclarationLoops::tyvars_start, crate::proofs::TypeDeclarationLoops::tyvars_shorter))]
     fn tyvars(&mut self, alloc: Global) -> Result<Vec<Name>, ParseFault>
         ensures { Gives (λ v. (v.items, self.new)) result (loop next_tyvar self.old) }
@@ -34,7 +34,7 @@ impl Parser<'_> {
         Ok(found)
     }
 
-    /// A constructor with the types of its arguments.
+    /// Reads a constructor with the types of its arguments.
     #[tactic(auto, unfolding(hm_grammar::specs::Reading::TypeDeclarations::constr_at))]
     fn constr(&mut self, alloc: Global) -> Result<Constr, ParseFault>
         ensures { Gives (λ c. (c, self.new)) result (constr_at self.old) }
@@ -56,7 +56,7 @@ impl Parser<'_> {
         }
     }
 
-    /// Constructors with bars between, at least one.
+    /// Reads constructors with bars between them, at least one.
     #[tactic(auto, using(crate::proofs::TypeDeclarationLoops::constrs_go_on, crate::proofs::TypeDeclarationLoops::constrs_end, crate::proofs::TypeDeclarationLoops::constrs_fail, crate::proofs::TypeDeclarationLoops::constrs_shorter), unfolding(hm_grammar::specs::Reading::TypeDeclarations::constrs_at))]
     fn constrs(&mut self, alloc: Global) -> Result<Vec<Constr>, ParseFault>
         ensures { Gives (λ v. (v.items, self.new)) result (constrs_at self.old) }
@@ -69,7 +69,7 @@ impl Parser<'_> {
         Ok(found)
     }
 
-    /// What follows `data`.
+    /// Reads a `data` declaration after that word.
     #[tactic(auto, unfolding(hm_grammar::specs::Reading::TypeDeclarations::data_in))]
     pub(crate) fn data(&mut self, alloc: Global) -> Result<Decl, ParseFault>
         ensures { Gives (λ d. (d, self.new)) result (data_in self.old) }
@@ -87,7 +87,7 @@ impl Parser<'_> {
         })
     }
 
-    /// What follows `newtype`.
+    /// Reads a `newtype` declaration after that word.
     #[tactic(auto, unfolding(hm_grammar::specs::Reading::TypeDeclarations::newtype_in))]
     pub(crate) fn newtype(&mut self, alloc: Global) -> Result<Decl, ParseFault>
         ensures { Gives (λ d. (d, self.new)) result (newtype_in self.old) }
@@ -111,7 +111,7 @@ impl Parser<'_> {
         })
     }
 
-    /// What follows `type`.
+    /// Reads a `type` declaration after that word.
     #[tactic(auto, unfolding(hm_grammar::specs::Reading::TypeDeclarations::synonym_in))]
     pub(crate) fn synonym(&mut self, alloc: Global) -> Result<Decl, ParseFault>
         ensures { Gives (λ d. (d, self.new)) result (synonym_in self.old) }

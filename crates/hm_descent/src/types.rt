@@ -10,7 +10,7 @@ use hm_grammar::{ParseFault, Symbol};
 use hm_syntax::{TypeExpr, TypeKind};
 use std::alloc::Global;
 
-/// How many components a tuple may have.
+/// The largest number of components of a tuple.
 pub(crate) const MAX_COMPONENTS: usize = 15;
 
 impl Parser<'_> {
@@ -47,7 +47,7 @@ impl Parser<'_> {
         })
     }
 
-    /// Types, as many as stand here.
+    /// Reads types that need no parentheses, up to another token.
     #[cycle(type_exprs)]
     #[tactic(auto, using(crate::proofs::TypeLoops::atypes_go_on, crate::proofs::TypeLoops::atypes_end, crate::proofs::TypeLoops::atypes_fail, crate::proofs::TypeLoops::atypes_start, crate::proofs::TypeLoops::atypes_shorter), unfolding(hm_grammar::specs::Reading::Types::atypes_with))]
     pub(crate) fn atypes(&mut self, alloc: Global) -> Result<Vec<TypeExpr>, ParseFault>
@@ -107,7 +107,7 @@ impl Parser<'_> {
         }
     }
 
-    /// What follows `(`.
+    /// Reads a type after `(`.
     #[cycle(type_exprs)]
     #[tactic(auto, using(crate::proofs::TypeLoops::type_shorter), unfolding(hm_grammar::specs::Reading::Types::type_in))]
     pub(crate) fn type_in(&mut self, alloc: Global) -> Result<TypeExpr, ParseFault>
@@ -123,7 +123,7 @@ impl Parser<'_> {
         self.type_closing(alloc, first)
     }
 
-    /// What follows `(` and a type.
+    /// Reads the rest after `(` and a type.
     #[cycle(type_exprs)]
     #[tactic(auto, unfolding(hm_grammar::specs::Reading::Basics::closing))]
     fn type_closing(&mut self, alloc: Global, first: TypeExpr) -> Result<TypeExpr, ParseFault>
@@ -135,7 +135,7 @@ impl Parser<'_> {
         Ok(self.before(first, Symbol::Close)?)
     }
 
-    /// What follows the first component of a tuple. A comma behind the last that is allowed is a fault.
+    /// Reads a tuple after its first component. A comma after the last allowed component is a fault.
     #[cycle(type_exprs)]
     #[tactic(auto, using(crate::proofs::TypeLoops::comma_shorter, crate::proofs::TypeLoops::type_shorter, crate::proofs::TypeLoops::components_go_on, crate::proofs::TypeLoops::components_end, crate::proofs::TypeLoops::components_open, crate::proofs::TypeLoops::components_fail, crate::proofs::TypeLoops::components_many))]
     fn type_tuple(&mut self, alloc: Global, first: TypeExpr) -> Result<TypeExpr, ParseFault>

@@ -25,21 +25,21 @@ terminals source ts = map (terminal_of source) ts
 abbrev pub is_of_part : ℕ → Bool
 is_of_part b = not (b == 46)
 
--- how long the last part of a name is, what follows its last dot
+-- the length of the last part of a name, which comes after its last dot
 abbrev pub last_len : List ℕ → ℕ
 last_len text = suffix_len is_of_part text
 
 abbrev pub last_part : List ℕ → List ℕ
 last_part text = drop (length text - last_len text) text
 
--- what stands before the last dot
+-- the part before the last dot
 abbrev pub qualifier_of : List ℕ → Option (List ℕ)
 qualifier_of text = if length text - last_len text == 0 then None else Some (take (length text - last_len text - 1) text)
 
 abbrev pub name_in : List ℕ → Place → Identifier
 name_in text place = record { qualifier = qualifier_of text; text = last_part text; line = place.line; column = place.column }
 
--- the name that a token is
+-- the name with the text of a token
 abbrev pub name_of : Terminal → Identifier
 name_of k = record { qualifier = qualifier_of k.text; text = last_part k.text; line = k.line; column = k.column }
 

@@ -4,10 +4,10 @@ use std::alloc::{AllocError, AllocFailed};
 /// Why a source has no trees.
 #[derive(Clone, Copy, Debug, thiserror::Error, PartialEq, Eq)]
 pub enum ParseFault {
-    /// No modules are spelled; the place where that shows.
+    /// The tokens spell no modules. Has the place where this shows.
     #[error("syntax")]
     Syntax(Place),
-    /// The allocator refused.
+    /// Memory ran out.
     #[error("no memory")]
     Memory,
 }

@@ -1,5 +1,4 @@
-//! The grammar of modules, how the parser reads it, and the laws of both: what is read is spelled, and what is spelled
-//! is read.
+//! The grammar of modules, and functions on tokens that read it. The parser reads what the grammar spells, and nothing else.
 #![tactic(auto)]
 
 mod fault;

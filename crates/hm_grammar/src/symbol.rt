@@ -1,4 +1,4 @@
-//! What a token is to the grammar.
+//! Symbols: tokens as the grammar sees them.
 ghost use Rattle.std.specs.Prelude.{◌≡◌, ℕ, List, [], ◌∷◌, map};
 ghost use Rattle.hm_grammar.specs.Reading.Types.{begins_atype};
 ghost use Rattle.hm_grammar.specs.Reading.Constructors.{is_mark};
@@ -86,7 +86,7 @@ impl Symbol {
         }
     }
 
-    /// Whether this begins what extends as far right as it can.
+    /// Returns whether this begins an expression that extends as far right as it can.
     pub fn begins_open(self) -> bool
         ensures { result ≡ begins_open self }
     {
@@ -96,7 +96,7 @@ impl Symbol {
         }
     }
 
-    /// Whether this stands behind the first variable of a signature.
+    /// Returns whether this comes after the first variable of a signature.
     pub fn begins_signature(self) -> bool
         ensures { result ≡ begins_signature self }
     {
@@ -106,7 +106,7 @@ impl Symbol {
         }
     }
 
-    /// Whether this behind a variable shows that a pattern began.
+    /// Returns whether a declaration is a pattern binding if this comes after its first variable.
     pub fn continues_pattern(self) -> bool
         ensures { result ≡ continues_pattern self }
     {
@@ -134,7 +134,7 @@ impl Symbol {
         }
     }
 
-    /// Whether this behind `(` shows a special constructor.
+    /// Returns whether a special constructor begins if this comes after `(`.
     pub fn is_mark(self) -> bool
         ensures { result ≡ is_mark self }
     {
@@ -180,7 +180,7 @@ const W_WORDS: [(&[u8], Symbol); 1] = [(b"where", Symbol::Where)];
 
 const UNDERSCORE: [(&[u8], Symbol); 1] = [(b"_", Symbol::Wild)];
 
-/// The reserved words that mean something and begin with the byte.
+/// Returns the reserved words of the grammar that begin with the byte.
 fn words_from(first: u8) -> &'static [(&'static [u8], Symbol)]
     ensures { (rest : List ℕ) → find_symbol (first ∷ rest) (map (λ entry. (entry.0.now, entry.1)) result.now) ≡ find_symbol (first ∷ rest) words }
 {
@@ -212,7 +212,7 @@ const OPERATORS: [(&[u8], Symbol); 9] = [
     (b"~", Symbol::Tilde),
 ];
 
-/// The operator of one byte.
+/// Returns the operator of one byte.
 fn short_operator(byte: u8) -> Symbol
     ensures { result ≡ find_symbol (byte ∷ []) operators }
 {
@@ -227,7 +227,7 @@ fn short_operator(byte: u8) -> Symbol
     }
 }
 
-/// The special character that the byte is.
+/// Returns the symbol of a special character.
 fn special_byte(byte: u8) -> Symbol
     ensures { result ≡ find_symbol (byte ∷ []) specials }
 {
@@ -244,7 +244,7 @@ fn special_byte(byte: u8) -> Symbol
     }
 }
 
-/// The symbol of a text in a table.
+/// Returns the symbol of a text in a table.
 fn find(table: &[(&[u8], Symbol)], text: &[u8]) -> Symbol
     ensures { result ≡ find_symbol text.now (map (λ entry. (entry.0.now, entry.1)) table.now) }
 {
@@ -283,7 +283,7 @@ fn special(text: &[u8]) -> Symbol
     Symbol::Other
 }
 
-/// The symbol of a token with this kind and text.
+/// Returns the symbol of a token with this kind and text.
 pub fn symbol_of(kind: Kind, text: &[u8]) -> Symbol
     ensures { result ≡ symbol_of kind text.now }
 {

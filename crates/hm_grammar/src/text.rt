@@ -9,7 +9,7 @@ use hm_syntax::Name;
 use hm_texts::{Text, TextTable};
 use std::alloc::{AllocError, Global};
 
-/// The text of a token.
+/// Returns the text of a token.
 pub fn text_of<'a>(source: &'a [u8], token: &Token) -> &'a [u8]
     requires { LiesIn source.now token.now }
     ensures { result.now ≡ token_text source.now token.now }
@@ -17,7 +17,7 @@ pub fn text_of<'a>(source: &'a [u8], token: &Token) -> &'a [u8]
     &source[token.start..token.end]
 }
 
-/// Where the last part of a name begins, behind its last dot.
+/// Returns where the last part of a name begins: after its last dot.
 #[tactic(auto, using(crate::proofs::Parts::start_is, crate::proofs::Parts::one_more))]
 fn last_start(text: &[u8]) -> usize
     ensures start { result ≡ length text.now - last_len text.now }
@@ -31,7 +31,7 @@ fn last_start(text: &[u8]) -> usize
     start
 }
 
-/// What stands before the last dot, where the last part begins here.
+/// Returns the part before the last dot, if the last part begins here.
 #[tactic(auto, using(crate::proofs::Parts::qualifier_text))]
 fn qualifier<'a>(
     alloc: Global,
@@ -51,7 +51,7 @@ fn qualifier<'a>(
     }
 }
 
-/// The name that a text is, at its place.
+/// Returns the name with this text, at its place.
 #[tactic(auto, using(crate::proofs::Parts::last_text, crate::proofs::Parts::rest_is))]
 pub fn name_in<'a>(
     alloc: Global,

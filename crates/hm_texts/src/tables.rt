@@ -7,7 +7,7 @@ use crate::Text;
 use std::alloc::{AllocError, Global};
 use std::collections::HashMap;
 
-/// A table with more texts than this is replaced instead of cleared, because clearing takes long.
+/// A table with more texts than this is replaced instead of cleared, because clearing a large table takes long.
 const MOST_CLEARED: usize = 1024;
 
 /// The texts that were made so far, by their bytes in a source.

@@ -12,20 +12,20 @@ pub record Module : Type 0 where
   pub scope : List Identifier  -- the variables of imported modules and of Prelude that it may use
   pub bindings : Bindings  -- its own
 
--- an assignment gives each entity the body of its scheme, all of whose variables are quantified
+-- an assignment gives each entity the body of its scheme. All variables of the body are quantified
 abbrev pub Assignment : Type 0
 Assignment = Identifier → Monotype
 
--- what a module assumes of the entities in its scope
+-- the assumptions of a module about the entities in its scope
 abbrev pub outer : Module → Assignment → Assumptions
 outer m S = bind_all m.scope (λ x. closed (S x)) empty
 
--- each of the modules for which M holds is typed by S, in which Prelude's variables have their schemes of the table
+-- S types each of the modules for which M holds, and gives Prelude's variables their schemes of the table
 pub record IsValid (set : ℕ → Module) (M : ℕ → Type 0) (prelude : List Identifier) (table : Assignment) (S : Assignment) : Type 0 where
   pub given : (x : Identifier) → IsOneOf x prelude → S x ≡ table x
   pub typed : (i : ℕ) → M i → HasSchemes (outer (set i) S) (set i).bindings (λ x. closed (S x))
 
--- S is valid, and at least as general, name by name, as every other valid assignment
+-- S is valid, and each name has in it a scheme at least as general as in every other valid assignment
 pub record IsPrincipal (set : ℕ → Module) (M : ℕ → Type 0) (prelude : List Identifier) (table : Assignment) (S : Assignment) : Type 0 where
   pub valid : IsValid set M prelude table S
   pub most : (S' : Assignment) → IsValid set M prelude table S' → (i : ℕ) (x : Identifier) → M i → IsOneOf x (names (set i).bindings) → IsAtMostAsGeneral (closed (S' x)) (closed (S x))

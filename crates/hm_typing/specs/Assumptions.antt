@@ -13,12 +13,12 @@ abbrev pub bind_all : List Identifier → (Identifier → Scheme) → Assumption
 bind_all [] s A = A
 bind_all (x ∷ xs) s A = bind x (s x) (bind_all xs s A)
 
--- under A the name x has the type t: an instance of the scheme of its innermost binding
+-- under A the name x has the type t, which is an instance of the scheme of its innermost binding
 abbrev pub Has : Assumptions → Identifier → Monotype → Type 0
 Has empty x t = ⊥
 Has (bind y σ A) x t = ((x ≡ y) × IsInstance t σ) ⊎ (¬ (x ≡ y) × Has A x t)
 
--- the type variable a is free in A, in whichever scheme
+-- the type variable a is free in a scheme of A
 abbrev pub FreeIn : ℕ → Assumptions → Type 0
 FreeIn a empty = ⊥
 FreeIn a (bind x σ A) = In (Free a) σ ⊎ FreeIn a A
@@ -31,6 +31,6 @@ abbrev pub assumptions_put : (ℕ → Monotype) → Assumptions → Assumptions
 assumptions_put r empty = empty
 assumptions_put r (bind x σ A) = bind x (scheme_put r σ) (assumptions_put r A)
 
--- A is at most as general as A': each name has under A' what it has under A
+-- A is at most as general as A': each name has under A' each type that it has under A
 abbrev pub AreAtMostAsGeneral : Assumptions → Assumptions → Type 0
 AreAtMostAsGeneral A A' = (x : Identifier) (t : Monotype) → Has A x t → Has A' x t

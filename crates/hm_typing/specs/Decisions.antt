@@ -1,4 +1,4 @@
--- Whether a type variable is free in assumptions. The types say all that is used of these functions.
+-- Decides whether a type variable is free in assumptions. Only the types of these functions are used.
 use Rattle.std.specs.Prelude.{◌≡◌, ℕ, ◌⊎◌}
 use Rattle.hm_types.specs.Types.{Args, Var, App, done, more, In, InArgs}
 use Rattle.hm_typing.specs.Schemes.{Scheme, SchemeVariable, Free, Quantified}

@@ -1,4 +1,4 @@
--- The laws that the crate's functions prove, as statements.
+-- The laws of the crate, as statements.
 use Rattle.std.specs.Prelude.{◌≡◌, ℕ, List, [], Bool, true, false, ◌⊎◌, ◌↔◌, ◌<◌, ◌+◌, map}
 use Rattle.hm_types.specs.Types.{In, put}
 use Rattle.hm_types.specs.Schemes.{TypeScheme, IsAtLeastAsGeneral, HasNoRigid}
@@ -20,25 +20,26 @@ use Rattle.hm_typing.specs.Orders.{Layout, UnitHas, AreGroups, AreTestsOf, AreNu
 
 -- Typing
 
--- typing survives more general assumptions
+-- typing is preserved by more general assumptions
 abbrev pub Survives : Type 0
 Survives = (e : Expression) (A A' : Assumptions) (t : Monotype) → AreAtMostAsGeneral A A' → HasType A e t → HasType A' e t
 
--- and substitutions
+-- typing is preserved by substitutions
 abbrev pub Substitutes : Type 0
 Substitutes = (e : Expression) (r : ℕ → Monotype) (A : Assumptions) (t : Monotype) → HasType A e t → HasType (assumptions_put r A) e (put r t)
 
--- the two forms agree
+-- the two forms of typing agree
 abbrev pub FormsAgree : Type 0
 FormsAgree = (e : Expression) (A : Assumptions) (t : Monotype) → HasType A e t ↔ Derives A e t
 
 -- Schemes
 
--- of closed schemes without rigid variables, generality as hm_types defines and decides it is generality here
+-- for closed schemes without rigid variables, generality in hm_types is generality here
 abbrev pub ProgramsDecideGenerality : Type 0
 ProgramsDecideGenerality = (special general : TypeScheme) → HasNoRigid special.body → HasNoRigid general.body → IsAtLeastAsGeneral general special ↔ IsAtMostAsGeneral (scheme_of special) (scheme_of general)
 
--- equations between types of programs have a unifier, which leaves rigid variables alone, exactly where the problem here has one: from each a unifier of the other is made
+-- equations between types of the code have a unifier, which doesn't change rigid variables, if and only if the problem here has one. Each unifier
+-- gives one of the other
 abbrev pub ProgramsUnifyAlike : Type 0
 ProgramsUnifyAlike =
     (is_rigid : ℕ → Bool) (es : List (Mono × Mono)) → EquationsHaveKinds is_rigid es →
@@ -47,11 +48,11 @@ ProgramsUnifyAlike =
 
 -- Inference
 
--- each unification problem has a most general unifier, or none
+-- each unification problem has a most general unifier, or no unifier
 abbrev pub UnificationIsDecided : Type 0
 UnificationIsDecided = (E : List Fact) → MostGeneralUnifier E ⊎ ((r : ℕ → Monotype) → ¬ (Unifies r E))
 
--- every expression has an answer under every unification problem
+-- the constraint that an expression has a type, added to a unification problem, is again such a problem, or has no solution
 abbrev pub EveryExpressionIsAnswered : Type 0
 EveryExpressionIsAnswered =
     (e : Expression) (A : Assumptions) (t : Monotype) (n : ℕ) (E : List Fact) →
@@ -63,14 +64,15 @@ PrincipalOrNone =
     (ds : Bindings) (A : Assumptions) → IsClosed A →
     ((B : Identifier → Scheme) × HasPrincipalSchemes A ds B) ⊎ ((B : Identifier → Scheme) → ¬ (HasSchemes A ds B))
 
--- generalisation over any set of variables that has those free in the assumptions after solving, and only such as stand in the outer problem, gives the same scheme: of an expression
+-- generalisation over any set of variables that has those free in the assumptions after solving, and otherwise only variables of the outer problem,
+-- gives the same scheme of an expression
 abbrev pub ExpressionsGeneraliseAlike : Type 0
 ExpressionsGeneraliseAlike =
     (e : Expression) (A : Assumptions) (n : ℕ) (E : List Fact) (n1 : ℕ) (E1 : List Fact) (kept : ℕ → Bool) →
     ((a : ℕ) → FreeIn a A → a < n) → FactsBelow n E → Solved (λ r. HasType (assumptions_put r A) e (r n)) (n + 1) E n1 E1 →
     (m : MostGeneralUnifier E1) → KeepsEnough A n m.map kept → quantify_but kept (m.map n) ≡ quantify (assumptions_put m.map A) (m.map n)
 
--- and of the names of a unit, whose types are the variables from n on
+-- the same for the names of a unit, whose types are the variables from n on
 abbrev pub UnitsGeneraliseAlike : Type 0
 UnitsGeneraliseAlike =
     (g : Identifier → Bool) (xs : List Identifier) (A : Assumptions) (B : Identifier → Scheme) (ds : Bindings) (place : Identifier → ℕ) (n k : ℕ) (E : List Fact) (n1 : ℕ) (E1 : List Fact) (kept : ℕ → Bool) →
@@ -81,11 +83,11 @@ UnitsGeneraliseAlike =
 
 -- The order of units
 
--- the groups of mutual reach, in an order in which each comes after all others that it reaches, are an order of a list's units
+-- groups of mutual reach, each after all others that it reaches, are an order of a list's units
 abbrev pub GroupsGiveOrder : Type 0
 GroupsGiveOrder = (ds : Bindings) → IsDistinct (names ds) → (gs : List (List Identifier)) → AreGroups ds gs → (order : Layout ds) × AreTestsOf order.groups gs
 
--- the groups of a graph of numbered names, as they are given one after the other, are such groups
+-- the groups of a graph over numbered names are groups of mutual reach
 abbrev pub NumberedGroupsAreGroups : Type 0
 NumberedGroupsAreGroups = (ds : Bindings) (name : ℕ → Identifier) (n : ℕ) (gs : List (List ℕ)) → AreNumberedGroups ds name n gs → AreGroups ds (map (map name) gs)
 
@@ -95,11 +97,11 @@ HasGroups = (ds : Bindings) → (gs : List (List Identifier)) × AreGroups ds gs
 
 -- Verdicts of a list
 
--- the type faults of a list are found
+-- the type faults of a list can be found
 abbrev pub FaultsAreFound : Type 0
 FaultsAreFound = (ds : Bindings) (A : Assumptions) → IsDistinct (names ds) → IsClosed A → (xs : List Identifier) × AreTypeFaults A ds xs
 
--- a list has no type faults exactly where it is typed
+-- a list has no type faults if and only if it is typed
 abbrev pub TypedWithoutFaults : Type 0
 TypedWithoutFaults = (ds : Bindings) (A : Assumptions) → IsDistinct (names ds) → IsClosed A → AreTypeFaults A ds [] ↔ ((B : Identifier → Scheme) × HasSchemes A ds B)
 
@@ -107,7 +109,7 @@ TypedWithoutFaults = (ds : Bindings) (A : Assumptions) → IsDistinct (names ds)
 abbrev pub HasVerdict : Type 0
 HasVerdict = (ds : Bindings) (A : Assumptions) → IsDistinct (names ds) → IsClosed A → (v : Verdict) × IsVerdict A ds v
 
--- and not both
+-- a list isn't both good and faulty
 abbrev pub HasOneVerdict : Type 0
 HasOneVerdict = (ds : Bindings) (A : Assumptions) → IsDistinct (names ds) → IsClosed A → (B : Identifier → Scheme) (xs : List Identifier) → IsVerdict A ds (Good B) → ¬ (IsVerdict A ds (Faulty xs))
 
@@ -120,21 +122,22 @@ Composes =
     ((i : ℕ) (x : Identifier) → M i ≡ true → IsOneOf x (set i).scope → IsOneOf x prelude ⊎ ((j : ℕ) × (M j ≡ true) × (rank j < rank i) × IsOneOf x (names (set j).bindings))) →
     ((x : Identifier) → IsOneOf x prelude → S x ≡ table x) → ((i : ℕ) → M i ≡ true → HasPrincipalSchemes (outer (set i) S) (set i).bindings (λ x. closed (S x))) → IsPrincipal set (λ i. M i ≡ true) prelude table S
 
--- where its list has principal schemes under the principal assignment of what it imports, a module's closure has a principal assignment, which gives its names these schemes
+-- if the list of a module has principal schemes under the principal assignment of its imports, the module's closure has a principal assignment, which
+-- gives its names these schemes
 abbrev pub Extends : Type 0
 Extends =
     (set : ℕ → Module) (prelude : List Identifier) (table : Assignment) (i : ℕ) (S : Assignment) (B : Identifier → Scheme) →
     IsLawful set prelude → IsPrincipal set (IsImportedBy set i) prelude table S → HasPrincipalSchemes (outer (set i) S) (set i).bindings B →
     (S' : Assignment) × IsPrincipal set (InClosure set i) prelude table S' × ((x : Identifier) → IsOneOf x (names (set i).bindings) → B x ≡ closed (S' x)) × ((x : Identifier) → ¬ (IsOneOf x (names (set i).bindings)) → S' x ≡ S x)
 
--- where the imports of a module are good, all that it imports has a principal assignment
+-- if the imports of a module are good, all that it imports has a principal assignment
 abbrev pub ImportsHavePrincipal : Type 0
 ImportsHavePrincipal =
     (set : ℕ → Module) (prelude : List Identifier) (well : ℕ → Bool) (table : Assignment) (i : ℕ) →
     IsLawful set prelude → ((j : ℕ) → IsOneOf j (set i).imports → IsGood set (λ k. well k ≡ true) prelude table j) →
     (S : Assignment) × IsPrincipal set (IsImportedBy set i) prelude table S
 
--- and so has the closure of a good module
+-- the closure of a good module has a principal assignment
 abbrev pub GoodHasPrincipal : Type 0
 GoodHasPrincipal =
     (set : ℕ → Module) (prelude : List Identifier) (well : ℕ → Bool) (table : Assignment) (i : ℕ) →
@@ -146,21 +149,22 @@ GoodHasPrincipal =
 abbrev pub ImportsAreGood : (ℕ → Module) → (ℕ → Bool) → List Identifier → Assignment → ℕ → Type 0
 ImportsAreGood set well prelude table i = (j : ℕ) → IsOneOf j (set i).imports → IsGood set (λ k. well k ≡ true) prelude table j
 
--- a module is good exactly when it is well-formed, its imports are good, and its own list is typed under their principal assignment
+-- a module is good if and only if it is well-formed, its imports are good, and its list is typed under their principal assignment
 abbrev pub GoodWhereTyped : Type 0
 GoodWhereTyped =
     (set : ℕ → Module) (prelude : List Identifier) (well : ℕ → Bool) (table : Assignment) (i : ℕ) (S : Assignment) →
     IsLawful set prelude → IsPrincipal set (IsImportedBy set i) prelude table S →
     IsGood set (λ k. well k ≡ true) prelude table i ↔ ((well i ≡ true) × ImportsAreGood set well prelude table i × ((B : Identifier → Scheme) × HasSchemes (outer (set i) S) (set i).bindings B))
 
--- it is faulty exactly when it is well-formed, its imports are good, and its own list has type faults under their principal assignment, whichever that is
+-- a module is faulty if and only if it is well-formed, its imports are good, and its list has type faults under their principal assignment, for any
+-- such assignment
 abbrev pub FaultyWhereFaults : Type 0
 FaultyWhereFaults =
     (set : ℕ → Module) (prelude : List Identifier) (well : ℕ → Bool) (table : Assignment) (i : ℕ) (S : Assignment) (xs : List Identifier) →
     IsLawful set prelude → IsDistinct (names (set i).bindings) → IsPrincipal set (IsImportedBy set i) prelude table S →
     IsFaulty set (λ k. well k ≡ true) prelude table i xs ↔ (ImportsAreGood set well prelude table i × (well i ≡ true) × IsVerdict (outer (set i) S) (set i).bindings (Faulty xs))
 
--- whether a module is good is decided
+-- it is decidable whether a module is good
 abbrev pub GoodIsDecided : Type 0
 GoodIsDecided =
     (set : ℕ → Module) (prelude : List Identifier) (well : ℕ → Bool) (table : Assignment) (i : ℕ) →
@@ -173,19 +177,19 @@ IsOneOfThree =
     IsLawful set prelude → IsDistinct (names (set i).bindings) → (well i ≡ true) →
     IsGood set (λ k. well k ≡ true) prelude table i ⊎ (IsSkipped set (λ k. well k ≡ true) prelude table i ⊎ ((xs : List Identifier) × IsFaulty set (λ k. well k ≡ true) prelude table i xs))
 
--- not good and skipped
+-- a module isn't both good and skipped
 abbrev pub NotGoodAndSkipped : Type 0
 NotGoodAndSkipped =
     (set : ℕ → Module) (prelude : List Identifier) (well : ℕ → Bool) (table : Assignment) (i : ℕ) →
     IsGood set (λ k. well k ≡ true) prelude table i → ¬ (IsSkipped set (λ k. well k ≡ true) prelude table i)
 
--- not skipped and faulty
+-- a module isn't both skipped and faulty
 abbrev pub NotSkippedAndFaulty : Type 0
 NotSkippedAndFaulty =
     (set : ℕ → Module) (prelude : List Identifier) (well : ℕ → Bool) (table : Assignment) (i : ℕ) (xs : List Identifier) →
     IsSkipped set (λ k. well k ≡ true) prelude table i → ¬ (IsFaulty set (λ k. well k ≡ true) prelude table i xs)
 
--- and not good and faulty
+-- a module isn't both good and faulty
 abbrev pub NotGoodAndFaulty : Type 0
 NotGoodAndFaulty =
     (set : ℕ → Module) (prelude : List Identifier) (well : ℕ → Bool) (table : Assignment) (i : ℕ) (xs : List Identifier) →

@@ -1,4 +1,4 @@
--- A name occurs free (Report 3 and 4.5.1: what a reference is, with the scopes of patterns, let and where).
+-- Free occurrences of a name (Report 3 and 4.5.1: references, with the scopes of patterns, let and where).
 use Rattle.std.specs.Prelude.{◌≡◌, ◌⊎◌}
 use Rattle.hm_typing.specs.Names.{Identifier, IsOneOf}
 use Rattle.hm_typing.specs.Syntax.{Expression, Variable, Constructor, Literal, Apply, Lambda, Let, If, Case, Tuple, Listing, Typed, Expressions, no_expression, expression, Clauses, no_clause, clause, RightSides, no_right_side, plain, guarded, Bindings, no_binding, unsigned, signed, matched, patterns_names, names}

@@ -1,5 +1,5 @@
--- Names whose meaning is settled (Report 5.5.1): a local binding by its text, the innermost one of that text being meant, or an entity.
--- Each pattern binding has a name too, by its module and its number there, which no source can mention.
+-- Resolved names (Report 5.5.1): a local binding, by its text, which means the innermost one with that text; or an entity.
+-- Each pattern binding has a name too: its module and its number there. No source can mention it.
 use Rattle.std.specs.Prelude.{◌≡◌, ℕ, List, [], ◌∷◌, ◌⊎◌}
 use Rattle.hm_types.specs.declared.Entity.{Entity}
 

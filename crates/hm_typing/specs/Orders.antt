@@ -1,4 +1,4 @@
--- An order of the units of a list, in which each depends on those before it.
+-- An order of the units of a list: each depends only on those before it.
 use Rattle.std.specs.Prelude.{◌≡◌, ℕ, List, [], ◌∷◌, Bool, true, false, cond, ◌||◌, ◌⊎◌, ◌↔◌, ◌<◌, ◌++◌}
 use Rattle.std.specs.Bool.{Decides}
 use Rattle.hm_types.specs.Types.{In}
@@ -11,7 +11,7 @@ use Rattle.hm_typing.specs.Syntax.{Bindings, no_binding, unsigned, signed, match
 use Rattle.hm_typing.specs.Mentions.{ClausesMention}
 use Rattle.hm_typing.specs.Units.{IsUnsigned, IsSigned, Reaches, SameUnit, AreUnits}
 
--- each mention of a name of the list in the group is of the group, done, or signed
+-- each name of the list that the group mentions is in the group, finished or signed
 abbrev pub IsReady : Bindings → List Identifier → (Identifier → Bool) → (Identifier → Bool) → Bindings → Type 0
 IsReady ds xs finished g no_binding = Unit {0}
 IsReady ds xs finished g (unsigned x cs D) = (g x ≡ true → (y : Identifier) → ClausesMention y cs → IsOneOf y xs → (g y ≡ true) ⊎ ((finished y ≡ true) ⊎ IsSigned y ds)) × IsReady ds xs finished g D
@@ -19,7 +19,7 @@ IsReady ds xs finished g (signed x s cs D) = IsReady ds xs finished g D
 IsReady ds xs finished g (matched k p cs D) =
     ((x : Identifier) → IsOneOf x (matched_names k p) → g x ≡ true → (y : Identifier) → IsOneOf y (matched_names k p) ⊎ ClausesMention y cs → IsOneOf y xs → (g y ≡ true) ⊎ ((finished y ≡ true) ⊎ IsSigned y ds)) × IsReady ds xs finished g D
 
--- g is one unit, that comes next
+-- g is one unit, which may come next
 pub record IsNext (ds : Bindings) (own : Identifier → Identifier → Bool) (finished g : Identifier → Bool) : Type 0 where
   pub whole : (x y : Identifier) → own x y ≡ true → g x ≡ g y
   pub unit : (x y : Identifier) → g x ≡ true → g y ≡ true → own x y ≡ true
@@ -36,7 +36,7 @@ abbrev pub IsOrder : (ds : Bindings) → (Identifier → Identifier → Bool) �
 IsOrder ds own finished [] = (x : Identifier) → IsUnsigned x ds → finished x ≡ true
 IsOrder ds own finished (g ∷ gs) = IsNext ds own finished g × IsOrder ds own (λ y. finished y || g y) gs
 
--- the units of a list in order, and the schemes that were declared
+-- the units of a list in order, and the declared schemes
 pub record Layout (ds : Bindings) : Type 0 where
   pub own : Identifier → Identifier → Bool
   pub units : AreUnits ds own
@@ -46,9 +46,9 @@ pub record Layout (ds : Bindings) : Type 0 where
   pub groups : List (Identifier → Bool)
   pub order : IsOrder ds own (λ x. false) groups
 
--- One unit: the bindings of the names in g have the types τ, where the other names of the list have the schemes B
+-- One unit: the bindings of the names in g have the types τ, and the other names of the list have the schemes B
 
--- the names of the unit at their types, the others at their schemes
+-- the names of the unit with their types, the others with their schemes
 abbrev pub within : (Identifier → Bool) → (Identifier → Scheme) → (Identifier → Monotype) → Identifier → Scheme
 within g B τ y = cond (g y) (monomorphic (τ y)) (B y)
 
@@ -65,27 +65,27 @@ abbrev pub IsInSome : Identifier → List (List Identifier) → Type 0
 IsInSome x [] = ⊥
 IsInSome x (g ∷ gs) = IsOneOf x g ⊎ IsInSome x gs
 
--- no name comes twice, and each group comes after all others that it reaches
+-- no name occurs twice, and each group comes after all others that it reaches
 abbrev pub ComeInOrder : Bindings → List (List Identifier) → List (List Identifier) → Type 0
 ComeInOrder ds before [] = Unit {0}
 ComeInOrder ds before (g ∷ gs) = ((x : Identifier) → IsOneOf x g → ¬ (IsInSome x before) × ((y : Identifier) → Reaches ds x y → IsOneOf y g ⊎ IsInSome y before)) × ComeInOrder ds (g ∷ before) gs
 
--- the groups of mutual reach of the unsigned names of a list, in an order in which each comes after all others that it reaches
+-- the groups of mutual reach of the unsigned names of a list, each after all others that it reaches
 pub record AreGroups (ds : Bindings) (gs : List (List Identifier)) : Type 0 where
   pub all : (x : Identifier) → IsUnsigned x ds → IsInSome x gs
   pub whole : (g : List Identifier) → IsOneOf g gs → (x y : Identifier) → IsOneOf x g → IsOneOf y g ↔ (IsUnsigned y ds × SameUnit ds x y)
   pub in_order : ComeInOrder ds [] gs
 
--- the tests are those of the lists, one after the other
+-- the tests for these lists, in order
 abbrev pub AreTestsOf : List (Identifier → Bool) → List (List Identifier) → Type 0
 AreTestsOf [] [] = Unit {0}
 AreTestsOf [] (g ∷ gs) = ⊥
 AreTestsOf (t ∷ ts) [] = ⊥
 AreTestsOf (t ∷ ts) (g ∷ gs) = ((y : Identifier) → Decides (t y) (IsOneOf y g)) × AreTestsOf ts gs
 
--- The same of numbered names, as the groups of a graph are given: name tells the name of each number below n
+-- The same for numbered names, like the groups of a graph. `name` has the name of each number below n
 
--- g may come after the numbers before: it is the group of its first, which is not there, and all else that this reaches is
+-- g may come after the numbers before: it is the group of its first number, which isn't among them, and all others that this reaches are
 pub record NumberedGroup (ds : Bindings) (name : ℕ → Identifier) (n : ℕ) (before g : List ℕ) : Type 0 where
   pub first : ℕ
   pub number : first < n

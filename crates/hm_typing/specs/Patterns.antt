@@ -1,4 +1,4 @@
--- Types of patterns (Report 3.17.1, 3.17.2). All types are guessed.
+-- Types of patterns (Report 3.17.1, 3.17.2). The relation guesses all types.
 use Rattle.hm_types.specs.declared.Head.TheVariants as head
 use Rattle.std.specs.Prelude.{◌≡◌, ℕ, zero, suc}
 use Rattle.hm_types.specs.Types.{Args, App, done, more, put}
@@ -6,11 +6,11 @@ use Rattle.hm_typing.specs.Names.{Identifier}
 use Rattle.hm_typing.specs.Schemes.{Monotype, arrow}
 use Rattle.hm_typing.specs.Syntax.{Pattern, VariablePattern, AsPattern, ConstructorPattern, LiteralPattern, WildcardPattern, TuplePattern, ListPattern, LazyPattern, Patterns, no_pattern, pattern, literal_type, pattern_count}
 
--- t is the declared type s with types put for its variables
+-- t is the declared type s with types in place of its variables
 abbrev pub Instantiates : Monotype → Monotype → Type 0
 Instantiates s t = (us : ℕ → Monotype) × (t ≡ put us s)
 
--- ts i, ts (i + 1), .., k in all
+-- ts i, ts (i + 1), .., k of them
 abbrev pub arguments : ℕ → (ℕ → Monotype) → ℕ → Args ℕ
 arguments zero ts i = done
 arguments (suc k) ts i = more (ts i) (arguments k ts (suc i))
@@ -26,7 +26,7 @@ abbrev pub arrows : ℕ → (ℕ → Monotype) → ℕ → Monotype → Monotype
 arrows zero ts i u = u
 arrows (suc k) ts i u = arrow (ts i) (arrows k ts (suc i) u)
 
--- the pattern has the type t where its variables have the types τ. That a constructor has all its arguments is asked before (Report 3.17.1)
+-- the pattern has the type t if its variables have the types τ. Constructors have all their arguments (Report 3.17.1), as checked before
 abbrev mutual
   pub Matches : (Identifier → Monotype) → Pattern → Monotype → Type 0
   Matches τ (VariablePattern x) t = t ≡ τ x

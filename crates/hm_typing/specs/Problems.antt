@@ -1,9 +1,9 @@
--- Unification problems, and what an answer to a question about types under such a problem is.
+-- Unification problems, and how a constraint on types adds to one.
 use Rattle.std.specs.Prelude.{◌≡◌, ℕ, List, [], ◌∷◌, ◌<◌, ◌≤◌}
 use Rattle.hm_types.specs.Types.{Var, In, put}
 use Rattle.hm_typing.specs.Schemes.{Monotype}
 
--- what a unifier has to do: make two types equal, or leave a rigid variable alone
+-- a constraint on unifiers: make two types equal, or don't change a rigid variable
 pub data Fact : Type 0 where
   Equal : Monotype → Monotype → Fact
   Rigid : ℕ → Fact
@@ -27,14 +27,14 @@ abbrev pub FactsBelow : ℕ → List Fact → Type 0
 FactsBelow n [] = Unit {0}
 FactsBelow n (f ∷ fs) = FactBelow n f × FactsBelow n fs
 
--- a unifier that is most general: every other is it, followed by that other
+-- a most general unifier: every other one is this one followed by the other
 pub record MostGeneralUnifier (E : List Fact) : Type 0 where
   pub map : ℕ → Monotype
   pub unifies : Unifies map E
   pub most : (r : ℕ → Monotype) → Unifies r E → (x : ℕ) → put r (map x) ≡ r x
   pub below : (n : ℕ) → FactsBelow n E → (x : ℕ) → x < n → IsBelow n (map x)
 
--- the problem E' over the variables below n' asks what E asks, and that P holds
+-- the problem E' over the variables below n' has the constraints of E and that P holds
 pub record Solved (P : (ℕ → Monotype) → Type 0) (n : ℕ) (E : List Fact) (n' : ℕ) (E' : List Fact) : Type 0 where
   pub grows : n ≤ n'
   pub below : FactsBelow n' E'
@@ -45,6 +45,6 @@ pub data Answer (P : (ℕ → Monotype) → Type 0) (n : ℕ) (E : List Fact) : 
   solved : (n' : ℕ) (E' : List Fact) → Solved P n E n' E' → Answer P n E
   unsolvable : ((r : ℕ → Monotype) → Unifies r E → P r → ⊥) → Answer P n E
 
--- P asks only of the variables below n
+-- P depends only on the variables below n
 abbrev pub IsLocal : ℕ → ((ℕ → Monotype) → Type 0) → Type 0
 IsLocal n P = (r q : ℕ → Monotype) → ((x : ℕ) → x < n → q x ≡ r x) → P r → P q

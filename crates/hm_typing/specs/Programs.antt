@@ -1,4 +1,4 @@
--- The types of programs, which hm_types keeps with plain and rigid variables, as types over numbered variables.
+-- The types of the code, which hm_types defines with plain and rigid variables, as types over numbered variables.
 use Rattle.std.specs.Prelude.{◌≡◌, ℕ, Bool, true, false, cond, List, [], ◌∷◌}
 use Rattle.hm_types.specs.Types.{Args, Var, App, done, more, put}
 use Rattle.hm_types.specs.Monotypes.{Leaf, Mono, var, rigid}
@@ -11,17 +11,17 @@ abbrev pub variable_of : Leaf → Monotype
 variable_of (var n) = Var n
 variable_of (rigid n) = Var n
 
--- of a type without rigid variables
+-- a type without rigid variables
 abbrev pub monotype_of : Mono → Monotype
 monotype_of t = put variable_of t
 
--- of a closed scheme
+-- a closed scheme
 abbrev pub scheme_of : TypeScheme → Scheme
 scheme_of s = closed (monotype_of s.body)
 
 -- Equations
 
--- of the variables of a type those are rigid for whose numbers is_rigid is true, and no others
+-- the rigid variables of a type are exactly those for whose numbers is_rigid is true
 abbrev mutual
   pub HasKinds : (ℕ → Bool) → Mono → Type 0
   HasKinds is_rigid (Var (var n)) = is_rigid n ≡ false
@@ -32,7 +32,7 @@ abbrev mutual
   AllHaveKinds is_rigid done = Unit {0}
   AllHaveKinds is_rigid (more t ts) = HasKinds is_rigid t × AllHaveKinds is_rigid ts
 
--- the program's type for a type, by the kinds of the variables
+-- the code's type for a type, by the kinds of the variables
 abbrev pub program_type : (ℕ → Bool) → Monotype → Mono
 program_type is_rigid t = put (λ n. Var (cond (is_rigid n) (rigid n) (var n))) t
 

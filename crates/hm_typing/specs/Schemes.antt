@@ -18,19 +18,19 @@ Scheme = Ty SchemeVariable
 
 -- Instances
 
--- what stands for a variable of a scheme
+-- the replacement of a scheme's variable
 abbrev pub fill : (ℕ → Monotype) → (ℕ → Monotype) → SchemeVariable → Monotype
 fill r us (Free a) = r a
 fill r us (Quantified i) = us i
 
--- the body with types put for the quantified variables
+-- the body with types in place of the quantified variables
 abbrev pub instance : Scheme → (ℕ → Monotype) → Monotype
 instance σ us = put (fill Var us) σ
 
 abbrev pub IsInstance : Monotype → Scheme → Type 0
 IsInstance t σ = (us : ℕ → Monotype) × (t ≡ instance σ us)
 
--- σ is at most as general as τ: each instance of it is one of τ
+-- σ is at most as general as τ: each instance of σ is one of τ
 abbrev pub IsAtMostAsGeneral : Scheme → Scheme → Type 0
 IsAtMostAsGeneral σ τ = (t : Monotype) → IsInstance t σ → IsInstance t τ
 
@@ -44,7 +44,7 @@ monomorphic t = put (λ a. Var (Free a)) t
 abbrev pub closed : Monotype → Scheme
 closed t = put (λ a. Var (Quantified a)) t
 
--- Substitution, which leaves the quantified variables alone
+-- Substitution, which doesn't change quantified variables
 
 abbrev pub variable_put : (ℕ → Monotype) → SchemeVariable → Scheme
 variable_put r (Free a) = monomorphic (r a)

@@ -1,5 +1,5 @@
--- A second form of the typing, which the proofs use: schemes are guessed, and a binding is typed at each instance of its scheme.
--- The law typing_is_stable says that it agrees with the typing of specs/Typing; nobody needs to believe it.
+-- A second form of the typing, for the proofs: it guesses schemes, and types a binding at each instance of its scheme.
+-- The law typing_is_stable says that it agrees with the typing of specs/Typing, so a reader needn't believe it.
 use Rattle.std.specs.Prelude.{◌≡◌, ℕ, suc, List, Bool, cond}
 use Rattle.hm_types.specs.Types.{put}
 use Rattle.hm_typing.specs.Names.{Identifier}
@@ -10,7 +10,7 @@ use Rattle.hm_typing.specs.Units.{AreUnits}
 use Rattle.hm_typing.specs.Patterns.{Instantiates, tuple, list, Matches}
 use Rattle.hm_typing.specs.Typing.{HasFunction, HasLocal}
 
--- what the binding of x sees at an instance
+-- the assumption of the binding of x at an instance
 abbrev pub seen_at : (Identifier → Identifier → Bool) → (Identifier → Scheme) → (ℕ → Monotype) → Identifier → Identifier → Scheme
 seen_at own B us x y = cond (own x y) (monomorphic (instance (B y) us)) (B y)
 

@@ -1,4 +1,4 @@
--- Worked sources, as trees, and what is said of them.
+-- Worked examples of sources, as trees.
 use Rattle.hm_types.specs.declared.Head.TheVariants as head
 use Rattle.std.specs.Prelude.{codes}
 use Rattle.hm_types.specs.Types.{Var, App, done, more}
@@ -10,7 +10,7 @@ use Rattle.hm_typing.specs.Syntax.{Integer, Character, Text, Pattern, VariablePa
 use Rattle.hm_typing.specs.Typing.{HasType, HasClauses}
 use Rattle.hm_typing.specs.BindingLists.{HasSchemes}
 
--- names: here every name that is written is a local one
+-- names; here every written name is local
 abbrev pub f : Identifier
 f = local (codes "f")
 
@@ -50,7 +50,7 @@ as_type_of = local (codes "asTypeOf")
 abbrev pub undefined : Identifier
 undefined = local (codes "undefined")
 
--- and those of two pattern bindings
+-- the names of two pattern bindings
 abbrev pub first_binding : Identifier
 first_binding = binding (codes "A") 0
 
@@ -247,9 +247,9 @@ letter_as_guard = matched first_binding (pair_pattern x y) (clause no_pattern (g
 abbrev pub nameless_faults : Bindings
 nameless_faults = matched first_binding (LiteralPattern Integer) (is (Literal Character)) (matched second_binding WildcardPattern (is (Apply (Variable not) (Literal Integer))) no_binding)
 
--- What is said of them
+-- Statements about them
 
--- under A some schemes type the list, that of v being at least as general as σ
+-- under A some schemes type the list, and that of v is at least as general as σ
 abbrev pub IsTypedWith : Assumptions → Bindings → Identifier → Scheme → Type 0
 IsTypedWith A ds v σ = (B : Identifier → Scheme) × HasSchemes A ds B × IsAtMostAsGeneral σ (B v)
 
@@ -262,14 +262,14 @@ HasNoType A e = (t : Monotype) → ¬ (HasType A e t)
 abbrev pub HasNoSchemes : Assumptions → Bindings → Type 0
 HasNoSchemes A ds = (B : Identifier → Scheme) → ¬ (HasSchemes A ds B)
 
--- the bindings of D have their types where every name of the list is known by its type alone
+-- the bindings of D have their types if each name of the list is assumed to have just its type
 abbrev pub AreInOneGroup : Assumptions → (Identifier → Monotype) → Bindings → Type 0
 AreInOneGroup C ts no_binding = Unit {0}
 AreInOneGroup C ts (unsigned v cs D) = HasClauses C cs (ts v) × AreInOneGroup C ts D
 AreInOneGroup C ts (signed v s cs D) = HasClauses C cs (ts v) × AreInOneGroup C ts D
 AreInOneGroup C ts (matched k p cs D) = (Matches ts p (ts k) × HasClauses C cs (ts k)) × AreInOneGroup C ts D
 
--- the whole list as one group: no types, one for each name, do
+-- no types, one for each name, type the whole list as one group
 abbrev pub HasNoTypesAsOneGroup : Assumptions → Bindings → Type 0
 HasNoTypesAsOneGroup A ds = (ts : Identifier → Monotype) → ¬ (AreInOneGroup (bind_all (names ds) (λ v. monomorphic (ts v)) A) ts ds)
 

@@ -1,4 +1,5 @@
--- Expressions, patterns and binding lists with resolved names (Report 3 and 4.4). A constructor stands with its declared type, all of whose variables are quantified.
+-- Expressions, patterns and binding lists with resolved names (Report 3 and 4.4). A constructor has its declared type; all variables of the type are
+-- quantified.
 use Rattle.hm_types.specs.declared.Head.TheVariants as head
 use Rattle.std.specs.Prelude.{ℕ, suc, codes, List, [], ◌∷◌, ◌++◌}
 use Rattle.hm_types.specs.Types.{App, done, more}
@@ -26,7 +27,7 @@ mutual
     no_pattern : Patterns
     pattern : Pattern → Patterns → Patterns
 
--- A declared type is the one that was written, all of its variables being quantified.
+-- a declared type is the written one, with all its variables quantified
 mutual
   pub data Expression : Type 0 where
     Variable : Identifier → Expression
@@ -45,7 +46,8 @@ mutual
     no_expression : Expressions
     expression : Expression → Expressions → Expressions
 
-  -- A clause: patterns, right sides, and what is bound by its where (Report 4.4.3.1). An alternative of a case is a clause of one pattern (Report 3.13).
+  -- a clause: patterns, right sides, and the bindings of its where (Report 4.4.3.1). An alternative of a case is a clause of one pattern
+  -- (Report 3.13)
   pub data Clauses : Type 0 where
     no_clause : Clauses
     clause : Patterns → RightSides → Bindings → Clauses → Clauses
@@ -56,8 +58,8 @@ mutual
     plain : Expression → RightSides → RightSides
     guarded : Expression → Expression → RightSides → RightSides
 
-  -- A binding of a name with all its clauses, without or with a signature (Report 4.4.1, 4.4.3.1). Or a pattern binding (Report 4.4.3.2):
-  -- a name of its own, which stands for the whole binding and has the type of its pattern; the pattern; and its right sides with their where, as a clause of no patterns.
+  -- a binding of a name with all its clauses, without or with a signature (Report 4.4.1, 4.4.3.1). Or a pattern binding (Report 4.4.3.2):
+  -- a name for the whole binding, which has the type of its pattern; the pattern; and its right sides with their where, as a clause without patterns
   pub data Bindings : Type 0 where
     no_binding : Bindings
     unsigned : Identifier → Clauses → Bindings → Bindings
@@ -71,7 +73,7 @@ prelude_type name = App (head.Named (record { «module» = codes "Prelude"; name
 abbrev pub bool : Monotype
 bool = prelude_type (codes "Bool")
 
--- an integer literal has the type Int, in place of the overloading of Report 3.2
+-- an integer literal has the type Int, instead of the overloaded type of Report 3.2
 abbrev pub literal_type : LiteralKind → Monotype
 literal_type Integer = prelude_type (codes "Int")
 literal_type Character = prelude_type (codes "Char")
@@ -93,7 +95,7 @@ abbrev mutual
   patterns_names no_pattern = []
   patterns_names (pattern p ps) = pattern_names p ++ patterns_names ps
 
--- the names of a pattern binding: the variables of its pattern, and last its own, so that a unit is named by a variable where it has one
+-- the names of a pattern binding: the variables of its pattern, and then its own name. So a unit is named after a variable if it has one
 abbrev pub matched_names : Identifier → Pattern → List Identifier
 matched_names k p = pattern_names p ++ (k ∷ [])
 

@@ -1,4 +1,5 @@
--- The typing relation (Damas and Milner 1982, section 5, for the expressions of Report 3 and the bindings of Report 4.4 and 4.5). All types are guessed.
+-- The typing relation (Damas and Milner 1982, section 5, for the expressions of Report 3 and the bindings of Report 4.4 and 4.5).
+-- It guesses all types.
 use Rattle.std.specs.Prelude.{◌≡◌, ℕ, suc, Bool}
 use Rattle.hm_types.specs.Types.{Var, In, put}
 use Rattle.hm_typing.specs.Names.{Identifier, IsOneOf}
@@ -11,12 +12,12 @@ use Rattle.hm_typing.specs.Patterns.{Instantiates, tuple, list, arrows, Matches,
 
 -- Declared types (Report 3.16, 4.4.1)
 
--- ys takes the variables of s as distinct ones that are not free in A
+-- ys maps the variables of s to distinct ones that aren't free in A
 pub record AreNew (A : Assumptions) (s : Monotype) (ys : ℕ → ℕ) : Type 0 where
   pub distinct : (i j : ℕ) → In i s → In j s → ys i ≡ ys j → i ≡ j
   pub new : (i : ℕ) → In i s → ¬ (FreeIn (ys i) A)
 
--- what is asked of a type holds of s with its variables taken so
+-- `Asked` holds for s with such variables
 pub record AtDeclared (A : Assumptions) (s : Monotype) (Asked : Monotype → Type 0) : Type 0 where
   pub variables : ℕ → ℕ
   pub are_new : AreNew A s variables
@@ -24,7 +25,7 @@ pub record AtDeclared (A : Assumptions) (s : Monotype) (Asked : Monotype → Typ
 
 -- Scopes
 
--- patterns before a body have the function type v; the body has the result, where each variable of the patterns has one type
+-- patterns before a body have the function type v: the body has the result type, and each variable of the patterns has one type
 pub record HasFunction (A : Assumptions) (ps : Patterns) (v : Monotype) (Body : Assumptions → Monotype → Type 0) : Type 0 where
   pub variables : Identifier → Monotype
   pub parameters : ℕ → Monotype
@@ -33,19 +34,21 @@ pub record HasFunction (A : Assumptions) (ps : Patterns) (v : Monotype) (Body : 
   pub matched : MatchesAll variables ps parameters 0
   pub body : Body (bind_all (patterns_names ps) (λ x. monomorphic (variables x)) A) result
 
--- some schemes type the list, and the body is typed where its names have these
+-- some schemes type the list, and the body is typed if its names have these
 pub record HasLocal (A : Assumptions) (ds : Bindings) (Listed : (Identifier → Scheme) → Type 0) (Body : Assumptions → Type 0) : Type 0 where
   pub schemes : Identifier → Scheme
   pub listed : Listed schemes
   pub body : Body (bind_all (names ds) schemes A)
 
--- a pattern binding k: its pattern and its right sides have one type, that of k; the variables have their types from the pattern, and B quantifies each by itself
+-- a pattern binding k: its pattern and its right sides have one type, that of k. The variables get their types from the pattern, and B quantifies
+-- each alone
 pub record HasPatternBinding (A : Assumptions) (ts : Identifier → Monotype) (B : Identifier → Scheme) (k : Identifier) (p : Pattern) (Right : Monotype → Type 0) : Type 0 where
   pub fits : Matches ts p (ts k)
   pub right_sides : Right (ts k)
   pub quantified : (x : Identifier) → IsOneOf x (matched_names k p) → B x ≡ quantify A (ts x)
 
--- the schemes B type the list: each name has a type in its own unit, and the binding of x is judged in what it sees. No order is mentioned
+-- the schemes B type the list: each name has a type in its own unit, and the binding of x is typed under the assumptions that it sees. This needs no
+-- order of units
 pub record InUnits (A : Assumptions) (ds : Bindings) (B : Identifier → Scheme) (Each : (Identifier → Assumptions) → (Identifier → Monotype) → Type 0) : Type 0 where
   pub own : Identifier → Identifier → Bool
   pub units : AreUnits ds own
@@ -82,13 +85,13 @@ abbrev mutual
       HasLocal C ds (λ B. InUnits C ds B (λ sees ts. HasBindings C sees ts B ds)) (λ D. HasRightSides D gs u))
       × HasClauses A cs v
 
-  -- each right side has the type u, and each guard is a Bool
+  -- each right side has the type u, and each guard has the type Bool
   pub HasRightSides : Assumptions → RightSides → Monotype → Type 0
   HasRightSides A no_right_side u = Unit {0}
   HasRightSides A (plain e gs) u = HasType A e u × HasRightSides A gs u
   HasRightSides A (guarded g e gs) u = HasType A g bool × (HasType A e u × HasRightSides A gs u)
 
-  -- a binding without a signature has its name's type, which B quantifies; a signed one has its declared type, and B has its declared scheme
+  -- a binding without a signature has its name's type, which B quantifies. A signed one has its declared type, and B has its declared scheme
   pub HasBindings : Assumptions → (Identifier → Assumptions) → (Identifier → Monotype) → (Identifier → Scheme) → Bindings → Type 0
   HasBindings A sees ts B no_binding = Unit {0}
   HasBindings A sees ts B (unsigned x cs ds) = ((B x ≡ quantify A (ts x)) × HasClauses (sees x) cs (ts x)) × HasBindings A sees ts B ds

@@ -16,7 +16,7 @@ pub fn unification_is_decided()
     ensures { UnificationIsDecided }
 {}
 
-/// For each expression and each unification problem there is a problem with exactly the solutions that type the expression, or there is none.
+/// The constraint that an expression has a type, added to a unification problem, is again a unification problem, or has no solution.
 pub fn every_expression_is_answered()
     ensures { EveryExpressionIsAnswered }
 {}

@@ -55,7 +55,7 @@ mutual
         k.symbol ≡ Case → Exp e us (m ∷ o ∷ vs) → m.symbol ≡ Of → o.symbol ≡ LeftBrace → Alts (more_alternatives a as_) vs (c ∷ rest) → c.symbol ≡ RightBrace →
         Opd (case_expression e (more_alternatives a as_)) (k ∷ us) rest
 
-  -- aexp*, each applied to by what stands before it
+  -- aexp*, each an argument of the application before it
   pub data Args : Expression → Expression → List Terminal → List Terminal → Type 0 where
     args_none : {f : Expression} {ts : List Terminal} → Args f f ts ts
     args_more : {f a e : Expression} {ts us rest : List Terminal} → Aexp a ts us → Args (application f a) e us rest → Args f e ts rest
@@ -123,7 +123,7 @@ mutual
   -- decl = var {',' var}* '::' type | clause | binding
   -- clause = var apat* ('=' exp | {'|' guard '=' exp}+) ['where' decls]
   -- binding = pat ('=' exp | {'|' guard '=' exp}+) ['where' decls]
-  -- A binding of a lone variable, as in `(x) = e`, has the tree of the clause `x = e`.
+  -- A binding of a single variable, as in `(x) = e`, has the tree of the clause `x = e`.
   pub data Decl : Declaration → List Terminal → List Terminal → Type 0 where
     decl_signature : {ns : List Identifier} {t : TypeTree} {k m : Terminal} {us vs rest : List Terminal} →
         k.symbol ≡ Var → VarCommas ns us (m ∷ vs) → m.symbol ≡ OfType → Type' t vs rest → Decl (signature (name_of k ∷ ns) t) (k ∷ us) rest

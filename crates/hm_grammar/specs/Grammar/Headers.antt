@@ -1,4 +1,4 @@
--- The grammar of what stands before a module's declarations.
+-- The grammar of the part of a module before its declarations.
 use Rattle.std.specs.Prelude.{◌≡◌, List, ◌∷◌, Bool, true, false, Option, None, Some, codes}
 use Rattle.hm_syntax.specs.Names.{Identifier}
 use Rattle.hm_syntax.specs.declared.ast.Export.{Export}
@@ -37,7 +37,7 @@ pub data MayExports : Option (List Export) → List Terminal → List Terminal �
   some_exports : {es : List Export} {ts rest : List Terminal} → Listed Export' es ts rest → MayExports (Some es) ts rest
 
 -- item = var | tycon [subs]
--- In hiding, a tycon alone may be a con: both are spelled alike, and the tree doesn't tell which is meant.
+-- After hiding, a tycon without a list may be a con. Both are spelled alike, and have the same tree.
 pub data Item' : ImportItem → List Terminal → List Terminal → Type 0 where
   item_var : {k : Terminal} {rest : List Terminal} → k.symbol ≡ Var → Item' (items.Var (name_of k)) (k ∷ rest) rest
   item_con : {s : SubItems} {k : Terminal} {us rest : List Terminal} → k.symbol ≡ Con → MaySubs s us rest → Item' (items.Con (name_of k) s) (k ∷ us) rest

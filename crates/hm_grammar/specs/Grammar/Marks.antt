@@ -1,4 +1,4 @@
--- What the grammar says of one token, and what it repeats.
+-- The grammar of single tokens, and of repetitions.
 use Rattle.std.specs.Prelude.{◌≡◌, ◌⊎◌, ℕ, List, [], ◌∷◌}
 use Rattle.hm_grammar.specs.declared.symbol.Symbol.TheVariants.{Arrow, Open, Close, Comma, Semicolon, Var, Con, QVar, QCon}
 use Rattle.hm_grammar.specs.Tokens.{Terminal}
@@ -19,7 +19,7 @@ abbrev pub NoArrow : List Terminal → Type 0
 NoArrow [] = Unit {0}
 NoArrow (k ∷ ts) = k.symbol ≡ Arrow → ⊥
 
--- a variable that means something in imports
+-- a variable that is special in imports
 pub record IsWord (word : List ℕ) (k : Terminal) : Type 0 where
   pub variable : k.symbol ≡ Var
   pub text : k.text ≡ word

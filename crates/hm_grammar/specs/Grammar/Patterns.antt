@@ -14,11 +14,11 @@ abbrev pub commas : ℕ → List ℕ
 commas zero = []
 commas (suc n) = 44 ∷ commas n
 
--- `(,)` and so on, the constructor of tuples with one component more than it has commas
+-- `(,)` and so on: the constructor of tuples with one component more than it has commas
 abbrev pub tuple_text : ℕ → List ℕ
 tuple_text n = 40 ∷ (commas n ++ codes ")")
 
--- ','*, so many
+-- ','*, n of them
 pub data CommaMarks : ℕ → List Terminal → List Terminal → Type 0 where
   marks_none : {ts : List Terminal} → CommaMarks 0 ts ts
   marks_more : {n : ℕ} {k : Terminal} {us rest : List Terminal} → k.symbol ≡ Comma → CommaMarks n us rest → CommaMarks (suc n) (k ∷ us) rest
@@ -42,7 +42,7 @@ abbrev pub count_pats : Patterns → ℕ
 count_pats no_patterns = 0
 count_pats (more_patterns p ps) = 1 + count_pats ps
 
--- a lone variable, whatever parentheses stand round it
+-- a single variable, with or without parentheses
 abbrev pub is_variable : Pattern → Bool
 is_variable (variable_pattern n) = true
 is_variable _ = false

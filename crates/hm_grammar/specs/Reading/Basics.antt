@@ -1,4 +1,4 @@
--- How the parser reads: functions on lists of tokens, which answer a tree and the tokens after it. No public clause names these.
+-- Reading as functions on lists of tokens, which return a tree and the tokens after it. No public clause names these.
 use Rattle.std.specs.Prelude.{ℕ, zero, suc, List, [], ◌∷◌, ◌++◌, Bool, true, false, ◌&&◌, nat_le, Option, Some, None, if◌then◌else◌, option_and_then, length}
 use Rattle.std.specs.Str.{bytes_eq}
 use Rattle.hm_syntax.specs.Names.{Identifier}
@@ -29,12 +29,12 @@ abbrev pub tail : List Terminal → List Terminal
 tail [] = []
 tail (k ∷ ts) = ts
 
--- the tokens after this one
+-- the tokens after this symbol
 abbrev pub expect : Symbol → List Terminal → Option (List Terminal)
 expect s [] = None
 expect s (k ∷ ts) = if same k.symbol s then Some ts else None
 
--- a variable with this text stands next
+-- a variable with this text is next
 abbrev pub is_at_word : List ℕ → List Terminal → Bool
 is_at_word word [] = false
 is_at_word word (k ∷ ts) = same k.symbol Var && bytes_eq k.text word
@@ -59,30 +59,30 @@ unfoldable pub past_semicolons : List Terminal → List Terminal
 past_semicolons [] = []
 past_semicolons (k ∷ ts) = if same k.symbol Semicolon then past_semicolons ts else k ∷ ts
 
--- ---- rows: next reads one more thing, or that there is none
+-- ---- rows: next reads one more element, or the end of the row
 
 abbrev pub loop_with : {A : Type 0} → Reader (List A) → Option (Option A × List Terminal) → Option (List A × List Terminal)
 loop_with r None = None
 loop_with r (Some (None, us)) = Some ([], us)
 loop_with r (Some (Some a, us)) = r us >>= λ x. Some (a ∷ x.0, x.1)
 
--- gives up after so many calls in one another
+-- gives up after n nested calls
 abbrev pub loop_for : {A : Type 0} → ℕ → Reader (Option A) → Reader (List A)
 loop_for zero next ts = None
 loop_for (suc n) next ts = loop_with (loop_for n next) (next ts)
 
--- each thing takes a token, so as many as there are tokens are enough
+-- each element takes a token, so as many calls as there are tokens are enough
 unfoldable pub loop : {A : Type 0} → Reader (Option A) → Reader (List A)
 loop next ts = loop_for (suc (length ts)) next ts
 
--- a reading of the rest, behind what was read so far
+-- the elements read so far, and those of the rest
 abbrev pub behind : {A : Type 0} → List A → Option (List A × List Terminal) → Option (List A × List Terminal)
 behind xs None = None
 behind xs (Some r) = Some (xs ++ r.0, r.1)
 
--- ---- rows with commas between
+-- ---- rows with commas between elements
 
--- a comma and one more thing, which r reads
+-- a comma and one more element, which r reads
 unfoldable pub next_of : {A : Type 0} → Reader A → Reader (Option A)
 next_of r ts = if is_at Comma ts
     then (do
@@ -90,11 +90,11 @@ next_of r ts = if is_at Comma ts
       Some (Some x.0, x.1))
     else Some (None, ts)
 
--- what the components make, unless they are too many
+-- the tuple of these components, unless they are too many
 abbrev pub tuple_of : {A B : Type 0} → (List A → B) → List A → Option B
 tuple_of make xs = if nat_le (length xs) 15 then Some (make xs) else None
 
--- what follows the first component of a tuple
+-- a tuple after its first component
 unfoldable pub tuple_behind : {A B : Type 0} → Reader A → (List A → B) → A → Reader B
 tuple_behind r make x ts = do
   xs ← behind (x ∷ []) (loop (next_of r) ts)
@@ -102,14 +102,14 @@ tuple_behind r make x ts = do
   tuple ← tuple_of make xs.0
   Some (tuple, us)
 
--- what follows `(` and one thing, which stands alone or is the first of a tuple
+-- the rest after `(` and one element, which is alone or the first of a tuple
 unfoldable pub closing : {A : Type 0} → Reader A → (List A → A) → A → Reader A
 closing r make x ts = if is_at Comma ts then tuple_behind r make x ts
     else (do
       us ← expect Close ts
       Some (x, us))
 
--- what follows `[`
+-- a list after `[`
 unfoldable pub list_in : {A : Type 0} → Reader A → (List A → A) → Reader A
 list_in r make ts = do
   x ← r ts

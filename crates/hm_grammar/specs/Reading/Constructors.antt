@@ -1,4 +1,4 @@
--- How constructors and literals are read (Haskell 98 Report, section 3.2). No public clause names these.
+-- Reading constructors and literals (Haskell 98 Report, section 3.2). No public clause names these.
 use Rattle.std.specs.Prelude.{◌≡◌, ℕ, suc, List, [], ◌∷◌, Bool, true, false, nat_le, Some, None, if◌then◌else◌, codes}
 use Rattle.hm_lex.specs.declared.token.Place.{Place}
 use Rattle.hm_syntax.specs.Names.{Identifier, LiteralTree, integer, character, string}
@@ -9,7 +9,7 @@ use Rattle.hm_grammar.specs.Tokens.{Terminal}
 use Rattle.hm_grammar.specs.Grammar.Patterns.{tuple_text}
 use Rattle.hm_grammar.specs.Reading.Basics.{◌>>=◌, Reader, peek, tail, expect, name_at, module_name_at}
 
--- `(` and this begin a constructor
+-- `(` and this symbol begin a constructor
 abbrev pub is_mark : Symbol → Bool
 is_mark Close = true
 is_mark Comma = true
@@ -27,7 +27,7 @@ begin_gcon _ second = false
 unfoldable pub begins_gcon : List Terminal → Bool
 begins_gcon ts = begin_gcon (peek ts) (peek (tail ts))
 
--- how many commas stand here, and what follows them
+-- the number of commas here, and the tokens after them
 unfoldable pub marks : List Terminal → ℕ × List Terminal
 marks [] = (0, [])
 marks (k ∷ ts) = if same k.symbol Comma then (suc (marks ts).0, (marks ts).1) else (0, k ∷ ts)
@@ -40,16 +40,16 @@ abbrev pub column_at : List Terminal → ℕ
 column_at [] = 0
 column_at (k ∷ ts) = k.column
 
--- this is the place of what stands here
+-- this is the place of the first token
 abbrev pub IsPlaceAt : List Terminal → Place → Type 0
 IsPlaceAt [] place = Unit {0}
 IsPlaceAt (k ∷ ts) place = (place.line ≡ k.line) × (place.column ≡ k.column)
 
--- a special constructor whose first token stands here
+-- a special constructor whose first token is the next
 abbrev pub special_at : List ℕ → List Terminal → Identifier
 special_at text ts = record { qualifier = None; text = text; line = line_at ts; column = column_at ts }
 
--- the same, unless they are too many
+-- the number of commas here, unless they are too many
 unfoldable pub commas_at : Reader ℕ
 commas_at ts = if nat_le (marks ts).0 14 then Some (marks ts) else None
 
@@ -64,7 +64,7 @@ mark_by Comma ts = do
   Some (tuple_text n.0, us)
 mark_by _ ts = None
 
--- the text of a special constructor, behind its `(`
+-- the text of a special constructor after its `(`
 unfoldable pub mark_at : Reader (List ℕ)
 mark_at ts = mark_by (peek ts) ts
 

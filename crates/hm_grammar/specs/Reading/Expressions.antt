@@ -1,4 +1,4 @@
--- How expressions and declarations are read (Haskell 98 Report, sections 3 and 4.4). No public clause names these.
+-- Reading expressions and declarations (Haskell 98 Report, sections 3 and 4.4). No public clause names these.
 use Rattle.std.specs.Prelude.{ℕ, zero, suc, List, [], ◌∷◌, Bool, true, false, Option, Some, None, if◌then◌else◌, length, codes}
 use Rattle.hm_syntax.specs.Names.{Identifier}
 use Rattle.hm_syntax.specs.Trees.{Pattern, variable_pattern, no_patterns, Expression, variable_expression, constructor_expression, literal_expression, application, lambda, let_expression, if_expression, case_expression, tuple_expression, list_expression, typed_expression, Declaration, signature, clause, pattern_binding, RightSide, right_side, Alternative, alternative}
@@ -33,12 +33,12 @@ list_of_expressions es = list_expression (expressions es)
 abbrev pub cons_expression : Identifier → Expression → Expression → Expression
 cons_expression colon a b = application (application (constructor_expression colon) a) b
 
--- operands, each with the colon behind it, before the last: colons group to the right
+-- operands, each with the colon after it, before the last: colons associate to the right
 abbrev pub consed : List (Expression × Identifier) → Expression → Expression
 consed [] e = e
 consed (p ∷ ps) e = cons_expression p.1 p.0 (consed ps e)
 
--- a reading of the rest, behind operands that were read
+-- a chain of the operands read so far, and the rest
 abbrev pub behind_operands : List (Expression × Identifier) → Option ((Expression × Bool) × List Terminal) → Option ((Expression × Bool) × List Terminal)
 behind_operands ps None = None
 behind_operands ps (Some r) = Some ((consed ps r.0.0, r.0.1), r.1)
@@ -48,7 +48,7 @@ abbrev pub applied : Expression → List Expression → Expression
 applied f [] = f
 applied f (a ∷ rest) = applied (application f a) rest
 
--- one more item, up to the brace that ends them
+-- one more item, or the brace that ends them
 abbrev pub item_from : {A : Type 0} → Reader A → Reader (Option A)
 item_from one ts = if is_at RightBrace ts then Some (None, tail ts)
     else (do
@@ -62,20 +62,20 @@ next_item_of one ts = item_from one (past_semicolons ts)
 unfoldable pub var_at : Reader Identifier
 var_at ts = if is_at Var ts then name_at ts else None
 
--- what extends as far right as it can
+-- symbols that begin an expression that extends as far right as it can
 abbrev pub begins_open : Symbol → Bool
 begins_open Backslash = true
 begins_open Let = true
 begins_open If = true
 begins_open _ = false
 
--- what stands behind the first variable of a signature
+-- symbols after the first variable of a signature
 abbrev pub begins_signature : Symbol → Bool
 begins_signature Comma = true
 begins_signature OfType = true
 begins_signature _ = false
 
--- what stands behind the variable that a pattern begins with, where a declaration begins with that pattern
+-- symbols after the variable with which a pattern begins, at the start of a declaration
 abbrev pub continues_pattern : Symbol → Bool
 continues_pattern At = true
 continues_pattern Colon = true
@@ -94,18 +94,18 @@ abbrev pub binding_of : ℕ → ℕ → Pattern → RightSide → Declaration
 binding_of line column (variable_pattern n) b = clause n no_patterns b
 binding_of line column p b = pattern_binding line column p b
 
--- the readers that lead back to themselves: of operands with colons between, true where they are open, and of declarations
+-- the mutually recursive readers: of operands with colons between them, true if they are open, and of declarations
 pub record ExpressionReaders : Type 0 where
   pub chain : Reader (Expression × Bool)
   pub decls : Reader (List Declaration)
 
--- what follows `::` behind an expression
+-- the type after `::` of an expression
 abbrev pub typed_behind : Expression → Reader Expression
 typed_behind e ts = do
   t ← type_at ts
   Some (typed_expression e t.0, t.1)
 
--- a type behind `::`, where the expression is closed
+-- a type after `::`, if the expression is closed
 abbrev pub typed : Expression → Bool → Reader Expression
 typed e true ts = Some (e, ts)
 typed e false ts = if is_at OfType ts then typed_behind e (tail ts) else Some (e, ts)
@@ -152,15 +152,15 @@ module _ (r : ExpressionReaders) where
         Some (Some e.0, e.1))
       else Some (None, ts)
 
-  -- what f is applied to
+  -- the arguments of f
   unfoldable pub args_from : Expression → Reader Expression
   args_from f ts = do
     rest ← loop next_aexp ts
     Some (applied f rest.0, rest.1)
 
-  -- ---- right sides, where s stands before each
+  -- ---- right sides, where s is before each
 
-  -- what follows `|`
+  -- the rest after `|`
   unfoldable pub guarded_in : Symbol → Reader (Option Expression × Expression)
   guarded_in s ts = do
     g ← r.chain ts
@@ -203,11 +203,11 @@ module _ (r : ExpressionReaders) where
     b ← rhs_with Arrow p.1
     Some (alternative p.0 b.0, b.1)
 
-  -- one alternative or more, through the brace that ends them
+  -- one or more alternatives, and the brace that ends them
   unfoldable pub alts_with : Reader (List Alternative)
   alts_with ts = if is_at RightBrace (past_semicolons ts) then None else loop (next_item_of alt_with) (past_semicolons ts)
 
-  -- what follows `case`
+  -- the rest after `case`
   unfoldable pub case_with : Reader Expression
   case_with ts = do
     e ← exp_with ts
@@ -222,7 +222,7 @@ module _ (r : ExpressionReaders) where
         f ← aexp_step ts
         args_from f.0 f.1)
 
-  -- what follows an operand
+  -- the rest after an operand
   unfoldable pub link : Expression → Reader (Expression × Bool)
   link a ts = if is_at Colon ts
       then (do
@@ -230,9 +230,9 @@ module _ (r : ExpressionReaders) where
         Some ((cons_expression (special_at (codes ":") ts) a b.0.0, b.0.1), b.1))
       else Some ((a, false), ts)
 
-  -- ---- what extends as far right as it can
+  -- ---- expressions that extend as far right as they can
 
-  -- what follows a backslash
+  -- the rest after a backslash
   unfoldable pub lambda_with : Reader Expression
   lambda_with ts = do
     p ← apat_step all_patterns ts
@@ -241,7 +241,7 @@ module _ (r : ExpressionReaders) where
     e ← exp_with us
     Some (lambda (patterns (p.0 ∷ ps.0)) e.0, e.1)
 
-  -- what follows `let`
+  -- the rest after `let`
   unfoldable pub let_with : Reader Expression
   let_with ts = do
     ds ← r.decls ts
@@ -249,7 +249,7 @@ module _ (r : ExpressionReaders) where
     e ← exp_with us
     Some (let_expression (declarations ds.0) e.0, e.1)
 
-  -- what follows `if`
+  -- the rest after `if`
   unfoldable pub if_with : Reader Expression
   if_with ts = do
     a ← exp_with ts
@@ -276,7 +276,7 @@ module _ (r : ExpressionReaders) where
 
   -- ---- declarations
 
-  -- what follows the first variable of a signature
+  -- a signature after its first variable
   unfoldable pub signature_with : Identifier → Reader Declaration
   signature_with n ts = do
     ns ← behind (n ∷ []) (loop (next_of var_at) ts)
@@ -284,7 +284,7 @@ module _ (r : ExpressionReaders) where
     t ← type_at us
     Some (signature ns.0 t.0, t.1)
 
-  -- what follows the variable of a clause
+  -- a clause after its variable
   unfoldable pub clause_with : Identifier → Reader Declaration
   clause_with n ts = do
     ps ← apats_with all_patterns ts
@@ -314,12 +314,12 @@ module _ (r : ExpressionReaders) where
   abbrev pub expression_step : ExpressionReaders
   expression_step = record { chain = chain_step; decls = decls_step }
 
--- readers that give up after so many calls in one another
+-- readers that give up after n nested calls
 abbrev pub expression_readers : ℕ → ExpressionReaders
 expression_readers zero = record { chain = λ _. None; decls = λ _. None }
 expression_readers (suc n) = expression_step (expression_readers n)
 
--- each call takes a token, so as many as there are tokens are enough
+-- each call takes a token, so as many calls as there are tokens are enough
 unfoldable pub all_expressions : ExpressionReaders
 all_expressions = record {
   chain = λ ts. (expression_readers (suc (length ts))).chain ts;

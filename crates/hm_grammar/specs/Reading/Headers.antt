@@ -1,4 +1,4 @@
--- How what stands before a module's declarations is read. No public clause names these.
+-- Reading the part of a module before its declarations. No public clause names these.
 use Rattle.std.specs.Prelude.{List, [], ◌∷◌, Bool, true, false, Option, Some, None, if◌then◌else◌, codes}
 use Rattle.hm_syntax.specs.Names.{Identifier}
 use Rattle.hm_syntax.specs.declared.ast.Export.{Export}
@@ -25,13 +25,13 @@ next_con ts = if is_at Comma ts
       Some (Some n.0, n.1))
     else Some (None, ts)
 
--- one constructor or more
+-- one or more constructors
 unfoldable pub con_row : Reader (List Identifier)
 con_row ts = do
   n ← con_at ts
   behind (n.0 ∷ []) (loop next_con n.1)
 
--- what follows `(`
+-- the rest after `(`
 unfoldable pub subs_in : Reader SubItems
 subs_in ts = if is_at Dots ts then (do
   us ← expect Close (tail ts)
@@ -81,7 +81,7 @@ item_by _ ts = None
 unfoldable pub item_at : Reader ImportItem
 item_at ts = item_by (peek ts) ts
 
--- one more thing of a list, with the comma behind it; or the list's end
+-- one more element of a list with the comma after it, or the list's end
 abbrev pub next_listed : {A : Type 0} → Reader A → Reader (Option A)
 next_listed one ts = if is_at Close ts then Some (None, tail ts)
     else (do
@@ -95,7 +95,7 @@ next_export ts = next_listed export_at ts
 unfoldable pub next_item : Reader (Option ImportItem)
 next_item ts = next_listed item_at ts
 
--- what follows `(`; where nothing is listed a comma may still stand
+-- the rest after `(`. An empty list may have a comma
 abbrev pub listed_in : {A : Type 0} → Reader (Option A) → Reader (List A)
 listed_in next ts = if is_at Comma ts
     then (do
@@ -138,7 +138,7 @@ list_at ts = if is_at_word (codes "hiding") ts
       Some (lists.Only is.0, is.1))
     else Some (lists.Every, ts)
 
--- what follows `import` and perhaps `qualified`
+-- the rest after `import`, and after `qualified` if that is next
 unfoldable pub import_in : Bool → Reader Import
 import_in q ts = do
   n ← modid_at ts
@@ -146,7 +146,7 @@ import_in q ts = do
   l ← list_at a.1
   Some (record { qualified = q; name = n.0; alias = a.0; list = l.0 }, l.1)
 
--- what follows `import`
+-- the rest after `import`
 unfoldable pub import_at : Reader Import
 import_at ts = import_in (qualified_at ts).0 (qualified_at ts).1
 

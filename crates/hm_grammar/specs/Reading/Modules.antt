@@ -1,4 +1,4 @@
--- How a source is read. No public clause names these.
+-- Reading a source. No public clause names these.
 use Rattle.std.specs.Prelude.{List, Option, Some, None, if◌then◌else◌}
 use Rattle.hm_syntax.specs.Trees.{Declaration}
 use Rattle.hm_syntax.specs.declared.ast.Module.{Module}

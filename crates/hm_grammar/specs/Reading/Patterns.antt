@@ -1,4 +1,4 @@
--- How patterns are read (Haskell 98 Report, section 3.17). No public clause names these.
+-- Reading patterns (Haskell 98 Report, section 3.17). No public clause names these.
 use Rattle.std.specs.Prelude.{ℕ, zero, suc, List, Bool, true, false, Option, Some, None, if◌then◌else◌, length, codes}
 use Rattle.hm_syntax.specs.Names.{Identifier}
 use Rattle.hm_syntax.specs.Trees.{Pattern, variable_pattern, bound_pattern, constructor_pattern, literal_pattern, wildcard_pattern, tuple_pattern, list_pattern, lazy_pattern, no_patterns, more_patterns}
@@ -31,13 +31,13 @@ list_of_patterns ps = list_pattern (patterns ps)
 abbrev pub cons_pattern : Identifier → Pattern → Pattern → Pattern
 cons_pattern colon p q = constructor_pattern colon (more_patterns p (more_patterns q no_patterns))
 
--- the readers that lead back to themselves: of whole patterns, and of those that need no parentheses
+-- the mutually recursive readers: of whole patterns, and of those that need no parentheses
 pub record PatternReaders : Type 0 where
   pub whole : Reader Pattern
   pub single : Reader Pattern
 
 module _ (r : PatternReaders) where
-  -- a variable, and perhaps `@` and a pattern
+  -- a variable, and `@` with a pattern if that is next
   unfoldable pub bound_with : Reader Pattern
   bound_with ts = do
     n ← name_at ts
@@ -105,12 +105,12 @@ module _ (r : PatternReaders) where
   abbrev pub pattern_step : PatternReaders
   pattern_step = record { whole = pat_step; single = apat_step }
 
--- readers that give up after so many calls in one another
+-- readers that give up after n nested calls
 abbrev pub pattern_readers : ℕ → PatternReaders
 pattern_readers zero = record { whole = λ _. None; single = λ _. None }
 pattern_readers (suc n) = pattern_step (pattern_readers n)
 
--- each call takes a token, so as many as there are tokens are enough
+-- each call takes a token, so as many calls as there are tokens are enough
 unfoldable pub all_patterns : PatternReaders
 all_patterns = record {
   whole = λ ts. (pattern_readers (suc (length ts))).whole ts;

@@ -1,4 +1,4 @@
--- How the declarations of a module are read. No public clause names these.
+-- Reading the declarations of a module. No public clause names these.
 use Rattle.std.specs.Prelude.{if◌then◌else◌}
 use Rattle.hm_syntax.specs.Trees.{Declaration}
 use Rattle.hm_grammar.specs.declared.symbol.Symbol.TheVariants.{Data, Newtype, TypeWord}

@@ -1,4 +1,4 @@
--- How declarations of types are read (Haskell 98 Report, section 4.2). No public clause names these.
+-- Reading declarations of types (Haskell 98 Report, section 4.2). No public clause names these.
 use Rattle.std.specs.Prelude.{List, [], ◌∷◌, Option, Some, None, if◌then◌else◌}
 use Rattle.hm_syntax.specs.Names.{Identifier}
 use Rattle.hm_syntax.specs.Trees.{no_types, more_types, DataConstructor, data_constructor, Declaration, data_declaration, newtype_declaration, synonym_declaration}
@@ -28,13 +28,13 @@ next_constr ts = if is_at Bar ts
       Some (Some c.0, c.1))
     else Some (None, ts)
 
--- one constructor or more
+-- one or more constructors
 unfoldable pub constrs_at : Reader (List DataConstructor)
 constrs_at ts = do
   c ← constr_at ts
   behind (c.0 ∷ []) (loop next_constr c.1)
 
--- what follows `data`
+-- the rest after `data`
 unfoldable pub data_in : Reader Declaration
 data_in ts = do
   n ← con_at ts
@@ -43,7 +43,7 @@ data_in ts = do
   cs ← constrs_at us
   Some (data_declaration n.0 ps.0 (constructors cs.0), cs.1)
 
--- what follows `newtype`
+-- the rest after `newtype`
 unfoldable pub newtype_in : Reader Declaration
 newtype_in ts = do
   n ← con_at ts
@@ -53,7 +53,7 @@ newtype_in ts = do
   t ← atype_with type_at c.1
   Some (newtype_declaration n.0 ps.0 (data_constructor c.0 (more_types t.0 no_types)), t.1)
 
--- what follows `type`
+-- the rest after `type`
 unfoldable pub synonym_in : Reader Declaration
 synonym_in ts = do
   n ← con_at ts

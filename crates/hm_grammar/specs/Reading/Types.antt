@@ -1,4 +1,4 @@
--- How types are read. No public clause names these.
+-- Reading types. No public clause names these.
 use Rattle.std.specs.Prelude.{ℕ, zero, suc, List, Bool, true, false, Option, Some, None, if◌then◌else◌, length}
 use Rattle.hm_syntax.specs.Trees.{TypeTree, variable_type, constructor_type, function_type, tuple_type, list_type, unit_type, no_types}
 use Rattle.hm_syntax.specs.Lists.{types}
@@ -20,7 +20,7 @@ tuple_of_types ts = tuple_type (types ts)
 
 -- r reads whole types
 module _ (r : Reader TypeTree) where
-  -- what follows `(`
+  -- the rest after `(`
   unfoldable pub type_in : Reader TypeTree
   type_in ts = if is_at Close ts then Some (unit_type, tail ts)
       else (do
@@ -74,11 +74,11 @@ module _ (r : Reader TypeTree) where
           Some (function_type t.0 u.0, u.1))
         else Some (t.0, t.1)
 
--- gives up after so many calls in one another
+-- gives up after n nested calls
 abbrev pub type_for : ℕ → Reader TypeTree
 type_for zero ts = None
 type_for (suc n) ts = type_step (type_for n) ts
 
--- each call takes a token, so as many as there are tokens are enough
+-- each call takes a token, so as many calls as there are tokens are enough
 unfoldable pub type_at : Reader TypeTree
 type_at ts = type_for (suc (length ts)) ts
