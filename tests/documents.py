@@ -4,6 +4,8 @@
 `documents.py` ends with 1 if a document has more than MOST_LONG long sentences, a paragraph of more than 100 words, or one
 of the words of PLAIN outside of code. `documents.py --list` prints each long sentence as well.
 
+It searches the comments of the crates' sources and definitions for the same words, except those of the crates UNSEARCHED.
+
 README.md's table of speeds may have no figure that docs/FIGURES.md doesn't have.
 
 `documents.py --program PROGRAM` runs the documents' examples instead: each command after `$ ` must print what follows it,
@@ -44,6 +46,18 @@ PLAIN = {
 STUMBLES = [(re.compile(rf"\b(?:{words})\b", re.I), advice) for words, advice in PLAIN.items()]
 # Words that are terms of the prover in one document.
 TERMS = {"docs/PROVING.md": {"answers"}}
+# Crates with comments that aren't searched yet.
+UNSEARCHED = {
+    "hm_advice",
+    "hm_assumptions",
+    "hm_details",
+    "hm_explain",
+    "hm_hints",
+    "hm_imports",
+    "hm_messages",
+    "hm_tables",
+    "hm_telling",
+}
 STARTS = re.compile(r"^(?:Where|What|Of|That (?:an?|the|it|this|these|those|each|no|both|all|such)) ")
 
 
@@ -89,6 +103,28 @@ def stumbles(page):
             if STARTS.match(it) and it.endswith((".", ":")):
                 found.append((line, " ".join(it.split()[:4]), "begin with the subject"))
     return found
+
+
+def comments(path):
+    """Returns the comments of a source or a definition with their first lines. Adjacent lines are one comment."""
+    found, text, start = [], [], 0
+    for number, line in enumerate([*path.read_text().splitlines(), ""], 1):
+        comment = re.match(r"\s*(?://[/!]?|--) ?(.*)", line)
+        if comment:
+            start = start if text else number
+            text.append(comment[1])
+        elif text:
+            found.append((start, " ".join(text)))
+            text = []
+    return found
+
+
+def searched_comments():
+    """Returns how many comments were searched, and the words to avoid in them with their places."""
+    folders = [it for it in sorted((TOP / "crates").iterdir()) if it.name not in UNSEARCHED]
+    files = [it for folder in folders for part in ("src/**/*.rt", "specs/**/*.antt") for it in sorted(folder.glob(part))]
+    all_of = [(f"{file.relative_to(TOP)}:{line}", re.sub(r"`[^`]*`", "CODE", text)) for file in files for line, text in comments(file)]
+    return len(all_of), [(place, word[0], advice) for place, text in all_of for rule, advice in STUMBLES for word in rule.finditer(text)]
 
 
 def copied_figures():
@@ -145,6 +181,11 @@ def main():
             print(f"{name}:{line}: \"{word}\": {advice}")
         print(f"{name}: {count} sentences, {len(long)} of more than {MOST_WORDS} words ({MOST_LONG} allowed), {len(found)} words to avoid")
         bad |= len(long) > MOST_LONG or bool(found) or bool(wide) or not count
+    count, found = searched_comments()
+    for place, word, advice in found:
+        print(f"{place}: \"{word}\": {advice}")
+    print(f"{count} comments, {len(found)} words to avoid")
+    bad |= bool(found) or not count
     unknown, rows = copied_figures()
     if unknown or not rows:
         print(f"README.md: docs/FIGURES.md doesn't have {', '.join(unknown) or 'a table of speeds'}")

@@ -1,5 +1,6 @@
-//! The state of type inference: the solver, the schemes of names and constructors, instances, and the types of patterns (Damas and Milner 1982,
-//! sections 5 and 6; Haskell 98 Report, section 3.17).
+//! The state of type inference (Damas and Milner 1982, sections 5 and 6; Haskell 98 Report, section 3.17).
+//!
+//! It has the solver, the schemes of names and constructors, the instances of schemes, and the types of patterns.
 #![tactic(auto)]
 
 mod constructors;

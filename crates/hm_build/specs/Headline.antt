@@ -1,4 +1,4 @@
--- What a build guarantees for its modules: for those that it publishes, and for those that it doesn't.
+-- The guarantees of a build for all its modules, published or not.
 use Rattle.std.specs.Prelude.{◌≡◌, ◌↔◌, ℕ, ◌<◌, length}
 use Rattle.hm_verdicts.specs.Verdicts.{Accepted, IsGoodIn, IsVerdictIn}
 use Rattle.hm_store.specs.Builds.{Build, set_of, state_of}

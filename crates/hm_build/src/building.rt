@@ -196,8 +196,9 @@ fn build_on_thread<T: Threads + Wait + Sync, G: Gate + Sync>(
 ///
 /// # Errors
 ///
-/// `Workers` if the number of workers is 0 or above 16; no source is read then. `Refused` if a source has a lexical or syntax fault, or if the
-/// set of modules is unlawful. The other faults come from the machine: out of memory, or no thread could start.
+/// - `Workers` if the number of workers is 0 or above 16. No source is read then.
+/// - `Refused` if a source has a lexical or syntax fault, or if the set of modules is unlawful.
+/// - The other faults if memory ran out, no thread could start, or the workers contradict the store.
 pub fn build<T: Threads + Wait + Sync, G: Gate + Sync>(
     rt: &T,
     alloc: Global,

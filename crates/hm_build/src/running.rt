@@ -18,12 +18,15 @@ use std::thread::Threads;
 
 /// Reads the sources, checks their modules with the given number of workers, and writes the report of their verdicts.
 ///
-/// The journal follows the report if the options say so. If the sources are refused, one line that says why is written in place of the report.
+/// The journal follows the report if the options say so. If the sources are refused, one line says why in place of the report.
 ///
 /// # Errors
 ///
-/// `Workers` before anything is read, `Read` at the first reader that fails, `Memory` at any time, `NoWorker` if no thread could start, `Mixed` if
-/// the workers contradict the store, and `Write` if the writer fails.
+/// - `Workers` if the number of workers is 0 or above 16. Nothing is read then.
+/// - `Read` at the first reader that fails.
+/// - `Memory` if memory ran out, and `NoWorker` if no thread could start.
+/// - `Mixed` if the workers contradict the store.
+/// - `Write` if the writer fails. A part of the text may be written then.
 pub fn run<T: Threads + Wait + Sync, R: Read, W: Write>(
     rt: &T,
     alloc: Global,

@@ -1,10 +1,11 @@
 //! Tests whether lists of nodes are the groups of a graph in their order, in time and memory linear in
 //! its nodes and edges.
 //!
-//! The lists are the strong components if each node is in exactly one list, the first member of a list
-//! and each other member reach each other inside the list, and no edge leads to a
-//! later list. They are in the order of `specs/Digraph` if this holds for each list: after the
-//! last list to which it has an edge, all lists before it have smaller first members.
+//! The lists are the strong components if three things hold. Each node is in exactly one list. The first
+//! member of a list and each other member reach each other inside the list. No edge leads to a later list.
+//!
+//! They are in the order of `specs/Digraph` if this holds for each list: every list between it and the
+//! last one to which it has an edge has a smaller first member.
 
 ghost use Rattle.std.specs.Prelude.{◌≡◌, ℕ, ◌+◌, ◌<◌, ◌≤◌, ◌⊎◌, [], length, IsTrue, IfOk, OnOk, IfSome, All, Contains, vec_len, slice_index_or};
 ghost use Rattle.hm_components.specs.Digraph.{Edge, Reaches, AreGroups, lists};

@@ -1,4 +1,4 @@
-//! Finds the strong components of a graph by two depth-first searches (Kosaraju), and their order by counting
+//! Finds the strong components of a graph by two depth-first searches (Kosaraju). Finds their order by counting
 //! for each the edges to components without a place (Kahn).
 //!
 //! Only safety is proved here. `checking` decides whether the results are the groups.

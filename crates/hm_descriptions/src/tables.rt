@@ -21,8 +21,8 @@ use std::alloc::{AllocError, Global};
 use std::cell::Cell;
 use std::marker::Model;
 
-/// The arities of type constructors and constructors, and the synonyms; with limits for the types that synonyms stand for: the levels of one, and
-/// the nodes that all may still have.
+/// The arities of type constructors and constructors, and the synonyms. Has limits for the types that synonyms stand for: the levels of one type,
+/// and the nodes that all may still have.
 pub struct Tables<'a> {
     types: IndexMap<EntityKey<'a>, usize>,
     constructors: IndexMap<EntityKey<'a>, usize>,

@@ -60,8 +60,8 @@ fn add_piece(alloc: Global, text: &mut String, bytes: &[u8]) -> Result<usize, Al
     }
 }
 
-/// Returns bytes as they are shown on a terminal. A control character, a mark of direction or another invisible character becomes its number, as
-/// `\u{1b}`; a byte that isn't in a character of UTF-8 becomes `\xe9`, for example; a tab becomes four spaces.
+/// Returns bytes as they are shown on a terminal. A control character, a mark of direction or another invisible character becomes its number, for
+/// example `\u{1b}`. A byte that isn't in a character of UTF-8 becomes `\xe9`, for example. A tab becomes four spaces.
 pub fn shown(alloc: Global, bytes: &[u8]) -> Result<String, AllocError>
     ensures { IfOk result (λ text. string_bytes text ≡ shown bytes.now) }
 {

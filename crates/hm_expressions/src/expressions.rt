@@ -147,7 +147,7 @@ pub(crate) fn check_expression<'a>(
     }
 }
 
-/// Checks an expression that has a declared type: the expression has this type with new rigid
+/// Checks an expression that has a declared type. The expression has this type with new rigid
 /// variables, which don't escape, and `t` is an instance of it (Haskell 98
 /// Report, section 3.16).
 #[cycle(checking)]
@@ -182,7 +182,7 @@ fn is_name(e: &Expr) -> bool {
 }
 
 /// Checks an expression against the type of functions from the variable `argument` to a type.
-/// Unless it is a name, it is checked against a new variable first, so that a function with many
+/// Unless it is a name, it is checked against a new variable first. So a function with many
 /// arguments doesn't have its type built again for each of them.
 #[cycle(checking)]
 fn check_function<'a>(

@@ -1,4 +1,4 @@
--- Where the faulty units of a list begin. No public clause names these.
+-- The places where the faulty units of a list begin. No public clause names these.
 use Rattle.std.specs.Prelude.{◌≡◌, ℕ, ◌<◌, ◌++◌, Bool, true, false, List, [], ◌∷◌, Option, length, slice_index_or}
 use Rattle.hm_components.specs.Digraph.{Edge}
 use Rattle.hm_typing.specs.Assumptions.{Assumptions}

@@ -41,8 +41,8 @@ struct CheckedGroup<'l, 'a, 'c> {
     nodes: &'l [usize],
 }
 
-/// Judges a group. If all names that it uses from outside are typed and the group has types, its
-/// nodes become typed and its names bound; otherwise the environment stays the same. The borrowed
+/// Judges a group. Its nodes become typed and its names bound if the group has types and all names
+/// that it uses from outside are typed. Otherwise the environment stays the same. The borrowed
 /// table of variables is empty before and after.
 fn judge_group<'a>(
     inference: &mut Inference<'a>,

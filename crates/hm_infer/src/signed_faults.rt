@@ -1,5 +1,5 @@
 //! Finds the type faults among the bindings with signatures (Haskell 98 Report, sections 4.4.1 and
-//! 4.5.1): a clause doesn't have the declared type, though all names in the clauses have types.
+//! 4.5.1). A clause of these doesn't have the declared type, though all names in the clauses have types.
 
 ghost use Rattle.std.specs.Prelude.{◌≡◌, ◌<◌, IfOk, OnOk, drop, length};
 ghost use Rattle.std.specs.Bool.{Decides};

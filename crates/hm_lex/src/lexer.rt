@@ -182,8 +182,11 @@ impl Lexer<'_> {
 ///
 /// # Errors
 ///
-/// `TooLong` if the source has more than 1,048,576 bytes. Otherwise the first of these faults in the text: `Lexeme` if no lexeme, comment or
-/// white space can be completed, `OpenComment` at the outermost `{-` that isn't closed, `TooDeep` at the first bracket above 200 open ones.
+/// `TooLong` if the source has more than 1,048,576 bytes. Otherwise the first of these faults in the text:
+/// - `Lexeme` if no lexeme, comment or white space can be completed.
+/// - `OpenComment` at the outermost `{-` that isn't closed.
+/// - `TooDeep` at the first bracket above 200 open ones.
+///
 /// `Memory` may come at any time.
 pub fn lex(alloc: Global, source: &[u8]) -> Result<Vec<Token>, LexFault>
     // These are the tokens of the source's cut into white space, comments and lexemes, each the longest at its place.

@@ -1,5 +1,6 @@
-//! The names in declaration lists (Haskell 98 Report, sections 4.2, 4.4.1 and 4.4.3): duplicates, signatures without bindings, clauses of the wrong
-//! length; and the local names at a place of a tree.
+//! Finds duplicate and missing names in declaration lists (Haskell 98 Report, sections 4.2, 4.4.1 and 4.4.3).
+//!
+//! Also finds clauses of the wrong length, and keeps the local names at a place of a tree.
 #![tactic(auto)]
 
 mod binding_lists;

@@ -42,7 +42,7 @@ ghost use Rattle.hm_names.specs.Laws.{
 };
 
 /// A module has one meaning. Each name is unbound, ambiguous, or means one entity. A well-formed module has one resolution of its names, one
-/// expansion of its synonyms, one core, one binding list, one set of assumptions and, with schemes for its variables, one interface.
+/// expansion of its synonyms, one core, one binding list and one set of assumptions. With schemes for its variables, it has one interface.
 pub fn one_meaning()
     ensures scope { HasScope }
     ensures meaning { HasMeaning }

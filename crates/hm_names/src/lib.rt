@@ -1,5 +1,4 @@
-//! The meaning of names in a module (Haskell 98 Report, chapters 4 and 5): its scope, the entity of each name, its exports, its faults, and
-//! its core.
+//! The meaning of names in a module (Haskell 98 Report, chapters 4 and 5): scopes, entities, exports, faults and cores.
 //!
 //! The definitions are in `specs/`, and `laws` has their laws. The functions read single parts of a tree: its names, a declared type, the
 //! scheme of a constructor, the order of faults.

@@ -1,5 +1,6 @@
-//! The start of a core's inference: the schemes of imported variables, and those of declared and imported constructors (Haskell 98 Report,
-//! sections 4.2.1, 4.2.3 and 5.3).
+//! The schemes with which a core's inference starts (Haskell 98 Report, sections 4.2.1, 4.2.3 and 5.3).
+//!
+//! They are those of imported variables, and of declared and imported constructors.
 #![tactic(auto)]
 
 mod assuming;

@@ -1,5 +1,6 @@
-//! Generalises types to schemes, makes declared types rigid or instantiates them, and forbids rigid variables to escape (Damas and Milner 1982,
-//! section 5; Haskell 98 Report, sections 4.4.1 and 4.5.2).
+//! Generalises types to schemes, and takes declared types into inference (Haskell 98 Report, sections 4.4.1 and 4.5.2).
+//!
+//! A declared type is instantiated, or gets rigid variables, which may not escape (Damas and Milner 1982, section 5).
 #![tactic(auto)]
 
 mod collecting;

@@ -234,8 +234,8 @@ fn tree_faults(alloc: Global, scoped: &ScopedModule<'_, '_>) -> Result<TreeFault
     faults_over(alloc, scoped, &own)
 }
 
-/// Returns the result of the phases after imports for a module whose synonyms were too large to expand: the faults of the first phase that has
-/// any. These don't depend on expansion. A module without faults is refused for lack of memory.
+/// Returns the result of the phases after imports for a module whose synonyms were too large to expand. These are the faults of the first phase
+/// that has any, which don't depend on expansion. A module without faults is refused for lack of memory.
 fn answer_without_trees<'a>(
     alloc: Global,
     scoped: &ScopedModule<'_, 'a>,

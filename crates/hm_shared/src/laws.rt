@@ -15,8 +15,8 @@ pub fn seen_imports_are_asked_for()
     steps_settle_a_set();
 }
 
-/// Worked examples of lists: the publications of a journal; what a worker has seen after a claim; what a publication changes; and which outcomes
-/// fit the list.
+/// Worked examples of lists: the publications of a journal, the publications that a worker has seen after a claim, the changes of a publication,
+/// and the outcomes that fit the list.
 pub fn worked_listings()
     ensures listings { ListingRow }
     ensures claims { ClaimRow }

@@ -1,8 +1,8 @@
 //! A bound on how deep the trees of a source nest.
 //!
 //! Each edge of a tree has a lexeme of its own: an argument, an arrow, a colon, a `\`, an `if`, or the bracket around the subtree. Trees on the
-//! two sides of a separator are siblings. So an item, which goes from one separator to the next, has at most as many levels as it has lexemes,
-//! plus those of the deepest brackets in it.
+//! two sides of a separator are siblings. An item goes from one separator to the next. So it has at most as many levels as it has lexemes, plus
+//! those of the deepest brackets in it.
 ghost use Rattle.std.specs.Prelude.{◌<◌, ◌≤◌};
 
 use crate::pieces::{Piece, first_piece};

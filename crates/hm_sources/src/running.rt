@@ -18,7 +18,9 @@ use std::thread::Threads;
 ///
 /// # Errors
 ///
-/// `Read` at the first reader that fails, `Memory` at any time, and `Write` if the writer fails.
+/// - `Read` at the first reader that fails.
+/// - `Memory` if memory ran out.
+/// - `Write` if the writer fails. A part of the text may be written then.
 pub fn run_plan<T: Threads, R: Read, W: Write>(
     rt: &T,
     alloc: Global,

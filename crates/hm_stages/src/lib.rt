@@ -1,4 +1,4 @@
-//! Sets up and ends a build: its store, `BuildFault`, [`Finished`], its report and journal, and dropping its trees in parallel.
+//! Sets up and ends a build: its store, `BuildFault`, `Finished`, its report and journal, and dropping its trees in parallel.
 #![tactic(auto)]
 
 mod dropping;

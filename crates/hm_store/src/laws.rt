@@ -6,14 +6,14 @@ ghost use Rattle.hm_store.specs.Worked.{DependentsRow, LeastRow, LegalRow, NotAl
 use crate::store::Store;
 use std::sync::ledger::{Book, Ledger, Share};
 
-/// If all modules of a legal build are settled, each has its right result: its outcome is for the published interfaces of its imports, or it is
+/// If all modules of a legal build are settled, each has its right result. Its outcome is for the published interfaces of its imports, or it is
 /// skipped because an import isn't published.
 pub fn settled_builds_are_settled_sets()
     ensures { SettledBuildIsSettled }
 {}
 
-/// Worked examples of builds: dependents; replies to claims; stops; skipped modules; entries that aren't allowed; refused outcomes; the
-/// changes of each step; places of calls in a record; records that agree with a journal; and a legal build with its report.
+/// Worked examples of builds: dependents, replies to claims, stops, skipped modules, entries that aren't allowed, refused outcomes and the
+/// changes of each step. Also places of calls in a record, records that agree with a journal, and a legal build with its report.
 pub fn worked_builds()
     ensures dependents { DependentsRow }
     ensures replies { RepliesRow }

@@ -31,8 +31,8 @@ mod refusing;
 
 /// A build: its modules with their import plan, the journal, and the outcomes of checked modules.
 ///
-/// The type guarantees that the journal is legal, that the statuses are those after it, and that each outcome is right for the published
-/// interfaces of its module's imports. The counts of open imports and the set of ready modules match the statuses.
+/// The type guarantees that the journal is legal and the statuses are those after it. Each outcome is right for the published interfaces of its
+/// module's imports. The counts of open imports and the set of ready modules match the statuses.
 pub struct Store {
     modules: Vec<Arc<Module>>,
     plan: Plan,

@@ -1,5 +1,6 @@
-//! Tables for look-ups in a module's scope (Haskell 98 Report, section 5.5): the scope's bindings by key, sets of texts and names, and the entries
-//! of an interface by name.
+//! Tables for look-ups in a module's scope (Haskell 98 Report, section 5.5).
+//!
+//! They have the scope's bindings by key, sets of texts and names, and the entries of an interface by name.
 #![tactic(auto)]
 
 mod bindings;

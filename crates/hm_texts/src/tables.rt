@@ -26,7 +26,7 @@ impl<'a> TextTable<'a> {
         }
     }
 
-    /// Returns the text of these bytes. It shares them with the text that an earlier call made of the same bytes.
+    /// Returns the text of these bytes. It shares them with the text that an earlier call returned for equal bytes.
     ///
     /// # Errors
     ///

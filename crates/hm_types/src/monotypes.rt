@@ -10,8 +10,8 @@ use crate::Head;
 use std::alloc::{AllocError, Global};
 use std::marker::Model;
 
-/// A type: a variable, by number; a rigid variable, which stands for an unknown type and equals only
-/// itself; or a type constructor with its arguments.
+/// A type: a variable, by number; a rigid variable, which is an unknown type that equals only itself; or a type
+/// constructor with its arguments.
 #[cycle(ty)]
 #[derive(Drop)]
 pub enum Ty {

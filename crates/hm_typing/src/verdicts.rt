@@ -23,7 +23,7 @@ pub fn lists_have_verdicts()
     ensures has_one_verdict { HasOneVerdict }
 {}
 
-/// A module of a lawful set is good if and only if it is well-formed, all its imports are good, and its list is typed under their principal
+/// A module of a lawful set is good if and only if it is well-formed, its imports are good, and its list is typed under their principal
 /// assignment. It is faulty if and only if instead that list has type faults.
 pub fn modules_are_judged_by_their_imports()
     ensures good_where_typed { GoodWhereTyped }

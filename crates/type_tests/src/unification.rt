@@ -88,8 +88,8 @@ fn no_value_has_more_nodes_than_are_left(rt: HostRuntime) -> Result<(), Fail> {
     Ok(())
 }
 
-/// Adds the same equations the other way round. Returns whether the second, which binds a variable to the type of three levels, is refused, and
-/// the solver after it, but not a new solver.
+/// Adds the same equations the other way round. The second binds a variable to the type of three levels. Returns whether it is refused, or
+/// `None` if a refused solver gives another variable, or a renewed one gives none.
 fn is_refused(alloc: Global, solver: &mut Solver) -> Result<Option<bool>, AllocError>
     requires { solver.old.given ≡ 3 }
 {

@@ -15,8 +15,8 @@ mod marks;
 mod replay;
 
 impl Store {
-    /// Returns whether the records agree with the journal: exactly one call wrote each entry, each record is in order, and each call has the reply
-    /// that the build object gives after the entries before it.
+    /// Returns whether the records agree with the journal. If so, exactly one call wrote each entry, each record is in order, and each call has the
+    /// reply that the build object gives after the entries before it.
     pub fn audit(&self, alloc: Global, records: &[Record]) -> Result<bool, AllocError>
         ensures { IfOk result (λ ok. IsTrue ok ↔ Agree self.now records.now) }
     {
