@@ -30,7 +30,11 @@ pub struct Outputs<W, E> {
 ///
 /// There is a message for each fault and for each import because of which a module is skipped, in the report's order. If the sources are
 /// refused, the message says why. If the check of a module runs out of memory, a message names the module; the schedule decides which, if
-/// there are several. A failure of the second writer isn't a fault of the run.
+/// there are several.
+///
+/// # Errors
+///
+/// Those of `run`. A failure of the second writer isn't one.
 pub fn run_explained<T: Threads + Wait + Sync, R: Read, W: Write, E: Write>(
     rt: &T,
     alloc: Global,

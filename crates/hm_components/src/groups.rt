@@ -54,7 +54,7 @@ fn mark_in_room(row: &[usize], marks: &mut [bool], waiting: &mut Vec<usize>)
     }
 }
 
-/// Marks the nodes that `from` reaches. Starts without marks and waiting nodes, and allocates nothing.
+/// Marks the nodes that `from` reaches. No node may have a mark or wait before. Allocates nothing.
 pub fn mark_reached(rows: &[Vec<usize>], from: usize, marks: &mut [bool], waiting: &mut Vec<usize>)
     requires from { from < length rows.now }
     requires closed { IsClosed (lists rows.now) }

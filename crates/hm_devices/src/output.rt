@@ -11,6 +11,10 @@ use std::io::{ErrorKind, Write};
 const MOST_INTERRUPTS: u64 = 2_097_152;
 
 /// Writes the whole text, and flushes the writer.
+///
+/// # Errors
+///
+/// `Write` if a write fails or takes no byte, if too many writes are interrupted, or if the flush fails.
 pub fn write_text<W: Write>(writer: &mut Watched<W>, text: &[u8]) -> Result<(), RunFault>
     requires { IsFresh writer.old }
     ensures bytes { OnOk result (Appends (W.contents (device_of writer.old)) (W.contents (device_of writer.new)) text.now) }

@@ -84,6 +84,10 @@ pub(crate) fn read_source<R: Read>(
 }
 
 /// Reads all sources, in order.
+///
+/// # Errors
+///
+/// `Read` at the first reader that fails or doesn't end in time, and `Memory` if memory ran out. Later readers aren't read.
 pub fn read_all<R: Read>(
     alloc: Global,
     readers: &mut [Watched<R>],

@@ -576,6 +576,10 @@ fn check_all_signed<'a>(
 
 /// Infers the schemes of a binding list, and binds its names in the environment: first the declared
 /// names, then the groups in order. Checks the bindings with signatures last.
+///
+/// # Errors
+///
+/// `Clash` if the list has no typing, and `Memory` if memory ran out.
 #[cycle(checking)]
 pub fn check_bindings<'a>(
     inference: &mut Inference<'a>,

@@ -101,7 +101,7 @@ pub fn infer_within(alloc: Global, core: &Core, limits: TypeLimits) -> Result<Sc
     infer_with(alloc, core, &constructors, limits)
 }
 
-/// Infers with the constructors that the core uses or declares.
+/// Does what `infer_within` does, with the known constructors of the core.
 fn infer_with(
     alloc: Global,
     core: &Core,

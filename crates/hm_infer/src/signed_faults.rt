@@ -122,7 +122,7 @@ fn continues(decls: &[Decl], place: usize) -> bool
     is_continued(name, pats, &decls[place + 1..])
 }
 
-/// Returns whether a declaration begins a binding.
+/// Returns whether a declaration continues no binding.
 fn begins(decls: &[Decl], place: usize) -> bool
     requires { place < length decls.now }
     ensures { Decides result (BeginsRun decls.now place) }

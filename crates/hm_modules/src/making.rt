@@ -136,6 +136,10 @@ fn source_modules<T: Threads + Wait + Sync>(
 }
 
 /// Returns the modules and the plan of a set of sources, made by a pool, or by as many of its threads as can start.
+///
+/// # Errors
+///
+/// `Refused` with the first fault of the sources, or else that of their plan. `Memory` if memory ran out.
 pub fn set_modules_by<T: Threads + Wait + Sync>(
     rt: &T,
     alloc: Global,

@@ -140,6 +140,10 @@ impl<J: Naming> Published<J> {
     }
 
     /// Finds the interface of a module, for a reader that has seen this front.
+    ///
+    /// # Errors
+    ///
+    /// `NoEntry` if this copy is older than the front, and `Memory` if an `Arc` couldn't be copied.
     pub fn found(&self, seen: &Front<J>, number: usize) -> Result<Sight<J>, LookFault>
         ensures list { IfOk result (λ s. (s.front ≡ self.now) × IsPrefix seen.now s.front × IsLawful J.modules J.plan s.front) }
         ensures interface { IfOk result (λ s. option_map arc_value s.interface ≡ interface_in s.front number) }

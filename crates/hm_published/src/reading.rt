@@ -65,6 +65,11 @@ impl<J: Naming> Reader<J> {
     }
 
     /// Looks up the interface of a module. Never waits.
+    ///
+    /// # Errors
+    ///
+    /// `NoEntry` if the reader isn't admitted, or reads a copy older than what it has seen. `Memory` if an `Arc` couldn't be copied. The reader
+    /// has seen the same list after an error.
     pub fn look(&mut self, number: usize) -> Result<Found, LookFault>
         ensures list { IfOk result (λ _. IsPrefix self.old self.new) }
         ensures lawful { IsLawful J.modules J.plan self.new }

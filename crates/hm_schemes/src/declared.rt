@@ -57,6 +57,10 @@ pub fn with_rigid_variables(
 }
 
 /// Equates a type with an instance of a declared type.
+///
+/// # Errors
+///
+/// `Clash` if the type can't be an instance of it, and `Memory` if memory ran out.
 pub fn check_instance(
     alloc: Global,
     solver: &mut Solver,

@@ -33,6 +33,10 @@ fn add_headers(
 }
 
 /// Returns the headers of the modules of all sources, in order of appearance, each with the number of its source.
+///
+/// # Errors
+///
+/// `Refused` with the first fault of the sources, and `Memory` if memory ran out.
 pub fn located_headers(alloc: Global, sources: &[Vec<u8>]) -> Result<Vec<Located>, SetError>
     ensures located { IfOk result (λ located. AreLocated (map (λ s. s.items) sources.now) located.items) }
     ensures err { IfErr result (λ e. IsSetError (map (λ s. s.items) sources.now) e) }

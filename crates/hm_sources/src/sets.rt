@@ -37,6 +37,10 @@ fn refused(kind: SetFaultKind) -> SetError
 }
 
 /// Returns the tokens of the source with this number, counted from 1.
+///
+/// # Errors
+///
+/// `Refused` with the lexical fault of the source, and `Memory` if memory ran out.
 pub fn source_tokens(alloc: Global, source: usize, text: &[u8]) -> Result<Vec<Token>, SetError>
     ensures ok { IfOk result (λ tokens. AreTokensOf text.now tokens.items) }
     ensures err { IfErr result (λ e. IsSourceError source text.now e) }
@@ -49,6 +53,10 @@ pub fn source_tokens(alloc: Global, source: usize, text: &[u8]) -> Result<Vec<To
 }
 
 /// Returns the modules that the tokens of the source with this number spell.
+///
+/// # Errors
+///
+/// `Refused` with the syntax fault of the source, and `Memory` if memory ran out.
 pub fn spelled_modules(
     alloc: Global,
     source: usize,
@@ -92,6 +100,10 @@ pub(crate) fn add_modules(
 }
 
 /// Returns the modules of the sources `from..to`, in order of appearance. Sources are numbered from 0.
+///
+/// # Errors
+///
+/// `Refused` with the first fault of these sources, and `Memory` if memory ran out.
 pub fn modules_between(
     alloc: Global,
     sources: &[Vec<u8>],
@@ -183,7 +195,11 @@ fn plan_of(alloc: Global, modules: &[Module]) -> Result<Plan, PlanFault>
     hm_graph::import_plan(alloc, &headers)
 }
 
-/// Returns the modules with their plan, or the reason why they have none.
+/// Returns the modules with their plan.
+///
+/// # Errors
+///
+/// `Refused` with the first fault of the plan, and `Memory` if memory ran out.
 #[tactic(auto, using(crate::proofs::Reading::refused_by_plan))]
 pub fn planned(alloc: Global, modules: Vec<Module>) -> Result<(Vec<Module>, Plan), SetError>
     ensures same { IfOk result (λ set. set.0.items ≡ modules.items) }

@@ -8,7 +8,11 @@ use hm_reports::has_ended;
 use hm_store::{Record, Store};
 use std::alloc::Global;
 
-/// Returns the build if it is complete and its records agree with its journal.
+/// Returns the finished build.
+///
+/// # Errors
+///
+/// `Mixed` if the build isn't complete or its records don't agree with its journal, and `Memory` if memory ran out.
 pub fn finished(
     alloc: Global,
     store: Store,

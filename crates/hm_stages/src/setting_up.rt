@@ -86,6 +86,10 @@ fn set_up(alloc: Global, modules: Vec<Module>, plan: Plan) -> Result<Fresh, Allo
 }
 
 /// Lexes and parses sources with a pool of threads, and returns a store for their modules.
+///
+/// # Errors
+///
+/// `Refused` with the first fault of the sources, or else that of their plan. `Memory` if memory ran out.
 pub fn read<T: Threads + Wait + Sync>(
     rt: &T,
     alloc: Global,

@@ -209,7 +209,12 @@ impl Store {
         Claimed::Job(number)
     }
 
-    /// Publishes the interface of a module that this worker has claimed. Otherwise returns the outcome, and changes nothing.
+    /// Publishes the interface of a module that this worker has claimed. The outcome must be good.
+    ///
+    /// # Errors
+    ///
+    /// Returns the outcome, and changes nothing. `NotYours` if the worker hasn't claimed the module. Else `Stranger` if the outcome isn't of that
+    /// module, or isn't for the published interfaces of its imports.
     pub fn publish(
         &mut self,
         worker: usize,
@@ -250,7 +255,11 @@ impl Store {
         });
     }
 
-    /// Fails a module that this worker has claimed, and skips the modules that depend on it. Otherwise returns the outcome, and changes nothing.
+    /// Fails a module that this worker has claimed, and skips the modules that depend on it. The outcome must be faulty.
+    ///
+    /// # Errors
+    ///
+    /// Those of `publish`.
     pub fn fail(
         &mut self,
         worker: usize,

@@ -10,7 +10,7 @@ use Rattle.hm_typing.specs.Units.{AreUnits}
 use Rattle.hm_typing.specs.Patterns.{Instantiates, tuple, list, Matches}
 use Rattle.hm_typing.specs.Typing.{HasFunction, HasLocal}
 
--- the assumption of the binding of x at an instance
+-- the assumption about y for the binding of x, at an instance
 abbrev pub seen_at : (Identifier → Identifier → Bool) → (Identifier → Scheme) → (ℕ → Monotype) → Identifier → Identifier → Scheme
 seen_at own B us x y = cond (own x y) (monomorphic (instance (B y) us)) (B y)
 

@@ -162,8 +162,7 @@ fn workers(matches: &ArgMatches<'_>) -> usize
 ///
 /// # Errors
 ///
-/// Has the help or the version if these were requested, otherwise the reason why the words are refused. Running out of memory is an error
-/// too.
+/// The error has the help or the version if these were requested. Otherwise it says why the words are refused, or that memory ran out.
 pub fn command_line(alloc: Global, words: &[String]) -> Result<Asked, Error>
     ensures least { IfOk result (λ asked. 0 < asked.workers) }
     ensures most { IfOk result (λ asked. asked.workers ≤ 16) }
