@@ -1,11 +1,11 @@
 //! The canonical scheme of a type.
 
-ghost use Rattle.std.specs.Prelude.{◌≡◌, ℕ, List, IfOk, OnOk};
+ghost use Rattle.std.specs.Prelude.{◌≡◌, ℕ, List, IfOk, IfSome, OnOk};
 ghost use Rattle.hm_types.specs.Types.{Var as leaf};
 ghost use Rattle.hm_types.specs.Monotypes.{var};
 ghost use Rattle.hm_types.specs.Shape.{type_of};
 ghost use Rattle.hm_types.specs.Substitution.{substitute};
-ghost use Rattle.hm_types.specs.Schemes.{HasArities, HasNoRigid, canonical_of, place, numbering, variables_after};
+ghost use Rattle.hm_types.specs.Schemes.{HasArities, HasNoRigid, canonical_of, count_up, place, numbering, variables_after};
 ghost use Rattle.hm_types.specs.Numbers.{Numbers};
 
 use hm_types::{Scheme, Ty, Types};
@@ -18,10 +18,42 @@ pub fn canonical(alloc: Global, body: &Ty) -> Result<Scheme, AllocError>
     requires arities { HasArities (type_of body.now) }
     ensures { IfOk result (λ scheme. scheme ≡ canonical_of (type_of body.now)) }
 {
+    if let Some(count) = count_in_order(0, body) {
+        return Ok(Scheme::new(count, body.copy(alloc)?));
+    }
     let mut places = HashMap::new(alloc);
     collect(&mut places, body)?;
     let numbered = renumber(alloc, &places, body)?;
     Ok(Scheme::new(places.len(), numbered))
+}
+
+/// How many variables there are up to the end of a type, with `next` before it, if each has the number
+/// of its first occurrence. Most types do: this one walk spares them a table and a renaming.
+fn count_in_order(next: usize, t: &Ty) -> Option<usize>
+    ensures { IfSome result (λ count. variables_after (count_up 0 next) (type_of t.now) ≡ count_up 0 count) }
+{
+    match t {
+        Ty::Var(n) => {
+            if *n < next {
+                return Some(next);
+            }
+            if *n > next {
+                return None;
+            }
+            next.checked_add(1)
+        }
+        Ty::Rigid(_) => Some(next),
+        Ty::App(_, arguments) => {
+            let mut count = next;
+            for argument in arguments.as_slice() {
+                let Some(behind) = count_in_order(count, argument) else {
+                    return None;
+                };
+                count = behind;
+            }
+            Some(count)
+        }
+    }
 }
 
 /// Adds the variables of a type to those seen, in order of first occurrence.
