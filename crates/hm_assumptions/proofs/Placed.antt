@@ -1,10 +1,10 @@
 -- Tables of the places of names.
-use Rattle.std.proofs.Common.{◌≡◌, ℕ, zero, suc, ◌<◌, ⊎_elim, inl, inr, true, false, true≢false, cond, List, [], ◌∷◌, ◌++◌, length, reverse, Option, None, Some, refl, sym, ap, ◌∙◌, subst, arith}
+use Rattle.std.proofs.Common.{◌≡◌, ℕ, zero, suc, ◌+◌, ◌<◌, ◌≤◌, min, ◌⊎◌, ⊎_elim, inl, inr, true, false, true≢false, cond, List, [], ◌∷◌, ◌++◌, length, get_or, take, drop, reverse, Option, None, Some, refl, sym, ap, ◌∙◌, subst, arith}
 use Rattle.std.specs.List.{slice_get}
 use Rattle.std.proofs.lemmas.Bool.{cases_Bool}
-use Rattle.std.proofs.lemmas.List.{reverse-append, reverse-reverse, length-append}
+use Rattle.std.proofs.lemmas.List.{reverse-append, reverse-reverse, length-append, take_all, take_min, take-append-drop, drop_all, drop-append-le}
 use Rattle.hm_types.specs.Shape.{type_of}
-use Rattle.hm_typing.specs.Names.{IsOneOf}
+use Rattle.hm_typing.specs.Names.{Identifier, IsOneOf}
 use Rattle.hm_variables.specs.Keys.{Table, number_of, same_variable, variable_of_key}
 use Rattle.hm_variables.specs.Variables.{Variable, identifier}
 use Rattle.hm_variables.proofs.Identifiers.{identifier_injective}
@@ -15,9 +15,9 @@ use Rattle.hm_assumptions.specs.declared.variables.Variable.{Variable as KeptVar
 use Rattle.hm_assumptions.specs.Environments.{Assumed, IsSchemeOf, assumed_names}
 use Rattle.hm_assumptions.specs.AssumedTypes.{type_in}
 use Rattle.hm_assumptions.specs.Kept.{stack, assumed_of, entries_of, variable_of, variables_of}
-use Rattle.hm_assumptions.specs.Patterns.{IsTypeOf, names_of}
-use Rattle.hm_assumptions.specs.Places.{IsTable, IsPlaced, AreNoted}
-use Rattle.hm_assumptions.proofs.Tables.{stack_push}
+use Rattle.hm_assumptions.specs.Patterns.{IsTypeOf, names_of, Variable as PatternVariable}
+use Rattle.hm_assumptions.specs.Places.{IsTable, IsPlaced, IsPlaceOf, AreNoted, few}
+use Rattle.hm_assumptions.proofs.Tables.{stack_append, stack_one_more, stack_over, stack_push}
 
 -- Tables as functions
 
@@ -147,33 +147,44 @@ is_assumed items table x p d es t v e g =
 variables_push : (items items' : List KeptVariable) (v : KeptVariable) → items' ≡ items ++ v ∷ [] → variables_of items' ≡ variable_of v ∷ variables_of items
 variables_push items items' v e = stack_push variable_of items items' v [] e
 
-pub one_noted : (items items' : List KeptVariable) (v : KeptVariable) (old new : Table) → AreNoted items old → items' ≡ items ++ v ∷ [] → ((x : Variable) → number_of new x ≡ cond (same_variable (variable_of_key v.name) x) (Some (length items)) (number_of old x)) → AreNoted items' new
-one_noted items items' v old new t e u = record {
+another : (v : KeptVariable) (x : Variable) (vs : List PatternVariable) → same_variable (variable_of_key v.name) x ≡ false → ¬ (IsOneOf (identifier x) (names_of vs)) → ¬ (IsOneOf (identifier x) (names_of (variable_of v ∷ vs)))
+another v x vs s absent o = ⊎_elim (λ k. true≢false (sym (subst (λ z. same_variable z x ≡ true) (identifier_injective x (variable_of_key v.name) k) (same_variable-refl x)) ∙ s)) absent o
+
+place_kept : (items items' : List KeptVariable) (v : KeptVariable) (x : Variable) (p : ℕ) → items' ≡ items ++ v ∷ [] → IsPlaceOf items x p → IsPlaceOf items' x p
+place_kept items items' v x p e r = (r.0, (ap (λ (ys : List KeptVariable). slice_get ys p) e ∙ get-push_old items v r.0 p r.1.0, r.1.1))
+
+-- one of the first few
+pub few_kept : (items items' : List KeptVariable) (v : KeptVariable) (table : Table) → AreNoted items table → items' ≡ items ++ v ∷ [] → length items < few → AreNoted items' table
+few_kept items items' v table t e short = record {
+  some = λ x p h. place_kept items items' v x p e (t.some x p h);
+  none = λ x h o. subst (λ (ys : List KeptVariable). IsOneOf (identifier x) (names_of (variables_of ys))) (drop_all few items' (let n : length items' ≡ length (items ++ v ∷ []) = ap length e in omega (arith, n, length-append items (v ∷ []), short))) o;
+}
+
+-- or another one
+pub one_noted : (items items' : List KeptVariable) (v : KeptVariable) (old new : Table) → AreNoted items old → items' ≡ items ++ v ∷ [] → few ≤ length items
+    → ((x : Variable) → number_of new x ≡ cond (same_variable (variable_of_key v.name) x) (Some (length items)) (number_of old x)) → AreNoted items' new
+one_noted items items' v old new t e many u = record {
   some = λ x p h. ⊎_elim (found_same x p h) (found_other x p h) (differ (variable_of_key v.name) x);
   none = λ x h o. ⊎_elim (none_same x h) (none_other x h o) (differ (variable_of_key v.name) x);
 }
   where
-    found_same : (x : Variable) (p : ℕ) → number_of new x ≡ Some p → variable_of_key v.name ≡ x → (w : KeptVariable) × ((slice_get items' p ≡ Some w) × (variable_of_key w.name ≡ x))
+    found_same : (x : Variable) (p : ℕ) → number_of new x ≡ Some p → variable_of_key v.name ≡ x → IsPlaceOf items' x p
     found_same x p h s =
         let at : number_of new x ≡ Some (length items) = u x ∙ ap (λ c. cond c (Some (length items)) (number_of old x)) (subst (λ z. same_variable (variable_of_key v.name) z ≡ true) s (same_variable-refl (variable_of_key v.name))) in
         let k : length items ≡ p = some_injective (sym at ∙ h) in
         (v, (ap (λ (ys : List KeptVariable). slice_get ys p) e ∙ (ap (λ n. slice_get (items ++ v ∷ []) n) (sym k) ∙ get-push_new items v), s))
 
-    found_other : (x : Variable) (p : ℕ) → number_of new x ≡ Some p → same_variable (variable_of_key v.name) x ≡ false → (w : KeptVariable) × ((slice_get items' p ≡ Some w) × (variable_of_key w.name ≡ x))
-    found_other x p h s =
-        let r = t.some x p (sym (u x ∙ ap (λ c. cond c (Some (length items)) (number_of old x)) s) ∙ h) in
-        (r.0, (ap (λ (ys : List KeptVariable). slice_get ys p) e ∙ get-push_old items v r.0 p r.1.0, r.1.1))
+    found_other : (x : Variable) (p : ℕ) → number_of new x ≡ Some p → same_variable (variable_of_key v.name) x ≡ false → IsPlaceOf items' x p
+    found_other x p h s = place_kept items items' v x p e (t.some x p (sym (u x ∙ ap (λ c. cond c (Some (length items)) (number_of old x)) s) ∙ h))
 
     none_same : (x : Variable) → number_of new x ≡ None → variable_of_key v.name ≡ x → ⊥
     none_same x h s =
         let at : number_of new x ≡ Some (length items) = u x ∙ ap (λ c. cond c (Some (length items)) (number_of old x)) (subst (λ z. same_variable (variable_of_key v.name) z ≡ true) s (same_variable-refl (variable_of_key v.name))) in
         let k : Some (length items) ≡ None = sym at ∙ h in cc
 
-    none_other : (x : Variable) → number_of new x ≡ None → IsOneOf (identifier x) (names_of (variables_of items')) → same_variable (variable_of_key v.name) x ≡ false → ⊥
-    none_other x h o s = ⊎_elim
-        (λ k. true≢false (sym (subst (λ z. same_variable z x ≡ true) (identifier_injective x (variable_of_key v.name) k) (same_variable-refl x)) ∙ s))
-        (t.none x (sym (u x ∙ ap (λ c. cond c (Some (length items)) (number_of old x)) s) ∙ h))
-        (subst (λ vs. IsOneOf (identifier x) (names_of vs)) (variables_push items items' v e) o)
+    none_other : (x : Variable) → number_of new x ≡ None → IsOneOf (identifier x) (names_of (variables_of (drop few items'))) → same_variable (variable_of_key v.name) x ≡ false → ⊥
+    none_other x h o s = another v x (variables_of (drop few items)) s (t.none x (sym (u x ∙ ap (λ c. cond c (Some (length items)) (number_of old x)) s) ∙ h))
+        (subst (λ vs. IsOneOf (identifier x) (names_of vs)) (variables_push (drop few items) (drop few items') v (ap (drop few) e ∙ drop-append-le few items (v ∷ []) many)) o)
 
 pub noted_same : (items items' : List KeptVariable) (old new : Table) → AreNoted items old → items ≡ items' → ((x : Variable) → number_of new x ≡ number_of old x) → AreNoted items' new
 noted_same items items' old new t e u = subst (λ (ys : List KeptVariable). AreNoted ys new) e (record {
@@ -181,11 +192,11 @@ noted_same items items' old new t e u = subst (λ (ys : List KeptVariable). AreN
   none = λ x h. t.none x (sym (u x) ∙ h);
 })
 
-get_is_type : (items : List KeptVariable) (p : ℕ) (v : KeptVariable) (vs : List Rattle.hm_assumptions.specs.Patterns.Variable) → slice_get items p ≡ Some v → IsTypeOf (identifier (variable_of_key v.name)) (type_of v.ty) (stack variable_of items vs)
+get_is_type : (items : List KeptVariable) (p : ℕ) (v : KeptVariable) (vs : List PatternVariable) → slice_get items p ≡ Some v → IsTypeOf (identifier (variable_of_key v.name)) (type_of v.ty) (stack variable_of items vs)
 get_is_type [] p v vs e = cc
 get_is_type (w ∷ items) zero v vs e = under items (variable_of w ∷ vs) (let k = some_injective e in inl (ap (λ z. identifier (variable_of_key z.name)) k, ap (λ z. type_of z.ty) k))
   where
-    under : (xs : List KeptVariable) (us : List Rattle.hm_assumptions.specs.Patterns.Variable) → IsTypeOf (identifier (variable_of_key v.name)) (type_of v.ty) us → IsTypeOf (identifier (variable_of_key v.name)) (type_of v.ty) (stack variable_of xs us)
+    under : (xs : List KeptVariable) (us : List PatternVariable) → IsTypeOf (identifier (variable_of_key v.name)) (type_of v.ty) us → IsTypeOf (identifier (variable_of_key v.name)) (type_of v.ty) (stack variable_of xs us)
     under [] us h = h
     under (x ∷ xs) us h = under xs (variable_of x ∷ us) (inr h)
 get_is_type (w ∷ items) (suc p) v vs e = get_is_type items p v (variable_of w ∷ vs) e
@@ -195,11 +206,36 @@ get_inside [] p v e = cc
 get_inside (x ∷ xs) zero v e = omega arith
 get_inside (x ∷ xs) (suc p) v e = let k = get_inside xs p v e in omega (arith, k)
 
-pub noted_inside : (items : List KeptVariable) (table : Table) (x : Variable) (p : ℕ) → AreNoted items table → number_of table x ≡ Some p → p < length items
-noted_inside items table x p t e = let r = t.some x p e in get_inside items p r.0 r.1.0
+pub place_is_inside : (items : List KeptVariable) (x : Variable) (p : ℕ) → IsPlaceOf items x p → p < length items
+place_is_inside items x p r = get_inside items p r.0 r.1.0
 
-pub noted_type : (items : List KeptVariable) (table : Table) (x : Variable) (p : ℕ) (d : KeptVariable) → AreNoted items table → number_of table x ≡ Some p → slice_get items p ≡ Some d → IsTypeOf (identifier x) (type_of d.ty) (variables_of items)
-noted_type items table x p d t e g =
-    let r = t.some x p e in
+pub type_at_place : (items : List KeptVariable) (x : Variable) (p : ℕ) (d : KeptVariable) → IsPlaceOf items x p → slice_get items p ≡ Some d → IsTypeOf (identifier x) (type_of d.ty) (variables_of items)
+type_at_place items x p d r g =
     let is : r.0 ≡ d = some_injective (sym r.1.0 ∙ g) in
     subst (λ (z : KeptVariable). IsTypeOf (identifier x) (type_of z.ty) (variables_of items)) is (subst (λ (y : Variable). IsTypeOf (identifier y) (type_of r.0.ty) (variables_of items)) r.1.1 (get_is_type items p r.0 [] r.1.0))
+
+-- the first few are looked through
+pub none_more : (items : List KeptVariable) (i : ℕ) (d : KeptVariable) (x : Variable) → i < length items → d ≡ get_or items i d → ¬ (IsOneOf (identifier x) (names_of (variables_of (take i items)))) → same_variable (variable_of_key d.name) x ≡ false
+    → ¬ (IsOneOf (identifier x) (names_of (variables_of (take (i + 1) items))))
+none_more items i d x h e absent s o = another d x (variables_of (take i items)) s absent (subst (λ vs. IsOneOf (identifier x) (names_of vs)) (stack_one_more variable_of items i d h e) o)
+
+pub none_of_few : (items : List KeptVariable) (i count : ℕ) (x : Variable) → count ≡ min few (length items) → i ≤ count → count ≤ i → ¬ (IsOneOf (identifier x) (names_of (variables_of (take i items)))) → ¬ (IsOneOf (identifier x) (names_of (variables_of (take few items))))
+none_of_few items i count x e below above = let k : i ≡ count = omega (arith, below, above) in
+    subst (λ (ys : List KeptVariable). ¬ (IsOneOf (identifier x) (names_of (variables_of ys)))) (ap (λ n. take n items) (k ∙ e) ∙ take_min few items)
+
+either_named : (x : Identifier) (vs ws : List PatternVariable) → IsOneOf x (names_of (vs ++ ws)) → IsOneOf x (names_of vs) ⊎ IsOneOf x (names_of ws)
+either_named x [] ws o = inr o
+either_named x (v ∷ vs) ws (inl e) = inl (inl e)
+either_named x (v ∷ vs) ws (inr o) = ⊎_elim (λ h. inl (inr h)) inr (either_named x vs ws o)
+
+-- a name that is neither among the first few nor in the table is no variable's
+pub none_kept : (items : List KeptVariable) (table : Table) (x : Variable) (vs : List PatternVariable) → AreNoted items table → variables_of items ≡ vs → ¬ (IsOneOf (identifier x) (names_of (variables_of (take few items)))) → number_of table x ≡ None
+    → ¬ (IsOneOf (identifier x) (names_of vs))
+none_kept items table x vs t v absent e o =
+    ⊎_elim (t.none x e) absent (either_named (identifier x) (variables_of (drop few items)) (variables_of (take few items)) (subst (λ ws. IsOneOf (identifier x) (names_of ws)) (sym v ∙ parts) o))
+  where
+    parts : variables_of items ≡ variables_of (drop few items) ++ variables_of (take few items)
+    parts = ap variables_of (sym (take-append-drop few items)) ∙ (stack_append variable_of (take few items) (drop few items) [] ∙ stack_over variable_of (drop few items) (variables_of (take few items)))
+
+pub none_of_all : (items : List KeptVariable) (x : Variable) (vs : List PatternVariable) → length items ≤ few → variables_of items ≡ vs → ¬ (IsOneOf (identifier x) (names_of (variables_of (take few items)))) → ¬ (IsOneOf (identifier x) (names_of vs))
+none_of_all items x vs short v absent o = absent (subst (λ ws. IsOneOf (identifier x) (names_of ws)) (sym v ∙ ap variables_of (sym (take_all few items short))) o)

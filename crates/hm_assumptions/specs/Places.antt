@@ -1,5 +1,5 @@
 -- Where tables of names find what is kept of a name. No public clause names these.
-use Rattle.std.specs.Prelude.{◌≡◌, ℕ, cond, List, [], ◌∷◌, length, reverse, Option, None, Some}
+use Rattle.std.specs.Prelude.{◌≡◌, ℕ, cond, List, [], ◌∷◌, length, reverse, drop, Option, None, Some}
 use Rattle.std.specs.List.{slice_get}
 use Rattle.hm_variables.specs.Keys.{Table, number_of, same_variable, variable_of_key}
 use Rattle.hm_variables.specs.Variables.{Variable, identifier}
@@ -18,7 +18,15 @@ IsTable (b ∷ bs) place = (place (variable_of_key b.name) ≡ Some (length bs))
 abbrev pub IsPlaced : List Binding → Table → Type 0
 IsPlaced items table = IsTable (reverse items) (number_of table)
 
--- the table has a place of each variable of patterns
+-- so many variables of patterns have no place in the table
+abbrev pub few : ℕ
+few = 8
+
+-- a variable of patterns of this name is at this place
+abbrev pub IsPlaceOf : List KeptVariable → Variable → ℕ → Type 0
+IsPlaceOf items x p = (v : KeptVariable) × ((slice_get items p ≡ Some v) × (variable_of_key v.name ≡ x))
+
+-- the table has a place of each variable of patterns behind the first few
 pub record AreNoted (items : List KeptVariable) (table : Table) : Type 0 where
-  pub some : (x : Variable) (p : ℕ) → number_of table x ≡ Some p → (v : KeptVariable) × ((slice_get items p ≡ Some v) × (variable_of_key v.name ≡ x))
-  pub none : (x : Variable) → number_of table x ≡ None → ¬ (IsOneOf (identifier x) (names_of (variables_of items)))
+  pub some : (x : Variable) (p : ℕ) → number_of table x ≡ Some p → IsPlaceOf items x p
+  pub none : (x : Variable) → number_of table x ≡ None → ¬ (IsOneOf (identifier x) (names_of (variables_of (drop few items))))

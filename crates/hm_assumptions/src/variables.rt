@@ -1,9 +1,11 @@
 //! The variables of patterns, with their types.
 
-ghost use Rattle.std.specs.Prelude.{◌≡◌, ◌∷◌, [], List, MatchOption, OnOk};
+ghost use Rattle.std.specs.Prelude.{◌≡◌, ◌∷◌, [], List, take, MatchOption, OnOk};
 ghost use Rattle.hm_types.specs.Shape.{type_of};
 ghost use Rattle.hm_typing.specs.Names.{IsOneOf};
 ghost use Rattle.hm_assumptions.specs.Patterns.{IsTypeOf, names_of};
+ghost use Rattle.hm_assumptions.specs.Kept.{variables_of};
+ghost use Rattle.hm_assumptions.specs.Places.{IsPlaceOf, few};
 ghost use Rattle.hm_variables.specs.Keys.{variable_of_key};
 ghost use Rattle.hm_variables.specs.Variables.{identifier};
 ghost use Rattle.hm_names.specs.Syntax.{name_of};
@@ -15,6 +17,10 @@ use indexmap::IndexMap;
 use std::alloc::{AllocError, Global};
 use std::marker::Model;
 
+/// So many variables are looked through. The table has the others: most patterns have few, and a table
+/// costs more to fill than they cost to look through.
+const FEW: usize = 8;
+
 /// A variable with its type.
 #[derive(Drop)]
 pub struct Variable<'a> {
@@ -23,7 +29,7 @@ pub struct Variable<'a> {
 }
 
 /// The variables of patterns, with their types. Contracts see them as a list, the last first. A
-/// table has a place of each name.
+/// table has a place of each name behind the first few.
 pub struct Variables<'a> {
     alloc: Global,
     items: Vec<Variable<'a>>,
@@ -83,6 +89,9 @@ impl<'a> Variables<'a> {
     {
         let place = self.items.len();
         self.items.push(Variable { name, ty })?;
+        if place < FEW {
+            return Ok(());
+        }
         match self.places.insert(name, place) {
             Ok(_) => Ok(()),
             Err(_) => {
@@ -96,7 +105,15 @@ impl<'a> Variables<'a> {
     pub(crate) fn find(&self, name: &Name) -> Option<&Ty>
         ensures { MatchOption result (¬ (IsOneOf (name_of name.now) (names_of self.now))) (λ t. IsTypeOf (name_of name.now) (type_of t.now) self.now) }
     {
-        match self.places.get(&key_of(name)) {
+        let key = key_of(name);
+        match place_among_few(&self.items, &key) {
+            Some(place) => return Some(&self.items[place].ty),
+            None => {}
+        }
+        if self.items.len() <= FEW {
+            return None;
+        }
+        match self.places.get(&key) {
             Some(place) => Some(&self.items[*place].ty),
             None => None,
         }
@@ -108,4 +125,19 @@ impl<'a> Variables<'a> {
     {
         &self.items
     }
+}
+
+/// The place of a variable of this name among the first few.
+fn place_among_few(items: &[Variable<'_>], key: &LentName<'_>) -> Option<usize>
+    ensures { MatchOption result (¬ (IsOneOf (identifier (variable_of_key key.now)) (names_of (variables_of (take few items.now)))))
+        (λ p. IsPlaceOf items.now (variable_of_key key.now) p) }
+{
+    let count = FEW.min(items.len());
+    'items: for place in 0..count {
+        let item = &items[place];
+        if item.name == *key {
+            return Some(place);
+        }
+    }
+    None
 }
