@@ -115,6 +115,14 @@ impl<'a> Environment<'a> {
         &self.items
     }
 
+    /// Makes room for so many more assumptions, so that neither the list nor the table grows by steps.
+    pub fn reserve(&mut self, count: usize) -> Result<(), AllocError>
+        ensures { self.new ≡ self.old }
+    {
+        self.items.reserve(count)?;
+        self.innermost.reserve(count)
+    }
+
     /// Assumes a scheme of a name, inside all others.
     pub fn bind(
         &mut self,

@@ -59,6 +59,7 @@ fn add_entries<'a, E: Named>(
         × (Contains entries.now r × (Selects brought.now.selection.now space (E.name_of r)
         × IsPairOf brought.now.qualified brought.now.name.now space (E.name_of r) (E.entity_of r) p)))) }
 {
+    pairs.reserve(entries.len())?;
     for entry in entries {
         add_entry(pairs, brought, space, entry.name(), entry.entity())?;
     }

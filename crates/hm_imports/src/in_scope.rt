@@ -147,6 +147,7 @@ pub fn add_declared<'a>(
     ensures { OnOk result (Adds pairs.old.items pairs.new.items (IsOwnPair program.now)) }
 {
     let module_name = program.header.name.as_text();
+    pairs.reserve(program.decls.as_slice().len())?;
     for decl in program.decls.as_slice() {
         add_declaration(alloc, pairs, module_name, decl)?;
     }

@@ -35,6 +35,7 @@ fn assume_values<'a>(
     ensures assumed { OnOk result (assumptions environment.new ≡ assumed_inside values.now (assumptions environment.old)) }
     ensures closed { OnOk result (AreAssumed 0 environment.old → AreAssumed 0 environment.new) }
 {
+    environment.reserve(values.len())?;
     'values: for behind in 0..values.len() {
         let place = values.len() - 1 - behind;
         assume_value(environment, &values[place])?;

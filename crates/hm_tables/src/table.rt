@@ -65,7 +65,7 @@ impl<'a> Scope<'a> {
     pub fn of(alloc: Global, pairs: Vec<Binding<'a>>) -> Result<Scope<'a>, AllocError>
         ensures { IfOk result (λ scope. scope ≡ pairs.entry.items) }
     {
-        let mut table = IndexMap::new(alloc);
+        let mut table = IndexMap::with_capacity(alloc, pairs.len())?;
         for binding in &pairs {
             note(&mut table, binding)?;
         }

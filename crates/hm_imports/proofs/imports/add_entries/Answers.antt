@@ -12,7 +12,7 @@ loop-entry-preserved g c =
     let r = c.entry-item.result in
     let named = subst (λ (x : List ℕ). Adds c.loop-entry.pairs.items c.add_entry.new.pairs.items (λ p. Selects b.selection.now s x × IsPairOf b.qualified b.name.now s x c.entity.result.now p)) c.name.ensures c.in_ok-add_entry.ensures in
     let added = subst (λ (e : Entity). Adds c.loop-entry.pairs.items c.add_entry.new.pairs.items (λ p. Selects b.selection.now s (g.E.Named.name_of r) × IsPairOf b.qualified b.name.now s (g.E.Named.name_of r) e p)) c.entity.ensures named in
-    for_more (λ r p. Selects b.selection.now s (g.E.Named.name_of r) × IsPairOf b.qualified b.name.now s (g.E.Named.name_of r) (g.E.Named.entity_of r) p) c.args.pairs.now.items c.loop-entry.pairs.items c.add_entry.new.pairs.items c.args.entries.now c.loop-entry.entry-index r c.loop-entry-test.true c.entry-item.is c.loop-entry.invariant added
+    for_more (λ r p. Selects b.selection.now s (g.E.Named.name_of r) × IsPairOf b.qualified b.name.now s (g.E.Named.name_of r) (g.E.Named.entity_of r) p) c.reserve.new.self.items c.loop-entry.pairs.items c.add_entry.new.pairs.items c.args.entries.now c.loop-entry.entry-index r c.loop-entry-test.true c.entry-item.is c.loop-entry.invariant added
 
 pub returns : goal.returns
-returns g c = for_all (λ r p. Selects c.args.brought.now.selection.now c.args.space (g.E.Named.name_of r) × IsPairOf c.args.brought.now.qualified c.args.brought.now.name.now c.args.space (g.E.Named.name_of r) (g.E.Named.entity_of r) p) c.args.pairs.now.items c.loop-entry.pairs.items c.args.entries.now c.loop-entry.entry-index c.loop-entry-test.false c.loop-entry.invariant
+returns g c = rw c.in_ok-reserve.ensures.items at (for_all (λ r p. Selects c.args.brought.now.selection.now c.args.space (g.E.Named.name_of r) × IsPairOf c.args.brought.now.qualified c.args.brought.now.name.now c.args.space (g.E.Named.name_of r) (g.E.Named.entity_of r) p) c.reserve.new.self.items c.loop-entry.pairs.items c.args.entries.now c.loop-entry.entry-index c.loop-entry-test.false c.loop-entry.invariant)
