@@ -53,11 +53,11 @@ pub mod types {
 /// Names: what is in scope, what each name means, what is exported.
 pub mod scope {
     pub use hm_interfaces::export;
-    pub use hm_messages::kind_word;
     pub use hm_names::{
         Core, Exported, Fault, Kind, Namespace, Schemes, ScopeFault, TypeLimits, WIDE_LIMITS,
     };
     pub use hm_scope::{scope, scope_within};
+    pub use hm_verdicts::kind_word;
 }
 
 /// Equations between types.

@@ -4,12 +4,12 @@ ghost use Rattle.hm_messages.specs.Headings.{begin, end, heading as heading_byte
 ghost use Rattle.hm_messages.specs.Subjects.{subject_of};
 
 use crate::fault_titles::fault_title;
-use crate::kinds::kind_word;
 use crate::topic::Topic;
 use hm_excerpts::shown;
 use hm_hints::{lexeme_text, syntax_text};
 use hm_json::Level;
 use hm_lex::Place;
+use hm_verdicts::kind_word;
 use std::alloc::{AllocError, Global};
 
 /// How messages are written.

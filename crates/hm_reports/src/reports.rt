@@ -12,12 +12,12 @@ ghost use Rattle.hm_reports.specs.ReportBlocks.{AreBlocksOf, all_blamed, blamed,
 
 use crate::statuses::{Settled, settled_in};
 use hm_graph::Plan;
-use hm_messages::kind_word;
 use hm_names::Fault;
 use hm_sources::Status;
 use hm_store::Store;
 use hm_syntax::Module;
 use hm_type_texts::interface_text;
+use hm_verdicts::kind_word;
 use std::alloc::{AllocError, Global};
 use std::sync::Arc;
 

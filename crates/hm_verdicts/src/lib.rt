@@ -3,8 +3,12 @@
 //! The definitions are in `specs/`. Each law is a function with an empty body, and its contract is the law.
 #![tactic(auto)]
 
+mod kinds;
+
 ghost use Rattle.hm_verdicts.specs.Laws.{AcceptedAreGood, AcceptedHavePrincipal, EndIsSettled, StepsAreSettled, HasOneModuleVerdict, HasOneReading, HasOneStatus, HasOneText, HasOneVerdict, NamesIgnoreSchemes, NoModulesHaveText, PublishedAreAskedFor, SettledIsReported, SettledIsVerdict, SyntaxIgnoresSchemes, ThreeModulesHaveText, TypedHavePrincipal};
 ghost use Rattle.hm_verdicts.specs.WorkedVerdicts.{AcceptedRow, AllGoodRow, CanonicalRow, CircularRow, FirstEntryRow, GeneralRow, LineRow, PlanRow, ProgressRow, PublishedRow, ReportRow, SetRow, SettledRow, SkeletonRow, VerdictRow};
+
+pub use crate::kinds::kind_word;
 
 /// Well-formedness, faults, exports and the bindings to be typed don't depend on the schemes of imported variables.
 pub fn names_ignore_schemes()
