@@ -6,6 +6,7 @@ publishes: without the lock, and under one. Three rounds of each. The program is
 run by `rt try`, whose checks cost more than either kind of look. What the workers without a lock saw is compared with the journal. Ends
 with the status of the program.
 """
+# Why: docs/DECISIONS.md, "The speed of looks".
 import argparse
 import os
 import pathlib

@@ -8,6 +8,7 @@ variable, list brackets put in or left out. It is kept where the set then has on
 Prints how many faults have a note (told), at how many the range of a note overlaps the changed tokens (hit), how many tokens the range and
 the slip have (width), and the times of runs with and without messages. With `--show` the first notes that miss are printed.
 """
+# Why: docs/DECISIONS.md, "Hits of notes".
 import argparse
 import os
 import random

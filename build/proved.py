@@ -9,6 +9,7 @@ libraries below it as they were built, and the kit. So a change costs the crate 
 different, which a comment doesn't cause. What another checkout or the gate proved on this machine isn't proved again. `--anew` uses nothing
 that is kept. With a kit that keeps nothing every call proves all crates.
 """
+# Why: docs/DECISIONS.md, "./prove runs the gate's checks", "The cache", "No builder of our own".
 import contextlib
 import os
 import pathlib

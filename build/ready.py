@@ -10,6 +10,7 @@ last check. The script takes a program for fresh if no source has changed since 
 another branch and back, or a copy of the folder builds nothing. A proved program stays proved when only a proof is edited: the files in proofs/
 are no part of its checksum.
 """
+# Why: docs/DECISIONS.md, "Unproved first", "Stale programs", "Programs of the gate".
 import contextlib
 import fcntl
 import os

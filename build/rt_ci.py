@@ -8,6 +8,7 @@ counts, and not by lines alone.
 The checks are those of `rt ci`. Its code is no interface of the kit, so the order is changed in the versions named in KNOWN alone. With any
 other, `rt ci` runs as it is, which takes some minutes more.
 """
+# Why: docs/DECISIONS.md, "The order of work", "The second compiler stays in".
 import importlib.machinery
 import importlib.util
 import os

@@ -3,6 +3,7 @@
 
 `command_line.py [PROGRAM]`: without a word, the script `hmc` beside this folder is run. Ends with 1 where a row differs.
 """
+# Why: docs/DECISIONS.md, "Types that are too large".
 import contextlib
 import os
 import pty

@@ -4,6 +4,7 @@
 `printed.py [PROGRAM]`: without a word, the script `hmc` beside this folder is run. Prints each run that differs, and last how many were as
 wanted; ends with 1 where one differs.
 """
+# Why: docs/DECISIONS.md, "Tests by the program".
 import os
 import re
 import subprocess

@@ -9,6 +9,7 @@ leave the note of a type fault out, or name the module whose check was refused b
 second, fourth, eighth .. allocation is refused, and of a run with messages one in some. A test must pass or end for want of memory, and the call that
 it is about must have been refused by some of the refusals. Ends with 1 where anything else came of a refusal.
 """
+# Why: docs/DECISIONS.md, "Refused allocations", "Results of refusals".
 import argparse
 import collections
 import concurrent.futures

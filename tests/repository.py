@@ -2,11 +2,12 @@
 """Checks that what is written down beside the code agrees with it, in seconds and without a proof.
 
 `repository.py` ends with 1 where something differs; `repository.py --write` rewrites the columns of
-docs/ARCHITECTURE.md that say what each crate depends on.
+docs/ARCHITECTURE.md that say what each crate does and what it depends on.
 
 1. The tables of crates in docs/ARCHITECTURE.md have each crate of crates.txt once, under the same headings and in the
-   same order. What they say a crate depends on are the crates of this repository that crates.txt lists for it, except
-   those on which another of them depends. Each crate comes after those that it depends on, and crates.txt says why it is
+   same order. What they say a crate does is the first sentence of its root file, without sections of the Report. What
+   they say it depends on are the crates of this repository that crates.txt lists for it, except those on which another
+   of them depends. Each crate comes after those that it depends on, and crates.txt says why it is
    a crate of its own. The crates under a heading depend on no heading whose crates depend on them.
 2. Each generator (crates/NAME/gen/*.py) writes the very files that are checked in.
 3. Each edit in a folder must-fail/ changes a text that occurs once in the file that it names, and names in one line
@@ -17,6 +18,8 @@ docs/ARCHITECTURE.md that say what each crate depends on.
 5. Each piece of Rust in docs/EMBEDDING.md is a part of the example program.
 6. README.md trusts the crates of the kit that crates.txt names, and no others.
 7. The help, the constants of the program and LANGUAGE list the exit statuses of the definitions.
+8. Each decision that code cites (docs/DECISIONS.md, "NAME") is in DECISIONS, where a name stands once. Each decision is cited, except those on style
+   and on what the program costs.
 """
 import pathlib
 import re
@@ -73,21 +76,31 @@ def directly(crates, name):
     return [it for it in crates[name] if not any(it in closure(crates, other) for other in crates[name] if other != it)]
 
 
+def purpose(name):
+    """Returns the first sentence at the head of a crate's root file, without the sections of the Report in brackets."""
+    root = next(it for it in (TOP / "crates" / name / "src" / file for file in ("lib.rt", "main.rt")) if it.is_file())
+    head = re.match(r"(?://! .+\n)*", root.read_text())[0]
+    sentence = re.match(r"(.*?)\.(?: |$)", re.sub(r" *\n?//! ", " ", head).strip())
+    return re.sub(r" \([^)]*(?:Report|Milner)[^)]*\)|\[(?=`)|(?<=`)\]", "", sentence[1]) if sentence else ""
+
+
 def table_faults(write):
     crates, text = listed(), PAGE.read_text()
-    wanted = {name: ", ".join(f"`{it}`" for it in directly(crates, name)) for name in crates}
+    wanted = {name: (purpose(name), ", ".join(f"`{it}`" for it in directly(crates, name))) for name in crates}
     if write:
-        put = lambda row: f"| `{row[1]}` |{row[2]}| {wanted[row[1]]} |{row[4]}|".replace("|  |", "| |") if row[1] in wanted else row[0]
+        put = lambda row: f"| `{row[1]}` | {' | '.join(wanted[row[1]])} |{row[4]}|".replace("|  |", "| |") if row[1] in wanted else row[0]
         PAGE.write_text(ROW.sub(put, text))
         return []
-    table = [(it[1], it[3]) for it in ROW.finditer(text) if it[1] in crates]
+    table = [(it[1], (it[2].strip(), it[3].strip())) for it in ROW.finditer(text) if it[1] in crates]
     names = [name for name, _ in table]
     faults = [f"docs/ARCHITECTURE.md has {names.count(name)} rows of {name}" for name in crates if names.count(name) != 1]
     order = {name: place for place, name in enumerate(names)}
     faults += [f"docs/ARCHITECTURE.md has {name} before {it}, on which it depends" for name in names for it in crates[name] if order.get(it, 0) > order[name]]
-    for name, said in table:
-        if said.strip() != wanted[name]:
-            faults.append(f"docs/ARCHITECTURE.md says that {name} depends on {said}, and crates.txt {wanted[name]}")
+    for name, (does, below) in table:
+        if does != wanted[name][0] or not does:
+            faults.append(f"docs/ARCHITECTURE.md says that {name} does this: {does}; its root file says: {wanted[name][0]}")
+        if below != wanted[name][1]:
+            faults.append(f"docs/ARCHITECTURE.md says that {name} depends on {below}, and crates.txt {wanted[name][1]}")
     return faults
 
 
@@ -201,9 +214,26 @@ def status_faults():
     return [f"{name}: statuses {sorted(it)}, and hmc/specs/Statuses has {sorted(wanted)}" for name, it in found.items() if it != wanted or len(it) < 2]
 
 
+def decision_faults():
+    """Returns the decisions that are cited and don't exist, and those that no code cites."""
+    sections = re.split(r"^## (.*)$", (TOP / "docs" / "DECISIONS.md").read_text(), flags=re.M)
+    places = dict(zip(sections[1::2], sections[2::2]))
+    plain = lambda name: name.replace("`", "").rstrip(".")
+    named = {section: [plain(it) for it in re.findall(r"^(?:- )?\*\*(.+?)\*\*", text, re.M)] for section, text in places.items()}
+    names = sum(named.values(), [])
+    files = [it for part in ("build", "tests", "bench", "tools") for it in (TOP / part).rglob("*.py")]
+    files += [TOP / "crates.txt", TOP / "prove", TOP / "hmc", *TOP.glob("crates/*/gen/*.py")]
+    files += [it for ending in ("rt", "antt") for it in TOP.glob(f"crates/*/s*/**/*.{ending}")]
+    cited = {name for it in files for line in re.findall(r'Why: docs/DECISIONS\.md((?:, "[^"\n]+")+)', it.read_text()) for name in re.findall(r'"(.+?)"', line)}
+    faults = [f"docs/DECISIONS.md has {name} more than once" for name in sorted({it for it in names if names.count(it) > 1})]
+    faults += [f"no decision is named {name}, which code cites" for name in sorted(cited - {*names})]
+    wanted = [name for section, its in named.items() if section != "Speed" for name in its if name != "Width"]
+    return faults + [f"docs/DECISIONS.md has {name}, which no code cites" for name in wanted if name not in cited]
+
+
 def main():
     write = sys.argv[1:] == ["--write"]
-    faults = table_faults(write) + room_faults() + generated_faults() + edit_faults() + cited_faults() + promise_faults() + trusted_faults() + status_faults() + example_faults()
+    faults = table_faults(write) + room_faults() + generated_faults() + edit_faults() + cited_faults() + promise_faults() + trusted_faults() + decision_faults() + status_faults() + example_faults()
     print(*faults, sep="\n", end="\n" if faults else "")
     print(f"the repository agrees with itself: {'no' if faults else 'yes'}")
     return bool(faults)

@@ -2,6 +2,7 @@
 //!
 //! With enough memory each call has its right result. If the call itself runs out of memory, its test ends with an error of its own; before the
 //! call, the error is "no memory". A test has no other end.
+// Why: docs/DECISIONS.md, "Refusals of single calls".
 ghost use Rattle.std.specs.Prelude.{◌≡◌, []};
 ghost use Rattle.hm_graph.specs.Imports.{IsImportPlan, IsLawful};
 ghost use Rattle.hm_sources.specs.Names.{module_outlines};

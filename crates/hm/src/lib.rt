@@ -19,6 +19,7 @@
 //! `build::build`. If the sources come from readers and the report goes to a writer, call `build::run`.
 #![tactic(auto)]
 
+// Why: docs/DECISIONS.md, "The door".
 /// Tokens of a source.
 pub mod lex {
     pub use hm_lex::{Kind, LexFault, Place, Token, lex};

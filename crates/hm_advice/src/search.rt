@@ -286,6 +286,7 @@ fn first_read(
     Ok(None)
 }
 
+// Why: docs/DECISIONS.md, "Hints by the parser".
 /// A change with which a source can be read that can't be read as it is: the token with the number `fault` is the first with
 /// which no source begins, and that of the end is the number of all tokens. The declaration that the fault is in is tried first
 /// by itself, so a change is found there too if other declarations have faults. None if no change that is tried serves, and for a

@@ -46,6 +46,7 @@ pub struct Entry<'a> {
     pub scheme: KnownScheme<'a>,
 }
 
+// Why: docs/DECISIONS.md, "Known constructors".
 /// The constructors that a module uses, with their schemes. Of the entries of one constructor the
 /// first counts, whose place a table has. The special ones, as those of tuples, have theirs without
 /// an entry.

@@ -190,6 +190,7 @@ fn build_on_thread<T: Threads + Wait + Sync, G: Gate + Sync>(
     )
 }
 
+// Why: docs/DECISIONS.md, "Sources by value".
 /// Checks all modules of these sources with the given number of workers, and returns the finished build.
 ///
 /// A worker passes the gate before each check. It checks a module for the published interfaces of its imports.

@@ -19,6 +19,7 @@ fn more_by(number: usize, bytes: usize, per_byte: usize) -> usize {
     bytes.saturating_mul(per_byte).saturating_add(number)
 }
 
+// Why: docs/DECISIONS.md, "Nodes of types".
 /// Returns the limits for the types of each module: its share of the nodes of all, but at least the least limit.
 pub(crate) fn type_limits(nesting: Nesting, modules: usize) -> TypeLimits {
     let bytes = nesting.longest();

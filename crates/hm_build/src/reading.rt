@@ -14,6 +14,7 @@ use std::io::Read;
 use std::sync::Wait;
 use std::thread::Threads;
 
+// Why: docs/DECISIONS.md, "One path".
 /// Reads the sources and checks their modules. Returns the text of the report or of the refusal, the status, and the messages if they are
 /// requested.
 ///

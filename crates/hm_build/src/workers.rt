@@ -82,6 +82,7 @@ where
     pub prelude: &'a SharedPrelude,
 }
 
+// Why: docs/DECISIONS.md, "Mixed".
 /// Returns the worker's fault if the store refuses an outcome.
 fn fault_of(refusal: Refusal) -> WorkFault
     requires { refusal ≢ Stranger }
@@ -117,6 +118,7 @@ fn settle<L: Ledger + Naming, G: Gate, W: Wait + Drop, R: Wait>(
     }
 }
 
+// Why: docs/DECISIONS.md, "Workers' contracts".
 /// Checks a claimed module. The pass has seen all its imports, so each look finds one, and they are those that the module requires.
 /// Leaves room for a stop.
 fn check_one<L: Ledger + Naming, G: Gate, W: Wait + Drop, R: Wait>(
@@ -178,6 +180,7 @@ fn check_all<L: Ledger + Naming, G: Gate, W: Wait + Drop, R: Wait>(
     unreachable!()
 }
 
+// Why: docs/DECISIONS.md, "Room for a stop".
 /// Runs one worker. If it fails, it stops the build.
 fn run_worker<L: Ledger + Naming, G: Gate, W: Wait + Drop, R: Wait>(
     rt: &R,
@@ -196,6 +199,7 @@ fn run_worker<L: Ledger + Naming, G: Gate, W: Wait + Drop, R: Wait>(
     ended
 }
 
+// Why: docs/DECISIONS.md, "Joins", "Mixed before a stop".
 /// Waits for all workers, and returns the fault to report.
 fn join_all<R: Threads>(
     rt: &R,
@@ -216,6 +220,7 @@ fn join_all<R: Threads>(
     all
 }
 
+// Why: docs/DECISIONS.md, "Threads that don't start".
 /// Runs a worker for each pass, on threads with stacks of this size. Starts as many threads as it can.
 pub(crate) fn run_workers<
     L: Ledger + Naming + Send + Sync,

@@ -22,6 +22,7 @@ fn step_limit(rows: &[Vec<usize>]) -> usize {
     limit
 }
 
+// Why: docs/DECISIONS.md, "Paths in vectors".
 /// Takes one step of a depth-first search: along the next edge of the last node of the path, or back.
 fn step_on(
     rows: &[Vec<usize>],

@@ -177,6 +177,7 @@ pub(crate) fn place(group: &[usize], placed: &mut [bool])
     }
 }
 
+// Why: docs/DECISIONS.md, "The fallback".
 /// Returns the groups in their order, by the table of the nodes that each node reaches.
 fn groups_by_closure(alloc: Global, rows: &[Vec<usize>]) -> Result<Vec<Vec<usize>>, AllocError>
     requires { IsClosed (lists rows.now) }
@@ -218,6 +219,7 @@ fn groups_by_search(
     Ok(None)
 }
 
+// Why: docs/DECISIONS.md, "One node".
 /// Returns the groups of a graph with one node.
 fn lone_group(alloc: Global, rows: &[Vec<usize>]) -> Result<Vec<Vec<usize>>, AllocError>
     requires closed { IsClosed (lists rows.now) }
@@ -231,6 +233,7 @@ fn lone_group(alloc: Global, rows: &[Vec<usize>]) -> Result<Vec<Vec<usize>>, All
     Ok(groups)
 }
 
+// Why: docs/DECISIONS.md, "Certified groups".
 /// Returns the groups in their order. Takes linear time up to a logarithm; if the test refuses that result, quadratic time and memory.
 pub fn groups_of(alloc: Global, rows: &[Vec<usize>]) -> Result<Vec<Vec<usize>>, AllocError>
     requires { IsClosed (lists rows.now) }

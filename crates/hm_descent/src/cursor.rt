@@ -43,6 +43,7 @@ impl Context {
     }
 }
 
+// Why: docs/DECISIONS.md, "Symbols of tokens".
 /// The parser: the rest of a source's tokens. It descends through the grammar, with one token of look-ahead.
 #[derive(Drop)]
 pub struct Parser<'a> {
@@ -157,6 +158,7 @@ impl Parser<'_> {
         }
     }
 
+    // Why: docs/DECISIONS.md, "Types in guards".
     /// Records the place of the next token, a `::`, if its type would end an alternative's guard.
     pub(crate) fn note_type(&mut self, context: Context)
         ensures { self.new ≡ self.old }
@@ -171,6 +173,7 @@ impl Parser<'_> {
         }
     }
 
+    // Why: docs/DECISIONS.md, "The place of a syntax fault".
     /// Returns the place of the first token from which no source goes on, if the parser stopped at this place.
     pub fn first_fault(&self, stopped: Place) -> Place {
         match self.guard_type {

@@ -14,6 +14,7 @@ use hm_syntax::{Alt, Decl, DeclKind, Expr, ExprKind, Name, Pat, PatKind, Rhs};
 use std::alloc::{AllocError, Global};
 
 impl Parser<'_> {
+    // Why: docs/DECISIONS.md, "One cycle".
     /// Reads an expression. A type may follow it if it is closed.
     #[cycle(exprs)]
     #[tactic(auto, using(crate::proofs::ExpressionLoops::chain_shorter, crate::proofs::ColonLoops::exp_open, crate::proofs::ColonLoops::exp_open_none), unfolding(hm_grammar::specs::Reading::Expressions::exp_with))]
@@ -53,6 +54,7 @@ impl Parser<'_> {
         })
     }
 
+    // Why: docs/DECISIONS.md, "Chains of colons".
     /// Reads operands with colons between them, or an expression that extends as far right as it can. Returns whether it is open.
     #[cycle(exprs)]
     #[tactic(auto, using(crate::proofs::ColonLoops::chain_open, crate::proofs::ColonLoops::chain_open_none, crate::proofs::ColonLoops::chain_closed, crate::proofs::ColonLoops::chain_closed_none, crate::proofs::ColonLoops::chain_alone, crate::proofs::ExpressionLoops::opd_shorter))]
@@ -561,6 +563,7 @@ impl Parser<'_> {
     }
 }
 
+// Why: docs/DECISIONS.md, "Pattern bindings".
 /// Returns a pattern binding whose first token has this place, or the clause of a single variable.
 fn binding_of(alloc: Global, place: Place, pat: Pat, rhs: Rhs) -> Result<Decl, AllocError>
     ensures { IfOk result (λ d. d ≡ binding_of place.line place.column pat rhs) }

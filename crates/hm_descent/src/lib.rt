@@ -1,6 +1,7 @@
 //! Parses the parts of modules: a recursive-descent parser over the tokens of a source.
 #![tactic(auto)]
 
+// Why: docs/DECISIONS.md, "or_drop!".
 /// Returns the value of a call, or returns its fault after dropping the held parts by calls. `?` would drop them inline, and each of its drops
 /// would be proved again at its place.
 macro_rules! or_drop {

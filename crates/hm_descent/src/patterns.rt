@@ -130,6 +130,7 @@ impl Parser<'_> {
         }
     }
 
+    // Why: docs/DECISIONS.md, "Literals".
     /// Reads a literal, including its quotes.
     #[tactic(auto, unfolding(hm_grammar::specs::Reading::Constructors::literal_at))]
     pub(crate) fn literal(&mut self, alloc: Global) -> Result<Literal, ParseFault>

@@ -21,6 +21,7 @@ use std::alloc::{AllocError, Global};
 use std::cell::Cell;
 use std::marker::Model;
 
+// Why: docs/DECISIONS.md, "Why not one table", "Two that could share one".
 /// The arities of type constructors and constructors, and the synonyms. Has limits for the types that synonyms stand for: the levels of one type,
 /// and the nodes that all may still have.
 pub struct Tables<'a> {
@@ -245,6 +246,7 @@ fn add_synonyms<'a>(
     Ok(())
 }
 
+// Why: docs/DECISIONS.md, "Two descriptions".
 /// Records the types and synonyms of interfaces.
 fn add_imported_types<'a>(
     types: &mut IndexMap<EntityKey<'a>, usize>,

@@ -74,6 +74,7 @@ fn is_near_pair(alloc: Global, name: &str, pair: &Binding<'_>) -> Result<bool, A
     }
 }
 
+// Why: docs/DECISIONS.md, "Near names".
 /// The first of these pairs whose name is one edit away from this one.
 pub(crate) fn nearest<'r, 'a>(
     alloc: Global,

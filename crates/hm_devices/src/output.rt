@@ -10,6 +10,7 @@ use std::io::{ErrorKind, Write};
 /// The number of interrupted writes at which writing fails.
 const MOST_INTERRUPTS: u64 = 2_097_152;
 
+// Why: docs/DECISIONS.md, "Empty writes", "Fresh devices".
 /// Writes the whole text, and flushes the writer.
 ///
 /// # Errors

@@ -56,6 +56,7 @@ fn read_once<R: Read>(
     }
 }
 
+// Why: docs/DECISIONS.md, "Many reads".
 /// Reads one source, to a read of no bytes or until it is too long.
 pub(crate) fn read_source<R: Read>(
     alloc: Global,

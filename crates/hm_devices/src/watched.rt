@@ -8,6 +8,7 @@ ghost use Rattle.hm_devices.specs.Watching.{device_of, reads_of, bytes_of, inter
 use std::io;
 use std::io::{ErrorKind, Read, Write};
 
+// Why: docs/DECISIONS.md, "Results of devices".
 /// A reader or a writer that returns each reply of its device, and counts it.
 #[derive(Drop)]
 pub struct Watched<D> {
@@ -158,6 +159,7 @@ impl<W: Write> Write for Watched<W> {
         answer
     }
 
+    // Why: docs/DECISIONS.md, "Flushes".
     fn flush(&mut self) -> io::Result<()>
         ensures bytes { Keeps (W.contents (device_of self.old)) (W.contents (device_of self.new)) }
         ensures reads { reads_of self.new ≡ reads_of self.old }

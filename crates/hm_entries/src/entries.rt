@@ -185,6 +185,7 @@ struct Values<'a> {
     imported: IndexMap<EntityKey<'a>, &'a ValueEntry>,
 }
 
+// Why: docs/DECISIONS.md, "Schemes stay the same".
 /// Returns the scheme of an exported variable.
 fn scheme_of<'v>(values: &'v Values<'_>, exported: &'v Exported) -> Option<&'v Scheme>
     ensures { (c : ModuleCore) → AreValuesOf c values.now → (t : TypeScheme)
@@ -281,6 +282,7 @@ pub fn constructor_entries(
     Ok(entries)
 }
 
+// Why: docs/DECISIONS.md, "One pass".
 /// Returns the entries of the variables that a core exports.
 pub fn value_entries<'a>(
     alloc: Global,

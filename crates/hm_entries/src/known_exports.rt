@@ -243,6 +243,7 @@ fn note_constructor_entries<'a>(
     Ok(())
 }
 
+// Why: docs/DECISIONS.md, "Seven readings of declarations".
 /// Returns the constructors that a core can export.
 pub(crate) fn known_constructors<'a>(
     alloc: Global,

@@ -5,6 +5,7 @@ ghost use Rattle.hm_excerpts.specs.Columns.{AreUnitsOf, characters, units_of, ut
 
 use std::alloc::{AllocError, Global};
 
+// Why: docs/DECISIONS.md, "Columns in characters".
 /// The column of a place, counted from 1 in three units.
 #[derive(Clone, Copy, Debug, PartialEq, Eq)]
 pub struct Columns {

@@ -8,6 +8,7 @@ use std::alloc::{AllocError, Global};
 use ucd_category::{GeneralCategory, GeneralCategoryGroup};
 use unicode_width::UnicodeWidthStr;
 
+// Why: docs/DECISIONS.md, "Escapes".
 /// Returns whether a character is invisible, or changes the reading order.
 fn is_hidden(character: char) -> bool
     ensures { result ≡ is_hidden character }

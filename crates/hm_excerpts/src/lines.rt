@@ -20,6 +20,7 @@ struct Span {
     end: usize,
 }
 
+// Why: docs/DECISIONS.md, "Lines in a table".
 /// A source with a table of its lines, so that finding a place doesn't read the source again.
 #[derive(Drop)]
 pub struct SourceLines<'a> {

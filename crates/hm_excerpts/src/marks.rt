@@ -49,6 +49,7 @@ fn symbols_len(bytes: &[u8]) -> usize
     len
 }
 
+// Why: docs/DECISIONS.md, "What is marked".
 /// Returns the number of bytes that are marked at the front of a text.
 #[tactic(auto, using(crate::proofs::Escaping::size_fits))]
 pub(crate) fn marked(bytes: &[u8]) -> usize

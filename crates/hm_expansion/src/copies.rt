@@ -51,6 +51,7 @@ pub fn entity_name(alloc: Global, name: &Name, entity: &EntityRef<'_>) -> Result
     })
 }
 
+// Why: docs/DECISIONS.md, "Local binders".
 /// Returns the replacement of a name that is bound in the list of this module, or in another list: an entity, or the bare name.
 pub fn bound_name(alloc: Global, home: &Option<Text>, name: &Name) -> Result<Name, AllocError>
     ensures { IfOk result (λ copy. copy ≡ binder_of home.now name.now) }

@@ -197,6 +197,7 @@ fn applied(
     }
 }
 
+// Why: docs/DECISIONS.md, "Places in expanded types".
 /// Returns the right side of a synonym with the arguments in place of its parameters, if it is within the limits.
 #[tactic(auto, using(crate::proofs::Expanded::all_filled))]
 pub fn filled(

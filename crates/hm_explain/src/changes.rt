@@ -230,6 +230,7 @@ fn add_of_pair(
     }
 }
 
+// Why: docs/DECISIONS.md, "Small changes".
 /// The changes that are tried at a part, the most telling ones first.
 pub(crate) fn changes_at(
     alloc: Global,

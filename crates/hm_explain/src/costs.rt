@@ -13,6 +13,7 @@ const COST_OF_TRIAL: usize = 1 << 12;
 /// A row of `:` is a tree as deep as the row is long, which takes longer to check than other sources.
 const COST_OF_COLON: usize = 1 << 5;
 
+// Why: docs/DECISIONS.md, "The cost of :".
 /// What a trial of a source costs.
 pub(crate) fn cost_of(source: &[u8], outline: &Outline) -> usize {
     let mut cost = source.len().saturating_add(COST_OF_TRIAL);
@@ -24,6 +25,7 @@ pub(crate) fn cost_of(source: &[u8], outline: &Outline) -> usize {
     cost
 }
 
+// Why: docs/DECISIONS.md, "Bounds of trials".
 /// What explanations may still cost.
 #[derive(Clone, Copy)]
 pub struct Effort {

@@ -41,6 +41,7 @@ pub(crate) fn is_mended_by(
     )
 }
 
+// Why: docs/DECISIONS.md, "Patterns".
 /// Appends what takes a pattern of a lambda away: `_` in place of it, and a hole for each of its variables in front of the body.
 fn add_open_pattern(
     edits: &mut Vec<Edit>,

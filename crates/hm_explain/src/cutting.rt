@@ -91,6 +91,7 @@ impl Writer {
     }
 }
 
+// Why: docs/DECISIONS.md, "A smaller source".
 /// The module that a definition stands in, with holes in place of other definitions; none if the definition stands in no module.
 pub(crate) fn cut_of(
     alloc: Global,

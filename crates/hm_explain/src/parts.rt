@@ -353,6 +353,7 @@ pub(crate) fn right_sides(
     finished(found, outline)
 }
 
+// Why: docs/DECISIONS.md, "Parts of a definition".
 /// The expressions that stand directly inside an expression.
 pub(crate) fn parts_below(
     alloc: Global,

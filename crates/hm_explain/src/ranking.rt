@@ -16,6 +16,7 @@ struct Suspect {
     points: usize,
 }
 
+// Why: docs/DECISIONS.md, "Points".
 /// How likely a part is to be the slip if no change of it gives the definition a type. A function comes behind its arguments, since any fault
 /// of these is gone with another function too. The numbers were found on slips in good modules; docs/DECISIONS.md says how.
 fn points_of(role: Role) -> usize {

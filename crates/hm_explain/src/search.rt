@@ -172,6 +172,7 @@ fn confirmed(
     }))
 }
 
+// Why: docs/DECISIONS.md, "Notes at type faults".
 /// A part of the definition that a type fault tells, such that the definition has a type with the hole in place of it: the likeliest of
 /// those that are found. `faults` are all faults of the module, and `effort` is less by what the search costs.
 ///

@@ -226,6 +226,7 @@ fn groups_with<'a>(
     Ok(groups)
 }
 
+// Why: docs/DECISIONS.md, "Repeated exports".
 /// Groups the bindings of a scope by their selectors.
 pub fn groups_of<'a>(
     alloc: Global,

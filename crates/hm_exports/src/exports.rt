@@ -248,6 +248,7 @@ fn add_item<'a>(
     }
 }
 
+// Why: docs/DECISIONS.md, "Place of an export clash".
 /// Returns the place of an item of the export list.
 fn item_place(item: &Export) -> Place
     ensures line { result.line ≡ (item_name item.now).line }

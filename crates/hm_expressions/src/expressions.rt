@@ -49,6 +49,7 @@ use hm_types::Ty;
 use hm_unify::UnifyFault;
 use indexmap::IndexMap;
 
+// Why: docs/DECISIONS.md, "State and context", "Constructors outside the state".
 /// A binding list that is checked: the known constructors, its declarations, its groups, and the
 /// declared types of its variables by their texts.
 #[derive(Clone, Copy)]
@@ -472,6 +473,7 @@ fn check_members<'a>(
     Ok(())
 }
 
+// Why: docs/DECISIONS.md, "Levels of groups", "A level is a number".
 /// Infers the schemes of a group of a list, and binds its names in the environment. Variables in
 /// the value of a variable older than the group aren't quantified.
 #[cycle(checking)]
@@ -522,6 +524,7 @@ pub fn infer_group<'a>(
     Ok(())
 }
 
+// Why: docs/DECISIONS.md, "Signed lists".
 /// Checks a clause of a variable with a signature against the declared type, with new rigid
 /// variables. Requires nothing of other declarations.
 #[cycle(checking)]

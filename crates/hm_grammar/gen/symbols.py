@@ -4,6 +4,7 @@ Run it in the crate's folder: python3 gen/symbols.py
 
 src/symbol.rt has the same symbols, in the same order, and finds the same texts by their first bytes.
 """
+# Why: docs/DECISIONS.md, "Generated files".
 
 SYMBOLS = "specs/Symbols.antt"
 

@@ -87,6 +87,7 @@ impl<'a> Numbers<'a> {
         }
     }
 
+    // Why: docs/DECISIONS.md, "Numbers of pattern bindings".
     /// Adds a variable, unless it is a node already.
     pub(crate) fn add(&mut self, name: &'a Name) -> Result<(), GroupFault>
         ensures added { OnOk result (self.new ≡ self.old ++ (Some (variable_of name.now)) ∷ []) }

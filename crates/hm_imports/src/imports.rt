@@ -142,6 +142,7 @@ fn add_name<'a>(
     }
 }
 
+// Why: docs/DECISIONS.md, "Import lists".
 /// Adds what an interface exports under names that a list has, without a walk over the interface.
 fn add_listed<'a>(
     pairs: &mut Vec<Binding<'a>>,

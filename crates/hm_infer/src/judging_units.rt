@@ -127,6 +127,7 @@ fn judge_each<'a>(
     Ok(())
 }
 
+// Why: docs/DECISIONS.md, "Units one by one".
 /// Judges the groups of a list in order, after the variables with signatures are bound. Returns
 /// which nodes are typed, and binds their names.
 pub(crate) fn judge_groups<'a>(

@@ -57,6 +57,7 @@ fn waiting_clauses(
     Ok(waiting)
 }
 
+// Why: docs/DECISIONS.md, "Bools".
 /// Returns whether a clause doesn't have the declared type of its variable, under closed
 /// assumptions. Leaves the assumptions as they were.
 fn is_refused<'a>(

@@ -16,6 +16,7 @@ use hm_syntax::{Decl, DeclKind, Name, Pat, PatKind, Row};
 use hm_types::Text;
 use std::alloc::{AllocError, Global};
 
+// Why: docs/DECISIONS.md, "Names of type faults".
 /// Returns the first variable of a pattern.
 #[cycle(first_variables)]
 #[tactic(auto, using(crate::proofs::FaultsTold::pattern_falls))]

@@ -109,6 +109,7 @@ fn counts_value(alloc: Global, errors: usize, skipped: usize) -> Result<Value, A
     json!(in alloc; {"errors": errors, "level": "end", "skipped": skipped})
 }
 
+// Why: docs/DECISIONS.md, "Objects by serde_json".
 /// Returns a value as a line.
 fn line_of(alloc: Global, value: &Value) -> Result<String, AllocError>
     requires { has_float (view value.now) ≡ false }

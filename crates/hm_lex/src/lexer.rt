@@ -77,6 +77,7 @@ fn has_one_line(kind: Kind) -> bool
     )
 }
 
+// Why: docs/DECISIONS.md, "Depth of brackets".
 /// Returns the depth of brackets after a text, or `None` if it would be above the limit.
 fn depth_after(depth: usize, text: &[u8]) -> Option<usize>
     requires { depth ≤ max_depth }

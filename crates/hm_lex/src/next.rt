@@ -19,6 +19,7 @@ pub(crate) enum Next {
     Nothing,
 }
 
+// Why: docs/DECISIONS.md, "A fault is a shape".
 /// Returns the longest item at the front of a text. The text must not be empty.
 pub(crate) fn next_item(bytes: &[u8]) -> Next
     requires { 0 < length bytes.now }

@@ -17,6 +17,7 @@ const MAX_CODE: u32 = 1_114_111;
 
 const SIMPLE_ESCAPES: &[u8] = b"abfnrtv\\\"'";
 
+// Why: docs/DECISIONS.md, "Surrogates".
 /// Returns whether the digits are the code of a character.
 fn is_code(digits: &[u8], base: u32) -> bool
     requires low { 2 ≤ base }

@@ -87,6 +87,7 @@ fn forget_all(depths: &mut HashMap<String, usize>, names: &[Name], depth: usize)
     }
 }
 
+// Why: docs/DECISIONS.md, "Local names".
 /// The local names at a place, in lists. Contracts see the innermost list first.
 ///
 /// A table has, for each text, the depth of the outermost list with this text. So the time of a look-up doesn't depend on nesting.

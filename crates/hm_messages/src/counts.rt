@@ -13,6 +13,7 @@ fn some_counts(alloc: Global, errors: usize, skipped: usize) -> Result<String, A
     format!(in alloc; "errors: {errors}, skipped modules: {skipped}\n")
 }
 
+// Why: docs/DECISIONS.md, "Counts".
 /// The counts for a reader: nothing where nothing is wrong.
 fn prose_counts(alloc: Global, errors: usize, skipped: usize) -> Result<String, AllocError>
     ensures { IfOk result (λ text. string_bytes text ≡ prose_bytes errors skipped) }
@@ -26,6 +27,7 @@ fn prose_counts(alloc: Global, errors: usize, skipped: usize) -> Result<String, 
     Ok(String::new(alloc))
 }
 
+// Why: docs/DECISIONS.md, "Counts where all is good".
 /// How many errors were told, and how many modules are skipped.
 pub fn count_text(
     alloc: Global,

@@ -68,6 +68,7 @@ pub(crate) fn kind_of(topic: &Topic<'_>) -> &'static str
     }
 }
 
+// Why: docs/DECISIONS.md, "Names of files".
 /// The name that a topic is about, if it is about one.
 pub(crate) fn name_in<'a>(topic: &Topic<'a>) -> Option<&'a str>
     ensures { option_map (λ name. name.now) result ≡ name_in (subject_of topic.now) }

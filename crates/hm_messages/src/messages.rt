@@ -15,6 +15,7 @@ use hm_excerpts::{add_excerpt, shown};
 use hm_lex::Place;
 use std::alloc::{AllocError, Global};
 
+// Why: docs/DECISIONS.md, "Messages without a place".
 /// Why there is no message.
 #[derive(Clone, Copy, Debug, PartialEq, Eq, Drop)]
 pub enum MessageFault {

@@ -337,6 +337,7 @@ fn plan_messages(
     }
 }
 
+// Why: docs/DECISIONS.md, "The source of a module".
 /// The headers of sources of which each could be read before.
 pub fn headers_in(alloc: Global, sources: &[Vec<u8>]) -> Result<Vec<Located>, MessageFault>
     ensures { IfOk result (λ located. AreLocated (map (λ s. s.items) sources.now) located.items) }

@@ -135,6 +135,7 @@ fn source_modules<T: Threads + Wait + Sync>(
     }
 }
 
+// Why: docs/DECISIONS.md, "Two calls for sets".
 /// Returns the modules and the plan of a set of sources, made by a pool, or by as many of its threads as can start.
 ///
 /// # Errors

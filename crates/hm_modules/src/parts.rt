@@ -23,6 +23,7 @@ impl<'a> Promise<Result<Vec<Module>, SetError>> for Part<'a> {
     ghost kept_by = { λ p r. IfOk r (λ modules. Follow (map (λ s. s.items) (take p.from p.sources.now)) (map (λ s. s.items) (take p.to p.sources.now)) modules.items) × IfErr r (FailsBehind (map (λ s. s.items) p.sources.now) (map (λ s. s.items) (take p.from p.sources.now))) };
 }
 
+// Why: docs/DECISIONS.md, "Parts of sources".
 /// Returns the end of a part that begins at this source and has at least this many bytes. If too few are left, returns the number of sources.
 pub(crate) fn part_end(sources: &[Vec<u8>], from: usize, bytes: usize) -> usize
     requires { from < length sources.now }

@@ -36,6 +36,7 @@ fn may_begin(text: &[u8], before: &Token, token: &Token) -> bool
         && symbol_of(token.kind, text_of(text, token)).is(Symbol::Module)
 }
 
+// Why: docs/DECISIONS.md, "A lone source".
 /// Returns the end of a run of at least `least` tokens: before the next module, or after the last token.
 pub(crate) fn run_end(run: Run<'_>, least: usize) -> usize
     requires { All (LiesIn run.text.now) run.tokens.now }

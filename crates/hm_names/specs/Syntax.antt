@@ -1,4 +1,5 @@
 -- Resolved trees as the syntax of inference: clauses are grouped into bindings, signatures are at their bindings, constructors are their types.
+-- Why: docs/DECISIONS.md, "Names of pattern bindings".
 use Rattle.std.specs.Prelude.{ℕ, suc, Bool, false, cond, ◌&&◌, ◌||◌, List, [], ◌∷◌, Option, None, Some}
 use Rattle.hm_types.specs.Schemes.{TypeScheme}
 use Rattle.hm_typing.specs.Programs.{monotype_of}

@@ -11,6 +11,7 @@ pub struct Exported {
     pub entity: Entity,
 }
 
+// Why: docs/DECISIONS.md, "Cores".
 /// A module with resolved names. In its trees, a qualified name is an entity: its module and its name there. A bare name is a local variable, a
 /// type variable or a special constructor. No type has a synonym.
 pub struct Core {

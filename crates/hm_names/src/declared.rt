@@ -13,6 +13,7 @@ use hm_syntax::TypeExpr;
 use hm_types::Ty;
 use std::alloc::{AllocError, Global};
 
+// Why: docs/DECISIONS.md, "Declared types".
 /// A declared type. Each variable has the number of the place where it occurs first. `count` is the number of places at which variables
 /// occur, so it is above all these numbers.
 #[derive(Drop)]

@@ -1,5 +1,6 @@
 //! Limits for the sizes of types.
 
+// Why: docs/DECISIONS.md, "Nodes of types".
 /// Limits for the types that the check of a module makes. Synonyms and inference can make types that are exponential in the size of the source.
 /// A type above a limit is refused like a failed allocation.
 #[derive(Clone, Copy)]

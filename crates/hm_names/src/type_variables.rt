@@ -85,6 +85,7 @@ fn texts_of<'a>(alloc: Global, names: &[&'a Name]) -> Result<Vec<&'a str>, Alloc
     Ok(texts)
 }
 
+// Why: docs/DECISIONS.md, "Numbers of declared types".
 /// Returns the first place of each text.
 fn first_places<'a>(
     alloc: Global,

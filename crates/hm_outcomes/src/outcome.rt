@@ -21,6 +21,7 @@ pub enum Verdict {
     Faulty(Row<Fault>),
 }
 
+// Why: docs/DECISIONS.md, "Outcomes".
 /// A module, the interfaces of its imports, and its verdict for these and Prelude's interface.
 pub struct Outcome {
     module: Arc<Module>,

@@ -10,6 +10,7 @@ ghost use Rattle.hm_types.specs.StandardPrelude.{in_prelude};
 use hm_types::{Entity, Head, Text, Ty, Types};
 use std::alloc::{AllocError, Global};
 
+// Why: docs/DECISIONS.md, "Prelude".
 /// A part of a type: one of the first three variables, or a type constructor.
 #[derive(Clone, Copy)]
 pub(crate) enum Part {

@@ -8,6 +8,7 @@ use crate::publication::Publication;
 use logbook::{Gain, Offer, Plain, Play, Rule, Seen, Start, Word};
 use std::marker::{Brand, Model, PhantomData};
 
+// Why: docs/DECISIONS.md, "Lawful lists".
 /// The rule of the list: the shared word is its length.
 pub struct Law;
 
@@ -55,6 +56,7 @@ impl Plain<Publication, Publication, u64> for Add {
     ghost state = { λ publication. None };
 }
 
+// Why: docs/DECISIONS.md, "Names of builds".
 /// The ghost name of a build: the list of its publications, its modules, and their import plan. Each build has its own.
 pub trait Naming {
     ghost use Rattle.std.specs.Prelude.{List, ℕ};

@@ -14,6 +14,7 @@ use std::marker::Model;
 use std::sync::Arc;
 use thiserror::Error;
 
+// Why: docs/DECISIONS.md, "NoEntry".
 /// Why a look-up fails. If several reasons apply, the first is returned.
 #[derive(Clone, Copy, Debug, Error, PartialEq, Eq)]
 pub enum LookFault {
@@ -34,6 +35,7 @@ pub struct Sight<J: Naming> {
     pub entries: usize,
 }
 
+// Why: docs/DECISIONS.md, "Two copies".
 /// The published interface of each module, with the list of the publications. Contracts see the list.
 #[derive(Drop)]
 pub struct Published<J: Naming> {

@@ -64,6 +64,7 @@ impl<J: Naming> Reader<J> {
         self.seen.beside(front);
     }
 
+    // Why: docs/DECISIONS.md, "Looks continue".
     /// Looks up the interface of a module. Never waits.
     ///
     /// # Errors

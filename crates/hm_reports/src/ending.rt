@@ -33,6 +33,7 @@ fn are_numbered(records: &[Record], workers: usize) -> bool
     records.len() == workers
 }
 
+// Why: docs/DECISIONS.md, "has_ended".
 /// Returns whether a build with this many workers finished. If so, its store wasn't stopped, each module is settled, and the workers' records
 /// agree with the journal and are in rounds.
 pub fn has_ended(

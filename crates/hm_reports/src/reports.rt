@@ -65,6 +65,7 @@ fn add_blamed<'a>(
     }
 }
 
+// Why: docs/DECISIONS.md, "Blame".
 /// Returns the names of the modules of a row that aren't published.
 fn unpublished<'a>(
     alloc: Global,

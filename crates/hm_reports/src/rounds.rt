@@ -41,6 +41,7 @@ fn after_check<'a>(plan: &Plan, number: usize, calls: &'a [Call]) -> Option<&'a 
     }
 }
 
+// Why: docs/DECISIONS.md, "The order of calls".
 /// Returns whether a worker made its calls in rounds. A worker without calls did.
 fn is_in_rounds(plan: &Plan, log: &Record) -> bool
     ensures { result ≡ true → IsInRounds plan.now log.now }

@@ -3,6 +3,7 @@
 //! The walk replaces each name by its entity, expands synonyms, and finds the faults of declaration lists, names and numbers of arguments.
 #![tactic(auto)]
 
+// Why: docs/DECISIONS.md, "or_drop!".
 /// Returns the value of a call, or returns its error after dropping the held values by calls. `?` would drop them inline, and the prover would
 /// check the steps of each drop again at its place.
 macro_rules! or_drop {

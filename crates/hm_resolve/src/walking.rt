@@ -24,6 +24,7 @@ pub struct Walked {
     pub faults: Vec<Fault>,
 }
 
+// Why: docs/DECISIONS.md, "One walk".
 /// Returns the faults in a module's trees, and its declarations with their names resolved.
 #[tactic(auto, using(hm_names::proofs::Standing::noted_somewhere))]
 pub fn walk(

@@ -86,6 +86,7 @@ pub struct Generalised {
     pub body: Ty,
 }
 
+// Why: docs/DECISIONS.md, "Generalising".
 /// Returns the scheme of a type under the solution. Variables in the values of the first `older`
 /// variables stay free.
 pub fn generalise(

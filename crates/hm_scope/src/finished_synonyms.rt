@@ -167,6 +167,7 @@ fn add_numbered<'a>(
     )?)
 }
 
+// Why: docs/DECISIONS.md, "Order of synonyms".
 /// Adds the synonyms with these numbers.
 fn add_in_order<'a>(
     alloc: Global,
@@ -193,6 +194,7 @@ pub(crate) struct DeclaredSynonyms<'r, 'a> {
     pub(crate) graph: &'r Digraph,
 }
 
+// Why: docs/DECISIONS.md, "Unused synonyms".
 /// Adds a module's synonyms, each after those on its right side. May omit synonyms of a module with faults.
 pub(crate) fn add_synonyms<'a>(
     alloc: Global,

@@ -234,6 +234,7 @@ fn tree_faults(alloc: Global, scoped: &ScopedModule<'_, '_>) -> Result<TreeFault
     faults_over(alloc, scoped, &own)
 }
 
+// Why: docs/DECISIONS.md, "Faults despite large synonyms".
 /// Returns the result of the phases after imports for a module whose synonyms were too large to expand. These are the faults of the first phase
 /// that has any, which don't depend on expansion. A module without faults is refused for lack of memory.
 fn answer_without_trees<'a>(
@@ -256,6 +257,7 @@ fn answer_without_trees<'a>(
     }
 }
 
+// Why: docs/DECISIONS.md, "Trees of faulty modules".
 /// Returns the result of the phases after imports for a module with these exports and trees.
 fn answer_with_trees<'a>(
     exports: ModuleExports<'a>,

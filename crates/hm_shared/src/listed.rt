@@ -80,6 +80,7 @@ impl<J: Naming> Listed<J> {
         self.store.claim(worker)
     }
 
+    // Why: docs/DECISIONS.md, "List before log".
     /// Publishes for look-ups, and then in the store.
     pub(crate) fn publish<R: Wait + Drop>(
         &mut self,

@@ -60,6 +60,7 @@ impl<L: Ledger + Naming> Pass<L> {
         })
     }
 
+    // Why: docs/DECISIONS.md, "Places of calls".
     /// Records a call that wrote an entry.
     #[tactic(auto, using(crate::proofs::Calls::rises_more, crate::proofs::Calls::knows_more, crate::proofs::Calls::wrote_more))]
     pub(crate) fn wrote(&mut self, book: &mut Book<L>, entries: usize, act: Act)
@@ -98,6 +99,7 @@ impl<L: Ledger + Naming> Pass<L> {
         self.room -= 1;
     }
 
+    // Why: docs/DECISIONS.md, "The longer list".
     /// Adds these publications to those that the pass has seen. Records nothing.
     pub(crate) fn learn(&mut self, front: &Front<L>)
         ensures kept { IsPrefix (seen_of self.old) (seen_of self.new) }
@@ -117,6 +119,7 @@ impl<L: Ledger + Naming> Pass<L> {
         self.reader.beside(front);
     }
 
+    // Why: docs/DECISIONS.md, "Methods of the pass".
     /// Looks up the interface of a module among the published ones: all that the pass has seen, and perhaps more. Returns `None` if the module
     /// isn't published there.
     ///

@@ -23,6 +23,7 @@ use std::alloc::Global;
 use std::sync::ledger::{Blank, Book, Ledger};
 use std::sync::{Condvar, Mutex, Wait};
 
+// Why: docs/DECISIONS.md, "What the lock keeps".
 /// The data behind the lock: the store with the list of its publications, the book that counts its entries, and the copies that look-ups read.
 #[derive(Drop)]
 pub struct Locked<L: Ledger + Naming, R: Wait + Drop>
@@ -43,6 +44,7 @@ pub struct Brands {
     pub opened: Opened,
 }
 
+// Why: docs/DECISIONS.md, "The lock's own crate".
 /// The store behind a lock, shared by the workers of a build.
 ///
 /// Each call takes the lock, and records itself in the worker's pass. Look-ups take no lock: they are calls of the pass alone.
@@ -295,6 +297,7 @@ impl<L: Ledger + Naming, R: Wait + Drop> Locked<L, R> {
     }
 }
 
+// Why: docs/DECISIONS.md, "meet".
 /// Shows the pass all publications of the store. This ends each hold of the lock, and records nothing.
 pub fn meet<L: Ledger + Naming, R: Wait + Drop>(locked: &mut Locked<L, R>, pass: &mut Pass<L>)
     ensures kept { IsPrefix (seen_of pass.old) (seen_of pass.new) }
@@ -310,6 +313,7 @@ pub fn meet<L: Ledger + Naming, R: Wait + Drop>(locked: &mut Locked<L, R>, pass:
 }
 
 impl<L: Ledger + Naming, R: Wait + Drop> Shared<L, R> {
+    // Why: docs/DECISIONS.md, "Sums".
     /// Returns the store behind a lock, and a pass for each worker.
     ///
     /// # Errors

@@ -4,6 +4,7 @@ use hm_lex::LexFault;
 use hm_parse::ParseFault;
 use std::marker::Model;
 
+// Why: docs/DECISIONS.md, "SetFault".
 /// Why a set of sources is refused. Running out of memory isn't such a reason.
 #[derive(Debug, Drop)]
 pub struct SetFault {

@@ -14,6 +14,7 @@ use std::alloc::Global;
 use std::io::{Read, Write};
 use std::thread::Threads;
 
+// Why: docs/DECISIONS.md, "Plans from whole modules".
 /// Reads the sources, and writes the text of their plan, or the line that refuses them.
 ///
 /// # Errors

@@ -217,6 +217,7 @@ pub fn planned(alloc: Global, modules: Vec<Module>) -> Result<(Vec<Module>, Plan
     }
 }
 
+// Why: docs/DECISIONS.md, "Order of faults".
 /// Returns the modules and the plan of a set of sources.
 ///
 /// # Errors

@@ -33,6 +33,7 @@ pub struct Nesting {
 }
 
 impl Nesting {
+    // Why: docs/DECISIONS.md, "Levels of nesting".
     /// Measures sources, in one pass over their bytes.
     pub fn of(sources: &[Vec<u8>]) -> Nesting {
         let mut levels = 0;
@@ -54,6 +55,7 @@ impl Nesting {
         self.longest
     }
 
+    // Why: docs/DECISIONS.md, "Fixed parts".
     /// Returns the bytes of stack for a thread that works on the sources.
     pub fn stack_size(self) -> usize {
         self.levels

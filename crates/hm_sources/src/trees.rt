@@ -1,5 +1,6 @@
 //! Whether a run drops its trees.
 
+// Why: docs/DECISIONS.md, "Trees that are left".
 /// What a run does with the trees of its modules after it has its text.
 #[derive(Clone, Copy, Debug, PartialEq, Eq)]
 pub enum Trees {

@@ -37,6 +37,7 @@ fn drop_in_parts<T: Drop + Send, R: Threads + Wait + Sync>(
     })
 }
 
+// Why: docs/DECISIONS.md, "Dropping".
 /// Drops a build. Up to `threads` threads with stacks of this size drop its trees. If memory runs out, this thread drops all.
 pub fn drop_by_threads<R: Threads + Wait + Sync>(
     rt: &R,

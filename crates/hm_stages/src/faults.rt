@@ -4,6 +4,7 @@ use hm_sources::SetFault;
 use std::alloc::AllocError;
 use thiserror::Error;
 
+// Why: docs/DECISIONS.md, "The module without memory".
 /// Why a build fails.
 #[derive(Debug, Drop, Error)]
 pub enum BuildFault {

@@ -8,6 +8,7 @@ use hm_store::{Record, Store};
 use hm_syntax::Module;
 use std::sync::Arc;
 
+// Why: docs/DECISIONS.md, "Finished builds".
 /// A finished build. The type guarantees that each module is settled, that the build wasn't stopped, and that the records agree with the
 /// journal.
 #[derive(Drop)]

@@ -8,6 +8,7 @@ use hm_reports::has_ended;
 use hm_store::{Record, Store};
 use std::alloc::Global;
 
+// Why: docs/DECISIONS.md, "No comparison of modules".
 /// Returns the finished build.
 ///
 /// # Errors

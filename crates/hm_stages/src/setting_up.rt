@@ -109,6 +109,7 @@ pub fn read<T: Threads + Wait + Sync>(
     }
 }
 
+// Why: docs/DECISIONS.md, "Room in advance".
 /// Returns the number of calls that a worker may make, at most 2^40.
 pub fn room_for(imports: &[Vec<usize>]) -> usize
     ensures { result ≡ min (room_of (map (λ row. row.items) imports.now)) (2 ^ 40) }

@@ -46,6 +46,7 @@ impl Status {
     }
 }
 
+// Why: docs/DECISIONS.md, "Journal without interfaces".
 /// An entry of the journal: one step by a worker. Workers and modules are numbered from 0.
 #[derive(Clone, Copy, Debug, PartialEq, Eq)]
 pub enum Entry {

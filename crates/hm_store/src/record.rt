@@ -24,6 +24,7 @@ pub enum Act {
     Look(usize, Option<Arc<Interface>>),
 }
 
+// Why: docs/DECISIONS.md, "Records".
 /// A call, with the number of journal entries after which it got its reply.
 #[derive(Drop)]
 pub struct Call {
@@ -31,6 +32,7 @@ pub struct Call {
     pub act: Act,
 }
 
+// Why: docs/DECISIONS.md, "Records are plain data".
 /// The calls of a worker that returned, in order.
 pub struct Record {
     pub worker: usize,

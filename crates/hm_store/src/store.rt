@@ -187,6 +187,7 @@ impl Store {
         Some(self.outcomes[number].as_ref()?.verdict())
     }
 
+    // Why: docs/DECISIONS.md, "Ready modules".
     /// Claims the least waiting module whose imports are all published.
     pub fn claim(&mut self, worker: usize) -> Claimed
         ensures reply { result ≡ reply_of self.old.given (state_of self.old) }
@@ -209,6 +210,7 @@ impl Store {
         Claimed::Job(number)
     }
 
+    // Why: docs/DECISIONS.md, "By value".
     /// Publishes the interface of a module that this worker has claimed. The outcome must be good.
     ///
     /// # Errors
@@ -233,6 +235,7 @@ impl Store {
         }
     }
 
+    // Why: docs/DECISIONS.md, "Calls for the lock alone".
     /// Publishes the interface of a module for which `refusal` returns `None`. Doesn't compare the trees again.
     pub fn publish_fitting(&mut self, worker: usize, number: usize, outcome: Outcome)
         requires good { IsGood outcome.verdict }
@@ -255,6 +258,7 @@ impl Store {
         });
     }
 
+    // Why: docs/DECISIONS.md, "Failures".
     /// Fails a module that this worker has claimed, and skips the modules that depend on it. The outcome must be faulty.
     ///
     /// # Errors

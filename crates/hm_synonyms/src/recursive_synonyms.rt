@@ -50,6 +50,7 @@ fn add_recursive(
     }
 }
 
+// Why: docs/DECISIONS.md, "Recursive synonyms".
 /// Returns the faults of recursive synonyms.
 pub fn synonym_faults(
     alloc: Global,

@@ -12,6 +12,7 @@ its leaves, and one code of binary trees serves for all. For each family T of tr
 
 and `coded_T`, made of these three, unless T is a list, which no Rust type is seen as.
 """
+# Why: docs/DECISIONS.md, "Generated files".
 
 from dataclasses import dataclass, field
 

@@ -11,6 +11,7 @@ use hm_texts::Text;
 use std::alloc::AllocError;
 use std::marker::Model;
 
+// Why: docs/DECISIONS.md, "Places in trees".
 /// A name as it is written, with the place of its first byte.
 pub struct Name {
     /// The part before the last dot. The name of a module has none: its whole text is in `text`.
@@ -21,6 +22,7 @@ pub struct Name {
 }
 
 impl Drop for Name {
+    // Why: docs/DECISIONS.md, "Drops".
     fn drop(self) {
         let Name {
             qualifier: _qualifier,
@@ -214,6 +216,7 @@ impl Model for Pat {
     ghost size_decreases = { λ a h. pattern_smaller a.kind };
 }
 
+// Why: docs/DECISIONS.md, "Models".
 /// An expression (Report, section 3).
 #[derive(Drop)]
 #[cycle(exprs)]
@@ -272,6 +275,7 @@ pub struct Alt {
     pub rhs: Rhs,
 }
 
+// Why: docs/DECISIONS.md, "Right sides".
 /// The right side of a clause or an alternative (Report, sections 3.13 and 4.4.3).
 #[cycle(exprs)]
 pub struct Rhs {
@@ -291,6 +295,7 @@ impl Drop for Rhs {
     }
 }
 
+// Why: docs/DECISIONS.md, "Declarations".
 /// A declaration (Report, section 4).
 #[derive(Drop)]
 #[cycle(exprs)]
@@ -456,6 +461,7 @@ impl Model for Decl {
     ghost size_decreases = { λ a h. declaration_smaller a.kind };
 }
 
+// Why: docs/DECISIONS.md, "Lists and texts".
 /// A row of things. Contracts see a list.
 #[derive(Drop)]
 pub struct Row<T> {

@@ -8,6 +8,7 @@ use crate::bindings::EntityRef;
 use hm_names::Namespace;
 use std::hash::{Hash, Hasher};
 
+// Why: docs/DECISIONS.md, "Hashes".
 /// A name, bare or qualified, in a namespace.
 #[derive(Clone, Copy, PartialEq, Eq)]
 pub struct Key<'a> {

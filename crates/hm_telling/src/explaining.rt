@@ -137,6 +137,7 @@ fn blame_message(
     }
 }
 
+// Why: docs/DECISIONS.md, "Notes of skipped modules".
 /// The messages of the imports that a module is skipped for.
 fn blame_messages(
     alloc: Global,

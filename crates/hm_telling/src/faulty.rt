@@ -42,6 +42,7 @@ fn part_for(
     }
 }
 
+// Why: docs/DECISIONS.md, "Memory in a trial".
 /// The note of a fault, or nothing.
 fn note_for(
     alloc: Global,

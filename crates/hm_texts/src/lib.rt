@@ -12,6 +12,7 @@ use std::marker::Model;
 use std::sync::ArcStr;
 pub use tables::TextTable;
 
+// Why: docs/DECISIONS.md, "Shared texts".
 /// A name, or a part of one. Contracts see its bytes.
 pub struct Text {
     text: ArcStr,

@@ -10,6 +10,7 @@ use std::collections::HashMap;
 /// A table with more texts than this is replaced instead of cleared, because clearing a large table takes long.
 const MOST_CLEARED: usize = 1024;
 
+// Why: docs/DECISIONS.md, "Texts of names".
 /// The texts that were made so far, by their bytes in a source.
 ///
 /// A found text is compared with the bytes that are looked up, so no contract depends on the contents of the table.

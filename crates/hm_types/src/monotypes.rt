@@ -10,6 +10,7 @@ use crate::Head;
 use std::alloc::{AllocError, Global};
 use std::marker::Model;
 
+// Why: docs/DECISIONS.md, "One generic type", "No arena".
 /// A type: a variable, by number; a rigid variable, which is an unknown type that equals only itself; or a type
 /// constructor with its arguments.
 #[cycle(ty)]
@@ -20,6 +21,7 @@ pub enum Ty {
     App(Head, Types),
 }
 
+// Why: docs/DECISIONS.md, "Small types".
 /// The arguments of a type constructor. Contracts see a list of types.
 #[cycle(ty)]
 #[derive(Drop)]

@@ -1,4 +1,5 @@
 -- Assignments of closed schemes to the top-level variables of a set of modules (Report 5: modules share entities; Damas and Milner 1982, section 5: principal).
+-- Why: docs/DECISIONS.md, "Principal schemes".
 use Rattle.std.specs.Prelude.{◌≡◌, ℕ, List}
 use Rattle.hm_typing.specs.Names.{Identifier, IsOneOf}
 use Rattle.hm_typing.specs.Schemes.{Monotype, IsAtMostAsGeneral, closed}

@@ -1,4 +1,5 @@
 -- The typing of a binding list (Report 4.5.2, over the units of specs/Units).
+-- Why: docs/DECISIONS.md, "Duplicates", "Free variables".
 use Rattle.hm_typing.specs.Names.{Identifier, IsOneOf}
 use Rattle.hm_typing.specs.Schemes.{Scheme, IsAtMostAsGeneral}
 use Rattle.hm_typing.specs.Assumptions.{Assumptions}

@@ -1,5 +1,6 @@
 -- Resolved names (Report 5.5.1): a local binding, by its text, which means the innermost one with that text; or an entity.
 -- Each pattern binding has a name too: its module and its number there. No source can mention it.
+-- Why: docs/DECISIONS.md, "Names".
 use Rattle.std.specs.Prelude.{◌≡◌, ℕ, List, [], ◌∷◌, ◌⊎◌}
 use Rattle.hm_types.specs.declared.Entity.{Entity}
 

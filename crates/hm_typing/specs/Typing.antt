@@ -1,5 +1,6 @@
 -- The typing relation (Damas and Milner 1982, section 5, for the expressions of Report 3 and the bindings of Report 4.4 and 4.5).
 -- It guesses all types.
+-- Why: docs/DECISIONS.md, "Guessed types".
 use Rattle.std.specs.Prelude.{◌≡◌, ℕ, suc, Bool}
 use Rattle.hm_types.specs.Types.{Var, In, put}
 use Rattle.hm_typing.specs.Names.{Identifier, IsOneOf}

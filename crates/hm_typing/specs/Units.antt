@@ -1,4 +1,5 @@
 -- Binding units: the dependency analysis of Report 4.5.1. It leaves out references through signed bindings, which the Report doesn't.
+-- Why: docs/DECISIONS.md, "Signed names".
 use Rattle.std.specs.Prelude.{◌≡◌, Bool, cond, ◌⊎◌}
 use Rattle.std.specs.Bool.{Decides}
 use Rattle.hm_typing.specs.Names.{Identifier, IsOneOf, IsDistinct}

@@ -1,4 +1,5 @@
 -- Verdicts: the units of a module that are type faults under its assumptions, and the modules of a set that are good, skipped or faulty.
+-- Why: docs/DECISIONS.md, "Well-formedness", "Decidable units".
 use Rattle.std.specs.Prelude.{◌≡◌, ℕ, List, [], ◌∷◌, ◌⊎◌, ◌↔◌, ◌<◌}
 use Rattle.hm_types.specs.Types.{In}
 use Rattle.hm_typing.specs.Names.{Identifier, IsOneOf}

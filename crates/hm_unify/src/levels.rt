@@ -16,6 +16,7 @@ struct Change {
     level: usize,
 }
 
+// Why: docs/DECISIONS.md, "Levels of variables".
 /// A level for each number: the number itself, unless the table has a lower one. Keeps the changes
 /// since the last `keep`, so that they can be undone.
 #[derive(Drop)]

@@ -8,6 +8,7 @@ ghost use Rattle.hm_variables.specs.Hashed.{same_writes, writes_of};
 use hm_syntax::Name;
 use std::hash::{Hash, Hasher};
 
+// Why: docs/DECISIONS.md, "Hashes".
 /// A variable, by its qualifier and text, borrowed from a tree.
 #[derive(Clone, Copy, Debug, PartialEq, Eq)]
 pub struct LentName<'a> {

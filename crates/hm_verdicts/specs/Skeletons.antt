@@ -1,4 +1,5 @@
 -- Names and arities of a set, which don't depend on the schemes of variables: the exports of each module without these schemes (Report 5.2).
+-- Why: docs/DECISIONS.md, "Skeletons".
 use Rattle.std.specs.Prelude.{ℕ, List, [], ◌∷◌, map, Some}
 use Rattle.hm_types.specs.declared.entries.ValueEntry.{ValueEntry}
 use Rattle.hm_types.specs.Interfaces.{Exports as Interface, IsInterface}

@@ -158,6 +158,7 @@ fn workers(matches: &ArgMatches<'_>) -> usize
         .clamp(1, MOST_WORKERS)
 }
 
+// Why: docs/DECISIONS.md, "Version".
 /// Parses the words of a command line. The first is the program's name.
 ///
 /// # Errors
