@@ -48,14 +48,9 @@ STUMBLES = [(re.compile(rf"\b(?:{words})\b", re.I), advice) for words, advice in
 TERMS = {"docs/PROVING.md": {"answers"}}
 # Crates with comments that aren't searched yet.
 UNSEARCHED = {
-    "hm_advice",
-    "hm_assumptions",
     "hm_details",
     "hm_explain",
-    "hm_hints",
-    "hm_imports",
     "hm_messages",
-    "hm_tables",
     "hm_telling",
 }
 STARTS = re.compile(r"^(?:Where|What|Of|That (?:an?|the|it|this|these|those|each|no|both|all|such)) ")

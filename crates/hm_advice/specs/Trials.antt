@@ -1,4 +1,4 @@
--- The mark whose token a trial puts in; where nothing is put in, some mark.
+-- The mark whose token a trial puts in, or `}` if it puts none in.
 use Rattle.hm_hints.specs.declared.change.Change.{Change}
 use Rattle.hm_hints.specs.declared.change.Change.TheVariants.{Insert, Replace, Remove}
 use Rattle.hm_hints.specs.declared.mark.Mark.{Mark}

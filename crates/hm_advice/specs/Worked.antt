@@ -1,4 +1,4 @@
--- Worked hints and changes, and what is said of them.
+-- Worked examples of hints and changes.
 use Rattle.std.specs.Prelude.{List, ℕ, [], ◌∷◌, codes}
 use Rattle.hm_lex.specs.declared.token.Token.{Token}
 use Rattle.hm_grammar.specs.declared.symbol.Symbol.{Symbol}
@@ -17,7 +17,7 @@ use Rattle.hm_hints.specs.declared.syntax_hints.SyntaxHint.TheVariants.{NoBrace,
 abbrev pub brackets : List Symbol
 brackets = LeftBrace ∷ Open ∷ Close ∷ OpenSquare ∷ Var ∷ []
 
--- The square bracket is the innermost open one. The brace is open around it, and the round bracket is closed
+-- the square bracket is the innermost open one. The brace is open around it, and the round bracket is closed
 pub record BracketsRow : Type 0 where
   pub innermost : IsInnermost brackets 3
   pub around : ¬ (IsInnermost brackets 0)
@@ -27,8 +27,8 @@ pub record BracketsRow : Type 0 where
 abbrev pub head : List Symbol
 head = Module ∷ Con ∷ Where ∷ []
 
--- A name after `where` has no brace before it, and a brace there needs none. A brace after a small name is that of a record update, and one
--- after `where` is not. A `;` leaves the square bracket open, and a `]` closes it
+-- a name after `where` has no brace before it, and a brace there needs none. A brace after a small name is that of a record update, and one
+-- after `where` isn't. A `;` leaves the square bracket open, and a `]` closes it
 pub record FactsRow : Type 0 where
   pub layout : IsSyntaxHint head Var (codes "x") NoBrace
   pub brace : ¬ (IsSyntaxHint head LeftBrace (codes "{") NoBrace)
@@ -40,7 +40,7 @@ pub record FactsRow : Type 0 where
 abbrev pub without_first : Repair
 without_first = record { at = 0; change = Remove; scope = Whole }
 
--- Without its one token a source that is a lone `}` can be read. With two of them one is left, and no module is spelled
+-- a source that is a lone `}` can be read without its one token. If there are two of them, one is left, and it spells no module
 pub record ChangesRow : Type 0 where
   pub lone : (t : Token) → IsMarkIn (codes "}") RightBrace t → IsRepair (codes "}") (t ∷ []) without_first
   pub two : (t : Token) → IsMarkIn (codes "}") RightBrace t → ¬ (IsRepair (codes "}") (t ∷ t ∷ []) without_first)

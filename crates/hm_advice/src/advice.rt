@@ -1,4 +1,4 @@
-//! What is said of a fault of syntax.
+//! The advice for a fault of syntax.
 ghost use Rattle.std.specs.Prelude.{◌≡◌, ◌≤◌, All, IfOk, length, map, take};
 ghost use Rattle.hm_lex.specs.Texts.{LiesIn};
 ghost use Rattle.hm_hints.specs.SyntaxHints.{IsSyntaxHint};
@@ -10,7 +10,7 @@ use hm_hints::{Advice, Change, Mark, Repair, SyntaxHint, syntax_hint};
 use hm_lex::{Place, Token, lex};
 use std::alloc::{AllocError, Global};
 
-/// The number of the token at a place; that of all tokens where there is none.
+/// Returns the number of the token at a place, or the number of tokens if there is none.
 fn number_at(tokens: &[Token], place: Place) -> usize
     ensures { IsAt tokens.now place result }
 {
@@ -22,7 +22,7 @@ fn number_at(tokens: &[Token], place: Place) -> usize
     tokens.len()
 }
 
-/// What the tokens of a source are to the grammar.
+/// Returns the symbols of the tokens of a source.
 fn symbols_before(alloc: Global, source: &[u8], tokens: &[Token]) -> Result<Vec<Symbol>, AllocError>
     requires { All (LiesIn source.now) tokens.now }
     ensures { IfOk result (λ symbols. symbols.items ≡ map (symbol_in source.now) tokens.now) }
@@ -34,7 +34,7 @@ fn symbols_before(alloc: Global, source: &[u8], tokens: &[Token]) -> Result<Vec<
     Ok(symbols)
 }
 
-/// What the token with this number is to the grammar.
+/// Returns the symbol of the token with this number, or `End` if there is none.
 #[tactic(auto, using(crate::proofs::Numbered::symbol_past, crate::proofs::Numbered::symbol_found))]
 fn symbol_at(source: &[u8], tokens: &[Token], number: usize) -> Symbol
     requires { All (LiesIn source.now) tokens.now }
@@ -47,7 +47,7 @@ fn symbol_at(source: &[u8], tokens: &[Token], number: usize) -> Symbol
     symbol_of(token.kind, text_of(source, token))
 }
 
-/// The text of the token with this number.
+/// Returns the text of the token with this number, or no text if there is none.
 #[tactic(auto, using(crate::proofs::Numbered::text_past, crate::proofs::Numbered::text_found))]
 fn text_at<'a>(source: &'a [u8], tokens: &[Token], number: usize) -> &'a str
     requires { All (LiesIn source.now) tokens.now }
@@ -63,7 +63,7 @@ fn text_at<'a>(source: &'a [u8], tokens: &[Token], number: usize) -> &'a str
     }
 }
 
-/// The number of the token that a hint at this one is about.
+/// Returns the number of the token that a hint at this one is about.
 fn about(hint: SyntaxHint, number: usize) -> usize
     ensures { result ≡ about hint number }
 {
@@ -73,7 +73,7 @@ fn about(hint: SyntaxHint, number: usize) -> usize
     }
 }
 
-/// What is so at the token with this number.
+/// Returns a fact about the token with this number.
 fn fact_at(
     alloc: Global,
     source: &[u8],
@@ -91,13 +91,13 @@ fn fact_at(
     Ok(syntax_hint(before.as_slice(), here, text.as_bytes()))
 }
 
-/// Whether what is so says more than a change: a `where` before the brace of a record update could be read too.
+/// Returns whether a fact says more than a change. It does if the change puts `where` before the brace of a record update.
 fn says_more(fact: SyntaxHint, number: usize, repair: Repair) -> bool {
     let puts_where = repair.at == number && repair.change == Change::Insert(Mark::Where);
     puts_where && fact == SyntaxHint::Update
 }
 
-/// The hint at the token with this number: what is so there, or a change with which the source can be read.
+/// Returns the hint at the token with this number: a fact about it, or a change with which the source can be read.
 #[tactic(auto, using(crate::proofs::Facts::so_of_fact))]
 fn hint_at(
     alloc: Global,
@@ -122,7 +122,7 @@ fn hint_at(
     Ok(SyntaxHint::Repaired(repair))
 }
 
-/// Returns what is said of a fault of syntax at a place of a source that has tokens.
+/// Returns the advice for a fault of syntax at a place of a source that has tokens.
 ///
 /// # Errors
 ///

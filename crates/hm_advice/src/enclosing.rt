@@ -1,4 +1,4 @@
-//! The declaration that a token is in. Nothing is claimed of it but that looking for it ends: a trial alone decides what can be read.
+//! Finds the declaration that a token is in. It is proved only that the search ends, because a trial alone decides what can be read.
 ghost use Rattle.std.specs.Prelude.{All};
 ghost use Rattle.hm_lex.specs.Texts.{LiesIn};
 
@@ -7,7 +7,7 @@ use hm_hints::{Range, Scope};
 use hm_lex::Token;
 use std::alloc::{AllocError, Global};
 
-/// What each token is to the grammar.
+/// Returns the symbols of tokens.
 pub(crate) fn symbols_of(
     alloc: Global,
     source: &[u8],
@@ -22,7 +22,7 @@ pub(crate) fn symbols_of(
     Ok(symbols)
 }
 
-/// The last `module` before a token with which a module may begin: the first token, or one behind a `}`.
+/// Returns the number of the token with which the module of a fault begins: the last `module` before it that follows a `}`, else the first token.
 fn module_start(symbols: &[Symbol], fault: usize) -> usize {
     let mut start = 0;
     for at in 1..fault.min(symbols.len()) {
@@ -33,7 +33,7 @@ fn module_start(symbols: &[Symbol], fault: usize) -> usize {
     start
 }
 
-/// How a bracket changes the number of open braces.
+/// Returns the number of open braces after a symbol.
 fn depth_behind(depth: usize, symbol: Symbol) -> usize {
     match symbol {
         Symbol::LeftBrace => depth.saturating_add(1),
@@ -42,7 +42,7 @@ fn depth_behind(depth: usize, symbol: Symbol) -> usize {
     }
 }
 
-/// Where the declaration ends that begins here: at its `;`, or at the `}` of its module.
+/// Returns where the declaration that begins here ends: at its `;`, or at the `}` of its module.
 fn body_end(symbols: &[Symbol], start: usize, fault: usize) -> usize {
     let mut depth = 0usize;
     for at in start..symbols.len() {
@@ -60,7 +60,7 @@ fn body_end(symbols: &[Symbol], start: usize, fault: usize) -> usize {
     symbols.len()
 }
 
-/// The declaration of a module that the token with this number is in, with the header of the module up to its `{`.
+/// Returns the declaration that the token with this number is in, with the header of its module up to the `{`.
 pub(crate) fn declaration_at(symbols: &[Symbol], fault: usize) -> Option<Scope> {
     let first = module_start(symbols, fault);
     let mut depth = 0usize;

@@ -1,7 +1,7 @@
-//! Worked examples: functions with empty bodies, whose contracts say what holds of them.
+//! Worked examples: functions with empty bodies, whose contracts have the facts.
 ghost use Rattle.hm_advice.specs.Worked.{BracketsRow, ChangesRow, FactsRow};
 
-/// Which brackets are open in worked symbols, and which facts hold at a token after them.
+/// The open brackets of worked symbols, and the facts that hold at a token after them.
 #[tactic(auto, using(crate::proofs::WorkedHints::worked_brackets, crate::proofs::WorkedHints::worked_facts))]
 pub fn worked_hints()
     ensures brackets { BracketsRow }

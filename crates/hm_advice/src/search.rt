@@ -1,4 +1,4 @@
-//! The search for a change with which a source can be read.
+//! Searches for a change with which a source can be read.
 ghost use Rattle.std.specs.Prelude.{All, IfOk, IfSome};
 ghost use Rattle.hm_lex.specs.Texts.{LiesIn};
 ghost use Rattle.hm_hints.specs.Repairs.{IsRepair};
@@ -64,24 +64,24 @@ const BEFORE_FAULT: [Mark; 18] = [
     Mark::Semicolon,
 ];
 
-/// At how many tokens before a fault marks are put in.
+/// The number of tokens before a fault at which marks are put in.
 const MOST_BEFORE: usize = 40;
 
-/// At how many beginnings of lines before a fault a `;` is put in.
+/// The number of beginnings of lines before a fault at which a `;` is put in.
 const MOST_LINES: usize = 4;
 
-/// The longest source in which a change is looked for, in bytes. A change can join parts of a source, so that it nests deeper
-/// than the stack was made for; the stack of such a source has room for twice its depth.
+/// The most bytes of a source in which a change is searched. A change can join parts of a source, so that it nests deeper than the source.
+/// The stack for a source of at most this length has room for twice its depth.
 const LONGEST: usize = 1 << 17;
 
-/// What the trials of one search may cost with a declaration, and what they may cost with all tokens. It bounds their time: a
-/// source of any form takes less than half a second.
+/// The most that the trials of one search may cost with a declaration, and also with all tokens. It bounds their time to less than half a
+/// second for any source.
 const MOST_COST: usize = 1 << 22;
 
-/// What a token that is read costs.
+/// The cost of reading a token.
 const COST_OF_TOKEN: usize = 16;
 
-/// How many bytes of the source are copied at a cost of one.
+/// The number of bytes of the source that are copied at a cost of one.
 const BYTES_PER_COST: usize = 16;
 
 /// A change of the token with this number.
@@ -91,7 +91,7 @@ struct Candidate {
     change: Change,
 }
 
-/// The brackets that are open behind the first tokens, the innermost last.
+/// Returns the brackets that are open before a fault, the innermost last.
 fn open_brackets(
     alloc: Global,
     symbols: &[Symbol],
@@ -110,7 +110,7 @@ fn open_brackets(
     Ok(open)
 }
 
-/// The mark that closes a bracket.
+/// Returns the mark that closes a bracket.
 fn closing(bracket: Symbol) -> Mark {
     match bracket {
         Symbol::Open => Mark::Close,
@@ -119,7 +119,7 @@ fn closing(bracket: Symbol) -> Mark {
     }
 }
 
-/// The bracket that a symbol closes.
+/// Returns the bracket that a symbol closes, if it closes one.
 fn opening(symbol: Symbol) -> Option<Symbol> {
     match symbol {
         Symbol::Close => Some(Symbol::Open),
@@ -129,7 +129,7 @@ fn opening(symbol: Symbol) -> Option<Symbol> {
     }
 }
 
-/// Whether the symbol at a fault closes a bracket of which none is open.
+/// Returns whether the symbol at a fault closes a bracket, and none of its kind is open.
 fn is_unopened(open: &[Symbol], symbols: &[Symbol], fault: usize) -> bool {
     let Some(here) = symbols.get(fault) else {
         return false;
@@ -194,7 +194,7 @@ fn add_before_fault(found: &mut Vec<Candidate>, fault: usize) -> Result<(), Allo
     Ok(())
 }
 
-/// The changes that are tried at a fault, the likeliest first.
+/// Returns the changes to try at a fault, the likeliest first.
 fn candidates(
     alloc: Global,
     tokens: &[Token],
@@ -220,7 +220,7 @@ fn candidates(
     Ok(found)
 }
 
-/// What a trial costs.
+/// Returns the cost of a trial.
 fn cost_of(source: &[u8], tokens: &[Token], scope: Scope) -> usize {
     let read = match scope {
         Scope::Whole => tokens.len(),
@@ -233,7 +233,7 @@ fn cost_of(source: &[u8], tokens: &[Token], scope: Scope) -> usize {
         .saturating_add(source.len() / BYTES_PER_COST)
 }
 
-/// Tries a change, if what is left pays for it.
+/// Tries a change, if its cost is at most `left`, and takes the cost off. Returns the change if the tokens can be read with it.
 fn tried(
     alloc: Global,
     source: &[u8],
@@ -254,7 +254,7 @@ fn tried(
     Ok(None)
 }
 
-/// The first of these changes with which this part of the tokens, if there is one, or all of them can be read.
+/// Returns the first of these changes with which the given part of the tokens, or all of them, can be read.
 fn first_read(
     alloc: Global,
     source: &[u8],
@@ -287,10 +287,11 @@ fn first_read(
 }
 
 // Why: docs/DECISIONS.md, "Hints by the parser".
-/// A change with which a source can be read that can't be read as it is: the token with the number `fault` is the first with
-/// which no source begins, and that of the end is the number of all tokens. The declaration that the fault is in is tried first
-/// by itself, so a change is found there too if other declarations have faults. None if no change that is tried serves, and for a
-/// source of more than 131,072 bytes.
+/// Returns a change with which a source that has a fault of syntax, or one declaration of it, can be read.
+///
+/// `fault` is the number of the first token with which no source begins, or the number of tokens at the end of the source. Each change is
+/// tried first in the declaration with the fault alone, so other declarations may have faults too. Returns `None` if none of the tried
+/// changes works, and for a source of more than 131,072 bytes.
 pub fn repair_at(
     alloc: Global,
     source: &[u8],

@@ -1,4 +1,4 @@
-//! A trial: whether the tokens of a source, or of a part of it, can be read after a change.
+//! Trials: checks whether the tokens of a source, or of a part of it, can be read after a change.
 ghost use Rattle.std.specs.Prelude.{◌≡◌, ◌≤◌, ◌<◌, ◌++◌, ℕ, List, All, IfOk, IfSome, OnOk, drop, length, true};
 ghost use Rattle.hm_lex.specs.Texts.{LiesIn};
 ghost use Rattle.hm_advice.specs.Trials.{mark_of};
@@ -25,7 +25,7 @@ fn mark_token(text: &mut Vec<u8>, mark: Mark) -> Result<Token, AllocError>
     })
 }
 
-/// The mark that a change puts in.
+/// Returns the mark that a change puts in, or `}` if it puts none in.
 fn mark_of(change: Change) -> Mark
     ensures { result ≡ mark_of change }
 {
@@ -36,7 +36,7 @@ fn mark_of(change: Change) -> Mark
     }
 }
 
-/// All tokens but the first.
+/// Returns all tokens except the first.
 fn rest_of(tokens: &[Token]) -> &[Token]
     ensures { result.now ≡ drop 1 tokens.now }
 {
@@ -74,14 +74,14 @@ fn add_changed(
     Ok(())
 }
 
-/// Whether a range lies within so many tokens.
+/// Returns whether a range is within `len` tokens.
 fn lies_within(range: Range, len: usize) -> bool
     ensures { result ≡ true → (range.start ≤ range.end) × (range.end ≤ len) }
 {
     range.start <= range.end && range.end <= len
 }
 
-/// The tokens that are read after a change, where its numbers are those of tokens.
+/// Returns the tokens after a change, or `None` if its numbers aren't those of tokens.
 fn repaired(
     alloc: Global,
     tokens: &[Token],
@@ -121,7 +121,7 @@ fn repaired(
     Ok(Some(trial))
 }
 
-/// Whether the tokens of a source can be read after a change.
+/// Returns whether the tokens of a source can be read after a change.
 #[tactic(auto, using(crate::proofs::Trials::trial_lies, crate::proofs::Trials::repair_of))]
 pub(crate) fn is_read(
     alloc: Global,

@@ -1,4 +1,4 @@
--- The type of a scheme that is assumed, made or lent.
+-- The type of an assumed scheme, owned or borrowed.
 use Rattle.hm_types.specs.Monotypes.{Mono}
 use Rattle.hm_types.specs.Shape.{type_of}
 use Rattle.hm_assumptions.specs.declared.environment.AssumedType.{AssumedType}

@@ -1,4 +1,4 @@
--- Where a table finds the first entry of a constructor. No public clause names it.
+-- The table of the places of constructors. No public clause names it.
 use Rattle.std.specs.Prelude.{◌≡◌, ℕ, List, None, Some}
 use Rattle.std.specs.List.{slice_get}
 use Rattle.hm_types.specs.declared.Entity.{Entity}
@@ -11,7 +11,7 @@ use Rattle.hm_assumptions.specs.Kept.{scheme_of, schemes_of}
 abbrev pub key_of_entity : Entity → Variable
 key_of_entity e = record { qualifier = Some e.«module»; text = e.name }
 
--- the table has the place among all entries of the first of each constructor among some of them
+-- the table has, for each constructor, the place in `all` of its first entry in `some`
 pub record AreFirstPlaces (all some : List Entry) (table : Table) : Type 0 where
   pub found : (e : Entity) (p : ℕ) → number_of table (key_of_entity e) ≡ Some p → (d : Entry) × ((slice_get all p ≡ Some d) × (first_of (λ d. d.entity) e (schemes_of some) ≡ Some (scheme_of d)))
   pub none : (e : Entity) → number_of table (key_of_entity e) ≡ None → first_of (λ d. d.entity) e (schemes_of some) ≡ None

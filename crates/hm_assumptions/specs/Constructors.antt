@@ -1,4 +1,4 @@
--- The types that constructors are declared with, as the program keeps them.
+-- The declared schemes of constructors, as the program stores them.
 use Rattle.std.specs.Prelude.{ℕ, List, refl}
 use Rattle.std.specs.Coded.{Coded, code_by, coded×, coded_list, coded_ℕ}
 use Rattle.hm_types.specs.Schemes.{coded_scheme}
@@ -23,11 +23,11 @@ coded_constructor = code_by _ (coded× coded_entity coded_scheme) (λ s. (s.enti
 abbrev pub coded_table : Coded Table
 coded_table = code_by _ (coded× (coded_list coded_ℕ) (coded_list coded_constructor)) (λ s. (s.home, s.schemes)) (λ p. record { home = p.0; schemes = p.1 }) (λ _. refl)
 
--- of the schemes of one constructor the first counts
+-- the constructors of a table. If one has several schemes, the first counts
 abbrev pub known_of : Table → Known
 known_of t = record { home = t.home; scheme = λ n. scheme_or (special_of n) (first_of (λ d. d.entity) (entity_of n) t.schemes) }
 
--- a type that is declared has distinct parameters
+-- a declared type has distinct parameters
 abbrev pub HasDistinctParameters : Declaration → Type 0
 HasDistinctParameters (data_declaration n ps cs) = (k : Identifier) → ¬ (Repeats ps k)
 HasDistinctParameters (newtype_declaration n ps c) = (k : Identifier) → ¬ (Repeats ps k)

@@ -1,4 +1,4 @@
--- Functions are opened: their type is taken apart, their patterns matched, and the variables of these assumed.
+-- Opening a function: its type is split, its patterns are matched, and assumptions are made about their variables.
 use Rattle.std.specs.Prelude.{◌≡◌, ℕ, ◌<◌, ◌≤◌, List, ◌++◌, Result, Ok, Err}
 use Rattle.hm_types.specs.Types.{Var, put}
 use Rattle.hm_types.specs.Monotypes.{Mono, var}
@@ -16,7 +16,7 @@ use Rattle.hm_assumptions.specs.Problems.{monotype, problem, bound}
 use Rattle.hm_assumptions.specs.Environments.{Assumed, assumptions, AreAssumed}
 use Rattle.hm_assumptions.specs.Patterns.{put_each}
 
--- the type v is that of functions from types that the patterns match to the type u
+-- v is the type of functions to u from types that the patterns have
 pub record IsOpened (ps : Patterns) (v : Monotype) (u : Mono) (s : Solving) (es : List Assumed) (s' : Solving) (es' : List Assumed) : Type 0 where
   pub types : Identifier → Monotype
   pub added : List Assumed
@@ -38,7 +38,7 @@ abbrev pub Opened : Patterns → Monotype → Solving → List Assumed → Solvi
 Opened ps v s es s' es' (Ok n) = IsOpened ps v (Var (var n)) s es s' es'
 Opened ps v s es s' es' (Err e) = RefusesOpening ps v s e
 
--- the type u of the body is told
+-- the same with the type u of the body
 abbrev pub Entered : {X : Type 0} → Patterns → Monotype → Mono → Solving → List Assumed → Solving → List Assumed → Result X UnifyFault → Type 0
 Entered ps v u s es s' es' (Ok x) = IsOpened ps v u s es s' es'
 Entered ps v u s es s' es' (Err e) = RefusesOpening ps v s e

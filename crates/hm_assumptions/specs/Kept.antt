@@ -1,4 +1,4 @@
--- What tables of names keep, as the lists that contracts see: the last comes first.
+-- The variables, assumptions and constructors that the program stores, as the lists that contracts see.
 use Rattle.std.specs.Prelude.{List, [], ◌∷◌, map}
 use Rattle.hm_types.specs.Shape.{type_of}
 use Rattle.hm_assumptions.specs.declared.constructors.Entry.{Entry}
@@ -12,7 +12,7 @@ use Rattle.hm_names.specs.Cores.{ConstructorScheme}
 use Rattle.hm_assumptions.specs.Patterns.{Variable}
 use Rattle.hm_assumptions.specs.Environments.{Assumed}
 
--- the values of a row, the last first, before others
+-- the images of the first list, the last first, and then the second list
 abbrev pub stack : {A B : Type 0} → (A → B) → List A → List B → List B
 stack f [] ys = ys
 stack f (x ∷ xs) ys = stack f xs (f x ∷ ys)
@@ -35,6 +35,6 @@ scheme_of e = record { entity = record { «module» = e.«module».now; name = e
 abbrev pub schemes_of : List Entry → List ConstructorScheme
 schemes_of es = map scheme_of es
 
--- a variable as an assumption in which nothing is quantified
+-- a variable as an assumption without quantified variables
 abbrev pub monomorphic_of : KeptVariable → Assumed
 monomorphic_of v = record { name = identifier (variable_of_key v.name); scheme = record { quantified = 0; body = type_of v.ty } }

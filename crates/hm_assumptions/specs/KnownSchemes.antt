@@ -1,4 +1,4 @@
--- The scheme of a constructor, made or lent.
+-- The scheme of a constructor, owned or borrowed.
 use Rattle.hm_types.specs.Schemes.{TypeScheme}
 use Rattle.hm_assumptions.specs.declared.constructors.KnownScheme.{KnownScheme}
 use Rattle.hm_assumptions.specs.declared.constructors.KnownScheme.TheVariants.{Made, Lent}

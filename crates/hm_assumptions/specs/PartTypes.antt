@@ -1,9 +1,9 @@
--- The variables that are the types of parts.
+-- The variables that are the types of a pattern's parts.
 use Rattle.std.specs.Prelude.{ℕ, Bool, true, false}
 use Rattle.hm_assumptions.specs.declared.patterns.PartTypes.{PartTypes}
 use Rattle.hm_assumptions.specs.declared.patterns.PartTypes.TheVariants.{Row, One}
 
--- one is the type of each part
+-- one variable is the type of all parts
 abbrev pub is_one : PartTypes → Bool
 is_one (Row n) = false
 is_one (One n) = true

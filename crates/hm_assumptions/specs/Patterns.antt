@@ -1,4 +1,4 @@
--- The variables of patterns with their types, and what it is to match patterns.
+-- The variables of patterns with their types, and the matching of patterns against types.
 use Rattle.std.specs.Prelude.{◌≡◌, ℕ, ◌+◌, ◌<◌, ◌≤◌, List, [], ◌∷◌, ◌++◌, Bool, cond, ◌⊎◌, Result, Ok, Err, refl}
 use Rattle.std.specs.Coded.{Coded, code_by, coded×}
 use Rattle.hm_types.specs.Types.{Var, put}
@@ -27,7 +27,7 @@ abbrev pub names_of : List Variable → List Identifier
 names_of [] = []
 names_of (v ∷ vs) = v.name ∷ names_of vs
 
--- each variable has the type that τ tells
+-- each variable has its type in τ
 abbrev pub HaveTypes : (Identifier → Monotype) → List Variable → Type 0
 HaveTypes τ [] = Unit {0}
 HaveTypes τ (v ∷ vs) = (monotype v.ty ≡ τ (v.name)) × HaveTypes τ vs
@@ -41,15 +41,15 @@ abbrev pub AreGiven : ℕ → List Variable → Type 0
 AreGiven g [] = Unit {0}
 AreGiven g (v ∷ vs) = IsWellFormed g v.ty × AreGiven g vs
 
--- the types of a family with a substitution in them
+-- the types of τ with the substitution r in them
 abbrev pub put_each : (ℕ → Monotype) → (Identifier → Monotype) → Identifier → Monotype
 put_each r τ x = put r (τ x)
 
--- ρ tells of each of the names what τ with r in it tells
+-- for each of the names, ρ has the type of τ with r in it
 abbrev pub Continues : List Identifier → (ℕ → Monotype) → (Identifier → Monotype) → (Identifier → Monotype) → Type 0
 Continues xs r τ ρ = (x : Identifier) → IsOneOf x xs → put r (τ x) ≡ ρ x
 
--- Matching: the question asks what types the variables have. From the state s, and variables vs of the types τ, it is answered by the state s' and the variables vs' of the types τ', of which the names xs are new
+-- Matching adds a constraint on the types of variables and on unifiers. The state s with variables vs of the types τ becomes the state s' with variables vs' of the types τ'. The names xs are new
 pub record IsMatched (Asked : (Identifier → Monotype) → (ℕ → Monotype) → Type 0) (xs : List Identifier) (s : Solving) (vs : List Variable) (τ : Identifier → Monotype) (s' : Solving) (vs' : List Variable) (τ' : Identifier → Monotype) : Type 0 where
   pub grows : s.given ≤ s'.given
   pub below : FactsBelow (bound s') (problem s')
@@ -68,13 +68,13 @@ abbrev pub RefusesMatch : ((Identifier → Monotype) → (ℕ → Monotype) → 
 RefusesMatch Asked s vs τ Clash = HasNoMatch Asked s vs τ
 RefusesMatch Asked s vs τ Memory = Unit {0}
 
--- what a step of matching answers, whatever the types of the variables before are
+-- the result of a step of matching, for any types of the variables before it
 abbrev pub Matched : {X : Type 0} → ((Identifier → Monotype) → (ℕ → Monotype) → Type 0) → List Identifier → Solving → List Variable → Solving → List Variable → Result X UnifyFault → Type 0
 Matched Asked xs s vs s' vs' (Ok x) = (τ : Identifier → Monotype) → HaveTypes τ vs → (τ' : Identifier → Monotype) × IsMatched Asked xs s vs τ s' vs' τ'
 Matched Asked xs s vs s' vs' (Err e) = (τ : Identifier → Monotype) → HaveTypes τ vs → RefusesMatch Asked s vs τ e
 
 -- New variables of the solver
 
--- the variables from `first` on; or the first alone, again and again
+-- the j-th variable from `first` on, or always the first
 abbrev pub from_number : Bool → ℕ → ℕ → Monotype
 from_number same first j = Var (number (var (cond same first (first + j))))

@@ -1,4 +1,4 @@
--- Where tables of names find what is kept of a name. No public clause names these.
+-- Tables of the places of names. No public clause names these.
 use Rattle.std.specs.Prelude.{◌≡◌, ℕ, cond, List, [], ◌∷◌, length, reverse, drop, Option, None, Some}
 use Rattle.std.specs.List.{slice_get}
 use Rattle.hm_variables.specs.Keys.{Table, number_of, same_variable, variable_of_key}
@@ -9,24 +9,24 @@ use Rattle.hm_assumptions.specs.declared.variables.Variable.{Variable as KeptVar
 use Rattle.hm_assumptions.specs.Kept.{variables_of}
 use Rattle.hm_assumptions.specs.Patterns.{names_of}
 
--- of bindings, the innermost first, the table has the place of the innermost of each name, and each has the place of the one that it hides
+-- the list has the innermost binding first. The table has the place of the innermost binding of each name, and each binding has the place of the one that it hides
 abbrev pub IsTable : List Binding → (Variable → Option ℕ) → Type 0
 IsTable [] place = (x : Variable) → place x ≡ None
 IsTable (b ∷ bs) place = (place (variable_of_key b.name) ≡ Some (length bs)) × IsTable bs (λ x. cond (same_variable (variable_of_key b.name) x) b.hidden (place x))
 
--- of bindings, the outermost first
+-- the same for a list that has the outermost binding first
 abbrev pub IsPlaced : List Binding → Table → Type 0
 IsPlaced items table = IsTable (reverse items) (number_of table)
 
--- so many variables of patterns have no place in the table
+-- the number of variables of patterns that need no place in the table
 abbrev pub few : ℕ
 few = 8
 
--- a variable of patterns of this name is at this place
+-- a variable with this name is at this place
 abbrev pub IsPlaceOf : List KeptVariable → Variable → ℕ → Type 0
 IsPlaceOf items x p = (v : KeptVariable) × ((slice_get items p ≡ Some v) × (variable_of_key v.name ≡ x))
 
--- the table has a place of each variable of patterns behind the first few
+-- the table has a place of each variable after the first few
 pub record AreNoted (items : List KeptVariable) (table : Table) : Type 0 where
   pub some : (x : Variable) (p : ℕ) → number_of table x ≡ Some p → IsPlaceOf items x p
   pub none : (x : Variable) → number_of table x ≡ None → ¬ (IsOneOf (identifier x) (names_of (variables_of (drop few items))))

@@ -1,4 +1,4 @@
-//! The types that constructors are declared with.
+//! The declared schemes of constructors.
 
 ghost use Rattle.std.specs.Prelude.{◌≡◌, IfOk, option_map, option_copied};
 ghost use Rattle.hm_variables.specs.Keys.{variable_of_key};
@@ -18,8 +18,8 @@ use indexmap::IndexMap;
 use std::alloc::{AllocError, Global};
 use std::marker::Model;
 
-/// The scheme of a constructor: that of an imported one is lent by its interface, any other one was
-/// made.
+/// The scheme of a constructor: borrowed from an interface if the constructor is imported, owned
+/// otherwise.
 #[derive(Drop)]
 pub enum KnownScheme<'a> {
     Made(Scheme),
@@ -27,7 +27,7 @@ pub enum KnownScheme<'a> {
 }
 
 impl<'a> KnownScheme<'a> {
-    /// The scheme, lent.
+    /// Borrows the scheme.
     pub(crate) fn as_scheme(&self) -> &Scheme
         ensures { result.now ≡ scheme_in self.now }
     {
@@ -38,7 +38,7 @@ impl<'a> KnownScheme<'a> {
     }
 }
 
-/// A constructor, by the module that declares it and its name there, with its scheme.
+/// A constructor: the module that declares it, its name there, and its scheme.
 #[derive(Drop)]
 pub struct Entry<'a> {
     pub module: &'a str,
@@ -47,9 +47,10 @@ pub struct Entry<'a> {
 }
 
 // Why: docs/DECISIONS.md, "Known constructors".
-/// The constructors that a module uses, with their schemes. Of the entries of one constructor the
-/// first counts, whose place a table has. The special ones, as those of tuples, have theirs without
-/// an entry.
+/// The constructors that a module uses, with their schemes.
+///
+/// If a constructor has several entries, the first counts. A table has its place. Special
+/// constructors, such as those of tuples, need no entry.
 pub struct Constructors<'a> {
     home: Text,
     entries: Vec<Entry<'a>>,
@@ -85,7 +86,7 @@ impl<'a> Model for Constructors<'a> {
 impl<'a> Constructors<'a> {
     ghost use Rattle.hm_assumptions.specs.Kept.{schemes_of};
 
-    /// The constructors of a module of this name.
+    /// Returns the constructors of a module with this name.
     pub fn new(
         alloc: Global,
         home: Text,
@@ -101,7 +102,7 @@ impl<'a> Constructors<'a> {
         })
     }
 
-    /// The scheme of a constructor.
+    /// Returns the scheme of a constructor, or that of `()` if it isn't special and has no entry.
     pub(crate) fn find(&self, alloc: Global, name: &Name) -> Result<KnownScheme<'_>, AllocError>
         ensures { IfOk result (λ found. scheme_in found ≡ (known_of self.now).scheme name.now) }
     {
@@ -115,7 +116,7 @@ impl<'a> Constructors<'a> {
     }
 }
 
-/// The place of the first entry of each constructor.
+/// Returns the place of the first entry of each constructor.
 fn places_of<'a>(
     alloc: Global,
     entries: &[Entry<'a>],
@@ -135,7 +136,7 @@ fn places_of<'a>(
     Ok(places)
 }
 
-/// A resolved name as the key of a constructor.
+/// Returns a resolved name as the key of a constructor.
 fn entity_key(name: &Name) -> LentName<'_>
     ensures { variable_of_key result ≡ key_of_entity (entity_of name.now) }
 {
@@ -149,7 +150,7 @@ fn entity_key(name: &Name) -> LentName<'_>
     }
 }
 
-/// The scheme of the first entry of a constructor.
+/// Returns the scheme of the first entry of a constructor, if it has one.
 fn entered<'b>(
     entries: &'b [Entry<'_>],
     places: &IndexMap<LentName<'_>, usize>,

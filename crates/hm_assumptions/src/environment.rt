@@ -1,4 +1,4 @@
-//! What is assumed of names.
+//! Assumptions: the schemes of names.
 
 ghost use Rattle.std.specs.Prelude.{◌≡◌, ℕ, ◌≤◌, ◌-◌, ◌∷◌, ◌++◌, [], List, None, cond, length, take, IfOk, MatchOption, OnErr, OnOk};
 ghost use Rattle.hm_types.specs.Shape.{type_of};
@@ -19,16 +19,16 @@ use indexmap::IndexMap;
 use std::alloc::{AllocError, Global};
 use std::marker::Model;
 
-/// A scheme that is lent: the variables of `body` below `quantified` are quantified, and each
-/// other one stands for the variable whose number is less by as much.
+/// A borrowed scheme. The variables of `body` below `quantified` are quantified, and each other
+/// one stands for the variable whose number is less by `quantified`.
 #[derive(Clone, Copy)]
 pub(crate) struct Scheme<'a> {
     pub quantified: usize,
     pub body: &'a Ty,
 }
 
-/// The type of a scheme that is assumed: that of an imported variable is lent by its interface, any
-/// other one was made.
+/// The type of an assumed scheme: borrowed from an interface if the variable is imported, owned
+/// otherwise.
 #[derive(Drop)]
 pub enum AssumedType<'a> {
     Made(Ty),
@@ -36,7 +36,7 @@ pub enum AssumedType<'a> {
 }
 
 impl<'a> AssumedType<'a> {
-    /// The type, lent.
+    /// Borrows the type.
     pub fn as_type(&self) -> &Ty
         ensures { type_of result.now ≡ type_in self.now }
     {
@@ -47,7 +47,7 @@ impl<'a> AssumedType<'a> {
     }
 }
 
-/// A name with its scheme, and the place of the assumption of this name that it hides.
+/// A name with its scheme, and the place of the assumption about this name that it hides, if any.
 #[derive(Drop)]
 pub struct Binding<'a> {
     pub name: LentName<'a>,
@@ -56,8 +56,10 @@ pub struct Binding<'a> {
     hidden: Option<usize>,
 }
 
-/// What is assumed of names, which are lent by the trees and interfaces of a core. Contracts see a
-/// list, the innermost first. A table has the place of the innermost assumption of each name.
+/// The assumptions about names. The names are borrowed from the trees and interfaces of a core.
+///
+/// Contracts see a list, the innermost assumption first. A table has the place of the innermost
+/// assumption about each name.
 pub struct Environment<'a> {
     items: Vec<Binding<'a>>,
     innermost: IndexMap<LentName<'a>, usize>,
@@ -91,7 +93,7 @@ impl<'a> Model for Environment<'a> {
 }
 
 impl<'a> Environment<'a> {
-    /// No assumptions.
+    /// Returns an environment without assumptions.
     pub fn new(alloc: Global) -> Environment<'a>
         ensures { result ≡ [] }
     {
@@ -101,21 +103,21 @@ impl<'a> Environment<'a> {
         }
     }
 
-    /// How many assumptions there are.
+    /// Returns the number of assumptions.
     pub fn len(&self) -> usize
         ensures { result ≡ length self.now }
     {
         self.items.len()
     }
 
-    /// The assumptions, the outermost first.
+    /// Returns the assumptions, the outermost first.
     pub fn as_slice(&self) -> &[Binding<'a>]
         ensures { entries_of result.now ≡ self.now }
     {
         &self.items
     }
 
-    /// Makes room for so many more assumptions, so that neither the list nor the table grows by steps.
+    /// Makes room for `count` more assumptions, so that the list and the table grow only once.
     pub fn reserve(&mut self, count: usize) -> Result<(), AllocError>
         ensures { self.new ≡ self.old }
     {
@@ -123,7 +125,7 @@ impl<'a> Environment<'a> {
         self.innermost.reserve(count)
     }
 
-    /// Assumes a scheme of a name, inside all others.
+    /// Adds an assumption about a name, inside all others.
     pub fn bind(
         &mut self,
         name: LentName<'a>,
@@ -137,7 +139,7 @@ impl<'a> Environment<'a> {
         self.add(name, quantified, AssumedType::Made(body))
     }
 
-    /// Assumes a scheme whose type is lent of a name, inside all others.
+    /// Adds an assumption with a borrowed type, inside all others.
     pub fn bind_lent(
         &mut self,
         name: LentName<'a>,
@@ -178,14 +180,14 @@ impl<'a> Environment<'a> {
         }
     }
 
-    /// Forgets all but the outermost `depth` assumptions.
+    /// Removes all assumptions except the outermost `depth`.
     pub fn truncate(&mut self, depth: usize)
         ensures { (added base : List Assumed) → self.old ≡ added ++ base → length base ≡ depth → self.new ≡ base }
     {
         forget_from(&mut self.items, &mut self.innermost, depth);
     }
 
-    /// The scheme of the innermost assumption of a name, if there is one.
+    /// Returns the scheme of the innermost assumption about a name, if there is one.
     pub(crate) fn find(&self, name: &Name) -> Option<Scheme<'_>>
         ensures { MatchOption result (¬ (IsOneOf (name_of name.now) (assumed_names self.now))) (λ s.
             IsSchemeOf (name_of name.now) (record { quantified = s.quantified; body = type_of s.body.now }) self.now) }
@@ -200,7 +202,7 @@ impl<'a> Environment<'a> {
         })
     }
 
-    /// Assumes its type of each variable, the last inside all others.
+    /// Adds an assumption for each variable, with its type. The last is inside all others.
     pub(crate) fn bind_variables(
         &mut self,
         alloc: Global,
@@ -217,7 +219,7 @@ impl<'a> Environment<'a> {
     }
 }
 
-/// The place that a table has for a name.
+/// Returns the place of a name in a table, if it has one.
 pub(crate) fn place_of(places: &IndexMap<LentName<'_>, usize>, name: &LentName<'_>) -> Option<usize>
     ensures { result ≡ number_of places.now (variable_of_key name.now) }
 {
@@ -227,7 +229,8 @@ pub(crate) fn place_of(places: &IndexMap<LentName<'_>, usize>, name: &LentName<'
     }
 }
 
-/// Gives a name that has a place the place that was hidden, or none.
+/// Gives a name its hidden place back, or removes the name if there is none. The name must have a
+/// place.
 fn restore<'a>(
     places: &mut IndexMap<LentName<'a>, usize>,
     name: LentName<'a>,
@@ -247,7 +250,7 @@ fn restore<'a>(
     }
 }
 
-/// Forgets the last assumption: what it hid is seen again.
+/// Removes the last assumption, and restores the one that it hides.
 fn forget_last<'a>(items: &mut Vec<Binding<'a>>, innermost: &mut IndexMap<LentName<'a>, usize>)
     ensures items { items.new.items ≡ take (length items.old.items - 1) items.old.items }
     ensures placed { IsPlaced items.old.items innermost.old → IsPlaced items.new.items innermost.new }
@@ -258,7 +261,7 @@ fn forget_last<'a>(items: &mut Vec<Binding<'a>>, innermost: &mut IndexMap<LentNa
     restore(innermost, last.name, last.hidden);
 }
 
-/// Forgets all but the outermost `depth` assumptions.
+/// Removes all assumptions except the outermost `depth`.
 fn forget_from<'a>(
     items: &mut Vec<Binding<'a>>,
     innermost: &mut IndexMap<LentName<'a>, usize>,

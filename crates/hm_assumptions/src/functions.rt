@@ -1,4 +1,4 @@
-//! Functions are opened before their bodies are checked.
+//! Opens functions before their bodies are checked: matches their patterns and adds assumptions.
 
 ghost use Rattle.std.specs.Prelude.{◌≡◌, ◌<◌};
 ghost use Rattle.hm_types.specs.Shape.{type_of};
@@ -23,8 +23,13 @@ use hm_syntax::Pat;
 use hm_types::Ty;
 use hm_unify::UnifyFault;
 
-/// Takes the type of a function apart, matches its patterns, and assumes their variables. Answers
-/// the number of the variable that is the type of the body.
+/// Splits the type of a function, matches its patterns, and adds assumptions about their variables.
+/// Returns the number of the variable that is the type of the body.
+///
+/// # Errors
+///
+/// `Clash` if `t` can't be the type of a function with these patterns, and `Memory` if memory ran
+/// out.
 pub fn open_function<'a>(
     inference: &mut Inference<'a>,
     constructors: &Constructors,
@@ -53,8 +58,12 @@ pub fn open_function<'a>(
     Ok(first + count)
 }
 
-/// Matches the pattern of an alternative against the variable `first`, and assumes its variables.
-/// The body of the alternative has the type `t`.
+/// Matches the pattern of an alternative against the variable `first`, and adds assumptions about
+/// its variables. The body of the alternative has the type `t`.
+///
+/// # Errors
+///
+/// `Clash` if the pattern can't have the type of the variable, and `Memory` if memory ran out.
 pub fn open_alternative<'a>(
     inference: &mut Inference<'a>,
     constructors: &Constructors,

@@ -1,11 +1,11 @@
-//! The state of the inference of types.
+//! The state of type inference.
 
 use crate::environment::Environment;
 use hm_unify::Solver;
 use std::alloc::Global;
 
-/// The state of the inference of types: the solver of the equations between types that were asked
-/// for, and what is assumed of names.
+/// The state of type inference: the solver of the equations between types, and the assumptions
+/// about names.
 #[derive(Drop)]
 pub struct Inference<'a> {
     pub alloc: Global,

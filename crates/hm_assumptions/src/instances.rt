@@ -19,14 +19,14 @@ use hm_types::{Scheme, Ty, Types};
 use hm_unify::{Solver, UnifyFault};
 use std::alloc::{AllocError, Global};
 
-/// What a type variable is: a flexible one is solved, a rigid one stands for a type that is not known.
+/// The kind of a type variable. A flexible one is solved; a rigid one stands for an unknown type.
 #[derive(Clone, Copy)]
 pub enum VariableKind {
     Flexible,
     Rigid,
 }
 
-/// The type of a scheme in which the quantified variables are those of a kind from `base` on.
+/// Returns the instance of a scheme whose quantified variables are those of a kind from `base` on.
 pub fn instantiate(
     alloc: Global,
     kind: VariableKind,
@@ -63,7 +63,7 @@ pub fn instantiate(
     }
 }
 
-/// The variable of a kind with this number.
+/// Returns the variable of a kind with this number.
 fn quantified_variable(kind: VariableKind, number: usize) -> Ty
     ensures { type_of result ≡ leaf (quantified_leaf (is_rigid kind) number 0) }
 {
@@ -74,6 +74,10 @@ fn quantified_variable(kind: VariableKind, number: usize) -> Ty
 }
 
 /// Makes a type equal to an instance of a scheme.
+///
+/// # Errors
+///
+/// `Clash` if the type can't be an instance of the scheme, and `Memory` if memory ran out.
 pub fn check_scheme(
     alloc: Global,
     solver: &mut Solver,
@@ -105,6 +109,10 @@ pub(crate) fn check_declared(
 }
 
 /// Makes a type equal to an instance of a constructor's scheme.
+///
+/// # Errors
+///
+/// `Clash` if the type can't be an instance of the scheme, and `Memory` if memory ran out.
 pub fn check_constructor(
     alloc: Global,
     solver: &mut Solver,

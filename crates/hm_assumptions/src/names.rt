@@ -1,4 +1,4 @@
-//! Names: what they stand for, and the types that they are checked against.
+//! Names of entities, and the check of a variable against a type.
 
 ghost use Rattle.std.specs.Prelude.{◌≡◌, ℕ, List, IfSome, IfNone};
 ghost use Rattle.hm_variables.specs.Keys.{variable_of_key};
@@ -20,7 +20,7 @@ use hm_unify::{Solver, UnifyFault};
 use hm_variables::LentName;
 use std::alloc::Global;
 
-/// The name of an entity.
+/// Returns the name of an entity.
 pub fn entity_name(entity: &Entity) -> LentName<'_>
     ensures { identifier (variable_of_key result) ≡ global entity.now }
 {
@@ -30,7 +30,7 @@ pub fn entity_name(entity: &Entity) -> LentName<'_>
     }
 }
 
-/// The text of a name, if it is that of an entity of the module `home`.
+/// Returns the text of a name, if it is that of an entity of the module `home`.
 pub fn own_text<'a>(name: LentName<'a>, home: &str) -> Option<&'a str>
     ensures own { IfSome result (λ text. identifier (variable_of_key name.entry) ≡ global (record { «module» = home.now; name = text.now })) }
     ensures other { IfNone result ((x : List ℕ) → ¬ (identifier (variable_of_key name.entry) ≡ global (record { «module» = home.now; name = x }))) }
@@ -46,6 +46,10 @@ pub fn own_text<'a>(name: LentName<'a>, home: &str) -> Option<&'a str>
 }
 
 /// Checks a variable against a type.
+///
+/// # Errors
+///
+/// `Clash` if the variable can't have the type by the assumptions, and `Memory` if memory ran out.
 pub fn check_name(
     alloc: Global,
     solver: &mut Solver,

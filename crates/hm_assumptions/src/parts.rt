@@ -1,4 +1,4 @@
-//! Types that are taken apart: a type is made equal to one of new variables.
+//! Splits types: makes a type equal to one whose parts are new variables.
 
 ghost use Rattle.std.specs.Prelude.{◌≡◌, ◌+◌, ◌<◌, ◌^◌, IfOk};
 ghost use Rattle.hm_types.specs.Shape.{type_of};
@@ -16,8 +16,8 @@ use hm_types::{Scheme, Ty};
 use hm_unify::{Solver, UnifyFault};
 use std::alloc::Global;
 
-/// Makes an instance of a constructor's scheme equal to the functions from new variables to a
-/// type, and answers the number of the first.
+/// Makes an instance of a constructor's scheme equal to the type of functions from `count` new
+/// variables to `t`. Returns the number of the first.
 pub(crate) fn constructor_parts(
     alloc: Global,
     solver: &mut Solver,
@@ -38,8 +38,8 @@ pub(crate) fn constructor_parts(
     Ok(first)
 }
 
-/// Makes a type equal to the functions from new variables to another new one, which comes last,
-/// and answers the number of the first.
+/// Makes a type equal to that of functions from `count` new variables to another new one, which
+/// comes last. Returns the number of the first.
 pub(crate) fn function_parts(
     alloc: Global,
     solver: &mut Solver,
@@ -63,7 +63,11 @@ pub(crate) fn function_parts(
     Ok(first)
 }
 
-/// Makes a type equal to the tuples of new variables, and answers the number of the first.
+/// Makes a type equal to that of tuples of `count` new variables. Returns the number of the first.
+///
+/// # Errors
+///
+/// `Clash` if the type can't be that of such tuples, and `Memory` if memory ran out.
 pub fn tuple_parts(
     alloc: Global,
     solver: &mut Solver,
@@ -83,7 +87,11 @@ pub fn tuple_parts(
     Ok(first)
 }
 
-/// Makes a type equal to the lists of a new variable, and answers its number.
+/// Makes a type equal to that of lists of a new variable. Returns its number.
+///
+/// # Errors
+///
+/// `Clash` if the type can't be that of lists, and `Memory` if memory ran out.
 pub fn list_part(alloc: Global, solver: &mut Solver, t: &Ty) -> Result<usize, UnifyFault>
     requires { IsWellFormed solver.old.given (type_of t.now) }
     ensures first { IfOk result (λ n. n ≡ solver.old.given) }

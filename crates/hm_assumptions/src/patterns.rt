@@ -1,4 +1,4 @@
-//! Patterns are matched against types.
+//! Matches patterns against types.
 
 ghost use Rattle.std.specs.Prelude.{◌≡◌, ℕ, ◌+◌, ◌<◌, ◌^◌, [], ◌∷◌, length, cond, false};
 ghost use Rattle.hm_types.specs.Shape.{type_of};
@@ -27,8 +27,8 @@ use hm_types::Ty;
 use hm_unify::{Solver, UnifyFault};
 use hm_variables::key_of;
 
-/// The types of parts, which are variables: a row of them from a number on, or one that is the
-/// type of each part.
+/// The variables that are the types of a pattern's parts: those from a number on, or one for all
+/// parts.
 #[derive(Clone, Copy)]
 pub enum PartTypes {
     Row(usize),
@@ -36,7 +36,7 @@ pub enum PartTypes {
 }
 
 impl PartTypes {
-    /// The number of the variable that is the type of a part.
+    /// Returns the number of the variable that is the type of a part.
     pub fn at(self, part: usize) -> usize
         requires { cond (is_one self) (first_of self) (first_of self + part) < 2 ^ 64 }
         ensures { result ≡ cond (is_one self) (first_of self) (first_of self + part) }
@@ -48,7 +48,7 @@ impl PartTypes {
     }
 }
 
-/// Adds a variable of a pattern. One of its name that is there has its type.
+/// Adds a variable of a pattern. If there is one with the same name, makes their types equal.
 fn add_variable<'a>(
     solver: &mut Solver,
     variables: &mut Variables<'a>,
@@ -78,6 +78,10 @@ fn add_variable<'a>(
 }
 
 /// Matches a pattern against a type, and adds its variables.
+///
+/// # Errors
+///
+/// `Clash` if the pattern can't have the type, and `Memory` if memory ran out.
 #[cycle(matching)]
 pub fn match_pattern<'a>(
     solver: &mut Solver,
@@ -140,7 +144,7 @@ pub fn match_pattern<'a>(
     }
 }
 
-/// Matches patterns, the last first, against their types.
+/// Matches patterns against their types, the last first, and adds their variables.
 #[cycle(matching)]
 pub(crate) fn match_patterns<'a>(
     solver: &mut Solver,

@@ -1,4 +1,4 @@
-//! Types that are made of new variables.
+//! Types that consist of variables, and types of literals.
 
 ghost use Rattle.std.specs.Prelude.{◌≡◌, ℕ, ◌+◌, ◌<◌, ◌≤◌, ◌^◌, IfOk, false, codes};
 ghost use Rattle.hm_types.specs.Shape.{type_of};
@@ -17,7 +17,7 @@ use hm_syntax::{Literal, LiteralKind};
 use hm_types::{Entity, Head, Text, Ty, Types};
 use std::alloc::{AllocError, Global};
 
-/// The type of functions from the variables from `first` on, so many, to `outcome`.
+/// Returns the type of functions to `outcome` from `count` variables, numbered from `first` on.
 pub(crate) fn function_type(
     alloc: Global,
     first: usize,
@@ -37,7 +37,7 @@ pub(crate) fn function_type(
     Ok(t)
 }
 
-/// The type of tuples of the variables from `first` on, so many.
+/// Returns the type of tuples of `count` variables, numbered from `first` on.
 pub(crate) fn tuple_type(alloc: Global, first: usize, count: usize) -> Result<Ty, AllocError>
     requires { first + count < 2 ^ 64 }
     ensures shape { IfOk result (λ t. monotype (type_of t) ≡ tuple count (from_number false first)) }
@@ -50,7 +50,7 @@ pub(crate) fn tuple_type(alloc: Global, first: usize, count: usize) -> Result<Ty
     Ok(Ty::App(Head::Tuple(count), Types::new(parts)))
 }
 
-/// The type of lists of a type.
+/// Returns the type of lists of a type.
 pub(crate) fn list_of(alloc: Global, element: Ty) -> Result<Ty, AllocError>
     ensures { IfOk result (λ t. type_of t ≡ app head.List (more (type_of element) none)) }
 {
@@ -59,7 +59,7 @@ pub(crate) fn list_of(alloc: Global, element: Ty) -> Result<Ty, AllocError>
     Ok(Ty::App(Head::List, Types::new(parts)))
 }
 
-/// The type of lists of a variable.
+/// Returns the type of lists of a variable.
 pub(crate) fn list_type(alloc: Global, element: usize) -> Result<Ty, AllocError>
     ensures shape { IfOk result (λ t. monotype (type_of t) ≡ list (from_number false element 0)) }
     ensures given { IfOk result (λ t. (g : ℕ) → element < g → IsWellFormed g (type_of t)) }
@@ -69,7 +69,7 @@ pub(crate) fn list_type(alloc: Global, element: usize) -> Result<Ty, AllocError>
     Ok(Ty::App(Head::List, Types::new(parts)))
 }
 
-/// A type of Prelude without arguments.
+/// Returns the type of Prelude with this name, without arguments.
 pub fn prelude_type(alloc: Global, name: &str) -> Result<Ty, AllocError>
     ensures { IfOk result (λ t. type_of t ≡ app (head.Named (record { «module» = codes "Prelude"; name = name.now })) none) }
 {
@@ -80,7 +80,7 @@ pub fn prelude_type(alloc: Global, name: &str) -> Result<Ty, AllocError>
     Ok(Ty::App(Head::Named(entity), Types::new(Vec::new(alloc))))
 }
 
-/// The type of a literal.
+/// Returns the type of a literal.
 pub fn literal_type(alloc: Global, literal: &Literal) -> Result<Ty, AllocError>
     ensures shape { IfOk result (λ t. monotype (type_of t) ≡ typed.literal_type (literal_of literal.now)) }
     ensures given { IfOk result (λ t. (g : ℕ) → IsWellFormed g (type_of t)) }
@@ -95,7 +95,7 @@ pub fn literal_type(alloc: Global, literal: &Literal) -> Result<Ty, AllocError>
     }
 }
 
-/// The type of functions from a variable to a type.
+/// Returns the type of functions from a variable to a type.
 pub fn function_from(alloc: Global, argument: usize, outcome: &Ty) -> Result<Ty, AllocError>
     ensures shape { IfOk result (λ t. monotype (type_of t) ≡ arrow (from_number false argument 0) (monotype (type_of outcome.now))) }
     ensures given { IfOk result (λ t. (g : ℕ) → argument < g → IsWellFormed g (type_of outcome.now) → IsWellFormed g (type_of t)) }

@@ -12,7 +12,7 @@ use hm_syntax::Name;
 use hm_types::{Head, Scheme, Ty, Types};
 use std::alloc::{AllocError, Global};
 
-/// The type of (:).
+/// Returns the type of (:).
 fn cons_type(alloc: Global) -> Result<Ty, AllocError>
     ensures { IfOk result (λ t. type_of t ≡ program_of (special_type Cons)) }
 {
@@ -23,7 +23,7 @@ fn cons_type(alloc: Global) -> Result<Ty, AllocError>
     Ok(Ty::function(alloc, element, to_whole)?)
 }
 
-/// The type of the constructor of tuples with so many components.
+/// Returns the type of the constructor of tuples with `count` components.
 fn tuple_constructor_type(alloc: Global, count: usize) -> Result<Ty, AllocError>
     ensures { IfOk result (λ t. type_of t ≡ program_of (special_type (Tuple count))) }
 {
@@ -31,7 +31,7 @@ fn tuple_constructor_type(alloc: Global, count: usize) -> Result<Ty, AllocError>
     Ok(function_type(alloc, 0, count, &outcome)?)
 }
 
-/// The type of the special constructor with this text, if there is one.
+/// Returns the type of the special constructor with this text, if there is one.
 fn special_type(alloc: Global, text: &str) -> Result<Option<Ty>, AllocError>
     ensures { IfOk result (λ found. option_map type_of found ≡ option_map (λ s. program_of (special_type s)) (special_text text.now)) }
 {
@@ -50,7 +50,7 @@ fn special_type(alloc: Global, text: &str) -> Result<Option<Ty>, AllocError>
     }
 }
 
-/// The scheme of a special constructor, if the name is that of one.
+/// Returns the scheme of a special constructor, if the name is that of one.
 pub(crate) fn special_scheme(alloc: Global, name: &Name) -> Result<Option<Scheme>, AllocError>
     ensures { IfOk result (λ found. found ≡ option_map (λ s. declared_scheme (special_type s)) (special_of name.now)) }
 {
@@ -63,7 +63,7 @@ pub(crate) fn special_scheme(alloc: Global, name: &Name) -> Result<Option<Scheme
     }
 }
 
-/// The scheme of the constructor ().
+/// Returns the scheme of the constructor ().
 pub(crate) fn unit_scheme(alloc: Global) -> Result<Scheme, AllocError>
     ensures { IfOk result (λ scheme. scheme ≡ declared_scheme (special_type Rattle.hm_names.specs.Special.UnitValue)) }
 {

@@ -1,4 +1,4 @@
-//! Steps of the solver, as the theory of typing sees them.
+//! Steps of the solver, in the terms of the typing relation.
 
 ghost use Rattle.std.specs.Prelude.{◌≡◌, ◌+◌, ◌<◌, ◌^◌, IfOk, OnOk, IfErr};
 ghost use Rattle.hm_types.specs.Shape.{type_of};
@@ -11,7 +11,11 @@ ghost use Rattle.hm_assumptions.specs.Problems.{Answers, monotype, problem, boun
 use hm_types::Ty;
 use hm_unify::{Solver, UnifyFault};
 
-/// Makes two types equal, of which the second is given away.
+/// Makes two types equal. Takes the second type by value.
+///
+/// # Errors
+///
+/// `Clash` if the equations would have no unifier, and `Memory` if memory ran out.
 pub fn equate(solver: &mut Solver, left: &Ty, right: Ty) -> Result<(), UnifyFault>
     requires left { IsWellFormed solver.old.given (type_of left.now) }
     requires right { IsWellFormed solver.old.given (type_of right) }
@@ -24,7 +28,11 @@ pub fn equate(solver: &mut Solver, left: &Ty, right: Ty) -> Result<(), UnifyFaul
     done
 }
 
-/// Gives so many new variables, from the number that it answers on.
+/// Makes `count` new variables, and returns the number of the first. The others follow it.
+///
+/// # Errors
+///
+/// `Memory` if memory ran out.
 pub fn new_variables(solver: &mut Solver, count: usize) -> Result<usize, UnifyFault>
     ensures first { IfOk result (λ n. n ≡ solver.old.given) }
     ensures fits { IfOk result (λ n. n + count < 2 ^ 64) }

@@ -17,8 +17,8 @@ use indexmap::IndexMap;
 use std::alloc::{AllocError, Global};
 use std::marker::Model;
 
-/// So many variables are looked through. The table has the others: most patterns have few, and a table
-/// costs more to fill than they cost to look through.
+/// The number of variables that are searched one by one. The table has the others. Most patterns have
+/// few variables, and filling a table costs more than searching a few variables.
 const FEW: usize = 8;
 
 /// A variable with its type.
@@ -29,7 +29,7 @@ pub struct Variable<'a> {
 }
 
 /// The variables of patterns, with their types. Contracts see them as a list, the last first. A
-/// table has a place of each name behind the first few.
+/// table has a place of each name after the first few.
 pub struct Variables<'a> {
     alloc: Global,
     items: Vec<Variable<'a>>,
@@ -67,7 +67,7 @@ impl<'a> Model for Variables<'a> {
 impl<'a> Variables<'a> {
     ghost use Rattle.hm_assumptions.specs.Kept.{variables_of};
 
-    /// No variables.
+    /// Returns an empty list of variables.
     pub fn new(alloc: Global) -> Variables<'a>
         ensures { result ≡ [] }
     {
@@ -78,7 +78,7 @@ impl<'a> Variables<'a> {
         }
     }
 
-    /// Where their memory comes from.
+    /// Returns the allocator of the list.
     pub(crate) fn allocator(&self) -> Global {
         self.alloc
     }
@@ -101,7 +101,7 @@ impl<'a> Variables<'a> {
         }
     }
 
-    /// The type of a variable of this name, if there is one.
+    /// Returns the type of a variable with this name, if there is one.
     pub(crate) fn find(&self, name: &Name) -> Option<&Ty>
         ensures { MatchOption result (¬ (IsOneOf (name_of name.now) (names_of self.now))) (λ t. IsTypeOf (name_of name.now) (type_of t.now) self.now) }
     {
@@ -119,7 +119,7 @@ impl<'a> Variables<'a> {
         }
     }
 
-    /// The variables in the order in which they were added.
+    /// Returns the variables in the order in which they were added.
     pub fn as_slice(&self) -> &[Variable<'a>]
         ensures { variables_of result.now ≡ self.now }
     {
@@ -127,7 +127,7 @@ impl<'a> Variables<'a> {
     }
 }
 
-/// The place of a variable of this name among the first few.
+/// Returns the place of a variable with this name among the first few, if there is one.
 fn place_among_few(items: &[Variable<'_>], key: &LentName<'_>) -> Option<usize>
     ensures { MatchOption result (¬ (IsOneOf (identifier (variable_of_key key.now)) (names_of (variables_of (take few items.now)))))
         (λ p. IsPlaceOf items.now (variable_of_key key.now) p) }

@@ -1,5 +1,5 @@
--- The names of the Report's Prelude (chapter 8) that this Prelude leaves out: variables, methods among them, and types. Classes are left out
--- with all that is said of them, and no name of one is ever looked up.
+-- The names of the Report's Prelude (chapter 8) that this Prelude leaves out: variables, including methods, and types. Classes aren't here,
+-- because the name of a class is never looked up.
 use Rattle.std.specs.Prelude.{ℕ, List, [], ◌∷◌, codes}
 
 abbrev pub left_out : List (List ℕ)

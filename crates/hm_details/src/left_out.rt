@@ -2,7 +2,7 @@
 ghost use Rattle.std.specs.Prelude.{◌≡◌, Contains, map, true};
 ghost use Rattle.hm_details.specs.LeftOut.{left_out};
 
-/// The names, by their bytes.
+/// The names, in the order of their bytes.
 const LEFT_OUT: [&str; 126] = [
     "Double",
     "FilePath",
@@ -132,14 +132,14 @@ const LEFT_OUT: [&str; 126] = [
     "zipWith3",
 ];
 
-/// The names of the Report's Prelude that this Prelude leaves out.
+/// Returns the names of the Report's Prelude that this Prelude leaves out.
 fn left_out() -> &'static [&'static str]
     ensures { map (λ s. s.now) result.now ≡ left_out }
 {
     &LEFT_OUT
 }
 
-/// Whether the text is one of the words.
+/// Returns whether the text is one of the words.
 fn is_one_of(words: &[&str], text: &str) -> bool
     ensures { result ≡ true → Contains (map (λ s. s.now) words.now) text.now }
 {
@@ -151,7 +151,7 @@ fn is_one_of(words: &[&str], text: &str) -> bool
     false
 }
 
-/// Whether this Prelude leaves out a name of the Report's.
+/// Returns whether this is a name of the Report's Prelude that this Prelude leaves out.
 pub(crate) fn is_left_out(name: &str) -> bool
     ensures { result ≡ true → Contains left_out name.now }
 {

@@ -1,4 +1,4 @@
-//! Names in scope that are one edit away from a name, and the entities that a name stands for.
+//! Finds names in scope that are one edit away from a name, and the entities that a name means.
 ghost use Rattle.std.specs.Prelude.{◌≡◌, Contains, IfOk, IfSome, true};
 ghost use Rattle.hm_details.specs.Details.{IsEntityFor, IsNearPair, begins_capital, edits};
 
@@ -8,12 +8,12 @@ use hm_tables::{Binding, EntityRef};
 use std::alloc::{AllocError, Global};
 use strsim::osa_distance;
 
-/// The shortest and the longest names for which a near one is looked for, in bytes. A name of one or two letters is near dozens.
+/// The shortest and the longest names for which a near one is searched, in bytes. A name of one or two letters is near dozens.
 const SHORTEST: usize = 3;
 
 const LONGEST: usize = 64;
 
-/// Whether a name begins with a capital letter, as those of types and constructors do.
+/// Returns whether a name begins with a capital letter, as those of types and constructors do.
 fn begins_capital(text: &str) -> bool
     ensures { result ≡ begins_capital text.now }
 {
@@ -23,7 +23,7 @@ fn begins_capital(text: &str) -> bool
     }
 }
 
-/// How many bytes at the front are the same.
+/// Returns the number of bytes at the front that are the same.
 fn same_front(text: &[u8], other: &[u8]) -> usize {
     text.iter()
         .zip(other.iter())
@@ -31,7 +31,7 @@ fn same_front(text: &[u8], other: &[u8]) -> usize {
         .count()
 }
 
-/// How many bytes at the end are the same.
+/// Returns the number of bytes at the end that are the same.
 fn same_back(text: &[u8], other: &[u8]) -> usize {
     text.iter()
         .rev()
@@ -40,7 +40,7 @@ fn same_back(text: &[u8], other: &[u8]) -> usize {
         .count()
 }
 
-/// Whether two texts differ in one place by two bytes at most. Nothing is claimed of it: it spares the distance of most texts.
+/// Returns whether two texts differ in one place by two bytes at most. It has no contract: it saves computing the distance of most texts.
 fn are_alike(text: &[u8], other: &[u8]) -> bool {
     let longest = text.len().max(other.len());
     if longest > LONGEST || longest.saturating_sub(text.len().min(other.len())) > 1 {
@@ -50,7 +50,7 @@ fn are_alike(text: &[u8], other: &[u8]) -> bool {
     longest.saturating_sub(same) <= 2
 }
 
-/// Whether two texts are one edit apart, and both or none begin with a capital letter.
+/// Returns whether two texts are one edit apart, and both or neither begin with a capital letter.
 fn is_near(alloc: Global, text: &str, other: &str) -> Result<bool, AllocError>
     ensures edits { IfOk result (λ is. is ≡ true → edits text.now other.now ≡ 1) }
     ensures capital { IfOk result (λ is. is ≡ true → begins_capital text.now ≡ begins_capital other.now) }
@@ -64,7 +64,7 @@ fn is_near(alloc: Global, text: &str, other: &str) -> Result<bool, AllocError>
     Ok(osa_distance(alloc, text, other)? == 1)
 }
 
-/// Whether a pair's name is one edit away from this one, behind the same qualifier.
+/// Returns whether a pair's name is one edit away from this one, after the same qualifier.
 fn is_near_pair(alloc: Global, name: &str, pair: &Binding<'_>) -> Result<bool, AllocError>
     ensures { IfOk result (λ is. is ≡ true → IsNearPair name.now pair.now) }
 {
@@ -75,7 +75,7 @@ fn is_near_pair(alloc: Global, name: &str, pair: &Binding<'_>) -> Result<bool, A
 }
 
 // Why: docs/DECISIONS.md, "Near names".
-/// The first of these pairs whose name is one edit away from this one.
+/// Returns the first of these pairs whose name is one edit away from this one.
 pub(crate) fn nearest<'r, 'a>(
     alloc: Global,
     name: &str,
@@ -91,7 +91,7 @@ pub(crate) fn nearest<'r, 'a>(
     Ok(None)
 }
 
-/// Whether a pair has this name in this namespace.
+/// Returns whether a pair has this name in this namespace.
 fn is_named(name: &str, space: Namespace, pair: &Binding<'_>) -> bool
     ensures { result ≡ true → IsEntityFor name.now space pair.now }
 {
@@ -104,7 +104,7 @@ fn is_named(name: &str, space: Namespace, pair: &Binding<'_>) -> bool
     }
 }
 
-/// The first of these pairs that has this name in this namespace.
+/// Returns the first of these pairs that has this name in this namespace.
 pub(crate) fn entity_of<'r, 'a>(
     name: &str,
     space: Namespace,
@@ -120,7 +120,7 @@ pub(crate) fn entity_of<'r, 'a>(
     None
 }
 
-/// The first of these pairs that has this name in this namespace, and another entity.
+/// Returns the first of these pairs that has this name in this namespace, and another entity.
 pub(crate) fn other_entity_of<'r, 'a>(
     name: &str,
     space: Namespace,

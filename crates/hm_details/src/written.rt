@@ -1,8 +1,8 @@
-//! Names as they are written.
+//! Names as sources write them.
 ghost use Rattle.std.specs.Prelude.{◌≡◌, IfSome, option_map};
 ghost use Rattle.hm_names.specs.Faults.Phases.{written_in};
 
-/// What stands behind a qualifier and its dot in a name; the whole name, where no qualifier is asked for.
+/// Returns the part of a name after a qualifier and its dot, if the name has this qualifier. Without a qualifier it returns the whole name.
 pub(crate) fn behind<'n>(name: &'n str, qualifier: Option<&str>) -> Option<&'n str>
     ensures { IfSome result (λ text. name.entry.now ≡ written_in (option_map (λ q. q.now) qualifier.entry) text.now) }
 {

@@ -1,4 +1,4 @@
--- A part of a source replaced by an expression of every type, and which definitions then have a type.
+-- A part of a source replaced by an expression of every type, and the definitions that then have a type.
 use Rattle.std.specs.Prelude.{◌≡◌, ◌<◌, ◌≤◌, ◌-◌, ℕ, List, ◌∷◌, ◌++◌, All, Contains, codes, length, take, drop}
 use Rattle.hm_lex.specs.Cut.{place_after}
 use Rattle.hm_types.specs.Interfaces.{Exports as Interface}
@@ -19,24 +19,24 @@ hole = codes "(let { h = h } in h)"
 abbrev pub with_hole : List ℕ → ℕ → ℕ → List ℕ
 with_hole source from to = take from source ++ (hole ++ drop to source)
 
--- a type fault, and of a definition that isn't among these
+-- a type fault of a definition that isn't among these
 abbrev pub IsElsewhere : List (List ℕ) → Fault → Type 0
 IsElsewhere names f = (f.kind ≡ Untyped) × ¬ (Contains names f.name)
 
--- the module is well-formed, and no type fault is told by one of these names
+-- the verdict is good, or has only type faults with none of these names
 abbrev pub AreTyped : List (List ℕ) → Verdict → Type 0
 AreTyped names (Verdict.Good f) = Unit {0}
 AreTyped names (Verdict.Faulty found) = All (IsElsewhere names) found
 
--- the source spells this module, among others perhaps, and this is its name
+-- the source spells this module, perhaps among others, and this is its name
 pub record IsModuleIn (source : List ℕ) (name : List ℕ) («module» : Module) : Type 0 where
   pub modules : List Module
   pub read : HasModules source modules
   pub among : Contains modules «module»
   pub named : «module».header.name.text ≡ name
 
--- The source spells a module of this name that asks for these interfaces. Its verdict for them and Prelude's has type faults at most, and none of these
--- definitions
+-- the source spells a module with this name that needs these interfaces. Its verdict for them and Prelude's is good, or has only type faults with none
+-- of these names
 pub record HasTypesIn (source : List ℕ) (name : List ℕ) (fs : List Interface) (names : List (List ℕ)) : Type 0 where
   pub «module» : Module
   pub spelled : IsModuleIn source name «module»
@@ -45,12 +45,12 @@ pub record HasTypesIn (source : List ℕ) (name : List ℕ) (fs : List Interface
   pub right : IsVerdict «module» (prelude_interface ∷ fs) verdict
   pub typed : AreTyped names verdict
 
--- With the hole in place of these bytes the definition is no type fault any more, and none of the others that are named with it
+-- with the hole in place of these bytes, the definition isn't a type fault, nor are the others that are named with it
 pub record IsTypedWithout (source : List ℕ) (name : List ℕ) (fs : List Interface) (definition : List ℕ) (from to : ℕ) : Type 0 where
   pub others : List (List ℕ)
   pub types : HasTypesIn (with_hole source from to) name fs (definition ∷ others)
 
--- the part is not empty, it lies in the source, and these are the places of its first and its last byte
+-- the part isn't empty and is in the source, and these are the places of its first and its last byte
 pub record IsPartOf (source : List ℕ) (part : Culprit) : Type 0 where
   pub some : part.from < part.to
   pub within : part.to ≤ length source

@@ -1,4 +1,4 @@
--- Worked holes, parts, verdicts and sources.
+-- Worked examples of holes, parts, verdicts and sources.
 use Rattle.std.specs.Prelude.{◌≡◌, ℕ, List, [], ◌∷◌, Contains, codes}
 use Rattle.hm_lex.specs.declared.token.Place.{Place}
 use Rattle.hm_types.specs.Interfaces.{Exports as Interface}
@@ -12,7 +12,7 @@ use Rattle.hm_verdicts.specs.ModuleVerdicts.{Good, Faulty, IsVerdict}
 use Rattle.hm_verdicts.specs.Worked.{module_A, module_B}
 use Rattle.hm_explain.specs.Holes.{AreTyped, HasTypesIn, IsPartOf, with_hole}
 
--- with the hole for x, and for nothing, in front of it
+-- with the hole in place of x, and before x in place of no bytes
 pub record HolesRow : Type 0 where
   pub argument : with_hole (codes "f x") 2 3 ≡ codes "f (let { h = h } in h)"
   pub nothing : ¬ (with_hole (codes "f x") 2 2 ≡ codes "f (let { h = h } in h)")
@@ -20,7 +20,7 @@ pub record HolesRow : Type 0 where
 abbrev pub at_column : ℕ → Place
 at_column column = record { line = 1; column = column }
 
--- x is the part from byte 2 to byte 3, and what ends where it begins is no part
+-- x is the part from byte 2 to byte 3. No bytes are not a part
 pub record PartsRow : Type 0 where
   pub argument : IsPartOf (codes "f x") (record { from = 2; to = 3; start = at_column 3; end = at_column 3 })
   pub empty : ¬ (IsPartOf (codes "f x") (record { from = 2; to = 2; start = at_column 3; end = at_column 2 }))
@@ -28,7 +28,7 @@ pub record PartsRow : Type 0 where
 abbrev pub told_by : Kind → List ℕ → Fault
 told_by kind name = record { place = at_column 18; kind = kind; name = name }
 
--- f has a type where the module is good, or has a type fault of g alone; it has none where f is a type fault, and nothing is said where g has a fault of
+-- f has a type if the module is good, or has only a type fault of g. It has none if f is a type fault, and none by this definition if g has a fault of
 -- another kind
 pub record VerdictsRow : Type 0 where
   pub good : (f : Interface) → AreTyped (codes "f" ∷ []) (Good f)
@@ -36,9 +36,9 @@ pub record VerdictsRow : Type 0 where
   pub here : ¬ (AreTyped (codes "f" ∷ []) (Faulty (told_by Untyped (codes "f") ∷ [])))
   pub of_names : ¬ (AreTyped (codes "f" ∷ []) (Faulty (told_by Arity (codes "g") ∷ [])))
 
--- The module A has x = 'c' alone and is good, and the module B exports a module that it doesn't import. In a source of A alone each definition has a
--- type, and nothing is said of a module B; in one of B alone nothing is said, since its fault is of another kind; and where a definition is a type fault
--- of the only module, it has no type
+-- the module A has only x = 'c' and is good, and the module B exports a module that it doesn't import. In a source of A alone each definition of A has a
+-- type, and none of a module B has one. In a source of B alone none has one, because the fault of B is of another kind. A definition that is a type fault
+-- of the only module has no type
 pub record TypesRow : Type 0 where
   pub good : (source : List ℕ) (names : List (List ℕ)) → HasModules source (module_A ∷ []) → HasTypesIn source (codes "A") [] names
   pub unnamed : (source : List ℕ) (names : List (List ℕ)) → HasModules source (module_A ∷ []) → ¬ (HasTypesIn source (codes "B") [] names)

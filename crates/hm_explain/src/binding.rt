@@ -9,10 +9,10 @@ use hm_lex::{Kind, Place, Token};
 use hm_names::Fault;
 use std::alloc::{AllocError, Global};
 
-/// How many different names a definition may mention that is explained.
+/// The most different names that a definition may mention to be explained.
 const MOST_NAMES: usize = 256;
 
-/// The number of the token at a place.
+/// Returns the number of the token at a place.
 fn number_at(tokens: &[Token], place: Place) -> Option<usize> {
     for number in 0..tokens.len() {
         if tokens[number].place == place {
@@ -22,7 +22,7 @@ fn number_at(tokens: &[Token], place: Place) -> Option<usize> {
     None
 }
 
-/// Where the declaration ends that begins here: at its `;`, or at the `}` of its list.
+/// Returns where the declaration that begins here ends: at its `;`, or at the `}` of its list.
 pub(crate) fn declaration_end(outline: &Outline, start: usize) -> usize {
     let mut next = start;
     for at in start..outline.len() {
@@ -37,7 +37,7 @@ pub(crate) fn declaration_end(outline: &Outline, start: usize) -> usize {
     outline.len()
 }
 
-/// The first token from this one on that is no `;`.
+/// Returns the number of the first token from this one on that isn't `;`.
 fn past_semicolons(outline: &Outline, start: usize) -> usize {
     for at in start..outline.len() {
         if !outline.symbol(at).is(Symbol::Semicolon) {
@@ -47,7 +47,7 @@ fn past_semicolons(outline: &Outline, start: usize) -> usize {
     outline.len()
 }
 
-/// Whether what begins with this token is a clause of the variable that the other one is.
+/// Returns whether a clause of the variable at the token `variable` begins at the token `at`.
 pub(crate) fn is_clause_of(
     source: &[u8],
     tokens: &[Token],
@@ -70,7 +70,7 @@ pub(crate) fn is_clause_of(
     bytes_in(source, here.start, here.end) == bytes_in(source, other.start, other.end)
 }
 
-/// The tokens of the definition whose first one is at a place: all clauses that stand together, or one pattern binding.
+/// Returns the tokens of the definition that begins at a place: all clauses that follow each other, or one pattern binding.
 pub(crate) fn binding_at(
     source: &[u8],
     tokens: &[Token],
@@ -92,17 +92,17 @@ pub(crate) fn binding_at(
     Some(Run { start, end })
 }
 
-/// Whether a name is among others.
+/// Returns whether a name is among others.
 fn is_among(names: &[&str], name: &str) -> bool {
     names.iter().any(|other| *other == name)
 }
 
-/// Whether a fault is told by a name.
+/// Returns whether one of the faults has this name.
 fn is_fault(faults: &[Fault], name: &str) -> bool {
     faults.iter().any(|fault| fault.name.as_str() == name)
 }
 
-/// The text of a token.
+/// Returns the text of a token.
 fn name_at<'a>(source: &'a [u8], token: &Token) -> &'a str
     requires { LiesIn source.now token.now }
 {
@@ -112,7 +112,7 @@ fn name_at<'a>(source: &'a [u8], token: &Token) -> &'a str
     }
 }
 
-/// The variables that a definition mentions, each once, but those by which faults are told; none where there are too many.
+/// Returns the variables that a definition mentions, each once, except the names of faults. Returns `None` if there are too many.
 pub(crate) fn names_in<'a>(
     alloc: Global,
     source: &'a [u8],

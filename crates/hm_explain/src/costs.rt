@@ -1,20 +1,21 @@
-//! What explanations may cost.
+//! The costs of explanations, and their limits.
 use crate::tokens::Outline;
 use hm_grammar::Symbol;
 
-/// How many trials the explanation of a fault takes at most.
+/// The most trials for the explanation of a fault.
 pub(crate) const MOST_TRIALS: usize = 200;
 
-/// What the explanations of a run may cost: a trial costs `COST_OF_TRIAL`, one for each byte of its source, and `COST_OF_COLON` for each `:`.
+/// The most that the explanations of a run may cost. A trial costs `COST_OF_TRIAL`, one for each byte of its source, and `COST_OF_COLON` for
+/// each `:`.
 const MOST_COST: usize = 1 << 21;
 
 const COST_OF_TRIAL: usize = 1 << 12;
 
-/// A row of `:` is a tree as deep as the row is long, which takes longer to check than other sources.
+/// A row of `:` is a tree as deep as the row is long. It takes longer to check than other sources.
 const COST_OF_COLON: usize = 1 << 5;
 
 // Why: docs/DECISIONS.md, "The cost of :".
-/// What a trial of a source costs.
+/// Returns the cost of a trial of a source.
 pub(crate) fn cost_of(source: &[u8], outline: &Outline) -> usize {
     let mut cost = source.len().saturating_add(COST_OF_TRIAL);
     for at in 0..outline.len() {
@@ -26,16 +27,16 @@ pub(crate) fn cost_of(source: &[u8], outline: &Outline) -> usize {
 }
 
 // Why: docs/DECISIONS.md, "Bounds of trials".
-/// What explanations may still cost.
+/// The cost and the trials that are left for explanations.
 #[derive(Clone, Copy)]
 pub struct Effort {
     left: usize,
-    /// How many trials are left for the fault that is explained.
+    /// The number of trials that are left for the current fault.
     trials: usize,
 }
 
 impl Effort {
-    /// What the explanations of a run may cost.
+    /// Returns the effort for all explanations of a run.
     pub fn of_run() -> Effort {
         Effort {
             left: MOST_COST,
@@ -43,12 +44,12 @@ impl Effort {
         }
     }
 
-    /// Begins with another fault.
+    /// Starts with another fault.
     pub(crate) fn begin(&mut self) {
         self.trials = MOST_TRIALS;
     }
 
-    /// Whether a trial of this cost is paid for by what is left, which is less by its cost then. If it isn't, no trial follows.
+    /// Takes off a trial of this cost, and returns whether the effort was enough for it. If it wasn't, no trial is left for the fault.
     pub(crate) fn pays(&mut self, cost: usize) -> bool {
         if self.trials == 0 {
             return false;
@@ -66,7 +67,7 @@ impl Effort {
         }
     }
 
-    /// Whether no trial is left.
+    /// Returns whether no trial is left.
     pub(crate) fn is_spent(&self) -> bool {
         self.trials == 0
     }

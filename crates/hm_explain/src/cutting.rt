@@ -1,6 +1,7 @@
-//! A smaller source to search in: one module, in which each other definition with a signature is a hole. A trial of it decides the same as one
-//! of the whole source, since a definition depends on the signatures of others alone. Nothing rests on that: what is found is asked of the
-//! whole source.
+//! Makes a smaller source to search in: one module, in which each other definition with a signature is a hole.
+//!
+//! A trial of it has the same result as one of the whole source, because a definition depends only on the signatures of the others. No contract
+//! depends on that: a part that is found is tried in the whole source again.
 use crate::binding::{declaration_end, is_clause_of};
 use crate::edits::bytes_in;
 use crate::tokens::{Lexed, Outline, Run};
@@ -8,14 +9,14 @@ use crate::trial::HOLE;
 use hm_grammar::Symbol;
 use std::alloc::{AllocError, Global};
 
-/// A smaller source, and at which of its bytes the definition begins that is searched.
+/// A smaller source, and the number of its byte at which the searched definition begins.
 #[derive(Drop)]
 pub(crate) struct Cut {
     pub text: Vec<u8>,
     pub definition: usize,
 }
 
-/// The module that a token stands in: from its first token to the bracket that opens its declarations.
+/// Returns the header of the module that a token is in: from its first token to the bracket that opens its declarations.
 fn header_of(outline: &Outline, token: usize) -> Option<Run> {
     let mut start = 0usize;
     let mut next = 0usize;
@@ -43,7 +44,7 @@ fn add_tokens(text: &mut Vec<u8>, lexed: &Lexed<'_>, run: Run) -> Result<(), All
     Ok(text.extend_from_slice(bytes)?)
 }
 
-/// Whether a declaration is a clause of a variable that a signature names.
+/// Returns whether a declaration is a clause of a variable that a signature names.
 fn has_clause(lexed: &Lexed<'_>, signature: Run, at: usize) -> bool {
     for number in signature.start..signature.end {
         if lexed.outline.symbol(number).is(Symbol::OfType) {
@@ -56,13 +57,13 @@ fn has_clause(lexed: &Lexed<'_>, signature: Run, at: usize) -> bool {
     false
 }
 
-/// The source that is written, and what was written last.
+/// The text so far, and its last signature and hole.
 #[derive(Drop)]
 struct Writer {
     text: Vec<u8>,
     /// The last signature.
     signature: Run,
-    /// The name of the last definition in place of which a hole stands.
+    /// The number of the token with the name of the last definition that is a hole.
     hidden: Option<usize>,
 }
 
@@ -92,7 +93,7 @@ impl Writer {
 }
 
 // Why: docs/DECISIONS.md, "A smaller source".
-/// The module that a definition stands in, with holes in place of other definitions; none if the definition stands in no module.
+/// Returns the module that a definition is in, with holes in place of other definitions, or `None` if the definition isn't in a module.
 pub(crate) fn cut_of(
     alloc: Global,
     lexed: &Lexed<'_>,

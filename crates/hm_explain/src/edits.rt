@@ -1,8 +1,8 @@
-//! Changed sources: texts put in place of ranges of bytes.
+//! Makes changed sources: puts texts in place of ranges of bytes.
 use crate::tokens::{Lexed, Run};
 use std::alloc::{AllocError, Global};
 
-/// What is put in place of a range.
+/// The text that an edit puts in.
 #[derive(Clone, Copy)]
 pub(crate) enum Filling {
     Text(&'static str),
@@ -20,36 +20,36 @@ pub(crate) struct Edit {
     pub by: Filling,
 }
 
-/// Something in place of a run.
+/// Returns the edit that puts a text in place of a run.
 pub(crate) fn in_place(lexed: &Lexed<'_>, run: Run, by: Filling) -> Edit {
     let from = lexed.start(run.start);
     let to = lexed.end(run);
     Edit { from, to, by }
 }
 
-/// Something in front of a run.
+/// Returns the edit that puts a text before a run.
 pub(crate) fn before(lexed: &Lexed<'_>, run: Run, by: Filling) -> Edit {
     let from = lexed.start(run.start);
     Edit { from, to: from, by }
 }
 
-/// Something behind a run.
+/// Returns the edit that puts a text after a run.
 pub(crate) fn behind(lexed: &Lexed<'_>, run: Run, by: Filling) -> Edit {
     let to = lexed.end(run);
     Edit { from: to, to, by }
 }
 
-/// A copy of a run.
+/// Returns a copy of a run.
 pub(crate) fn copied(lexed: &Lexed<'_>, run: Run) -> Filling {
     Filling::Copy(lexed.start(run.start), lexed.end(run))
 }
 
-/// A copy of a run, in brackets.
+/// Returns a copy of a run, in brackets.
 pub(crate) fn bracketed(lexed: &Lexed<'_>, run: Run) -> Filling {
     Filling::Bracketed(lexed.start(run.start), lexed.end(run))
 }
 
-/// The bytes from one number up to another; none if there are no such bytes.
+/// Returns the bytes from one number up to another, or no bytes if the source doesn't have them.
 pub(crate) fn bytes_in(source: &[u8], from: usize, to: usize) -> &[u8] {
     if from <= to && to <= source.len() {
         &source[from..to]
@@ -58,7 +58,7 @@ pub(crate) fn bytes_in(source: &[u8], from: usize, to: usize) -> &[u8] {
     }
 }
 
-/// Appends what an edit puts in.
+/// Appends the text that an edit puts in.
 fn fill(text: &mut Vec<u8>, source: &[u8], by: Filling) -> Result<(), AllocError> {
     match by {
         Filling::Text(filling) => text.extend_from_slice(filling.as_bytes())?,
@@ -72,7 +72,7 @@ fn fill(text: &mut Vec<u8>, source: &[u8], by: Filling) -> Result<(), AllocError
     Ok(())
 }
 
-/// The source with these edits, which are in order. One that isn't behind the ones before it is left out.
+/// Returns the source with these edits, which are in order. An edit that doesn't come after the ones before it is left out.
 pub(crate) fn edited(alloc: Global, source: &[u8], edits: &[Edit]) -> Result<Vec<u8>, AllocError> {
     let mut text = Vec::new(alloc);
     let mut at = 0usize;

@@ -5,7 +5,7 @@ ghost use Rattle.hm_lex.specs.Scan.{place_step};
 
 use hm_lex::Place;
 
-/// The place behind a byte at a place.
+/// Returns the place after a byte at a place.
 fn past(place: Place, byte: u8) -> Place
     requires line { place.line + 1 < 2 ^ 64 }
     requires column { place.column + 1 < 2 ^ 64 }
@@ -24,7 +24,7 @@ fn past(place: Place, byte: u8) -> Place
     }
 }
 
-/// The place behind a text.
+/// Returns the place after a text.
 fn place_behind_all(text: &[u8]) -> Place
     ensures { result ≡ place_after text.now }
 {
@@ -35,7 +35,7 @@ fn place_behind_all(text: &[u8]) -> Place
     place
 }
 
-/// The place behind the first bytes of a source.
+/// Returns the place after the first bytes of a source.
 pub(crate) fn place_behind(source: &[u8], at: usize) -> Place
     requires { at ≤ length source.now }
     ensures { result ≡ place_after (take at source.now) }

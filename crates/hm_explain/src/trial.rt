@@ -1,4 +1,4 @@
-//! A trial: whether a definition has a type where a part of its source is replaced by a hole.
+//! Trials: checks whether a definition has a type if a hole replaces a part of its source.
 ghost use Rattle.std.specs.Prelude.{◌≡◌, ◌≤◌, ◌∷◌, IfOk, IfSome, Contains, All, length, map, true};
 ghost use Rattle.std.specs.Arc.{arc_value};
 ghost use Rattle.hm_names.specs.Imports.{AreImportsOf};
@@ -20,28 +20,28 @@ use std::sync::Arc;
 /// An expression of every type.
 pub(crate) const HOLE: &str = "(let { h = h } in h)";
 
-/// How many levels a type may have in a trial.
+/// The most levels of a type in a trial.
 const MOST_LEVELS: usize = 1 << 12;
 
-/// How many nodes types may have in a trial, whatever the source is.
+/// The number of nodes that types may have in a trial of any source.
 const LEAST_NODES: usize = 1 << 15;
 
-/// How many further nodes they may have for each byte of the source.
+/// The number of further nodes that they may have for each byte of the source.
 const NODES_PER_BYTE: usize = 16;
 
-/// What stays the same from trial to trial.
+/// The data that all trials of a module share.
 #[derive(Clone, Copy)]
 pub struct Question<'a> {
     /// The source of the module.
     pub source: &'a [u8],
     /// The name of the module. The source may spell others too.
     pub name: &'a str,
-    /// The interfaces of its imports but Prelude, each once, in order of first import.
+    /// The interfaces of its imports except Prelude, each once, in order of first import.
     pub imports: &'a [Arc<Interface>],
     pub prelude: &'a SharedPrelude,
 }
 
-/// How large types may grow in a trial. A type has few levels, since a trial runs on a stack that is made for trees.
+/// Returns how large types may grow in a trial. The levels are few, because a trial runs on a stack that is sized for trees.
 fn limits_of(source: &[u8]) -> TypeLimits {
     TypeLimits {
         levels: MOST_LEVELS,
@@ -52,7 +52,7 @@ fn limits_of(source: &[u8]) -> TypeLimits {
     }
 }
 
-/// The source with the hole in place of a range of its bytes.
+/// Returns the source with the hole in place of a range of its bytes.
 fn with_hole(alloc: Global, source: &[u8], from: usize, to: usize) -> Result<Vec<u8>, AllocError>
     requires ordered { from ≤ to }
     requires within { to ≤ length source.now }
@@ -64,7 +64,7 @@ fn with_hole(alloc: Global, source: &[u8], from: usize, to: usize) -> Result<Vec
     Ok(made)
 }
 
-/// The modules that a source spells; none where it spells none.
+/// Returns the modules that a source spells, or `None` if it spells none.
 fn modules_in(alloc: Global, source: &[u8]) -> Result<Option<Vec<Module>>, AllocError>
     ensures { IfOk result (λ found. IfSome found (λ modules. HasModules source.now modules.items)) }
 {
@@ -80,7 +80,7 @@ fn modules_in(alloc: Global, source: &[u8]) -> Result<Option<Vec<Module>>, Alloc
     }
 }
 
-/// The first of these modules that has a name.
+/// Returns the first of these modules with this name.
 fn first_named(modules: Vec<Module>, name: &str) -> Option<Module>
     ensures among { IfSome result (λ m. Contains modules.items m) }
     ensures named { IfSome result (λ m. m.header.name.text ≡ name.now) }
@@ -93,7 +93,7 @@ fn first_named(modules: Vec<Module>, name: &str) -> Option<Module>
     None
 }
 
-/// The module of this name that a source spells.
+/// Returns the first module with this name that a source spells.
 fn module_in(alloc: Global, source: &[u8], name: &str) -> Result<Option<Module>, AllocError>
     ensures { IfOk result (λ found. IfSome found (IsModuleIn source.now name.now)) }
 {
@@ -103,7 +103,8 @@ fn module_in(alloc: Global, source: &[u8], name: &str) -> Result<Option<Module>,
     }
 }
 
-/// What the module of a question comes to in a changed source; none where that spells no such module, or one with other imports.
+/// Returns the outcome of the module of a question in a changed source, or `None` if the source spells no such module, or one with other
+/// imports.
 fn judged(
     alloc: Global,
     question: &Question<'_>,
@@ -130,14 +131,14 @@ fn judged(
     }
 }
 
-/// Whether a name is none of these.
+/// Returns whether a name is none of these.
 fn is_none_of(names: &[&str], name: &str) -> bool
     ensures { result ≡ true → All (λ n. ¬ (n.now ≡ name.now)) names.now }
 {
     names.iter().all(|other| *other != name)
 }
 
-/// Whether a fault is a type fault that is told by none of these names.
+/// Returns whether a fault is a type fault with none of these names.
 fn is_elsewhere(fault: &Fault, definition: &str, others: &[&str]) -> bool
     ensures { result ≡ true → IsElsewhere (definition.now ∷ map (λ n. n.now) others.now) fault.now }
 {
@@ -151,7 +152,7 @@ fn is_elsewhere(fault: &Fault, definition: &str, others: &[&str]) -> bool
     is_none_of(others, name)
 }
 
-/// Whether all faults are type faults that are told by none of these names.
+/// Returns whether all faults are type faults with none of these names.
 fn are_elsewhere(faults: &[Fault], definition: &str, others: &[&str]) -> bool
     ensures { result ≡ true → All (IsElsewhere (definition.now ∷ map (λ n. n.now) others.now)) faults.now }
 {
@@ -160,7 +161,7 @@ fn are_elsewhere(faults: &[Fault], definition: &str, others: &[&str]) -> bool
         .all(|fault| is_elsewhere(fault, definition, others))
 }
 
-/// Whether a verdict has type faults at most, and none of these definitions.
+/// Returns whether a verdict is good, or has only type faults with none of these names.
 fn are_typed(verdict: &Verdict, definition: &str, others: &[&str]) -> bool
     ensures { result ≡ true → AreTyped (definition.now ∷ map (λ n. n.now) others.now) (verdict_of verdict.now) }
 {
@@ -170,8 +171,8 @@ fn are_typed(verdict: &Verdict, definition: &str, others: &[&str]) -> bool
     }
 }
 
-/// Whether a definition and others are no type faults in a changed source, and the module has type faults at most. Where they are, or where
-/// the source can't be read, the answer is `false`.
+/// Returns whether the module is good in a changed source, or has only type faults, none of them with the name of the definition or of the
+/// others. Returns `false` if the source can't be read.
 pub(crate) fn has_types_in(
     alloc: Global,
     question: &Question<'_>,
@@ -188,8 +189,7 @@ pub(crate) fn has_types_in(
     }
 }
 
-/// Whether a definition and others are no type faults where the hole stands in place of a range of bytes of the source, and the module
-/// has type faults at most.
+/// Does what `has_types_in` does, for the source with the hole in place of a range of its bytes.
 pub(crate) fn types_without(
     alloc: Global,
     question: &Question<'_>,

@@ -1,4 +1,4 @@
--- What is said of a fault of syntax at a place of a source.
+-- The advice for a fault of syntax at a place of a source.
 use Rattle.std.specs.Prelude.{◌≡◌, ℕ, ◌<◌, ◌≤◌, zero, suc, List, [], ◌∷◌, length, map, take, get_or}
 use Rattle.hm_lex.specs.declared.token.Place.{Place}
 use Rattle.hm_lex.specs.declared.token.Token.{Token}
@@ -15,7 +15,7 @@ use Rattle.hm_hints.specs.declared.syntax_hints.SyntaxHint.TheVariants.{NoHeader
 abbrev pub symbol_in : List ℕ → Token → Symbol
 symbol_in source t = symbol_of t.kind (token_text source t)
 
--- the text of the token with this number, and what it is to the grammar; behind the last one is the end
+-- the text of the token with this number, and its symbol. The end of the source comes after the last token
 unfoldable pub text_at : List ℕ → List Token → ℕ → List ℕ
 text_at source [] k = []
 text_at source (t ∷ ts) zero = token_text source t
@@ -46,7 +46,7 @@ about Update k = k
 about NoAlternative k = k
 about Unexpected k = k
 
--- the hint is so of the token with this number: a change repairs the tokens, any other is so of the tokens there
+-- the hint holds at the token with this number: a change repairs the tokens, any other hint is a fact about the tokens up to this one
 abbrev pub IsSo : List ℕ → List Token → ℕ → SyntaxHint → Type 0
 IsSo source ts k (Repaired r) = IsRepair source ts r
 IsSo source ts k hint = IsSyntaxHint (map (symbol_in source) (take k ts)) (symbol_at source ts k) (text_at source ts k) hint
@@ -56,7 +56,7 @@ pub record IsAt (ts : List Token) (place : Place) (number : ℕ) : Type 0 where
   pub within : number ≤ length ts
   pub stands : (d : Token) → number < length ts → (get_or ts number d).place ≡ place
 
--- the hint is so of the source's tokens at the place, and the text is that of the token that it is about
+-- the hint holds at the source's token at the place, and the text is that of the token that it is about
 pub record IsAdviceAt (source : List ℕ) (place : Place) (hint : SyntaxHint) (text : List ℕ) : Type 0 where
   pub tokens : List Token
   pub read : AreTokensOf source tokens

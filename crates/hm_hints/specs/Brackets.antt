@@ -1,4 +1,4 @@
--- Which brackets are open behind some symbols.
+-- The open brackets after some symbols.
 use Rattle.std.specs.Prelude.{◌≡◌, ℕ, ◌+◌, ◌-◌, ◌<◌, Bool, true, false, List, [], ◌∷◌, length, drop, slice_index_or, if◌then◌else◌}
 use Rattle.hm_grammar.specs.declared.symbol.Symbol.{Symbol}
 use Rattle.hm_grammar.specs.declared.symbol.Symbol.TheVariants.{Open, OpenSquare, LeftBrace, Close, CloseSquare, RightBrace, End}
@@ -15,18 +15,18 @@ closes CloseSquare = true
 closes RightBrace = true
 closes _ = false
 
--- how many brackets before these symbols they would close
+-- the number of brackets before these symbols that they would close
 abbrev pub unmatched : List Symbol → ℕ
 unmatched [] = 0
 unmatched (s ∷ ss) = if closes s then unmatched ss + 1 else (if opens s then unmatched ss - 1 else unmatched ss)
 
--- the symbol with this number, from 0, is an opening bracket, and what stands behind it closes none before itself
+-- the symbol with this number, from 0, is an opening bracket, and the symbols after it don't close it
 pub record IsOpen (symbols : List Symbol) (k : ℕ) : Type 0 where
   pub within : k < length symbols
   pub opening : opens (slice_index_or symbols k End) ≡ true
   pub free : unmatched (drop (k + 1) symbols) ≡ 0
 
--- and none behind it is open
+-- it is open, and no bracket after it is
 pub record IsInnermost (symbols : List Symbol) (k : ℕ) : Type 0 where
   pub opened : IsOpen symbols k
   pub last : (j : ℕ) → k < j → IsOpen symbols j → ⊥

@@ -1,14 +1,14 @@
--- What is so where no lexeme begins.
+-- The facts about a text with which no lexeme begins.
 use Rattle.std.specs.Prelude.{◌≡◌, ◌≢◌, ℕ, ◌<◌, ◌≤◌, List, [], ◌∷◌, ⊤, All, length, slice_index, take, take_while}
 use Rattle.hm_lex.specs.Bytes.{is_symbol}
 use Rattle.hm_hints.specs.declared.lexeme_hints.LexemeHint.{LexemeHint}
 use Rattle.hm_hints.specs.declared.lexeme_hints.LexemeHint.TheVariants.{ByteOrderMark, Backquote, OpenString, StringItem, Character, Fraction, ReservedName, Comment, Dashes, Operator, NotAscii, NoText}
 
--- the first byte lies between these
+-- the first byte is between these
 abbrev pub BeginsBetween : ℕ → ℕ → List ℕ → Type 0
 BeginsBetween low high rest = (b : ℕ) × (bs : List ℕ) × (rest ≡ b ∷ bs) × (low ≤ b) × (b ≤ high)
 
--- the line at the front has so many bytes, and none of them is a double quote
+-- the line at the front has n bytes, and none of them is a double quote
 pub record IsOpenLine (text : List ℕ) (n : ℕ) : Type 0 where
   pub quotes : All (λ b. b ≢ 34) (take n text)
   pub end : n < length text → slice_index text n ≡ 10
@@ -27,7 +27,7 @@ IsLexemeHint rest Operator = (b : ℕ) × (bs : List ℕ) × (rest ≡ b ∷ bs)
 IsLexemeHint rest NotAscii = BeginsBetween 128 255 rest
 IsLexemeHint rest NoText = ⊤
 
--- the operator that a hint is about: all symbols at the front (Report, section 2.2); any other hint is about none
+-- the operator that a hint is about: all symbols at the front (Report, section 2.2). Other hints aren't about an operator
 abbrev pub operator_in : List ℕ → LexemeHint → List ℕ
 operator_in rest ByteOrderMark = []
 operator_in rest Backquote = []

@@ -1,4 +1,4 @@
--- How a hint at a fault of lexemes is told.
+-- The texts of the hint at a lexical fault.
 use Rattle.std.specs.Prelude.{ℕ, List, ◌++◌, codes, if◌then◌else◌, ◌||◌}
 use Rattle.std.specs.Str.{bytes_eq}
 use Rattle.hm_hints.specs.declared.lexeme_hints.LexemeHint.{LexemeHint}

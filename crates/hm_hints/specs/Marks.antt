@@ -27,7 +27,7 @@ mark_text Else = codes "else"
 mark_text Case = codes "case"
 mark_text Of = codes "of"
 
--- what a lexeme with this text is
+-- the kind of a token with this text
 abbrev pub mark_kind : Mark → Kind
 mark_kind Semicolon = Special
 mark_kind Comma = Special
@@ -48,7 +48,7 @@ mark_kind Else = Word
 mark_kind Case = Word
 mark_kind Of = Word
 
--- the token lies in the text, and is this mark
+-- the token is in the text, and is this mark
 pub record IsMarkIn (text : List ℕ) (mark : Mark) (token : Token) : Type 0 where
   pub lies : LiesIn text token
   pub is : token_text text token ≡ mark_text mark

@@ -11,7 +11,7 @@ use Rattle.hm_hints.specs.declared.change.Repair.{Repair}
 use Rattle.hm_hints.specs.declared.change.Scope.{Scope}
 use Rattle.hm_hints.specs.declared.change.Scope.TheVariants.{Whole, Declaration}
 
--- the tokens after the change of the one with this number, where this token is the mark that it puts in
+-- the tokens after the change of the one with this number. The token `mark` is the one that the change puts in
 abbrev pub changed : Change → ℕ → Token → List Token → List Token
 changed (Insert m) at mark ts = take at ts ++ (mark ∷ drop at ts)
 changed (Replace m) at mark ts = take at ts ++ (mark ∷ drop (at + 1) ts)
@@ -32,7 +32,7 @@ repaired r mark close ts = repaired_in r.scope r.change r.at mark close ts
     repaired_in (Declaration header body) change at mark close ts =
         slice_range ts header.start header.end ++ (changed change (at - body.start) mark (slice_range ts body.start body.end) ++ (close ∷ []))
 
--- with the change the tokens spell modules; the marks stand behind the source in a text that goes on with them
+-- with the change the tokens spell modules. The marks are in a text that extends the source
 pub record IsRepair (source : List ℕ) (ts : List Token) (repair : Repair) : Type 0 where
   pub rest : List ℕ
   pub text : List ℕ

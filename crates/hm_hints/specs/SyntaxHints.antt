@@ -1,4 +1,4 @@
--- What is so at a token, after others, with which no source begins.
+-- The facts about a token after others, with which no source begins.
 use Rattle.std.specs.Prelude.{◌≡◌, ◌⊎◌, ℕ, ◌+◌, ◌-◌, ◌<◌, ◌≤◌, ⊤, Bool, true, false, ◌||◌, List, [], length, drop, slice_index_or, All, Some}
 use Rattle.hm_grammar.specs.Reading.Types.{begins_atype}
 use Rattle.hm_grammar.specs.Symbols.{same}
@@ -56,7 +56,7 @@ begins_constructors Data = true
 begins_constructors Newtype = true
 begins_constructors _ = false
 
--- what types and the constructors of a declaration are made of
+-- the symbols that types and the constructors of a declaration can have in them
 abbrev pub is_of_type : Symbol → Bool
 is_of_type Var = true
 is_of_type Con = true
@@ -71,7 +71,7 @@ is_of_type Equals = true
 is_of_type Bar = true
 is_of_type _ = false
 
--- what patterns are made of
+-- the symbols that patterns can have in them
 abbrev pub is_of_pattern : Symbol → Bool
 is_of_pattern Var = true
 is_of_pattern Con = true
@@ -123,7 +123,7 @@ pub record IsInAlternative (symbols : List Symbol) (bracket : ℕ) : Type 0 wher
 abbrev pub last_of : List Symbol → Symbol
 last_of symbols = at symbols (length symbols - 1)
 
--- the hint is so of the token with this symbol and text, and of the symbols before it. That a change serves is no fact of these: IsRepair says it
+-- the hint holds for the token with this symbol and text, and for the symbols before it. A change isn't a fact about these: IsRepair defines when one works
 abbrev pub IsSyntaxHint : List Symbol → Symbol → List ℕ → SyntaxHint → Type 0
 IsSyntaxHint before this text NoHeader = before ≡ []
 IsSyntaxHint before this text ModuleEnded = (last_of before ≡ RightBrace) × IsNoneOpen before

@@ -1,4 +1,4 @@
--- How a hint at a fault of the grammar is told.
+-- The texts of the hint at a fault of syntax.
 use Rattle.std.specs.Prelude.{ℕ, List, [], ◌++◌, codes}
 use Rattle.hm_hints.specs.Features.{feature_help, feature_text}
 use Rattle.hm_hints.specs.Marks.{mark_text}
@@ -7,7 +7,7 @@ use Rattle.hm_hints.specs.declared.change.Change.TheVariants.{Insert, Replace, R
 use Rattle.hm_hints.specs.declared.syntax_hints.SyntaxHint.{SyntaxHint}
 use Rattle.hm_hints.specs.declared.syntax_hints.SyntaxHint.TheVariants.{NoHeader, ModuleEnded, NoBrace, LeftOut, Comprehension, Range, SmallName, AppliedVariable, Repaired, WherePart, NoElse, NotClosed, InPattern, Record, Update, NoAlternative, Unexpected}
 
--- a token between quotes; the end of a source has no text
+-- the text of a token between quotes. The end of a source has no text
 abbrev pub quoted : List ℕ → List ℕ
 quoted [] = codes "the end of the source"
 quoted text = codes "'" ++ text ++ codes "'"

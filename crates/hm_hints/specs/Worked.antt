@@ -1,4 +1,4 @@
--- Worked examples: symbols that end within a type, behind an `if` without `else`, and within an alternative.
+-- Worked examples: symbols that end within a type, after an `if` without `else`, and within an alternative.
 use Rattle.std.specs.Prelude.{List, [], ◌∷◌}
 use Rattle.hm_grammar.specs.declared.symbol.Symbol.{Symbol}
 use Rattle.hm_grammar.specs.declared.symbol.Symbol.TheVariants.{Data, OfType, If, Then, Else, Of, LeftBrace, Semicolon, Equals, Arrow, Var, Con, Integer}
@@ -12,7 +12,7 @@ declared = Data ∷ Con ∷ Equals ∷ Con ∷ Var ∷ []
 abbrev pub ended : List Symbol
 ended = Var ∷ OfType ∷ Con ∷ Semicolon ∷ Var ∷ []
 
--- The constructor's arguments are types. What follows a signature's `;` isn't one
+-- the constructor's arguments are within a type. A name after a signature's `;` isn't
 pub record TypeRow : Type 0 where
   pub within : IsInType begins_type declared
   pub behind : ¬ (IsInType begins_type ended)

@@ -1,10 +1,10 @@
-//! The innermost bracket that is open behind some symbols.
+//! The innermost open bracket after some symbols.
 ghost use Rattle.std.specs.Prelude.{◌≡◌, IfNone, IfSome};
 ghost use Rattle.hm_hints.specs.Brackets.{IsNoneOpen, IsInnermost, closes, opens};
 
 use hm_grammar::Symbol;
 
-/// Whether this is an opening bracket.
+/// Returns whether this is an opening bracket.
 pub(crate) fn opens(symbol: Symbol) -> bool
     ensures { result ≡ opens symbol }
 {
@@ -14,7 +14,7 @@ pub(crate) fn opens(symbol: Symbol) -> bool
     }
 }
 
-/// Whether this is a closing bracket.
+/// Returns whether this is a closing bracket.
 pub(crate) fn closes(symbol: Symbol) -> bool
     ensures { result ≡ closes symbol }
 {
@@ -24,7 +24,7 @@ pub(crate) fn closes(symbol: Symbol) -> bool
     }
 }
 
-/// The number of the innermost bracket that is open behind these symbols.
+/// Returns the number of the innermost open bracket after these symbols, if one is open.
 pub fn open_bracket(symbols: &[Symbol]) -> Option<usize>
     ensures some { IfSome result (IsInnermost symbols.now) }
     ensures none { IfNone result (IsNoneOpen symbols.now) }

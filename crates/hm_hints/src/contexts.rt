@@ -1,4 +1,4 @@
-//! What a place of the tokens is a part of, by the symbols before it.
+//! The form that a place is in, by the symbols before it.
 ghost use Rattle.std.specs.Prelude.{◌≡◌, ◌⊎◌, ◌-◌, ◌<◌, length, slice_index_or, All, IfSome, true, false};
 ghost use Rattle.hm_grammar.specs.Symbols.{same};
 ghost use Rattle.hm_grammar.specs.declared.symbol.Symbol.TheVariants.{Else, End, LeftBrace, Of, Semicolon};
@@ -6,7 +6,7 @@ ghost use Rattle.hm_hints.specs.SyntaxHints.{HasNoElse, IsInAlternative, IsInTyp
 
 use hm_grammar::Symbol;
 
-/// Whether a type follows this, in a signature or a declaration.
+/// Returns whether a type follows this, in a signature or a declaration.
 fn begins_type(symbol: Symbol) -> bool
     ensures { result ≡ begins_type symbol }
 {
@@ -16,7 +16,7 @@ fn begins_type(symbol: Symbol) -> bool
     }
 }
 
-/// Whether constructors follow this.
+/// Returns whether constructors follow this.
 fn begins_constructors(symbol: Symbol) -> bool
     ensures { result ≡ begins_constructors symbol }
 {
@@ -26,7 +26,7 @@ fn begins_constructors(symbol: Symbol) -> bool
     }
 }
 
-/// Whether types, and the constructors of a declaration, can have this in them.
+/// Returns whether types and the constructors of a declaration can have this in them.
 fn is_of_type(symbol: Symbol) -> bool
     ensures { result ≡ is_of_type symbol }
 {
@@ -46,7 +46,7 @@ fn is_of_type(symbol: Symbol) -> bool
     }
 }
 
-/// Whether patterns can have this in them.
+/// Returns whether patterns can have this in them.
 fn is_of_pattern(symbol: Symbol) -> bool
     ensures { result ≡ is_of_pattern symbol }
 {
@@ -70,28 +70,28 @@ fn is_of_pattern(symbol: Symbol) -> bool
     }
 }
 
-/// Whether all of these are parts of types.
+/// Returns whether types can have all of these in them.
 fn are_of_type(symbols: &[Symbol]) -> bool
     ensures { result ≡ true → All (λ s. is_of_type s ≡ true) symbols.now }
 {
     symbols.iter().all(|symbol| is_of_type(*symbol))
 }
 
-/// Whether all of these are parts of patterns.
+/// Returns whether patterns can have all of these in them.
 fn are_of_pattern(symbols: &[Symbol]) -> bool
     ensures { result ≡ true → All (λ s. is_of_pattern s ≡ true) symbols.now }
 {
     symbols.iter().all(|symbol| is_of_pattern(*symbol))
 }
 
-/// Whether none of these is `else`.
+/// Returns whether none of these is `else`.
 fn have_no_else(symbols: &[Symbol]) -> bool
     ensures { result ≡ true → All (λ s. same s Else ≡ false) symbols.now }
 {
     symbols.iter().all(|symbol| !symbol.is(Symbol::Else))
 }
 
-/// Whether these end with a part of a type.
+/// Returns whether these end with a part of a type.
 pub(crate) fn type_begins(symbols: &[Symbol]) -> bool
     ensures { result ≡ true → IsInType begins_type symbols.now }
 {
@@ -104,7 +104,7 @@ pub(crate) fn type_begins(symbols: &[Symbol]) -> bool
     false
 }
 
-/// Whether these end with a part of the constructors of a declaration.
+/// Returns whether these end with a part of the constructors of a declaration.
 pub(crate) fn constructors_begin(symbols: &[Symbol]) -> bool
     ensures { result ≡ true → IsInType begins_constructors symbols.now }
 {
@@ -117,7 +117,7 @@ pub(crate) fn constructors_begin(symbols: &[Symbol]) -> bool
     false
 }
 
-/// The last `if`, if it is after the bracket with this number and no `else` follows it.
+/// Returns the number of the last `if`, if it is after the bracket with this number and no `else` follows it.
 pub(crate) fn without_else(symbols: &[Symbol], bracket: usize) -> Option<usize>
     ensures behind { IfSome result (λ at. bracket < at) }
     ensures open { IfSome result (HasNoElse symbols.now) }
@@ -135,7 +135,7 @@ pub(crate) fn without_else(symbols: &[Symbol], bracket: usize) -> Option<usize>
     None
 }
 
-/// Whether the symbol with this number is the `{` of a `case`.
+/// Returns whether the symbol with this number is the `{` of a `case`.
 fn holds_alternatives(symbols: &[Symbol], bracket: usize) -> bool
     ensures of { result ≡ true → slice_index_or symbols.now (bracket - 1) End ≡ Of }
     ensures brace { result ≡ true → slice_index_or symbols.now bracket End ≡ LeftBrace }
@@ -149,7 +149,7 @@ fn holds_alternatives(symbols: &[Symbol], bracket: usize) -> bool
     symbols[bracket - 1].is(Symbol::Of)
 }
 
-/// Whether an alternative may follow the symbol with this number, within the `{` with the other number.
+/// Returns whether an alternative may follow the symbol at `at`, within the `{` at `bracket`.
 fn precedes_alternative(symbols: &[Symbol], bracket: usize, at: usize) -> bool
     requires { at < length symbols.now }
     ensures { result ≡ true → (at ≡ bracket) ⊎ (slice_index_or symbols.now at End ≡ Semicolon) }
@@ -160,7 +160,7 @@ fn precedes_alternative(symbols: &[Symbol], bracket: usize, at: usize) -> bool
     symbols[at].is(Symbol::Semicolon)
 }
 
-/// Whether these end with a part of a pattern that begins an alternative within the bracket with this number.
+/// Returns whether these end with a part of a pattern that begins an alternative within the bracket with this number.
 pub(crate) fn alternative_begins(symbols: &[Symbol], bracket: usize) -> bool
     ensures { result ≡ true → IsInAlternative symbols.now bracket }
 {

@@ -16,7 +16,7 @@ pub enum Feature {
     Generator,
 }
 
-/// Returns the part of Haskell that begins with this text.
+/// Returns the part of Haskell that begins with this text, if it isn't read.
 pub fn feature_of(text: &[u8]) -> Option<Feature>
     ensures { result ≡ feature_of text.now }
 {
@@ -45,7 +45,7 @@ pub fn feature_of(text: &[u8]) -> Option<Feature>
 }
 
 impl Feature {
-    /// What is said of it.
+    /// Returns the first line of its message.
     pub(crate) fn text(self) -> &'static str
         ensures { result.now ≡ feature_text self }
     {
@@ -61,7 +61,7 @@ impl Feature {
         }
     }
 
-    /// What to write instead.
+    /// Returns what to write instead.
     pub(crate) fn help(self) -> &'static str
         ensures { result.now ≡ feature_help self }
     {

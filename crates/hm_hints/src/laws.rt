@@ -1,7 +1,7 @@
-//! Worked examples: a function with an empty body, whose contract says what holds of them.
+//! Worked examples: a function with an empty body, whose contract has the facts.
 ghost use Rattle.hm_hints.specs.Worked.{AlternativeRow, ElseRow, TypeRow};
 
-/// Which symbols end within a type, behind an `if` without `else`, and within an alternative.
+/// Symbols that end within a type, after an `if` without `else`, and within an alternative.
 #[tactic(auto, using(crate::proofs::WorkedContexts::worked_types, crate::proofs::WorkedContexts::worked_elses, crate::proofs::WorkedContexts::worked_alternatives))]
 pub fn worked_contexts()
     ensures types { TypeRow }

@@ -1,16 +1,16 @@
-//! What is so of a text at which no lexeme begins.
+//! The hint at a text with which no lexeme begins.
 ghost use Rattle.std.specs.Prelude.{◌≡◌, ◌<◌, ◌≤◌, ℕ, true, ◌∷◌, IfSome, length, slice_index, take_while};
 ghost use Rattle.std.specs.List.{prefix_len};
 ghost use Rattle.hm_lex.specs.Bytes.{is_symbol};
 ghost use Rattle.hm_hints.specs.LexemeHints.{IsLexemeHint, IsOpenLine, operator_in};
 
-/// What is where no lexeme can be completed.
+/// What is at a place where no lexeme can be completed.
 #[derive(Clone, Copy, Debug, PartialEq, Eq)]
 pub enum LexemeHint {
     /// A byte order mark.
     ByteOrderMark,
     Backquote,
-    /// A string without a quote at its end on its line.
+    /// A string without a quote on its line that ends it.
     OpenString,
     /// A string with an escape or a byte that isn't read.
     StringItem,
@@ -32,7 +32,7 @@ pub enum LexemeHint {
     NoText,
 }
 
-/// Whether operators are made of this byte (Report, section 2.2).
+/// Returns whether operators can have this byte in them (Report, section 2.2).
 #[tactic(auto, unfolding(hm_lex::specs::Bytes::class_of))]
 fn is_symbol(byte: u8) -> bool
     ensures symbol { result ≡ is_symbol byte }
@@ -53,7 +53,7 @@ fn is_symbol(byte: u8) -> bool
     )
 }
 
-/// The length of the line at the front of a text, if no quote is in it.
+/// Returns the length of the line at the front of a text, if no quote is in it.
 fn open_line(text: &[u8]) -> Option<usize>
     ensures { IfSome result (IsOpenLine text.now) }
 {
@@ -69,7 +69,7 @@ fn open_line(text: &[u8]) -> Option<usize>
     Some(text.len())
 }
 
-/// The hint at a string, of which this is what follows its first quote.
+/// Returns the hint at a string. `inner` is the text after its first quote.
 fn string_hint(rest: &[u8], inner: &[u8]) -> LexemeHint
     requires { rest.now ≡ 34 ∷ inner.now }
     ensures { IsLexemeHint rest.now result }
@@ -107,7 +107,7 @@ pub fn lexeme_hint(rest: &[u8]) -> LexemeHint
     }
 }
 
-/// How many symbols are at the front.
+/// Returns the number of symbols at the front.
 fn symbols_len(text: &[u8]) -> usize
     ensures run { result ≡ prefix_len is_symbol text.now }
     ensures within { result ≤ length text.now }
@@ -120,7 +120,7 @@ fn symbols_len(text: &[u8]) -> usize
     len
 }
 
-/// The symbols at the front.
+/// Returns the symbols at the front.
 fn symbols_in(text: &[u8]) -> &str
     ensures { result.now ≡ take_while is_symbol text.entry.now }
 {
@@ -130,7 +130,7 @@ fn symbols_in(text: &[u8]) -> &str
     }
 }
 
-/// Returns the operator at the front of a text, if the hint there is about one; no text, if it isn't.
+/// Returns the operator at the front of a text if the hint there is about one, and no text otherwise.
 pub fn operator_in(rest: &[u8], hint: LexemeHint) -> &str
     ensures { result.now ≡ operator_in rest.entry.now hint }
 {

@@ -1,11 +1,11 @@
-//! How a hint at a fault of lexemes is told.
+//! The texts of the hint at a lexical fault.
 ghost use Rattle.std.specs.Prelude.{◌≡◌, IfOk, string_bytes};
 ghost use Rattle.hm_hints.specs.LexemeTexts.{lexeme_help, lexeme_text, operator_help};
 
 use crate::lexeme_hints::LexemeHint;
 use std::alloc::{AllocError, Global};
 
-/// Returns the first line of what is said of a hint, without a line's end. The name is that of the operator that it is about.
+/// Returns the first line of the text of a hint, without a line's end. `name` is the operator that the hint is about.
 pub fn lexeme_text(alloc: Global, hint: LexemeHint, name: &str) -> Result<String, AllocError>
     ensures { IfOk result (λ line. string_bytes line ≡ lexeme_text hint name.now) }
 {
@@ -48,7 +48,7 @@ pub fn lexeme_text(alloc: Global, hint: LexemeHint, name: &str) -> Result<String
     }
 }
 
-/// What to write instead of an operator.
+/// Returns what to write instead of an operator.
 fn operator_help(name: &[u8]) -> &'static str
     ensures { result.now ≡ operator_help name.now }
 {
@@ -89,7 +89,7 @@ fn operator_help(name: &[u8]) -> &'static str
     }
 }
 
-/// Returns the second line of what is said of a hint.
+/// Returns the second line of the text of a hint.
 pub fn lexeme_help(hint: LexemeHint, name: &str) -> &'static str
     ensures { result.now ≡ lexeme_help hint name.now }
 {

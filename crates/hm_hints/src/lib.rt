@@ -1,5 +1,6 @@
-//! Finds the likely reason of a lexical or syntax fault, and its texts. A hint states only facts about the bytes or tokens at the place of the
-//! fault and before it.
+//! Finds the likely reason of a lexical or syntax fault, and its texts.
+//!
+//! A hint states only facts about the bytes or tokens at the place of the fault and before it.
 #![tactic(auto)]
 
 mod brackets;

@@ -28,7 +28,7 @@ pub enum Mark {
 }
 
 impl Mark {
-    /// Its text.
+    /// Returns its text.
     pub fn text(self) -> &'static str
         ensures { result.now ≡ mark_text self }
     {
@@ -54,7 +54,7 @@ impl Mark {
         }
     }
 
-    /// What a lexeme with this text is.
+    /// Returns the kind of a token with its text.
     pub fn kind(self) -> Kind
         ensures { result ≡ mark_kind self }
     {

@@ -1,4 +1,4 @@
-//! What is so at a fault of the grammar.
+//! The hint at a fault of syntax.
 ghost use Rattle.std.specs.Prelude.{◌≡◌, ◌-◌, length, slice_index_or, true};
 ghost use Rattle.hm_grammar.specs.declared.symbol.Symbol.TheVariants.{End, LeftBrace, Of};
 ghost use Rattle.hm_hints.specs.Brackets.{IsInnermost};
@@ -10,7 +10,7 @@ use crate::contexts::{alternative_begins, constructors_begin, type_begins, witho
 use crate::features::{Feature, feature_of};
 use hm_grammar::Symbol;
 
-/// What is so at the first token with which no source begins. Other tokens are given by their numbers, from 0.
+/// A fact about the first token with which no source begins. Other tokens are given by their numbers, from 0.
 #[derive(Clone, Copy, Debug, PartialEq, Eq)]
 pub enum SyntaxHint {
     /// Nothing is before it.
@@ -48,14 +48,14 @@ pub enum SyntaxHint {
     Unexpected,
 }
 
-/// A hint at a fault of the grammar, and the text of the token that it is about, which is empty at the end of the source.
+/// A hint at a fault of syntax, and the text of the token that it is about. The text is empty at the end of the source.
 #[derive(Clone, Copy, Debug)]
 pub struct Advice<'a> {
     pub hint: SyntaxHint,
     pub text: &'a str,
 }
 
-/// Whether `{` follows this in every source.
+/// Returns whether `{` follows this in every source.
 fn wants_brace(symbol: Symbol) -> bool
     ensures { result ≡ wants_brace symbol }
 {
@@ -65,7 +65,7 @@ fn wants_brace(symbol: Symbol) -> bool
     }
 }
 
-/// Whether only a capital name may follow this.
+/// Returns whether only a capital name may follow this.
 fn takes_capital(symbol: Symbol) -> bool
     ensures { result ≡ takes_capital symbol }
 {
@@ -75,7 +75,7 @@ fn takes_capital(symbol: Symbol) -> bool
     }
 }
 
-/// Whether a constructor follows this in a declaration.
+/// Returns whether a constructor follows this in a declaration.
 fn takes_constructor(symbol: Symbol) -> bool
     ensures { result ≡ takes_constructor symbol }
 {
@@ -85,7 +85,7 @@ fn takes_constructor(symbol: Symbol) -> bool
     }
 }
 
-/// Whether this is only after something that is complete.
+/// Returns whether this can be only after something complete.
 fn ends(symbol: Symbol) -> bool
     ensures { result ≡ ends symbol }
 {
@@ -99,7 +99,7 @@ fn ends(symbol: Symbol) -> bool
     }
 }
 
-/// Whether an expression may end with this name or bracket.
+/// Returns whether this is a name or a bracket with which an expression may end.
 fn ends_operand(symbol: Symbol) -> bool
     ensures { result ≡ ends_operand symbol }
 {
@@ -109,7 +109,7 @@ fn ends_operand(symbol: Symbol) -> bool
     }
 }
 
-/// Whether these are an opening bracket and its closing one; a `;` may also be within braces.
+/// Returns whether `symbol` closes the bracket. A `;` within braces counts too.
 fn is_partner(bracket: Symbol, symbol: Symbol) -> bool
     ensures { result ≡ is_partner bracket symbol }
 {
@@ -121,7 +121,7 @@ fn is_partner(bracket: Symbol, symbol: Symbol) -> bool
     }
 }
 
-/// Whether these end with `of {`.
+/// Returns whether these end with `of {`.
 fn ends_with_of(before: &[Symbol]) -> bool
     ensures brace { result ≡ true → slice_index_or before.now (length before.now - 1) End ≡ LeftBrace }
     ensures of { result ≡ true → slice_index_or before.now (length before.now - 2) End ≡ Of }
@@ -135,7 +135,7 @@ fn ends_with_of(before: &[Symbol]) -> bool
     before[before.len() - 2].is(Symbol::Of)
 }
 
-/// The hint within an open bracket that doesn't need to be closed first.
+/// Returns the hint within an open bracket that doesn't need to be closed first.
 fn complete_hint(before: &[Symbol], bracket: usize, here: Symbol, text: &[u8]) -> SyntaxHint
     requires { IsInnermost before.now bracket }
     ensures { IsSyntaxHint before.now here text.now result }
@@ -151,7 +151,7 @@ fn complete_hint(before: &[Symbol], bracket: usize, here: Symbol, text: &[u8]) -
     SyntaxHint::Unexpected
 }
 
-/// The hint within an open bracket.
+/// Returns the hint within an open bracket.
 fn bracket_hint(before: &[Symbol], at: usize, here: Symbol, text: &[u8]) -> SyntaxHint
     requires { IsInnermost before.now at }
     ensures { IsSyntaxHint before.now here text.now result }
@@ -175,7 +175,7 @@ fn bracket_hint(before: &[Symbol], at: usize, here: Symbol, text: &[u8]) -> Synt
     complete_hint(before, at, here, text)
 }
 
-/// The hint behind these symbols, by the brackets that are open.
+/// Returns the hint after these symbols, by the open brackets.
 fn open_hint(before: &[Symbol], last: Symbol, here: Symbol, text: &[u8]) -> SyntaxHint
     requires { last ≡ slice_index_or before.now (length before.now - 1) End }
     ensures { IsSyntaxHint before.now here text.now result }
@@ -192,8 +192,8 @@ fn open_hint(before: &[Symbol], last: Symbol, here: Symbol, text: &[u8]) -> Synt
     }
 }
 
-/// Returns what is so of a token, with this text, that no source has after these: what they are to the grammar, without a
-/// change that repairs it.
+/// Returns a fact about the first token with which no source begins. `before` has the symbols of the tokens before it, and `here` is its
+/// symbol. The hint is never a change that repairs it.
 pub fn syntax_hint(before: &[Symbol], here: Symbol, text: &[u8]) -> SyntaxHint
     ensures { IsSyntaxHint before.now here text.now result }
 {
@@ -229,7 +229,7 @@ pub fn syntax_hint(before: &[Symbol], here: Symbol, text: &[u8]) -> SyntaxHint
 }
 
 impl SyntaxHint {
-    /// Whether no change of one token is to be looked for: it says by itself what to do.
+    /// Returns whether the hint is enough to say what to do, so that no change of one token needs to be searched.
     pub fn is_enough(self) -> bool {
         !matches!(
             self,

@@ -1,4 +1,4 @@
-//! How a hint at a fault of the grammar is told.
+//! The texts of the hint at a fault of syntax.
 ghost use Rattle.std.specs.Prelude.{◌≡◌, IfOk, string_bytes};
 ghost use Rattle.hm_hints.specs.SyntaxTexts.{change_help, change_text, quoted, syntax_help, syntax_text};
 
@@ -6,7 +6,7 @@ use crate::change::Change;
 use crate::syntax_hints::SyntaxHint;
 use std::alloc::{AllocError, Global};
 
-/// A token between quotes. The end of a source has no text.
+/// Returns the text of a token between quotes. The end of a source has no text.
 fn quoted(alloc: Global, text: &str) -> Result<String, AllocError>
     ensures { IfOk result (λ quote. string_bytes quote ≡ quoted text.now) }
 {
@@ -16,7 +16,7 @@ fn quoted(alloc: Global, text: &str) -> Result<String, AllocError>
     format!(in alloc; "'{text}'")
 }
 
-/// What is said of a change of the token with this text.
+/// Returns the first line of the text of a change of the token with this text.
 fn change_text(alloc: Global, change: Change, text: &str) -> Result<String, AllocError>
     ensures { IfOk result (λ line. string_bytes line ≡ change_text change text.now) }
 {
@@ -35,8 +35,10 @@ fn change_text(alloc: Global, change: Change, text: &str) -> Result<String, Allo
     }
 }
 
-/// Returns the first line of what is said of a hint, without a line's end. The text is that of the token that it is about:
-/// the one that a change is made at, else the one at the fault; empty at the end of the source.
+/// Returns the first line of the text of a hint, without a line's end.
+///
+/// `text` is that of the token that the hint is about: the one at the change, if it is one, else the one at the fault. It is empty at the
+/// end of the source.
 pub fn syntax_text(alloc: Global, hint: SyntaxHint, text: &str) -> Result<String, AllocError>
     ensures { IfOk result (λ line. string_bytes line ≡ syntax_text hint text.now) }
 {
@@ -84,7 +86,7 @@ pub fn syntax_text(alloc: Global, hint: SyntaxHint, text: &str) -> Result<String
     }
 }
 
-/// What is said of a change after its first line.
+/// Returns the second line of the text of a change.
 fn change_help(change: Change) -> &'static str
     ensures { result.now ≡ change_help change }
 {
@@ -94,7 +96,7 @@ fn change_help(change: Change) -> &'static str
     }
 }
 
-/// Returns the second line of what is said of a hint.
+/// Returns the second line of the text of a hint.
 pub fn syntax_help(hint: SyntaxHint) -> &'static str
     ensures { result.now ≡ syntax_help hint }
 {

@@ -1,4 +1,4 @@
--- What is gathered of the items of an import list. No public clause names these.
+-- The names of the items of an import list. No public clause names these.
 use Rattle.std.specs.Prelude.{◌≡◌, ℕ, List, Contains, None, Some}
 use Rattle.hm_types.specs.declared.Entity.{Entity}
 use Rattle.hm_types.specs.declared.entries.TypeEntry.{TypeEntry}
@@ -18,20 +18,20 @@ use Rattle.hm_tables.specs.NameSets.{FullName}
 abbrev pub bare : Namespace → List ℕ → FullName
 bare s x = record { space = s; qualifier = None; text = x }
 
--- a type under its module for a qualifier
+-- the name of a type, with its module as the qualifier
 abbrev pub type_name : Entity → FullName
 type_name e = record { space = Types; qualifier = Some e.«module»; text = e.name }
 
--- f exports under the name x a constructor of the type
+-- f exports a constructor of the type under the name x
 abbrev pub IsOwned : Interface → Entity → List ℕ → Type 0
 IsOwned f owner x = (k : ConstructorEntry) × (Contains f.constructors k × ((k.name ≡ x) × (k.owner ≡ owner)))
 
--- what stands behind the type v lists by name
+-- n is a name that an item has besides its type v: a constructor of its list. After `hiding`, an item without a list has a constructor with the type's name
 pub data IsBehind (list_use : ListUse) (f : Interface) (v : Identifier) (n : FullName) : SubItems → Type 0 where
   alone : list_use ≡ Hides → n ≡ bare Constructors v.text → IsBehind list_use f v n subs.None
   a_part : {c : Identifier} {cs : List Identifier} {r : TypeEntry} → Contains f.types r → r.name ≡ v.text → Contains cs c → IsOwned f r.entity c.text → n ≡ bare Constructors c.text → IsBehind list_use f v n (subs.Some cs)
 
--- the item lists n by name
+-- n is a name of the item. The constructors of an item `T(..)` aren't among them
 pub data IsNamedBy (list_use : ListUse) (f : Interface) (n : FullName) : ImportItem → Type 0 where
   a_value : {v : Identifier} → n ≡ bare Values v.text → IsNamedBy list_use f n (item.Var v)
   a_type : {v : Identifier} {s : SubItems} → n ≡ bare Types v.text → IsNamedBy list_use f n (item.Con v s)

@@ -1,4 +1,4 @@
--- Which of the exported names an import selects. No public clause names these.
+-- The exported names that an import selects. No public clause names these.
 use Rattle.std.specs.Prelude.{◌≡◌, ℕ, List, Bool, Contains, ◌↔◌}
 use Rattle.hm_types.specs.declared.Entity.{Entity}
 use Rattle.hm_types.specs.Interfaces.{Exports as Interface}
@@ -23,7 +23,7 @@ abbrev pub ListsOrHides : ListUse → Interface → List ℕ → ImportItem → 
 ListsOrHides list_use.Hides f x j s = Hides f x j s
 ListsOrHides list_use.Selects f x j s = Lists f x j s
 
--- the set has the names that items of the list name, or hide
+-- the set has exactly the names that items of the list name, or hide
 abbrev pub IsListed : ListUse → Interface → List ImportItem → List FullName → Type 0
 IsListed u f is names = (s : Namespace) (x : List ℕ) → Contains names (bare s x) ↔ ((j : ImportItem) × (Contains is j × ListsOrHides u f x j s))
 
@@ -39,34 +39,34 @@ Selects Every s x = Unit {0}
 Selects (Only names) s x = Contains names (bare s x)
 Selects (Hiding names) s x = ¬ Contains names (bare s x)
 
--- the selection has the names that the import list selects of f's exports
+-- the selection has the names that the import list selects from f's exports
 abbrev pub IsSelectionOf : Interface → ImportList → Selection → Type 0
 IsSelectionOf f l σ = (s : Namespace) (x : List ℕ) → Selects σ s x ↔ IsSelected f s x l
 
--- the pair is of an entity that f exports under a name that the selection has
+-- the pair has an entity that f exports under a name of the selection
 pub record IsSelectedPair (f : Interface) (σ : Selection) (qualified : Bool) (under : List ℕ) (p : Pair) : Type 0 where
   pub exported : Exports f p.text p.entity p.space
   pub selected : Selects σ p.space p.text
   pub pair : IsPairOf qualified under p.space p.text p.entity p
 
--- the pair is of an entity that f exports under this name, which the selection has
+-- the pair has an entity that f exports under this name of the selection
 pub record IsSelectedAs (f : Interface) (σ : Selection) (qualified : Bool) (under : List ℕ) (s : Namespace) (x : List ℕ) (p : Pair) : Type 0 where
   pub exported : Exports f x p.entity s
   pub selected : Selects σ s x
   pub pair : IsPairOf qualified under s x p.entity p
 
--- the pair is of an entry of this name, which the selection has
+-- the pair has the entity of an entry with this name, and the selection has the name
 abbrev pub IsNamedPair : {E : Type 0} → (E → List ℕ) → (E → Entity) → List E → Selection → Bool → List ℕ → Namespace → List ℕ → Pair → Type 0
 IsNamedPair {E} name entity entries σ qualified under s x p = (r : E) × (Contains entries r × ((name r ≡ x) × (Selects σ s (name r) × IsPairOf qualified under s (name r) (entity r) p)))
 
--- the pair is one that the import brings in from one of the interfaces, that of its module
+-- the import brings in the pair from the interface of its module, which is one of these
 pub record IsBroughtFrom (fs : List Interface) (i : Import) (p : Pair) : Type 0 where
   pub interface : Interface
   pub stands : Contains fs interface
   pub same_name : interface.name ≡ i.name.text
   pub brought : IsBroughtPair interface i p
 
--- the pair is one that an import of the module brings in
+-- an import of the module brings in the pair
 pub record IsImportedPair (m : Module) (fs : List Interface) (p : Pair) : Type 0 where
   pub import_of : Import
   pub imports : Imports m import_of

@@ -1,4 +1,4 @@
-//! The modules whose interfaces a module asks for (Haskell 98 Report, section 5.3).
+//! The modules whose interfaces a module needs (Haskell 98 Report, section 5.3).
 
 ghost use Rattle.std.specs.Prelude.{◌≡◌, ◌↔◌, IfOk, IsTrue, map};
 ghost use Rattle.std.specs.Arc.{arc_value};
@@ -10,7 +10,7 @@ use hm_types::Interface;
 use std::alloc::{AllocError, Global};
 use std::sync::Arc;
 
-/// The names of the imported modules but Prelude, each once, in order of first import.
+/// Returns the names of the imported modules except Prelude, each once, in order of first import.
 pub fn imported_names(alloc: Global, module: &Module) -> Result<Vec<&str>, AllocError>
     ensures { IfOk result (λ names. map (λ n. n.now) names.items ≡ imported «module».now) }
 {
@@ -26,7 +26,7 @@ pub fn imported_names(alloc: Global, module: &Module) -> Result<Vec<&str>, Alloc
     Ok(names)
 }
 
-/// Whether interfaces have these names.
+/// Returns whether the interfaces have these names, in order.
 fn have_names(interfaces: &[Arc<Interface>], names: &[&str]) -> bool
     ensures { IsTrue result ↔ (map (λ f. f.name) (map arc_value interfaces.now) ≡ map (λ n. n.now) names.now) }
 {
@@ -43,7 +43,7 @@ fn have_names(interfaces: &[Arc<Interface>], names: &[&str]) -> bool
     true
 }
 
-/// Whether interfaces are those that a module asks for, in order of first import.
+/// Returns whether these are the interfaces that a module needs, in order of first import.
 pub fn are_imports_of(
     alloc: Global,
     module: &Module,

@@ -1,4 +1,4 @@
-//! What the imports of a module bring into its scope (Report, section 5.3).
+//! The entities that the imports of a module bring into its scope (Report, section 5.3).
 
 ghost use Rattle.std.specs.Prelude.{◌≡◌, ◌↔◌, IfOk, OnOk, IsTrue, Contains, List, ◌∷◌, map};
 ghost use Rattle.std.specs.Arc.{arc_value};
@@ -19,7 +19,7 @@ use hm_types::{Entity, Interface};
 use std::alloc::{AllocError, Global};
 use std::sync::Arc;
 
-/// Which names of an interface an import brings in, behind which qualifier, and whether behind that alone.
+/// The names that an import brings in: those of a selection, with this qualifier, and bare unless `qualified` holds.
 #[derive(Clone, Copy)]
 struct Brought<'r, 'a> {
     selection: &'r Selection<'a>,
@@ -48,7 +48,7 @@ fn add_entry<'a>(
     Ok(add_both(pairs, brought.name, space, text, found)?)
 }
 
-/// Adds the selected ones of all that is exported in a namespace.
+/// Adds the selected ones of these entries, all of one namespace.
 fn add_entries<'a, E: Named>(
     pairs: &mut Vec<Binding<'a>>,
     brought: &Brought<'_, 'a>,
@@ -66,7 +66,7 @@ fn add_entries<'a, E: Named>(
     Ok(())
 }
 
-/// Adds all that an interface exports and a selection selects, by a walk over the interface.
+/// Adds the selected entries of an interface, with a walk over all of its entries.
 fn add_every<'a>(
     pairs: &mut Vec<Binding<'a>>,
     brought: &Brought<'_, 'a>,
@@ -87,7 +87,7 @@ fn add_every<'a>(
     Ok(())
 }
 
-/// Adds what is exported under a name in a namespace, if that is selected.
+/// Adds the entry with this name, if there is one and its name is selected.
 fn add_entry_named<'a, E: Named>(
     pairs: &mut Vec<Binding<'a>>,
     brought: &Brought<'_, 'a>,
@@ -108,7 +108,7 @@ fn add_entry_named<'a, E: Named>(
     }
 }
 
-/// Adds what an interface exports under a name, if that is selected.
+/// Adds the entities that an interface exports under a name, if the name is selected.
 fn add_name<'a>(
     pairs: &mut Vec<Binding<'a>>,
     brought: &Brought<'_, 'a>,
@@ -143,7 +143,7 @@ fn add_name<'a>(
 }
 
 // Why: docs/DECISIONS.md, "Import lists".
-/// Adds what an interface exports under names that a list has, without a walk over the interface.
+/// Adds the entities that an interface exports under the names of a list, if these are selected. Looks each name up.
 fn add_listed<'a>(
     pairs: &mut Vec<Binding<'a>>,
     brought: &Brought<'_, 'a>,
@@ -159,7 +159,7 @@ fn add_listed<'a>(
     Ok(())
 }
 
-/// Adds all that an interface exports and a selection selects.
+/// Adds the selected entries of an interface.
 fn add_selected<'a>(
     pairs: &mut Vec<Binding<'a>>,
     brought: &Brought<'_, 'a>,
@@ -175,7 +175,7 @@ fn add_selected<'a>(
     }
 }
 
-/// The name under which a module is imported.
+/// Returns the name under which a module is imported.
 pub(crate) fn import_name(import: &Import) -> &str
     ensures { result.now ≡ known_as import.now }
 {
@@ -185,7 +185,7 @@ pub(crate) fn import_name(import: &Import) -> &str
     }
 }
 
-/// Adds what an import brings in of its module's interface.
+/// Adds the entities that an import brings in from the interface of its module.
 fn add_brought<'a>(
     alloc: Global,
     pairs: &mut Vec<Binding<'a>>,
@@ -204,7 +204,7 @@ fn add_brought<'a>(
     Ok(())
 }
 
-/// Adds what an import brings in of an interface, if that has the name of its module.
+/// Adds the entities that an import brings in from an interface, if this is the one of the imported module.
 fn add_named<'a>(
     alloc: Global,
     pairs: &mut Vec<Binding<'a>>,
@@ -220,7 +220,7 @@ fn add_named<'a>(
     Ok(())
 }
 
-/// Adds what an import brings in.
+/// Adds the entities that an import brings in.
 fn add_import<'a>(
     alloc: Global,
     pairs: &mut Vec<Binding<'a>>,
@@ -235,7 +235,7 @@ fn add_import<'a>(
     Ok(())
 }
 
-/// Adds all that an interface exports, if it is that of Prelude.
+/// Adds all entities that an interface exports, if it is Prelude's.
 fn add_prelude<'a>(pairs: &mut Vec<Binding<'a>>, interface: &'a Interface) -> Result<(), AllocError>
     ensures { OnOk result (Adds pairs.old.items pairs.new.items (λ p. (interface.now.name ≡ prelude_name) × IsBroughtPair interface.now import_prelude p)) }
 {
@@ -252,7 +252,7 @@ fn add_prelude<'a>(pairs: &mut Vec<Binding<'a>>, interface: &'a Interface) -> Re
     Ok(())
 }
 
-/// Adds what the import of Prelude brings in.
+/// Adds the entities that `import Prelude` brings in.
 fn add_all_of_prelude<'a>(
     pairs: &mut Vec<Binding<'a>>,
     interfaces: &[&'a Interface],
@@ -265,7 +265,7 @@ fn add_all_of_prelude<'a>(
     Ok(())
 }
 
-/// Whether an import that is written names Prelude.
+/// Returns whether a written import names Prelude.
 pub(crate) fn names_prelude(imports: &[Import]) -> bool
     ensures { IsTrue result ↔ ((i : Import) × (Contains imports.now i × (i.name.text ≡ prelude_name))) }
 {
@@ -277,7 +277,7 @@ pub(crate) fn names_prelude(imports: &[Import]) -> bool
     false
 }
 
-/// Adds what the imports that are written bring in.
+/// Adds the entities that the written imports bring in.
 fn add_written<'a>(
     alloc: Global,
     pairs: &mut Vec<Binding<'a>>,
@@ -293,7 +293,7 @@ fn add_written<'a>(
     Ok(())
 }
 
-/// Adds what the imports of a module bring in.
+/// Adds the entities that the imports of a module bring in. If no written import names Prelude, `import Prelude` is one of them.
 fn add_imports<'a>(
     alloc: Global,
     pairs: &mut Vec<Binding<'a>>,
@@ -311,7 +311,7 @@ fn add_imports<'a>(
     Ok(())
 }
 
-/// The interfaces for which a module is looked at: Prelude's, and those of its imports.
+/// Returns the interfaces for which a module is checked: Prelude's, then those of its imports.
 pub fn interfaces_of<'a>(
     alloc: Global,
     prelude: &'a Interface,
@@ -327,7 +327,7 @@ pub fn interfaces_of<'a>(
     Ok(interfaces)
 }
 
-/// The scope of a module, for Prelude's interface and those of its imports.
+/// Returns the scope of a module, for Prelude's interface and those of its imports.
 pub fn scope_of<'a>(
     alloc: Global,
     program: &'a Module,

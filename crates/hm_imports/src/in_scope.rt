@@ -1,4 +1,4 @@
-//! The pairs of a scope: what the module declares, and what its imports bring in (Report, sections 5.3 and 5.5).
+//! The pairs of a scope: of entities that the module declares, and of those that its imports bring in (Report, sections 5.3 and 5.5).
 
 ghost use Rattle.std.specs.Prelude.{◌≡◌, true, false, OnOk, Contains};
 ghost use Rattle.std.specs.Borrow.{Bor};
@@ -15,7 +15,7 @@ use hm_tables::{Binding, EntityRef};
 use hm_types::Text;
 use std::alloc::{AllocError, Global};
 
-/// Adds an entity under its name behind a qualifier.
+/// Adds an entity under its qualified name.
 pub(crate) fn add_qualified<'a>(
     pairs: &mut Vec<Binding<'a>>,
     qualifier: &'a str,
@@ -29,7 +29,7 @@ pub(crate) fn add_qualified<'a>(
     Ok(())
 }
 
-/// Adds an entity under its bare name, and behind a qualifier.
+/// Adds an entity under its bare name and under its qualified name.
 pub(crate) fn add_both<'a>(
     pairs: &mut Vec<Binding<'a>>,
     qualifier: &'a str,
@@ -44,7 +44,7 @@ pub(crate) fn add_both<'a>(
     Ok(())
 }
 
-/// Adds an entity of the module of this name.
+/// Adds an entity of the module with this name.
 fn add_own<'a>(
     pairs: &mut Vec<Binding<'a>>,
     module_name: &'a Text,
@@ -64,7 +64,7 @@ fn add_own<'a>(
     Ok(())
 }
 
-/// Adds variables.
+/// Adds variables of the module with this name.
 fn add_names<'a>(
     pairs: &mut Vec<Binding<'a>>,
     module_name: &'a Text,
@@ -95,7 +95,7 @@ fn add_variables<'a>(
     Ok(())
 }
 
-/// Adds constructors.
+/// Adds constructors of the module with this name.
 fn add_constructors<'a>(
     pairs: &mut Vec<Binding<'a>>,
     module_name: &'a Text,
@@ -111,7 +111,7 @@ fn add_constructors<'a>(
     Ok(())
 }
 
-/// Adds what a declaration declares.
+/// Adds the entities that a declaration declares.
 fn add_declaration<'a>(
     alloc: Global,
     pairs: &mut Vec<Binding<'a>>,
@@ -138,7 +138,7 @@ fn add_declaration<'a>(
     }
 }
 
-/// Adds what a module declares.
+/// Adds the entities that a module declares.
 pub fn add_declared<'a>(
     alloc: Global,
     pairs: &mut Vec<Binding<'a>>,

@@ -1,4 +1,4 @@
-//! The names under which modules can be exported whole (Report, section 5.2).
+//! The names of modules that an export list can name (Report, section 5.2).
 
 ghost use Rattle.std.specs.Prelude.{◌≡◌, ◌↔◌, ℕ, List, IfOk, OnOk, Contains};
 ghost use Rattle.hm_syntax.specs.declared.ast.Import.{Import};
@@ -29,7 +29,7 @@ fn add_imports<'a>(names: &mut TextSet<'a>, imports: &'a [Import]) -> Result<(),
     Ok(())
 }
 
-/// This module's name, and those under which modules are imported, Prelude among them.
+/// Returns the module's name, and the names under which it imports modules. The implicit import of Prelude counts.
 pub fn module_names<'a>(alloc: Global, program: &'a Module) -> Result<TextSet<'a>, AllocError>
     ensures { IfOk result (λ names. (x : List ℕ) → Contains names x ↔ IsModuleName program.now x) }
 {

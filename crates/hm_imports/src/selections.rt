@@ -1,4 +1,4 @@
-//! Which names of an interface an import brings in (Report, section 5.3.1).
+//! The names of an interface that an import list selects (Report, section 5.3.1).
 
 ghost use Rattle.std.specs.Prelude.{◌≡◌, ◌↔◌, IfOk, OnOk, IsTrue, Contains};
 ghost use Rattle.hm_types.specs.declared.entries.ConstructorEntry.{ConstructorEntry};
@@ -15,14 +15,14 @@ use hm_tables::{NameSet, entry_named};
 use hm_types::{ConstructorEntry, Entity, Interface};
 use std::alloc::{AllocError, Global};
 
-/// What an import list does with the names that it has.
+/// How an import list uses its names.
 #[derive(Clone, Copy)]
 pub(crate) enum ListUse {
     Selects,
     Hides,
 }
 
-/// Adds a constructor that is listed behind a type, if it is one of that type.
+/// Adds a constructor that is listed after a type, if it is one of that type.
 fn gather_part<'a>(
     names: &mut NameSet<'a>,
     interface: &Interface,
@@ -41,7 +41,7 @@ fn gather_part<'a>(
     Ok(())
 }
 
-/// Adds those constructors that are listed behind a type and are its own.
+/// Adds the constructors that are listed after a type and are of that type.
 fn gather_parts<'a>(
     names: &mut NameSet<'a>,
     interface: &Interface,
@@ -57,7 +57,8 @@ fn gather_parts<'a>(
     Ok(())
 }
 
-/// Adds what an item lists by name beside a type: constructors, and behind `hiding` one of the type's own name.
+/// Adds the names that an item has besides its type: the constructors of its list. After `hiding`, an item without a list has a constructor
+/// with the type's name.
 fn gather_behind<'a>(
     names: &mut NameSet<'a>,
     interface: &Interface,
@@ -86,7 +87,7 @@ fn gather_behind<'a>(
     }
 }
 
-/// Adds what an item lists by name.
+/// Adds the names of an item. The constructors of an item `T(..)` aren't among them.
 fn gather_names<'a>(
     names: &mut NameSet<'a>,
     interface: &Interface,
@@ -108,7 +109,7 @@ fn gather_names<'a>(
     }
 }
 
-/// Adds what the items of a list list by name.
+/// Adds the names of items, as in `gather_names`.
 fn gather_all_names<'a>(
     names: &mut NameSet<'a>,
     interface: &Interface,
@@ -148,7 +149,7 @@ fn gather_opened<'a>(
     }
 }
 
-/// Adds the types that the items of a list list with all their constructors.
+/// Adds the types that items list with all their constructors.
 fn gather_all_opened<'a>(
     opened: &mut NameSet<'a>,
     interface: &'a Interface,
@@ -198,7 +199,7 @@ fn gather_constructors<'a>(
     Ok(())
 }
 
-/// The names that the items of a list name, or hide.
+/// Returns the names that the items of a list select, or hide.
 fn listed<'a>(
     alloc: Global,
     interface: &'a Interface,
@@ -218,17 +219,17 @@ fn listed<'a>(
     Ok(names)
 }
 
-/// Which names of an interface an import list selects.
+/// The names of an interface that an import list selects.
 #[derive(Drop)]
 pub(crate) enum Selection<'a> {
     Every,
     Only(NameSet<'a>),
-    /// All but these.
+    /// All names except these.
     Hiding(NameSet<'a>),
 }
 
 impl<'a> Selection<'a> {
-    /// What the list of an import selects of its module's interface.
+    /// Returns the names that an import list selects from the interface of its module.
     pub(crate) fn new(
         alloc: Global,
         interface: &'a Interface,
@@ -253,7 +254,7 @@ impl<'a> Selection<'a> {
         }
     }
 
-    /// Whether it selects the name.
+    /// Returns whether the name is selected.
     pub(crate) fn selects(&self, space: Namespace, text: &str) -> bool
         ensures { IsTrue result ↔ Selects self.now space text.now }
     {

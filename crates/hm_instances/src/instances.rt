@@ -1,4 +1,4 @@
-//! Whether one scheme is at least as general as another.
+//! Compares schemes by generality.
 
 ghost use Rattle.std.specs.Prelude.{◌≡◌, ℕ, ◌↔◌, ◌<◌, IfOk, IsTrue, length, true, vec_len};
 ghost use Rattle.hm_types.specs.Types.{Var as leaf};
@@ -11,7 +11,7 @@ ghost use Rattle.hm_instances.specs.Matching.{Matches, MatchesAll};
 use hm_types::{Scheme, Ty};
 use std::alloc::{AllocError, Global};
 
-/// Whether every type that is an instance of `special` is one of `general`
+/// Returns whether every instance of `special` is an instance of `general`
 /// (Damas and Milner 1982, section 3).
 pub fn instance_of(alloc: Global, special: &Scheme, general: &Scheme) -> Result<bool, AllocError>
     ensures { IfOk result (λ answer. IsTrue answer ↔ IsAtLeastAsGeneral general.now special.now) }
@@ -24,7 +24,7 @@ pub fn instance_of(alloc: Global, special: &Scheme, general: &Scheme) -> Result<
     Ok(match_type(alloc, &mut found, pattern, special.body())?)
 }
 
-/// The instance of a scheme that has these types in the place of its variables.
+/// Returns the instance of a scheme with these types in place of its variables.
 pub fn instantiate(alloc: Global, scheme: &Scheme, types: &[Ty]) -> Result<Ty, AllocError>
     requires { length types.now ≡ scheme.now.vars }
     ensures value { IfOk result (λ t. type_of t ≡ substitute (listed (types_of types.now)) scheme.now.body) }
@@ -33,7 +33,7 @@ pub fn instantiate(alloc: Global, scheme: &Scheme, types: &[Ty]) -> Result<Ty, A
     Ok(scheme.body().replace_all(alloc, types)?)
 }
 
-/// Finds types for the variables of a pattern that make it the target.
+/// Finds types for the variables of a pattern that make it the target. Returns whether there are any.
 #[cycle(matching)]
 fn match_type(
     alloc: Global,
@@ -64,7 +64,7 @@ fn match_type(
     }
 }
 
-/// Finds that a variable of a pattern stands for the target, unless it stands for another type.
+/// Finds the target for a variable of a pattern. Returns false if another type was found before.
 fn match_variable(
     alloc: Global,
     found: &mut Vec<Option<Ty>>,
@@ -84,7 +84,7 @@ fn match_variable(
     }
 }
 
-/// Matches lists of types.
+/// Does what `match_type` does, for lists of types.
 #[cycle(matching)]
 fn match_types(
     alloc: Global,

@@ -12,7 +12,7 @@ use hm_types::{Scheme, Ty, Types};
 use std::alloc::{AllocError, Global};
 use std::collections::HashMap;
 
-/// The type with all variables quantified, and numbered in order of first occurrence.
+/// Returns the scheme of a type with all variables quantified, and numbered by first occurrence.
 pub fn canonical(alloc: Global, body: &Ty) -> Result<Scheme, AllocError>
     requires not_rigid { HasNoRigid (type_of body.now) }
     requires arities { HasArities (type_of body.now) }
@@ -27,8 +27,8 @@ pub fn canonical(alloc: Global, body: &Ty) -> Result<Scheme, AllocError>
     Ok(Scheme::new(places.len(), numbered))
 }
 
-/// How many variables there are up to the end of a type, with `next` before it, if each has the number
-/// of its first occurrence. Most types do: this one walk spares them a table and a renaming.
+/// Returns the number of variables up to the end of a type that comes after `next` variables, if they
+/// are numbered by first occurrence. Most types are: this one walk spares them a table and a renaming.
 fn count_in_order(next: usize, t: &Ty) -> Option<usize>
     ensures { IfSome result (λ count. variables_after (count_up 0 next) (type_of t.now) ≡ count_up 0 count) }
 {
@@ -56,7 +56,7 @@ fn count_in_order(next: usize, t: &Ty) -> Option<usize>
     }
 }
 
-/// Adds the variables of a type to those seen, in order of first occurrence.
+/// Adds the variables of a type to those in the table, in order of first occurrence.
 fn collect(places: &mut HashMap<usize, usize>, t: &Ty) -> Result<(), AllocError>
     ensures { OnOk result ((xs : List ℕ) → Numbers places.old xs → Numbers places.new (variables_after xs (type_of t.now))) }
 {
@@ -72,7 +72,7 @@ fn collect(places: &mut HashMap<usize, usize>, t: &Ty) -> Result<(), AllocError>
     Ok(())
 }
 
-/// Adds a variable to those seen, unless it is there.
+/// Adds a variable to the table, unless it is there.
 fn see(places: &mut HashMap<usize, usize>, n: usize) -> Result<(), AllocError>
     ensures { OnOk result ((xs : List ℕ) → Numbers places.old xs → Numbers places.new (variables_after xs (leaf (var n)))) }
 {
@@ -84,7 +84,7 @@ fn see(places: &mut HashMap<usize, usize>, n: usize) -> Result<(), AllocError>
     Ok(())
 }
 
-/// The place of a variable among those seen, or their number.
+/// Returns the place of a variable in the table, or the length of the table.
 fn place_of(places: &HashMap<usize, usize>, n: usize) -> usize
     ensures { (xs : List ℕ) → Numbers places.now xs → result ≡ place n xs }
 {
@@ -94,7 +94,7 @@ fn place_of(places: &HashMap<usize, usize>, n: usize) -> usize
     }
 }
 
-/// The type with each variable numbered by its place.
+/// Returns the type with each variable numbered by its place.
 fn renumber(alloc: Global, places: &HashMap<usize, usize>, t: &Ty) -> Result<Ty, AllocError>
     ensures { IfOk result (λ u. (xs : List ℕ) → Numbers places.now xs → type_of u ≡ substitute (numbering xs) (type_of t.now)) }
 {

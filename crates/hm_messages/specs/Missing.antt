@@ -7,7 +7,7 @@ use Rattle.hm_names.specs.Texts.{is_text_among}
 use Rattle.hm_sources.specs.declared.located.Located.{Located}
 use Rattle.hm_messages.specs.declared.missing.MissingImport.{MissingImport}
 
--- an import of a set: the source that it stands in, counted from 0, its place there, and the module that it names
+-- an import of a set: the source that it is in, counted from 0, its place there, and the module that it names
 pub record SetImport : Type 0 where
   pub number : ℕ
   pub place : Place

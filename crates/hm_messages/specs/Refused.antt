@@ -1,4 +1,4 @@
--- What is told of a set that is refused.
+-- The messages of a refused set.
 use Rattle.std.specs.Prelude.{◌≡◌, ℕ, ◌+◌, ◌-◌, ◌<◌, ⊤, List, [], ◌∷◌, ◌++◌, length, slice_index_or}
 use Rattle.hm_excerpts.specs.Excerpts.{IsExcerptAt}
 use Rattle.hm_excerpts.specs.declared.excerpt.Excerpt.{Excerpt}
@@ -19,14 +19,14 @@ use Rattle.hm_messages.specs.Missing.{SetImport, missing_imports}
 use Rattle.hm_messages.specs.Subjects.{Subject, too_long, lexeme, open_comment, too_deep, syntax_fault, too_many, twice, missing, cycle, step}
 use Rattle.hm_messages.specs.declared.heading.Paint.{Paint}
 
--- the hint is so of what is shown from the place on, and the operator that it names is the one there
+-- the hint holds for the shown text from the place on, and the operator that it names is the one there
 pub record IsLexemeHintAt (source : List ℕ) (p : Place) (hint : LexemeHint) (name : List ℕ) : Type 0 where
   pub shown : Excerpt
   pub at : IsExcerptAt source p shown
   pub holds : IsLexemeHint shown.right.now hint
   pub name_is : name ≡ operator_in shown.right.now hint
 
--- what the message of a refusal may tell; want of memory refuses no set
+-- the subject of the message of a refusal. A set isn't refused if memory ran out
 abbrev pub IsRefusedSubject : List (List ℕ) → Refusal → Subject → Type 0
 IsRefusedSubject sources (lex n lexing.TooLong) s = s ≡ too_long
 IsRefusedSubject sources (lex n (lexing.Lexeme p)) s = (hint : LexemeHint) × (name : List ℕ) × (s ≡ lexeme hint name) × IsLexemeHintAt (slice_index_or sources (n - 1) []) p hint name
@@ -41,14 +41,14 @@ IsRefusedSubject sources (plan (planning.Missing k j) m i) s = s ≡ missing i
 IsRefusedSubject sources (plan (planning.Cycle k) m i) s = s ≡ cycle m
 IsRefusedSubject sources (plan planning.Memory m i) s = s ≡ too_long
 
--- what is said of a fault of syntax is so; nothing is asked of what is said of other refusals
+-- the advice for a fault of syntax holds. That for another refusal may be any
 abbrev pub IsAdvised : List (List ℕ) → Refusal → SyntaxHint → List ℕ → Type 0
 IsAdvised sources (lex n fault) hint text = ⊤
 IsAdvised sources (parse n (parsing.Syntax p)) hint text = IsAdviceAt (slice_index_or sources (n - 1) []) p hint text
 IsAdvised sources (parse n parsing.Memory) hint text = ⊤
 IsAdvised sources (plan fault m i) hint text = ⊤
 
--- the source, counted from 0, and the place that the refusal tells; a source that is too long is told at its first place, and a plan tells none
+-- the source, counted from 0, and the place of the refusal. A source that is too long is refused at its first place, and a plan at any
 abbrev pub IsRefusedAt : Refusal → ℕ → Place → Type 0
 IsRefusedAt (lex n lexing.TooLong) number place = (number ≡ n - 1) × (place ≡ record { line = 1; column = 1 })
 IsRefusedAt (lex n (lexing.Lexeme p)) number place = (number ≡ n - 1) × (place ≡ p)
@@ -64,7 +64,7 @@ pub record IsMessageAt (paint : Paint) (files sources : List (List ℕ)) (number
   pub inside : number < length sources
   pub told : IsMessage paint (slice_index_or files number []) (slice_index_or sources number []) place subject text
 
--- an import of a cycle: in which source, at which place, of which module, and what it imports
+-- an import of a cycle: its source, its place, its module, and the name that it imports
 pub record Way : Type 0 where
   pub number : ℕ
   pub place : Place
@@ -74,7 +74,7 @@ pub record Way : Type 0 where
 abbrev pub IsWayTold : Paint → List (List ℕ) → List (List ℕ) → Way → List ℕ → Type 0
 IsWayTold paint files sources way text = (way.number < length sources) × IsHeadingAt paint (slice_index_or files way.number []) (slice_index_or sources way.number []) way.place (step way.name way.import) text
 
--- one message at a place of a source, and behind it a line for each import of a cycle
+-- one message at a place of a source, and after it a line for each import of a cycle
 pub record AreMessagesOf (paint : Paint) (files sources : List (List ℕ)) (number : ℕ) (place : Place) (subject : Subject) (text : List ℕ) : Type 0 where
   pub first : List ℕ
   pub told : IsMessageAt paint files sources number place subject first
@@ -87,7 +87,8 @@ pub record AreMessagesOf (paint : Paint) (files sources : List (List ℕ)) (numb
 abbrev pub IsMissingTold : Paint → List (List ℕ) → List (List ℕ) → SetImport → List ℕ → Type 0
 IsMissingTold paint files sources i text = IsMessageAt paint files sources i.number i.place (missing i.name) text
 
--- the first import that names no module is this one, and the text has a message for each further one, in order; so many errors are told in all
+-- the first import that names no module is this one, and the text has a message for each further one, in order. The number of errors is that of all of
+-- them
 pub record AreFurtherTold (paint : Paint) (files sources : List (List ℕ)) (first : SetImport) (errors : ℕ) (text : List ℕ) : Type 0 where
   pub located : List Located
   pub of_sources : AreLocated sources located
@@ -96,8 +97,8 @@ pub record AreFurtherTold (paint : Paint) (files sources : List (List ℕ)) (fir
   pub told : AreEach (IsMissingTold paint files sources) more text
   pub count : errors ≡ length more + 1
 
--- what stands behind the first message, at this place, and how many errors are told: a line for each import of a cycle, or a message for each
--- further import that names no module; else nothing
+-- the text after the first message, which is at this place, and the number of errors. It has a line for each import of a cycle, or a message for each
+-- further import that names no module. Otherwise it is empty
 abbrev pub IsBehind : Paint → List (List ℕ) → List (List ℕ) → Refusal → ℕ → Place → ℕ → List ℕ → Type 0
 IsBehind paint files sources (lex n fault) number place errors text = (text ≡ []) × (errors ≡ 1)
 IsBehind paint files sources (parse n fault) number place errors text = (text ≡ []) × (errors ≡ 1)
@@ -107,7 +108,7 @@ IsBehind paint files sources (plan (planning.Missing k j) m i) number place erro
 IsBehind paint files sources (plan (planning.Cycle k) m i) number place errors text = (ways : List Way) × AreEach (IsWayTold paint files sources) ways text × (errors ≡ 1)
 IsBehind paint files sources (plan planning.Memory m i) number place errors text = (text ≡ []) × (errors ≡ 1)
 
--- messages of what the refusal tells, at the place that it tells, and of what stands behind; and how many errors they tell
+-- a message of the refusal at its place, the text after it, and the number of errors that they report
 pub record AreRefusalMessages (paint : Paint) (files sources : List (List ℕ)) (refusal : Refusal) (errors : ℕ) (text : List ℕ) : Type 0 where
   pub subject : Subject
   pub subject_is : IsRefusedSubject sources refusal subject
@@ -120,7 +121,7 @@ pub record AreRefusalMessages (paint : Paint) (files sources : List (List ℕ)) 
   pub followed : IsBehind paint files sources refusal number place errors behind
   pub whole : text ≡ first ++ behind
 
--- and behind them the counts; no module is skipped
+-- these messages, and after them the counts. No module is skipped
 pub record IsRefusalTold (paint : Paint) (files sources : List (List ℕ)) (refusal : Refusal) (text : List ℕ) : Type 0 where
   pub messages : List ℕ
   pub errors : ℕ

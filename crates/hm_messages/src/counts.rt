@@ -1,4 +1,4 @@
-//! The line of counts behind messages.
+//! The line of counts after messages.
 ghost use Rattle.std.specs.Prelude.{◌≡◌, IfOk, string_bytes};
 ghost use Rattle.hm_messages.specs.Headings.{count_text as count_bytes, prose_counts as prose_bytes, some_counts as some_bytes};
 
@@ -6,7 +6,7 @@ use crate::heading::Paint;
 use hm_json::counts_line;
 use std::alloc::{AllocError, Global};
 
-/// The line of counts for a reader.
+/// Returns the line of counts for a reader.
 fn some_counts(alloc: Global, errors: usize, skipped: usize) -> Result<String, AllocError>
     ensures { IfOk result (λ text. string_bytes text ≡ some_bytes errors skipped) }
 {
@@ -14,7 +14,7 @@ fn some_counts(alloc: Global, errors: usize, skipped: usize) -> Result<String, A
 }
 
 // Why: docs/DECISIONS.md, "Counts".
-/// The counts for a reader: nothing where nothing is wrong.
+/// Returns the line of counts for a reader, or no text if both numbers are 0.
 fn prose_counts(alloc: Global, errors: usize, skipped: usize) -> Result<String, AllocError>
     ensures { IfOk result (λ text. string_bytes text ≡ prose_bytes errors skipped) }
 {
@@ -28,7 +28,7 @@ fn prose_counts(alloc: Global, errors: usize, skipped: usize) -> Result<String, 
 }
 
 // Why: docs/DECISIONS.md, "Counts where all is good".
-/// How many errors were told, and how many modules are skipped.
+/// Returns the line with the numbers of reported errors and of skipped modules.
 pub fn count_text(
     alloc: Global,
     paint: Paint,

@@ -1,19 +1,19 @@
-//! A shortest way of imports from a module back to itself. Nothing is claimed of it but that looking for it ends.
+//! Finds a shortest path of imports from a module back to itself. It is proved only that the search ends.
 use hm_sources::Located;
 use indexmap::IndexMap;
 use std::alloc::{AllocError, Global};
 
-/// A step of a way: an import of a module, both by their numbers.
+/// A step of a path: an import of a module, both by their numbers.
 #[derive(Clone, Copy)]
 pub(crate) struct Step {
     pub module: usize,
     pub import: usize,
 }
 
-/// What is known while a way is looked for.
+/// The state of a search for a path.
 struct Search<'a> {
     numbers: IndexMap<&'a str, usize>,
-    /// For each module the step by which it was reached first.
+    /// For each module, the step that reached it first.
     came: Vec<Option<Step>>,
     /// The modules that were reached, in order.
     reached: Vec<usize>,
@@ -29,7 +29,7 @@ impl Drop for Search<'_> {
     }
 }
 
-/// The number of each module under its name.
+/// Returns the number of each module under its name.
 fn numbers_of<'a>(
     alloc: Global,
     located: &'a [Located],
@@ -41,7 +41,7 @@ fn numbers_of<'a>(
     Ok(numbers)
 }
 
-/// Reaches what a module imports; answers the step that leads back to `start`, if there is one.
+/// Reaches the modules that a module imports. Returns the step that leads back to `start`, if there is one.
 fn reach(
     search: &mut Search<'_>,
     located: &[Located],
@@ -69,7 +69,7 @@ fn reach(
     Ok(None)
 }
 
-/// The steps that lead from `start` to the last one.
+/// Returns the steps from `start` to the last one.
 fn way_to(
     alloc: Global,
     came: &[Option<Step>],
@@ -92,7 +92,7 @@ fn way_to(
     Ok(steps)
 }
 
-/// A shortest way of imports from a module back to itself; no steps, where there is none.
+/// Returns the steps of a shortest path of imports from a module back to itself, or no steps if there is none.
 pub(crate) fn cycle_of(
     alloc: Global,
     located: &[Located],

@@ -20,7 +20,7 @@ use std::alloc::{AllocError, Global};
 #[derive(Clone, Copy, Debug, PartialEq, Eq, Drop)]
 pub enum MessageFault {
     Memory,
-    /// What is to be told has no place in its source.
+    /// The place isn't in its source.
     Place,
 }
 
@@ -49,7 +49,7 @@ impl From<MessageFault> for RunFault {
     }
 }
 
-/// The place as readers count it, its column in characters.
+/// Returns the place as readers count it: its column in characters.
 fn reader_place(page: &Page<'_>, place: Place) -> Option<Place>
     ensures { IfSome result (λ p. (columns : Columns) × AreColumnsAt page.now.lines place columns × (p ≡ reader_place place columns)) }
 {
@@ -60,7 +60,7 @@ fn reader_place(page: &Page<'_>, place: Place) -> Option<Place>
     })
 }
 
-/// The first line of a message for a reader.
+/// Returns the first line of a message for a reader.
 fn prose_heading(
     alloc: Global,
     paint: Paint,
@@ -80,7 +80,7 @@ fn prose_heading(
     Ok(text)
 }
 
-/// The message of a topic for a reader.
+/// Returns the message of a topic for a reader.
 fn prose(
     alloc: Global,
     paint: Paint,
@@ -99,7 +99,7 @@ fn prose(
     Ok(text)
 }
 
-/// The first line of a message at a place of a source; its object, where messages are objects.
+/// Returns the first line of a message at a place of a source, or its object if messages are JSON.
 pub(crate) fn heading_at(
     alloc: Global,
     paint: Paint,
@@ -116,7 +116,11 @@ pub(crate) fn heading_at(
     }
 }
 
-/// The message of a topic at a place of a source.
+/// Returns the message of a topic at a place of a source.
+///
+/// # Errors
+///
+/// `Place` if the place isn't in the source, and `Memory` if memory ran out.
 pub fn message(
     alloc: Global,
     paint: Paint,

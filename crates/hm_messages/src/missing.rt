@@ -12,15 +12,15 @@ use std::alloc::{AllocError, Global};
 /// An import that names no module of its set.
 #[derive(Clone, Copy)]
 pub(crate) struct MissingImport<'a> {
-    /// The number of the source that it stands in, counted from 0.
+    /// The number of the source that it is in, counted from 0.
     pub source: usize,
-    /// The place of the name in it.
+    /// The place of the name in that source.
     pub place: Place,
-    /// What it names.
+    /// The name that it imports.
     pub name: &'a str,
 }
 
-/// The names that an import may have: Prelude's, and those of these modules.
+/// Returns the names that an import may have: Prelude's, and those of these modules.
 fn known_names<'a>(alloc: Global, located: &'a [Located]) -> Result<TextSet<'a>, AllocError>
     ensures { IfOk result (λ names. (x : List ℕ) → is_text_among x names ≡ is_text_among x (prelude_name ∷ module_names located.entry.now)) }
 {
@@ -54,7 +54,7 @@ fn add_missing<'a>(
     Ok(())
 }
 
-/// The imports of these modules that name neither Prelude nor one of them, in order.
+/// Returns the imports of these modules that name neither Prelude nor one of them, in order.
 pub(crate) fn missing_imports<'a>(
     alloc: Global,
     located: &'a [Located],

@@ -1,4 +1,4 @@
-//! Messages for programs.
+//! Messages for programs, as JSON.
 ghost use Rattle.std.specs.Prelude.{IfOk, IfSome, option_map, string_bytes};
 ghost use Rattle.hm_messages.specs.Messages.{IsHint, IsObject, IsPositionAt, IsRangeAt};
 ghost use Rattle.hm_messages.specs.Subjects.{subject_of};
@@ -12,14 +12,14 @@ use hm_json::{Message, Position, message_line};
 use hm_lex::Place;
 use std::alloc::{AllocError, Global};
 
-/// From a place to behind what is marked there.
+/// The range from a place to the end of the mark there.
 #[derive(Clone, Copy)]
 struct Range {
     start: Position,
     end: Position,
 }
 
-/// The position of a place.
+/// Returns the position of a place, if it is in the source.
 fn position_at(page: &Page<'_>, place: Place) -> Option<Position>
     ensures { IfSome result (IsPositionAt page.now.lines place) }
 {
@@ -30,7 +30,7 @@ fn position_at(page: &Page<'_>, place: Place) -> Option<Position>
     })
 }
 
-/// From a place to behind what is marked there.
+/// Returns the range from a place to the end of the mark there, if the place is in the source.
 fn range_at(page: &Page<'_>, place: Place) -> Option<Range>
     ensures { IfSome result (λ range. IsRangeAt page.now.lines place range.start range.end) }
 {
@@ -40,7 +40,7 @@ fn range_at(page: &Page<'_>, place: Place) -> Option<Range>
     Some(Range { start, end })
 }
 
-/// A sentence without its line end, if there is one.
+/// Returns a sentence without its line end, or `None` if it is empty.
 fn hint_in(alloc: Global, sentence: &str) -> Result<Option<String>, AllocError>
     ensures { IfOk result (λ hint. IsHint sentence.now (option_map string_bytes hint)) }
 {
@@ -51,7 +51,7 @@ fn hint_in(alloc: Global, sentence: &str) -> Result<Option<String>, AllocError>
     }
 }
 
-/// The message of a topic at a place of a source, as an object.
+/// Returns the message of a topic at a place of a source, as an object.
 pub(crate) fn object(
     alloc: Global,
     page: &Page<'_>,

@@ -8,7 +8,7 @@ use hm_lex::Place;
 use hm_sources::Located;
 use std::alloc::{AllocError, Global};
 
-/// Where a module of a source begins, at its name.
+/// The name of a module, and the place of the name.
 #[derive(Clone, Copy, Debug)]
 pub struct ModuleStart<'a> {
     pub place: Place,
@@ -20,17 +20,17 @@ pub struct ModuleStart<'a> {
 pub struct Page<'a> {
     pub file: &'a [u8],
     pub lines: SourceLines<'a>,
-    /// Its modules in order, where they are known.
+    /// Its modules in order, or none if they aren't known.
     pub modules: Vec<ModuleStart<'a>>,
 }
 
-/// Whether a place stands before another one.
+/// Returns whether a place comes before another one.
 fn is_before(place: Place, other: Place) -> bool {
     place.line < other.line || (place.line == other.line && place.column < other.column)
 }
 
 impl<'a> Page<'a> {
-    /// The module in which a place stands: the last one whose name isn't behind it.
+    /// Returns the module that a place is in: the last one whose name doesn't come after it.
     pub(crate) fn module_at(&self, place: Place) -> Option<&'a str> {
         let mut low = 0usize;
         let mut high = self.modules.len();
@@ -47,7 +47,7 @@ impl<'a> Page<'a> {
     }
 }
 
-/// The modules of a source, from this one of all modules on.
+/// Returns the modules of a source. `from` is the number of its first one among all modules.
 fn modules_from<'a>(
     alloc: Global,
     located: &'a [Located],
@@ -68,7 +68,7 @@ fn modules_from<'a>(
     Ok(modules)
 }
 
-/// The name of a source: a source without one is standard input.
+/// Returns the name of a source. A source without one is standard input.
 fn file_at<'a>(names: &'a [Vec<u8>], number: usize) -> &'a [u8]
     ensures { result.now ≡ file_at (map (λ s. s.items) names.now) number }
 {
@@ -78,14 +78,15 @@ fn file_at<'a>(names: &'a [Vec<u8>], number: usize) -> &'a [u8]
     }
 }
 
-/// Sources as messages show them, in order, and whether messages have colours.
+/// Sources as messages show them, in order, and the form of the messages.
 #[derive(Drop)]
 pub struct Pages<'a> {
     pub paint: Paint,
     pub items: Vec<Page<'a>>,
 }
 
-/// Returns the sources with these names, as messages show them. The modules of all sources are in order, or none are known.
+/// Returns the sources with these names, as messages show them. `located` has the modules of all sources in order, or is empty if they
+/// aren't known.
 pub fn pages_of<'a>(
     alloc: Global,
     paint: Paint,

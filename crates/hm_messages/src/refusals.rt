@@ -1,4 +1,4 @@
-//! The messages of a set that is refused.
+//! The messages of a refused set.
 ghost use Rattle.std.specs.Prelude.{◌≡◌, ◌-◌, ◌++◌, ℕ, List, [], IfOk, map, slice_index_or};
 ghost use Rattle.hm_lex.specs.declared.token.Place.{Place};
 ghost use Rattle.hm_sources.specs.Origins.{AreLocated};
@@ -25,14 +25,14 @@ use std::alloc::Global;
 /// The most modules of a set.
 const MODULE_LIMIT: usize = 4096;
 
-/// Where a refusal shows: in which source, counted from 0, and at which place of it.
+/// A source, counted from 0, and a place in it.
 #[derive(Clone, Copy)]
 struct Spot {
     source: usize,
     place: Place,
 }
 
-/// The place of a module's name.
+/// Returns the spot of a module's name.
 fn module_spot(located: &[Located], module: usize) -> Option<Spot> {
     let here = located.get(module)?;
     Some(Spot {
@@ -41,7 +41,7 @@ fn module_spot(located: &[Located], module: usize) -> Option<Spot> {
     })
 }
 
-/// The place of the name in an import of a module.
+/// Returns the spot of the name in an import of a module.
 fn import_spot(located: &[Located], step: Step) -> Option<Spot> {
     let here = located.get(step.module)?;
     let import = here.header.imports.as_slice().get(step.import)?;
@@ -51,7 +51,7 @@ fn import_spot(located: &[Located], step: Step) -> Option<Spot> {
     })
 }
 
-/// The message of a topic at a spot.
+/// Returns the message of a topic at a spot.
 fn message_at(
     alloc: Global,
     pages: &Pages<'_>,
@@ -68,7 +68,7 @@ fn message_at(
     Ok(message(alloc, pages.paint, page, spot.place, topic)?)
 }
 
-/// The message of a source, counted from 1, that is refused at a place.
+/// Returns the message of a topic at a place of a source, counted from 1.
 fn source_messages(
     alloc: Global,
     pages: &Pages<'_>,
@@ -85,14 +85,14 @@ fn source_messages(
     Ok(message_at(alloc, pages, Spot { source, place }, topic)?)
 }
 
-/// What is at a place of a source where no lexeme begins.
+/// The hint at a place where no lexeme begins, and the operator that it is about.
 #[derive(Clone, Copy)]
 struct LexemeAdvice<'a> {
     hint: LexemeHint,
     name: &'a str,
 }
 
-/// What is at a place of a source, counted from 1, where no lexeme begins.
+/// Returns the hint at a place of a source, counted from 1, where no lexeme begins.
 fn lexeme_advice<'a>(
     pages: &Pages<'a>,
     source: usize,
@@ -114,7 +114,7 @@ fn lexeme_advice<'a>(
     Ok(LexemeAdvice { hint, name })
 }
 
-/// The message of a source, counted from 1, without lexemes.
+/// Returns the message of the lexical fault of a source, counted from 1.
 fn lex_messages(
     alloc: Global,
     pages: &Pages<'_>,
@@ -151,7 +151,7 @@ fn lex_messages(
     }
 }
 
-/// The message of a source, counted from 1, that spells no modules.
+/// Returns the message of the syntax fault of a source, counted from 1.
 fn parse_messages(
     alloc: Global,
     pages: &Pages<'_>,
@@ -175,7 +175,7 @@ fn parse_messages(
     }
 }
 
-/// Why a set has no plan, with the names of its module and its import.
+/// Why a set has no plan, with the names of the module and the import of the fault.
 #[derive(Clone, Copy)]
 struct Refused<'a> {
     fault: PlanFault,
@@ -183,7 +183,7 @@ struct Refused<'a> {
     import: &'a str,
 }
 
-/// The first line of the message of a step in a cycle.
+/// Returns the first line of the message of a step in a cycle.
 fn step_line(
     alloc: Global,
     pages: &Pages<'_>,
@@ -207,7 +207,7 @@ fn step_line(
     Ok(heading_at(alloc, pages.paint, page, spot.place, &topic)?)
 }
 
-/// The messages of a cycle: at its first import, and then a line for each import.
+/// Returns the messages of a cycle: one at its first import, and then a line for each import.
 fn cycle_messages(
     alloc: Global,
     pages: &Pages<'_>,
@@ -233,14 +233,14 @@ fn cycle_messages(
     Ok(text)
 }
 
-/// Messages, and how many errors they tell.
+/// Messages, and the number of errors that they report.
 #[derive(Drop)]
 struct Told {
     text: Vec<u8>,
     errors: usize,
 }
 
-/// The message of an import that names no module.
+/// Returns the message of an import that names no module.
 fn missing_message(
     alloc: Global,
     pages: &Pages<'_>,
@@ -256,7 +256,7 @@ fn missing_message(
     Ok(message_at(alloc, pages, spot, &Topic::Missing(import.name))?)
 }
 
-/// The messages of imports that name no module.
+/// Returns the messages of imports that name no module.
 fn further_messages(
     alloc: Global,
     pages: &Pages<'_>,
@@ -273,7 +273,7 @@ fn further_messages(
     Ok(text)
 }
 
-/// The messages of all imports that name no module, of which the first names this one.
+/// Returns the messages of all imports that name no module. Fails unless the first of them has this name.
 fn missing_messages(
     alloc: Global,
     pages: &Pages<'_>,
@@ -300,7 +300,7 @@ fn missing_messages(
     Ok(Told { text, errors })
 }
 
-/// The messages of a set that has no plan.
+/// Returns the messages of a set without a plan.
 fn plan_messages(
     alloc: Global,
     pages: &Pages<'_>,
@@ -338,7 +338,11 @@ fn plan_messages(
 }
 
 // Why: docs/DECISIONS.md, "The source of a module".
-/// The headers of sources of which each could be read before.
+/// Returns the headers of the modules of sources that were read before.
+///
+/// # Errors
+///
+/// `Place` if a source can't be read, and `Memory` if memory ran out.
 pub fn headers_in(alloc: Global, sources: &[Vec<u8>]) -> Result<Vec<Located>, MessageFault>
     ensures { IfOk result (λ located. AreLocated (map (λ s. s.items) sources.now) located.items) }
 {
@@ -349,7 +353,7 @@ pub fn headers_in(alloc: Global, sources: &[Vec<u8>]) -> Result<Vec<Located>, Me
     }
 }
 
-/// The messages of a fault of sources, without their counts.
+/// Returns the messages of a fault of sources, without the counts.
 fn set_messages(
     alloc: Global,
     pages: &Pages<'_>,
@@ -388,8 +392,13 @@ fn set_messages(
     }
 }
 
-/// Returns the messages of a set that is refused: where its fault is, with each further import that names no module, and after them the counts.
-/// The advice is what is said of a fault of syntax. The pages are those of the sources.
+/// Returns the messages of a refused set: one at its fault, one for each further import that names no module, and the counts.
+///
+/// `advice` is that for a fault of syntax, and isn't used for other faults. The pages are those of the sources.
+///
+/// # Errors
+///
+/// `Place` if the fault has no place in the sources, and `Memory` if memory ran out.
 pub fn refusal_messages(
     alloc: Global,
     pages: &Pages<'_>,

@@ -1,4 +1,4 @@
--- What a name feeds a hasher. No clause names this.
+-- The texts that a key writes to a hasher. No clause names these.
 use Rattle.std.specs.Prelude.{ℕ, Bool, true, false, ◌&&◌, List, [], ◌∷◌, Option, None, Some}
 use Rattle.std.specs.Borrow.{Bor}
 use Rattle.std.specs.Option.{option_eq}
@@ -9,7 +9,7 @@ use denote.Enum.Bare.{sameb}
 use Rattle.hm_names.specs.contracts.namespace.Namespace.{the_type}
 use Rattle.hm_tables.specs.declared.keys.Key.{Key}
 
--- the text behind its qualifier, if it has one
+-- the text after its qualifier, if it has one
 abbrev pub writes_behind : Option (Bor (List ℕ)) → Bor (List ℕ) → List (List ℕ)
 writes_behind None t = t.now ∷ []
 writes_behind (Some q) t = q.now ∷ t.now ∷ []
@@ -17,7 +17,7 @@ writes_behind (Some q) t = q.now ∷ t.now ∷ []
 abbrev pub writes_of : Key → List (List ℕ)
 writes_of k = writes_behind k.qualifier k.text
 
--- What is equal is fed alike
+-- Equal keys write the same texts
 
 first_true : (a b : Bool) → (a && b) ≡ true → a ≡ true
 first_true true b e = refl

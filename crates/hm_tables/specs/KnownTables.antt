@@ -1,4 +1,4 @@
--- What the tables of types, synonyms and constructors have. No public clause names these.
+-- The tables of types, synonyms and constructors. No public clause names these.
 use Rattle.std.specs.Prelude.{◌≡◌, ℕ, cond, is_some, List, [], ◌∷◌, ◌++◌, Option, None, Some}
 use Rattle.std.specs.Borrow.{Bor}
 use Rattle.hm_types.specs.declared.Entity.{Entity}
@@ -31,11 +31,11 @@ known_own p = record { entity = entity_at p.0; synonym = p.1 }
 abbrev pub known_imported : EntityKey × Bor TypeSynonym → KnownSynonym
 known_imported p = record { entity = entity_at p.0; synonym = p.1.now }
 
--- a number of arguments more, unless one is known
+-- the list with one more number of arguments, unless the entity has one already
 abbrev pub noted : List KnownArity → KnownArity → List KnownArity
 noted ks k = cond (is_some (arity_among ks k.entity)) ks (ks ++ k ∷ [])
 
--- what an interface says of its entries
+-- the descriptions of the entries of an interface
 abbrev pub type_description : TypeEntry → TypeDescription
 type_description r = record { entity = r.entity; meaning = algebraic r.arity }
 
@@ -45,7 +45,7 @@ synonym_description r = record { entity = r.entity; meaning = imported_synonym r
 abbrev pub constructor_description : ConstructorEntry → ConstructorDescription
 constructor_description r = record { entity = r.entity; owner = r.owner; arguments = r.arguments }
 
--- the synonym of an interface that is described
+-- the described synonym, if it is from an interface
 abbrev pub imported_in : TypeMeaning → Option TypeSynonym
 imported_in (algebraic k) = None
 imported_in (declared_synonym ps t) = None
@@ -55,7 +55,7 @@ abbrev pub imported_of : Option TypeDescription → Option TypeSynonym
 imported_of None = None
 imported_of (Some d) = imported_in d.meaning
 
--- the tables have, for each entity, what its first description says
+-- for each entity, the tables have the facts of its first description
 pub record KnowsTypes (described : List TypeDescription) (types : List KnownArity) (synonyms : List KnownSynonym) : Type 0 where
   pub arities : (e : Entity) → arity_among types e ≡ arity_of_type (first_of (λ d. d.entity) e described)
   pub imported : (e : Entity) → synonym_among synonyms e ≡ imported_of (first_of (λ d. d.entity) e described)
@@ -68,6 +68,6 @@ pub record AreTablesOf (m : Module) (fs : List Interface) (tables : KnownTables)
   pub types : KnowsTypes (declared_types m.header.name.text m.decls ++ imported_types fs) tables.types tables.synonyms
   pub constructors : KnowsConstructors (declared_constructors m.header.name.text m.decls ++ imported_constructors fs) tables.constructors
 
--- what a walk with this scope and these tables looks up
+-- the look-ups of a walk with this scope and these tables
 abbrev pub lookups_of : List Pair → KnownTables → Lookups
 lookups_of pairs tables = lookups_in pairs tables.synonyms tables.types tables.constructors

@@ -1,4 +1,4 @@
--- What a name means, as the program answers it. No public clause names these.
+-- The meaning of a name, as the program returns it. No public clause names these.
 use Rattle.std.specs.Prelude.{◌≡◌, List}
 use Rattle.hm_types.specs.Interfaces.{Exports as Interface}
 use Rattle.hm_syntax.specs.Names.{Identifier}
@@ -14,7 +14,7 @@ IsMeaning m fs s n Unbound = IsUnbound m fs s n
 IsMeaning m fs s n Ambiguous = IsAmbiguous m fs s n
 IsMeaning m fs s n (Entity e) = Means m fs s n e
 
--- the answer of the table says what a name means
+-- the table returns this meaning
 abbrev pub meaning_is : Meaning → MeaningOf → Type 0
 meaning_is Unbound m = m ≡ unbound
 meaning_is Ambiguous m = m ≡ ambiguous

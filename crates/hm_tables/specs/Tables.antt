@@ -1,4 +1,4 @@
--- What the table of a scope keeps. No public clause names these.
+-- The table of a scope. No public clause names these.
 use Rattle.std.specs.Prelude.{◌≡◌, List, Option, Some, None, Contains, Bool, ◌&&◌, option_map}
 use Rattle.std.specs.Str.{bytes_eq}
 use Rattle.std.specs.Option.{option_eq}
@@ -19,16 +19,16 @@ pub record IsNamed (k : Key) (p : Pair) : Type 0 where
   pub qualifier : p.qualifier ≡ option_map (λ q. q.now) k.qualifier
   pub text : p.text ≡ k.text.now
 
--- what `==` answers of two names
+-- the result of `==` for two names
 abbrev pub same_key : Key → Key → Bool
 same_key j k = sameb the_type j.space k.space && (option_eq (λ a b. bytes_eq a.now b.now) j.qualifier k.qualifier && bytes_eq j.text.now k.text.now)
 
--- there are pairs with the name, and all are of this entity
+-- there is a pair with the name, and all pairs with it have this entity
 pub record AreOfOne (pairs : List Pair) (k : Key) (e : Entity) : Type 0 where
   pub member : (p : Pair) × (Contains pairs p × IsNamed k p)
   pub all : (p : Pair) → Contains pairs p → IsNamed k p → p.entity ≡ e
 
--- two pairs with the name are of two entities
+-- two pairs with the name have different entities
 pub record AreOfSeveral (pairs : List Pair) (k : Key) : Type 0 where
   pub one : Pair
   pub other : Pair
@@ -38,7 +38,7 @@ pub record AreOfSeveral (pairs : List Pair) (k : Key) : Type 0 where
   pub other_named : IsNamed k other
   pub differ : ¬ (one.entity ≡ other.entity)
 
--- what a name means that some pairs have
+-- the slot is the meaning that these pairs give to a name
 abbrev pub Tells : List Pair → Key → Slot → Type 0
 Tells pairs k (One e) = AreOfOne pairs k e
 Tells pairs k Several = AreOfSeveral pairs k
@@ -50,6 +50,6 @@ IsTold pairs k (Some s) = Tells pairs k s
 abbrev pub Table : Type 0
 Table = IndexMap Key Slot (BuildHasherDefault FoldHasher)
 
--- the table tells of each name what the pairs give it
+-- the table has the meaning that the pairs give to each name
 abbrev pub IsTable : List Pair → Table → Type 0
 IsTable pairs table = (k : Key) → IsTold pairs k (get_by (same_key k) table)

@@ -6,7 +6,7 @@ use hm_names::Namespace;
 use hm_types::{Entity, Text};
 use std::marker::Model;
 
-/// An entity by its two texts, lent: the module that defines it, and its name there.
+/// A borrowed entity: the module that defines it, and its name there.
 #[derive(Drop)]
 pub struct EntityRef<'a> {
     module: &'a Text,
@@ -22,14 +22,14 @@ impl<'a> Model for EntityRef<'a> {
 }
 
 impl<'a> EntityRef<'a> {
-    /// The entity of this name in this module.
+    /// Returns the entity with this name in this module.
     pub fn new(module: &'a Text, name: &'a Text) -> EntityRef<'a>
         ensures { result ≡ record { «module» = «module».now; name = name.now } }
     {
         EntityRef { module, name }
     }
 
-    /// An entity, lent.
+    /// Borrows an entity.
     pub fn of(entity: &'a Entity) -> EntityRef<'a>
         ensures { result ≡ entity.now }
     {
@@ -39,35 +39,35 @@ impl<'a> EntityRef<'a> {
         }
     }
 
-    /// The module that defines it.
+    /// Returns the name of the module that defines it.
     pub fn module(&self) -> &'a str
         ensures { result.now ≡ self.now.«module» }
     {
         self.module.as_str()
     }
 
-    /// The text of the module that defines it.
+    /// Returns the name of the module that defines it, as a `Text`.
     pub fn module_text(&self) -> &'a Text
         ensures { result.now ≡ self.now.«module» }
     {
         self.module
     }
 
-    /// Its name in that module.
+    /// Returns its name in that module.
     pub fn name(&self) -> &'a str
         ensures { result.now ≡ self.now.name }
     {
         self.name.as_str()
     }
 
-    /// The text of its name in that module.
+    /// Returns its name in that module, as a `Text`.
     pub fn name_text(&self) -> &'a Text
         ensures { result.now ≡ self.now.name }
     {
         self.name
     }
 
-    /// The same entity.
+    /// Returns the same entity.
     pub fn copy(&self) -> EntityRef<'a>
         ensures { result ≡ self.now }
     {
@@ -77,7 +77,7 @@ impl<'a> EntityRef<'a> {
         }
     }
 
-    /// Whether both are one entity.
+    /// Returns whether both are the same entity.
     pub fn is_same(&self, other: &EntityRef<'_>) -> bool
         ensures { IsTrue result ↔ (self.now ≡ other.now) }
     {
@@ -85,7 +85,7 @@ impl<'a> EntityRef<'a> {
     }
 }
 
-/// A binding of a scope: under a qualifier, or none, and a text, an entity of a namespace.
+/// A binding of a scope: an entity under a name, bare or qualified, in a namespace.
 #[derive(Drop)]
 pub struct Binding<'a> {
     space: Namespace,
@@ -104,7 +104,7 @@ impl<'a> Model for Binding<'a> {
 }
 
 impl<'a> Binding<'a> {
-    /// The binding of an entity under a name.
+    /// Returns the binding of an entity under a name.
     pub fn new(
         space: Namespace,
         qualifier: Option<&'a str>,
@@ -121,28 +121,28 @@ impl<'a> Binding<'a> {
         }
     }
 
-    /// Its namespace.
+    /// Returns its namespace.
     pub fn space(&self) -> Namespace
         ensures { result ≡ self.now.space }
     {
         self.space
     }
 
-    /// Its qualifier, if it has one.
+    /// Returns its qualifier, if it has one.
     pub fn qualifier(&self) -> Option<&'a str>
         ensures { option_map (λ q. q.now) result ≡ self.now.qualifier }
     {
         self.qualifier
     }
 
-    /// Its text, without the qualifier.
+    /// Returns its name without the qualifier.
     pub fn text(&self) -> &'a str
         ensures { result.now ≡ self.now.text }
     {
         self.text
     }
 
-    /// The entity that it stands for.
+    /// Returns its entity.
     pub fn entity(&self) -> &EntityRef<'a>
         ensures { result.now ≡ self.now.entity }
     {

@@ -17,8 +17,8 @@ pub struct Key<'a> {
     pub text: &'a str,
 }
 
-/// Feeds the texts and no more, since few names stand in several namespaces, and a derived one also feeds numbers for the
-/// namespace and the qualifier, and a byte behind each text.
+/// Writes only the texts to the hasher, because few names are in several namespaces. A derived implementation would also write numbers for
+/// the namespace and the qualifier, and a byte after each text.
 impl<'a> Hash for Key<'a> {
     ghost hash_input = { writes_of };
 
@@ -32,7 +32,7 @@ impl<'a> Hash for Key<'a> {
     }
 }
 
-/// An entity, by its two texts.
+/// An entity as a key: the module that defines it, and its name there.
 #[derive(Clone, Copy, Hash, PartialEq, Eq)]
 pub struct EntityKey<'a> {
     pub module: &'a str,
@@ -40,7 +40,7 @@ pub struct EntityKey<'a> {
 }
 
 impl<'a> EntityKey<'a> {
-    /// The key of an entity.
+    /// Returns the key of an entity.
     pub fn of(entity: &EntityRef<'a>) -> EntityKey<'a>
         ensures { entity_at result ≡ entity.now }
     {

@@ -1,4 +1,4 @@
-//! The entries of an interface by their names.
+//! The entries of an interface by name.
 
 ghost use Rattle.std.specs.Prelude.{◌≡◌, ℕ, List, map, Contains, MatchOption};
 ghost use Rattle.hm_types.specs.declared.Entity.{Entity};
@@ -6,17 +6,17 @@ ghost use Rattle.hm_types.specs.Interfaces.{AreOrdered};
 
 use hm_types::{ConstructorEntry, Entity, SynonymEntry, TypeEntry, ValueEntry};
 
-/// What is exported under a name: an entity, with what is told of it.
+/// An entry of an interface, which exports an entity under a name.
 pub trait Named {
     ghost name_of: { Self → List ℕ };
 
     ghost entity_of: { Self → Entity };
 
-    /// The name.
+    /// Returns the name.
     fn name(&self) -> &str
         ensures { result.now ≡ name_of self.now };
 
-    /// The entity.
+    /// Returns the entity.
     fn entity(&self) -> &Entity
         ensures { result.now ≡ entity_of self.now };
 }
@@ -77,7 +77,7 @@ impl Named for ValueEntry {
     }
 }
 
-/// What is exported under this name, among entries in the order of their names.
+/// Returns the entry with this name, if there is one. The entries must be in the order of their names.
 pub fn entry_named<'a, E: Named>(entries: &'a [E], name: &str) -> Option<&'a E>
     requires { AreOrdered (map E.name_of entries.now) }
     ensures { MatchOption result ((r : E) → Contains entries.now r

@@ -9,7 +9,7 @@ use indexmap::IndexSet;
 use std::alloc::{AllocError, Global};
 use std::marker::Model;
 
-/// A set of names, bare or qualified, each in a namespace. An entity has its module for a qualifier.
+/// A set of names, bare or qualified, each in a namespace. An entity has its module as the qualifier.
 pub struct NameSet<'a> {
     keys: IndexSet<Key<'a>>,
 }
@@ -30,7 +30,7 @@ impl<'a> Model for NameSet<'a> {
 }
 
 impl<'a> NameSet<'a> {
-    /// No names.
+    /// Returns an empty set.
     pub fn new(alloc: Global) -> NameSet<'a>
         ensures { result ≡ [] }
     {
@@ -39,14 +39,14 @@ impl<'a> NameSet<'a> {
         }
     }
 
-    /// The names, in the order in which they came.
+    /// Returns the names, in the order of insertion.
     pub fn keys(&self) -> &[Key<'a>]
         ensures { full_names result.now ≡ self.now }
     {
         self.keys.as_slice()
     }
 
-    /// Whether the set has the name.
+    /// Returns whether the set has the name.
     pub fn contains(&self, space: Namespace, qualifier: Option<&str>, text: &str) -> bool
         ensures { IsTrue result ↔ Contains self.now (record { space = space; qualifier = option_map (λ q. q.now) qualifier.entry; text = text.now }) }
     {

@@ -1,4 +1,4 @@
-//! The table of a scope: what each name means in it.
+//! The table of a scope: the meaning of each name.
 
 ghost use Rattle.std.specs.Prelude.{◌≡◌, ◌↔◌, ◌++◌, [], ◌∷◌, List, IfOk, OnOk, IsTrue, option_map};
 ghost use Rattle.hm_types.specs.Interfaces.{Exports as Interface};
@@ -16,7 +16,7 @@ use indexmap::IndexMap;
 use std::alloc::{AllocError, Global};
 use std::marker::Model;
 
-/// What a name means in a scope (Report, section 5.5.2).
+/// The meaning of a name in a scope (Report, section 5.5.2).
 #[derive(Drop)]
 pub enum Meaning<'a> {
     /// No entity.
@@ -26,14 +26,14 @@ pub enum Meaning<'a> {
     Entity(EntityRef<'a>),
 }
 
-/// What a name of the table means: one entity, or more.
+/// The meaning of a name in the table: one entity, or several.
 #[derive(Drop)]
 pub enum Slot<'a> {
     One(EntityRef<'a>),
     Several,
 }
 
-/// The scope of a module: its pairs of a name and an entity, and a table of what each name means.
+/// The scope of a module: its pairs of a name and an entity, and a table with the meaning of each name.
 pub struct Scope<'a> {
     pairs: Vec<Binding<'a>>,
     table: IndexMap<Key<'a>, Slot<'a>>,
@@ -61,7 +61,7 @@ impl<'a> Model for Scope<'a> {
 }
 
 impl<'a> Scope<'a> {
-    /// The scope of these pairs.
+    /// Returns the scope with these pairs.
     pub fn of(alloc: Global, pairs: Vec<Binding<'a>>) -> Result<Scope<'a>, AllocError>
         ensures { IfOk result (λ scope. scope ≡ pairs.entry.items) }
     {
@@ -72,14 +72,14 @@ impl<'a> Scope<'a> {
         Ok(Scope { pairs, table })
     }
 
-    /// The pairs.
+    /// Returns the pairs.
     pub fn pairs(&self) -> &[Binding<'a>]
         ensures { result.now ≡ self.now }
     {
         &self.pairs
     }
 
-    /// What a name means that isn't bound locally.
+    /// Returns the meaning of a name that isn't bound locally.
     pub fn meaning(&self, space: Namespace, name: &Name) -> Meaning<'a>
         ensures means { (m : Module) (fs : List Interface) → IsScopeOf m fs self.now → IsMeaning m fs space name.now result }
         ensures meaning { meaning_is result (meaning_in self.now space name.now) }
@@ -99,7 +99,7 @@ impl<'a> Scope<'a> {
     }
 }
 
-/// The qualifier of a name, if it has one.
+/// Returns the qualifier of a name, if it has one.
 fn qualifier_of(name: &Name) -> Option<&str>
     ensures { option_map (λ q. q.now) result ≡ name.now.qualifier }
 {
@@ -109,7 +109,7 @@ fn qualifier_of(name: &Name) -> Option<&str>
     }
 }
 
-/// What a name means of which there is one more pair, with this entity.
+/// Returns the meaning of a name after one more pair binds it to this entity.
 fn with_entity<'a>(slot: &Slot<'a>, entity: &EntityRef<'a>) -> Slot<'a>
     ensures { (pairs : List Pair) (p : Pair) (k : Key) → IsNamed k p → p.entity ≡ entity.now → Tells pairs k slot.now → Tells (pairs ++ p ∷ []) k result }
 {
@@ -124,7 +124,7 @@ fn with_entity<'a>(slot: &Slot<'a>, entity: &EntityRef<'a>) -> Slot<'a>
     }
 }
 
-/// Whether the name of a pair means several entities.
+/// Returns whether the name of a pair means several entities.
 pub fn is_several<'a>(table: &IndexMap<Key<'a>, Slot<'a>>, pair: &Binding<'a>) -> bool
     ensures { (pairs : List Pair) → IsTable pairs table.now → (IsTrue result ↔ IsSeveral pairs pair.now) }
 {
@@ -142,7 +142,7 @@ pub fn is_several<'a>(table: &IndexMap<Key<'a>, Slot<'a>>, pair: &Binding<'a>) -
     }
 }
 
-/// Notes a pair in the table.
+/// Adds a pair to the table.
 pub fn note<'a>(
     table: &mut IndexMap<Key<'a>, Slot<'a>>,
     binding: &Binding<'a>,

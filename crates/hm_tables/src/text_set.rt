@@ -7,7 +7,7 @@ use indexmap::IndexSet;
 use std::alloc::{AllocError, Global};
 use std::marker::Model;
 
-/// A set of texts, which contracts see in the order in which they came.
+/// A set of texts. Contracts see a list, in the order of insertion.
 pub struct TextSet<'a> {
     keys: IndexSet<&'a str>,
 }
@@ -27,7 +27,7 @@ impl<'a> Model for TextSet<'a> {
 }
 
 impl<'a> TextSet<'a> {
-    /// No texts.
+    /// Returns an empty set.
     pub fn new(alloc: Global) -> TextSet<'a>
         ensures { result ≡ [] }
     {
@@ -36,28 +36,28 @@ impl<'a> TextSet<'a> {
         }
     }
 
-    /// Whether the set has the text.
+    /// Returns whether the set has the text.
     pub fn contains(&self, text: &str) -> bool
         ensures { result ≡ is_text_among text.now self.now }
     {
         self.keys.contains(text)
     }
 
-    /// How many texts there are.
+    /// Returns the number of texts.
     pub fn len(&self) -> usize
         ensures { result ≡ length self.now }
     {
         self.keys.len()
     }
 
-    /// The place of the text in the order in which they came.
+    /// Returns the place of the text in the order of insertion, if the set has it.
     pub fn place_of(&self, text: &str) -> Option<usize>
         ensures { result ≡ position (same_text text.now) self.now }
     {
         self.keys.get_index_of(text)
     }
 
-    /// Adds the text, and says whether it is new.
+    /// Adds the text. Returns whether it is new.
     pub fn insert(&mut self, text: &'a str) -> Result<bool, AllocError>
         ensures added { IfOk result (λ r. r ≡ not (is_text_among text.now self.old)) }
         ensures texts { OnOk result (self.new ≡ cond (is_text_among text.now self.old) self.old (self.old ++ text.now ∷ [])) }

@@ -1,4 +1,4 @@
--- The text of a build, as the crate's own functions say it.
+-- The text of a build, as the functions of this crate return it.
 use Rattle.std.specs.Prelude.{◌≡◌, ℕ, Bool, false, true, List, ◌++◌}
 use Rattle.hm_verdicts.specs.Reports.{IsReport}
 use Rattle.hm_store.specs.Builds.{Build, set_of}
@@ -9,7 +9,7 @@ abbrev pub IsBehind : Build → Bool → List ℕ → List ℕ → Type 0
 IsBehind b false report text = text ≡ report
 IsBehind b true report text = text ≡ report ++ journal_text b
 
--- the report of a build, and its journal behind it where it is asked for
+-- the report of a build, followed by its journal if `journal` holds
 pub record HasReport (b : Build) (journal : Bool) (text : List ℕ) : Type 0 where
   pub report : List ℕ
   pub reported : IsReport (set_of b) (settlement b) report

@@ -1,4 +1,4 @@
--- What a run of the checker writes: a function of the sources, but for the place of a syntax fault.
+-- The text of a run of the checker: a function of the sources, except for the place of a syntax fault.
 use Rattle.std.specs.Prelude.{ℕ, List}
 use Rattle.hm_verdicts.specs.Reports.{IsAllGood, IsReported}
 use Rattle.hm_verdicts.specs.Sets.{ModuleSet, IsLawfulSet}
@@ -14,11 +14,11 @@ pub record IsChecked (sources : List (List ℕ)) (text : List ℕ) : Type 0 wher
   pub lawful : IsLawfulSet set
   pub reported : IsReported set text
 
--- and all of its modules are good
+-- all modules of the set are good
 abbrev pub IsGoodCheck : (sources : List (List ℕ)) (text : List ℕ) → IsChecked sources text → Type 0
 IsGoodCheck sources text c = IsAllGood c.set c.reported.verdicts
 
--- The status and the text of a run on these sources: all modules good; some faulty or skipped; or refused, as for the plan
+-- the status and the text of a run on these sources: all modules are good, some are faulty or skipped, or the sources are refused
 abbrev pub IsCheckRun : List (List ℕ) → Status → List ℕ → Type 0
 IsCheckRun sources Good text = (c : IsChecked sources text) × IsGoodCheck sources text c
 IsCheckRun sources Faulty text = (c : IsChecked sources text) × ¬ (IsGoodCheck sources text c)

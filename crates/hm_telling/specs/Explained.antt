@@ -1,4 +1,4 @@
--- A run with messages: what its messages have to do with what it prints.
+-- A run with messages: how its messages relate to its text.
 use Rattle.std.specs.Prelude.{◌≡◌, ◌<◌, ◌⊎◌, ℕ, List, [], ◌++◌, Option, length, slice_index_or}
 use Rattle.std.specs.Io.KnownBytes.{Appends}
 use Rattle.hm_lex.specs.declared.token.Place.{Place}
@@ -22,13 +22,13 @@ use Rattle.hm_store.specs.Builds.{Build, set_of}
 use Rattle.hm_store.specs.Settlements.{settlement}
 use Rattle.hm_telling.specs.Explanations.{IsTold}
 
--- the messages tell what a build came to, from these sources with these names
+-- the messages of a build of these sources with these names
 pub record AreMessagesOf (paint : Paint) (names sources : List (List ℕ)) (b : Build) (messages : List ℕ) : Type 0 where
   pub files : List (List ℕ)
   pub named : AreFilesOf names sources files
   pub told : IsTold paint files sources (set_of b) (settlement b) messages
 
--- the messages tell the verdicts of the modules of the sources, whose report the text begins with
+-- the messages report the verdicts of the modules of the sources, and the text begins with the report of these verdicts
 pub record TellsReport (paint : Paint) (names sources : List (List ℕ)) (text messages : List ℕ) : Type 0 where
   pub set : ModuleSet
   pub settled : ℕ → Settlement
@@ -42,7 +42,7 @@ pub record TellsReport (paint : Paint) (names sources : List (List ℕ)) (text m
   pub named : AreFilesOf names sources files
   pub told : IsTold paint files sources set settled messages
 
--- the messages tell why the sources are refused
+-- the messages say why the sources are refused
 pub record TellsRefusal (paint : Paint) (names sources : List (List ℕ)) (messages : List ℕ) : Type 0 where
   pub refusal : Refusal
   pub because : IsRefusalOf sources refusal
@@ -50,7 +50,7 @@ pub record TellsRefusal (paint : Paint) (names sources : List (List ℕ)) (messa
   pub named : AreFilesOf names sources files
   pub told : IsRefusalTold paint files sources refusal messages
 
--- the message says of a module that the sources spell that there is no memory to check it, at a place in the source that spells it
+-- the message says that there is no memory to check one of the modules of the sources, at a place in the source that spells it
 pub record TellsExhaustion (paint : Paint) (names sources : List (List ℕ)) (message : List ℕ) : Type 0 where
   pub modules : List Module
   pub read : AreModulesOf sources modules
@@ -64,12 +64,12 @@ pub record TellsExhaustion (paint : Paint) (names sources : List (List ℕ)) (me
   pub place : Place
   pub told : IsMessage paint (slice_index_or files source []) (slice_index_or sources source []) place (exhausted name) message
 
--- what the messages tell of a run with this status and this text; the names are those of the sources' files
+-- the messages of a run with this status and this text. The names are those of the sources' files
 abbrev pub IsExplained : Paint → List (List ℕ) → List (List ℕ) → Status → List ℕ → List ℕ → Type 0
 IsExplained paint names sources Good text messages = TellsReport paint names sources text messages
 IsExplained paint names sources Faulty text messages = TellsReport paint names sources text messages
 IsExplained paint names sources Refused text messages = TellsRefusal paint names sources messages
 
--- these messages were written, or a part of them, where their writer failed
+-- these messages were written, or a prefix of them if their writer failed
 abbrev pub IsToldTo : Option (List ℕ) → Option (List ℕ) → List ℕ → Type 0 → Type 0
 IsToldTo old new messages failed = Appends old new messages ⊎ (WritesPrefix old new messages × failed)

@@ -1,4 +1,4 @@
-//! What a run of the checker writes of a build that came to its end, and its status.
+//! The text and the status of a run of the checker with a finished build.
 ghost use Rattle.std.specs.Prelude.{◌≡◌, ◌⊎◌, ℕ, List, IfOk, string_bytes};
 ghost use Rattle.hm_store.specs.declared.record.Record.{Record};
 ghost use Rattle.hm_reports.specs.FinishedBuilds.{IsFinished};
@@ -11,7 +11,7 @@ use hm_sources::Answer;
 use hm_store::Store;
 use std::alloc::{AllocError, Global};
 
-/// The report of a build, and behind it the journal where it is asked for.
+/// Returns the report of a build, followed by its journal if `journal` holds.
 fn build_text(alloc: Global, store: &Store, journal: bool) -> Result<String, AllocError>
     ensures { IfOk result (λ t. HasReport store.now journal (string_bytes t)) }
 {
@@ -22,7 +22,7 @@ fn build_text(alloc: Global, store: &Store, journal: bool) -> Result<String, All
     Ok(text)
 }
 
-/// What is written of a build.
+/// Returns the text and the status for a build.
 pub(crate) fn finished_answer(
     alloc: Global,
     store: &Store,

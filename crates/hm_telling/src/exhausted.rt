@@ -1,4 +1,4 @@
-//! The message of a module that there is no memory to check.
+//! The message of a module that can't be checked because memory ran out.
 ghost use Rattle.std.specs.Prelude.{IfOk, IfSome, map};
 ghost use Rattle.hm_telling.specs.Explained.{TellsExhaustion};
 
@@ -6,7 +6,7 @@ use crate::{Explain, Wanted};
 use hm_messages::{MessageFault, Topic, headers_in, message, pages_of};
 use std::alloc::Global;
 
-/// The message of the module with this number, at its name.
+/// Returns the message of the module with this number, at its name.
 fn message_of<'a>(
     alloc: Global,
     sources: &'a [Vec<u8>],
@@ -29,8 +29,8 @@ fn message_of<'a>(
     Ok(message(alloc, pages.paint, page, here.header.name.place, &topic)?)
 }
 
-/// The message of the module with this number, that there is no memory to check it. None where no messages are asked for, where there is no
-/// memory for the message either, or where there is no such module.
+/// Returns the message that there is no memory to check the module with this number. Returns `None` if faults aren't explained, if there is
+/// no memory for the message either, or if there is no such module.
 pub fn exhausted_message<'a>(
     alloc: Global,
     sources: &'a [Vec<u8>],

@@ -1,4 +1,4 @@
-//! What a run of the checker writes, with messages where its faults are to be explained.
+//! The text, the status and the messages of a run of the checker.
 ghost use Rattle.std.specs.Prelude.{ℕ, List, IfOk, IfSome, map, string_bytes};
 ghost use Rattle.hm_store.specs.declared.record.Record.{Record};
 ghost use Rattle.hm_reports.specs.FinishedBuilds.{IsFinished};
@@ -20,20 +20,20 @@ use hm_sources::{Answer, SetFault, SetFaultKind, refusal_answer};
 use hm_store::Store;
 use std::alloc::Global;
 
-/// What is said of a fault of which nothing is.
+/// The advice for faults that aren't of syntax.
 const NO_ADVICE: Advice<'static> = Advice {
     hint: SyntaxHint::Unexpected,
     text: "",
 };
 
-/// What is written, and the messages that explain it: none where they aren't asked for.
+/// The text and the status of a run, and its messages. There are none if faults aren't explained.
 #[derive(Drop)]
 pub struct Explained {
     pub answer: Answer,
     pub messages: Vec<u8>,
 }
 
-/// The messages of a build that came to its end.
+/// Returns the messages of a finished build.
 fn build_messages<'a>(
     alloc: Global,
     store: &Store,
@@ -61,7 +61,7 @@ fn build_messages<'a>(
     Ok(explanation(alloc, &told, skipped_in(settled.as_slice()))?)
 }
 
-/// The messages of a build where they are asked for.
+/// Returns the messages of a finished build if its faults are explained.
 fn finished_messages<'a>(
     alloc: Global,
     store: &Store,
@@ -77,7 +77,11 @@ fn finished_messages<'a>(
     }
 }
 
-/// What is written of a build, and its messages.
+/// Returns the text, the status and the messages of a finished build.
+///
+/// # Errors
+///
+/// `Place` if a message has no place in the sources, and `Memory` if memory ran out.
 pub fn finished_explained<'a>(
     alloc: Global,
     store: &Store,
@@ -95,7 +99,7 @@ pub fn finished_explained<'a>(
     Ok(Explained { answer, messages })
 }
 
-/// What is said of a fault of syntax; nothing of any other.
+/// Returns the advice for a fault of syntax. It says nothing about other faults.
 fn advice_on<'a>(
     alloc: Global,
     sources: &'a [Vec<u8>],
@@ -118,7 +122,7 @@ fn advice_on<'a>(
     Ok(advice_at(alloc, sources[number].as_slice(), place)?)
 }
 
-/// The messages of a set that is refused, where they are asked for.
+/// Returns the messages of a refused set if its faults are explained.
 fn refused_messages<'a>(
     alloc: Global,
     sources: &'a [Vec<u8>],
@@ -138,7 +142,11 @@ fn refused_messages<'a>(
     }
 }
 
-/// The answer to a set that is refused, and its messages.
+/// Returns the text, the status and the messages of a refused set.
+///
+/// # Errors
+///
+/// `Place` if a message has no place in the sources, and `Memory` if memory ran out.
 pub fn refused_explained<'a>(
     alloc: Global,
     sources: &'a [Vec<u8>],

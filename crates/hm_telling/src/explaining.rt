@@ -1,5 +1,5 @@
-//! The messages of a build: for each module, in the order of the report, one for each of its faults, or one for each import that it is
-//! skipped for.
+//! The messages of a build. Each module, in the order of the report, has one for each of its faults, or one for each import because of which it
+//! is skipped.
 ghost use Rattle.std.specs.Prelude.{◌≡◌, ◌<◌, ◌++◌, ◌-◌, ◌^◌, All, IfOk, IfSome, OnOk, length, map, min, option_to_list, slice_index_or};
 ghost use Rattle.std.specs.Arc.{arc_value};
 ghost use Rattle.hm_messages.specs.Messages.{AreEach};
@@ -26,7 +26,7 @@ use hm_syntax::{Import, Module};
 use std::alloc::{AllocError, Global};
 use std::sync::Arc;
 
-/// What messages are made of: the sources as they are shown, where each module comes from, and how each was settled.
+/// The data for messages: the sources as they are shown, the modules with their sources, and the status of each module.
 #[derive(Clone, Copy)]
 pub(crate) struct Told<'t, 'p, 'm> {
     pub pages: &'t Pages<'p>,
@@ -38,7 +38,7 @@ pub(crate) struct Told<'t, 'p, 'm> {
     pub prelude: &'t SharedPrelude,
 }
 
-/// An import that a module is skipped for.
+/// An import because of which a module is skipped.
 #[derive(Clone, Copy)]
 struct Blame<'a> {
     name: &'a str,
@@ -46,7 +46,7 @@ struct Blame<'a> {
     is_faulty: bool,
 }
 
-/// The first import with this name, from this one on.
+/// Returns the first import with this name, from this one on.
 fn import_from(imports: &[Import], from: usize, name: &str) -> Option<usize>
     ensures within { IfSome result (λ index. index < length imports.now) }
     ensures named { IfSome result (λ index. (d : ImportTree) → (slice_index_or imports.now index d).name.text ≡ name.now) }
@@ -59,7 +59,7 @@ fn import_from(imports: &[Import], from: usize, name: &str) -> Option<usize>
     None
 }
 
-/// What is told of an import, where what it names isn't published.
+/// Returns an import if the module that it names isn't published.
 fn blame_of<'a>(name: &'a str, place: Place, settled: &Settled<'_>) -> Option<Blame<'a>>
     ensures names { map (λ b. b.name.now) (option_to_list result) ≡ blamed (settlement settled.now) name.entry.now }
     ensures name { IfSome result (λ b. b.name.now ≡ name.entry.now) }
@@ -91,7 +91,7 @@ fn add_blame<'a>(blames: &mut Vec<Blame<'a>>, blame: Option<Blame<'a>>) -> Resul
     }
 }
 
-/// The imports of a module that aren't published, in the order of its plan's row.
+/// Returns the imports of a module that aren't published, in the order of its row in the plan.
 fn blames_of<'a>(
     alloc: Global,
     modules: &'a [Arc<Module>],
@@ -119,7 +119,7 @@ fn blames_of<'a>(
     Ok(blames)
 }
 
-/// The message of an import that a module is skipped for.
+/// Returns the message of an import because of which a module is skipped.
 fn blame_message(
     alloc: Global,
     pages: &Pages<'_>,
@@ -138,7 +138,7 @@ fn blame_message(
 }
 
 // Why: docs/DECISIONS.md, "Notes of skipped modules".
-/// The messages of the imports that a module is skipped for.
+/// Returns the messages of the imports because of which a module is skipped.
 fn blame_messages(
     alloc: Global,
     pages: &Pages<'_>,
@@ -155,7 +155,7 @@ fn blame_messages(
     Ok(text)
 }
 
-/// The number of the source that spells a module.
+/// Returns the number of the source that spells a module.
 fn source_of(told: &Told<'_, '_, '_>, number: usize) -> Result<usize, MessageFault>
     requires { AreLocated (texts_in told.now.pages.now.items.items) told.now.located.now }
     ensures spelled { IfOk result (IsSpelledBy (texts_in told.now.pages.now.items.items) number) }
@@ -171,7 +171,7 @@ fn source_of(told: &Told<'_, '_, '_>, number: usize) -> Result<usize, MessageFau
     Ok(source)
 }
 
-/// The messages of a module that this source spells and that is skipped.
+/// Returns the messages of a skipped module that this source spells.
 fn skipped_messages(
     alloc: Global,
     told: &Told<'_, '_, '_>,
@@ -194,7 +194,7 @@ fn skipped_messages(
     Ok(blame_messages(alloc, told.pages, page, blames.as_slice())?)
 }
 
-/// The messages of one module.
+/// Returns the messages of one module.
 fn module_messages(
     alloc: Global,
     told: &Told<'_, '_, '_>,
@@ -235,7 +235,7 @@ struct Named<'a> {
     number: usize,
 }
 
-/// The modules with their numbers, in order.
+/// Returns the names of the modules with their numbers, in order.
 fn numbered<'a>(alloc: Global, modules: &'a [Arc<Module>]) -> Result<Vec<Named<'a>>, AllocError>
     ensures { IfOk result (λ rows. AreNumbered (map arc_value modules.entry.now) (map named_of rows.items)) }
 {
@@ -247,7 +247,7 @@ fn numbered<'a>(alloc: Global, modules: &'a [Arc<Module>]) -> Result<Vec<Named<'
     Ok(rows)
 }
 
-/// How many faults there are, and how many modules are skipped.
+/// Returns the number of faults, at most 2^64 - 1.
 fn errors_in(settled: &[Settled<'_>]) -> usize
     ensures { result ≡ min (fault_count (statuses_of settled.now) (length settled.now)) (2 ^ 64 - 1) }
 {
@@ -260,7 +260,7 @@ fn errors_in(settled: &[Settled<'_>]) -> usize
     errors
 }
 
-/// The messages of all modules, in the order of their names, and the counts.
+/// Returns the messages of all modules, in the order of their names, and the counts.
 pub(crate) fn explanation(
     alloc: Global,
     told: &Told<'_, '_, '_>,

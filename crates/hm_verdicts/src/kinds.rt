@@ -4,7 +4,7 @@ ghost use Rattle.hm_verdicts.specs.Reports.{kind_word as kind_bytes};
 
 use hm_names::Kind;
 
-/// The word for a kind of fault.
+/// Returns the word for a kind of fault.
 pub fn kind_word(kind: Kind) -> &'static str
     ensures { result.now ≡ kind_bytes kind }
 {
