@@ -2,7 +2,7 @@
 """Measures what builds take, in a fresh clone of the last commit.
 
 `build_times.py [PART..]` measures the parts that are named, or all: `first` (the first answer of ./hmc), `start` (what the script ./hmc adds to a run if
-nothing is built), `proved` (./prove --anew), `words` and `reports` (./prove after a change in hm_words and in hm_reports) and `gate` (rt ci --anew).
+nothing is built), `proved` (./prove --anew), `words` and `reports` (./prove after a change in hmc_words and in hm_build_reports) and `gate` (rt ci --anew).
 All take some two hours on four processors. The machine should do nothing else.
 """
 import pathlib
@@ -62,8 +62,8 @@ PARTS = {
     "first": ("first answer of `./hmc`, without a proof", first),
     "start": ("what the script `./hmc` adds to a run if nothing is built", start),
     "proved": ("`./prove --anew`, the proved program from nothing", proved),
-    "words": ("`./prove` after a change in `hm_words`", lambda clone: rebuilt(clone, "hm_words")),
-    "reports": ("`./prove` after a change in `hm_reports`", lambda clone: rebuilt(clone, "hm_reports")),
+    "words": ("`./prove` after a change in `hmc_words`", lambda clone: rebuilt(clone, "hmc_words")),
+    "reports": ("`./prove` after a change in `hm_build_reports`", lambda clone: rebuilt(clone, "hm_build_reports")),
     "gate": ("`rt ci --anew`, the gate from nothing", lambda clone: timed(["rt", "ci", "--anew"], clone)),
 }
 

@@ -11,7 +11,7 @@ import sys
 import tempfile
 
 TOP = os.path.dirname(os.path.dirname(os.path.abspath(__file__)))
-BELOW = ["hm_lex", "hm_syntax", "hm_components", "hm_graph"]
+BELOW = ["hm_lex", "hm_texts", "hm_syntax", "hm_graph_components", "hm_graph"]
 
 
 def main():

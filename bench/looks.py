@@ -19,7 +19,7 @@ TOP = os.path.dirname(os.path.dirname(os.path.abspath(__file__)))
 sys.path.insert(0, os.path.join(TOP, "build"))
 import unproved  # noqa: E402
 
-USED = ["hm_syntax", "hm_types", "hm_sources", "hm_outcomes", "hm_check", "hm_published", "hm_store", "hm_shared"]
+USED = ["hm_syntax", "hm_types", "hm_run_sources", "hm_verdicts", "hm_check", "hm_store_published", "hm_store", "hm_store_shared"]
 
 
 def lines_of_crates():

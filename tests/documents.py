@@ -48,10 +48,10 @@ STUMBLES = [(re.compile(rf"\b(?:{words})\b", re.I), advice) for words, advice in
 TERMS = {"docs/PROVING.md": {"answers"}}
 # Crates with comments that aren't searched yet.
 UNSEARCHED = {
-    "hm_details",
+    "hm_messages_details",
     "hm_explain",
     "hm_messages",
-    "hm_telling",
+    "hm_build_output",
 }
 STARTS = re.compile(r"^(?:Where|What|Of|That (?:an?|the|it|this|these|those|each|no|both|all|such)) ")
 

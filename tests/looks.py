@@ -12,9 +12,9 @@ import sys
 
 TOP = pathlib.Path(__file__).resolve().parent.parent
 LOOKS = {
-    "hm_published/src/published.rt": ["hm_published::published::Published::found"],
-    "hm_published/src/reading.rt": ["hm_published::reading::Reader::look", "hm_published::reading::enter"],
-    "hm_shared/src/passes.rt": [f"hm_shared::passes::Pass::{it}" for it in ("look", "look_at_seen", "look_at_all")],
+    "hm_store_published/src/published.rt": ["hm_store_published::published::Published::found"],
+    "hm_store_published/src/reading.rt": ["hm_store_published::reading::Reader::look", "hm_store_published::reading::enter"],
+    "hm_store_shared/src/passes.rt": [f"hm_store_shared::passes::Pass::{it}" for it in ("look", "look_at_seen", "look_at_all")],
 }
 WORD = re.compile(r"^fn ([\w:+]+): (.*)$", re.M)
 

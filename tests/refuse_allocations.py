@@ -2,7 +2,7 @@
 """Runs the program, and tests of single calls, with each of their allocations refused in turn.
 
 `refuse_allocations.py [--program PROGRAM] [--tests TESTS..]`: without words, the proved program beside this folder; with TESTS, the tests
-of the crates `call_tests` and `acceptance` too whose names are `refused::..` (`crates/NAME/out/NAME_tests`, after `rt ci`). A run of the
+of the crates `test_calls` and `test_builds` too whose names are `refused::..` (`crates/NAME/out/NAME_tests`, after `rt ci`). A run of the
 program, with 1 and with 4 workers, must print the right text and end with the right status, or print nothing, say `hmc: no memory` and
 end with 3, or, where a thread could not be started, say `hmc: no worker` and end with 6. With messages, for readers and for programs, it may also
 leave the note of a type fault out, or name the module whose check was refused before it says `hmc: no memory`. Of a set whose types grow, the first,

@@ -206,7 +206,7 @@ def status_faults():
     texts = {
         "hmc/specs/Statuses": (TOP / "crates/hmc/specs/Statuses.antt", r"^code_of\w* \w+ = (\d+)$"),
         "hmc/src/main.rt, the constants": (TOP / "crates/hmc/src/main.rt", r"^const \w+: u8 = (\d+);$"),
-        "hm_words/src/lib.rt, the help": (TOP / "crates/hm_words/src/lib.rt", r"^ +(\d) {2,}\w"),
+        "hmc_words/src/lib.rt, the help": (TOP / "crates/hmc_words/src/lib.rt", r"^ +(\d) {2,}\w"),
         "docs/LANGUAGE.md, the table": (TOP / "docs/LANGUAGE.md", r"^\| (\d) \|"),
     }
     found = {name: {0, *map(int, re.findall(pattern, path.read_text(), re.M))} for name, (path, pattern) in texts.items()}

@@ -42,22 +42,22 @@ pub mod graph {
 
 /// Types, schemes and interfaces.
 pub mod types {
-    pub use hm_instances::{canonical, instance_of};
-    pub use hm_prelude::{SharedPrelude, prelude};
-    pub use hm_type_texts::{interface_text, scheme_text};
     pub use hm_types::{
         ConstructorEntry, Entity, Entry, Head, Interface, Scheme, Synonym, SynonymEntry, Text, Ty,
         TypeEntry, Types, ValueEntry,
     };
+    pub use hm_types_display::{interface_text, scheme_text};
+    pub use hm_types_prelude::{SharedPrelude, prelude};
+    pub use hm_types_subsumption::{canonical, instance_of};
 }
 
 /// Names: what is in scope, what each name means, what is exported.
 pub mod scope {
-    pub use hm_interfaces::export;
     pub use hm_names::{
         Core, Exported, Fault, Kind, Namespace, Schemes, ScopeFault, TypeLimits, WIDE_LIMITS,
     };
     pub use hm_scope::{scope, scope_within};
+    pub use hm_scope_interface::export;
     pub use hm_verdicts::kind_word;
 }
 
@@ -74,14 +74,14 @@ pub mod infer {
 /// The verdict of one module.
 pub mod check {
     pub use hm_check::{CheckFault, check_module, check_module_within};
-    pub use hm_outcomes::{Outcome, Verdict};
+    pub use hm_verdicts::{Outcome, Verdict};
 }
 
 /// The build object, alone and shared by threads.
 pub mod store {
-    pub use hm_published::{LookFault, Naming, Opened};
-    pub use hm_shared::{Brands, Crew, Pass, Shared, SharedFault};
     pub use hm_store::{Act, Call, Claimed, Entry, Record, Refusal, Status, Store, Turn};
+    pub use hm_store_published::{LookFault, Naming, Opened};
+    pub use hm_store_shared::{Brands, Crew, Pass, Shared, SharedFault};
 }
 
 /// Builds by several threads, and runs from readers to a writer.
@@ -90,9 +90,9 @@ pub mod build {
         BuildFault, Explain, Explaining, Finished, Gate, Open, Options, Outputs, build,
         journal_text, report, run, run_explained,
     };
-    pub use hm_devices::{RunFault, Watched};
     pub use hm_messages::Paint;
-    pub use hm_sources::{
+    pub use hm_run_io::{RunFault, Watched};
+    pub use hm_run_sources::{
         SetFault, SetFaultKind, Status, Trees, plan_text, refusal_text, run_plan,
     };
 }

@@ -1,11 +1,11 @@
 -- Why there is no build, where its workers ended early, its store can't be shared, or its records don't agree.
 use Rattle.std.proofs.Common.{◌≡◌, ◌⊎◌, ◌<◌, ◌≤◌, ℕ, Bool, true, false, nat_lt, inl, inr, refl, sym, subst, ⊎_elim, arith}
 use Rattle.std.proofs.lemmas.Bool.Decides.{nat_tests}
-use Rattle.hm_shared.specs.declared.dealing.SharedFault.{SharedFault}
-use Rattle.hm_shared.specs.declared.dealing.SharedFault.TheVariants as shared
-use Rattle.hm_stages.specs.declared.faults.BuildFault.{BuildFault}
-use Rattle.hm_stages.specs.declared.faults.BuildFault.TheVariants.{Memory, Mixed, NoWorker, Exhausted}
-use Rattle.hm_stages.specs.Errors as stages
+use Rattle.hm_store_shared.specs.declared.dealing.SharedFault.{SharedFault}
+use Rattle.hm_store_shared.specs.declared.dealing.SharedFault.TheVariants as shared
+use Rattle.hm_build_stages.specs.declared.faults.BuildFault.{BuildFault}
+use Rattle.hm_build_stages.specs.declared.faults.BuildFault.TheVariants.{Memory, Mixed, NoWorker, Exhausted}
+use Rattle.hm_build_stages.specs.Errors as stages
 use Rattle.hm_build.specs.Workers.{Becomes, IsWorkError}
 use Rattle.hm_build.specs.declared.workers.WorkFault.{WorkFault}
 use Rattle.hm_build.specs.declared.workers.WorkFault.TheVariants as work

@@ -19,29 +19,29 @@ use Rattle.left_right.proofs.handles.ReadHandle.TheSendSync as ReadHandleFacts
 use Rattle.left_right.proofs.handles.WriteHandle.TheSendSync as WriteHandleFacts
 use Rattle.hm_types.specs.contracts.interfaces.Interface as Interface
 use Rattle.hm_types.proofs.monotypes.Types.TheLaws.TheKnot.{crosses as types}
-use Rattle.hm_modules.proofs.Crossing.{module_send, module_sync}
-use Rattle.hm_outcomes.specs.contracts.outcome.Verdict as Verdict
-use Rattle.hm_outcomes.specs.contracts.outcome.Outcome as Outcome
+use Rattle.hm_run_parallel_parse.proofs.Crossing.{module_send, module_sync}
+use Rattle.hm_verdicts.specs.contracts.outcome.Verdict as Verdict
+use Rattle.hm_verdicts.specs.contracts.outcome.Outcome as Outcome
 use Rattle.hm_store.specs.contracts.record.Call as Call
 use Rattle.hm_store.specs.contracts.record.Act as Act
-use Rattle.hm_shared.specs.contracts.passes.Pass as Pass
+use Rattle.hm_store_shared.specs.contracts.passes.Pass as Pass
 use Rattle.hm_store.specs.contracts.record.Record as Record
 use Rattle.hm_store.specs.contracts.store.Store as Store
-use Rattle.hm_shared.specs.contracts.shared.Shared as Shared
-use Rattle.hm_shared.specs.contracts.shared.Locked as Locked
-use Rattle.hm_shared.specs.contracts.listed.Listed as Listed
-use Rattle.hm_published.specs.contracts.history.Front as Front
-use Rattle.hm_published.specs.contracts.published.Published as Published
-use Rattle.hm_published.specs.contracts.published.Step as Step
-use Rattle.hm_published.specs.contracts.reading.Reader as Reader
-use Rattle.hm_published.specs.declared.history.Naming.{Ghosts as Names}
+use Rattle.hm_store_shared.specs.contracts.shared.Shared as Shared
+use Rattle.hm_store_shared.specs.contracts.shared.Locked as Locked
+use Rattle.hm_store_shared.specs.contracts.listed.Listed as Listed
+use Rattle.hm_store_published.specs.contracts.history.Front as Front
+use Rattle.hm_store_published.specs.contracts.published.Published as Published
+use Rattle.hm_store_published.specs.contracts.published.Step as Step
+use Rattle.hm_store_published.specs.contracts.reading.Reader as Reader
+use Rattle.hm_store_published.specs.declared.history.Naming.{Ghosts as Names}
 use Rattle.hm_store.proofs.object.Entry.TheSendSync as Entry
 use Rattle.hm_store.proofs.object.Status.TheSendSync as Status
-use Rattle.hm_stages.specs.contracts.finished_build.Finished as Finished
+use Rattle.hm_build_stages.specs.contracts.finished_build.Finished as Finished
 use Rattle.hm_build.specs.contracts.workers.Work as Work
-use Rattle.hm_prelude.specs.contracts.shared_prelude.SharedPrelude as SharedPrelude
+use Rattle.hm_types_prelude.specs.contracts.shared_prelude.SharedPrelude as SharedPrelude
 use Rattle.core.specs.declared.ledger.Ledger.{Ghosts}
-use Rattle.hm_published.proofs.history.Front.TheSendSync as FrontFacts
+use Rattle.hm_store_published.proofs.history.Front.TheSendSync as FrontFacts
 use Rattle.logbook.proofs.word.Word.TheSendSync as Word
 use Rattle.core.proofs.ledger.Share.TheSendSync as Share
 use Rattle.core.proofs.ledger.Book.TheSendSync as Book

@@ -9,10 +9,10 @@ use Rattle.hm_store.specs.Objects.{status_at}
 use Rattle.hm_store.specs.Settlements.{SettledBuildIsSettled, settlement, settlement_by, settlement_with}
 use Rattle.hm_store.specs.declared.object.Status.{Status}
 use Rattle.hm_store.specs.declared.object.Status.TheVariants.{Waiting, Claimed, Published, Failed, Skipped}
-use Rattle.hm_reports.specs.FinishedBuilds.{IsFinished}
+use Rattle.hm_build_reports.specs.FinishedBuilds.{IsFinished}
 use Rattle.hm_build.specs.Headline.{HasVerdicts}
-use Rattle.hm_stages.specs.declared.finished_build.Finished.{Finished}
-use Rattle.hm_stages.specs.declared.faults.BuildFault.{BuildFault}
+use Rattle.hm_build_stages.specs.declared.finished_build.Finished.{Finished}
+use Rattle.hm_build_stages.specs.declared.faults.BuildFault.{BuildFault}
 
 has_interface : verdicts.Status → Bool
 has_interface (verdicts.Published f) = true

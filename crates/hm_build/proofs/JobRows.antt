@@ -3,13 +3,13 @@ use Rattle.std.proofs.Common.{◌≡◌, ◌<◌, ℕ, zero, suc, List, [], ◌�
 use Rattle.std.specs.Prelude.{All, Contains}
 use Rattle.std.proofs.lemmas.List.{length-map}
 use Rattle.std.proofs.lemmas.List.Elements.{All-contains_itself}
-use Rattle.hm_published.specs.declared.publication.Publication.{Publication}
-use Rattle.hm_published.specs.Publications.{IsPublishedIn}
+use Rattle.hm_store_published.specs.declared.publication.Publication.{Publication}
+use Rattle.hm_store_published.specs.Publications.{IsPublishedIn}
 use Rattle.hm_store.specs.declared.object.Turn.TheVariants.{Job}
 use Rattle.hm_syntax.specs.declared.ast.Module.{Module}
 use Rattle.hm_verdicts.specs.Sets.{IsLawfulSet}
 use Rattle.hm_store.specs.Builds.{Build, IsLegal}
-use Rattle.hm_shared.specs.Listings.{HasImports}
+use Rattle.hm_store_shared.specs.Listings.{HasImports}
 use Rattle.hm_build.specs.Workers.{IsWorkOf}
 
 -- there are as many rows as the plan has

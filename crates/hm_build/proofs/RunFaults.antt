@@ -1,7 +1,7 @@
 -- What a fault of a reader says of a run.
 use Rattle.std.proofs.Common.{◌≡◌, ◌⊎◌, ◌<◌, ◌≤◌, ℕ, List, All, IfErr, IfSome, IsErrOf, Option, Some, None, Result, Ok, Err, inl, inr, ⊎_elim, sym, ap, subst, ◌∙◌, arith}
-use Rattle.hm_devices.specs.declared.faults.RunFault.{RunFault}
-use Rattle.hm_devices.specs.declared.faults.RunFault.TheVariants.{Workers, Read, Write, Memory, NoWorker, Mixed}
+use Rattle.hm_run_io.specs.declared.faults.RunFault.{RunFault}
+use Rattle.hm_run_io.specs.declared.faults.RunFault.TheVariants.{Workers, Read, Write, Memory, NoWorker, Mixed}
 
 number : RunFault → ℕ
 number Workers = 0

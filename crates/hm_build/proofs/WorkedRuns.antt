@@ -12,15 +12,15 @@ use Rattle.hm_store.specs.declared.object.Entry.TheVariants.{Stop}
 use Rattle.hm_store.specs.declared.object.Status.TheVariants as status
 use Rattle.hm_store.proofs.Settling.{settled_build}
 use Rattle.hm_store.proofs.WorkedLegal.{legal}
-use Rattle.hm_sources.specs.declared.status.Status.{Status}
-use Rattle.hm_sources.specs.declared.status.Status.TheVariants.{Good, Faulty, Refused}
-use Rattle.hm_telling.specs.Checks.{IsChecked, IsCheckRun}
+use Rattle.hm_run_sources.specs.declared.status.Status.{Status}
+use Rattle.hm_run_sources.specs.declared.status.Status.TheVariants.{Good, Faulty, Refused}
+use Rattle.hm_build_output.specs.Checks.{IsChecked, IsCheckRun}
 use Rattle.hm_build.specs.Headline.{HasVerdicts}
-use Rattle.hm_telling.specs.JournalledRuns.{Follows, IsRun}
-use Rattle.hm_reports.specs.Journals.{MayEnd, entry_lines}
+use Rattle.hm_build_output.specs.JournalledRuns.{Follows, IsRun}
+use Rattle.hm_build_reports.specs.Journals.{MayEnd, entry_lines}
 use Rattle.hm_build.specs.Worked.{IsOneWorkers, JournalRow, NothingRow, RoomRow, VerdictsRow, no_text, nothing, one_worker}
 use Rattle.hm_build.proofs.Headlines.{verdicts_of}
-use Rattle.hm_telling.proofs.OneRun.{one_check_status}
+use Rattle.hm_build_output.proofs.OneRun.{one_check_status}
 
 -- The journal
 

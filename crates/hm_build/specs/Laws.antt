@@ -3,11 +3,11 @@ use Rattle.std.specs.Prelude.{◌≡◌, ℕ, List}
 use Rattle.hm_verdicts.specs.Reports.{IsAllGood, IsReport}
 use Rattle.hm_verdicts.specs.Sets.{ModuleSet, IsLawfulSet}
 use Rattle.hm_verdicts.specs.Verdicts.{Status as Settlement, IsSettled}
-use Rattle.hm_telling.specs.Checks.{IsChecked, IsCheckRun}
-use Rattle.hm_sources.specs.declared.status.Status.{Status}
-use Rattle.hm_sources.specs.declared.status.Status.TheVariants.{Good, Faulty}
-use Rattle.hm_sources.specs.Runs.{IsRefused}
-use Rattle.hm_sources.specs.SourceModules.{AreModulesOf}
+use Rattle.hm_build_output.specs.Checks.{IsChecked, IsCheckRun}
+use Rattle.hm_run_sources.specs.declared.status.Status.{Status}
+use Rattle.hm_run_sources.specs.declared.status.Status.TheVariants.{Good, Faulty}
+use Rattle.hm_run_sources.specs.Runs.{IsRefused}
+use Rattle.hm_run_sources.specs.SourceModules.{AreModulesOf}
 
 -- sources that are checked have one report
 abbrev pub HasOneReport : Type 0

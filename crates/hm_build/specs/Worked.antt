@@ -7,10 +7,10 @@ use Rattle.hm_store.specs.Builds.{Build, IsAllSettled, IsLegal, set_of}
 use Rattle.hm_store.specs.declared.object.Entry.{Entry}
 use Rattle.hm_store.specs.declared.object.Entry.TheVariants.{Claim, Publish, Fail, Stop}
 use Rattle.hm_build.specs.Headline.{HasVerdicts}
-use Rattle.hm_telling.specs.JournalledRuns.{IsRun}
-use Rattle.hm_reports.specs.Journals.{MayEnd, entry_line, journal_text}
-use Rattle.hm_stages.specs.Rooms.{room_of}
-use Rattle.hm_sources.specs.declared.status.Status.TheVariants.{Good, Faulty, Refused}
+use Rattle.hm_build_output.specs.JournalledRuns.{IsRun}
+use Rattle.hm_build_reports.specs.Journals.{MayEnd, entry_line, journal_text}
+use Rattle.hm_build_stages.specs.Rooms.{room_of}
+use Rattle.hm_run_sources.specs.declared.status.Status.TheVariants.{Good, Faulty, Refused}
 
 -- The worked set: A is good, B is faulty, C imports B
 

@@ -2,8 +2,8 @@
 use Rattle.std.specs.Prelude.{◌≡◌, ◌<◌, ◌≤◌, ℕ, List}
 use Rattle.hm_syntax.specs.declared.ast.Module.{Module}
 use Rattle.hm_verdicts.specs.Sets.{IsLawfulSet}
-use Rattle.hm_stages.specs.declared.faults.BuildFault.{BuildFault}
-use Rattle.hm_stages.specs.declared.faults.BuildFault.TheVariants as build
+use Rattle.hm_build_stages.specs.declared.faults.BuildFault.{BuildFault}
+use Rattle.hm_build_stages.specs.declared.faults.BuildFault.TheVariants as build
 use Rattle.hm_build.specs.declared.workers.WorkFault.{WorkFault}
 use Rattle.hm_build.specs.declared.workers.WorkFault.TheVariants as work
 

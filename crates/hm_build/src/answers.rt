@@ -1,15 +1,17 @@
 //! The result of a run before it is written: a text, a status and messages.
 ghost use Rattle.std.specs.Prelude.{◌≡◌, ◌⊎◌, ◌<◌, ◌≤◌, None, IfOk, IfErr, IfSome, map, string_bytes};
-ghost use Rattle.hm_telling.specs.Explained.{IsExplained, TellsExhaustion};
-ghost use Rattle.hm_telling.specs.JournalledRuns.{IsRun};
+ghost use Rattle.hm_build_output.specs.Explained.{IsExplained, TellsExhaustion};
+ghost use Rattle.hm_build_output.specs.JournalledRuns.{IsRun};
 
 use crate::building::{Task, build_here};
 use crate::{BuildFault, Finished, Open, Options};
-use hm_devices::RunFault;
+use hm_build_output::{
+    Explained, Wanted, exhausted_message, finished_explained, refused_explained,
+};
+use hm_build_stages::drop_by_threads;
 use hm_messages::MessageFault;
-use hm_sources::{Nesting, Trees};
-use hm_stages::drop_by_threads;
-use hm_telling::{Explained, Wanted, exhausted_message, finished_explained, refused_explained};
+use hm_run_io::RunFault;
+use hm_run_sources::{Nesting, Trees};
 use std::alloc::Global;
 use std::mem;
 use std::sync::Wait;
@@ -25,7 +27,7 @@ pub(crate) struct Unanswered {
 
 impl From<MessageFault> for Unanswered {
     ghost use Rattle.std.specs.Prelude.{◌≡◌, ◌⊎◌, None};
-    ghost use Rattle.hm_devices.specs.declared.faults.RunFault.TheVariants.{Memory, Mixed};
+    ghost use Rattle.hm_run_io.specs.declared.faults.RunFault.TheVariants.{Memory, Mixed};
 
     ghost from_gives = { λ _ unanswered. ((unanswered.fault ≡ Memory) ⊎ (unanswered.fault ≡ Mixed)) × (unanswered.message ≡ None) };
 

@@ -1,24 +1,24 @@
 //! Builds the modules of sources. Each worker checks a module for the published interfaces of its imports.
 ghost use Rattle.std.specs.Prelude.{◌≡◌, ◌⊎◌, ◌↔◌, ◌<◌, ◌≤◌, ◌^◌, ℕ, List, [], IfErr, IfOk, IsErrOf, length, map, min};
 ghost use Rattle.std.specs.Arc.{arc_value};
-ghost use Rattle.hm_stages.specs.Errors.{IsBuildError, IsBuildFault};
-ghost use Rattle.hm_reports.specs.FinishedBuilds.{IsFinished};
+ghost use Rattle.hm_build_stages.specs.Errors.{IsBuildError, IsBuildFault};
+ghost use Rattle.hm_build_reports.specs.FinishedBuilds.{IsFinished};
 ghost use Rattle.hm_build.specs.Headline.{HasVerdicts};
 ghost use Rattle.hm_build.specs.Workers.{IsWorkError};
-ghost use Rattle.hm_sources.specs.SourceModules.{AreModulesOf};
+ghost use Rattle.hm_run_sources.specs.SourceModules.{AreModulesOf};
 
 use crate::limits::type_limits;
 use crate::workers::{Work, build_fault, run_workers};
 use crate::{BuildFault, Finished, Gate};
 use core::thread::Stack;
-use hm_modules::Pool;
-use hm_published::{Naming, Opened};
-use hm_reports::may_work;
-use hm_shared::{Brands, Crew, Pass, Shared};
-use hm_sources::Nesting;
-use hm_stages::{Fresh, finished, read, room_for};
+use hm_build_reports::may_work;
+use hm_build_stages::{Fresh, finished, read, room_for};
+use hm_run_parallel_parse::Pool;
+use hm_run_sources::Nesting;
 use hm_store::Record;
 use hm_store::laws::settled_builds_are_settled_sets;
+use hm_store_published::{Naming, Opened};
+use hm_store_shared::{Brands, Crew, Pass, Shared};
 use hm_verdicts::settled_modules_have_their_verdicts;
 use std::alloc::{AllocError, Global};
 use std::marker::Brand;
@@ -137,8 +137,8 @@ struct BuildOf {
 
 impl Promise<Result<Finished, BuildFault>> for BuildOf {
     ghost use Rattle.std.specs.Prelude.{IfErr, IfOk, map};
-    ghost use Rattle.hm_stages.specs.Errors.{IsBuildError};
-    ghost use Rattle.hm_reports.specs.FinishedBuilds.{IsFinished};
+    ghost use Rattle.hm_build_stages.specs.Errors.{IsBuildError};
+    ghost use Rattle.hm_build_reports.specs.FinishedBuilds.{IsFinished};
     ghost use Rattle.hm_build.specs.Headline.{HasVerdicts};
 
     ghost kept_by = { λ p r. IfOk r (λ f. IsFinished (map (λ s. s.items) p.sources.value.items) p.workers f.store f.records.items) × (IfOk r (λ f. HasVerdicts f.store) × IfErr r (IsBuildError (map (λ s. s.items) p.sources.value.items))) };

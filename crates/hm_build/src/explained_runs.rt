@@ -1,17 +1,17 @@
 //! Runs with two writers: one for the report, one for the messages that explain it.
 ghost use Rattle.std.specs.Prelude.{◌≡◌, ◌<◌, ◌⊎◌, ◌↔◌, ℕ, List, All, Any, IfOk, IfErr, IsErrOf, OnErr, OnOk, map};
 ghost use Rattle.std.specs.Io.KnownBytes.{Appends};
-ghost use Rattle.hm_telling.specs.Explained.{IsExplained, IsToldTo, TellsExhaustion};
-ghost use Rattle.hm_telling.specs.JournalledRuns.{IsRun};
-ghost use Rattle.hm_devices.specs.Sources.{AreReadUp, Stops, StopsAtFault, Tell, WritesPrefix, held_of};
-ghost use Rattle.hm_sources.specs.declared.status.Status.{Status};
-ghost use Rattle.hm_devices.specs.Watching.{device_of, failures_of, HasReadFault, HasWriteFault, IsFlushedBehind, IsFresh, IsReadWithin, IsWritten, IsWrittenOnce};
+ghost use Rattle.hm_build_output.specs.Explained.{IsExplained, IsToldTo, TellsExhaustion};
+ghost use Rattle.hm_build_output.specs.JournalledRuns.{IsRun};
+ghost use Rattle.hm_run_io.specs.Sources.{AreReadUp, Stops, StopsAtFault, Tell, WritesPrefix, held_of};
+ghost use Rattle.hm_run_sources.specs.declared.status.Status.{Status};
+ghost use Rattle.hm_run_io.specs.Watching.{device_of, failures_of, HasReadFault, HasWriteFault, IsFlushedBehind, IsFresh, IsReadWithin, IsWritten, IsWrittenOnce};
 
 use crate::Explaining;
 use crate::reading::read_and_check;
-use hm_devices::{RunFault, Watched, write_text};
-use hm_sources::Status;
-use hm_telling::Wanted;
+use hm_build_output::Wanted;
+use hm_run_io::{RunFault, Watched, write_text};
+use hm_run_sources::Status;
 use std::alloc::Global;
 use std::io::{Read, Write};
 use std::sync::Wait;

@@ -1,6 +1,6 @@
 //! Limits for the sizes of types in a build.
 use hm_names::TypeLimits;
-use hm_sources::Nesting;
+use hm_run_sources::Nesting;
 
 /// The number of nodes that the types of all modules may share, for sources of any length.
 const NODES_OF_ALL: usize = 1 << 19;

@@ -1,14 +1,14 @@
 //! Reads sources and checks them. Writing the result is left to the callers.
 ghost use Rattle.std.specs.Prelude.{◌≡◌, ◌<◌, ◌⊎◌, ◌↔◌, ℕ, List, None, All, Any, IfOk, IfErr, IfSome, IsErrOf, OnOk, map, string_bytes};
-ghost use Rattle.hm_telling.specs.Explained.{IsExplained, TellsExhaustion};
-ghost use Rattle.hm_telling.specs.JournalledRuns.{IsRun};
-ghost use Rattle.hm_devices.specs.Sources.{AreReadUp, Stops, StopsAtFault, Tell, held_of};
-ghost use Rattle.hm_devices.specs.Watching.{device_of, failures_of, HasReadFault, IsFresh, IsReadWithin};
+ghost use Rattle.hm_build_output.specs.Explained.{IsExplained, TellsExhaustion};
+ghost use Rattle.hm_build_output.specs.JournalledRuns.{IsRun};
+ghost use Rattle.hm_run_io.specs.Sources.{AreReadUp, Stops, StopsAtFault, Tell, held_of};
+ghost use Rattle.hm_run_io.specs.Watching.{device_of, failures_of, HasReadFault, IsFresh, IsReadWithin};
 
 use crate::stacks::build_answer_on_thread;
-use hm_devices::{RunFault, Watched, read_all};
-use hm_reports::may_work;
-use hm_telling::{Explained, Wanted};
+use hm_build_output::{Explained, Wanted};
+use hm_build_reports::may_work;
+use hm_run_io::{RunFault, Watched, read_all};
 use std::alloc::Global;
 use std::io::Read;
 use std::sync::Wait;

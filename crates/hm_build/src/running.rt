@@ -1,16 +1,16 @@
 //! Runs with one writer, which gets the report.
 ghost use Rattle.std.specs.Prelude.{◌≡◌, ◌<◌, ◌⊎◌, ◌↔◌, ℕ, List, All, Any, IfOk, IfErr, IsErrOf, OnErr, OnOk};
 ghost use Rattle.std.specs.Io.KnownBytes.{Appends};
-ghost use Rattle.hm_telling.specs.JournalledRuns.{IsRun};
-ghost use Rattle.hm_devices.specs.Sources.{AreReadUp, Stops, StopsAtFault, Tell, WritesPrefix};
-ghost use Rattle.hm_sources.specs.declared.status.Status.{Status};
-ghost use Rattle.hm_devices.specs.Watching.{device_of, failures_of, HasReadFault, HasWriteFault, IsFlushedBehind, IsFresh, IsReadWithin, IsWritten, IsWrittenOnce};
+ghost use Rattle.hm_build_output.specs.JournalledRuns.{IsRun};
+ghost use Rattle.hm_run_io.specs.Sources.{AreReadUp, Stops, StopsAtFault, Tell, WritesPrefix};
+ghost use Rattle.hm_run_sources.specs.declared.status.Status.{Status};
+ghost use Rattle.hm_run_io.specs.Watching.{device_of, failures_of, HasReadFault, HasWriteFault, IsFlushedBehind, IsFresh, IsReadWithin, IsWritten, IsWrittenOnce};
 
 use crate::Options;
 use crate::reading::read_and_check;
-use hm_devices::{RunFault, Watched, write_text};
-use hm_sources::Status;
-use hm_telling::Wanted;
+use hm_build_output::Wanted;
+use hm_run_io::{RunFault, Watched, write_text};
+use hm_run_sources::Status;
 use std::alloc::Global;
 use std::io::{Read, Write};
 use std::sync::Wait;

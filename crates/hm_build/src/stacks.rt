@@ -1,13 +1,13 @@
 //! Runs a build on a thread whose stack is large enough for the source that nests deepest.
 ghost use Rattle.std.specs.Prelude.{◌≡◌, ◌⊎◌, ◌<◌, ◌≤◌, None, IfErr, IfOk, IfSome, map, string_bytes};
-ghost use Rattle.hm_telling.specs.Explained.{IsExplained, TellsExhaustion};
-ghost use Rattle.hm_telling.specs.JournalledRuns.{IsRun};
+ghost use Rattle.hm_build_output.specs.Explained.{IsExplained, TellsExhaustion};
+ghost use Rattle.hm_build_output.specs.JournalledRuns.{IsRun};
 
 use crate::answers::{Unanswered, build_answer};
 use core::thread::Stack;
-use hm_devices::RunFault;
-use hm_sources::Nesting;
-use hm_telling::{Explained, Wanted};
+use hm_build_output::{Explained, Wanted};
+use hm_run_io::RunFault;
+use hm_run_sources::Nesting;
 use std::alloc::Global;
 use std::snapshot::Snapshot;
 use std::sync::Wait;
@@ -23,9 +23,9 @@ struct RunOf {
 
 impl Promise<Result<Explained, Unanswered>> for RunOf {
     ghost use Rattle.std.specs.Prelude.{◌≡◌, ◌⊎◌, None, IfErr, IfOk, IfSome, map, string_bytes};
-    ghost use Rattle.hm_telling.specs.Explained.{IsExplained, TellsExhaustion};
-    ghost use Rattle.hm_telling.specs.JournalledRuns.{IsRun};
-    ghost use Rattle.hm_devices.specs.declared.faults.RunFault.TheVariants.{Memory, NoWorker, Mixed};
+    ghost use Rattle.hm_build_output.specs.Explained.{IsExplained, TellsExhaustion};
+    ghost use Rattle.hm_build_output.specs.JournalledRuns.{IsRun};
+    ghost use Rattle.hm_run_io.specs.declared.faults.RunFault.TheVariants.{Memory, NoWorker, Mixed};
 
     ghost kept_by = { λ p r. IfOk r (λ a. IsRun p.wanted.value.options.workers p.wanted.value.options.journal (map (λ s. s.items) p.sources.value.items) a.answer.status (string_bytes a.answer.text)) × (IfOk r (λ a. IfSome p.wanted.value.explain (λ e. IsExplained e.paint (map (λ s. s.items) e.names.items) (map (λ s. s.items) p.sources.value.items) a.answer.status (string_bytes a.answer.text) a.messages.items)) × (IfErr r (λ e. (e.fault ≡ Memory) ⊎ ((e.fault ≡ NoWorker) ⊎ (e.fault ≡ Mixed))) × (IfErr r (λ e. IfSome e.message (λ m. IfSome p.wanted.value.explain (λ x. TellsExhaustion x.paint (map (λ s. s.items) x.names.items) (map (λ s. s.items) p.sources.value.items) m.items))) × IfErr r (λ e. (e.fault ≡ Memory) ⊎ (e.message ≡ None))))) };
 }

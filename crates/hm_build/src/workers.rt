@@ -1,23 +1,23 @@
 //! The workers of a build, which claim modules and check them.
 ghost use Rattle.std.specs.Prelude.{◌≡◌, ◌≢◌, ◌<◌, ◌≤◌, ◌+◌, length, map};
 ghost use Rattle.std.specs.Arc.{arc_value};
-ghost use Rattle.hm_published.specs.Publications.{IsLawful};
+ghost use Rattle.hm_store_published.specs.Publications.{IsLawful};
 ghost use Rattle.hm_store.specs.declared.object.Refusal.TheVariants.{Stranger};
 ghost use Rattle.hm_store.specs.declared.object.Turn.TheVariants.{Job};
-ghost use Rattle.hm_shared.specs.Listings.{HasImports, IsOfSeen, IsWithin};
-ghost use Rattle.hm_shared.specs.Passes.{room_of, seen_of};
+ghost use Rattle.hm_store_shared.specs.Listings.{HasImports, IsOfSeen, IsWithin};
+ghost use Rattle.hm_store_shared.specs.Passes.{room_of, seen_of};
 ghost use Rattle.hm_build.specs.Workers.{Becomes, IsWorkOf};
 
 use crate::{BuildFault, Gate};
 use hm_check::{CheckFault, check_module_within};
 use hm_names::TypeLimits;
-use hm_outcomes::Outcome;
-use hm_prelude::SharedPrelude;
-use hm_published::{LookFault, Naming, Published, Step};
-use hm_shared::laws::seen_imports_are_asked_for;
-use hm_shared::{Pass, Shared};
 use hm_store::{Refusal, Turn};
+use hm_store_published::{LookFault, Naming, Published, Step};
+use hm_store_shared::laws::seen_imports_are_asked_for;
+use hm_store_shared::{Pass, Shared};
 use hm_syntax::Module;
+use hm_types_prelude::SharedPrelude;
+use hm_verdicts::Outcome;
 use left_right::Absorb;
 use std::alloc::Global;
 use std::sync::ledger::Ledger;

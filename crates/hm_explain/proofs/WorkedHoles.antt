@@ -9,9 +9,9 @@ use Rattle.hm_lex.proofs.Cuts.{one_cut}
 use Rattle.hm_types.specs.Interfaces.{Exports as Interface}
 use Rattle.hm_types.specs.StandardPrelude.{prelude_interface}
 use Rattle.hm_syntax.specs.declared.ast.Module.{Module}
-use Rattle.hm_grammar.specs.Grammar.Modules.{Spells}
-use Rattle.hm_grammar.proofs.Whole.{spelled_once}
-use Rattle.hm_sources.specs.SourceModules.{HasModules}
+use Rattle.hm_parse_grammar.specs.Grammar.Modules.{Spells}
+use Rattle.hm_parse_grammar.proofs.Whole.{spelled_once}
+use Rattle.hm_run_sources.specs.SourceModules.{HasModules}
 use Rattle.hm_names.specs.declared.faults.Fault.{Fault}
 use Rattle.hm_names.specs.declared.faults.Kind.TheVariants.{Arity, NotImported, Untyped}
 use Rattle.hm_verdicts.specs.ModuleVerdicts.{Verdict, Good, Faulty, IsVerdict}

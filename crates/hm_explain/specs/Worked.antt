@@ -4,7 +4,7 @@ use Rattle.hm_lex.specs.declared.token.Place.{Place}
 use Rattle.hm_types.specs.Interfaces.{Exports as Interface}
 use Rattle.hm_types.specs.StandardPrelude.{prelude_interface}
 use Rattle.hm_syntax.specs.declared.ast.Module.{Module}
-use Rattle.hm_sources.specs.SourceModules.{HasModules}
+use Rattle.hm_run_sources.specs.SourceModules.{HasModules}
 use Rattle.hm_names.specs.declared.faults.Fault.{Fault}
 use Rattle.hm_names.specs.declared.faults.Kind.{Kind}
 use Rattle.hm_names.specs.declared.faults.Kind.TheVariants.{Arity, Untyped}

@@ -4,9 +4,9 @@ ghost use Rattle.hm_lex.specs.Texts.{LiesIn};
 
 use crate::edits::bytes_in;
 use crate::tokens::{Outline, Run};
-use hm_grammar::{Symbol, text_of};
 use hm_lex::{Kind, Place, Token};
 use hm_names::Fault;
+use hm_parse_grammar::{Symbol, text_of};
 use std::alloc::{AllocError, Global};
 
 /// The most different names that a definition may mention to be explained.

@@ -3,7 +3,7 @@ use crate::edits::{Edit, Filling, before, behind, bracketed, in_place};
 use crate::parts::{Part, Role};
 use crate::tokens::{Lexed, Outline, Run};
 use crate::trial::HOLE;
-use hm_grammar::Symbol;
+use hm_parse_grammar::Symbol;
 use std::alloc::{AllocError, Global};
 
 /// How many arguments an application may have in which they are changed.

@@ -1,6 +1,6 @@
 //! The costs of explanations, and their limits.
 use crate::tokens::Outline;
-use hm_grammar::Symbol;
+use hm_parse_grammar::Symbol;
 
 /// The most trials for the explanation of a fault.
 pub(crate) const MOST_TRIALS: usize = 200;

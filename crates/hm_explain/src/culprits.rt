@@ -4,7 +4,7 @@ use crate::edits::{Edit, Filling, before, copied, edited, in_place};
 use crate::parts::{Part, Role, parts_below};
 use crate::tokens::{Lexed, Run};
 use crate::trial::{HOLE, Question, has_types_in};
-use hm_grammar::Symbol;
+use hm_parse_grammar::Symbol;
 use std::alloc::{AllocError, Global};
 
 /// From how many parts on halves of them are asked about first.

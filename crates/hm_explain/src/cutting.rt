@@ -6,7 +6,7 @@ use crate::binding::{declaration_end, is_clause_of};
 use crate::edits::bytes_in;
 use crate::tokens::{Lexed, Outline, Run};
 use crate::trial::HOLE;
-use hm_grammar::Symbol;
+use hm_parse_grammar::Symbol;
 use std::alloc::{AllocError, Global};
 
 /// A smaller source, and the number of its byte at which the searched definition begins.

@@ -1,6 +1,6 @@
 //! The expressions that stand directly inside a definition or an expression (Haskell 98 Report, chapter 3).
 use crate::tokens::{Outline, Run};
-use hm_grammar::Symbol;
+use hm_parse_grammar::Symbol;
 use std::alloc::{AllocError, Global};
 
 /// What an expression is to the one that it stands directly inside.

@@ -3,8 +3,8 @@
 ghost use Rattle.std.specs.Prelude.{All};
 ghost use Rattle.hm_lex.specs.Texts.{LiesIn};
 
-use hm_grammar::{Symbol, symbol_of, text_of};
 use hm_lex::Token;
+use hm_parse_grammar::{Symbol, symbol_of, text_of};
 use std::alloc::{AllocError, Global};
 
 /// A run of tokens: from one number up to another.

@@ -2,18 +2,18 @@
 ghost use Rattle.std.specs.Prelude.{◌≡◌, ◌≤◌, ◌∷◌, IfOk, IfSome, Contains, All, length, map, true};
 ghost use Rattle.std.specs.Arc.{arc_value};
 ghost use Rattle.hm_names.specs.Imports.{AreImportsOf};
-ghost use Rattle.hm_outcomes.specs.Outcomes.{verdict_of};
-ghost use Rattle.hm_sources.specs.SourceModules.{HasModules};
+ghost use Rattle.hm_verdicts.specs.Outcomes.{verdict_of};
+ghost use Rattle.hm_run_sources.specs.SourceModules.{HasModules};
 ghost use Rattle.hm_explain.specs.Holes.{AreTyped, HasTypesIn, IsElsewhere, IsModuleIn, with_hole};
 
 use hm_check::{CheckFault, check_module_within};
 use hm_lex::{LexFault, lex};
 use hm_names::{Fault, Kind, TypeLimits};
-use hm_outcomes::{Outcome, Verdict};
 use hm_parse::{ParseFault, parse};
-use hm_prelude::SharedPrelude;
 use hm_syntax::Module;
 use hm_types::Interface;
+use hm_types_prelude::SharedPrelude;
+use hm_verdicts::{Outcome, Verdict};
 use std::alloc::{AllocError, Global};
 use std::sync::Arc;
 

@@ -1,11 +1,11 @@
 -- which modules reach a module, from the lists of importers
 use Rattle.std.proofs.Common.{ℕ, Bool, List, ◌↔◌, arith}
-use Rattle.hm_components.specs.Closure.{one, more}
-use Rattle.hm_components.specs.Digraph.{Graph, Edge, Reaches}
-use Rattle.hm_components.specs.Marks.{IsClosed, IsMarked, MarksReached}
+use Rattle.hm_graph_components.specs.Closure.{one, more}
+use Rattle.hm_graph_components.specs.Digraph.{Graph, Edge, Reaches}
+use Rattle.hm_graph_components.specs.Marks.{IsClosed, IsMarked, MarksReached}
 use Rattle.hm_graph.specs.Steps.{AreImporters}
-use Rattle.hm_components.proofs.Closures.{Closure-trans}
-use Rattle.hm_components.proofs.Graphs.{Reaches-within}
+use Rattle.hm_graph_components.proofs.Closures.{Closure-trans}
+use Rattle.hm_graph_components.proofs.Graphs.{Reaches-within}
 
 -- the edges to importers lead to modules
 pub IsClosed-importers : (plan importers : Graph) → AreImporters plan importers → IsClosed importers

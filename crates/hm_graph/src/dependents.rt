@@ -1,11 +1,11 @@
 //! Finds the modules that import a module, directly or not, without allocating.
 
 ghost use Rattle.std.specs.Prelude.{◌≡◌, ◌<◌, ◌^◌, ◌↔◌, ℕ, IfOk, length};
-ghost use Rattle.hm_components.specs.Digraph.{Reaches};
-ghost use Rattle.hm_components.specs.Marks.{IsMarked};
+ghost use Rattle.hm_graph_components.specs.Digraph.{Reaches};
+ghost use Rattle.hm_graph_components.specs.Marks.{IsMarked};
 
 use crate::planning::Plan;
-use hm_components::mark_reached;
+use hm_graph_components::mark_reached;
 use std::alloc::{AllocError, Global};
 use std::marker::Model;
 

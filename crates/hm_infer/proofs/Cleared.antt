@@ -2,8 +2,8 @@
 use Rattle.std.proofs.Common.{◌≡◌, ℕ, ◌+◌, ◌<◌, ◌≤◌, List, length, set, get_or, sym, ap, ◌∙◌, subst, arith, length-set, get_or-set_same, get_or-set_other}
 use native.Mathlib.Decide.{ℕ_discrete}
 use Rattle.hm_typing.specs.Names.{IsOneOf}
-use Rattle.hm_expressions.proofs.Placing.{place_in}
-use Rattle.hm_expressions.specs.OpenGroups.{AreUpTo, ChangesOnly}
+use Rattle.hm_infer_expressions.proofs.Placing.{place_in}
+use Rattle.hm_infer_expressions.specs.OpenGroups.{AreUpTo, ChangesOnly}
 
 -- a node without a variable is in the group only from the place i on
 abbrev pub AreClearedBefore : ℕ → List ℕ → List ℕ → Type 0

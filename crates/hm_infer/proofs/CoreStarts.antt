@@ -7,16 +7,16 @@ use Rattle.hm_syntax.specs.Trees.{Declaration}
 use Rattle.hm_syntax.specs.Lists.{declarations}
 use Rattle.hm_names.specs.Cores.{known, syntax_of}
 use Rattle.hm_names.specs.Syntax.{Known}
-use Rattle.hm_groups.specs.Groups.{node_name}
-use Rattle.hm_variables.specs.Variables.{Variable}
-use Rattle.hm_assumptions.specs.Environments.{Assumed, AreAssumed, assumptions}
+use Rattle.hm_infer_dependencies.specs.Groups.{node_name}
+use Rattle.hm_names_keys.specs.Variables.{Variable}
+use Rattle.hm_infer_context.specs.Environments.{Assumed, AreAssumed, assumptions}
 use Rattle.hm_infer.specs.JudgedUnits.{UnitsJudged}
-use Rattle.hm_expressions.specs.Stages.{IsListFound, list_of}
-use Rattle.hm_answers.specs.UnitFaults.{AreGroupsTold}
+use Rattle.hm_infer_expressions.specs.Stages.{IsListFound, list_of}
+use Rattle.hm_infer_results.specs.UnitFaults.{AreGroupsTold}
 use Rattle.hm_infer.specs.UnitStarts.{AreGroupStarts, AreStartsOfKind, HasMember, IsCoreList}
 use Rattle.hm_infer.proofs.GroupDeclarations.{has_member}
 use Rattle.hm_infer.proofs.KindStarts.{unsigned_kind}
-use Rattle.hm_answers.proofs.FaultyGroups.{below_all, first_in}
+use Rattle.hm_infer_results.proofs.FaultyGroups.{below_all, first_in}
 use Rattle.hm_infer.proofs.UnitFaults.{plain_groups}
 
 pub record ListJudged (nodes : List (Option Variable)) (rows gs : List (List ℕ)) (base es : List Assumed) (table : List Bool) (k : Known) (ds : List Declaration) : Type 0 where

@@ -17,18 +17,18 @@ use Rattle.hm_names.specs.Cores.{IsSomeCore, known}
 use Rattle.hm_names.specs.ModuleCores.{ModuleCore}
 use Rattle.hm_names.specs.Syntax.{Known, name_of, bindings_of, is_continued, add_clause, bound_by}
 use Rattle.hm_names.specs.Variables.{pattern_variables}
-use Rattle.hm_groups.specs.Groups.{node_name}
-use Rattle.hm_groups.specs.Nodes.{owner}
-use Rattle.hm_variables.specs.Variables.{Variable}
-use Rattle.hm_groups.proofs.Reached.{names_long}
-use Rattle.hm_assumptions.specs.Environments.{Assumed, AreAssumed}
+use Rattle.hm_infer_dependencies.specs.Groups.{node_name}
+use Rattle.hm_infer_dependencies.specs.Nodes.{owner}
+use Rattle.hm_names_keys.specs.Variables.{Variable}
+use Rattle.hm_infer_dependencies.proofs.Reached.{names_long}
+use Rattle.hm_infer_context.specs.Environments.{Assumed, AreAssumed}
 use Rattle.hm_infer.specs.JudgedUnits.{UnitsJudged}
-use Rattle.hm_expressions.specs.Stages.{IsListFound, list_of}
+use Rattle.hm_infer_expressions.specs.Stages.{IsListFound, list_of}
 use Rattle.hm_infer.specs.UnitStarts.{HasMember}
 use Rattle.hm_infer.proofs.FirstTold.{AreByText, IsAside, core_by_text, names-add_clause, names-bound_by, names_of_pattern, own_number}
 use Rattle.hm_infer.proofs.GroupFirst.{is_aside}
 use Rattle.hm_infer.proofs.UnitFaults.{last_next, tests}
-use Rattle.hm_answers.proofs.FaultyGroups.{is_in}
+use Rattle.hm_infer_results.proofs.FaultyGroups.{is_in}
 
 -- Where no declaration begins a binding of the unit, no name of the list is of it
 

@@ -17,18 +17,18 @@ use Rattle.hm_names.specs.Syntax.{Known, name_of, pattern_of, bindings_of, is_co
 use Rattle.hm_names.specs.Texts.{same_text}
 use Rattle.hm_names.specs.Variables.{pattern_variables}
 use Rattle.hm_names.proofs.Meant.{text_decides}
-use Rattle.hm_groups.specs.Checked.{BeginsUnsigned}
-use Rattle.hm_groups.specs.Groups.{node_name, node_names}
-use Rattle.hm_groups.specs.GroupMembers.{AreMembersOf}
-use Rattle.hm_groups.specs.Members.{AreRows}
-use Rattle.hm_groups.specs.Nodes.{owner}
-use Rattle.hm_groups.specs.declared.members.Member.{Member}
-use Rattle.hm_groups.proofs.Reached.{FirstIs, head_owner}
-use Rattle.hm_groups.proofs.Owned.{drop_at, names_up, own_name_at, owner_begins}
-use Rattle.hm_expressions.specs.BoundNames.{names_at}
+use Rattle.hm_infer_dependencies.specs.Checked.{BeginsUnsigned}
+use Rattle.hm_infer_dependencies.specs.Groups.{node_name, node_names}
+use Rattle.hm_infer_dependencies.specs.GroupMembers.{AreMembersOf}
+use Rattle.hm_infer_dependencies.specs.Members.{AreRows}
+use Rattle.hm_infer_dependencies.specs.Nodes.{owner}
+use Rattle.hm_infer_dependencies.specs.declared.members.Member.{Member}
+use Rattle.hm_infer_dependencies.proofs.Reached.{FirstIs, head_owner}
+use Rattle.hm_infer_dependencies.proofs.Owned.{drop_at, names_up, own_name_at, owner_begins}
+use Rattle.hm_infer_expressions.specs.BoundNames.{names_at}
 use Rattle.hm_infer.proofs.FirstTold.{AreByText, FirstTold, IsAside, IsWithin, first_told, told_by}
 use Rattle.hm_infer.proofs.FirstTold as first
-use Rattle.hm_expressions.proofs.GroupAnswers.{in_names}
+use Rattle.hm_infer_expressions.proofs.GroupAnswers.{in_names}
 use Rattle.hm_infer.proofs.UnitSteps.{named_in}
 
 -- What stands first of a run of clauses

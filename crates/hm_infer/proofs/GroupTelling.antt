@@ -14,15 +14,15 @@ use Rattle.hm_syntax.specs.Lists.{declarations}
 use Rattle.hm_names.specs.Cores.{IsSomeCore, known}
 use Rattle.hm_names.specs.ModuleCores.{ModuleCore}
 use Rattle.hm_names.specs.Untyped.{IsTold}
-use Rattle.hm_groups.proofs.Reached.{names_long}
-use Rattle.hm_groups.specs.GroupMembers.{AreMembersOf}
-use Rattle.hm_groups.specs.Groups.{node_name}
-use Rattle.hm_variables.specs.Variables.{Variable}
-use Rattle.hm_groups.specs.declared.members.Member.{Member}
-use Rattle.hm_assumptions.specs.Environments.{Assumed, AreAssumed, assumptions}
+use Rattle.hm_infer_dependencies.proofs.Reached.{names_long}
+use Rattle.hm_infer_dependencies.specs.GroupMembers.{AreMembersOf}
+use Rattle.hm_infer_dependencies.specs.Groups.{node_name}
+use Rattle.hm_names_keys.specs.Variables.{Variable}
+use Rattle.hm_infer_dependencies.specs.declared.members.Member.{Member}
+use Rattle.hm_infer_context.specs.Environments.{Assumed, AreAssumed, assumptions}
 use Rattle.hm_infer.specs.JudgedUnits.{UnitsJudged}
-use Rattle.hm_expressions.specs.Stages.{IsListFound, list_of}
-use Rattle.hm_answers.specs.UnitFaults.{GroupTold}
+use Rattle.hm_infer_expressions.specs.Stages.{IsListFound, list_of}
+use Rattle.hm_infer_results.specs.UnitFaults.{GroupTold}
 use Rattle.hm_infer.proofs.FirstTold.{FirstTold, core_by_text, first_member, is_first_in, told_by}
 use Rattle.hm_infer.proofs.GroupFirst.{unit_told}
 use Rattle.hm_infer.proofs.UnitFaults.{group_fault, last_next, tests}

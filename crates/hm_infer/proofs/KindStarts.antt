@@ -10,16 +10,16 @@ use Rattle.hm_syntax.specs.Trees.{Declaration, data_declaration, newtype_declara
 use Rattle.hm_syntax.specs.Lists.{declarations}
 use Rattle.hm_names.specs.Cores.{IsSomeCore, known, syntax_of}
 use Rattle.hm_names.specs.ModuleCores.{ModuleCore}
-use Rattle.hm_groups.proofs.Owned.{drop_at}
-use Rattle.hm_groups.specs.Groups.{node_name}
-use Rattle.hm_groups.specs.Nodes.{owner}
-use Rattle.hm_variables.specs.Variables.{Variable}
-use Rattle.hm_groups.specs.declared.members.Member.{Member}
-use Rattle.hm_assumptions.specs.Environments.{Assumed, AreAssumed, assumptions}
+use Rattle.hm_infer_dependencies.proofs.Owned.{drop_at}
+use Rattle.hm_infer_dependencies.specs.Groups.{node_name}
+use Rattle.hm_infer_dependencies.specs.Nodes.{owner}
+use Rattle.hm_names_keys.specs.Variables.{Variable}
+use Rattle.hm_infer_dependencies.specs.declared.members.Member.{Member}
+use Rattle.hm_infer_context.specs.Environments.{Assumed, AreAssumed, assumptions}
 use Rattle.hm_infer.specs.JudgedUnits.{UnitsJudged}
-use Rattle.hm_expressions.specs.Stages.{IsListFound, list_of}
+use Rattle.hm_infer_expressions.specs.Stages.{IsListFound, list_of}
 use Rattle.hm_infer.specs.Told.{IsStart, declaration_at, told_name}
-use Rattle.hm_answers.specs.UnitFaults.{AreGroupsTold, GroupTold}
+use Rattle.hm_infer_results.specs.UnitFaults.{AreGroupsTold, GroupTold}
 use Rattle.hm_infer.specs.UnitStarts.{AreGroupStarts, AreStartsOfKind, IsFaultStart}
 use Rattle.hm_infer.proofs.FirstTold.{told_by}
 use Rattle.hm_infer.proofs.GroupTelling.{UnitTold, group_tells}

@@ -21,3 +21,4 @@ pub mod CoreStarts
 pub mod Untyped
 pub mod NoTyping
 pub mod Cleared
+pub mod CoreTables

@@ -18,10 +18,10 @@ use Rattle.hm_names.specs.Cores as cores
 use Rattle.hm_names.specs.ModuleCores.{ModuleCore}
 use Rattle.hm_names.proofs.TopEntities.{top_is_bound}
 use Rattle.hm_verdicts.specs.ModuleVerdicts.{ArePrincipal, IsCanonical, AreEquallyGeneral}
-use Rattle.hm_assumptions.specs.Environments.{Assumed, AreAssumed, OpenScheme, IsSchemeOf, assumptions, scheme_in}
-use Rattle.hm_expressions.specs.OwnSchemes.{HaveCanonical, canonical_scheme}
-use Rattle.hm_expressions.specs.PrincipalLists.{IsInferred}
-use Rattle.hm_expressions.proofs.CanonicalSchemes.{canonical_instances, canonical_whole, in_order_canonical}
+use Rattle.hm_infer_context.specs.Environments.{Assumed, AreAssumed, OpenScheme, IsSchemeOf, assumptions, scheme_in}
+use Rattle.hm_infer_expressions.specs.OwnSchemes.{HaveCanonical, canonical_scheme}
+use Rattle.hm_infer_expressions.specs.PrincipalLists.{IsInferred}
+use Rattle.hm_infer_expressions.proofs.CanonicalSchemes.{canonical_instances, canonical_whole, in_order_canonical}
 
 abbrev own : List ℕ → List ℕ → Identifier
 own home x = global (record { «module» = home; name = x })

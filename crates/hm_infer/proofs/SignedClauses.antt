@@ -16,10 +16,10 @@ use Rattle.hm_syntax.specs.Lists.{declarations}
 use Rattle.hm_names.specs.Syntax.{Known, add_clause, bindings_of, bound_by, is_continued, name_of, patterns_of, right_sides_of, signature_of, where_of}
 use Rattle.hm_names.specs.Texts.{same_text}
 use Rattle.hm_names.proofs.Meant.{text_decides}
-use Rattle.hm_groups.proofs.Mentioned.{ClauseMentions, begins}
-use Rattle.hm_groups.proofs.Reached.{FirstIs, clause_binding}
+use Rattle.hm_infer_dependencies.proofs.Mentioned.{ClauseMentions, begins}
+use Rattle.hm_infer_dependencies.proofs.Reached.{FirstIs, clause_binding}
 use Rattle.hm_infer.specs.SignedFaults.{BeginsRun, goes_on}
-use Rattle.hm_expressions.specs.SignedLists.{AtDeclared, SignedClauseHas}
+use Rattle.hm_infer_expressions.specs.SignedLists.{AtDeclared, SignedClauseHas}
 use Rattle.hm_infer.proofs.FirstTold.{AreByText, both, rest_by_text}
 
 some_one : {X : Type 0} {a b : X} → Some a ≡ Some b → a ≡ b

@@ -15,13 +15,13 @@ use Rattle.hm_names.specs.Syntax.{Known}
 use Rattle.hm_unify.specs.Solving.{Solving}
 use Rattle.hm_unify.specs.declared.faults.UnifyFault.{UnifyFault}
 use Rattle.hm_unify.specs.declared.faults.UnifyFault.TheVariants.{Clash}
-use Rattle.hm_assumptions.specs.Environments.{Assumed, AreAssumed, assumptions}
-use Rattle.hm_assumptions.specs.Problems.{problem, HasNone, Refuses as RefusesAnswer}
+use Rattle.hm_infer_context.specs.Environments.{Assumed, AreAssumed, assumptions}
+use Rattle.hm_infer_context.specs.Problems.{problem, HasNone, Refuses as RefusesAnswer}
 use Rattle.hm_infer.specs.SignedFaults.{HasFlag, IsFaultAt, Refuses, goes_on}
-use Rattle.hm_expressions.specs.SignedLists.{SignedClauseHas}
-use Rattle.hm_assumptions.proofs.Outcomes.{SolvedBy}
-use Rattle.hm_expressions.proofs.PrincipalLists.{closed_assumptions}
-use Rattle.hm_expressions.proofs.Referring.{get_at}
+use Rattle.hm_infer_expressions.specs.SignedLists.{SignedClauseHas}
+use Rattle.hm_infer_context.proofs.Outcomes.{SolvedBy}
+use Rattle.hm_infer_expressions.proofs.PrincipalLists.{closed_assumptions}
+use Rattle.hm_infer_expressions.proofs.Referring.{get_at}
 
 -- One clause
 

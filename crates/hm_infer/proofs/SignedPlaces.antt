@@ -16,24 +16,24 @@ use Rattle.hm_typing.proofs.Faults.{SignedOf}
 use Rattle.hm_syntax.specs.Trees.{Declaration, data_declaration, newtype_declaration, synonym_declaration, signature, clause, pattern_binding, Declarations}
 use Rattle.hm_syntax.specs.Lists.{declarations}
 use Rattle.hm_names.specs.Syntax.{Known, name_of, patterns_of, right_sides_of, where_of}
-use Rattle.hm_groups.proofs.Mentioned.{patterns_among, right_side_same}
-use Rattle.hm_groups.proofs.Named.{names_fit, fit_back, fit_variable, names_unsigned, place_of, at_place}
-use Rattle.hm_groups.proofs.Reached.{names_long, never_right}
-use Rattle.hm_groups.specs.Groups.{node_name, node_names}
-use Rattle.hm_groups.specs.Nodes.{list_nodes}
-use Rattle.hm_groups.specs.References.{DeclarationRefers}
-use Rattle.hm_variables.specs.Variables.{Variable, identifier}
-use Rattle.hm_groups.specs.Walks.{IsNodeWith}
-use Rattle.hm_expressions.specs.Dependences.{IsReferred, TellsNodes}
-use Rattle.hm_assumptions.specs.Environments.{Assumed, AreAssumed, assumptions}
+use Rattle.hm_infer_dependencies.proofs.Mentioned.{patterns_among, right_side_same}
+use Rattle.hm_infer_dependencies.proofs.Named.{names_fit, fit_back, fit_variable, names_unsigned, place_of, at_place}
+use Rattle.hm_infer_dependencies.proofs.Reached.{names_long, never_right}
+use Rattle.hm_infer_dependencies.specs.Groups.{node_name, node_names}
+use Rattle.hm_infer_dependencies.specs.Nodes.{list_nodes}
+use Rattle.hm_infer_dependencies.specs.References.{DeclarationRefers}
+use Rattle.hm_names_keys.specs.Variables.{Variable, identifier}
+use Rattle.hm_infer_dependencies.specs.Walks.{IsNodeWith}
+use Rattle.hm_infer_expressions.specs.Dependences.{IsReferred, TellsNodes}
+use Rattle.hm_infer_context.specs.Environments.{Assumed, AreAssumed, assumptions}
 use Rattle.hm_infer.specs.JudgedUnits.{UnitsJudged}
 use Rattle.hm_infer.specs.SignedFaults.{AreSignedFaults, BeginsRun, InRun, IsFaultAt, Refuses, Waits, goes_on}
-use Rattle.hm_expressions.specs.SignedLists.{SignedClauseHas}
-use Rattle.hm_expressions.specs.Stages.{IsListFound, list_of}
+use Rattle.hm_infer_expressions.specs.SignedLists.{SignedClauseHas}
+use Rattle.hm_infer_expressions.specs.Stages.{IsListFound, list_of}
 use Rattle.hm_infer.proofs.FirstTold.{AreByText}
-use Rattle.hm_expressions.proofs.ListSteps.{past_end}
-use Rattle.hm_expressions.proofs.OpenedForms.{written_list}
-use Rattle.hm_expressions.proofs.PrincipalLists.{closed_assumptions}
+use Rattle.hm_infer_expressions.proofs.ListSteps.{past_end}
+use Rattle.hm_infer_expressions.proofs.OpenedForms.{written_list}
+use Rattle.hm_infer_expressions.proofs.PrincipalLists.{closed_assumptions}
 use Rattle.hm_infer.proofs.SignedClauses.{DeclarationMentions, IsClauseOf, before_named, clauses_have, clauses_together, first_clause, mention_at, mention_from, named_along, search, signed_from}
 use Rattle.hm_infer.proofs.SignedVerdicts.{fault_free, fault_refused, schemes_closed, signed_alike, signed_fault}
 

@@ -8,8 +8,8 @@ use Rattle.hm_names.specs.Cores.{known}
 use Rattle.hm_names.specs.ModuleCores.{ModuleCore}
 use Rattle.hm_names.specs.Syntax.{Known}
 use Rattle.hm_names.proofs.OrderedLists.{one_of_contained, contained}
-use Rattle.hm_variables.specs.Variables.{Variable}
-use Rattle.hm_assumptions.specs.Environments.{Assumed, AreAssumed, assumptions}
+use Rattle.hm_names_keys.specs.Variables.{Variable}
+use Rattle.hm_infer_context.specs.Environments.{Assumed, AreAssumed, assumptions}
 use Rattle.hm_infer.specs.SignedFaults.{AreSignedFaults}
 use Rattle.hm_infer.specs.Told.{IsStart, no_declaration, told_name}
 use Rattle.hm_infer.specs.UnitStarts.{TellsSigned}

@@ -18,12 +18,12 @@ use Rattle.hm_names.specs.ModuleCores.{ModuleCore}
 use Rattle.hm_names.specs.Syntax.{Known, bindings_of, name_of, pattern_of}
 use Rattle.hm_names.specs.Untyped.{Begins, by_clause, by_pattern, by_number, IsTold, here, behind}
 use Rattle.hm_names.specs.Variables.{pattern_variables}
-use Rattle.hm_groups.specs.Groups.{node_name}
-use Rattle.hm_variables.specs.Variables.{Variable}
-use Rattle.hm_assumptions.specs.Environments.{Assumed, AreAssumed, assumptions}
+use Rattle.hm_infer_dependencies.specs.Groups.{node_name}
+use Rattle.hm_names_keys.specs.Variables.{Variable}
+use Rattle.hm_infer_context.specs.Environments.{Assumed, AreAssumed, assumptions}
 use Rattle.hm_infer.specs.JudgedUnits.{UnitsJudged}
 use Rattle.hm_infer.specs.SignedFaults.{AreSignedFaults}
-use Rattle.hm_expressions.specs.Stages.{IsListFound, list_of}
+use Rattle.hm_infer_expressions.specs.Stages.{IsListFound, list_of}
 use Rattle.hm_infer.proofs.FirstTold.{AreByText, core_by_text, names_of_pattern, own_number, told_by}
 use Rattle.hm_infer.proofs.SignedClauses.{IsClauseOf, unsigned_more}
 use Rattle.hm_infer.proofs.SignedPlaces.{SignedAt, fault_placed, place_told}

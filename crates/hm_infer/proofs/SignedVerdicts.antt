@@ -18,10 +18,10 @@ use Rattle.hm_typing.proofs.Judge.{Closure, Judged, Reaches-unsigned, reach_type
 use Rattle.hm_typing.proofs.Lists.{kind_of}
 use Rattle.hm_typing.proofs.More.{DeriveClauses-more}
 use Rattle.hm_typing.proofs.Principal.{assumptions_put_closed}
-use Rattle.hm_expressions.specs.BoundNames.{Sees}
-use Rattle.hm_assumptions.specs.Environments.{Assumed, assumptions}
+use Rattle.hm_infer_expressions.specs.BoundNames.{Sees}
+use Rattle.hm_infer_context.specs.Environments.{Assumed, assumptions}
 use Rattle.hm_infer.specs.JudgedUnits.{Units}
-use Rattle.hm_expressions.specs.Lists.{IsWritten}
+use Rattle.hm_infer_expressions.specs.Lists.{IsWritten}
 use Rattle.hm_infer.proofs.JudgedLists.{state_of}
 
 -- the clauses of x have the declared type under other assumptions too

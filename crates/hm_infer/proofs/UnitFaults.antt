@@ -16,17 +16,17 @@ use Rattle.hm_typing.proofs.Numbering.{numbered}
 use Rattle.hm_syntax.specs.Trees.{Declaration}
 use Rattle.hm_syntax.specs.Lists.{declarations}
 use Rattle.hm_names.specs.Syntax.{Known}
-use Rattle.hm_groups.specs.Groups.{node_name}
-use Rattle.hm_variables.specs.Variables.{Variable}
-use Rattle.hm_expressions.specs.BoundNames.{names_at}
-use Rattle.hm_assumptions.specs.Environments.{Assumed, AreAssumed, assumptions}
+use Rattle.hm_infer_dependencies.specs.Groups.{node_name}
+use Rattle.hm_names_keys.specs.Variables.{Variable}
+use Rattle.hm_infer_expressions.specs.BoundNames.{names_at}
+use Rattle.hm_infer_context.specs.Environments.{Assumed, AreAssumed, assumptions}
 use Rattle.hm_infer.specs.JudgedUnits.{IsBlocked, IsFreeToJudge, Units, UnitsJudged}
-use Rattle.hm_expressions.specs.Stages.{IsListFound, list_of}
-use Rattle.hm_answers.specs.UnitFaults.{AreGroupsTold, ArePlainGroups, GroupTold, has_none, has_types}
-use Rattle.hm_expressions.proofs.GroupAnswers.{in_names}
+use Rattle.hm_infer_expressions.specs.Stages.{IsListFound, list_of}
+use Rattle.hm_infer_results.specs.UnitFaults.{AreGroupsTold, ArePlainGroups, GroupTold, has_none, has_types}
+use Rattle.hm_infer_expressions.proofs.GroupAnswers.{in_names}
 use Rattle.hm_infer.proofs.JudgedLists.{state_of}
-use Rattle.hm_expressions.proofs.ListSteps.{past_end}
-use Rattle.hm_expressions.proofs.PrincipalLists.{closed_assumptions}
+use Rattle.hm_infer_expressions.proofs.ListSteps.{past_end}
+use Rattle.hm_infer_expressions.proofs.PrincipalLists.{closed_assumptions}
 use Rattle.hm_infer.proofs.UnitSteps.{blocked, free}
 
 -- Units, by what is typed in the end

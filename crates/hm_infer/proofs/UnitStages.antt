@@ -11,19 +11,19 @@ use Rattle.hm_typing.proofs.Units.{State}
 use Rattle.hm_syntax.specs.Trees.{Declaration}
 use Rattle.hm_syntax.specs.Lists.{declarations}
 use Rattle.hm_names.specs.Syntax.{Known}
-use Rattle.hm_groups.specs.Groups.{node_name}
-use Rattle.hm_variables.specs.Variables.{Variable}
-use Rattle.hm_expressions.specs.BoundNames.{Sees}
-use Rattle.hm_expressions.specs.Dependences.{IsMarked, UnitJudged, UnitOutcome, skipped, untyped, typed}
-use Rattle.hm_assumptions.specs.Environments.{Assumed, AreAssumed, assumptions}
+use Rattle.hm_infer_dependencies.specs.Groups.{node_name}
+use Rattle.hm_names_keys.specs.Variables.{Variable}
+use Rattle.hm_infer_expressions.specs.BoundNames.{Sees}
+use Rattle.hm_infer_expressions.specs.Dependences.{IsMarked, UnitJudged, UnitOutcome, skipped, untyped, typed}
+use Rattle.hm_infer_context.specs.Environments.{Assumed, AreAssumed, assumptions}
 use Rattle.hm_infer.specs.JudgedUnits.{UnitsJudged, no_units, typed_unit, untyped_unit, blocked_unit}
-use Rattle.hm_expressions.specs.SignedLists.{BindsSigned}
-use Rattle.hm_expressions.specs.Stages.{IsListFound, list_of}
-use Rattle.hm_expressions.proofs.GroupAnswers.{in_names}
+use Rattle.hm_infer_expressions.specs.SignedLists.{BindsSigned}
+use Rattle.hm_infer_expressions.specs.Stages.{IsListFound, list_of}
+use Rattle.hm_infer_expressions.proofs.GroupAnswers.{in_names}
 use Rattle.hm_infer.proofs.JudgedLists.{next_to_typed, state_of}
-use Rattle.hm_assumptions.proofs.Suffixes.{drop_more}
+use Rattle.hm_infer_context.proofs.Suffixes.{drop_more}
 use Rattle.hm_infer.proofs.UnitSteps.{blocked, free, named_in}
-use Rattle.hm_answers.proofs.FaultyGroups.{is_in}
+use Rattle.hm_infer_results.proofs.FaultyGroups.{is_in}
 
 nothing_typed : (n j : ℕ) → get_or (replicate n false) j false ≡ false
 nothing_typed zero j = refl
@@ -157,7 +157,7 @@ units_end k decls gs n i base es marks l u = record {
   status = u.status;
   schemes = u.schemes;
   tests = u.tests;
-  tests_are = subst (λ z. AreTestsOf u.tests (map (map (node_name k (declarations decls))) z)) (Rattle.hm_expressions.proofs.ListSteps.past_end gs i l ∙ sym (Rattle.hm_expressions.proofs.ListSteps.past_end gs (length gs) (omega arith))) u.tests_are;
+  tests_are = subst (λ z. AreTestsOf u.tests (map (map (node_name k (declarations decls))) z)) (Rattle.hm_infer_expressions.proofs.ListSteps.past_end gs i l ∙ sym (Rattle.hm_infer_expressions.proofs.ListSteps.past_end gs (length gs) (omega arith))) u.tests_are;
   order = u.order;
   units = u.units;
   sees = u.sees;

@@ -2,11 +2,11 @@
 use Rattle.std.proofs.Common.{◌≡◌, ℕ, ◌+◌, ◌<◌, ◌≤◌, ◌⊎◌, List, [], ◌∷◌, ◌++◌, length, get_or, Bool, true, false, inl, inr, ⊎_elim, refl, sym, ap, ◌∙◌, subst, arith, true≢false}
 use Rattle.std.proofs.lemmas.List.{get_or_default}
 use Rattle.hm_typing.specs.Names.{IsOneOf}
-use Rattle.hm_groups.proofs.MemberLists.{one_pushed}
-use Rattle.hm_groups.specs.GroupMembers.{AreMembersOf}
-use Rattle.hm_groups.specs.declared.members.Member.{Member}
-use Rattle.hm_answers.specs.UnitFaults.{IsFirstPlace}
-use Rattle.hm_assumptions.proofs.States.{less_or}
+use Rattle.hm_infer_dependencies.proofs.MemberLists.{one_pushed}
+use Rattle.hm_infer_dependencies.specs.GroupMembers.{AreMembersOf}
+use Rattle.hm_infer_dependencies.specs.declared.members.Member.{Member}
+use Rattle.hm_infer_results.specs.UnitFaults.{IsFirstPlace}
+use Rattle.hm_infer_context.proofs.States.{less_or}
 use Rattle.hm_infer.specs.UnitStarts.{AddsStart, AreGroupStarts, HasMember, IsFaultStart, IsStartOf}
 
 -- the members of a group that has a declaration aren't none

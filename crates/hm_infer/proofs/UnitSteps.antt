@@ -3,7 +3,7 @@ use Rattle.std.proofs.Common.{◌≡◌, ℕ, zero, suc, ◌<◌, List, [], ◌�
 use Rattle.std.specs.List.{slice_get}
 use Rattle.std.specs.Bool.{Decides}
 use Rattle.std.proofs.lemmas.Option.{get_or_from_slice_get, slice_get_within, slice_get-get_or}
-use Rattle.hm_components.specs.Closure.{Closure, one, more}
+use Rattle.hm_graph_components.specs.Closure.{Closure, one, more}
 use Rattle.hm_typing.specs.Names.{Identifier, local, IsOneOf}
 use Rattle.hm_typing.specs.Units.{BindingMentions, IsUnsigned, RefersTo, directly, SameUnit}
 use Rattle.hm_typing.specs.Orders.{IsNext, Layout}
@@ -12,23 +12,23 @@ use Rattle.hm_typing.proofs.Judge.{opposite}
 use Rattle.hm_syntax.specs.Trees.{Declaration, data_declaration, newtype_declaration, synonym_declaration, signature, clause, pattern_binding, Declarations}
 use Rattle.hm_syntax.specs.Lists.{declarations}
 use Rattle.hm_names.specs.Syntax.{Known}
-use Rattle.hm_groups.specs.Groups.{node_name, node_names}
-use Rattle.hm_groups.specs.GroupMembers.{AreMembersOf}
-use Rattle.hm_groups.specs.Nodes.{DeclarationEdge, ListEdge, Star, list_nodes, owner}
-use Rattle.hm_groups.specs.References.{DeclarationRefers}
-use Rattle.hm_variables.specs.Variables.{Variable}
-use Rattle.hm_groups.specs.Walks.{IsNodeWith}
-use Rattle.hm_groups.specs.declared.members.Member.{Member}
-use Rattle.hm_groups.proofs.Named.{names_unsigned, place_of}
-use Rattle.hm_groups.proofs.Reached.{names_long}
-use Rattle.hm_groups.proofs.Related.{edge_back, edge_sound}
-use Rattle.hm_expressions.specs.BoundNames.{names_at}
-use Rattle.hm_expressions.specs.Dependences.{IsMarked, IsTyped, TellsMembers}
+use Rattle.hm_infer_dependencies.specs.Groups.{node_name, node_names}
+use Rattle.hm_infer_dependencies.specs.GroupMembers.{AreMembersOf}
+use Rattle.hm_infer_dependencies.specs.Nodes.{DeclarationEdge, ListEdge, Star, list_nodes, owner}
+use Rattle.hm_infer_dependencies.specs.References.{DeclarationRefers}
+use Rattle.hm_names_keys.specs.Variables.{Variable}
+use Rattle.hm_infer_dependencies.specs.Walks.{IsNodeWith}
+use Rattle.hm_infer_dependencies.specs.declared.members.Member.{Member}
+use Rattle.hm_infer_dependencies.proofs.Named.{names_unsigned, place_of}
+use Rattle.hm_infer_dependencies.proofs.Reached.{names_long}
+use Rattle.hm_infer_dependencies.proofs.Related.{edge_back, edge_sound}
+use Rattle.hm_infer_expressions.specs.BoundNames.{names_at}
+use Rattle.hm_infer_expressions.specs.Dependences.{IsMarked, IsTyped, TellsMembers}
 use Rattle.hm_infer.specs.JudgedUnits.{IsBlocked, IsFreeToJudge}
-use Rattle.hm_expressions.specs.Stages.{IsListFound, list_of}
-use Rattle.hm_expressions.proofs.GroupAnswers.{in_names}
-use Rattle.hm_expressions.proofs.Naming.{node_variable}
-use Rattle.hm_answers.proofs.FaultyGroups.{is_in}
+use Rattle.hm_infer_expressions.specs.Stages.{IsListFound, list_of}
+use Rattle.hm_infer_expressions.proofs.GroupAnswers.{in_names}
+use Rattle.hm_infer_expressions.proofs.Naming.{node_variable}
+use Rattle.hm_infer_results.proofs.FaultyGroups.{is_in}
 
 -- Edges, by the places of declarations
 
@@ -106,7 +106,7 @@ module _ (k : Known) (decls : List Declaration) (nodes : List (Option Variable))
       let s = edge_sound k (declarations decls) once L.units.0 (declarations decls) (λ q z h. h) i j e in record {
         refers = (
           subst (λ z. BindingMentions z (node_name k (declarations decls) j) (list_of k decls)) (sym (named i s.0 s.2)) (subst (λ z. BindingMentions s.0 z (list_of k decls)) (sym (named j s.1 s.3)) s.4),
-          subst (λ z. IsUnsigned z (list_of k decls)) (sym (named j s.1 s.3)) ((names_unsigned k (declarations decls) (declarations decls) s.1).0 (Rattle.hm_groups.proofs.Named.at_place s.1 (node_names k (declarations decls) (declarations decls)) j s.3)),
+          subst (λ z. IsUnsigned z (list_of k decls)) (sym (named j s.1 s.3)) ((names_unsigned k (declarations decls) (declarations decls) s.1).0 (Rattle.hm_infer_dependencies.proofs.Named.at_place s.1 (node_names k (declarations decls) (declarations decls)) j s.3)),
         );
         source = number_within i s.0 s.2;
         target = number_within j s.1 s.3;

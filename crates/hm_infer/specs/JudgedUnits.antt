@@ -11,10 +11,10 @@ use Rattle.hm_typing.proofs.Units.{Unit_typed}
 use Rattle.hm_syntax.specs.Trees.{Declaration}
 use Rattle.hm_syntax.specs.Lists.{declarations}
 use Rattle.hm_names.specs.Syntax.{Known}
-use Rattle.hm_groups.specs.Groups.{node_name}
-use Rattle.hm_expressions.specs.BoundNames.{Sees}
-use Rattle.hm_assumptions.specs.Environments.{Assumed, assumptions}
-use Rattle.hm_expressions.specs.Stages.{list_of}
+use Rattle.hm_infer_dependencies.specs.Groups.{node_name}
+use Rattle.hm_infer_expressions.specs.BoundNames.{Sees}
+use Rattle.hm_infer_context.specs.Environments.{Assumed, assumptions}
+use Rattle.hm_infer_expressions.specs.Stages.{list_of}
 
 -- all names that the unit g uses from outside are typed
 abbrev pub IsFreeToJudge : Bindings → (Identifier → Bool) → (Identifier → Bool) → Type 0

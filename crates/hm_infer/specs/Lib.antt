@@ -3,3 +3,4 @@ pub mod JudgedUnits
 pub mod SignedFaults
 pub mod Told
 pub mod UnitStarts
+pub mod Imported

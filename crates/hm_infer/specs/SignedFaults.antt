@@ -5,9 +5,9 @@ use Rattle.hm_typing.specs.Assumptions.{Assumptions}
 use Rattle.hm_syntax.specs.Trees.{Declaration, data_declaration, newtype_declaration, synonym_declaration, signature, clause, pattern_binding, Declarations}
 use Rattle.hm_syntax.specs.Lists.{declarations}
 use Rattle.hm_names.specs.Syntax.{Known, is_continued}
-use Rattle.hm_variables.specs.Variables.{Variable}
-use Rattle.hm_expressions.specs.Dependences.{IsReferred, TellsNodes}
-use Rattle.hm_expressions.specs.SignedLists.{SignedClauseHas}
+use Rattle.hm_names_keys.specs.Variables.{Variable}
+use Rattle.hm_infer_expressions.specs.Dependences.{IsReferred, TellsNodes}
+use Rattle.hm_infer_expressions.specs.SignedLists.{SignedClauseHas}
 
 -- the second declaration continues the binding of the first
 abbrev pub goes_on : List Declaration → Bool

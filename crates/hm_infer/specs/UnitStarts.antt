@@ -1,26 +1,26 @@
 -- The places where the faulty units of a list begin. No public clause names these.
 use Rattle.std.specs.Prelude.{◌≡◌, ℕ, ◌<◌, ◌++◌, Bool, true, false, List, [], ◌∷◌, Option, length, slice_index_or}
-use Rattle.hm_components.specs.Digraph.{Edge}
+use Rattle.hm_graph_components.specs.Digraph.{Edge}
 use Rattle.hm_typing.specs.Assumptions.{Assumptions}
 use Rattle.hm_typing.specs.Names.{Identifier as Name, IsOneOf}
 use Rattle.hm_typing.specs.Syntax.{names}
 use Rattle.hm_typing.specs.Verdicts.{IsFirstIn, IsTypeFault}
-use Rattle.hm_groups.specs.GroupMembers.{AreMembersOf}
-use Rattle.hm_groups.specs.declared.members.Member.{Member}
+use Rattle.hm_infer_dependencies.specs.GroupMembers.{AreMembersOf}
+use Rattle.hm_infer_dependencies.specs.declared.members.Member.{Member}
 use Rattle.hm_syntax.specs.Trees.{Declaration}
 use Rattle.hm_syntax.specs.Lists.{declarations}
 use Rattle.hm_typing.specs.Orders.{AreNumberedGroups}
 use Rattle.hm_typing.specs.Units.{IsSigned, IsUnsigned}
-use Rattle.hm_groups.specs.Groups.{node_name}
-use Rattle.hm_variables.specs.Variables.{Variable}
+use Rattle.hm_infer_dependencies.specs.Groups.{node_name}
+use Rattle.hm_names_keys.specs.Variables.{Variable}
 use Rattle.hm_names.specs.Cores.{IsSomeCore, known, syntax_of}
 use Rattle.hm_names.specs.Syntax.{Known}
-use Rattle.hm_assumptions.specs.Environments.{Assumed, AreAssumed, assumptions}
+use Rattle.hm_infer_context.specs.Environments.{Assumed, AreAssumed, assumptions}
 use Rattle.hm_infer.specs.JudgedUnits.{UnitsJudged}
-use Rattle.hm_expressions.specs.Stages.{IsListFound, list_of}
+use Rattle.hm_infer_expressions.specs.Stages.{IsListFound, list_of}
 use Rattle.hm_names.specs.ModuleCores.{ModuleCore}
 use Rattle.hm_infer.specs.Told.{IsStart}
-use Rattle.hm_answers.specs.UnitFaults.{AreGroupsTold, IsFirstPlace}
+use Rattle.hm_infer_results.specs.UnitFaults.{AreGroupsTold, IsFirstPlace}
 
 -- the first place of a group's declarations
 pub record IsStartOf (rows : List (List ℕ)) (group : List ℕ) (p : ℕ) : Type 0 where

@@ -2,25 +2,25 @@
 //! names that it uses from outside have types. If it has no type, it leaves the environment as it was.
 
 ghost use Rattle.std.specs.Prelude.{◌≡◌, ℕ, ◌<◌, ◌++◌, List, All, IfOk, OnOk, length, slice_index_or};
-ghost use Rattle.hm_components.specs.Digraph.{lists};
+ghost use Rattle.hm_graph_components.specs.Digraph.{lists};
 ghost use Rattle.hm_typing.specs.Names.{IsDistinct, IsOneOf};
 ghost use Rattle.hm_typing.specs.Orders.{AreNumberedGroups};
 ghost use Rattle.hm_typing.specs.Syntax.{names};
 ghost use Rattle.hm_syntax.specs.Lists.{declarations};
-ghost use Rattle.hm_groups.specs.Groups.{node_name};
-ghost use Rattle.hm_groups.specs.Nodes.{AllShown};
-ghost use Rattle.hm_assumptions.specs.Environments.{Extends, AreAssumed, Assumed};
-ghost use Rattle.hm_assumptions.specs.Constructors.{known_of};
-ghost use Rattle.hm_expressions.specs.Dependences.{UnitJudged};
-ghost use Rattle.hm_expressions.specs.OpenGroups.{AreUpTo};
+ghost use Rattle.hm_infer_dependencies.specs.Groups.{node_name};
+ghost use Rattle.hm_infer_dependencies.specs.Nodes.{AllShown};
+ghost use Rattle.hm_infer_context.specs.Environments.{Extends, AreAssumed, Assumed};
+ghost use Rattle.hm_infer_context.specs.Constructors.{known_of};
+ghost use Rattle.hm_infer_expressions.specs.Dependences.{UnitJudged};
+ghost use Rattle.hm_infer_expressions.specs.OpenGroups.{AreUpTo};
 ghost use Rattle.hm_infer.specs.JudgedUnits.{UnitsJudged};
-ghost use Rattle.hm_expressions.specs.SignedLists.{BindsSigned};
-ghost use Rattle.hm_expressions.specs.Stages.{IsListFound, list_of};
+ghost use Rattle.hm_infer_expressions.specs.SignedLists.{BindsSigned};
+ghost use Rattle.hm_infer_expressions.specs.Stages.{IsListFound, list_of};
 
-use hm_answers::{mark, members_refer_to_typed, unmark};
-use hm_assumptions::Inference;
-use hm_expressions::{CheckedList, infer_group};
-use hm_groups::group_members;
+use hm_infer_context::Inference;
+use hm_infer_dependencies::group_members;
+use hm_infer_expressions::{CheckedList, infer_group};
+use hm_infer_results::{mark, members_refer_to_typed, unmark};
 use hm_unify::UnifyFault;
 
 /// Removes the variables of a group's nodes from the table.

@@ -1,8 +1,10 @@
-//! Infers the principal schemes of a module's variables, or finds its binding groups without a type (Haskell 98 Report, section 4.5).
+//! The principal schemes of a module's bindings, or its units that have no type (Haskell 98 Report, section 4.5).
 //!
-//! Call [`infer`], or [`infer_within`] with limits for types.
+//! `assuming` and `declaring` make what inference starts from: the schemes of imported variables and of constructors.
 #![tactic(auto)]
 
+mod assuming;
+mod declaring;
 mod inferring;
 mod judging_units;
 mod signed_faults;

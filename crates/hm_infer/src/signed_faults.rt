@@ -4,16 +4,16 @@
 ghost use Rattle.std.specs.Prelude.{◌≡◌, ◌<◌, IfOk, OnOk, drop, length};
 ghost use Rattle.std.specs.Bool.{Decides};
 ghost use Rattle.hm_syntax.specs.Trees.{Declarations};
-ghost use Rattle.hm_groups.specs.Nodes.{AllShown};
-ghost use Rattle.hm_assumptions.specs.Constructors.{known_of};
-ghost use Rattle.hm_assumptions.specs.Environments.{AreAssumed, assumptions};
+ghost use Rattle.hm_infer_dependencies.specs.Nodes.{AllShown};
+ghost use Rattle.hm_infer_context.specs.Constructors.{known_of};
+ghost use Rattle.hm_infer_context.specs.Environments.{AreAssumed, assumptions};
 ghost use Rattle.hm_infer.specs.SignedFaults.{AreRefused, AreSignedFaults, AreWaiting, BeginsRun, HasFlag, IsFaultAt, Refuses, Waits, goes_on};
-ghost use Rattle.hm_expressions.specs.SignedLists.{AreSignatures};
+ghost use Rattle.hm_infer_expressions.specs.SignedLists.{AreSignatures};
 
-use hm_answers::refers_to_typed;
-use hm_assumptions::Inference;
-use hm_expressions::{CheckedList, check_signed};
-use hm_groups::{Numbers, is_continued};
+use hm_infer_context::Inference;
+use hm_infer_dependencies::{Numbers, is_continued};
+use hm_infer_expressions::{CheckedList, check_signed};
+use hm_infer_results::refers_to_typed;
 use hm_syntax::{Decl, DeclKind};
 use hm_unify::UnifyFault;
 use std::alloc::{AllocError, Global};

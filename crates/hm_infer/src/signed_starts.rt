@@ -2,16 +2,16 @@
 //! sections 4.4.1 and 4.5.1).
 
 ghost use Rattle.std.specs.Prelude.{◌≡◌, IfOk, length};
-ghost use Rattle.hm_components.specs.Digraph.{lists};
+ghost use Rattle.hm_graph_components.specs.Digraph.{lists};
 ghost use Rattle.hm_syntax.specs.Lists.{declarations};
-ghost use Rattle.hm_assumptions.specs.Constructors.{known_of};
-ghost use Rattle.hm_assumptions.specs.Environments.{AreAssumed};
-ghost use Rattle.hm_expressions.specs.SignedLists.{AreSignatures};
+ghost use Rattle.hm_infer_context.specs.Constructors.{known_of};
+ghost use Rattle.hm_infer_context.specs.Environments.{AreAssumed};
+ghost use Rattle.hm_infer_expressions.specs.SignedLists.{AreSignatures};
 ghost use Rattle.hm_infer.specs.UnitStarts.{TellsSigned};
 
 use crate::signed_faults::signed_faults;
-use hm_assumptions::Inference;
-use hm_expressions::CheckedList;
+use hm_infer_context::Inference;
+use hm_infer_expressions::CheckedList;
 use hm_unify::UnifyFault;
 
 /// Returns the places of the first clauses of all faulty bindings with signatures. All units

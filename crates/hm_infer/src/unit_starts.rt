@@ -2,13 +2,13 @@
 //! Report, section 4.5.1).
 
 ghost use Rattle.std.specs.Prelude.{◌≡◌, ℕ, ◌<◌, All, List, OnOk, IfOk, length};
-ghost use Rattle.hm_components.specs.Digraph.{lists};
+ghost use Rattle.hm_graph_components.specs.Digraph.{lists};
 ghost use Rattle.hm_typing.specs.Names.{IsOneOf};
 ghost use Rattle.hm_infer.specs.UnitStarts.{AddsStart, AreGroupStarts, HasMember};
 
-use hm_answers::first_place;
-use hm_dependency::BindingGroups;
-use hm_groups::group_members;
+use hm_infer_binding_groups::BindingGroups;
+use hm_infer_dependencies::group_members;
+use hm_infer_results::first_place;
 use std::alloc::{AllocError, Global};
 
 /// Adds the first place of a group's declarations, if the group is a fault.

@@ -1,33 +1,33 @@
 //! Finds the units of a core that are type faults (Haskell 98 Report, section 4.5.1).
 
 ghost use Rattle.std.specs.Prelude.{◌≡◌, ℕ, List, IfOk, length};
-ghost use Rattle.hm_components.specs.Digraph.{lists};
+ghost use Rattle.hm_graph_components.specs.Digraph.{lists};
 ghost use Rattle.hm_syntax.specs.Lists.{declarations};
 ghost use Rattle.hm_typing.specs.BindingLists.{HasSchemes};
 ghost use Rattle.hm_typing.specs.Names.{Identifier as UnitName, IsDistinct, IsOneOf};
 ghost use Rattle.hm_typing.specs.Orders.{AreNumberedGroups};
 ghost use Rattle.hm_typing.specs.Schemes.{Scheme};
 ghost use Rattle.hm_typing.specs.Syntax.{names};
-ghost use Rattle.hm_groups.specs.Groups.{node_name};
-ghost use Rattle.hm_groups.specs.Members.{AreRows};
+ghost use Rattle.hm_infer_dependencies.specs.Groups.{node_name};
+ghost use Rattle.hm_infer_dependencies.specs.Members.{AreRows};
 ghost use Rattle.hm_names.specs.Cores.{IsSomeCore, known, syntax_of, assumptions as assumptions_of};
 ghost use Rattle.hm_names.specs.Untyped.{AreUntyped};
-ghost use Rattle.hm_assumptions.specs.Constructors.{known_of};
-ghost use Rattle.hm_assumptions.specs.Environments.{AreAssumed, assumptions};
-ghost use Rattle.hm_expressions.specs.SignedLists.{AreSignatures};
-ghost use Rattle.hm_expressions.specs.Stages.{IsListFound, list_of};
-ghost use Rattle.hm_answers.specs.UnitFaults.{ArePlainGroups};
+ghost use Rattle.hm_infer_context.specs.Constructors.{known_of};
+ghost use Rattle.hm_infer_context.specs.Environments.{AreAssumed, assumptions};
+ghost use Rattle.hm_infer_expressions.specs.SignedLists.{AreSignatures};
+ghost use Rattle.hm_infer_expressions.specs.Stages.{IsListFound, list_of};
+ghost use Rattle.hm_infer_results.specs.UnitFaults.{ArePlainGroups};
 ghost use Rattle.hm_infer.specs.UnitStarts.{AreFaultStarts, AreUnsignedStarts, HasMember, IsCoreList};
 
+use crate::assuming::imported_environment;
 use crate::judging_units::judge_groups;
 use crate::signed_starts::signed_starts;
 use crate::telling::told_faults;
 use crate::unit_starts::unsigned_starts;
-use hm_answers::faulty_groups;
-use hm_assumptions::{Constructors, Inference};
-use hm_expressions::{CheckedList, bind_signed, listed_groups, signatures_of};
+use hm_infer_context::{Constructors, Inference};
+use hm_infer_expressions::{CheckedList, bind_signed, listed_groups, signatures_of};
+use hm_infer_results::faulty_groups;
 use hm_names::{Core, Fault, TypeLimits};
-use hm_premises::imported_environment;
 use hm_syntax::{Decl, Row};
 use hm_unify::{Solver, UnifyFault};
 use std::alloc::{AllocError, Global};

@@ -5,7 +5,7 @@ use Rattle.std.proofs.lemmas.List.{map-append, take_more}
 use Rattle.std.proofs.lemmas.List.Elements.{filter-append}
 use Rattle.std.proofs.lemmas.Slice.Eq.{bytes_eq-Decides}
 use Rattle.hm_names.specs.Texts.{is_text_among, same_text}
-use Rattle.hm_sources.specs.declared.located.Located.{Located}
+use Rattle.hm_run_sources.specs.declared.located.Located.{Located}
 use Rattle.hm_messages.specs.Missing.{SetImport, names_none, set_import, set_imports}
 
 or_false : (b : Bool) → (b || false) ≡ b

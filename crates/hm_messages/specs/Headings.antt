@@ -1,13 +1,13 @@
 -- The first line of a message behind its file's name, and the line of counts.
 use Rattle.std.specs.Prelude.{ℕ, ◌==◌, ◌&&◌, List, [], ◌∷◌, ◌++◌, Option, Some, None, codes, if◌then◌else◌}
 use Rattle.std.specs.Fmt.{decimal}
-use Rattle.hm_excerpts.specs.Escapes.{shown}
-use Rattle.hm_json.specs.Objects.{counts_text}
-use Rattle.hm_json.specs.declared.message.Level.{Level}
-use Rattle.hm_json.specs.declared.message.Level.TheVariants.{Error, Note}
-use Rattle.hm_details.specs.Details.{Known, nothing, near, of_report, either}
-use Rattle.hm_hints.specs.LexemeTexts.{lexeme_text}
-use Rattle.hm_hints.specs.SyntaxTexts.{syntax_text}
+use Rattle.hm_messages_excerpts.specs.Escapes.{shown}
+use Rattle.hm_messages_json.specs.Objects.{counts_text}
+use Rattle.hm_messages_json.specs.declared.message.Level.{Level}
+use Rattle.hm_messages_json.specs.declared.message.Level.TheVariants.{Error, Note}
+use Rattle.hm_messages_details.specs.Details.{Known, nothing, near, of_report, either}
+use Rattle.hm_messages_hints.specs.LexemeTexts.{lexeme_text}
+use Rattle.hm_messages_hints.specs.SyntaxTexts.{syntax_text}
 use Rattle.hm_lex.specs.declared.token.Place.{Place}
 use Rattle.hm_names.specs.declared.faults.Kind.{Kind}
 use Rattle.hm_names.specs.declared.faults.Kind.TheVariants.{NotExported, Duplicate, NoBinding, Unbound, Ambiguous, ExportClash, NotImported, NonLinear, Arity, ClauseLength, Untyped, Recursive}

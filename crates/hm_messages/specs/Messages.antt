@@ -3,16 +3,16 @@ use Rattle.std.specs.Prelude.{◌≡◌, ℕ, List, [], ◌∷◌, ◌++◌, Opt
 use Rattle.std.specs.Str.Lossy.{utf8_lossy}
 use Rattle.hm_lex.specs.declared.token.Place.{Place}
 use Rattle.hm_names.specs.declared.faults.Fault.{Fault}
-use Rattle.hm_details.specs.Details.{Known}
-use Rattle.hm_excerpts.specs.Columns.{AreColumnsAt, IsMarkEnd}
-use Rattle.hm_excerpts.specs.Drawing.{excerpt_text}
-use Rattle.hm_excerpts.specs.Escapes.{shown}
-use Rattle.hm_excerpts.specs.Excerpts.{IsExcerptAt}
-use Rattle.hm_excerpts.specs.declared.columns.Columns.{Columns}
-use Rattle.hm_excerpts.specs.declared.excerpt.Excerpt.{Excerpt}
-use Rattle.hm_json.specs.Objects.{message_text}
-use Rattle.hm_json.specs.declared.message.Message.{Message}
-use Rattle.hm_json.specs.declared.message.Position.{Position}
+use Rattle.hm_messages_details.specs.Details.{Known}
+use Rattle.hm_messages_excerpts.specs.Columns.{AreColumnsAt, IsMarkEnd}
+use Rattle.hm_messages_excerpts.specs.Drawing.{excerpt_text}
+use Rattle.hm_messages_excerpts.specs.Escapes.{shown}
+use Rattle.hm_messages_excerpts.specs.Excerpts.{IsExcerptAt}
+use Rattle.hm_messages_excerpts.specs.declared.columns.Columns.{Columns}
+use Rattle.hm_messages_excerpts.specs.declared.excerpt.Excerpt.{Excerpt}
+use Rattle.hm_messages_json.specs.Objects.{message_text}
+use Rattle.hm_messages_json.specs.declared.message.Message.{Message}
+use Rattle.hm_messages_json.specs.declared.message.Position.{Position}
 use Rattle.hm_messages.specs.Headings.{heading, kind_of, level_of, name_in, title}
 use Rattle.hm_messages.specs.Sentences.{sentence}
 use Rattle.hm_messages.specs.Subjects.{Subject, fault}

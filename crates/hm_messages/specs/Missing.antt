@@ -4,7 +4,7 @@ use Rattle.hm_lex.specs.declared.token.Place.{Place}
 use Rattle.hm_syntax.specs.declared.ast.Import.{Import}
 use Rattle.hm_names.specs.Scope.{prelude_name}
 use Rattle.hm_names.specs.Texts.{is_text_among}
-use Rattle.hm_sources.specs.declared.located.Located.{Located}
+use Rattle.hm_run_sources.specs.declared.located.Located.{Located}
 use Rattle.hm_messages.specs.declared.missing.MissingImport.{MissingImport}
 
 -- an import of a set: the source that it is in, counted from 0, its place there, and the module that it names

@@ -1,18 +1,18 @@
 -- The messages of a refused set.
 use Rattle.std.specs.Prelude.{◌≡◌, ℕ, ◌+◌, ◌-◌, ◌<◌, ⊤, List, [], ◌∷◌, ◌++◌, length, slice_index_or}
-use Rattle.hm_excerpts.specs.Excerpts.{IsExcerptAt}
-use Rattle.hm_excerpts.specs.declared.excerpt.Excerpt.{Excerpt}
-use Rattle.hm_hints.specs.Advice.{IsAdviceAt}
-use Rattle.hm_hints.specs.LexemeHints.{IsLexemeHint, operator_in}
-use Rattle.hm_hints.specs.declared.lexeme_hints.LexemeHint.{LexemeHint}
-use Rattle.hm_hints.specs.declared.syntax_hints.SyntaxHint.{SyntaxHint}
+use Rattle.hm_messages_excerpts.specs.Excerpts.{IsExcerptAt}
+use Rattle.hm_messages_excerpts.specs.declared.excerpt.Excerpt.{Excerpt}
+use Rattle.hm_messages_hints.specs.Advice.{IsAdviceAt}
+use Rattle.hm_messages_hints.specs.LexemeHints.{IsLexemeHint, operator_in}
+use Rattle.hm_messages_hints.specs.declared.lexeme_hints.LexemeHint.{LexemeHint}
+use Rattle.hm_messages_hints.specs.declared.syntax_hints.SyntaxHint.{SyntaxHint}
 use Rattle.hm_lex.specs.declared.token.Place.{Place}
 use Rattle.hm_lex.specs.declared.token.LexFault.TheVariants as lexing
-use Rattle.hm_grammar.specs.declared.fault.ParseFault.TheVariants as parsing
+use Rattle.hm_parse_grammar.specs.declared.fault.ParseFault.TheVariants as parsing
 use Rattle.hm_graph.specs.declared.faults.PlanFault.TheVariants as planning
-use Rattle.hm_sources.specs.Origins.{AreLocated}
-use Rattle.hm_sources.specs.declared.located.Located.{Located}
-use Rattle.hm_sources.specs.Refusals.{Refusal, lex, parse, plan}
+use Rattle.hm_run_sources.specs.Origins.{AreLocated}
+use Rattle.hm_run_sources.specs.declared.located.Located.{Located}
+use Rattle.hm_run_sources.specs.Refusals.{Refusal, lex, parse, plan}
 use Rattle.hm_messages.specs.Headings.{count_text}
 use Rattle.hm_messages.specs.Messages.{AreEach, IsHeadingAt, IsMessage}
 use Rattle.hm_messages.specs.Missing.{SetImport, missing_imports}

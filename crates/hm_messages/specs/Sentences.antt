@@ -1,7 +1,7 @@
 -- The second line of messages: the rule that is broken, or a hint.
 use Rattle.std.specs.Prelude.{ℕ, List, [], codes}
-use Rattle.hm_hints.specs.LexemeTexts.{lexeme_help}
-use Rattle.hm_hints.specs.SyntaxTexts.{syntax_help}
+use Rattle.hm_messages_hints.specs.LexemeTexts.{lexeme_help}
+use Rattle.hm_messages_hints.specs.SyntaxTexts.{syntax_help}
 use Rattle.hm_names.specs.declared.faults.Kind.{Kind}
 use Rattle.hm_names.specs.declared.faults.Kind.TheVariants.{NotExported, Duplicate, NoBinding, Unbound, Ambiguous, ExportClash, NotImported, NonLinear, Arity, ClauseLength, Untyped, Recursive}
 use Rattle.hm_messages.specs.Subjects.{Subject, fault, replaceable, faulty, skipped, too_long, lexeme, open_comment, too_deep, syntax_fault, too_many, twice, missing, cycle, exhausted, step}

@@ -1,8 +1,8 @@
 -- What a message tells, without where its names lie in memory.
 use Rattle.std.specs.Prelude.{ℕ, List}
-use Rattle.hm_details.specs.Details.{Known, known_of}
-use Rattle.hm_hints.specs.declared.lexeme_hints.LexemeHint.{LexemeHint}
-use Rattle.hm_hints.specs.declared.syntax_hints.SyntaxHint.{SyntaxHint}
+use Rattle.hm_messages_details.specs.Details.{Known, known_of}
+use Rattle.hm_messages_hints.specs.declared.lexeme_hints.LexemeHint.{LexemeHint}
+use Rattle.hm_messages_hints.specs.declared.syntax_hints.SyntaxHint.{SyntaxHint}
 use Rattle.hm_lex.specs.declared.token.Place.{Place}
 use Rattle.hm_names.specs.declared.faults.Kind.{Kind}
 use Rattle.hm_messages.specs.declared.topic.Topic.{Topic}

@@ -3,7 +3,7 @@ ghost use Rattle.std.specs.Prelude.{◌≡◌, IfOk, string_bytes};
 ghost use Rattle.hm_messages.specs.Headings.{count_text as count_bytes, prose_counts as prose_bytes, some_counts as some_bytes};
 
 use crate::heading::Paint;
-use hm_json::counts_line;
+use hm_messages_json::counts_line;
 use std::alloc::{AllocError, Global};
 
 /// Returns the line of counts for a reader.

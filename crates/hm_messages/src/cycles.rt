@@ -1,5 +1,5 @@
 //! Finds a shortest path of imports from a module back to itself. It is proved only that the search ends.
-use hm_sources::Located;
+use hm_run_sources::Located;
 use indexmap::IndexMap;
 use std::alloc::{AllocError, Global};
 

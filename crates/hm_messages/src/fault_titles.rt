@@ -1,10 +1,10 @@
 //! What is wrong with a module, in a few words.
 ghost use Rattle.std.specs.Prelude.{◌≡◌, IfOk, option_map, string_bytes};
-ghost use Rattle.hm_details.specs.Details.{known_of};
+ghost use Rattle.hm_messages_details.specs.Details.{known_of};
 ghost use Rattle.hm_messages.specs.Headings.{detail_text as detail_bytes, fault_title as fault_title_bytes, kind_title as kind_title_bytes, near_text};
 
 use crate::topic::Named;
-use hm_details::{Detail, Origin};
+use hm_messages_details::{Detail, Origin};
 use hm_names::Kind;
 use std::alloc::{AllocError, Global};
 

@@ -1,13 +1,13 @@
 //! The message of a fault of a module.
 ghost use Rattle.std.specs.Prelude.{IfOk};
-ghost use Rattle.hm_details.specs.Details.{known_of};
+ghost use Rattle.hm_messages_details.specs.Details.{known_of};
 ghost use Rattle.hm_messages.specs.Messages.{IsFaultMessage};
 
 use crate::heading::Paint;
 use crate::messages::{MessageFault, message};
 use crate::pages::Page;
 use crate::topic::{Named, Topic};
-use hm_details::Detail;
+use hm_messages_details::Detail;
 use hm_names::Fault;
 use std::alloc::Global;
 

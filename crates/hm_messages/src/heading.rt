@@ -5,10 +5,10 @@ ghost use Rattle.hm_messages.specs.Subjects.{subject_of};
 
 use crate::fault_titles::fault_title;
 use crate::topic::Topic;
-use hm_excerpts::shown;
-use hm_hints::{lexeme_text, syntax_text};
-use hm_json::Level;
 use hm_lex::Place;
+use hm_messages_excerpts::shown;
+use hm_messages_hints::{lexeme_text, syntax_text};
+use hm_messages_json::Level;
 use hm_verdicts::kind_word;
 use std::alloc::{AllocError, Global};
 

@@ -1,7 +1,7 @@
 //! One message: a file, a place, what is wrong there, a sentence, and the line with a mark.
 ghost use Rattle.std.specs.Prelude.{◌≡◌, IfOk, IfSome};
-ghost use Rattle.hm_excerpts.specs.Columns.{AreColumnsAt};
-ghost use Rattle.hm_excerpts.specs.declared.columns.Columns.{Columns};
+ghost use Rattle.hm_messages_excerpts.specs.Columns.{AreColumnsAt};
+ghost use Rattle.hm_messages_excerpts.specs.declared.columns.Columns.{Columns};
 ghost use Rattle.hm_messages.specs.Messages.{IsHeadingAt, IsMessage, IsProse, IsProseHeading, reader_place};
 ghost use Rattle.hm_messages.specs.Subjects.{subject_of};
 
@@ -10,9 +10,9 @@ use crate::objects::object;
 use crate::pages::Page;
 use crate::sentences::sentence;
 use crate::topic::Topic;
-use hm_devices::RunFault;
-use hm_excerpts::{add_excerpt, shown};
 use hm_lex::Place;
+use hm_messages_excerpts::{add_excerpt, shown};
+use hm_run_io::RunFault;
 use std::alloc::{AllocError, Global};
 
 // Why: docs/DECISIONS.md, "Messages without a place".
@@ -37,7 +37,7 @@ impl From<AllocError> for MessageFault {
 
 impl From<MessageFault> for RunFault {
     ghost use Rattle.std.specs.Prelude.{◌≡◌, ◌⊎◌};
-    ghost use Rattle.hm_devices.specs.declared.faults.RunFault.TheVariants.{Memory, Mixed};
+    ghost use Rattle.hm_run_io.specs.declared.faults.RunFault.TheVariants.{Memory, Mixed};
 
     ghost from_gives = { λ _ fault. (fault ≡ Memory) ⊎ (fault ≡ Mixed) };
 

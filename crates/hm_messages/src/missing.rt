@@ -5,8 +5,8 @@ ghost use Rattle.hm_names.specs.Texts.{is_text_among};
 ghost use Rattle.hm_messages.specs.Missing.{import_of, missing_imports, module_names, names_none, set_import, set_imports};
 
 use hm_lex::Place;
-use hm_sources::Located;
-use hm_tables::TextSet;
+use hm_run_sources::Located;
+use hm_scope_tables::TextSet;
 use std::alloc::{AllocError, Global};
 
 /// An import that names no module of its set.

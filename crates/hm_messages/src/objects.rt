@@ -8,8 +8,8 @@ use crate::messages::MessageFault;
 use crate::pages::Page;
 use crate::sentences::sentence;
 use crate::topic::Topic;
-use hm_json::{Message, Position, message_line};
 use hm_lex::Place;
+use hm_messages_json::{Message, Position, message_line};
 use std::alloc::{AllocError, Global};
 
 /// The range from a place to the end of the mark there.

@@ -3,9 +3,9 @@ ghost use Rattle.std.specs.Prelude.{◌≡◌, IfOk, map};
 ghost use Rattle.hm_messages.specs.Pages.{AreFilesOf, file_at, files_in, texts_in};
 
 use crate::heading::Paint;
-use hm_excerpts::SourceLines;
 use hm_lex::Place;
-use hm_sources::Located;
+use hm_messages_excerpts::SourceLines;
+use hm_run_sources::Located;
 use std::alloc::{AllocError, Global};
 
 /// The name of a module, and the place of the name.

@@ -1,8 +1,8 @@
 //! The messages of a refused set.
 ghost use Rattle.std.specs.Prelude.{◌≡◌, ◌-◌, ◌++◌, ℕ, List, [], IfOk, map, slice_index_or};
 ghost use Rattle.hm_lex.specs.declared.token.Place.{Place};
-ghost use Rattle.hm_sources.specs.Origins.{AreLocated};
-ghost use Rattle.hm_sources.specs.Refusals.{lex, parse, plan};
+ghost use Rattle.hm_run_sources.specs.Origins.{AreLocated};
+ghost use Rattle.hm_run_sources.specs.Refusals.{lex, parse, plan};
 ghost use Rattle.hm_messages.specs.Pages.{files_in, texts_in};
 ghost use Rattle.hm_messages.specs.Messages.{AreEach};
 ghost use Rattle.hm_messages.specs.Missing.{import_of};
@@ -15,11 +15,11 @@ use crate::messages::{MessageFault, heading_at, message};
 use crate::missing::{MissingImport, missing_imports};
 use crate::pages::Pages;
 use crate::topic::Topic;
-use hm_grammar::ParseFault;
 use hm_graph::PlanFault;
-use hm_hints::{Advice, LexemeHint, lexeme_hint, operator_in};
 use hm_lex::{LexFault, Place};
-use hm_sources::{Located, SetError, SetFault, SetFaultKind, located_headers};
+use hm_messages_hints::{Advice, LexemeHint, lexeme_hint, operator_in};
+use hm_parse_grammar::ParseFault;
+use hm_run_sources::{Located, SetError, SetFault, SetFaultKind, located_headers};
 use std::alloc::Global;
 
 /// The most modules of a set.

@@ -4,7 +4,7 @@ ghost use Rattle.hm_messages.specs.Sentences.{fault_sentence, sentence};
 ghost use Rattle.hm_messages.specs.Subjects.{subject_of};
 
 use crate::topic::Topic;
-use hm_hints::{lexeme_help, syntax_help};
+use hm_messages_hints::{lexeme_help, syntax_help};
 use hm_names::Kind;
 
 /// The line that explains a kind of fault.

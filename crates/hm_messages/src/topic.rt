@@ -1,7 +1,7 @@
 //! What a message tells.
-use hm_details::Detail;
-use hm_hints::{Advice, LexemeHint};
 use hm_lex::Place;
+use hm_messages_details::Detail;
+use hm_messages_hints::{Advice, LexemeHint};
 use hm_names::Kind;
 
 /// The name that a fault is about, as it is written, and what is known beside it.

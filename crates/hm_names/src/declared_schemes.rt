@@ -17,9 +17,9 @@ ghost use Rattle.hm_names.specs.Variables.{texts};
 use crate::monotypes::{monotype, monotypes};
 use crate::type_variables::TypeVariables;
 use crate::variables::LentNames;
-use hm_instances::canonical;
 use hm_syntax::{Constr, Name, TypeExpr};
 use hm_types::{Entity, Head, Scheme, Synonym, Text, Ty, Types};
+use hm_types_subsumption::canonical;
 use std::alloc::{AllocError, Global};
 
 /// Returns the parameters of a declaration as type variables.

@@ -3,3 +3,7 @@ pub mod TreePhases
 pub mod SettledSynonyms
 pub mod OneEntity
 pub mod ModuleAnswers
+pub mod PhasesAnswered
+pub mod PhasesInOrder
+pub mod References
+pub mod SynonymReferences

@@ -9,23 +9,23 @@ use Rattle.hm_names.specs.declared.faults.Fault.{Fault}
 use Rattle.hm_names.specs.declared.cores.Exported.{Exported}
 use Rattle.hm_names.specs.declared.namespace.Namespace.{Namespace}
 use Rattle.hm_names.specs.declared.namespace.Namespace.TheVariants.{Types, Constructors, Values}
-use Rattle.hm_exports.specs.declared.exports.ModuleExports.{ModuleExports}
+use Rattle.hm_scope_exports.specs.declared.exports.ModuleExports.{ModuleExports}
 use Rattle.hm_scope.specs.declared.scoping.ExportedRows.{ExportedRows}
 use Rattle.hm_scope.specs.declared.scoping.Trees.{Trees}
 use Rattle.hm_names.specs.ModuleCores.{ModuleCore}
 use Rattle.hm_names.specs.Cores.{IsCore, exports_in}
 use Rattle.hm_names.specs.Bindings.{Pair, IsScopeOf}
-use Rattle.hm_exports.specs.ExportedRows.{IsBound}
-use Rattle.hm_exports.specs.ModuleExports.{AreExportsOf}
+use Rattle.hm_scope_exports.specs.ExportedRows.{IsBound}
+use Rattle.hm_scope_exports.specs.ModuleExports.{AreExportsOf}
 use Rattle.hm_names.specs.Walk.{Somewhere}
 use Rattle.hm_names.specs.Resolved.{top, declaration_with}
 use Rattle.hm_names.specs.Found.{Lookups, resolver_of}
-use Rattle.hm_tables.specs.KnownTables.{KnownTables, AreTablesOf, lookups_of}
+use Rattle.hm_scope_tables.specs.KnownTables.{KnownTables, AreTablesOf, lookups_of}
 use Rattle.hm_names.specs.NodeFaults.{NodeFault, AreLookupsOf}
-use Rattle.hm_synonyms.specs.Synonyms.{HasSynonymFault, AreResolved}
+use Rattle.hm_scope.specs.Synonyms.{HasSynonymFault, AreResolved}
 use Rattle.hm_names.specs.Faults.Phases.{Exporting, IsWellFormed}
-use Rattle.hm_phases.specs.Answers.{is_of_lists, is_of_names, is_of_numbers}
-use Rattle.hm_phases.specs.declared.phases.TreeFaults.{TreeFaults}
+use Rattle.hm_scope.specs.PhaseAnswers.{is_of_lists, is_of_names, is_of_numbers}
+use Rattle.hm_scope.specs.declared.phases.TreeFaults.{TreeFaults}
 use Rattle.hm_scope.specs.Answers.{AreNoted, AreTreeFaults, AreTrees, AreWalked, IsResolvedModule, AreExportedRows, rows_in}
 use Rattle.hm_names.proofs.Members.{none_in, cases, first, rest}
 use Rattle.hm_scope.proofs.OneEntity.{one_entity, bound_is_exported}

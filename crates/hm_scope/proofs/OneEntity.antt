@@ -6,17 +6,17 @@ use Rattle.hm_types.specs.declared.Entity.{Entity}
 use Rattle.hm_types.specs.Interfaces.{Exports as Interface}
 use Rattle.hm_syntax.specs.declared.ast.Module.{Module}
 use Rattle.hm_syntax.specs.declared.ast.Export.{Export}
-use Rattle.hm_exports.specs.declared.exports.ModuleExports.{ModuleExports}
+use Rattle.hm_scope_exports.specs.declared.exports.ModuleExports.{ModuleExports}
 use Rattle.hm_names.specs.declared.faults.Fault.{Fault}
 use Rattle.hm_names.specs.declared.faults.Kind.TheVariants.{ExportClash}
 use Rattle.hm_names.specs.declared.namespace.Namespace.{Namespace}
 use Rattle.hm_names.specs.Bindings.{Pair}
-use Rattle.hm_exports.specs.ExportedRows.{HaveOneEntity, IsBound}
+use Rattle.hm_scope_exports.specs.ExportedRows.{HaveOneEntity, IsBound}
 use Rattle.hm_names.specs.Exports.{IsExported, all, listed, Gives}
 use Rattle.hm_names.specs.Faults.Exports.{Clashes, IsAtMost, clash, item_name, bare_at}
 use Rattle.hm_names.specs.Faults.Phases.{HasFault, Exporting, fault}
-use Rattle.hm_exports.specs.ModuleExports.{AreExportsOf}
-use Rattle.hm_exports.proofs.ExportClashes.{at_most_itself, at_most_then, at_most_or}
+use Rattle.hm_scope_exports.specs.ModuleExports.{AreExportsOf}
+use Rattle.hm_scope_exports.proofs.ExportClashes.{at_most_itself, at_most_then, at_most_or}
 use Rattle.hm_names.proofs.DeclaredPairs.{map_contains}
 use Rattle.hm_names.proofs.Members.{none_in, cases, first, rest, entity_discrete}
 

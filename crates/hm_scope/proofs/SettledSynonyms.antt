@@ -6,16 +6,16 @@ use Rattle.std.proofs.lemmas.List.{take_more, get_or_default, length-map}
 use Rattle.std.proofs.lemmas.List.Elements.{Contains-push_cases, Contains-get_or}
 use Rattle.hm_types.specs.declared.Entity.{Entity}
 use Rattle.hm_types.specs.Interfaces.{Exports as Interface}
-use Rattle.hm_components.specs.Closure.{Closure, one, more}
-use Rattle.hm_components.specs.Digraph.{Graph, Edge}
-use Rattle.hm_components.specs.Digraph.{Reaches as GraphReaches}
+use Rattle.hm_graph_components.specs.Closure.{Closure, one, more}
+use Rattle.hm_graph_components.specs.Digraph.{Graph, Edge}
+use Rattle.hm_graph_components.specs.Digraph.{Reaches as GraphReaches}
 use Rattle.hm_syntax.specs.Names.{Identifier}
 use Rattle.hm_syntax.specs.Trees.{TypeTree, Declaration, data_declaration, newtype_declaration, synonym_declaration, signature, clause, pattern_binding}
 use Rattle.hm_syntax.specs.Lists.{declarations}
 use Rattle.hm_syntax.specs.declared.ast.Module.{Module}
 use Rattle.hm_names.specs.declared.namespace.Namespace.TheVariants.{Types}
-use Rattle.hm_synonyms.specs.declared.declared_synonyms.OwnSynonym.{OwnSynonym}
-use Rattle.hm_synonyms.specs.declared.declared_synonyms.OwnSynonyms.{OwnSynonyms}
+use Rattle.hm_scope.specs.declared.declared_synonyms.OwnSynonym.{OwnSynonym}
+use Rattle.hm_scope.specs.declared.declared_synonyms.OwnSynonyms.{OwnSynonyms}
 use Rattle.hm_names.specs.declared.faults.Kind.TheVariants.{Duplicate}
 use Rattle.hm_names.specs.Texts.{same_entity}
 use Rattle.hm_names.specs.Variables.{constructors_in}
@@ -27,19 +27,19 @@ use Rattle.hm_names.specs.Types.{entity_of, synonym_of}
 use Rattle.hm_names.specs.Resolved.{Resolver, IsResolver, synonym_meant, type_with}
 use Rattle.hm_names.specs.Bindings.{Pair, IsScopeOf, entity, meaning_of, meaning_in}
 use Rattle.hm_names.specs.Found.{KnownSynonym, KnownArity, lookups_in, resolver_of, resolved_name, as_meant, synonym_among}
-use Rattle.hm_tables.specs.KnownTables.{KnownTables, AreTablesOf, imported_of, imported_in, lookups_of}
+use Rattle.hm_scope_tables.specs.KnownTables.{KnownTables, AreTablesOf, imported_of, imported_in, lookups_of}
 use Rattle.hm_names.specs.Faults.Lists.{Repeats, type_names, second_type}
 use Rattle.hm_names.specs.Faults.Arities.{RefersTo, refers, Reaches}
 use Rattle.hm_names.specs.Faults.Phases.{IsWellFormed, Declaring, fault}
-use Rattle.hm_components.specs.NodeOrders.{IsOrder}
+use Rattle.hm_graph_components.specs.NodeOrders.{IsOrder}
 use Rattle.hm_names.specs.DeclaredSynonyms.{IsSound}
-use Rattle.hm_synonyms.specs.Synonyms.{AreOwnSynonyms, IsReferenceGraph, IsSettled, IsExpandable, Finishes, AreResolved}
+use Rattle.hm_scope.specs.Synonyms.{AreOwnSynonyms, IsReferenceGraph, IsSettled, IsExpandable, Finishes, AreResolved}
 use Rattle.hm_names.proofs.Members.{none_in, cases, first, rest, name_discrete, optional_synonym_discrete, same_entity-Decides}
 use Rattle.hm_names.proofs.Listings.{both_dec}
 use Rattle.hm_names.proofs.Meant.{meant, one_meaning}
 use Rattle.hm_names.proofs.Synonyms.{is_declared, is_described, not_recursive}
 use Rattle.hm_names.proofs.Agreement.{nothing_wrong, clean_right_sides, clear_type, Alike, same_type, stably}
-use Rattle.hm_synonyms.proofs.References.{reached}
+use Rattle.hm_scope.proofs.References.{reached}
 use Rattle.hm_names.proofs.SoundDeclarations.{sound}
 
 -- What a well-formed module says of its synonyms

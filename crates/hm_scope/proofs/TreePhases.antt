@@ -11,8 +11,8 @@ use Rattle.hm_names.specs.Faults.Names.{NameFault, unbound, ambiguous, no_parame
 use Rattle.hm_names.specs.Faults.Arities.{ArityFault, a_type, a_pattern, a_special, another_length}
 use Rattle.hm_names.specs.Faults.Phases.{fault, HasFault, Declaring, Naming, Counting}
 use Rattle.hm_names.specs.NodeFaults.{NodeFault}
-use Rattle.hm_synonyms.specs.Synonyms.{HasSynonymFault}
-use Rattle.hm_phases.specs.Answers.{lists_kind, names_kind, numbers_kind}
+use Rattle.hm_scope.specs.Synonyms.{HasSynonymFault}
+use Rattle.hm_scope.specs.PhaseAnswers.{lists_kind, names_kind, numbers_kind}
 use Rattle.hm_names.proofs.Somewhere.{some_top}
 use Rattle.hm_scope.proofs.Everywhere.{each_top}
 

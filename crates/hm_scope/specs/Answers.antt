@@ -15,9 +15,9 @@ use Rattle.hm_scope.specs.declared.scoping.ExportedRows.{ExportedRows}
 use Rattle.hm_scope.specs.declared.scoping.Trees.{Trees}
 use Rattle.hm_names.specs.Exports.{IsExported}
 use Rattle.hm_names.specs.Bindings.{Pair}
-use Rattle.hm_exports.specs.ExportedRows.{HaveOneEntity, IsBound}
-use Rattle.hm_phases.specs.Answers.{AreExact}
-use Rattle.hm_phases.specs.declared.phases.TreeFaults.{TreeFaults}
+use Rattle.hm_scope_exports.specs.ExportedRows.{HaveOneEntity, IsBound}
+use Rattle.hm_scope.specs.PhaseAnswers.{AreExact}
+use Rattle.hm_scope.specs.declared.phases.TreeFaults.{TreeFaults}
 use Rattle.hm_names.specs.Resolved.{Resolver, IsResolver, resolved}
 use Rattle.hm_names.specs.NodeFaults.{NodeFault}
 use Rattle.hm_names.specs.Walk.{Somewhere}

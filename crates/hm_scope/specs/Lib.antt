@@ -1,2 +1,4 @@
 pub mod Outcome
 pub mod Answers
+pub mod PhaseAnswers
+pub mod Synonyms

@@ -1,9 +1,14 @@
-//! Resolves a module: its core, or all faults of the first phase that has any (Haskell 98 Report, chapters 4 and 5).
+//! The core of a module, or all faults of the first phase that has any (Haskell 98 Report, chapters 4 and 5).
 //!
-//! Call [`scope`], or [`scope_within`] with a Prelude made before and with limits for types.
+//! `declared_synonyms` and `recursive_synonyms` are about the module's own synonyms, `phases` and `answering` about the order of faults.
 #![tactic(auto)]
 
+mod answering;
+mod declared_synonyms;
 mod finished_synonyms;
+mod phases;
+mod recursive_synonyms;
 mod scoping;
+mod type_names;
 
 pub use crate::scoping::{scope, scope_within};

@@ -7,12 +7,12 @@ use Rattle.std.proofs.lemmas.List.{append-nil, get_or_append_left, get_or_past, 
 use Rattle.std.proofs.lemmas.List.Sums.{fold-append}
 use Rattle.std.proofs.lemmas.List.Elements.{Contains-append_left}
 use Rattle.std.proofs.lemmas.List.Folds.{list_any_at}
-use Rattle.hm_components.specs.Closure.{one, more}
-use Rattle.hm_components.specs.Digraph.{Graph, Edge, Reaches}
-use Rattle.hm_components.proofs.Closures.{Closure-trans}
-use Rattle.hm_components.proofs.Graphs.{Reaches-within}
-use Rattle.hm_components.proofs.Members.{Contains-nil, Contains-push_cases, Contains-push_new}
-use Rattle.hm_components.proofs.Rows.{IsStrictlyIncreasing-push}
+use Rattle.hm_graph_components.specs.Closure.{one, more}
+use Rattle.hm_graph_components.specs.Digraph.{Graph, Edge, Reaches}
+use Rattle.hm_graph_components.proofs.Closures.{Closure-trans}
+use Rattle.hm_graph_components.proofs.Graphs.{Reaches-within}
+use Rattle.hm_graph_components.proofs.Members.{Contains-nil, Contains-push_cases, Contains-push_new}
+use Rattle.hm_graph_components.proofs.Rows.{IsStrictlyIncreasing-push}
 use Rattle.hm_store.specs.Plans.{AreDependents}
 use Rattle.hm_store.specs.Objects.{skip, skip_all}
 use Rattle.hm_store.specs.declared.object.Status.{Status}

@@ -2,11 +2,11 @@
 use Rattle.std.proofs.Common.{◌≡◌, ◌≢◌, ℕ, ◌<◌, ◌≤◌, ⊎_elim, true, false, [], length, refl, sym, subst, ◌∙◌, arith}
 use Rattle.std.proofs.lemmas.Bool.{cases_lt, false≢true}
 use Rattle.std.proofs.lemmas.List.{get_or_past, length-map}
-use Rattle.hm_components.specs.Closure.{one}
-use Rattle.hm_components.specs.Marks.{IsClosed}
+use Rattle.hm_graph_components.specs.Closure.{one}
+use Rattle.hm_graph_components.specs.Marks.{IsClosed}
 use Rattle.hm_graph.specs.Outline.{outline}
 use Rattle.hm_graph.specs.Steps.{IsOnce}
-use Rattle.hm_components.proofs.Graphs.{Reaches-within}
+use Rattle.hm_graph_components.proofs.Graphs.{Reaches-within}
 use Rattle.hm_typing.specs.Names.{IsOneOf}
 use Rattle.hm_verdicts.specs.Sets.{imports_of}
 use Rattle.hm_verdicts.proofs.ImportOrder.{by_imports}

@@ -2,10 +2,10 @@
 use Rattle.std.proofs.Common.{◌≡◌, ◌≢◌, ℕ, ◌<◌, ◌⊎◌, inl, inr, ⊎_elim, Bool, true, false, List, [], ◌∷◌, length, set, Contains, refl, sym, ap, subst, ◌∙◌}
 use Rattle.std.proofs.lemmas.List.{length-set, length-replicate, get_or-set_same, get_or-set_other, get_or-replicate}
 use Rattle.std.proofs.lemmas.Bool.{cases_eq, false≢true}
-use Rattle.hm_components.specs.Closure.{one, more}
-use Rattle.hm_components.specs.Digraph.{Graph, Edge, Reaches}
-use Rattle.hm_components.specs.Marks.{IsClosed}
-use Rattle.hm_components.proofs.Closures.{Closure-within, Closure-trans}
+use Rattle.hm_graph_components.specs.Closure.{one, more}
+use Rattle.hm_graph_components.specs.Digraph.{Graph, Edge, Reaches}
+use Rattle.hm_graph_components.specs.Marks.{IsClosed}
+use Rattle.hm_graph_components.proofs.Closures.{Closure-within, Closure-trans}
 use Rattle.hm_store.specs.Plans.{Given, AreDependents, dependents_of}
 use Rattle.hm_store.specs.Objects.{State, status_at, is_waiting, is_claimed, is_published, reply_of, skip_all, after, Allowed, AllowedFrom, state_from, state_after, opening, IsAllowed}
 use Rattle.hm_store.specs.declared.object.Status.{Status}

@@ -7,7 +7,7 @@ use Rattle.std.proofs.lemmas.Bool.{cases_eq}
 use Rattle.hm_types.specs.Interfaces.{Exports as Interface}
 use Rattle.hm_types.specs.StandardPrelude.{prelude_interface}
 use Rattle.hm_verdicts.specs.ModuleVerdicts.{Verdict, Good, Faulty, IsVerdict}
-use Rattle.hm_outcomes.specs.Outcomes.{Checked, IsGood}
+use Rattle.hm_verdicts.specs.Outcomes.{Checked, IsGood}
 use Rattle.hm_store.specs.Plans.{imports_of}
 use Rattle.hm_store.specs.Objects.{status_at, is_waiting, skip, skip_all}
 use Rattle.hm_store.specs.Builds.{Build, interface_at, IsOf, AgreesWith, Agrees, IsSound, status_by, with_kept}

@@ -6,7 +6,7 @@ use Rattle.std.proofs.lemmas.List.Folds.{sum_by-replicate}
 use Rattle.hm_graph.specs.Outline.{outline}
 use Rattle.hm_syntax.specs.declared.ast.Module.{Module}
 use Rattle.hm_verdicts.specs.Sets.{IsLawfulSet}
-use Rattle.hm_outcomes.specs.Outcomes.{Checked}
+use Rattle.hm_verdicts.specs.Outcomes.{Checked}
 use Rattle.hm_store.specs.Plans.{Given, AreDependents}
 use Rattle.hm_store.specs.Objects.{all_waiting, status_at}
 use Rattle.hm_store.specs.Builds.{AgreesWith, kept_at}

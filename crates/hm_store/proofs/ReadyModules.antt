@@ -5,7 +5,7 @@ use Rattle.std.proofs.lemmas.List.Elements.{All-contains, Contains-get_or}
 use Rattle.std.proofs.lemmas.List.Sums.{AllPass-from_list_all, list_all-from_AllPass}
 use Rattle.std.proofs.lemmas.List.Folds.{list_any_at}
 use Rattle.std.proofs.lemmas.Bool.{and_parts, cases_order, false≢true}
-use Rattle.hm_components.specs.Digraph.{Edge}
+use Rattle.hm_graph_components.specs.Digraph.{Edge}
 use Rattle.hm_store.specs.Plans.{Given, imports_of}
 use Rattle.hm_store.specs.Objects.{State, status_at, is_waiting, is_claimed, is_published, is_ready, or_here, least_below, job_or, reply_of}
 use Rattle.hm_store.specs.declared.object.Status.{Status}

@@ -10,8 +10,8 @@ use Rattle.std.proofs.lemmas.List.{get_or_past, get_or_default, get_or-map, get_
 use Rattle.std.proofs.lemmas.List.Elements.{All-contains}
 use Rattle.std.proofs.lemmas.List.Folds.{sum_by-replicate}
 use Rattle.std.proofs.lemmas.List.Sums.{sum_by-cons, sum_by-set, AllPass-from_list_all}
-use Rattle.hm_components.proofs.Members.{Contains-nil}
-use Rattle.hm_components.specs.Digraph.{Reaches}
+use Rattle.hm_graph_components.proofs.Members.{Contains-nil}
+use Rattle.hm_graph_components.specs.Digraph.{Reaches}
 use Rattle.hm_graph.specs.Importers.{IsImporterList}
 use Rattle.hm_graph.specs.Steps.{IsOnce}
 use Rattle.hm_store.specs.Plans.{Given, AreDependents, imports_of, dependents_of}

@@ -8,7 +8,7 @@ use Rattle.hm_verdicts.specs.ModuleVerdicts.{Verdict, Good, Faulty, IsVerdict}
 use Rattle.hm_verdicts.specs.Sets.{module_at, imports_of, no_module}
 use Rattle.hm_verdicts.specs.Verdicts as verdicts
 use Rattle.hm_verdicts.proofs.Lists.{one_of_contained}
-use Rattle.hm_outcomes.specs.Outcomes.{Checked}
+use Rattle.hm_verdicts.specs.Outcomes.{Checked}
 use Rattle.hm_store.specs.Objects.{status_at, is_settled}
 use Rattle.hm_store.specs.Builds.{Build, IsLegal, IsAllSettled, AgreesWith, set_of, state_of, kept_at, interface_of, interface_in, interface_at}
 use Rattle.hm_store.specs.Settlements.{settlement, settlement_by, settlement_with, SettledBuildIsSettled}

@@ -3,7 +3,7 @@ use Rattle.std.proofs.Common.{◌≡◌, ◌≢◌, ℕ, ◌<◌, ◌≤◌, ◌
 use Rattle.std.proofs.lemmas.List.{length-set, get_or-set_same, get_or-set_other, get_or_past}
 use Rattle.std.proofs.lemmas.List.Elements.{Contains-append_right, Contains-append_cases}
 use Rattle.std.proofs.lemmas.Bool.{cases_eq, cases_lt}
-use Rattle.hm_components.proofs.Members.{Contains-nil, Contains-one}
+use Rattle.hm_graph_components.proofs.Members.{Contains-nil, Contains-one}
 use Rattle.hm_store.specs.Objects.{status_at, is_waiting, skip, skip_all}
 use Rattle.hm_store.specs.declared.object.Status.{Status}
 use Rattle.hm_store.specs.declared.object.Status.TheVariants.{Waiting, Claimed, Published, Failed, Skipped}

@@ -3,10 +3,10 @@ use Rattle.std.proofs.Common.{◌≡◌, ℕ, ◌+◌, ◌<◌, Bool, true, fals
 use Rattle.std.specs.Prelude.{sum_by}
 use Rattle.std.proofs.lemmas.List.{length-set}
 use Rattle.std.proofs.lemmas.List.Sums.{sum_by-set}
-use Rattle.hm_components.specs.Digraph.{Reaches}
+use Rattle.hm_graph_components.specs.Digraph.{Reaches}
 use Rattle.hm_types.specs.StandardPrelude.{prelude_interface}
 use Rattle.hm_verdicts.specs.ModuleVerdicts.{IsVerdict}
-use Rattle.hm_outcomes.specs.Outcomes.{Checked, IsGood}
+use Rattle.hm_verdicts.specs.Outcomes.{Checked, IsGood}
 use Rattle.hm_store.specs.Plans.{dependents_of}
 use Rattle.hm_store.specs.Objects.{State, status_at, reply_of, Allowed, opening, skip_all}
 use Rattle.hm_store.specs.Builds.{Build, IsLegal, IsOf, IsSound, Agrees, Refuses, state_of, status_by, with_entry, with_kept}

@@ -16,7 +16,7 @@ use Rattle.hm_verdicts.proofs.OneVerdict.{one_verdict}
 use Rattle.hm_verdicts.proofs.WorkedModules.{good_A, faulty_B}
 use Rattle.hm_verdicts.proofs.WorkedPlan.{three, three_lawful}
 use Rattle.hm_verdicts.proofs.WorkedReport.{three_reported}
-use Rattle.hm_outcomes.specs.Outcomes.{Checked}
+use Rattle.hm_verdicts.specs.Outcomes.{Checked}
 use Rattle.hm_store.specs.Builds.{Build, Agrees, IsAllSettled, IsLegal, IsOf, IsSound, state_of}
 use Rattle.hm_store.specs.Objects.{IsAllowed, is_settled, status_at}
 use Rattle.hm_store.specs.Plans.{Given}

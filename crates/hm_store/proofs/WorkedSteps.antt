@@ -3,7 +3,7 @@ use Rattle.std.proofs.Common.{◌≡◌, ◌≢◌, ℕ, ◌≤◌, List, [], �
 use Rattle.std.specs.Prelude.{slice_get}
 use Rattle.hm_types.specs.Interfaces.{Exports as Interface}
 use Rattle.hm_syntax.specs.declared.ast.Module.{Module}
-use Rattle.hm_outcomes.specs.Outcomes.{Checked}
+use Rattle.hm_verdicts.specs.Outcomes.{Checked}
 use Rattle.hm_store.specs.Builds.{Build, IsNew, IsOf, Refuses, Settles, interface_at}
 use Rattle.hm_store.specs.Records.{Adds, AddsAt}
 use Rattle.hm_store.specs.declared.object.Entry.TheVariants.{Publish}

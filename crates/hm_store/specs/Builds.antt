@@ -6,7 +6,7 @@ use Rattle.hm_syntax.specs.declared.ast.Module.{Module}
 use Rattle.hm_names.specs.declared.faults.Fault.{Fault}
 use Rattle.hm_verdicts.specs.ModuleVerdicts.{Verdict, Good, Faulty, IsVerdict}
 use Rattle.hm_verdicts.specs.Sets.{ModuleSet, IsLawfulSet}
-use Rattle.hm_outcomes.specs.Outcomes.{Checked}
+use Rattle.hm_verdicts.specs.Outcomes.{Checked}
 use Rattle.hm_store.specs.Plans.{Given, AreDependents, imports_of}
 use Rattle.hm_store.specs.Objects.{State, status_at, is_settled, state_after, IsAllowed}
 use Rattle.hm_store.specs.declared.object.Status.{Status}
@@ -17,7 +17,7 @@ use Rattle.hm_store.specs.declared.object.Claimed.{Claimed as Reply}
 use Rattle.hm_store.specs.declared.object.Claimed.TheVariants.{Job, Later, Done}
 use Rattle.hm_store.specs.declared.object.Refusal.{Refusal}
 use Rattle.hm_store.specs.declared.object.Refusal.TheVariants.{NotYours, Stranger, Memory}
-use Rattle.hm_published.specs.Publications as publications
+use Rattle.hm_store_published.specs.Publications as publications
 
 -- the modules, the plan, the journal, and for each module its outcome if it was published or failed
 pub record Build : Type 0 where

@@ -2,7 +2,7 @@
 use Rattle.std.specs.Prelude.{ℕ, Option, Some, None}
 use Rattle.hm_verdicts.specs.ModuleVerdicts.{Verdict, Good, Faulty}
 use Rattle.hm_verdicts.specs.Verdicts.{Status as Settlement, Published, Failed, Skipped, IsSettled}
-use Rattle.hm_outcomes.specs.Outcomes.{Checked}
+use Rattle.hm_verdicts.specs.Outcomes.{Checked}
 use Rattle.hm_store.specs.Builds.{Build, IsLegal, IsAllSettled, kept_at, set_of}
 
 abbrev pub settlement_by : Verdict → Settlement

@@ -7,7 +7,7 @@ use Rattle.hm_types.specs.Interfaces.{Exports as Interface}
 use Rattle.hm_syntax.specs.declared.ast.Module.{Module}
 use Rattle.hm_verdicts.specs.Reports.{IsReport}
 use Rattle.hm_verdicts.specs.Worked.{three_modules, three_texts}
-use Rattle.hm_outcomes.specs.Outcomes.{Checked}
+use Rattle.hm_verdicts.specs.Outcomes.{Checked}
 use Rattle.hm_store.specs.Agreement.{Agree}
 use Rattle.hm_store.specs.Builds.{Build, IsAllSettled, IsLegal, IsNew, Refuses, Settles, interface_at, set_of, state_of}
 use Rattle.hm_store.specs.Objects.{IsAllowed, publications, reply_of, state_after}

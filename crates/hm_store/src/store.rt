@@ -2,9 +2,9 @@
 ghost use Rattle.std.specs.Prelude.{◌≡◌, ◌↔◌, ◌⊎◌, ◌<◌, ◌≤◌, ◌^◌, ℕ, IfOk, IsSome, None, OnOk, count_by, length, map, not, false, option_map, replicate};
 ghost use Rattle.std.specs.Arc.{arc_value};
 ghost use Rattle.std.specs.Option.{option_copied};
-ghost use Rattle.hm_components.specs.Digraph.{Reaches};
+ghost use Rattle.hm_graph_components.specs.Digraph.{Reaches};
 ghost use Rattle.hm_verdicts.specs.Sets.{IsLawfulSet};
-ghost use Rattle.hm_outcomes.specs.Outcomes.{IsGood, verdict_of};
+ghost use Rattle.hm_verdicts.specs.Outcomes.{IsGood, verdict_of};
 ghost use Rattle.hm_store.specs.Builds.{IsAllSettled, IsLegal, IsNew, Refuses, Settles, after_claim, after_stop, interface_at, kept_at, state_of, status_by, with_kept};
 ghost use Rattle.hm_store.specs.Objects.{is_publication, publications, reply_of, status_at};
 ghost use Rattle.hm_store.specs.declared.object.Claimed.TheVariants.{Done};
@@ -13,9 +13,9 @@ ghost use Rattle.hm_store.specs.declared.object.Status.TheVariants.{Failed, Publ
 
 use crate::object::{Claimed, Entry, Refusal, Status};
 use hm_graph::{Dependents, Plan};
-use hm_outcomes::{Outcome, Verdict};
 use hm_syntax::Module;
 use hm_types::Interface;
+use hm_verdicts::{Outcome, Verdict};
 use readiness::{skip_dependents, status_at};
 use ready_set::{close_imports, import_counts, reply_without_job, take_least, without_imports};
 use std::alloc::{AllocError, Global};

@@ -2,7 +2,7 @@
 
 ghost use Rattle.hm_typing.specs.Laws.{ProgramsDecideGenerality, ProgramsUnifyAlike};
 
-/// A closed scheme is at least as general as another if and only if `hm_instances::instance_of` says so.
+/// A closed scheme is at least as general as another if and only if `hm_types_subsumption::instance_of` says so.
 pub fn programs_decide_generality()
     ensures { ProgramsDecideGenerality }
 {}

@@ -2,7 +2,7 @@
 use Rattle.std.proofs.Common.{ℕ, ◌<◌, ◌++◌, List, [], refl, sym, ap, arith, codes}
 use Rattle.std.specs.List.Sorted.{IsStrictlySortedBy}
 use Rattle.std.proofs.lemmas.Fmt.{decimal_digit}
-use Rattle.hm_components.specs.Closure.{Closure, one, more}
+use Rattle.hm_graph_components.specs.Closure.{Closure, one, more}
 use Rattle.hm_graph.specs.Imports.{Imports}
 use Rattle.hm_verdicts.specs.Reports.{IsReported}
 use Rattle.hm_verdicts.specs.Sets.{IsLawfulSet}

@@ -1,7 +1,7 @@
 -- The worked set is lawful.
 use Rattle.std.proofs.Common.{◌≡◌, ℕ, zero, suc, ◌+◌, ◌<◌, List, [], ◌∷◌, Contains, inl, inr, ◌⊎◌, refl, sym, ap, subst, arith, codes}
 use Rattle.std.specs.Prelude.{slice_index_or}
-use Rattle.hm_components.specs.Closure.{Closure, one, more}
+use Rattle.hm_graph_components.specs.Closure.{Closure, one, more}
 use Rattle.hm_graph.specs.Imports.{Modules, Imports, IsTaken, IsMissing, IsImportList, name_at, prelude}
 use Rattle.hm_names.proofs.Members.{none_in, cases, first}
 use Rattle.hm_verdicts.specs.Sets.{outlines_of, IsLawfulSet}

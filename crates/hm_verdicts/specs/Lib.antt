@@ -8,3 +8,4 @@ pub mod Reports
 pub mod Worked
 pub mod WorkedVerdicts
 pub mod Laws
+pub mod Outcomes

@@ -1,14 +1,17 @@
-//! Laws of the verdicts of modules and sets: which modules are good, skipped or faulty, and what the report of a set says.
+//! Verdicts of modules and of sets of modules: which are good, skipped or faulty, and the text of a report.
 //!
-//! The definitions are in `specs/`. Each law is a function with an empty body, and its contract is the law.
+//! An `Outcome` is a checked module with its verdict; its type guarantees that the verdict is right. The functions of this file have no body:
+//! each is a law, which its contract states.
 #![tactic(auto)]
 
 mod kinds;
+mod outcome;
 
 ghost use Rattle.hm_verdicts.specs.Laws.{AcceptedAreGood, AcceptedHavePrincipal, EndIsSettled, StepsAreSettled, HasOneModuleVerdict, HasOneReading, HasOneStatus, HasOneText, HasOneVerdict, NamesIgnoreSchemes, NoModulesHaveText, PublishedAreAskedFor, SettledIsReported, SettledIsVerdict, SyntaxIgnoresSchemes, ThreeModulesHaveText, TypedHavePrincipal};
 ghost use Rattle.hm_verdicts.specs.WorkedVerdicts.{AcceptedRow, AllGoodRow, CanonicalRow, CircularRow, FirstEntryRow, GeneralRow, LineRow, PlanRow, ProgressRow, PublishedRow, ReportRow, SetRow, SettledRow, SkeletonRow, VerdictRow};
 
 pub use crate::kinds::kind_word;
+pub use crate::outcome::{Outcome, Verdict};
 
 /// Well-formedness, faults, exports and the bindings to be typed don't depend on the schemes of imported variables.
 pub fn names_ignore_schemes()

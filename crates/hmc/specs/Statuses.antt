@@ -1,9 +1,9 @@
 -- The exit statuses. Status 0 is also that of help and version, 2 that of a refused command line, and 4 that of a source that can't be opened.
 use Rattle.std.specs.Prelude.{ℕ}
-use Rattle.hm_devices.specs.declared.faults.RunFault.{RunFault}
-use Rattle.hm_devices.specs.declared.faults.RunFault.TheVariants.{Read, Write, Memory, NoWorker, Mixed, Workers}
-use Rattle.hm_sources.specs.declared.status.Status.{Status}
-use Rattle.hm_sources.specs.declared.status.Status.TheVariants.{Good, Faulty, Refused}
+use Rattle.hm_run_io.specs.declared.faults.RunFault.{RunFault}
+use Rattle.hm_run_io.specs.declared.faults.RunFault.TheVariants.{Read, Write, Memory, NoWorker, Mixed, Workers}
+use Rattle.hm_run_sources.specs.declared.status.Status.{Status}
+use Rattle.hm_run_sources.specs.declared.status.Status.TheVariants.{Good, Faulty, Refused}
 
 abbrev pub code_of : Status → ℕ
 code_of Good = 0

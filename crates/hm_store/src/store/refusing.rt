@@ -5,10 +5,10 @@ ghost use Rattle.hm_store.specs.Builds.{IsOf, Refuses, interface_at};
 
 use super::Store;
 use crate::object::{Refusal, Status};
-use hm_equal::is_same_module;
-use hm_outcomes::Outcome;
 use hm_syntax::Module;
+use hm_syntax_equality::is_same_module;
 use hm_types::Interface;
+use hm_verdicts::Outcome;
 use std::sync::Arc;
 
 impl Store {

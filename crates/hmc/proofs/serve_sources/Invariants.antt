@@ -1,5 +1,5 @@
 use Rattle.std.specs.Prelude.{All}
-use Rattle.hm_devices.specs.Watching.{IsFresh}
+use Rattle.hm_run_io.specs.Watching.{IsFresh}
 use Rattle.hmc.proofs.serve_sources.Given as goal
 
 abbrev pub invariant-loop-word : goal.invariant-loop-word

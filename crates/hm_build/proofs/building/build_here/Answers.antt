@@ -1,6 +1,6 @@
 use Rattle.std.proofs.Common.{map}
 use Rattle.std.specs.Arc.{arc_value}
-use Rattle.hm_sources.specs.SourceModules.{AreModulesOf}
+use Rattle.hm_run_sources.specs.SourceModules.{AreModulesOf}
 use Rattle.hm_build.proofs.Headlines.{finished_have_verdicts}
 use Rattle.hm_build.proofs.building.build_here.Goals as goal
 

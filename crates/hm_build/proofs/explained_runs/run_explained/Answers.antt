@@ -1,8 +1,8 @@
 use Rattle.std.proofs.Common.{rules, ◌≡◌, Err, inl, inr, refl, ⊎_elim, string_bytes}
-use Rattle.hm_telling.proofs.Telling.{told_to}
+use Rattle.hm_build_output.proofs.Telling.{told_to}
 use Rattle.hm_build.proofs.RunFaults.{no_failure, not_of_writing, passed_back, passed_on, some_at}
-use Rattle.hm_devices.specs.Watching.{failures_of}
-use Rattle.hm_devices.specs.declared.faults.RunFault.TheVariants as fault
+use Rattle.hm_run_io.specs.Watching.{failures_of}
+use Rattle.hm_run_io.specs.declared.faults.RunFault.TheVariants as fault
 use Rattle.hm_build.proofs.explained_runs.run_explained.Goals as goal
 
 pub returns-in-Some-clause-read_up_before_a_build : goal.returns-in-Some-clause-read_up_before_a_build

@@ -1,5 +1,5 @@
 use Rattle.hm_build.specs.Laws.{SettledSetIsRun}
-use Rattle.hm_telling.proofs.OneRun.{settled_good, settled_faulty}
+use Rattle.hm_build_output.proofs.OneRun.{settled_good, settled_faulty}
 use Rattle.hm_build.proofs.laws.settled_sets_are_runs.Goals as goal
 
 are_runs : SettledSetIsRun

@@ -1,10 +1,10 @@
 use Rattle.std.proofs.Common.{rules, ◌≡◌, ◌<◌, ◌≤◌, IsErrOf, IfSome, Err, inl, inr, ⊎_elim, map, string_bytes, subst}
-use Rattle.hm_telling.specs.Explained.{IsExplained, TellsExhaustion}
-use Rattle.hm_telling.specs.JournalledRuns.{IsRun}
-use Rattle.hm_telling.proofs.HeldRuns.{build_held}
+use Rattle.hm_build_output.specs.Explained.{IsExplained, TellsExhaustion}
+use Rattle.hm_build_output.specs.JournalledRuns.{IsRun}
+use Rattle.hm_build_output.proofs.HeldRuns.{build_held}
 use Rattle.hm_build.proofs.RunFaults.{no_failure, not_of_reading, only_read_faults, some_more}
-use Rattle.hm_devices.specs.Watching.{failures_of}
-use Rattle.hm_devices.specs.declared.faults.RunFault.TheVariants as fault
+use Rattle.hm_run_io.specs.Watching.{failures_of}
+use Rattle.hm_run_io.specs.declared.faults.RunFault.TheVariants as fault
 use Rattle.hm_build.proofs.reading.read_and_check.Goals as goal
 
 pub returns-in-Ok-clause-ok : goal.returns-in-Ok-clause-ok

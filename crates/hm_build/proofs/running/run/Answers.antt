@@ -1,7 +1,7 @@
 use Rattle.std.proofs.Common.{rules, ◌≡◌, Err, inl, inr, ⊎_elim, string_bytes}
 use Rattle.hm_build.proofs.RunFaults.{no_failure, one_of_all, passed_back, passed_on}
-use Rattle.hm_devices.specs.Watching.{failures_of}
-use Rattle.hm_devices.specs.declared.faults.RunFault.TheVariants as fault
+use Rattle.hm_run_io.specs.Watching.{failures_of}
+use Rattle.hm_run_io.specs.declared.faults.RunFault.TheVariants as fault
 use Rattle.hm_build.proofs.running.run.Goals as goal
 
 pub returns-in_err-explained-clause-read_up_before_a_build : goal.returns-in_err-explained-clause-read_up_before_a_build

@@ -1,5 +1,5 @@
 use Rattle.std.proofs.Common.{◌<◌}
-use Rattle.hm_shared.specs.Passes.{room_of}
+use Rattle.hm_store_shared.specs.Passes.{room_of}
 use Rattle.hm_build.proofs.workers.check_all.Given as goal
 
 abbrev pub invariant-loop : goal.invariant-loop

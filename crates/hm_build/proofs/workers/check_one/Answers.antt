@@ -4,12 +4,12 @@ use Rattle.std.specs.Arc.{arc_value}
 use Rattle.hm_types.specs.Interfaces.{Exports as Interface}
 use Rattle.hm_names.specs.Imports.{AreImportsOf}
 use Rattle.hm_verdicts.specs.Sets.{no_module}
-use Rattle.hm_published.specs.Publications.{IsPublishedIn, interface_in}
+use Rattle.hm_store_published.specs.Publications.{IsPublishedIn, interface_in}
 use Rattle.hm_check.specs.Refusals.{IsRefused}
 use Rattle.hm_check.specs.declared.checking.CheckFault.{CheckFault}
 use Rattle.hm_check.specs.declared.checking.CheckFault.TheVariants.{Imports}
-use Rattle.hm_shared.specs.Passes.{seen_of}
-use Rattle.hm_shared.proofs.Refusing.{rows_through}
+use Rattle.hm_store_shared.specs.Passes.{seen_of}
+use Rattle.hm_store_shared.proofs.Refusing.{rows_through}
 use Rattle.hm_build.proofs.JobRows.{got_at, map_twice, published_in_row, row_within, taken_at}
 use Rattle.hm_build.proofs.workers.check_one.Goals as goal
 

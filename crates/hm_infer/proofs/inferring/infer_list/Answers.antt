@@ -1,7 +1,7 @@
-use Rattle.hm_assumptions.specs.Constructors.{known_of}
-use Rattle.hm_expressions.specs.Stages.{list_of}
-use Rattle.hm_schemes.proofs.MostGeneral.{most_general}
-use Rattle.hm_expressions.proofs.PrincipalLists.{inferred_list, list_refused}
+use Rattle.hm_infer_context.specs.Constructors.{known_of}
+use Rattle.hm_infer_expressions.specs.Stages.{list_of}
+use Rattle.hm_infer_generalisation.proofs.MostGeneral.{most_general}
+use Rattle.hm_infer_expressions.proofs.PrincipalLists.{inferred_list, list_refused}
 use Rattle.hm_infer.proofs.inferring.infer_list.Goals as goal
 
 pub returns-in_err-check_bindings-clause-inferred : goal.returns-in_err-check_bindings-clause-inferred

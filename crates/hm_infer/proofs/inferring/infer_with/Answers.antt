@@ -4,10 +4,10 @@ use Rattle.hm_types.specs.StandardPrelude.{prelude_interface}
 use Rattle.hm_names.specs.Cores.{assumed, imported_values}
 use Rattle.hm_names.specs.ModuleCores.{ModuleCore}
 use Rattle.hm_names.specs.SchemeTables.{scheme_of}
-use Rattle.hm_expressions.specs.OwnSchemes.{HaveCanonical}
-use Rattle.hm_expressions.specs.PrincipalLists.{IsInferred}
-use Rattle.hm_expressions.specs.Stages.{list_of}
-use Rattle.hm_assumptions.specs.Constructors.{known_of}
+use Rattle.hm_infer_expressions.specs.OwnSchemes.{HaveCanonical}
+use Rattle.hm_infer_expressions.specs.PrincipalLists.{IsInferred}
+use Rattle.hm_infer_expressions.specs.Stages.{list_of}
+use Rattle.hm_infer_context.specs.Constructors.{known_of}
 use Rattle.hm_infer.proofs.NoTyping.{no_typing}
 use Rattle.hm_infer.proofs.OwnSchemes.{are_principal}
 use Rattle.hm_infer.proofs.inferring.infer_with.Goals as goal

@@ -1,16 +1,16 @@
 use Rattle.std.proofs.Common.{◌≡◌, ◌<◌, ◌≤◌, ◌++◌, ◌∙◌, length, get_or, refl, sym, ap, subst, arith, append_assoc}
 use Rattle.std.proofs.lemmas.List.{length-map}
-use Rattle.hm_components.specs.Digraph.{lists}
-use Rattle.hm_groups.specs.Groups.{node_name}
-use Rattle.hm_groups.specs.Nodes.{AllShown}
+use Rattle.hm_graph_components.specs.Digraph.{lists}
+use Rattle.hm_infer_dependencies.specs.Groups.{node_name}
+use Rattle.hm_infer_dependencies.specs.Nodes.{AllShown}
 use Rattle.hm_syntax.specs.Lists.{declarations}
-use Rattle.hm_assumptions.specs.Constructors.{known_of}
-use Rattle.hm_assumptions.specs.Environments.{AreAssumed}
-use Rattle.hm_expressions.specs.Stages.{list_of}
-use Rattle.hm_schemes.proofs.Closing.{assumed_part}
-use Rattle.hm_expressions.proofs.GroupEnds.{all_one}
-use Rattle.hm_expressions.proofs.ListSteps.{group_at, group_below, group_some, rows_long}
-use Rattle.hm_assumptions.proofs.Extended.{extended}
+use Rattle.hm_infer_context.specs.Constructors.{known_of}
+use Rattle.hm_infer_context.specs.Environments.{AreAssumed}
+use Rattle.hm_infer_expressions.specs.Stages.{list_of}
+use Rattle.hm_infer_generalisation.proofs.Closing.{assumed_part}
+use Rattle.hm_infer_expressions.proofs.GroupEnds.{all_one}
+use Rattle.hm_infer_expressions.proofs.ListSteps.{group_at, group_below, group_some, rows_long}
+use Rattle.hm_infer_context.proofs.Extended.{extended}
 use Rattle.hm_infer.proofs.UnitStages.{unit_step, units_end}
 use Rattle.hm_infer.proofs.judging_units.judge_each.Goals as goal
 

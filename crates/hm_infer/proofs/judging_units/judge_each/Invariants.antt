@@ -1,9 +1,9 @@
 use Rattle.std.proofs.Common.{◌≡◌, ◌++◌, List, length}
-use Rattle.hm_components.specs.Digraph.{lists}
-use Rattle.hm_groups.specs.Nodes.{AllShown}
-use Rattle.hm_assumptions.specs.Environments.{Extends, AreAssumed, Assumed}
-use Rattle.hm_assumptions.specs.Constructors.{known_of}
-use Rattle.hm_expressions.specs.OpenGroups.{AreUpTo}
+use Rattle.hm_graph_components.specs.Digraph.{lists}
+use Rattle.hm_infer_dependencies.specs.Nodes.{AllShown}
+use Rattle.hm_infer_context.specs.Environments.{Extends, AreAssumed, Assumed}
+use Rattle.hm_infer_context.specs.Constructors.{known_of}
+use Rattle.hm_infer_expressions.specs.OpenGroups.{AreUpTo}
 use Rattle.hm_infer.specs.JudgedUnits.{UnitsJudged}
 use Rattle.hm_infer.proofs.judging_units.judge_each.Given as goal
 

@@ -1,11 +1,11 @@
 use Rattle.std.proofs.Common.{sym, ap, refl, subst}
-use Rattle.hm_assumptions.specs.Constructors.{known_of}
-use Rattle.hm_expressions.specs.Dependences.{TellsMembers, skipped, untyped, typed}
-use Rattle.hm_components.specs.Digraph.{lists}
-use Rattle.hm_expressions.proofs.JudgedGroups.{judges_clash}
-use Rattle.hm_expressions.proofs.Referring.{members_at, member_places}
-use Rattle.hm_assumptions.proofs.Extended.{kept_same}
-use Rattle.hm_assumptions.specs.Environments.{AreAssumed}
+use Rattle.hm_infer_context.specs.Constructors.{known_of}
+use Rattle.hm_infer_expressions.specs.Dependences.{TellsMembers, skipped, untyped, typed}
+use Rattle.hm_graph_components.specs.Digraph.{lists}
+use Rattle.hm_infer_expressions.proofs.JudgedGroups.{judges_clash}
+use Rattle.hm_infer_expressions.proofs.Referring.{members_at, member_places}
+use Rattle.hm_infer_context.proofs.Extended.{kept_same}
+use Rattle.hm_infer_context.specs.Environments.{AreAssumed}
 use Rattle.hm_infer.proofs.Cleared.{empty_elsewhere}
 use Rattle.hm_infer.proofs.judging_units.judge_group.Goals as goal
 

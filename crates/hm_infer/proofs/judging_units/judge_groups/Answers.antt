@@ -1,8 +1,8 @@
 use Rattle.std.proofs.Common.{◌≡◌, ◌∙◌, ap, false, length, replicate, rules, subst, sym}
-use Rattle.hm_components.specs.Digraph.{lists}
-use Rattle.hm_assumptions.specs.Constructors.{known_of}
+use Rattle.hm_graph_components.specs.Digraph.{lists}
+use Rattle.hm_infer_context.specs.Constructors.{known_of}
 use Rattle.hm_infer.specs.JudgedUnits.{UnitsJudged}
-use Rattle.hm_expressions.proofs.ListSteps.{written_to}
+use Rattle.hm_infer_expressions.proofs.ListSteps.{written_to}
 use Rattle.hm_infer.proofs.UnitStages.{units_start}
 use Rattle.hm_infer.proofs.judging_units.judge_groups.Goals as goal
 

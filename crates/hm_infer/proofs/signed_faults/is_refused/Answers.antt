@@ -1,6 +1,6 @@
 use Rattle.std.proofs.Common.{refl, sym}
-use Rattle.hm_assumptions.specs.Constructors.{known_of}
-use Rattle.hm_schemes.proofs.MostGeneral.{most_general}
+use Rattle.hm_infer_context.specs.Constructors.{known_of}
+use Rattle.hm_infer_generalisation.proofs.MostGeneral.{most_general}
 use Rattle.hm_infer.proofs.SignedFaults.{clause_refused, clause_typed}
 use Rattle.hm_infer.proofs.signed_faults.is_refused.Goals as goal
 

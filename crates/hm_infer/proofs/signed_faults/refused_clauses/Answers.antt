@@ -1,8 +1,8 @@
 use Rattle.std.proofs.Common.{◌<◌, ◌≤◌, length, get_or, false, subst, ◌∙◌, arith}
 use Rattle.hm_syntax.specs.Trees.{Declarations}
-use Rattle.hm_assumptions.specs.Constructors.{known_of}
-use Rattle.hm_assumptions.specs.Environments.{assumptions}
-use Rattle.hm_expressions.specs.SignedLists.{AreSignatures}
+use Rattle.hm_infer_context.specs.Constructors.{known_of}
+use Rattle.hm_infer_context.specs.Environments.{assumptions}
+use Rattle.hm_infer_expressions.specs.SignedLists.{AreSignatures}
 use Rattle.hm_infer.specs.SignedFaults.{Refuses}
 use Rattle.hm_infer.proofs.SignedFaults.{flagged_step, flagged_all}
 use Rattle.hm_infer.proofs.signed_faults.refused_clauses.Goals as goal

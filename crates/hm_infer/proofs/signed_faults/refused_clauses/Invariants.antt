@@ -1,9 +1,9 @@
 use Rattle.std.proofs.Common.{◌≡◌, ◌≤◌, length, get_or, false}
 use Rattle.hm_syntax.specs.Trees.{Declarations}
-use Rattle.hm_assumptions.specs.Constructors.{known_of}
-use Rattle.hm_assumptions.specs.Environments.{assumptions}
+use Rattle.hm_infer_context.specs.Constructors.{known_of}
+use Rattle.hm_infer_context.specs.Environments.{assumptions}
 use Rattle.hm_infer.specs.SignedFaults.{Refuses}
-use Rattle.hm_expressions.specs.SignedLists.{AreSignatures}
+use Rattle.hm_infer_expressions.specs.SignedLists.{AreSignatures}
 use Rattle.hm_infer.proofs.SignedFaults.{Flagged}
 use Rattle.hm_infer.proofs.signed_faults.refused_clauses.Given as goal
 

@@ -1,7 +1,7 @@
 use Rattle.std.proofs.Common.{◌+◌, ℕ, Global, Vec, length, sym, ap, ◌∙◌, subst, subst₂}
 use Rattle.std.specs.Bool.{Decides}
-use Rattle.hm_assumptions.specs.Constructors.{known_of}
-use Rattle.hm_assumptions.specs.Environments.{assumptions}
+use Rattle.hm_infer_context.specs.Constructors.{known_of}
+use Rattle.hm_infer_context.specs.Environments.{assumptions}
 use Rattle.hm_infer.specs.SignedFaults.{AreRefused, IsFaultAt}
 use Rattle.hm_infer.proofs.SignedFaults.{PlacesBefore, opposite, places_all, places_pushed, places_same}
 use Rattle.hm_infer.proofs.signed_faults.signed_faults.Goals.{then-is_fault_at+in_ok-push, else-is_fault_at}

@@ -1,5 +1,5 @@
 use Rattle.std.proofs.Common.{◌≤◌, length}
-use Rattle.hm_groups.specs.Nodes.{AllShown}
+use Rattle.hm_infer_dependencies.specs.Nodes.{AllShown}
 use Rattle.hm_infer.specs.SignedFaults.{Waits}
 use Rattle.hm_infer.proofs.SignedFaults.{Flagged}
 use Rattle.hm_infer.proofs.signed_faults.waiting_clauses.Given as goal

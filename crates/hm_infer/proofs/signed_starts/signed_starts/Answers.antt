@@ -1,6 +1,6 @@
-use Rattle.hm_components.specs.Digraph.{lists}
+use Rattle.hm_graph_components.specs.Digraph.{lists}
 use Rattle.hm_syntax.specs.Lists.{declarations}
-use Rattle.hm_assumptions.specs.Constructors.{known_of}
+use Rattle.hm_infer_context.specs.Constructors.{known_of}
 use Rattle.hm_infer.proofs.SignedStarts.{tells_signed}
 use Rattle.hm_infer.proofs.signed_starts.signed_starts.Goals as goal
 

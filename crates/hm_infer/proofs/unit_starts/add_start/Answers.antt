@@ -1,6 +1,6 @@
 use Rattle.std.proofs.Common.{sym, subst}
-use Rattle.hm_components.specs.Digraph.{lists}
-use Rattle.hm_groups.specs.GroupMembers.{AreMembersOf}
+use Rattle.hm_graph_components.specs.Digraph.{lists}
+use Rattle.hm_infer_dependencies.specs.GroupMembers.{AreMembersOf}
 use Rattle.hm_infer.proofs.UnitStarts.{some_member, start_added}
 use Rattle.hm_infer.proofs.unit_starts.add_start.Goals as goal
 

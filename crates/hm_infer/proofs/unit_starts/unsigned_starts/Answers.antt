@@ -1,8 +1,8 @@
 use Rattle.std.proofs.Common.{◌≡◌, ◌<◌, All, length, get_or, false, refl, sym, subst, arith}
-use Rattle.hm_components.specs.Digraph.{lists}
+use Rattle.hm_graph_components.specs.Digraph.{lists}
 use Rattle.hm_infer.specs.UnitStarts.{AddsStart, HasMember}
-use Rattle.hm_expressions.proofs.ListSteps.{group_at, rows_long}
-use Rattle.hm_answers.proofs.FaultyGroups.{one_at}
+use Rattle.hm_infer_expressions.proofs.ListSteps.{group_at, rows_long}
+use Rattle.hm_infer_results.proofs.FaultyGroups.{one_at}
 use Rattle.hm_infer.proofs.UnitStarts.{at_first, next_start}
 use Rattle.hm_infer.proofs.unit_starts.unsigned_starts.Goals as goal
 

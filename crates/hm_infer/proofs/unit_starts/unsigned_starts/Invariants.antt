@@ -1,4 +1,4 @@
-use Rattle.hm_components.specs.Digraph.{lists}
+use Rattle.hm_graph_components.specs.Digraph.{lists}
 use Rattle.hm_infer.specs.UnitStarts.{AreGroupStarts}
 use Rattle.hm_infer.proofs.unit_starts.unsigned_starts.Given as goal
 

@@ -1,4 +1,4 @@
-use Rattle.hm_assumptions.specs.Constructors.{known_of}
+use Rattle.hm_infer_context.specs.Constructors.{known_of}
 use Rattle.hm_infer.proofs.untyped_units.fault_starts.Goals as goal
 
 pub starts_of_groups-requires-clause-list : goal.starts_of_groups-requires-clause-list

@@ -1,8 +1,8 @@
 use Rattle.std.proofs.Common.{◌∙◌, ◌++◌, length, sym, subst, ap}
-use Rattle.hm_components.specs.Digraph.{lists}
-use Rattle.hm_assumptions.specs.Constructors.{known_of}
+use Rattle.hm_graph_components.specs.Digraph.{lists}
+use Rattle.hm_infer_context.specs.Constructors.{known_of}
 use Rattle.hm_infer.specs.JudgedUnits.{UnitsJudged}
-use Rattle.hm_answers.specs.UnitFaults.{ArePlainGroups}
+use Rattle.hm_infer_results.specs.UnitFaults.{ArePlainGroups}
 use Rattle.hm_infer.specs.UnitStarts.{AreUnsignedStarts}
 use Rattle.hm_infer.proofs.CoreStarts.{ListJudged, groups_declared, unsigned_list}
 use Rattle.hm_infer.proofs.UnitFaults.{plain_groups}

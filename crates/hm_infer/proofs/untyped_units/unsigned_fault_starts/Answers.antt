@@ -1,9 +1,9 @@
 use Rattle.std.proofs.Common.{◌≡◌, ◌∙◌, ◌<◌, All, length, sym, subst, ap}
 use Rattle.std.proofs.lemmas.List.{length-map}
-use Rattle.hm_components.specs.Digraph.{lists}
+use Rattle.hm_graph_components.specs.Digraph.{lists}
 use Rattle.hm_infer.specs.UnitStarts.{AreGroupStarts}
 use Rattle.hm_infer.proofs.CoreStarts.{told_long}
-use Rattle.hm_answers.proofs.FaultyGroups.{below_all}
+use Rattle.hm_infer_results.proofs.FaultyGroups.{below_all}
 use Rattle.hm_infer.proofs.untyped_units.unsigned_fault_starts.Goals as goal
 
 pub unsigned_starts-requires-clause-nodes : goal.unsigned_starts-requires-clause-nodes

@@ -2,8 +2,8 @@ use Rattle.std.proofs.Common.{◌∙◌, ◌<◌, All, length, sym, ap, map, sub
 use Rattle.std.specs.Arc.{arc_value}
 use Rattle.hm_names.specs.Cores.{assumed, imported_values}
 use Rattle.hm_names.specs.ModuleCores.{ModuleCore}
-use Rattle.hm_assumptions.specs.Constructors.{known_of}
-use Rattle.hm_assumptions.specs.Environments.{assumptions}
+use Rattle.hm_infer_context.specs.Constructors.{known_of}
+use Rattle.hm_infer_context.specs.Environments.{assumptions}
 use Rattle.hm_infer.specs.UnitStarts.{AreFaultStarts, IsCoreList}
 use Rattle.hm_infer.proofs.Untyped.{core_untyped, starts_inside}
 use Rattle.hm_infer.proofs.untyped_units.untyped_units.Goals as goal

@@ -1,7 +1,7 @@
 use Rattle.std.proofs.Common.{rules, ◌≡◌, ◌∷◌, ◌++◌, ◌∙◌, ap, filter, get_or, map, take}
 use Rattle.std.proofs.lemmas.List.{take_all}
 use Rattle.hm_names.specs.Scope.{prelude_name}
-use Rattle.hm_sources.specs.declared.located.Located.{Located}
+use Rattle.hm_run_sources.specs.declared.located.Located.{Located}
 use Rattle.hm_messages.specs.Missing.{import_of, module_names, names_none, set_import, set_imports}
 use Rattle.hm_messages.proofs.Gathering.{filtered_same, gathered}
 use Rattle.hm_messages.proofs.missing.missing_imports.Goals as goal

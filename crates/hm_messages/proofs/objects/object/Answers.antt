@@ -1,5 +1,5 @@
 use Rattle.std.proofs.Common.{rules, ◌≡◌, option_map, string_bytes, subst}
-use Rattle.hm_json.specs.declared.message.Message.{Message}
+use Rattle.hm_messages_json.specs.declared.message.Message.{Message}
 use Rattle.hm_messages.specs.Messages.{IsHint}
 use Rattle.hm_messages.specs.Sentences.{sentence}
 use Rattle.hm_messages.specs.Subjects.{subject_of}

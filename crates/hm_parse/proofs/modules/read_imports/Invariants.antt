@@ -1,6 +1,6 @@
 use Rattle.std.proofs.Common.{◌≡◌, length}
-use Rattle.hm_grammar.specs.Reading.Basics.{loop, behind}
-use Rattle.hm_grammar.specs.Reading.Headers.{next_import}
+use Rattle.hm_parse_grammar.specs.Reading.Basics.{loop, behind}
+use Rattle.hm_parse_grammar.specs.Reading.Headers.{next_import}
 use Rattle.hm_parse.proofs.modules.read_imports.Given as goal
 
 abbrev pub invariant-imports : goal.invariant-imports

@@ -1,6 +1,6 @@
 use Rattle.std.proofs.Common.{◌≡◌, length}
-use Rattle.hm_grammar.specs.Reading.Basics.{loop, behind}
-use Rattle.hm_grammar.specs.Reading.Modules.{next_module}
+use Rattle.hm_parse_grammar.specs.Reading.Basics.{loop, behind}
+use Rattle.hm_parse_grammar.specs.Reading.Modules.{next_module}
 use Rattle.hm_parse.proofs.modules.read_modules.Given as goal
 
 abbrev pub invariant-modules : goal.invariant-modules

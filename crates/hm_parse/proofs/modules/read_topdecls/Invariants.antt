@@ -1,6 +1,6 @@
 use Rattle.std.proofs.Common.{◌≡◌, length}
-use Rattle.hm_grammar.specs.Reading.Basics.{loop, behind}
-use Rattle.hm_grammar.specs.Reading.Modules.{next_topdecl}
+use Rattle.hm_parse_grammar.specs.Reading.Basics.{loop, behind}
+use Rattle.hm_parse_grammar.specs.Reading.Modules.{next_topdecl}
 use Rattle.hm_parse.proofs.modules.read_topdecls.Given as goal
 
 abbrev pub invariant-topdecls : goal.invariant-topdecls

@@ -3,7 +3,7 @@ use Rattle.hm_types.specs.Interfaces.{Exports as Interface}
 use Rattle.hm_syntax.specs.declared.ast.Module.{Module}
 use Rattle.hm_names.specs.Bindings.{IsScopeOf}
 use Rattle.hm_names.specs.Resolved.{Resolver}
-use Rattle.hm_synonyms.specs.Synonyms.{IsExpandable, Finishes}
+use Rattle.hm_scope.specs.Synonyms.{IsExpandable, Finishes}
 use Rattle.hm_scope.proofs.finished_synonyms.add_in_order.Given as goal
 
 abbrev pub invariant-order : goal.invariant-order

@@ -1,6 +1,6 @@
 use Rattle.std.proofs.Common.{ℕ, List, sym, subst}
-use Rattle.hm_synonyms.specs.declared.declared_synonyms.OwnSynonym.{OwnSynonym}
-use Rattle.hm_synonyms.specs.Synonyms.{IsExpandable, Finishes}
+use Rattle.hm_scope.specs.declared.declared_synonyms.OwnSynonym.{OwnSynonym}
+use Rattle.hm_scope.specs.Synonyms.{IsExpandable, Finishes}
 use Rattle.hm_names.proofs.Existence.{has_resolver}
 use Rattle.hm_scope.proofs.SettledSynonyms.{expandable, resolved}
 use Rattle.hm_scope.proofs.finished_synonyms.add_synonyms.Goals as goal

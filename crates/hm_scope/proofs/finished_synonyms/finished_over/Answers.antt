@@ -1,7 +1,7 @@
 use Rattle.std.proofs.Common.{refl, ap, Some}
 use Rattle.hm_names.specs.Found.{resolver_of}
 use Rattle.hm_names.specs.Resolved.{type_with}
-use Rattle.hm_tables.specs.KnownTables.{lookups_of}
+use Rattle.hm_scope_tables.specs.KnownTables.{lookups_of}
 use Rattle.hm_names.proofs.ClosedTypes.{makes_synonym, synonym_made, not_sound}
 use Rattle.hm_scope.proofs.finished_synonyms.finished_over.Goals as goal
 

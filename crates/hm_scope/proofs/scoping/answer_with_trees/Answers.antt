@@ -1,7 +1,7 @@
 use Rattle.std.proofs.Common.{List, Option, map, Bor, subst}
 use Rattle.hm_types.specs.Interfaces.{Exports as Interface}
 use Rattle.hm_names.specs.declared.faults.Fault.{Fault}
-use Rattle.hm_phases.specs.Answers.{AreFirstFaults}
+use Rattle.hm_scope.specs.PhaseAnswers.{AreFirstFaults}
 use Rattle.hm_scope.proofs.ModuleAnswers.{resolved_module}
 use Rattle.hm_scope.proofs.scoping.answer_with_trees.Goals as goal
 

@@ -3,7 +3,7 @@ use Rattle.std.specs.Arc.{arc_value}
 use Rattle.hm_types.specs.Interfaces.{Exports as Interface}
 use Rattle.hm_scope.specs.declared.scoping.Answer.{Answer}
 use Rattle.hm_names.specs.Bindings.{Pair}
-use Rattle.hm_exports.specs.ExportedRows.{HaveOneEntity}
+use Rattle.hm_scope_exports.specs.ExportedRows.{HaveOneEntity}
 use Rattle.hm_scope.specs.Answers.{IsAnswer, AreExportedRows, rows_in}
 use Rattle.hm_scope.proofs.ModuleAnswers.{core_is}
 use Rattle.hm_scope.proofs.scoping.outcome_of.Goals as goal

@@ -5,9 +5,9 @@ use Rattle.hm_types.specs.Interfaces.{Exports as Interface}
 use Rattle.hm_names.specs.declared.faults.Fault.{Fault}
 use Rattle.hm_names.specs.Bindings.{IsScopeOf}
 use Rattle.hm_names.specs.Faults.Phases.{Importing}
-use Rattle.hm_phases.specs.Answers.{AreExact, IsPhaseAnswer}
+use Rattle.hm_scope.specs.PhaseAnswers.{AreExact, IsPhaseAnswer}
 use Rattle.hm_scope.specs.Answers.{IsAnswerBehind}
-use Rattle.hm_phases.proofs.PhasesInOrder.{before_importing}
+use Rattle.hm_scope.proofs.PhasesInOrder.{before_importing}
 use Rattle.hm_scope.proofs.scoping.phases_answer.Goals as goal
 
 pub returns-in-Some : goal.returns-in-Some

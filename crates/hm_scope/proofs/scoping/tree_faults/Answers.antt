@@ -1,6 +1,6 @@
 use Rattle.std.proofs.Common.{List, subst}
 use Rattle.hm_syntax.specs.Trees.{Declaration}
-use Rattle.hm_synonyms.specs.Synonyms.{AreOwnSynonyms}
+use Rattle.hm_scope.specs.Synonyms.{AreOwnSynonyms}
 use Rattle.hm_scope.proofs.scoping.tree_faults.Goals as goal
 
 pub faults_over-requires-clause-synonyms : goal.faults_over-requires-clause-synonyms

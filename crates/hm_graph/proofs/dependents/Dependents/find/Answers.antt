@@ -1,8 +1,8 @@
 use Rattle.std.proofs.Common.{◌≡◌, ℕ, ◌↔◌, Bool, List, length, subst, sym, ◌∙◌}
 use Rattle.std.specs.Vec.{with_items}
 use Rattle.std.proofs.lemmas.List.{with_items_is}
-use Rattle.hm_components.specs.Digraph.{Reaches, lists}
-use Rattle.hm_components.specs.Marks.{IsMarked}
+use Rattle.hm_graph_components.specs.Digraph.{Reaches, lists}
+use Rattle.hm_graph_components.specs.Marks.{IsMarked}
 use Rattle.hm_graph.proofs.DependentMarks.{IsClosed-importers, marked_dependents}
 use Rattle.hm_graph.proofs.dependents.Dependents.find.Goals as goal
 

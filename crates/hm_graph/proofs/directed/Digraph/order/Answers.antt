@@ -1,9 +1,9 @@
 use Rattle.std.proofs.Common.{ℕ, List, Vec, sym, ap, ◌∙◌, subst}
 use Rattle.std.specs.List.{concat}
 use Rattle.std.specs.declared.alloc.Global.{Global}
-use Rattle.hm_components.specs.Digraph.{lists}
-use Rattle.hm_components.specs.NodeOrders.{IsOrder}
-use Rattle.hm_components.proofs.NodeOrders.{in_order}
+use Rattle.hm_graph_components.specs.Digraph.{lists}
+use Rattle.hm_graph_components.specs.NodeOrders.{IsOrder}
+use Rattle.hm_graph_components.proofs.NodeOrders.{in_order}
 use Rattle.hm_graph.proofs.directed.Digraph.order.Goals as goal
 
 pub returns : goal.returns

@@ -1,7 +1,7 @@
 use Rattle.std.proofs.Common.{◌≡◌, ◌-◌, List, length, set, None, subst, sym, ap, ◌∙◌}
 use Rattle.std.specs.Vec.{with_item, with_items, vec_capacity}
 use Rattle.std.proofs.lemmas.List.{length-set, with_items_is}
-use Rattle.hm_components.specs.Digraph.{Reaches}
+use Rattle.hm_graph_components.specs.Digraph.{Reaches}
 use Rattle.hm_store.specs.Plans.{dependents_of}
 use Rattle.hm_store.specs.Objects.{skip_all}
 use Rattle.hm_store.specs.Builds.{Build, Refuses, status_by, with_kept}

@@ -5,8 +5,8 @@ use denote.Array.{Array}
 use denote.Param.{param}
 use denote.Param.Send.{IsSend, IsSync, arg_send, mut_send, param_send, shr_send}
 use denote.Ref.{NamedLft}
-use Rattle.hm_published.specs.contracts.publication.Publication as Publication
-use Rattle.hm_published.specs.contracts.published.PublishedAbsorbStep.TheImpl as Absorbs
+use Rattle.hm_store_published.specs.contracts.publication.Publication as Publication
+use Rattle.hm_store_published.specs.contracts.published.PublishedAbsorbStep.TheImpl as Absorbs
 use Rattle.hm_build.proofs.Crossing.{captures_send, pass_send, work_sync}
 use Rattle.hm_build.proofs.workers.fn.run_workers.scope.Goals as goal
 

@@ -1,6 +1,0 @@
-use Rattle.std.proofs.Common.{take, true, Contains}
-use Rattle.hm_expressions.specs.Dependences.{TellsNodes}
-use Rattle.hm_answers.proofs.dependences.are_typed.Given as goal
-
-abbrev pub invariant-nodes : goal.invariant-nodes
-invariant-nodes l = TellsNodes true l.typed (Contains (take l.node-index l.nodes))

@@ -1,6 +1,0 @@
-use Rattle.std.proofs.Common.{false, take}
-use Rattle.hm_expressions.specs.Dependences.{IsMarked}
-use Rattle.hm_answers.proofs.dependences.unmark.Given as goal
-
-abbrev pub invariant-nodes : goal.invariant-nodes
-invariant-nodes l = IsMarked (take l.node-index l.group) false l.initial.typed l.typed

@@ -1,0 +1,152 @@
+-- The messages of a build: what is told of each module, in the order of the report.
+use Rattle.std.specs.Prelude.{◌≡◌, ◌⊎◌, ℕ, zero, suc, ◌+◌, ◌-◌, ◌^◌, ◌<◌, All, Contains, List, [], ◌∷◌, ◌++◌, cond, length, map, min, slice_index_or}
+use Rattle.std.specs.List.Sorted.{IsPermutation, IsSortedBy}
+use Rattle.hm_messages_details.specs.Details.{IsKnown, Known, nothing}
+use Rattle.hm_lex.specs.declared.token.Place.{Place}
+use Rattle.hm_syntax.specs.declared.ast.Import.{Import}
+use Rattle.hm_syntax.specs.declared.ast.Module.{Module}
+use Rattle.hm_types.specs.Interfaces.{Exports as Interface}
+use Rattle.hm_types.specs.StandardPrelude.{prelude_interface}
+use Rattle.hm_names.specs.declared.faults.Fault.{Fault}
+use Rattle.hm_names.specs.declared.faults.Kind.TheVariants.{Untyped}
+use Rattle.hm_verdicts.specs.Reports.{AreBlamed, is_skipped, tally}
+use Rattle.hm_verdicts.specs.Sets.{ModuleSet, imports_of, module_at, no_module}
+use Rattle.hm_verdicts.specs.Verdicts.{ArePublished, Status, Published, Failed, Skipped}
+use Rattle.hm_messages_excerpts.specs.Columns.{AreColumnsAt}
+use Rattle.hm_messages_excerpts.specs.declared.columns.Columns.{Columns}
+use Rattle.hm_messages.specs.Headings.{count_text}
+use Rattle.hm_messages.specs.Messages.{AreEach, IsFaultMessage, IsMessage, reader_place}
+use Rattle.hm_messages.specs.Subjects.{Subject, faulty, replaceable, skipped}
+use Rattle.hm_messages.specs.declared.heading.Paint.{Paint}
+use Rattle.hm_explain.specs.Holes.{IsCulprit}
+use Rattle.hm_explain.specs.declared.search.Culprit.{Culprit}
+use Rattle.hm_run_sources.specs.Names.{name_below}
+use Rattle.hm_run_sources.specs.Origins.{IsSpelledBy}
+use Rattle.hm_build_output.specs.declared.explaining.Blame.{Blame}
+use Rattle.hm_build_output.specs.declared.explaining.Named.{Named}
+
+-- the message of a fault, with what is known of it, which is so
+pub record IsDetailed (paint : Paint) (file source : List ℕ) (IsSo : Fault → Known → Type 0) (f : Fault) (text : List ℕ) : Type 0 where
+  pub known : Known
+  pub so : IsSo f known
+  pub told : IsFaultMessage paint file source f known text
+
+-- what is known of a fault of module number i, if anything is, is so for Prelude and the interfaces of what the module imports
+abbrev pub IsKnownIn : ModuleSet → (ℕ → Status) → ℕ → Fault → Known → Type 0
+IsKnownIn p status i f known = (known ≡ nothing) ⊎ ((fs : List Interface) × ArePublished status (imports_of p i) fs × IsKnown (module_at p i) (prelude_interface ∷ fs) f known)
+
+-- the note of a type fault, at a part of the source without which its definition has a type; it says where the part ends, as readers count
+pub record IsNote (paint : Paint) (file source name : List ℕ) (fs : List Interface) (f : Fault) (text : List ℕ) : Type 0 where
+  pub untyped : f.kind ≡ Untyped
+  pub part : Culprit
+  pub blamed : IsCulprit source name fs f.name part
+  pub columns : Columns
+  pub columns_at : AreColumnsAt source part.end columns
+  pub told : IsMessage paint file source part.start (replaceable f.name (reader_place part.end columns)) text
+
+-- the message of a fault of which nothing else is known, and behind it its note, or nothing
+pub record IsNoted (paint : Paint) (file source name : List ℕ) (fs : List Interface) (f : Fault) (text : List ℕ) : Type 0 where
+  pub message : List ℕ
+  pub note : List ℕ
+  pub says : IsFaultMessage paint file source f nothing message
+  pub noted : (note ≡ []) ⊎ IsNote paint file source name fs f note
+  pub whole : text ≡ message ++ note
+
+-- the same of module number i: the note speaks of it for the interfaces of what it imports
+abbrev pub IsNotedIn : Paint → List ℕ → List ℕ → ModuleSet → (ℕ → Status) → ℕ → Fault → List ℕ → Type 0
+IsNotedIn paint file source p status i f text = (fs : List Interface) × ArePublished status (imports_of p i) fs × IsNoted paint file source (module_at p i).header.name.text fs f text
+
+-- what is told of a fault of module number i: a message with what is known, or a message with a note
+abbrev pub IsFaultTold : Paint → List ℕ → List ℕ → ModuleSet → (ℕ → Status) → ℕ → Fault → List ℕ → Type 0
+IsFaultTold paint file source p status i f text = IsDetailed paint file source (IsKnownIn p status i) f text ⊎ IsNotedIn paint file source p status i f text
+
+-- of each fault, in order, at its place of this source
+abbrev pub AreFaultsTold : Paint → List (List ℕ) → List (List ℕ) → ℕ → ModuleSet → (ℕ → Status) → ℕ → List Fault → List ℕ → Type 0
+AreFaultsTold paint files texts source p status i found text = AreEach (IsFaultTold paint (slice_index_or files source []) (slice_index_or texts source []) p status i) found text
+
+-- an import that a module is skipped for: what it names, the place of the name, and what is told of it
+pub record Blamed : Type 0 where
+  pub name : List ℕ
+  pub place : Place
+  pub subject : Subject
+
+-- what is told of an import by the status of the module that it names
+abbrev pub IsToldBy : Status → List ℕ → Subject → Type 0
+IsToldBy (Published f) x s = ⊥
+IsToldBy (Failed found) x s = s ≡ faulty x
+IsToldBy Skipped x s = s ≡ skipped x
+
+-- one of the imports has this name and this place, and one of the modules in the row has this name and is told so
+pub record IsBlamedBy (modules : List Module) (status : ℕ → Status) (row : List ℕ) (imports : List Import) (b : Blamed) : Type 0 where
+  pub import : Import
+  pub written : Contains imports import
+  pub called : import.name.text ≡ b.name
+  pub placed : b.place ≡ record { line = import.name.line; column = import.name.column }
+  pub number : ℕ
+  pub imported : Contains row number
+  pub named : (slice_index_or modules number no_module).header.name.text ≡ b.name
+  pub told : IsToldBy (status number) b.name b.subject
+
+abbrev pub IsBlamed : ModuleSet → (ℕ → Status) → ℕ → Blamed → Type 0
+IsBlamed p status i b = IsBlamedBy p.modules status (imports_of p i) (module_at p i).header.imports b
+
+-- the message of an import that isn't good
+abbrev pub IsBlameMessage : Paint → List ℕ → List ℕ → Blamed → List ℕ → Type 0
+IsBlameMessage paint file source b text = IsMessage paint file source b.place b.subject text
+
+-- a message for each name that the report blames, in order, at an import of the module that has it
+pub record AreBlamesTold (paint : Paint) (files texts : List (List ℕ)) (source : ℕ) (p : ModuleSet) (status : ℕ → Status) (i : ℕ) (text : List ℕ) : Type 0 where
+  pub blames : List Blamed
+  pub blamed : AreBlamed p status i (map (λ b. b.name) blames)
+  pub right : All (IsBlamed p status i) blames
+  pub told : AreEach (IsBlameMessage paint (slice_index_or files source []) (slice_index_or texts source [])) blames text
+
+abbrev pub blamed_of : Blame → Blamed
+blamed_of b = record { name = b.name.now; place = b.place; subject = cond b.is_faulty (faulty b.name.now) (skipped b.name.now) }
+
+-- nothing is told of a good module; of another one a message for each of its lines in the report, from the source that spells it
+abbrev pub IsToldAs : Paint → List (List ℕ) → List (List ℕ) → ModuleSet → (ℕ → Status) → ℕ → List ℕ → Status → Type 0
+IsToldAs paint files texts p status i text (Published f) = text ≡ []
+IsToldAs paint files texts p status i text (Failed found) = (source : ℕ) × IsSpelledBy texts i source × AreFaultsTold paint files texts source p status i found text
+IsToldAs paint files texts p status i text Skipped = (source : ℕ) × IsSpelledBy texts i source × AreBlamesTold paint files texts source p status i text
+
+abbrev pub IsModuleTold : Paint → List (List ℕ) → List (List ℕ) → ModuleSet → (ℕ → Status) → ℕ → List ℕ → Type 0
+IsModuleTold paint files texts p status i text = IsToldAs paint files texts p status i text (status i)
+
+-- a module's name and its number
+pub record Numbered : Type 0 where
+  pub name : List ℕ
+  pub number : ℕ
+
+abbrev pub named_of : Named → Numbered
+named_of r = record { name = r.name.now; number = r.number }
+
+pub record IsRowOf (modules : List Module) (k : ℕ) (r : Numbered) : Type 0 where
+  pub number : r.number ≡ k
+  pub name : r.name ≡ (slice_index_or modules k no_module).header.name.text
+
+-- the modules, in order
+pub record AreNumbered (modules : List Module) (rows : List Numbered) : Type 0 where
+  pub many : length rows ≡ length modules
+  pub each : (k : ℕ) (d : Numbered) → k < length rows → IsRowOf modules k (slice_index_or rows k d)
+
+-- how many faults the first n modules have
+abbrev pub faults_in : Status → ℕ
+faults_in (Published f) = 0
+faults_in (Failed found) = length found
+faults_in Skipped = 0
+
+abbrev pub fault_count : (ℕ → Status) → ℕ → ℕ
+fault_count status zero = 0
+fault_count status (suc n) = fault_count status n + faults_in (status n)
+
+-- what is told of a set: each module once, in the order of the names, as the report's blocks stand; and behind it the counts
+pub record IsTold (paint : Paint) (files texts : List (List ℕ)) (p : ModuleSet) (status : ℕ → Status) (text : List ℕ) : Type 0 where
+  pub rows : List Numbered
+  pub all : AreNumbered p.modules rows
+  pub order : List Numbered
+  pub same : IsPermutation rows order
+  pub ordered : IsSortedBy (λ x y. name_below x.name y.name) order
+  pub messages : List ℕ
+  pub told : AreEach (λ r m. IsModuleTold paint files texts p status r.number m) order messages
+  pub whole : text ≡ messages ++ count_text paint (min (fault_count status (length p.modules)) (2 ^ 64 - 1)) (tally is_skipped status (length p.modules))

@@ -1,0 +1,165 @@
+//! The text, the status and the messages of a run of the checker.
+ghost use Rattle.std.specs.Prelude.{ℕ, List, IfOk, IfSome, map, string_bytes};
+ghost use Rattle.hm_store.specs.declared.record.Record.{Record};
+ghost use Rattle.hm_build_reports.specs.FinishedBuilds.{IsFinished};
+ghost use Rattle.hm_messages.specs.Refused.{IsAdvised};
+ghost use Rattle.hm_build_output.specs.Explained.{AreMessagesOf, IsExplained, TellsRefusal};
+ghost use Rattle.hm_build_output.specs.JournalledRuns.{IsRun};
+ghost use Rattle.hm_run_sources.specs.Runs.{IsRefusalOf};
+
+use crate::answers::finished_answer;
+use crate::explaining::{Told, explanation};
+use crate::{Explain, Wanted};
+use hm_build_reports::{settled_in, skipped_in};
+use hm_messages::{MessageFault, headers_in, pages_of, refusal_messages};
+use hm_messages_hints::{Advice, SyntaxHint};
+use hm_messages_repairs::advice_at;
+use hm_parse_grammar::ParseFault;
+use hm_run_sources::{Answer, SetFault, SetFaultKind, refusal_answer};
+use hm_store::Store;
+use hm_types_prelude::SharedPrelude;
+use std::alloc::Global;
+
+/// The advice for faults that aren't of syntax.
+const NO_ADVICE: Advice<'static> = Advice {
+    hint: SyntaxHint::Unexpected,
+    text: "",
+};
+
+/// The text and the status of a run, and its messages. There are none if faults aren't explained.
+#[derive(Drop)]
+pub struct Explained {
+    pub answer: Answer,
+    pub messages: Vec<u8>,
+}
+
+/// Returns the messages of a finished build.
+fn build_messages<'a>(
+    alloc: Global,
+    store: &Store,
+    sources: &'a [Vec<u8>],
+    explain: &'a Explain,
+) -> Result<Vec<u8>, MessageFault>
+    ensures { IfOk result (λ m. AreMessagesOf explain.now.paint (map (λ s. s.items) explain.now.names.items) (map (λ s.
+        s.items) sources.now) store.now m.items) }
+{
+    // The journal is legal, so the modules are a lawful set.
+    store.legal();
+    let settled = settled_in(alloc, store)?;
+    let located = headers_in(alloc, sources)?;
+    let pages = pages_of(alloc, explain.paint, sources, &explain.names, &located)?;
+    let prelude = SharedPrelude::new(alloc)?;
+    let told = Told {
+        pages: &pages,
+        located: located.as_slice(),
+        modules: store.modules(),
+        plan: store.plan(),
+        settled: settled.as_slice(),
+        store,
+        prelude: &prelude,
+    };
+    Ok(explanation(alloc, &told, skipped_in(settled.as_slice()))?)
+}
+
+/// Returns the messages of a finished build if its faults are explained.
+fn finished_messages<'a>(
+    alloc: Global,
+    store: &Store,
+    sources: &'a [Vec<u8>],
+    wanted: &'a Wanted,
+) -> Result<Vec<u8>, MessageFault>
+    ensures { IfOk result (λ m. IfSome wanted.now.explain (λ e.
+        AreMessagesOf e.paint (map (λ s. s.items) e.names.items) (map (λ s. s.items) sources.now) store.now m.items)) }
+{
+    match &wanted.explain {
+        Some(explain) => Ok(build_messages(alloc, store, sources, explain)?),
+        None => Ok(Vec::new(alloc)),
+    }
+}
+
+/// Returns the text, the status and the messages of a finished build.
+///
+/// # Errors
+///
+/// `Place` if a message has no place in the sources, and `Memory` if memory ran out.
+pub fn finished_explained<'a>(
+    alloc: Global,
+    store: &Store,
+    sources: &'a [Vec<u8>],
+    wanted: &'a Wanted,
+) -> Result<Explained, MessageFault>
+    ensures run { IfOk result (λ a. (sources : List (List ℕ)) (records : List Record) (workers : ℕ) → IsFinished sources workers store.now records
+        → IsRun workers wanted.now.options.journal sources a.answer.status (string_bytes a.answer.text)) }
+    ensures told { IfOk result (λ a. (records : List Record) (workers : ℕ) → IsFinished (map (λ s. s.items) sources.now) workers store.now records
+        → IfSome wanted.now.explain (λ e. IsExplained e.paint (map (λ s. s.items) e.names.items) (map (λ s.
+        s.items) sources.now) a.answer.status (string_bytes a.answer.text) a.messages.items)) }
+{
+    let answer = finished_answer(alloc, store, wanted.options.journal)?;
+    let messages = finished_messages(alloc, store, sources, wanted)?;
+    Ok(Explained { answer, messages })
+}
+
+/// Returns the advice for a fault of syntax. It says nothing about other faults.
+fn advice_on<'a>(
+    alloc: Global,
+    sources: &'a [Vec<u8>],
+    fault: &SetFault,
+) -> Result<Advice<'a>, MessageFault>
+    ensures { IfOk result (λ a. IsAdvised (map (λ s. s.items) sources.entry.now) fault.now a.hint a.text.now) }
+{
+    let SetFaultKind::Parse { source, fault } = &fault.kind else {
+        return Ok(NO_ADVICE);
+    };
+    let ParseFault::Syntax(place) = *fault else {
+        return Ok(NO_ADVICE);
+    };
+    let Some(number) = source.checked_sub(1) else {
+        return Err(MessageFault::Place);
+    };
+    if number >= sources.len() {
+        return Err(MessageFault::Place);
+    }
+    Ok(advice_at(alloc, sources[number].as_slice(), place)?)
+}
+
+/// Returns the messages of a refused set if its faults are explained.
+fn refused_messages<'a>(
+    alloc: Global,
+    sources: &'a [Vec<u8>],
+    fault: &SetFault,
+    wanted: &'a Wanted,
+) -> Result<Vec<u8>, MessageFault>
+    ensures { IfOk result (λ m. IsRefusalOf (map (λ s. s.items) sources.now) fault.now
+        → IfSome wanted.now.explain (λ e. TellsRefusal e.paint (map (λ s. s.items) e.names.items) (map (λ s. s.items) sources.now) m.items)) }
+{
+    match &wanted.explain {
+        Some(explain) => {
+            let pages = pages_of(alloc, explain.paint, sources, &explain.names, &[])?;
+            let advice = advice_on(alloc, sources, fault)?;
+            Ok(refusal_messages(alloc, &pages, sources, fault, advice)?)
+        }
+        None => Ok(Vec::new(alloc)),
+    }
+}
+
+/// Returns the text, the status and the messages of a refused set.
+///
+/// # Errors
+///
+/// `Place` if a message has no place in the sources, and `Memory` if memory ran out.
+pub fn refused_explained<'a>(
+    alloc: Global,
+    sources: &'a [Vec<u8>],
+    fault: &SetFault,
+    wanted: &'a Wanted,
+) -> Result<Explained, MessageFault>
+    ensures run { IfOk result (λ a. (workers : ℕ) → IsRefusalOf (map (λ s. s.items) sources.now) fault.now
+        → IsRun workers wanted.now.options.journal (map (λ s. s.items) sources.now) a.answer.status (string_bytes a.answer.text)) }
+    ensures told { IfOk result (λ a. IsRefusalOf (map (λ s. s.items) sources.now) fault.now
+        → IfSome wanted.now.explain (λ e. IsExplained e.paint (map (λ s. s.items) e.names.items) (map (λ s.
+        s.items) sources.now) a.answer.status (string_bytes a.answer.text) a.messages.items)) }
+{
+    let answer = refusal_answer(alloc, fault)?;
+    let messages = refused_messages(alloc, sources, fault, wanted)?;
+    Ok(Explained { answer, messages })
+}

@@ -1,0 +1,288 @@
+//! The messages of a build. Each module, in the order of the report, has one for each of its faults, or one for each import because of which it
+//! is skipped.
+ghost use Rattle.std.specs.Prelude.{◌≡◌, ◌<◌, ◌++◌, ◌-◌, ◌^◌, All, IfOk, IfSome, OnOk, length, map, min, option_to_list, slice_index_or};
+ghost use Rattle.std.specs.Arc.{arc_value};
+ghost use Rattle.hm_messages.specs.Messages.{AreEach};
+ghost use Rattle.hm_messages.specs.Pages.{files_in, texts_in};
+ghost use Rattle.hm_run_sources.specs.Origins.{AreLocated, IsSpelledBy};
+ghost use Rattle.hm_verdicts.specs.Sets.{IsLawfulSet};
+ghost use Rattle.hm_verdicts.specs.Reports.{AreBlamed, is_skipped, tally};
+ghost use Rattle.hm_syntax.specs.declared.ast.Import.{Import as ImportTree};
+ghost use Rattle.hm_build_output.specs.Explanations.{AreBlamesTold, AreNumbered, IsBlameMessage, IsBlamedBy, IsModuleTold, IsTold, IsToldBy, blamed_of, fault_count, named_of};
+ghost use Rattle.hm_store.specs.Settlements.{settlement as build_settlement};
+ghost use Rattle.hm_build_reports.specs.ReportBlocks.{all_blamed, blamed};
+ghost use Rattle.hm_build_reports.specs.Settling.{module_set, status_of as settlement, statuses_of};
+
+use crate::detailing::{Faulty, faulty_messages};
+use hm_build_reports::Settled;
+use hm_explain::Effort;
+use hm_graph::Plan;
+use hm_lex::Place;
+use hm_messages::{MessageFault, Page, Pages, Topic, count_text, message};
+use hm_run_sources::Located;
+use hm_store::Store;
+use hm_syntax::{Import, Module};
+use hm_types_prelude::SharedPrelude;
+use std::alloc::{AllocError, Global};
+use std::sync::Arc;
+
+/// The data for messages: the sources as they are shown, the modules with their sources, and the status of each module.
+#[derive(Clone, Copy)]
+pub(crate) struct Told<'t, 'p, 'm> {
+    pub pages: &'t Pages<'p>,
+    pub located: &'t [Located],
+    pub modules: &'m [Arc<Module>],
+    pub plan: &'m Plan,
+    pub settled: &'t [Settled<'m>],
+    pub store: &'m Store,
+    pub prelude: &'t SharedPrelude,
+}
+
+/// An import because of which a module is skipped.
+#[derive(Clone, Copy)]
+struct Blame<'a> {
+    name: &'a str,
+    place: Place,
+    is_faulty: bool,
+}
+
+/// Returns the first import with this name, from this one on.
+fn import_from(imports: &[Import], from: usize, name: &str) -> Option<usize>
+    ensures within { IfSome result (λ index. index < length imports.now) }
+    ensures named { IfSome result (λ index. (d : ImportTree) → (slice_index_or imports.now index d).name.text ≡ name.now) }
+{
+    for index in from..imports.len() {
+        if imports[index].name.as_str() == name {
+            return Some(index);
+        }
+    }
+    None
+}
+
+/// Returns an import if the module that it names isn't published.
+fn blame_of<'a>(name: &'a str, place: Place, settled: &Settled<'_>) -> Option<Blame<'a>>
+    ensures names { map (λ b. b.name.now) (option_to_list result) ≡ blamed (settlement settled.now) name.entry.now }
+    ensures name { IfSome result (λ b. b.name.now ≡ name.entry.now) }
+    ensures place { IfSome result (λ b. b.place ≡ place) }
+    ensures told { IfSome result (λ b. IsToldBy (settlement settled.now) name.entry.now (blamed_of b).subject) }
+{
+    match settled {
+        Settled::Published(_) => None,
+        Settled::Failed(_) => Some(Blame {
+            name,
+            place,
+            is_faulty: true,
+        }),
+        Settled::Skipped => Some(Blame {
+            name,
+            place,
+            is_faulty: false,
+        }),
+    }
+}
+
+/// Appends an import, if there is one.
+fn add_blame<'a>(blames: &mut Vec<Blame<'a>>, blame: Option<Blame<'a>>) -> Result<(), AllocError>
+    ensures { OnOk result (blames.new.items ≡ blames.old.items ++ option_to_list blame.entry) }
+{
+    match blame {
+        Some(blame) => Ok(blames.push(blame)?),
+        None => Ok(()),
+    }
+}
+
+/// Returns the imports of a module that aren't published, in the order of its row in the plan.
+fn blames_of<'a>(
+    alloc: Global,
+    modules: &'a [Arc<Module>],
+    settled: &[Settled<'_>],
+    row: &[usize],
+    imports: &[Import],
+) -> Result<Vec<Blame<'a>>, MessageFault>
+    requires modules { All (λ j. j < length modules.now) row.now }
+    requires settled { All (λ j. j < length settled.now) row.now }
+    ensures names { IfOk result (λ blames. map (λ b. b.name.now) blames.items ≡ all_blamed (map arc_value modules.entry.now) (statuses_of settled.now) row.now) }
+    ensures right { IfOk result (λ blames. All (λ b. IsBlamedBy (map arc_value modules.entry.now) (statuses_of settled.now) row.now imports.now (blamed_of b)) blames.items) }
+{
+    let mut blames = Vec::new(alloc);
+    let mut from = 0usize;
+    for number in row {
+        let name = modules[*number].header.name.as_str();
+        let Some(index) = import_from(imports, from, name) else {
+            return Err(MessageFault::Place);
+        };
+        let import = &imports[index];
+        let place = import.name.place;
+        add_blame(&mut blames, blame_of(name, place, &settled[*number]))?;
+        from = index;
+    }
+    Ok(blames)
+}
+
+/// Returns the message of an import because of which a module is skipped.
+fn blame_message(
+    alloc: Global,
+    pages: &Pages<'_>,
+    page: &Page<'_>,
+    blame: &Blame<'_>,
+) -> Result<Vec<u8>, MessageFault>
+    ensures { IfOk result (λ text. IsBlameMessage pages.now.paint page.now.file.now page.now.lines (blamed_of blame.now) text.items) }
+{
+    if blame.is_faulty {
+        let topic = Topic::Faulty(blame.name);
+        Ok(message(alloc, pages.paint, page, blame.place, &topic)?)
+    } else {
+        let topic = Topic::Skipped(blame.name);
+        Ok(message(alloc, pages.paint, page, blame.place, &topic)?)
+    }
+}
+
+// Why: docs/DECISIONS.md, "Notes of skipped modules".
+/// Returns the messages of the imports because of which a module is skipped.
+fn blame_messages(
+    alloc: Global,
+    pages: &Pages<'_>,
+    page: &Page<'_>,
+    blames: &[Blame<'_>],
+) -> Result<Vec<u8>, MessageFault>
+    ensures { IfOk result (λ text. AreEach (IsBlameMessage pages.now.paint page.now.file.now page.now.lines) (map blamed_of blames.now) text.items) }
+{
+    let mut text = Vec::new(alloc);
+    for blame in blames {
+        let message = blame_message(alloc, pages, page, blame)?;
+        text.extend_from_slice(message.as_slice())?;
+    }
+    Ok(text)
+}
+
+/// Returns the number of the source that spells a module.
+fn source_of(told: &Told<'_, '_, '_>, number: usize) -> Result<usize, MessageFault>
+    requires { AreLocated (texts_in told.now.pages.now.items.items) told.now.located.now }
+    ensures spelled { IfOk result (IsSpelledBy (texts_in told.now.pages.now.items.items) number) }
+    ensures within { IfOk result (λ source. source < length told.now.pages.now.items.items) }
+{
+    if number >= told.located.len() {
+        return Err(MessageFault::Place);
+    }
+    let source = told.located[number].source;
+    if source >= told.pages.items.len() {
+        return Err(MessageFault::Place);
+    }
+    Ok(source)
+}
+
+/// Returns the messages of a skipped module that this source spells.
+fn skipped_messages(
+    alloc: Global,
+    told: &Told<'_, '_, '_>,
+    number: usize,
+    source: usize,
+) -> Result<Vec<u8>, MessageFault>
+    requires lawful { IsLawfulSet (module_set told.now.modules.now told.now.plan.now) }
+    requires len { length told.now.settled.now ≡ length told.now.modules.now }
+    requires number { number < length told.now.modules.now }
+    requires source { source < length told.now.pages.now.items.items }
+    ensures { IfOk result (λ text. AreBlamesTold told.now.pages.now.paint (files_in told.now.pages.now.items.items)
+        (texts_in told.now.pages.now.items.items) source
+        (module_set told.now.modules.now told.now.plan.now) (statuses_of told.now.settled.now) number text.items) }
+{
+    let imports = told.modules[number].header.imports.as_slice();
+    let row = told.plan.imports(number);
+    let mut blames = blames_of(alloc, told.modules, told.settled, row, imports)?;
+    blames.sort_by_key(|blame| blame.name)?;
+    let page = &told.pages.items[source];
+    Ok(blame_messages(alloc, told.pages, page, blames.as_slice())?)
+}
+
+/// Returns the messages of one module.
+fn module_messages(
+    alloc: Global,
+    told: &Told<'_, '_, '_>,
+    number: usize,
+    effort: &mut Effort,
+) -> Result<Vec<u8>, MessageFault>
+    requires lawful { IsLawfulSet (module_set told.now.modules.now told.now.plan.now) }
+    requires len { length told.now.settled.now ≡ length told.now.modules.now }
+    requires number { number < length told.now.modules.now }
+    requires located { AreLocated (texts_in told.now.pages.now.items.items) told.now.located.now }
+    requires settled { statuses_of told.now.settled.now ≡ build_settlement told.now.store.now }
+    ensures { IfOk result (λ text. IsModuleTold told.now.pages.now.paint (files_in told.now.pages.now.items.items) (texts_in told.now.pages.now.items.items)
+        (module_set told.now.modules.now told.now.plan.now) (statuses_of told.now.settled.now) number text.items) }
+{
+    match &told.settled[number] {
+        Settled::Published(_) => Ok(Vec::new(alloc)),
+        Settled::Failed(faults) => {
+            let source = source_of(told, number)?;
+            let faults = faults.as_slice();
+            let faulty = Faulty {
+                number,
+                source,
+                faults,
+            };
+            Ok(faulty_messages(alloc, told, faulty, effort)?)
+        }
+        Settled::Skipped => {
+            let source = source_of(told, number)?;
+            Ok(skipped_messages(alloc, told, number, source)?)
+        }
+    }
+}
+
+/// A module's name and its number.
+#[derive(Clone, Copy)]
+struct Named<'a> {
+    name: &'a str,
+    number: usize,
+}
+
+/// Returns the names of the modules with their numbers, in order.
+fn numbered<'a>(alloc: Global, modules: &'a [Arc<Module>]) -> Result<Vec<Named<'a>>, AllocError>
+    ensures { IfOk result (λ rows. AreNumbered (map arc_value modules.entry.now) (map named_of rows.items)) }
+{
+    let mut rows = Vec::new(alloc);
+    for number in 0..modules.len() {
+        let name = modules[number].header.name.as_str();
+        rows.push(Named { name, number })?;
+    }
+    Ok(rows)
+}
+
+/// Returns the number of faults, at most 2^64 - 1.
+fn errors_in(settled: &[Settled<'_>]) -> usize
+    ensures { result ≡ min (fault_count (statuses_of settled.now) (length settled.now)) (2 ^ 64 - 1) }
+{
+    let mut errors = 0usize;
+    for status in settled {
+        if let Settled::Failed(faults) = status {
+            errors = errors.saturating_add(faults.as_slice().len());
+        }
+    }
+    errors
+}
+
+/// Returns the messages of all modules, in the order of their names, and the counts.
+pub(crate) fn explanation(
+    alloc: Global,
+    told: &Told<'_, '_, '_>,
+    skipped: usize,
+) -> Result<Vec<u8>, MessageFault>
+    requires lawful { IsLawfulSet (module_set told.now.modules.now told.now.plan.now) }
+    requires len { length told.now.settled.now ≡ length told.now.modules.now }
+    requires located { AreLocated (texts_in told.now.pages.now.items.items) told.now.located.now }
+    requires settled { statuses_of told.now.settled.now ≡ build_settlement told.now.store.now }
+    requires skipped { skipped ≡ tally is_skipped (statuses_of told.now.settled.now) (length told.now.settled.now) }
+    ensures { IfOk result (λ text. IsTold told.now.pages.now.paint (files_in told.now.pages.now.items.items) (texts_in told.now.pages.now.items.items)
+        (module_set told.now.modules.now told.now.plan.now) (statuses_of told.now.settled.now) text.items) }
+{
+    let mut rows = numbered(alloc, told.modules)?;
+    rows.sort_by_key(|row| row.name)?;
+    let mut effort = Effort::of_run();
+    let mut text = Vec::new(alloc);
+    for row in &rows {
+        let messages = module_messages(alloc, told, row.number, &mut effort)?;
+        text.extend_from_slice(messages.as_slice())?;
+    }
+    let counts = count_text(alloc, told.pages.paint, errors_in(told.settled), skipped)?;
+    text.extend_from_slice(counts.as_bytes())?;
+    Ok(text)
+}

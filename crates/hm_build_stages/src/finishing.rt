@@ -1,0 +1,32 @@
+//! Ends a build after its workers.
+ghost use Rattle.std.specs.Prelude.{◌≡◌, ◌⊎◌, ℕ, List, IfErr, IfOk};
+ghost use Rattle.hm_build_reports.specs.FinishedBuilds.{IsFinished};
+ghost use Rattle.hm_run_sources.specs.SourceModules.{AreModulesOf};
+
+use crate::{BuildFault, Finished};
+use hm_build_reports::has_ended;
+use hm_store::{Record, Store};
+use std::alloc::Global;
+
+// Why: docs/DECISIONS.md, "No comparison of modules".
+/// Returns the finished build.
+///
+/// # Errors
+///
+/// `Mixed` if the build isn't complete or its records don't agree with its journal, and `Memory` if memory ran out.
+pub fn finished(
+    alloc: Global,
+    store: Store,
+    records: Vec<Record>,
+    workers: usize,
+) -> Result<Finished, BuildFault>
+    ensures finished { IfOk result (λ f. (sources : List (List ℕ)) → AreModulesOf sources store.modules → IsFinished sources workers f.store f.records.items) }
+    ensures given { IfOk result (λ f. (f.store ≡ store) × (f.records ≡ records)) }
+    ensures err { IfErr result (λ e. (e ≡ BuildFault.Memory) ⊎ (e ≡ BuildFault.Mixed)) }
+{
+    store.legal();
+    if !has_ended(alloc, &store, records.as_slice(), workers)? {
+        return Err(BuildFault::Mixed);
+    }
+    Ok(Finished { store, records })
+}

@@ -1,5 +1,0 @@
-use Rattle.hm_components.proofs.ChecksSoFar.{RisesBelow}
-use Rattle.hm_components.proofs.checking.is_ascending.Given as goal
-
-abbrev pub invariant-loop-k : goal.invariant-loop-k
-invariant-loop-k l = RisesBelow l.group l.k

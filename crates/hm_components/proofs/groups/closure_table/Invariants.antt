@@ -1,6 +1,0 @@
-use Rattle.hm_components.specs.Digraph.{lists}
-use Rattle.hm_components.proofs.Rows.{IsRows}
-use Rattle.hm_components.proofs.groups.closure_table.Given as goal
-
-abbrev pub invariant-loop-x : goal.invariant-loop-x
-invariant-loop-x l = IsRows (lists l.rows) l.table.items l.x

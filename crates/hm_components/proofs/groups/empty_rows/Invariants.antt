@@ -1,6 +1,0 @@
-use Rattle.std.proofs.Common.{◌≡◌, replicate, []}
-use Rattle.hm_components.specs.Digraph.{lists}
-use Rattle.hm_components.proofs.groups.empty_rows.Given as goal
-
-abbrev pub invariant-loop : goal.invariant-loop
-invariant-loop l = lists l.rows.items ≡ replicate l.counter []

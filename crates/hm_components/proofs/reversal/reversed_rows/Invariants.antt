@@ -1,6 +1,0 @@
-use Rattle.hm_components.specs.Digraph.{lists}
-use Rattle.hm_components.specs.Reversed.{IsReversed}
-use Rattle.hm_components.proofs.reversal.reversed_rows.Given as goal
-
-abbrev pub invariant-loop-x : goal.invariant-loop-x
-invariant-loop-x l = IsReversed (lists l.rows) l.x (lists l.back.items)

@@ -1,6 +1,0 @@
-use Rattle.std.proofs.Common.{rules}
-use Rattle.hm_descent.proofs.MarkLoops.{marks_end}
-use Rattle.hm_descent.proofs.cursor.Parser.commas.Goals as goal
-
-pub returns : goal.returns
-returns c = marks_end c.marks.commas c.marks.self c.args.self.now c.marks.invariant.count c.marks.invariant.rest (search rules) c.marks.invariant.few

@@ -1,2 +1,0 @@
-pub mod EntityTables
-pub mod FirstDescriptions

@@ -1,9 +1,0 @@
-use Rattle.std.proofs.Common.{◌≡◌, ◌≤◌, count_by, take}
-use Rattle.std.specs.Fmt.{is_char_start}
-use Rattle.hm_excerpts.proofs.columns.characters.Given as goal
-
-abbrev pub invariant-loop-byte : goal.invariant-loop-byte
-invariant-loop-byte l = record {
-  counted : l.count ≡ count_by is_char_start (take l.byte-index l.text);
-  few : l.count ≤ l.byte-index;
-}

@@ -1,5 +1,0 @@
-use Rattle.std.proofs.Common.{◌≡◌, ◌++◌, drop}
-use Rattle.hm_expansion.proofs.copies.copy_names.Given as goal
-
-abbrev pub invariant-names : goal.invariant-names
-invariant-names l = l.copies.items ++ drop l.name-index l.names ≡ l.names

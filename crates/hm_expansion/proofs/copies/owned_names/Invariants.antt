@@ -1,5 +1,0 @@
-use Rattle.std.proofs.Common.{◌≡◌, ◌++◌, drop, map}
-use Rattle.hm_expansion.proofs.copies.owned_names.Given as goal
-
-abbrev pub invariant-names : goal.invariant-names
-invariant-names l = l.copies.items ++ map (λ n. n.now) (drop l.name-index l.row) ≡ map (λ n. n.now) l.row

@@ -1,5 +1,0 @@
-use Rattle.std.proofs.Common.{◌≡◌, ◌++◌, take}
-use Rattle.hm_export_groups.proofs.export_groups.add_copies.Given as goal
-
-abbrev pub invariant-loop-binding : goal.invariant-loop-binding
-invariant-loop-binding l = l.out.items ≡ l.initial.out.items ++ take l.binding-index l.bindings

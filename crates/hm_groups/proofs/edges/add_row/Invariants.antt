@@ -1,6 +1,0 @@
-use Rattle.std.proofs.Common.{◌≡◌, length, take, Contains}
-use Rattle.hm_groups.specs.Nodes.{AddsEdges}
-use Rattle.hm_groups.proofs.edges.add_row.Given as goal
-
-abbrev pub invariant-loop-to : goal.invariant-loop-to
-invariant-loop-to l = record { size : length l.graph ≡ length l.initial.graph; edges : AddsEdges l.initial.graph l.graph (λ x y. (x ≡ l.from) × Contains (take l.to-index l.row) y) }

@@ -1,6 +1,0 @@
-use Rattle.std.proofs.Common.{take}
-use Rattle.hm_groups.specs.GroupMembers.{AddsRow}
-use Rattle.hm_groups.proofs.members.add_row.Given as goal
-
-abbrev pub invariant-loop-place : goal.invariant-loop-place
-invariant-loop-place l = AddsRow l.node (take l.place-index l.row) l.initial.members.items l.members.items

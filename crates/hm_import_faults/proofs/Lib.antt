@@ -1,2 +1,0 @@
-pub mod FaultyLemmas
-pub mod FaultyLists

@@ -1,6 +1,0 @@
-pub mod SelectionLemmas
-pub mod SelectedPairs
-pub mod GatheredLemmas
-pub mod WholeNames
-pub mod ImportedNames
-pub mod SameNames

@@ -1,0 +1,19 @@
+-- The numbers of the nodes of a list, in a table. No public clause names it.
+use Rattle.std.specs.Prelude.{◌≡◌, List, ℕ, Option, None, Some, option_map, map}
+use Rattle.std.specs.List.{slice_get}
+use Rattle.hm_names_keys.specs.declared.lent_names.LentName.{LentName}
+use Rattle.hm_names_keys.specs.Variables.{Variable}
+use Rattle.hm_names_keys.specs.Keys.{Table, number_of, variable_of_key}
+
+abbrev pub nodes_of : List (Option LentName) → List (Option Variable)
+nodes_of ks = map (option_map variable_of_key) ks
+
+-- the variable is one of the nodes
+abbrev pub IsNode : List (Option Variable) → Variable → Type 0
+IsNode nodes x = (k : ℕ) × (slice_get nodes k ≡ Some (Some x))
+
+-- the table has the number of each variable among the nodes, each once
+pub record IsNumbering (nodes : List (Option Variable)) (table : Table) : Type 0 where
+  pub some : (x : Variable) (k : ℕ) → number_of table x ≡ Some k → slice_get nodes k ≡ Some (Some x)
+  pub none : (x : Variable) → number_of table x ≡ None → ¬ (IsNode nodes x)
+  pub once : (x : Variable) (j k : ℕ) → slice_get nodes j ≡ Some (Some x) → slice_get nodes k ≡ Some (Some x) → j ≡ k

@@ -1,0 +1,118 @@
+//! The numbers of a declaration list's nodes.
+
+ghost use Rattle.std.specs.Prelude.{◌≡◌, ℕ, ◌∷◌, [], ◌++◌, Some, None, IfOk, OnOk, OnErr, IfSome, IfNone, ◌<◌, option_map, length};
+ghost use Rattle.std.specs.List.{slice_get};
+ghost use Rattle.hm_names_keys.specs.Variables.{Variable, variable_of};
+ghost use Rattle.hm_infer_dependencies.specs.Numberings.{IsNode};
+ghost use Rattle.hm_names_keys.specs.Keys.{variable_of_key};
+
+use crate::faults::GroupFault;
+use hm_names_keys::{LentName, key_of};
+use hm_syntax::Name;
+use indexmap::IndexMap;
+use std::alloc::{AllocError, Global};
+use std::marker::Model;
+
+/// The nodes of a declaration list, in order: its variables without signatures, and its pattern bindings, which have no name in a source.
+/// Contracts see a list in which a pattern binding is `None`.
+pub struct Numbers<'a> {
+    nodes: Vec<Option<LentName<'a>>>,
+    table: IndexMap<LentName<'a>, usize>,
+}
+
+impl Drop for Numbers<'_> {
+    fn drop(self) {
+        let Numbers {
+            nodes: _nodes,
+            table: _table,
+        } = self;
+    }
+}
+
+impl<'a> Model for Numbers<'a> {
+    ghost use Rattle.std.specs.Prelude.{List, Option};
+    ghost use Rattle.hm_names_keys.specs.Variables.{Variable};
+    ghost use Rattle.hm_infer_dependencies.specs.Numberings.{nodes_of, IsNumbering};
+
+    ghost Value = { List (Option Variable) };
+
+    ghost view = { λ n. nodes_of n.nodes.items };
+
+    ghost invariant = { λ n. IsNumbering (nodes_of n.nodes.items) n.table };
+}
+
+impl<'a> Numbers<'a> {
+    /// Returns a list without nodes.
+    pub(crate) fn new(alloc: Global) -> Numbers<'a>
+        ensures { result ≡ [] }
+    {
+        Numbers {
+            nodes: Vec::new(alloc),
+            table: IndexMap::new(alloc),
+        }
+    }
+
+    /// Returns the number of nodes.
+    pub fn len(&self) -> usize
+        ensures { result ≡ length self.now }
+    {
+        self.nodes.len()
+    }
+
+    /// Shows that each variable is a node only once.
+    pub fn has_each_once(&self)
+        ensures { (x : Variable) (j k : ℕ) → slice_get self.now j ≡ Some (Some x) → slice_get self.now k ≡ Some (Some x) → j ≡ k }
+    {
+        let _count = self.nodes.len();
+    }
+
+    /// Returns the variable of a node, or `None` for a pattern binding.
+    pub fn variable(&self, number: usize) -> Option<LentName<'a>>
+        requires { number < length self.now }
+        ensures { slice_get self.now number ≡ Some (option_map variable_of_key result) }
+    {
+        self.nodes[number]
+    }
+
+    /// Returns the number of a variable, if it is a node.
+    pub(crate) fn number(&self, name: &Name) -> Option<usize>
+        ensures some { IfSome result (λ k. slice_get self.now k ≡ Some (Some (variable_of name.now))) }
+        ensures none { IfNone result (¬ (IsNode self.now (variable_of name.now))) }
+        ensures once { (x : Variable) (j k : ℕ) → slice_get self.now j ≡ Some (Some x) → slice_get self.now k ≡ Some (Some x) → j ≡ k }
+    {
+        let key = key_of(name);
+        match self.table.get(&key) {
+            Some(number) => Some(*number),
+            None => None,
+        }
+    }
+
+    // Why: docs/DECISIONS.md, "Numbers of pattern bindings".
+    /// Adds a variable, unless it is a node already.
+    pub(crate) fn add(&mut self, name: &'a Name) -> Result<(), GroupFault>
+        ensures added { OnOk result (self.new ≡ self.old ++ (Some (variable_of name.now)) ∷ []) }
+        ensures twice { result ≡ Err GroupFault.Repeated → IsNode self.old (variable_of name.now) }
+    {
+        let None = self.number(name) else {
+            return Err(GroupFault::Repeated);
+        };
+        let key = key_of(name);
+        let number = self.nodes.len();
+        self.nodes.push(Some(key))?;
+        match self.table.insert(key, number) {
+            Ok(_) => Ok(()),
+            Err(_) => {
+                self.nodes.pop();
+                Err(GroupFault::Memory)
+            }
+        }
+    }
+
+    /// Adds a pattern binding.
+    pub(crate) fn add_pattern(&mut self) -> Result<(), AllocError>
+        ensures added { OnOk result (self.new ≡ self.old ++ None ∷ []) }
+    {
+        self.nodes.push(None)?;
+        Ok(())
+    }
+}

@@ -1,5 +1,0 @@
-pub mod NamesTwice
-pub mod Clauses
-pub mod FaultLists
-pub mod Leaves
-pub mod DepthTables

@@ -1,6 +1,0 @@
-use Rattle.std.proofs.Common.{◌≡◌, ◌++◌, drop, map}
-use Rattle.hm_names.specs.Faults.Phases.{fault}
-use Rattle.hm_lists.proofs.list_faults.add_faults.Given as goal
-
-abbrev pub invariant-row : goal.invariant-row
-invariant-row l = l.faults.items ++ map (fault l.kind) (map (λ n. n.now) (drop l.name-index l.row)) ≡ l.fn.faults.items ++ map (fault l.kind) (map (λ n. n.now) l.row)

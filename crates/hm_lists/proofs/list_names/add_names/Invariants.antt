@@ -1,5 +1,0 @@
-use Rattle.std.proofs.Common.{◌≡◌, ◌++◌, drop}
-use Rattle.hm_lists.proofs.list_names.add_names.Given as goal
-
-abbrev pub invariant-names : goal.invariant-names
-invariant-names l = l.out ++ drop l.name-index l.names ≡ l.fn.out ++ l.names

@@ -1,7 +1,0 @@
-use Rattle.std.proofs.Common.{◌≡◌, ◌++◌, drop}
-use Rattle.hm_syntax.specs.Lists.{declarations}
-use Rattle.hm_names.specs.Faults.Lists.{type_names}
-use Rattle.hm_lists.proofs.list_names.type_names.Given as goal
-
-abbrev pub invariant-decls : goal.invariant-decls
-invariant-decls l = l.names ++ type_names (declarations (drop l.decl-index l.decls)) ≡ type_names (declarations l.decls)

@@ -1,0 +1,21 @@
+use Rattle.std.proofs.Common.{◌≡◌, sym, subst, IfSome}
+use Rattle.std.specs.Prelude.{Contains}
+use Rattle.hm_names.specs.Bindings.{Pair}
+use Rattle.hm_messages_details.specs.Details.{IsNearPair}
+use Rattle.hm_messages_details.proofs.known.unbound_detail.Goals as goal
+
+pub returns-in-Some : goal.returns-in-Some
+returns-in-Some c =
+    let p : Pair = c.in-Some.pair.now in
+    let found : Contains c.pairs.result.now p × IsNearPair c.as_str-name.result.now p =
+    subst (λ o. IfSome o (λ pair. Contains c.pairs.result.now pair.now × IsNearPair c.as_str-name.result.now pair.now)) c.in-Some.is c.in_ok-pair.ensures in
+    λ m fs scope. (
+      c.requires,
+      record {
+        pair = p;
+        in_scope = (scope p).0 (subst (λ ps. Contains ps p) c.pairs.ensures found.0);
+        qualifier_is = sym c.qualifier.ensures;
+        text_is = sym c.text.ensures;
+        is_near = subst (λ x. IsNearPair x p) c.as_str-name.ensures found.1;
+      },
+    )

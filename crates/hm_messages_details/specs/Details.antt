@@ -1,0 +1,86 @@
+-- What is known of a fault beyond its kind and its name.
+use Rattle.std.specs.Prelude.{◌≡◌, ℕ, ⊤, Bool, false, List, [], ◌∷◌, length, Option, option_map, Contains}
+use Rattle.std.specs.Int.{is_in_range}
+use Rattle.std.specs.Str.{chars}
+use Rattle.strsim.specs.Edits.{osa_table}
+use Rattle.hm_types.specs.declared.Entity.{Entity}
+use Rattle.hm_types.specs.Interfaces.{Exports as Interface}
+use Rattle.hm_syntax.specs.declared.ast.Module.{Module}
+use Rattle.hm_names.specs.Bindings.{Pair}
+use Rattle.hm_names.specs.Faults.Phases.{written_in}
+use Rattle.hm_names.specs.Scope.{InScope}
+use Rattle.hm_names.specs.declared.faults.Fault.{Fault}
+use Rattle.hm_names.specs.declared.faults.Kind.TheVariants.{Ambiguous, Unbound}
+use Rattle.hm_names.specs.declared.namespace.Namespace.{Namespace}
+use Rattle.hm_messages_details.specs.LeftOut.{left_out}
+use Rattle.hm_messages_details.specs.declared.detail.Detail.{Detail}
+use Rattle.hm_messages_details.specs.declared.detail.Detail.TheVariants as detail
+use Rattle.hm_messages_details.specs.declared.detail.Origin.{Origin}
+
+-- nothing; a name in scope that is near, by its qualifier and its text; the Report's Prelude has the name; two entities that it stands for
+pub data Known : Type 0 where
+  nothing : Known
+  near : Option (List ℕ) → List ℕ → Known
+  of_report : Known
+  either : Entity → Entity → Known
+
+abbrev pub entity_of : Origin → Entity
+entity_of o = record { «module» = o.«module».now; name = o.name.now }
+
+abbrev pub known_of : Detail → Known
+known_of detail.Nothing = nothing
+known_of (detail.Near q x) = near (option_map (λ s. s.now) q) x.now
+known_of detail.LeftOut = of_report
+known_of (detail.Either d e) = either (entity_of d) (entity_of e)
+
+-- how many letters are put in, taken out or replaced, or change places with their neighbour, to make one text of the other (the optimal
+-- string alignment distance)
+abbrev pub edits : List ℕ → List ℕ → ℕ
+edits xs ys = (osa_table (chars xs) (chars ys)).last_row (length (chars ys))
+
+abbrev pub begins_capital : List ℕ → Bool
+begins_capital [] = false
+begins_capital (b ∷ bs) = is_in_range 65 90 b
+
+-- the name of the pair is one edit away from this one, behind the same qualifier, and both or none begin with a capital letter
+pub record IsNearPair (name : List ℕ) (p : Pair) : Type 0 where
+  pub text : List ℕ
+  pub written : name ≡ written_in p.qualifier text
+  pub apart : edits text p.text ≡ 1
+  pub capital : begins_capital text ≡ begins_capital p.text
+
+-- the pair has this name in this namespace
+pub record IsEntityFor (name : List ℕ) (space : Namespace) (p : Pair) : Type 0 where
+  pub within : p.space ≡ space
+  pub written : name ≡ written_in p.qualifier p.text
+
+abbrev pub IsPairInScope : Module → List Interface → Pair → Type 0
+IsPairInScope m fs p = InScope m fs p.space p.qualifier p.text p.entity
+
+-- a near name is in scope
+pub record IsNear (m : Module) (fs : List Interface) (name : List ℕ) (q : Option (List ℕ)) (x : List ℕ) : Type 0 where
+  pub pair : Pair
+  pub in_scope : IsPairInScope m fs pair
+  pub qualifier_is : pair.qualifier ≡ q
+  pub text_is : pair.text ≡ x
+  pub is_near : IsNearPair name pair
+
+-- the name stands for both entities, which differ, in one namespace (Report, section 5.5.2)
+pub record IsEither (m : Module) (fs : List Interface) (name : List ℕ) (d e : Entity) : Type 0 where
+  pub space : Namespace
+  pub one : Pair
+  pub one_in_scope : IsPairInScope m fs one
+  pub one_named : IsEntityFor name space one
+  pub one_is : one.entity ≡ d
+  pub other : Pair
+  pub other_in_scope : IsPairInScope m fs other
+  pub other_named : IsEntityFor name space other
+  pub other_is : other.entity ≡ e
+  pub differ : ¬ (d ≡ e)
+
+-- what is known of a fault of a module with these interfaces is so
+abbrev pub IsKnown : Module → List Interface → Fault → Known → Type 0
+IsKnown m fs f nothing = ⊤
+IsKnown m fs f (near q x) = (f.kind ≡ Unbound) × IsNear m fs f.name q x
+IsKnown m fs f of_report = (f.kind ≡ Unbound) × Contains left_out f.name
+IsKnown m fs f (either d e) = (f.kind ≡ Ambiguous) × IsEither m fs f.name d e

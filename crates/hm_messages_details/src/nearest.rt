@@ -1,0 +1,138 @@
+//! Finds names in scope that are one edit away from a name, and the entities that a name means.
+ghost use Rattle.std.specs.Prelude.{◌≡◌, Contains, IfOk, IfSome, true};
+ghost use Rattle.hm_messages_details.specs.Details.{IsEntityFor, IsNearPair, begins_capital, edits};
+
+use crate::written::behind;
+use hm_names::Namespace;
+use hm_scope_tables::{Binding, EntityRef};
+use std::alloc::{AllocError, Global};
+use strsim::osa_distance;
+
+/// The shortest and the longest names for which a near one is searched, in bytes. A name of one or two letters is near dozens.
+const SHORTEST: usize = 3;
+
+const LONGEST: usize = 64;
+
+/// Returns whether a name begins with a capital letter, as those of types and constructors do.
+fn begins_capital(text: &str) -> bool
+    ensures { result ≡ begins_capital text.now }
+{
+    match text.as_bytes().first() {
+        Some(byte) => matches!(*byte, b'A'..=b'Z'),
+        None => false,
+    }
+}
+
+/// Returns the number of bytes at the front that are the same.
+fn same_front(text: &[u8], other: &[u8]) -> usize {
+    text.iter()
+        .zip(other.iter())
+        .take_while(|(one, two)| **one == **two)
+        .count()
+}
+
+/// Returns the number of bytes at the end that are the same.
+fn same_back(text: &[u8], other: &[u8]) -> usize {
+    text.iter()
+        .rev()
+        .zip(other.iter().rev())
+        .take_while(|(one, two)| **one == **two)
+        .count()
+}
+
+/// Returns whether two texts differ in one place by two bytes at most. It has no contract: it saves computing the distance of most texts.
+fn are_alike(text: &[u8], other: &[u8]) -> bool {
+    let longest = text.len().max(other.len());
+    if longest > LONGEST || longest.saturating_sub(text.len().min(other.len())) > 1 {
+        return false;
+    }
+    let same = same_front(text, other).saturating_add(same_back(text, other));
+    longest.saturating_sub(same) <= 2
+}
+
+/// Returns whether two texts are one edit apart, and both or neither begin with a capital letter.
+fn is_near(alloc: Global, text: &str, other: &str) -> Result<bool, AllocError>
+    ensures edits { IfOk result (λ is. is ≡ true → edits text.now other.now ≡ 1) }
+    ensures capital { IfOk result (λ is. is ≡ true → begins_capital text.now ≡ begins_capital other.now) }
+{
+    if text.len() < SHORTEST || !are_alike(text.as_bytes(), other.as_bytes()) {
+        return Ok(false);
+    }
+    if begins_capital(text) != begins_capital(other) {
+        return Ok(false);
+    }
+    Ok(osa_distance(alloc, text, other)? == 1)
+}
+
+/// Returns whether a pair's name is one edit away from this one, after the same qualifier.
+fn is_near_pair(alloc: Global, name: &str, pair: &Binding<'_>) -> Result<bool, AllocError>
+    ensures { IfOk result (λ is. is ≡ true → IsNearPair name.now pair.now) }
+{
+    match behind(name, pair.qualifier()) {
+        Some(text) => is_near(alloc, text, pair.text()),
+        None => Ok(false),
+    }
+}
+
+// Why: docs/DECISIONS.md, "Near names".
+/// Returns the first of these pairs whose name is one edit away from this one.
+pub(crate) fn nearest<'r, 'a>(
+    alloc: Global,
+    name: &str,
+    pairs: &'r [Binding<'a>],
+) -> Result<Option<&'r Binding<'a>>, AllocError>
+    ensures { IfOk result (λ found. IfSome found (λ pair. Contains pairs.entry.now pair.now × IsNearPair name.now pair.now)) }
+{
+    for pair in pairs {
+        if is_near_pair(alloc, name, pair)? {
+            return Ok(Some(pair));
+        }
+    }
+    Ok(None)
+}
+
+/// Returns whether a pair has this name in this namespace.
+fn is_named(name: &str, space: Namespace, pair: &Binding<'_>) -> bool
+    ensures { result ≡ true → IsEntityFor name.now space pair.now }
+{
+    if pair.space() != space {
+        return false;
+    }
+    match behind(name, pair.qualifier()) {
+        Some(text) => text == pair.text(),
+        None => false,
+    }
+}
+
+/// Returns the first of these pairs that has this name in this namespace.
+pub(crate) fn entity_of<'r, 'a>(
+    name: &str,
+    space: Namespace,
+    pairs: &'r [Binding<'a>],
+) -> Option<&'r Binding<'a>>
+    ensures { IfSome result (λ pair. Contains pairs.entry.now pair.now × IsEntityFor name.now space pair.now) }
+{
+    for pair in pairs {
+        if is_named(name, space, pair) {
+            return Some(pair);
+        }
+    }
+    None
+}
+
+/// Returns the first of these pairs that has this name in this namespace, and another entity.
+pub(crate) fn other_entity_of<'r, 'a>(
+    name: &str,
+    space: Namespace,
+    pairs: &'r [Binding<'a>],
+    entity: &EntityRef<'_>,
+) -> Option<&'r Binding<'a>>
+    ensures { IfSome result (λ pair. Contains pairs.entry.now pair.now × IsEntityFor name.now space pair.now × ¬ (pair.now.entity ≡ entity.now)) }
+{
+    for pair in pairs {
+        if is_named(name, space, pair) && !pair.entity().is_same(entity) {
+            return Some(pair);
+        }
+    }
+    None
+}

@@ -1,0 +1,17 @@
+use Rattle.std.proofs.Common.{rules, ◌≡◌, ◌+◌, ◌-◌, ◌<◌, ℕ, length, ap, sym, ◌∙◌, true}
+use Rattle.std.proofs.lemmas.List.{get_or_default}
+use Rattle.hm_parse_grammar.specs.declared.symbol.Symbol.TheVariants.{Case, End}
+use Rattle.hm_messages_hints.proofs.Rests.{in_rest}
+use Rattle.hm_messages_hints.specs.SyntaxHints.{begins_constructors, is_of_type}
+use Rattle.hm_messages_hints.proofs.contexts.constructors_begin.Goals as goal
+
+pub returns-then-begins_constructors : goal.returns-then-begins_constructors
+returns-then-begins_constructors c e =
+    let at : ℕ = length c.args.symbols.now - 1 - c.loop-behind.behind in
+    let within : at < length c.args.symbols.now = search rules in
+    record {
+      start = at;
+      within = within;
+      begun = ap begins_constructors (get_or_default c.args.symbols.now at End Case within) ∙ (sym c.begins_constructors.ensures ∙ c.if-begins_constructors.true);
+      rest = in_rest (λ s. is_of_type s ≡ true) (at + 1) c.args.symbols.now (c.are_of_type.ensures e);
+    }

@@ -1,0 +1,66 @@
+-- The advice for a fault of syntax at a place of a source.
+use Rattle.std.specs.Prelude.{◌≡◌, ℕ, ◌<◌, ◌≤◌, zero, suc, List, [], ◌∷◌, length, map, take, get_or}
+use Rattle.hm_lex.specs.declared.token.Place.{Place}
+use Rattle.hm_lex.specs.declared.token.Token.{Token}
+use Rattle.hm_lex.specs.Faults.{AreTokensOf}
+use Rattle.hm_lex.specs.Texts.{token_text}
+use Rattle.hm_parse_grammar.specs.Symbols.{symbol_of}
+use Rattle.hm_parse_grammar.specs.declared.symbol.Symbol.{Symbol}
+use Rattle.hm_parse_grammar.specs.declared.symbol.Symbol.TheVariants.{End}
+use Rattle.hm_messages_hints.specs.Repairs.{IsRepair}
+use Rattle.hm_messages_hints.specs.SyntaxHints.{IsSyntaxHint}
+use Rattle.hm_messages_hints.specs.declared.syntax_hints.SyntaxHint.{SyntaxHint}
+use Rattle.hm_messages_hints.specs.declared.syntax_hints.SyntaxHint.TheVariants.{NoHeader, ModuleEnded, NoBrace, LeftOut, Comprehension, Range, SmallName, AppliedVariable, Repaired, WherePart, NoElse, NotClosed, InPattern, Record, Update, NoAlternative, Unexpected}
+
+abbrev pub symbol_in : List ℕ → Token → Symbol
+symbol_in source t = symbol_of t.kind (token_text source t)
+
+-- the text of the token with this number, and its symbol. The end of the source comes after the last token
+unfoldable pub text_at : List ℕ → List Token → ℕ → List ℕ
+text_at source [] k = []
+text_at source (t ∷ ts) zero = token_text source t
+text_at source (t ∷ ts) (suc k) = text_at source ts k
+
+unfoldable pub symbol_at : List ℕ → List Token → ℕ → Symbol
+symbol_at source [] k = End
+symbol_at source (t ∷ ts) zero = symbol_in source t
+symbol_at source (t ∷ ts) (suc k) = symbol_at source ts k
+
+-- the number of the token that a hint at this one is about
+abbrev pub about : SyntaxHint → ℕ → ℕ
+about (Repaired r) k = r.at
+about NoHeader k = k
+about ModuleEnded k = k
+about NoBrace k = k
+about (LeftOut f) k = k
+about (Comprehension j) k = k
+about (Range j) k = k
+about SmallName k = k
+about AppliedVariable k = k
+about (WherePart j) k = k
+about (NoElse j) k = k
+about (InPattern j) k = k
+about (NotClosed j) k = k
+about Record k = k
+about Update k = k
+about NoAlternative k = k
+about Unexpected k = k
+
+-- the hint holds at the token with this number: a change repairs the tokens, any other hint is a fact about the tokens up to this one
+abbrev pub IsSo : List ℕ → List Token → ℕ → SyntaxHint → Type 0
+IsSo source ts k (Repaired r) = IsRepair source ts r
+IsSo source ts k hint = IsSyntaxHint (map (symbol_in source) (take k ts)) (symbol_at source ts k) (text_at source ts k) hint
+
+-- the token with this number is at the place, or there is none
+pub record IsAt (ts : List Token) (place : Place) (number : ℕ) : Type 0 where
+  pub within : number ≤ length ts
+  pub stands : (d : Token) → number < length ts → (get_or ts number d).place ≡ place
+
+-- the hint holds at the source's token at the place, and the text is that of the token that it is about
+pub record IsAdviceAt (source : List ℕ) (place : Place) (hint : SyntaxHint) (text : List ℕ) : Type 0 where
+  pub tokens : List Token
+  pub read : AreTokensOf source tokens
+  pub number : ℕ
+  pub at : IsAt tokens place number
+  pub holds : IsSo source tokens number hint
+  pub text_is : text ≡ text_at source tokens (about hint number)

@@ -1,0 +1,144 @@
+-- The facts about a token after others, with which no source begins.
+use Rattle.std.specs.Prelude.{◌≡◌, ◌⊎◌, ℕ, ◌+◌, ◌-◌, ◌<◌, ◌≤◌, ⊤, Bool, true, false, ◌||◌, List, [], length, drop, slice_index_or, All, Some}
+use Rattle.hm_parse_grammar.specs.Reading.Types.{begins_atype}
+use Rattle.hm_parse_grammar.specs.Symbols.{same}
+use Rattle.hm_parse_grammar.specs.declared.symbol.Symbol.{Symbol}
+use Rattle.hm_parse_grammar.specs.declared.symbol.Symbol.TheVariants.{Module, Data, Newtype, TypeWord, OfType, Open, OpenSquare, LeftBrace, Close, CloseSquare, RightBrace, Semicolon, Comma, Where, Let, Of, If, Else, Equals, Bar, Arrow, Dots, Colon, At, Tilde, Wild, Var, Con, QCon, Integer, Character, Text, End}
+use Rattle.hm_messages_hints.specs.Brackets.{IsInnermost, IsNoneOpen}
+use Rattle.hm_messages_hints.specs.Features.{feature_of}
+use Rattle.hm_messages_hints.specs.declared.syntax_hints.SyntaxHint.{SyntaxHint}
+use Rattle.hm_messages_hints.specs.declared.syntax_hints.SyntaxHint.TheVariants.{NoHeader, ModuleEnded, NoBrace, LeftOut, Comprehension, Range, SmallName, AppliedVariable, Repaired, WherePart, NoElse, NotClosed, InPattern, Record, Update, NoAlternative, Unexpected}
+
+abbrev pub wants_brace : Symbol → Bool
+wants_brace Where = true
+wants_brace Let = true
+wants_brace Of = true
+wants_brace _ = false
+
+abbrev pub takes_capital : Symbol → Bool
+takes_capital Module = true
+takes_capital Data = true
+takes_capital Newtype = true
+takes_capital TypeWord = true
+takes_capital _ = false
+
+abbrev pub ends : Symbol → Bool
+ends Semicolon = true
+ends Close = true
+ends CloseSquare = true
+ends RightBrace = true
+ends End = true
+ends _ = false
+
+-- an expression may end with the name or the bracket
+abbrev pub ends_operand : Symbol → Bool
+ends_operand Var = true
+ends_operand Close = true
+ends_operand _ = false
+
+abbrev pub is_partner : Symbol → Symbol → Bool
+is_partner Open s = same s Close
+is_partner OpenSquare s = same s CloseSquare
+is_partner LeftBrace s = same s RightBrace || same s Semicolon
+is_partner _ s = false
+
+-- a type follows these, in a signature or a declaration
+abbrev pub begins_type : Symbol → Bool
+begins_type OfType = true
+begins_type Data = true
+begins_type Newtype = true
+begins_type TypeWord = true
+begins_type _ = false
+
+-- constructors follow these
+abbrev pub begins_constructors : Symbol → Bool
+begins_constructors Data = true
+begins_constructors Newtype = true
+begins_constructors _ = false
+
+-- the symbols that types and the constructors of a declaration can have in them
+abbrev pub is_of_type : Symbol → Bool
+is_of_type Var = true
+is_of_type Con = true
+is_of_type QCon = true
+is_of_type Open = true
+is_of_type Close = true
+is_of_type OpenSquare = true
+is_of_type CloseSquare = true
+is_of_type Comma = true
+is_of_type Arrow = true
+is_of_type Equals = true
+is_of_type Bar = true
+is_of_type _ = false
+
+-- the symbols that patterns can have in them
+abbrev pub is_of_pattern : Symbol → Bool
+is_of_pattern Var = true
+is_of_pattern Con = true
+is_of_pattern QCon = true
+is_of_pattern Wild = true
+is_of_pattern Integer = true
+is_of_pattern Character = true
+is_of_pattern Text = true
+is_of_pattern Open = true
+is_of_pattern Close = true
+is_of_pattern OpenSquare = true
+is_of_pattern CloseSquare = true
+is_of_pattern Comma = true
+is_of_pattern Colon = true
+is_of_pattern At = true
+is_of_pattern Tilde = true
+is_of_pattern _ = false
+
+-- a constructor follows these in a declaration
+abbrev pub takes_constructor : Symbol → Bool
+takes_constructor Equals = true
+takes_constructor Bar = true
+takes_constructor _ = false
+
+abbrev pub at : List Symbol → ℕ → Symbol
+at symbols k = slice_index_or symbols k End
+
+-- the symbols end with a part of a type, which follows a symbol of this kind
+pub record IsInType (begins : Symbol → Bool) (symbols : List Symbol) : Type 0 where
+  pub start : ℕ
+  pub within : start < length symbols
+  pub begun : begins (at symbols start) ≡ true
+  pub rest : All (λ s. is_of_type s ≡ true) (drop (start + 1) symbols)
+
+-- the symbol with this number is `if`, and no `else` follows it
+pub record HasNoElse (symbols : List Symbol) (k : ℕ) : Type 0 where
+  pub begun : at symbols k ≡ If
+  pub rest : All (λ s. same s Else ≡ false) (drop (k + 1) symbols)
+
+-- the symbols end with a part of a pattern, which begins an alternative within the bracket with this number
+pub record IsInAlternative (symbols : List Symbol) (bracket : ℕ) : Type 0 where
+  pub of_case : at symbols (bracket - 1) ≡ Of
+  pub brace : at symbols bracket ≡ LeftBrace
+  pub start : ℕ
+  pub within : bracket ≤ start
+  pub begun : (start ≡ bracket) ⊎ (at symbols start ≡ Semicolon)
+  pub rest : All (λ s. is_of_pattern s ≡ true) (drop (start + 1) symbols)
+
+abbrev pub last_of : List Symbol → Symbol
+last_of symbols = at symbols (length symbols - 1)
+
+-- the hint holds for the token with this symbol and text, and for the symbols before it. A change isn't a fact about these: IsRepair defines when one works
+abbrev pub IsSyntaxHint : List Symbol → Symbol → List ℕ → SyntaxHint → Type 0
+IsSyntaxHint before this text NoHeader = before ≡ []
+IsSyntaxHint before this text ModuleEnded = (last_of before ≡ RightBrace) × IsNoneOpen before
+IsSyntaxHint before this text NoBrace = (wants_brace (last_of before) ≡ true) × (same this LeftBrace ≡ false)
+IsSyntaxHint before this text (LeftOut f) = feature_of text ≡ Some f
+IsSyntaxHint before this text (Comprehension k) = IsInnermost before k × (at before k ≡ OpenSquare) × (this ≡ Bar)
+IsSyntaxHint before this text (Range k) = IsInnermost before k × (at before k ≡ OpenSquare) × (this ≡ Dots)
+IsSyntaxHint before this text SmallName = ((takes_capital (last_of before) ≡ true) ⊎ ((takes_constructor (last_of before) ≡ true) × IsInType begins_constructors before)) × (this ≡ Var)
+IsSyntaxHint before this text AppliedVariable = (last_of before ≡ Var) × (begins_atype this ≡ true) × IsInType begins_type before
+IsSyntaxHint before this text (Repaired r) = ⊥
+IsSyntaxHint before this text (WherePart k) = IsInnermost before k × ((at before k ≡ Open) ⊎ (at before k ≡ OpenSquare)) × (this ≡ Where)
+IsSyntaxHint before this text (NoElse k) = (bracket : ℕ) × IsInnermost before bracket × (bracket < k) × HasNoElse before k × (ends this ≡ true)
+IsSyntaxHint before this text (NotClosed k) = IsInnermost before k × (ends this ≡ true) × (is_partner (at before k) this ≡ false)
+IsSyntaxHint before this text (InPattern k) = IsInnermost before k × IsInAlternative before k
+IsSyntaxHint before this text Record = (last_of before ≡ Con) × (this ≡ LeftBrace)
+IsSyntaxHint before this text Update = (ends_operand (last_of before) ≡ true) × (this ≡ LeftBrace)
+IsSyntaxHint before this text NoAlternative = (last_of before ≡ LeftBrace) × (at before (length before - 2) ≡ Of) × (this ≡ RightBrace)
+IsSyntaxHint before this text Unexpected = ⊤

@@ -1,0 +1,177 @@
+//! The form that a place is in, by the symbols before it.
+ghost use Rattle.std.specs.Prelude.{◌≡◌, ◌⊎◌, ◌-◌, ◌<◌, length, slice_index_or, All, IfSome, true, false};
+ghost use Rattle.hm_parse_grammar.specs.Symbols.{same};
+ghost use Rattle.hm_parse_grammar.specs.declared.symbol.Symbol.TheVariants.{Else, End, LeftBrace, Of, Semicolon};
+ghost use Rattle.hm_messages_hints.specs.SyntaxHints.{HasNoElse, IsInAlternative, IsInType, begins_constructors, begins_type, is_of_pattern, is_of_type};
+
+use hm_parse_grammar::Symbol;
+
+/// Returns whether a type follows this, in a signature or a declaration.
+fn begins_type(symbol: Symbol) -> bool
+    ensures { result ≡ begins_type symbol }
+{
+    match symbol {
+        Symbol::OfType | Symbol::Data | Symbol::Newtype | Symbol::TypeWord => true,
+        _ => false,
+    }
+}
+
+/// Returns whether constructors follow this.
+fn begins_constructors(symbol: Symbol) -> bool
+    ensures { result ≡ begins_constructors symbol }
+{
+    match symbol {
+        Symbol::Data | Symbol::Newtype => true,
+        _ => false,
+    }
+}
+
+/// Returns whether types and the constructors of a declaration can have this in them.
+fn is_of_type(symbol: Symbol) -> bool
+    ensures { result ≡ is_of_type symbol }
+{
+    match symbol {
+        Symbol::Var
+        | Symbol::Con
+        | Symbol::QCon
+        | Symbol::Open
+        | Symbol::Close
+        | Symbol::OpenSquare
+        | Symbol::CloseSquare
+        | Symbol::Comma
+        | Symbol::Arrow
+        | Symbol::Equals
+        | Symbol::Bar => true,
+        _ => false,
+    }
+}
+
+/// Returns whether patterns can have this in them.
+fn is_of_pattern(symbol: Symbol) -> bool
+    ensures { result ≡ is_of_pattern symbol }
+{
+    match symbol {
+        Symbol::Var
+        | Symbol::Con
+        | Symbol::QCon
+        | Symbol::Wild
+        | Symbol::Integer
+        | Symbol::Character
+        | Symbol::Text
+        | Symbol::Open
+        | Symbol::Close
+        | Symbol::OpenSquare
+        | Symbol::CloseSquare
+        | Symbol::Comma
+        | Symbol::Colon
+        | Symbol::At
+        | Symbol::Tilde => true,
+        _ => false,
+    }
+}
+
+/// Returns whether types can have all of these in them.
+fn are_of_type(symbols: &[Symbol]) -> bool
+    ensures { result ≡ true → All (λ s. is_of_type s ≡ true) symbols.now }
+{
+    symbols.iter().all(|symbol| is_of_type(*symbol))
+}
+
+/// Returns whether patterns can have all of these in them.
+fn are_of_pattern(symbols: &[Symbol]) -> bool
+    ensures { result ≡ true → All (λ s. is_of_pattern s ≡ true) symbols.now }
+{
+    symbols.iter().all(|symbol| is_of_pattern(*symbol))
+}
+
+/// Returns whether none of these is `else`.
+fn have_no_else(symbols: &[Symbol]) -> bool
+    ensures { result ≡ true → All (λ s. same s Else ≡ false) symbols.now }
+{
+    symbols.iter().all(|symbol| !symbol.is(Symbol::Else))
+}
+
+/// Returns whether these end with a part of a type.
+pub(crate) fn type_begins(symbols: &[Symbol]) -> bool
+    ensures { result ≡ true → IsInType begins_type symbols.now }
+{
+    for behind in 0..symbols.len() {
+        let at = symbols.len() - 1 - behind;
+        if begins_type(symbols[at]) {
+            return are_of_type(&symbols[at + 1..]);
+        }
+    }
+    false
+}
+
+/// Returns whether these end with a part of the constructors of a declaration.
+pub(crate) fn constructors_begin(symbols: &[Symbol]) -> bool
+    ensures { result ≡ true → IsInType begins_constructors symbols.now }
+{
+    for behind in 0..symbols.len() {
+        let at = symbols.len() - 1 - behind;
+        if begins_constructors(symbols[at]) {
+            return are_of_type(&symbols[at + 1..]);
+        }
+    }
+    false
+}
+
+/// Returns the number of the last `if`, if it is after the bracket with this number and no `else` follows it.
+pub(crate) fn without_else(symbols: &[Symbol], bracket: usize) -> Option<usize>
+    ensures behind { IfSome result (λ at. bracket < at) }
+    ensures open { IfSome result (HasNoElse symbols.now) }
+{
+    for behind in 0..symbols.len() {
+        let at = symbols.len() - 1 - behind;
+        if symbols[at].is(Symbol::If) {
+            return if at > bracket && have_no_else(&symbols[at + 1..]) {
+                Some(at)
+            } else {
+                None
+            };
+        }
+    }
+    None
+}
+
+/// Returns whether the symbol with this number is the `{` of a `case`.
+fn holds_alternatives(symbols: &[Symbol], bracket: usize) -> bool
+    ensures of { result ≡ true → slice_index_or symbols.now (bracket - 1) End ≡ Of }
+    ensures brace { result ≡ true → slice_index_or symbols.now bracket End ≡ LeftBrace }
+{
+    if bracket == 0 || bracket >= symbols.len() {
+        return false;
+    }
+    if !symbols[bracket].is(Symbol::LeftBrace) {
+        return false;
+    }
+    symbols[bracket - 1].is(Symbol::Of)
+}
+
+/// Returns whether an alternative may follow the symbol at `at`, within the `{` at `bracket`.
+fn precedes_alternative(symbols: &[Symbol], bracket: usize, at: usize) -> bool
+    requires { at < length symbols.now }
+    ensures { result ≡ true → (at ≡ bracket) ⊎ (slice_index_or symbols.now at End ≡ Semicolon) }
+{
+    if at == bracket {
+        return true;
+    }
+    symbols[at].is(Symbol::Semicolon)
+}
+
+/// Returns whether these end with a part of a pattern that begins an alternative within the bracket with this number.
+pub(crate) fn alternative_begins(symbols: &[Symbol], bracket: usize) -> bool
+    ensures { result ≡ true → IsInAlternative symbols.now bracket }
+{
+    if !holds_alternatives(symbols, bracket) {
+        return false;
+    }
+    for behind in 0..symbols.len().saturating_sub(bracket) {
+        let at = symbols.len() - 1 - behind;
+        if precedes_alternative(symbols, bracket, at) {
+            return are_of_pattern(&symbols[at + 1..]);
+        }
+    }
+    false
+}

@@ -1,0 +1,111 @@
+//! The texts of the hint at a lexical fault.
+ghost use Rattle.std.specs.Prelude.{◌≡◌, IfOk, string_bytes};
+ghost use Rattle.hm_messages_hints.specs.LexemeTexts.{lexeme_help, lexeme_text, operator_help};
+
+use crate::lexeme_hints::LexemeHint;
+use std::alloc::{AllocError, Global};
+
+/// Returns the first line of the text of a hint, without a line's end. `name` is the operator that the hint is about.
+pub fn lexeme_text(alloc: Global, hint: LexemeHint, name: &str) -> Result<String, AllocError>
+    ensures { IfOk result (λ line. string_bytes line ≡ lexeme_text hint name.now) }
+{
+    match hint {
+        LexemeHint::ByteOrderMark => String::from_str(
+            alloc,
+            "the file begins with a byte order mark",
+        ),
+        LexemeHint::Backquote => String::from_str(
+            alloc,
+            "a function between backquotes isn't supported",
+        ),
+        LexemeHint::OpenString => String::from_str(alloc, "this string isn't closed on its line"),
+        LexemeHint::StringItem => String::from_str(
+            alloc,
+            "this string has an escape or a character that isn't supported",
+        ),
+        LexemeHint::Character => String::from_str(
+            alloc,
+            "this isn't one character between single quotes",
+        ),
+        LexemeHint::Fraction => String::from_str(
+            alloc,
+            "numbers with a fraction or an exponent aren't supported",
+        ),
+        LexemeHint::ReservedName => String::from_str(
+            alloc,
+            "a qualified name can't end in a reserved word",
+        ),
+        LexemeHint::Comment => String::from_str(alloc, "this comment isn't UTF-8"),
+        LexemeHint::Dashes => format!(in alloc; "'{name}' is an operator, and begins no comment"),
+        LexemeHint::Operator => format!(in alloc;
+            "the operator '{name}' isn't supported: the only one is ':'"
+        ),
+        LexemeHint::NotAscii => String::from_str(
+            alloc,
+            "a character that isn't ASCII isn't allowed here",
+        ),
+        LexemeHint::NoText => String::from_str(alloc, "this byte isn't allowed here"),
+    }
+}
+
+/// Returns what to write instead of an operator.
+fn operator_help(name: &[u8]) -> &'static str
+    ensures { result.now ≡ operator_help name.now }
+{
+    if name == b"+".as_slice()
+        || name == b"-".as_slice()
+        || name == b"*".as_slice()
+        || name == b"/".as_slice()
+        || name == b"^".as_slice()
+        || name == b"**".as_slice()
+    {
+        "There is no arithmetic: define numbers of your own, such as `data Nat = Zero | Succ Nat`.\n"
+    } else if name == b"++".as_slice() {
+        "Write `concat [xs, ys]` for `xs ++ ys`.\n"
+    } else if name == b".".as_slice() {
+        "Write `\\x -> f (g x)` for `f . g`.\n"
+    } else if name == b"$".as_slice() {
+        "Write parentheses: `f (g x)` for `f $ g x`.\n"
+    } else if name == b"&&".as_slice() {
+        "Write `and [x, y]` for `x && y`.\n"
+    } else if name == b"||".as_slice() {
+        "Write `or [x, y]` for `x || y`.\n"
+    } else if name == b"==".as_slice() || name == b"/=".as_slice() {
+        "Compare by patterns: `f 0 = ..`, or `case x of { 0 -> .. ; _ -> .. }`.\n"
+    } else if name == b"<".as_slice()
+        || name == b">".as_slice()
+        || name == b"<=".as_slice()
+        || name == b">=".as_slice()
+    {
+        "Numbers and characters can't be compared by order: use patterns.\n"
+    } else if name == b"!!".as_slice() {
+        "Write `head (drop n xs)` for `xs !! n`.\n"
+    } else if name == b"$!".as_slice() {
+        "Write `seq x (f x)` for `f $! x`.\n"
+    } else if name == b">>=".as_slice() || name == b">>".as_slice() || name == b"=<<".as_slice() {
+        "There is no IO and no monad.\n"
+    } else {
+        "Define a function with a name, and write it before its arguments.\n"
+    }
+}
+
+/// Returns the second line of the text of a hint.
+pub fn lexeme_help(hint: LexemeHint, name: &str) -> &'static str
+    ensures { result.now ≡ lexeme_help hint name.now }
+{
+    match hint {
+        LexemeHint::ByteOrderMark => "Save it as UTF-8 without one.\n",
+        LexemeHint::Backquote => "Write it before its arguments: `div x y`.\n",
+        LexemeHint::OpenString => "Write `\"` at its end.\n",
+        LexemeHint::StringItem =>
+            "Save the file as UTF-8, and write other characters by their numbers, such as `\\955`.\n",
+        LexemeHint::Character => "A string is written between double quotes.\n",
+        LexemeHint::Fraction => "All numbers are of type Int.\n",
+        LexemeHint::ReservedName => "A name with a dot is one name; there is no operator `.`.\n",
+        LexemeHint::Comment => "Save the file as UTF-8.\n",
+        LexemeHint::Dashes => "Write a space after the dashes.\n",
+        LexemeHint::Operator => operator_help(name.as_bytes()),
+        LexemeHint::NotAscii => "Outside comments, characters and strings a source is ASCII.\n",
+        LexemeHint::NoText => "Outside comments, characters and strings a source is ASCII.\n",
+    }
+}

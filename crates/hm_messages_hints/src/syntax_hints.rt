@@ -1,0 +1,245 @@
+//! The hint at a fault of syntax.
+ghost use Rattle.std.specs.Prelude.{◌≡◌, ◌-◌, length, slice_index_or, true};
+ghost use Rattle.hm_parse_grammar.specs.declared.symbol.Symbol.TheVariants.{End, LeftBrace, Of};
+ghost use Rattle.hm_messages_hints.specs.Brackets.{IsInnermost};
+ghost use Rattle.hm_messages_hints.specs.SyntaxHints.{IsSyntaxHint, ends, ends_operand, is_partner, takes_capital, takes_constructor, wants_brace};
+
+use crate::brackets::open_bracket;
+use crate::change::Repair;
+use crate::contexts::{alternative_begins, constructors_begin, type_begins, without_else};
+use crate::features::{Feature, feature_of};
+use hm_parse_grammar::Symbol;
+
+/// A fact about the first token with which no source begins. Other tokens are given by their numbers, from 0.
+#[derive(Clone, Copy, Debug, PartialEq, Eq)]
+pub enum SyntaxHint {
+    /// Nothing is before it.
+    NoHeader,
+    /// A `}` is before it, and no bracket is open.
+    ModuleEnded,
+    /// `where`, `let` or `of` is before it, and it isn't `{`.
+    NoBrace,
+    /// A part of Haskell that isn't read begins with it.
+    LeftOut(Feature),
+    /// It is `|`, directly within the `[` with this number.
+    Comprehension(usize),
+    /// It is `..`, directly within the `[` with this number.
+    Range(usize),
+    /// It is a small name where only a capital one may be.
+    SmallName,
+    /// It begins a type right after a type variable.
+    AppliedVariable,
+    /// With this change of one token the source, or the declaration, can be read.
+    Repaired(Repair),
+    /// It is `where`, directly within the `(` or `[` with this number.
+    WherePart(usize),
+    /// It can be only after something complete, and no `else` follows the `if` with this number.
+    NoElse(usize),
+    /// It can be only after something complete, and doesn't close the innermost open bracket, which has this number.
+    NotClosed(usize),
+    /// It is in the pattern of an alternative, directly within the `{` with this number, which follows `of`.
+    InPattern(usize),
+    /// It is a `{` after a capital name.
+    Record,
+    /// It is a `{` after a small name or a `)`.
+    Update,
+    /// It is a `}` right after `of {`.
+    NoAlternative,
+    Unexpected,
+}
+
+/// A hint at a fault of syntax, and the text of the token that it is about. The text is empty at the end of the source.
+#[derive(Clone, Copy, Debug)]
+pub struct Advice<'a> {
+    pub hint: SyntaxHint,
+    pub text: &'a str,
+}
+
+/// Returns whether `{` follows this in every source.
+fn wants_brace(symbol: Symbol) -> bool
+    ensures { result ≡ wants_brace symbol }
+{
+    match symbol {
+        Symbol::Where | Symbol::Let | Symbol::Of => true,
+        _ => false,
+    }
+}
+
+/// Returns whether only a capital name may follow this.
+fn takes_capital(symbol: Symbol) -> bool
+    ensures { result ≡ takes_capital symbol }
+{
+    match symbol {
+        Symbol::Module | Symbol::Data | Symbol::Newtype | Symbol::TypeWord => true,
+        _ => false,
+    }
+}
+
+/// Returns whether a constructor follows this in a declaration.
+fn takes_constructor(symbol: Symbol) -> bool
+    ensures { result ≡ takes_constructor symbol }
+{
+    match symbol {
+        Symbol::Equals | Symbol::Bar => true,
+        _ => false,
+    }
+}
+
+/// Returns whether this can be only after something complete.
+fn ends(symbol: Symbol) -> bool
+    ensures { result ≡ ends symbol }
+{
+    match symbol {
+        Symbol::Semicolon
+        | Symbol::Close
+        | Symbol::CloseSquare
+        | Symbol::RightBrace
+        | Symbol::End => true,
+        _ => false,
+    }
+}
+
+/// Returns whether this is a name or a bracket with which an expression may end.
+fn ends_operand(symbol: Symbol) -> bool
+    ensures { result ≡ ends_operand symbol }
+{
+    match symbol {
+        Symbol::Var | Symbol::Close => true,
+        _ => false,
+    }
+}
+
+/// Returns whether `symbol` closes the bracket. A `;` within braces counts too.
+fn is_partner(bracket: Symbol, symbol: Symbol) -> bool
+    ensures { result ≡ is_partner bracket symbol }
+{
+    match bracket {
+        Symbol::Open => symbol.is(Symbol::Close),
+        Symbol::OpenSquare => symbol.is(Symbol::CloseSquare),
+        Symbol::LeftBrace => symbol.is(Symbol::RightBrace) || symbol.is(Symbol::Semicolon),
+        _ => false,
+    }
+}
+
+/// Returns whether these end with `of {`.
+fn ends_with_of(before: &[Symbol]) -> bool
+    ensures brace { result ≡ true → slice_index_or before.now (length before.now - 1) End ≡ LeftBrace }
+    ensures of { result ≡ true → slice_index_or before.now (length before.now - 2) End ≡ Of }
+{
+    if before.len() < 2 {
+        return false;
+    }
+    if !before[before.len() - 1].is(Symbol::LeftBrace) {
+        return false;
+    }
+    before[before.len() - 2].is(Symbol::Of)
+}
+
+/// Returns the hint within an open bracket that doesn't need to be closed first.
+fn complete_hint(before: &[Symbol], bracket: usize, here: Symbol, text: &[u8]) -> SyntaxHint
+    requires { IsInnermost before.now bracket }
+    ensures { IsSyntaxHint before.now here text.now result }
+{
+    if ends(here) {
+        if let Some(at) = without_else(before, bracket) {
+            return SyntaxHint::NoElse(at);
+        }
+    }
+    if alternative_begins(before, bracket) {
+        return SyntaxHint::InPattern(bracket);
+    }
+    SyntaxHint::Unexpected
+}
+
+/// Returns the hint within an open bracket.
+fn bracket_hint(before: &[Symbol], at: usize, here: Symbol, text: &[u8]) -> SyntaxHint
+    requires { IsInnermost before.now at }
+    ensures { IsSyntaxHint before.now here text.now result }
+{
+    if at >= before.len() {
+        return SyntaxHint::Unexpected;
+    }
+    let bracket = before[at];
+    if bracket.is(Symbol::OpenSquare) && here.is(Symbol::Bar) {
+        return SyntaxHint::Comprehension(at);
+    }
+    if bracket.is(Symbol::OpenSquare) && here.is(Symbol::Dots) {
+        return SyntaxHint::Range(at);
+    }
+    if here.is(Symbol::Where) && (bracket.is(Symbol::Open) || bracket.is(Symbol::OpenSquare)) {
+        return SyntaxHint::WherePart(at);
+    }
+    if ends(here) && !is_partner(bracket, here) {
+        return SyntaxHint::NotClosed(at);
+    }
+    complete_hint(before, at, here, text)
+}
+
+/// Returns the hint after these symbols, by the open brackets.
+fn open_hint(before: &[Symbol], last: Symbol, here: Symbol, text: &[u8]) -> SyntaxHint
+    requires { last ≡ slice_index_or before.now (length before.now - 1) End }
+    ensures { IsSyntaxHint before.now here text.now result }
+{
+    match open_bracket(before) {
+        Some(at) => bracket_hint(before, at, here, text),
+        None => {
+            if last.is(Symbol::RightBrace) {
+                SyntaxHint::ModuleEnded
+            } else {
+                SyntaxHint::Unexpected
+            }
+        }
+    }
+}
+
+/// Returns a fact about the first token with which no source begins. `before` has the symbols of the tokens before it, and `here` is its
+/// symbol. The hint is never a change that repairs it.
+pub fn syntax_hint(before: &[Symbol], here: Symbol, text: &[u8]) -> SyntaxHint
+    ensures { IsSyntaxHint before.now here text.now result }
+{
+    if before.is_empty() {
+        return SyntaxHint::NoHeader;
+    }
+    let last = before[before.len() - 1];
+    if wants_brace(last) && !here.is(Symbol::LeftBrace) {
+        return SyntaxHint::NoBrace;
+    }
+    if let Some(feature) = feature_of(text) {
+        return SyntaxHint::LeftOut(feature);
+    }
+    if takes_capital(last) && here.is(Symbol::Var) {
+        return SyntaxHint::SmallName;
+    }
+    if takes_constructor(last) && here.is(Symbol::Var) && constructors_begin(before) {
+        return SyntaxHint::SmallName;
+    }
+    if last.is(Symbol::Var) && here.begins_atype() && type_begins(before) {
+        return SyntaxHint::AppliedVariable;
+    }
+    if last.is(Symbol::Con) && here.is(Symbol::LeftBrace) {
+        return SyntaxHint::Record;
+    }
+    if ends_operand(last) && here.is(Symbol::LeftBrace) {
+        return SyntaxHint::Update;
+    }
+    if here.is(Symbol::RightBrace) && ends_with_of(before) {
+        return SyntaxHint::NoAlternative;
+    }
+    open_hint(before, last, here, text)
+}
+
+impl SyntaxHint {
+    /// Returns whether the hint is enough to say what to do, so that no change of one token needs to be searched.
+    pub fn is_enough(self) -> bool {
+        !matches!(
+            self,
+            SyntaxHint::WherePart(_)
+                | SyntaxHint::NoElse(_)
+                | SyntaxHint::NotClosed(_)
+                | SyntaxHint::InPattern(_)
+                | SyntaxHint::Record
+                | SyntaxHint::Update
+                | SyntaxHint::Unexpected
+        )
+    }
+}

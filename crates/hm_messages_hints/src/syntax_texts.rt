@@ -1,0 +1,129 @@
+//! The texts of the hint at a fault of syntax.
+ghost use Rattle.std.specs.Prelude.{◌≡◌, IfOk, string_bytes};
+ghost use Rattle.hm_messages_hints.specs.SyntaxTexts.{change_help, change_text, quoted, syntax_help, syntax_text};
+
+use crate::change::Change;
+use crate::syntax_hints::SyntaxHint;
+use std::alloc::{AllocError, Global};
+
+/// Returns the text of a token between quotes. The end of a source has no text.
+fn quoted(alloc: Global, text: &str) -> Result<String, AllocError>
+    ensures { IfOk result (λ quote. string_bytes quote ≡ quoted text.now) }
+{
+    if text.is_empty() {
+        return String::from_str(alloc, "the end of the source");
+    }
+    format!(in alloc; "'{text}'")
+}
+
+/// Returns the first line of the text of a change of the token with this text.
+fn change_text(alloc: Global, change: Change, text: &str) -> Result<String, AllocError>
+    ensures { IfOk result (λ line. string_bytes line ≡ change_text change text.now) }
+{
+    let quote = quoted(alloc, text)?;
+    let quote = quote.as_str();
+    match change {
+        Change::Insert(mark) => {
+            let mark = mark.text();
+            format!(in alloc; "expected '{mark}' before {quote}")
+        }
+        Change::Replace(mark) => {
+            let mark = mark.text();
+            format!(in alloc; "expected '{mark}', found {quote}")
+        }
+        Change::Remove => format!(in alloc; "unexpected {quote}"),
+    }
+}
+
+/// Returns the first line of the text of a hint, without a line's end.
+///
+/// `text` is that of the token that the hint is about: the one at the change, if it is one, else the one at the fault. It is empty at the
+/// end of the source.
+pub fn syntax_text(alloc: Global, hint: SyntaxHint, text: &str) -> Result<String, AllocError>
+    ensures { IfOk result (λ line. string_bytes line ≡ syntax_text hint text.now) }
+{
+    let quote = quoted(alloc, text)?;
+    let quote = quote.as_str();
+    match hint {
+        SyntaxHint::NoHeader => String::from_str(alloc, "a file begins with 'module NAME where {'"),
+        SyntaxHint::ModuleEnded => String::from_str(
+            alloc,
+            "the module ends at the '}' before this, and only another 'module' may follow",
+        ),
+        SyntaxHint::NoBrace => format!(in alloc;
+            "expected '{{' before {quote}: layout isn't supported"
+        ),
+        SyntaxHint::LeftOut(feature) => String::from_str(alloc, feature.text()),
+        SyntaxHint::Comprehension(_) => String::from_str(
+            alloc,
+            "list comprehensions aren't supported",
+        ),
+        SyntaxHint::Range(_) => String::from_str(alloc, "'[a .. b]' isn't supported"),
+        SyntaxHint::SmallName => format!(in alloc; "{quote} must begin with a capital letter here"),
+        SyntaxHint::AppliedVariable => format!(in alloc;
+            "a type variable takes no arguments: is '->' or ',' missing before {quote}?"
+        ),
+        SyntaxHint::Repaired(repair) => change_text(alloc, repair.change, text),
+        SyntaxHint::WherePart(_) => String::from_str(
+            alloc,
+            "'where' can't be within parentheses or square brackets",
+        ),
+        SyntaxHint::NoElse(_) => format!(in alloc; "an 'if' before {quote} has no 'else'"),
+        SyntaxHint::NotClosed(_) => format!(in alloc; "a bracket before {quote} isn't closed"),
+        SyntaxHint::InPattern(_) => format!(in alloc;
+            "unexpected {quote} in a pattern of a 'case'"
+        ),
+        SyntaxHint::Record => String::from_str(alloc, "fields with names aren't supported"),
+        SyntaxHint::Update => String::from_str(
+            alloc,
+            "record update isn't supported: is 'where' missing before '{'?",
+        ),
+        SyntaxHint::NoAlternative => String::from_str(
+            alloc,
+            "a 'case' needs at least one alternative",
+        ),
+        SyntaxHint::Unexpected => format!(in alloc; "unexpected {quote}"),
+    }
+}
+
+/// Returns the second line of the text of a change.
+fn change_help(change: Change) -> &'static str
+    ensures { result.now ≡ change_help change }
+{
+    match change {
+        Change::Insert(_) | Change::Replace(_) => "With it this can be read.\n",
+        Change::Remove => "Without it this can be read.\n",
+    }
+}
+
+/// Returns the second line of the text of a hint.
+pub fn syntax_help(hint: SyntaxHint) -> &'static str
+    ensures { result.now ≡ syntax_help hint }
+{
+    match hint {
+        SyntaxHint::NoHeader => "A source is made of modules with headers and braces.\n",
+        SyntaxHint::ModuleEnded => "Is one `}` too many?\n",
+        SyntaxHint::NoBrace => "Write `{` here, `;` between the items, and `}` at the end.\n",
+        SyntaxHint::LeftOut(feature) => feature.help(),
+        SyntaxHint::Comprehension(_) => "Use `map`, `filter` and `concatMap`.\n",
+        SyntaxHint::Range(_) => "Write the list out, or use `iterate` and `take`.\n",
+        SyntaxHint::SmallName =>
+            "The names of modules, types and constructors begin with a capital letter, and no others do.\n",
+        SyntaxHint::Repaired(repair) => change_help(repair.change),
+        SyntaxHint::AppliedVariable =>
+            "Only a type with a name takes arguments, such as `Maybe a`.\n",
+        SyntaxHint::WherePart(_) =>
+            "It belongs to a whole definition or alternative. Within an expression, write `let { .. } in ..`.\n",
+        SyntaxHint::NoElse(_) => "Each `if` has one: `if c then x else y`.\n",
+        SyntaxHint::NotClosed(_) =>
+            "Each `(`, `[` and `{` is closed in the order in which they were opened, the last one first.\n",
+        SyntaxHint::InPattern(_) =>
+            "If a new definition begins here, the `}` of the `case` before it is missing.\n",
+        SyntaxHint::Record =>
+            "Write the types of a constructor's arguments alone, and take it apart by patterns.\n",
+        SyntaxHint::Update =>
+            "Build the value with its constructor. If local definitions follow, write `where` before `{`.\n",
+        SyntaxHint::NoAlternative => "Write an alternative, such as `_ -> x`.\n",
+        SyntaxHint::Unexpected => "No module can go on with this here.\n",
+    }
+}

@@ -1,0 +1,53 @@
+-- The JSON object of a message (RFC 8259): its members, in the order of their names.
+use Rattle.std.specs.Prelude.{ℕ, List, Option, None, Some, ◌++◌, codes, option_map}
+use Rattle.serde_json.specs.Written.{compact_text}
+use Rattle.serde_json.specs.Data.{Data, null, number, unsigned, string, object, member, no_members}
+use Rattle.hm_messages_json.specs.declared.message.Level.{Level}
+use Rattle.hm_messages_json.specs.declared.message.Level.TheVariants.{Error, Note}
+use Rattle.hm_messages_json.specs.declared.message.Message.{Message}
+use Rattle.hm_messages_json.specs.declared.message.Position.{Position}
+
+abbrev pub level_word : Level → List ℕ
+level_word Error = codes "error"
+level_word Note = codes "note"
+
+abbrev pub count : ℕ → Data
+count n = number (unsigned n)
+
+abbrev pub text_data : Option (List ℕ) → Data
+text_data None = null
+text_data (Some text) = string text
+
+abbrev pub position_data : Position → Data
+position_data p = object (member (codes "byte") (count p.columns.bytes)
+    (member (codes "character") (count p.columns.characters)
+    (member (codes "line") (count p.line)
+    (member (codes "utf16") (count p.columns.utf16) no_members))))
+
+-- the message's object, with the members that aren't texts or may be missing
+abbrev pub joined_data : Message → Data → Data → Data → Data → Data → Data
+joined_data m end hint owner name start = object (member (codes "end") end
+    (member (codes "file") (string m.file.now)
+    (member (codes "hint") hint
+    (member (codes "kind") (string m.kind.now)
+    (member (codes "level") (string (level_word m.level))
+    (member (codes "module") owner
+    (member (codes "name") name
+    (member (codes "start") start
+    (member (codes "text") (string m.text.now) no_members)))))))))
+
+abbrev pub message_data : Message → Data
+message_data m = joined_data m (position_data m.end) (text_data (option_map (λ t. t.now) m.hint)) (text_data (option_map (λ t. t.now) m.module))
+    (text_data (option_map (λ t. t.now) m.name)) (position_data m.start)
+
+abbrev pub counts_data : ℕ → ℕ → Data
+counts_data errors skipped = object (member (codes "errors") (count errors)
+    (member (codes "level") (string (codes "end"))
+    (member (codes "skipped") (count skipped) no_members)))
+
+-- each object is on its own line
+abbrev pub message_text : Message → List ℕ
+message_text m = compact_text (message_data m) ++ codes "\n"
+
+abbrev pub counts_text : ℕ → ℕ → List ℕ
+counts_text errors skipped = compact_text (counts_data errors skipped) ++ codes "\n"

@@ -1,0 +1,38 @@
+//! The data of a message.
+use hm_messages_excerpts::Columns;
+
+/// Whether a message is about an error, or is a note on one.
+#[derive(Clone, Copy, Debug, PartialEq, Eq)]
+pub enum Level {
+    Error,
+    Note,
+}
+
+/// A position in a source.
+#[derive(Clone, Copy, Debug, PartialEq, Eq)]
+pub struct Position {
+    /// The line, from 1.
+    pub line: usize,
+    pub columns: Columns,
+}
+
+/// A message about a range of a source.
+#[derive(Clone, Copy, Debug)]
+pub struct Message<'a> {
+    /// The name of the source's file.
+    pub file: &'a str,
+    pub start: Position,
+    /// The position after the marked text.
+    pub end: Position,
+    pub level: Level,
+    /// The report's word for the fault, or the word for the kind of note.
+    pub kind: &'a str,
+    /// The module that it is about, if known.
+    pub module: Option<&'a str>,
+    /// The name that it is about, if any.
+    pub name: Option<&'a str>,
+    /// What is wrong, in a few words.
+    pub text: &'a str,
+    /// The broken rule, or something that may help, if there is more to say.
+    pub hint: Option<&'a str>,
+}

@@ -1,0 +1,137 @@
+//! Messages as JSON objects.
+ghost use Rattle.std.specs.Prelude.{◌≡◌, ◌++◌, IfOk, codes, false, option_map, string_bytes};
+ghost use Rattle.serde_json.specs.View.{view};
+ghost use Rattle.serde_json.specs.Written.{compact_text, has_float};
+ghost use Rattle.hm_messages_json.specs.Objects.{counts_data, counts_text, joined_data, level_word, message_data, message_text, position_data, text_data};
+
+use crate::message::{Level, Message, Position};
+use serde_json::{Value, json};
+use std::alloc::{AllocError, Global};
+
+/// Returns the word of a level.
+fn level_word(level: Level) -> &'static str
+    ensures { result.now ≡ level_word level }
+{
+    match level {
+        Level::Error => "error",
+        Level::Note => "note",
+    }
+}
+
+/// Returns a text as a JSON value, or null if there is none.
+fn text_value(alloc: Global, text: Option<&str>) -> Result<Value, AllocError>
+    ensures { IfOk result (λ value. view value ≡ text_data (option_map (λ t. t.now) text.entry)) }
+{
+    match text {
+        Some(text) => Ok(Value::String(String::from_str(alloc, text)?)),
+        None => Ok(Value::Null),
+    }
+}
+
+/// Returns a position as an object.
+fn position_value(alloc: Global, position: Position) -> Result<Value, AllocError>
+    ensures { IfOk result (λ value. view value ≡ position_data position) }
+{
+    let line = position.line as u64;
+    let byte = position.columns.bytes as u64;
+    let character = position.columns.characters as u64;
+    let utf16 = position.columns.utf16 as u64;
+    json!(in alloc; {"byte": byte, "character": character, "line": line, "utf16": utf16})
+}
+
+/// The members of a message that aren't texts, or may be missing.
+#[derive(Clone, Copy)]
+struct Parts<'a> {
+    end: &'a Value,
+    hint: &'a Value,
+    owner: &'a Value,
+    name: &'a Value,
+    start: &'a Value,
+}
+
+/// Returns the object of a message with these members.
+fn joined(alloc: Global, message: &Message<'_>, parts: Parts<'_>) -> Result<Value, AllocError>
+    ensures { IfOk result (λ value. view value ≡ joined_data message.now (view parts.entry.end.now) (view parts.entry.hint.now) (view parts.entry.owner.now)
+        (view parts.entry.name.now) (view parts.entry.start.now)) }
+{
+    let level = level_word(message.level);
+    let Message {
+        file,
+        kind,
+        text,
+        ..
+    } = *message;
+    let Parts {
+        end,
+        hint,
+        owner,
+        name,
+        start,
+    } = parts;
+    json!(in alloc; {
+        "end": end,
+        "file": file,
+        "hint": hint,
+        "kind": kind,
+        "level": level,
+        "module": owner,
+        "name": name,
+        "start": start,
+        "text": text,
+    })
+}
+
+/// Returns a message as an object.
+fn message_value(alloc: Global, message: &Message<'_>) -> Result<Value, AllocError>
+    ensures { IfOk result (λ value. view value ≡ message_data message.now) }
+{
+    let start = position_value(alloc, message.start)?;
+    let end = position_value(alloc, message.end)?;
+    let hint = text_value(alloc, message.hint)?;
+    let owner = text_value(alloc, message.module)?;
+    let name = text_value(alloc, message.name)?;
+    let parts = Parts {
+        end: &end,
+        hint: &hint,
+        owner: &owner,
+        name: &name,
+        start: &start,
+    };
+    joined(alloc, message, parts)
+}
+
+/// Returns the counts as an object.
+fn counts_value(alloc: Global, errors: usize, skipped: usize) -> Result<Value, AllocError>
+    ensures { IfOk result (λ value. view value ≡ counts_data errors skipped) }
+{
+    let errors = errors as u64;
+    let skipped = skipped as u64;
+    json!(in alloc; {"errors": errors, "level": "end", "skipped": skipped})
+}
+
+// Why: docs/DECISIONS.md, "Objects by serde_json".
+/// Returns a value as a line.
+fn line_of(alloc: Global, value: &Value) -> Result<String, AllocError>
+    requires { has_float (view value.now) ≡ false }
+    ensures { IfOk result (λ text. string_bytes text ≡ compact_text (view value.now) ++ codes "\n") }
+{
+    let mut line = value.to_string(alloc)?;
+    line.push_str("\n")?;
+    Ok(line)
+}
+
+/// Returns a message as a JSON object and a line end.
+pub fn message_line(alloc: Global, message: &Message<'_>) -> Result<String, AllocError>
+    ensures { IfOk result (λ text. string_bytes text ≡ message_text message.now) }
+{
+    let value = message_value(alloc, message)?;
+    line_of(alloc, &value)
+}
+
+/// Returns the numbers of reported errors and of skipped modules as a JSON object and a line end.
+pub fn counts_line(alloc: Global, errors: usize, skipped: usize) -> Result<String, AllocError>
+    ensures { IfOk result (λ text. string_bytes text ≡ counts_text errors skipped) }
+{
+    let value = counts_value(alloc, errors, skipped)?;
+    line_of(alloc, &value)
+}

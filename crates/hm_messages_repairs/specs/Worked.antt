@@ -1,0 +1,46 @@
+-- Worked examples of hints and changes.
+use Rattle.std.specs.Prelude.{List, ℕ, [], ◌∷◌, codes}
+use Rattle.hm_lex.specs.declared.token.Token.{Token}
+use Rattle.hm_parse_grammar.specs.declared.symbol.Symbol.{Symbol}
+use Rattle.hm_parse_grammar.specs.declared.symbol.Symbol.TheVariants.{Close, CloseSquare, Con, LeftBrace, Module, Open, OpenSquare, Semicolon, Var, Where}
+use Rattle.hm_messages_hints.specs.Brackets.{IsInnermost, IsOpen}
+use Rattle.hm_messages_hints.specs.Marks.{IsMarkIn}
+use Rattle.hm_messages_hints.specs.Repairs.{IsRepair}
+use Rattle.hm_messages_hints.specs.SyntaxHints.{IsSyntaxHint}
+use Rattle.hm_messages_hints.specs.declared.change.Change.TheVariants.{Remove}
+use Rattle.hm_messages_hints.specs.declared.change.Repair.{Repair}
+use Rattle.hm_messages_hints.specs.declared.change.Scope.TheVariants.{Whole}
+use Rattle.hm_messages_hints.specs.declared.mark.Mark.TheVariants.{RightBrace}
+use Rattle.hm_messages_hints.specs.declared.syntax_hints.SyntaxHint.TheVariants.{NoBrace, NotClosed, Update}
+
+-- { ( ) [ x
+abbrev pub brackets : List Symbol
+brackets = LeftBrace ∷ Open ∷ Close ∷ OpenSquare ∷ Var ∷ []
+
+-- the square bracket is the innermost open one. The brace is open around it, and the round bracket is closed
+pub record BracketsRow : Type 0 where
+  pub innermost : IsInnermost brackets 3
+  pub around : ¬ (IsInnermost brackets 0)
+  pub closed : ¬ (IsOpen brackets 1)
+
+-- module M where
+abbrev pub head : List Symbol
+head = Module ∷ Con ∷ Where ∷ []
+
+-- a name after `where` has no brace before it, and a brace there needs none. A brace after a small name is that of a record update, and one
+-- after `where` isn't. A `;` leaves the square bracket open, and a `]` closes it
+pub record FactsRow : Type 0 where
+  pub layout : IsSyntaxHint head Var (codes "x") NoBrace
+  pub brace : ¬ (IsSyntaxHint head LeftBrace (codes "{") NoBrace)
+  pub update : IsSyntaxHint (Var ∷ []) LeftBrace (codes "{") Update
+  pub no_update : ¬ (IsSyntaxHint head LeftBrace (codes "{") Update)
+  pub left_open : IsSyntaxHint brackets Semicolon (codes ";") (NotClosed 3)
+  pub shut : ¬ (IsSyntaxHint brackets CloseSquare (codes "]") (NotClosed 3))
+
+abbrev pub without_first : Repair
+without_first = record { at = 0; change = Remove; scope = Whole }
+
+-- a source that is a lone `}` can be read without its one token. If there are two of them, one is left, and it spells no module
+pub record ChangesRow : Type 0 where
+  pub lone : (t : Token) → IsMarkIn (codes "}") RightBrace t → IsRepair (codes "}") (t ∷ []) without_first
+  pub two : (t : Token) → IsMarkIn (codes "}") RightBrace t → ¬ (IsRepair (codes "}") (t ∷ t ∷ []) without_first)

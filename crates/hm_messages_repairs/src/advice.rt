@@ -1,0 +1,144 @@
+//! The advice for a fault of syntax.
+ghost use Rattle.std.specs.Prelude.{◌≡◌, ◌≤◌, All, IfOk, length, map, take};
+ghost use Rattle.hm_lex.specs.Texts.{LiesIn};
+ghost use Rattle.hm_messages_hints.specs.SyntaxHints.{IsSyntaxHint};
+ghost use Rattle.hm_messages_hints.specs.Advice.{IsAdviceAt, IsAt, IsSo, about, symbol_at, symbol_in, text_at};
+
+use crate::search::repair_at;
+use hm_lex::{Place, Token, lex};
+use hm_messages_hints::{Advice, Change, Mark, Repair, SyntaxHint, syntax_hint};
+use hm_parse_grammar::{Symbol, symbol_of, text_of};
+use std::alloc::{AllocError, Global};
+
+/// Returns the number of the token at a place, or the number of tokens if there is none.
+fn number_at(tokens: &[Token], place: Place) -> usize
+    ensures { IsAt tokens.now place result }
+{
+    for number in 0..tokens.len() {
+        if tokens[number].place == place {
+            return number;
+        }
+    }
+    tokens.len()
+}
+
+/// Returns the symbols of the tokens of a source.
+fn symbols_before(alloc: Global, source: &[u8], tokens: &[Token]) -> Result<Vec<Symbol>, AllocError>
+    requires { All (LiesIn source.now) tokens.now }
+    ensures { IfOk result (λ symbols. symbols.items ≡ map (symbol_in source.now) tokens.now) }
+{
+    let mut symbols = Vec::new(alloc);
+    for token in tokens {
+        symbols.push(symbol_of(token.kind, text_of(source, token)))?;
+    }
+    Ok(symbols)
+}
+
+/// Returns the symbol of the token with this number, or `End` if there is none.
+#[tactic(auto, using(crate::proofs::Numbered::symbol_past, crate::proofs::Numbered::symbol_found))]
+fn symbol_at(source: &[u8], tokens: &[Token], number: usize) -> Symbol
+    requires { All (LiesIn source.now) tokens.now }
+    ensures { result ≡ symbol_at source.now tokens.now number }
+{
+    if number >= tokens.len() {
+        return Symbol::End;
+    }
+    let token = &tokens[number];
+    symbol_of(token.kind, text_of(source, token))
+}
+
+/// Returns the text of the token with this number, or no text if there is none.
+#[tactic(auto, using(crate::proofs::Numbered::text_past, crate::proofs::Numbered::text_found))]
+fn text_at<'a>(source: &'a [u8], tokens: &[Token], number: usize) -> &'a str
+    requires { All (LiesIn source.now) tokens.now }
+    ensures { result.now ≡ text_at source.entry.now tokens.now number }
+{
+    if number >= tokens.len() {
+        return "";
+    }
+    let token = &tokens[number];
+    match std::str::from_utf8(text_of(source, token)) {
+        Ok(text) => text,
+        Err(_) => unreachable!(),
+    }
+}
+
+/// Returns the number of the token that a hint at this one is about.
+fn about(hint: SyntaxHint, number: usize) -> usize
+    ensures { result ≡ about hint number }
+{
+    match hint {
+        SyntaxHint::Repaired(repair) => repair.at,
+        _ => number,
+    }
+}
+
+/// Returns a fact about the token with this number.
+fn fact_at(
+    alloc: Global,
+    source: &[u8],
+    tokens: &[Token],
+    number: usize,
+) -> Result<SyntaxHint, AllocError>
+    requires lie { All (LiesIn source.now) tokens.now }
+    requires within { number ≤ length tokens.now }
+    ensures { IfOk result (IsSyntaxHint (map (symbol_in source.now) (take number tokens.now)) (symbol_at source.now tokens.now number) (text_at source.now
+        tokens.now number)) }
+{
+    let before = symbols_before(alloc, source, &tokens[..number])?;
+    let here = symbol_at(source, tokens, number);
+    let text = text_at(source, tokens, number);
+    Ok(syntax_hint(before.as_slice(), here, text.as_bytes()))
+}
+
+/// Returns whether a fact says more than a change. It does if the change puts `where` before the brace of a record update.
+fn says_more(fact: SyntaxHint, number: usize, repair: Repair) -> bool {
+    let puts_where = repair.at == number && repair.change == Change::Insert(Mark::Where);
+    puts_where && fact == SyntaxHint::Update
+}
+
+/// Returns the hint at the token with this number: a fact about it, or a change with which the source can be read.
+#[tactic(auto, using(crate::proofs::Facts::so_of_fact))]
+fn hint_at(
+    alloc: Global,
+    source: &[u8],
+    tokens: &[Token],
+    number: usize,
+) -> Result<SyntaxHint, AllocError>
+    requires lie { All (LiesIn source.now) tokens.now }
+    requires within { number ≤ length tokens.now }
+    ensures { IfOk result (IsSo source.now tokens.now number) }
+{
+    let fact = fact_at(alloc, source, tokens, number)?;
+    if fact.is_enough() {
+        return Ok(fact);
+    }
+    let Some(repair) = repair_at(alloc, source, tokens, number)? else {
+        return Ok(fact);
+    };
+    if says_more(fact, number, repair) {
+        return Ok(fact);
+    }
+    Ok(SyntaxHint::Repaired(repair))
+}
+
+/// Returns the advice for a fault of syntax at a place of a source that has tokens.
+///
+/// # Errors
+///
+/// Memory ran out. A source without tokens gives the same error.
+pub fn advice_at<'a>(
+    alloc: Global,
+    source: &'a [u8],
+    place: Place,
+) -> Result<Advice<'a>, AllocError>
+    ensures { IfOk result (λ advice. IsAdviceAt source.entry.now place advice.hint advice.text.now) }
+{
+    let Ok(tokens) = lex(alloc, source) else {
+        return Err(AllocError);
+    };
+    let number = number_at(tokens.as_slice(), place);
+    let hint = hint_at(alloc, source, tokens.as_slice(), number)?;
+    let text = text_at(source, tokens.as_slice(), about(hint, number));
+    Ok(Advice { hint, text })
+}

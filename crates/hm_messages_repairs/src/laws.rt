@@ -1,0 +1,15 @@
+//! Worked examples: functions with empty bodies, whose contracts have the facts.
+ghost use Rattle.hm_messages_repairs.specs.Worked.{BracketsRow, ChangesRow, FactsRow};
+
+/// The open brackets of worked symbols, and the facts that hold at a token after them.
+#[tactic(auto, using(crate::proofs::WorkedHints::worked_brackets, crate::proofs::WorkedHints::worked_facts))]
+pub fn worked_hints()
+    ensures brackets { BracketsRow }
+    ensures facts { FactsRow }
+{}
+
+/// A change with which a source can be read, and one with which it can't.
+#[tactic(auto, using(crate::proofs::WorkedHints::worked_changes))]
+pub fn worked_changes()
+    ensures { ChangesRow }
+{}

@@ -1,5 +1,0 @@
-use Rattle.std.proofs.Common.{length}
-use Rattle.hm_modules.proofs.parsing.+parsed_by_threads.Given as goal
-
-abbrev pub decreases-parsed_by_threads : goal.decreases-parsed_by_threads
-decreases-parsed_by_threads g l = length l.rest.tokens.now

@@ -1,2 +1,0 @@
-pub mod PhasesAnswered
-pub mod PhasesInOrder

@@ -1,5 +1,0 @@
-use Rattle.hm_published.proofs.WorkedLists.{lists, numbers}
-use Rattle.hm_published.proofs.laws.worked_lists.Goals as goal
-
-pub returns : goal.returns
-returns c = record { lists = lists; numbers = numbers }

@@ -1,5 +1,0 @@
-use Rattle.hm_reports.proofs.WorkedRecords as rows
-use Rattle.hm_reports.proofs.laws.worked_records.Goals as goal
-
-pub returns : goal.returns
-returns c = record { rounds = rows.rounds; numbered = rows.numbered; finished = rows.finished }

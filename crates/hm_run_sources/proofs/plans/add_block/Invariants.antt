@@ -1,0 +1,7 @@
+use Rattle.std.proofs.Common.{◌≡◌, ◌++◌, map, take, string_bytes}
+use Rattle.std.specs.List.{flat_map}
+use Rattle.hm_run_sources.specs.Plans.{import_line}
+use Rattle.hm_run_sources.proofs.plans.add_block.Given as goal
+
+abbrev pub invariant-loop-import : goal.invariant-loop-import
+invariant-loop-import l = string_bytes l.text ≡ string_bytes l.initial.text ++ flat_map import_line (map (λ s. s.now) (take l.import-index l.import-items))

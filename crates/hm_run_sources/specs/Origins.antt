@@ -1,0 +1,22 @@
+-- The source of each module.
+use Rattle.std.specs.Prelude.{◌≡◌, ℕ, ◌+◌, ◌<◌, ◌≤◌, List, [], length, take, slice_index_or}
+use Rattle.hm_syntax.specs.declared.ast.Module.{Module}
+use Rattle.hm_run_sources.specs.SourceModules.{AreModulesOf, HasModules}
+use Rattle.hm_run_sources.specs.declared.located.Located.{Located}
+
+-- the source with this number spells the module with this number; both are counted from 0
+pub record IsSpelledBy (sources : List (List ℕ)) (m source : ℕ) : Type 0 where
+  pub inside : source < length sources
+  pub earlier : List Module
+  pub own : List Module
+  pub before : AreModulesOf (take source sources) earlier
+  pub spelled : HasModules (slice_index_or sources source []) own
+  pub low : length earlier ≤ m
+  pub high : m < length earlier + length own
+
+-- each listed module has its source
+pub record AreLocated (sources : List (List ℕ)) (located : List Located) : Type 0 where
+  pub modules : List Module
+  pub read : AreModulesOf sources modules
+  pub as_many : length located ≡ length modules
+  pub each : (m : ℕ) (d : Located) → m < length located → IsSpelledBy sources m (slice_index_or located m d).source

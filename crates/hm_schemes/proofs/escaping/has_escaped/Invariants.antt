@@ -1,6 +1,0 @@
-use Rattle.std.proofs.Common.{ℕ, ◌<◌}
-use Rattle.hm_schemes.specs.Escapes.{Escapes}
-use Rattle.hm_schemes.proofs.escaping.has_escaped.Given as goal
-
-abbrev pub invariant-loop-i : goal.invariant-loop-i
-invariant-loop-i l = (j : ℕ) → j < l.i → ¬ (Escapes l.first l.solver j)

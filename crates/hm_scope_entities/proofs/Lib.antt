@@ -1,0 +1,3 @@
+pub mod EntityTables
+pub mod FirstDescriptions
+pub mod OwnerTables

@@ -1,0 +1,3 @@
+pub mod Gathered
+pub mod Selections
+pub mod FaultyItems

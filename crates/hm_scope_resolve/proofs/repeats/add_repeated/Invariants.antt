@@ -1,0 +1,7 @@
+use Rattle.std.proofs.Common.{◌≡◌, ◌++◌, [], drop, map}
+use Rattle.hm_names.specs.Faults.Phases.{fault}
+use Rattle.hm_names.specs.Found.{repeated}
+use Rattle.hm_scope_resolve.proofs.repeats.add_repeated.Given as goal
+
+abbrev pub invariant-row : goal.invariant-row
+invariant-row l = l.faults.items ++ map (fault l.kind) (repeated l.seen (map (λ n. n.now) (drop l.name-index l.row))) ≡ l.fn.faults.items ++ map (fault l.kind) (repeated [] (map (λ n. n.now) l.row))

@@ -1,5 +1,0 @@
-use Rattle.hm_shared.proofs.WorkedListings as rows
-use Rattle.hm_shared.proofs.laws.worked_listings.Goals as goal
-
-pub returns : goal.returns
-returns c = record { listings = rows.listings; claims = rows.claims; publishes = rows.publishes; seen = rows.seen }

@@ -1,0 +1,73 @@
+//! Makes the passes of the workers that share a store.
+ghost use Rattle.std.specs.Prelude.{◌≡◌, ◌<◌, ◌^◌, [], ℕ, All, IfOk, slice_index_or, vec_len};
+ghost use Rattle.hm_store_shared.specs.Passes.{calls_of, room_of, seen_of, share_of, worker_of};
+
+use crate::passes::Pass;
+use hm_store_published::{Front, Naming, Published, Step, pages};
+use left_right::WriteHandle;
+use std::alloc::{AllocError, Global};
+use std::sync::Wait;
+use std::sync::ledger::{Ledger, Share};
+use thiserror::Error;
+
+/// The number of workers of a build, and the number of calls that each may make.
+#[derive(Clone, Copy, Debug)]
+pub struct Crew {
+    pub workers: usize,
+    pub room: usize,
+}
+
+/// Why a store can't be shared.
+#[derive(Clone, Copy, Debug, Error, PartialEq, Eq)]
+pub enum SharedFault {
+    /// Memory ran out.
+    #[error("no memory")]
+    Memory,
+    /// No reader of the published interfaces could be made.
+    #[error("no reader")]
+    NoReader,
+}
+
+impl From<AllocError> for SharedFault {
+    ghost use Rattle.std.specs.Prelude.{◌≡◌};
+    ghost use Rattle.hm_store_shared.specs.declared.dealing.SharedFault.TheVariants.{Memory};
+
+    ghost from_gives = { λ _ fault. fault ≡ Memory };
+
+    fn from(_error: AllocError) -> SharedFault {
+        SharedFault::Memory
+    }
+}
+
+/// Returns a pass for each worker, each with its part of the ledger.
+pub(crate) fn deal<L: Ledger + Naming, R: Wait + Drop>(
+    alloc: Global,
+    crew: Crew,
+    mut rest: Share<L>,
+    pages: &WriteHandle<Published<L>, Step<L>, R>,
+    front: &Front<L>,
+) -> Result<Vec<Pass<L>>, SharedFault>
+    requires share { (rest.parts ≡ crew.workers) × (rest.amount ≡ 0) }
+    requires room { crew.room < 2 ^ 62 }
+    ensures count { IfOk result (λ v. vec_len v ≡ crew.workers) }
+    ensures worker { IfOk result (λ v. (k : ℕ) (d : _) → k < crew.workers → worker_of (slice_index_or v.items k d) ≡ k) }
+    ensures room { IfOk result (λ v. All (λ p. room_of p ≡ crew.room) v.items) }
+    ensures empty { IfOk result (λ v. All (λ p. calls_of p ≡ []) v.items) }
+    ensures parts { IfOk result (λ v. All (λ p. (share_of p).parts ≡ 1) v.items) }
+    ensures seen { IfOk result (λ v. All (λ p. seen_of p ≡ front.now) v.items) }
+{
+    let mut passes = Vec::new(alloc);
+    for worker in 0..crew.workers {
+        let share = rest.split_off(1, 0);
+        let reader = match pages::reader(pages, front) {
+            Ok(reader) => reader,
+            Err(AllocError) => return Err(SharedFault::NoReader),
+        };
+        let pass = Pass::new(alloc, worker, crew.room, share, reader)?;
+        match passes.push(pass) {
+            Ok(()) => {}
+            Err(failed) => return Err(AllocError::from(failed).into()),
+        }
+    }
+    Ok(passes)
+}

@@ -1,0 +1,25 @@
+//! Laws of the lock and of passes.
+ghost use Rattle.hm_store_shared.specs.Laws.{SeenAreAskedFor};
+ghost use Rattle.hm_store_shared.specs.Worked.{ClaimRow, ListingRow, PublishRow, SeenRow};
+
+use hm_verdicts::steps_settle_a_set;
+
+/// Under the lock: the publications that a pass has seen are a prefix of the store's, or the other way round.
+pub use crate::shared::meet;
+
+/// In a lawful set, the interfaces that a lawful list has of a module's imports are those that the module requires. So the check of a claimed
+/// module isn't refused with `Imports`.
+pub fn seen_imports_are_asked_for()
+    ensures { SeenAreAskedFor }
+{
+    steps_settle_a_set();
+}
+
+/// Worked examples of lists: the publications of a journal, the publications that a worker has seen after a claim, the changes of a publication,
+/// and the outcomes that fit the list.
+pub fn worked_listings()
+    ensures listings { ListingRow }
+    ensures claims { ClaimRow }
+    ensures publishes { PublishRow }
+    ensures seen { SeenRow }
+{}

@@ -1,0 +1,7 @@
+use Rattle.std.proofs.Common.{◌≡◌, ◌++◌, take, string_bytes}
+use Rattle.std.specs.List.{flat_map}
+use Rattle.hm_types_display.specs.InterfaceTexts.{value_line}
+use Rattle.hm_types_display.proofs.interface_lines.write_values.Given as goal
+
+abbrev pub invariant-loop-entry : goal.invariant-loop-entry
+invariant-loop-entry l = string_bytes l.out ≡ string_bytes l.initial.out ++ flat_map value_line (take l.entry-index l.entries)
