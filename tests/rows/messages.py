@@ -108,7 +108,7 @@ KINDS = [
         "                             ^\n"
         "errors: 1, skipped modules: 0\n",
     ),
-    # either branch would do: the last of two equals is told
+    # either branch would do: a literal is likelier than another expression
     (
         "module M where { f x = if x then 1 else (2 : []) }",
         1,
@@ -116,18 +116,44 @@ KINDS = [
         "This definition has no type, though everything that it refers to has one.\n"
         "module M where { f x = if x then 1 else (2 : []) }\n"
         "                 ^\n"
-        "M.hs:1:41: note: 'f' has a type with another expression here (up to 1:48)\n"
+        "M.hs:1:34: note: 'f' has a type with another expression here (up to 1:34)\n"
         "module M where { f x = if x then 1 else (2 : []) }\n"
-        "                                        ^\n"
+        "                                 ^\n"
         "errors: 1, skipped modules: 0\n",
     ),
-    # no expression is to blame
+    # a pattern of a clause
     (
         "module M where { f True = 1 ; f 'c' = 2 }",
         1,
         "M.hs:1:18: error: type error in 'f' [type]\n"
         "This definition has no type, though everything that it refers to has one.\n"
         "module M where { f True = 1 ; f 'c' = 2 }\n"
+        "                 ^\n"
+        "M.hs:1:33: note: 'f' has a type with another pattern here (up to 1:35)\n"
+        "module M where { f True = 1 ; f 'c' = 2 }\n"
+        "                                ^^^\n"
+        "errors: 1, skipped modules: 0\n",
+    ),
+    # a part of a pattern of an alternative, whose variable its `where` refers to
+    (
+        "module M where { f :: Maybe Bool -> Bool ; f x = case x of { Just [y] -> z where { z = not y } ; Nothing -> True } }",
+        1,
+        "M.hs:1:44: error: type error in 'f' [type]\n"
+        "This definition has no type, though everything that it refers to has one.\n"
+        "module M where { f :: Maybe Bool -> Bool ; f x = case x of { Just [y] -> z where { z = not y } ; Nothing -> True } }\n"
+        "                                           ^\n"
+        "M.hs:1:67: note: 'f' has a type with another pattern here (up to 1:69)\n"
+        "module M where { f :: Maybe Bool -> Bool ; f x = case x of { Just [y] -> z where { z = not y } ; Nothing -> True } }\n"
+        "                                                                  ^\n"
+        "errors: 1, skipped modules: 0\n",
+    ),
+    # no part alone is to blame
+    (
+        "module M where { f x = not 'c' ; f y = not 'd' }",
+        1,
+        "M.hs:1:18: error: type error in 'f' [type]\n"
+        "This definition has no type, though everything that it refers to has one.\n"
+        "module M where { f x = not 'c' ; f y = not 'd' }\n"
         "                 ^\n"
         "errors: 1, skipped modules: 0\n",
     ),
@@ -166,9 +192,9 @@ KINDS = [
         "This definition has no type, though everything that it refers to has one.\n"
         "module M where { f :: Bool -> Maybe Bool -> Bool ; f x y = maybe not x y }\n"
         "                                                   ^\n"
-        "M.hs:1:60: note: 'f' has a type with another expression here (up to 1:72)\n"
+        "M.hs:1:66: note: 'f' has a type with this expression and the one at 1:70 exchanged\n"
         "module M where { f :: Bool -> Maybe Bool -> Bool ; f x y = maybe not x y }\n"
-        "                                                           ^^^^^\n"
+        "                                                                 ^^^\n"
         "errors: 1, skipped modules: 0\n",
     ),
     # an argument that is given twice
@@ -205,9 +231,9 @@ KINDS = [
         "This definition has no type, though everything that it refers to has one.\n"
         "module M where { f :: [Bool] -> [Bool] ; f = map (\\[x] -> not x) }\n"
         "                                         ^\n"
-        "M.hs:1:51: note: 'f' has a type with another expression here (up to 1:63)\n"
+        "M.hs:1:52: note: 'f' has a type with another pattern here (up to 1:54)\n"
         "module M where { f :: [Bool] -> [Bool] ; f = map (\\[x] -> not x) }\n"
-        "                                                  ^\n"
+        "                                                   ^\n"
         "errors: 1, skipped modules: 0\n",
     ),
     # one of many elements

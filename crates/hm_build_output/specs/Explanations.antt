@@ -18,8 +18,11 @@ use Rattle.hm_messages.specs.Headings.{count_text}
 use Rattle.hm_messages.specs.Messages.{AreEach, IsFaultMessage, IsMessage, reader_place}
 use Rattle.hm_messages.specs.Subjects.{Subject, faulty, replaceable, skipped}
 use Rattle.hm_messages.specs.declared.heading.Paint.{Paint}
-use Rattle.hm_explain.specs.Holes.{IsCulprit}
-use Rattle.hm_explain.specs.declared.search.Culprit.{Culprit}
+use Rattle.hm_messages.specs.declared.topic.Way.{Way}
+use Rattle.hm_messages.specs.declared.topic.Way.TheVariants as way
+use Rattle.hm_explain.specs.Mends.{IsMend}
+use Rattle.hm_explain.specs.declared.mends.Mend.{Mend}
+use Rattle.hm_explain.specs.declared.mends.Mend.TheVariants.{Expression, Pattern, Exchange}
 use Rattle.hm_run_sources.specs.Names.{name_below}
 use Rattle.hm_run_sources.specs.Origins.{IsSpelledBy}
 use Rattle.hm_build_output.specs.declared.explaining.Blame.{Blame}
@@ -35,14 +38,32 @@ pub record IsDetailed (paint : Paint) (file source : List ℕ) (IsSo : Fault →
 abbrev pub IsKnownIn : ModuleSet → (ℕ → Status) → ℕ → Fault → Known → Type 0
 IsKnownIn p status i f known = (known ≡ nothing) ⊎ ((fs : List Interface) × ArePublished status (imports_of p i) fs × IsKnown (module_at p i) (prelude_interface ∷ fs) f known)
 
--- the note of a type fault, at a part of the source without which its definition has a type; it says where the part ends, as readers count
+-- where what is told begins
+abbrev pub first_of : Mend → Place
+first_of (Expression part) = part.start
+first_of (Pattern part) = part.start
+first_of (Exchange first second) = first.start
+
+-- the other place that is told: where it ends, or where the second expression begins
+abbrev pub other_of : Mend → Place
+other_of (Expression part) = part.end
+other_of (Pattern part) = part.end
+other_of (Exchange first second) = second.start
+
+-- how it is told, with this as the other place
+abbrev pub way_of : Mend → Place → Way
+way_of (Expression part) p = way.Expression p
+way_of (Pattern part) p = way.Pattern p
+way_of (Exchange first second) p = way.Exchange p
+
+-- the note of a type fault tells what gives its definition a type, with places as readers count
 pub record IsNote (paint : Paint) (file source name : List ℕ) (fs : List Interface) (f : Fault) (text : List ℕ) : Type 0 where
   pub untyped : f.kind ≡ Untyped
-  pub part : Culprit
-  pub blamed : IsCulprit source name fs f.name part
+  pub mend : Mend
+  pub mended : IsMend source name fs f.name mend
   pub columns : Columns
-  pub columns_at : AreColumnsAt source part.end columns
-  pub told : IsMessage paint file source part.start (replaceable f.name (reader_place part.end columns)) text
+  pub columns_at : AreColumnsAt source (other_of mend) columns
+  pub told : IsMessage paint file source (first_of mend) (replaceable f.name (way_of mend (reader_place (other_of mend) columns))) text
 
 -- the message of a fault of which nothing else is known, and behind it its note, or nothing
 pub record IsNoted (paint : Paint) (file source name : List ℕ) (fs : List Interface) (f : Fault) (text : List ℕ) : Type 0 where

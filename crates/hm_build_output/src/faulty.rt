@@ -1,14 +1,14 @@
-//! The messages of a module with type faults: one for each fault, and behind it a note if a part of the definition is to blame.
+//! The messages of a module with type faults: one for each fault, and behind it a note of what gives the definition a type.
 ghost use Rattle.std.specs.Prelude.{◌≡◌, ◌⊎◌, IfOk, IfSome, [], map};
 ghost use Rattle.std.specs.Arc.{arc_value};
 ghost use Rattle.hm_messages.specs.Messages.{AreEach};
-ghost use Rattle.hm_explain.specs.Holes.{IsCulprit};
+ghost use Rattle.hm_explain.specs.Mends.{IsMend};
 ghost use Rattle.hm_names.specs.declared.faults.Kind.TheVariants.{Untyped};
-ghost use Rattle.hm_build_output.specs.Explanations.{IsNote, IsNoted};
+ghost use Rattle.hm_build_output.specs.Explanations.{IsNote, IsNoted, first_of as first_place, other_of as other_place, way_of as told_way};
 
-use hm_explain::{Culprit, Effort, Question, culprit_of};
+use hm_explain::{Effort, Mend, Question, mend_of};
 use hm_lex::Place;
-use hm_messages::{MessageFault, Page, Paint, Topic, fault_message, message};
+use hm_messages::{MessageFault, Page, Paint, Topic, Way, fault_message, message};
 use hm_messages_details::Detail;
 use hm_names::{Fault, Kind};
 use std::alloc::{AllocError, Global};
@@ -22,23 +22,55 @@ pub(crate) struct FaultyModule<'f, 'p> {
     pub faults: &'f [Fault],
 }
 
-/// A part without which the definition of a type fault has a type, where one is found; none where memory or the effort doesn't suffice to
-/// look for it.
-fn part_for(
+/// What gives the definition of a type fault a type, where it is found; none where memory or the effort doesn't suffice to look for it.
+fn mend_for(
     alloc: Global,
     module: &FaultyModule<'_, '_>,
     fault: &Fault,
     effort: &mut Effort,
-) -> Option<Culprit>
-    ensures { IfSome result (λ part. (fault.now.kind ≡ Untyped) × IsCulprit «module».now.question.now.source.now «module».now.question.now.name.now
-        (map arc_value «module».now.question.now.imports.now) fault.now.name part) }
+) -> Option<Mend>
+    ensures { IfSome result (λ mend. (fault.now.kind ≡ Untyped) × IsMend «module».now.question.now.source.now «module».now.question.now.name.now
+        (map arc_value «module».now.question.now.imports.now) fault.now.name mend) }
 {
     if fault.kind != Kind::Untyped {
         return None;
     }
-    match culprit_of(alloc, module.question, fault, module.faults, effort) {
+    match mend_of(alloc, module.question, fault, module.faults, effort) {
         Ok(found) => found,
         Err(AllocError) => None,
+    }
+}
+
+/// Where what is told begins.
+fn first_of(mend: &Mend) -> Place
+    ensures { result ≡ first_place mend.now }
+{
+    match mend {
+        Mend::Expression(part) => part.start,
+        Mend::Pattern(part) => part.start,
+        Mend::Exchange(first, _) => first.start,
+    }
+}
+
+/// The other place that is told: where it ends, or where the second expression begins.
+fn other_of(mend: &Mend) -> Place
+    ensures { result ≡ other_place mend.now }
+{
+    match mend {
+        Mend::Expression(part) => part.end,
+        Mend::Pattern(part) => part.end,
+        Mend::Exchange(_, second) => second.start,
+    }
+}
+
+/// How it is told, with this as the other place.
+fn way_of(mend: &Mend, other: Place) -> Way
+    ensures { result ≡ told_way mend.now other }
+{
+    match mend {
+        Mend::Expression(_) => Way::Expression(other),
+        Mend::Pattern(_) => Way::Pattern(other),
+        Mend::Exchange(_, _) => Way::Exchange(other),
     }
 }
 
@@ -54,18 +86,19 @@ fn note_for(
     ensures { IfOk result (λ text. (text.items ≡ []) ⊎ IsNote «module».now.paint «module».now.page.now.file.now «module».now.page.now.lines
         «module».now.question.now.name.now (map arc_value «module».now.question.now.imports.now) fault.now text.items) }
 {
-    let Some(part) = part_for(alloc, module, fault, effort) else {
+    let Some(mend) = mend_for(alloc, module, fault, effort) else {
         return Ok(Vec::new(alloc));
     };
-    let Some(columns) = module.page.lines.columns(part.end) else {
+    let other = other_of(&mend);
+    let Some(columns) = module.page.lines.columns(other) else {
         return Ok(Vec::new(alloc));
     };
-    let end = Place {
-        line: part.end.line,
+    let place = Place {
+        line: other.line,
         column: columns.characters,
     };
-    let topic = Topic::Replaceable(fault.name.as_str(), end);
-    Ok(message(alloc, module.paint, module.page, part.start, &topic)?)
+    let topic = Topic::Replaceable(fault.name.as_str(), way_of(&mend, place));
+    Ok(message(alloc, module.paint, module.page, first_of(&mend), &topic)?)
 }
 
 /// The message of a fault with its note.

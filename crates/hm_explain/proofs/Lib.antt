@@ -1,2 +1,4 @@
 pub mod Elsewhere
+pub mod Pieces
 pub mod WorkedHoles
+pub mod WorkedMends

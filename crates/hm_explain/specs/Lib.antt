@@ -1,2 +1,3 @@
 pub mod Holes
+pub mod Mends
 pub mod Worked

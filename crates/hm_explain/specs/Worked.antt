@@ -1,5 +1,5 @@
--- Worked examples of holes, parts, verdicts and sources.
-use Rattle.std.specs.Prelude.{◌≡◌, ℕ, List, [], ◌∷◌, Contains, codes}
+-- Worked examples of holes, parts, verdicts, sources and mends.
+use Rattle.std.specs.Prelude.{◌≡◌, ℕ, ◌+◌, List, [], ◌∷◌, Contains, codes}
 use Rattle.hm_lex.specs.declared.token.Place.{Place}
 use Rattle.hm_types.specs.Interfaces.{Exports as Interface}
 use Rattle.hm_types.specs.StandardPrelude.{prelude_interface}
@@ -11,6 +11,10 @@ use Rattle.hm_names.specs.declared.faults.Kind.TheVariants.{Arity, Untyped}
 use Rattle.hm_verdicts.specs.ModuleVerdicts.{Good, Faulty, IsVerdict}
 use Rattle.hm_verdicts.specs.Worked.{module_A, module_B}
 use Rattle.hm_explain.specs.Holes.{AreTyped, HasTypesIn, IsPartOf, with_hole}
+use Rattle.hm_explain.specs.Mends.{IsInside, bindings, with_exchanged, with_wildcard}
+use Rattle.hm_explain.specs.declared.mends.Frame.TheVariants.{Where, Front}
+use Rattle.hm_explain.specs.declared.mends.Span.{Span}
+use Rattle.hm_explain.specs.declared.search.Culprit.{Culprit}
 
 -- with the hole in place of x, and before x in place of no bytes
 pub record HolesRow : Type 0 where
@@ -45,3 +49,18 @@ pub record TypesRow : Type 0 where
   pub of_names : (source : List ℕ) (names : List (List ℕ)) → HasModules source (module_B ∷ []) → ¬ (HasTypesIn source (codes "B") [] names)
   pub untyped : (source name : List ℕ) (fs : List Interface) (names : List (List ℕ)) (m : Module) (found : List Fault) (f : Fault) → HasModules source (m ∷ [])
       → IsVerdict m (prelude_interface ∷ fs) (Faulty found) → Contains found f → Contains names f.name → ¬ (HasTypesIn source name fs names)
+
+abbrev pub span : ℕ → ℕ → Span
+span from to = record { from = from; to = to }
+
+abbrev pub part : ℕ → ℕ → Culprit
+part from to = record { from = from; to = to; start = at_column (from + 1); end = at_column to }
+
+-- Without its pattern [x], f has x in a where of its own; where it has one, x is the first of it. With x and y exchanged, each is in brackets
+pub record MendsRow : Type 0 where
+  pub own : with_wildcard (codes "f [x] = x") 2 5 9 (bindings (codes "f [x] = x") Where (span 3 4 ∷ [])) ≡ codes "f _ = x where { x = (let { h = h } in h) ; }"
+  pub there : with_wildcard (codes "f [x] = y where {y = x}") 2 5 17 (bindings (codes "f [x] = y where {y = x}") Front (span 3 4 ∷ [])) ≡ codes "f _ = y where { x = (let { h = h } in h) ; y = x}"
+  pub inside : IsInside (part 2 5) (span 3 4)
+  pub outside : ¬ (IsInside (part 2 5) (span 8 9))
+  pub exchanged : with_exchanged (codes "f x y") (part 2 3) (part 4 5) ≡ codes "f (y) (x)"
+  pub stays : ¬ (with_exchanged (codes "f x y") (part 2 3) (part 4 5) ≡ codes "f (x) (y)")

@@ -2,6 +2,7 @@
 use crate::edits::{Edit, Filling, before, behind, bracketed, in_place};
 use crate::parts::{Part, Role};
 use crate::tokens::{Lexed, Outline, Run};
+use crate::told::Told;
 use crate::trial::HOLE;
 use hm_parse_grammar::Symbol;
 use std::alloc::{AllocError, Global};
@@ -17,8 +18,8 @@ const LAST_ARGUMENT: &str = " (let { h = h } in h))";
 /// A change of an expression: edits in two places.
 #[derive(Clone, Copy)]
 pub(crate) struct Change {
-    /// The expression that is told if the change gives a definition a type. With a hole in place of it, the definition has one too.
-    pub told: Run,
+    /// What is told if the change gives a definition a type. With a hole in place of an expression that is told, the definition has one too.
+    pub told: Told,
     pub first: Edit,
     pub second: Edit,
 }
@@ -43,12 +44,11 @@ fn atoms_of(alloc: Global, outline: &Outline, run: Run) -> Result<Vec<Run>, Allo
 fn add_exchange(
     found: &mut Vec<Change>,
     lexed: &Lexed<'_>,
-    whole: Run,
     first: Run,
     second: Run,
 ) -> Result<(), AllocError> {
     found.push(Change {
-        told: whole,
+        told: Told::Exchange(first, second),
         first: in_place(lexed, first, bracketed(lexed, second)),
         second: in_place(lexed, second, bracketed(lexed, first)),
     })?;
@@ -59,12 +59,11 @@ fn add_exchange(
 fn add_exchanges(
     found: &mut Vec<Change>,
     lexed: &Lexed<'_>,
-    whole: Run,
     items: &[Run],
 ) -> Result<(), AllocError> {
     for second in 1..items.len() {
         for first in 0..second {
-            add_exchange(found, lexed, whole, items[first], items[second])?;
+            add_exchange(found, lexed, items[first], items[second])?;
         }
     }
     Ok(())
@@ -89,7 +88,7 @@ fn add_without_one(
             end: atoms[number].end,
         };
         found.push(Change {
-            told,
+            told: Told::Expression(told),
             first: in_place(lexed, atoms[number], NOTHING),
             second: behind(lexed, whole, NOTHING),
         })?;
@@ -111,7 +110,7 @@ fn add_with_one_more(
             end: atom.end,
         };
         found.push(Change {
-            told,
+            told: Told::Expression(told),
             first: behind(lexed, atom, Filling::Text(HOLE)),
             second: behind(lexed, whole, NOTHING),
         })?;
@@ -132,7 +131,7 @@ fn add_of_application(
         return Ok(());
     }
     let arguments = &atoms[1..];
-    add_exchanges(found, lexed, whole, arguments)?;
+    add_exchanges(found, lexed, arguments)?;
     add_without_one(found, lexed, whole, atoms)?;
     add_with_one_more(found, lexed, whole, atoms)
 }
@@ -145,7 +144,7 @@ fn add_of_name(found: &mut Vec<Change>, lexed: &Lexed<'_>, name: Run) -> Result<
     }
     if name.end.saturating_sub(name.start) == 1 {
         found.push(Change {
-            told: name,
+            told: Told::Expression(name),
             first: before(lexed, name, Filling::Text("(")),
             second: behind(lexed, name, Filling::Text(LAST_ARGUMENT)),
         })?;
@@ -171,7 +170,7 @@ fn add_unlisted(found: &mut Vec<Change>, lexed: &Lexed<'_>, list: Run) -> Result
             end: list.end.saturating_sub(1),
         };
         found.push(Change {
-            told: list,
+            told: Told::Expression(list),
             first: in_place(lexed, list, bracketed(lexed, inner)),
             second: behind(lexed, list, NOTHING),
         })?;
@@ -179,7 +178,7 @@ fn add_unlisted(found: &mut Vec<Change>, lexed: &Lexed<'_>, list: Run) -> Result
     Ok(())
 }
 
-/// Adds, for each list of one element in the pattern of a lambda, the change into that element.
+/// Adds, for each list of one element in a pattern, the change into that element.
 fn add_unlisted_inside(
     found: &mut Vec<Change>,
     lexed: &Lexed<'_>,
@@ -196,9 +195,9 @@ fn add_unlisted_inside(
                 end: list.end.saturating_sub(1),
             };
             found.push(Change {
-                told: part.around,
+                told: Told::Pattern(part.run, part.around),
                 first: in_place(lexed, list, bracketed(lexed, inner)),
-                second: behind(lexed, part.around, NOTHING),
+                second: behind(lexed, list, NOTHING),
             })?;
         }
     }
@@ -209,7 +208,6 @@ fn add_unlisted_inside(
 fn add_of_pair(
     found: &mut Vec<Change>,
     lexed: &Lexed<'_>,
-    whole: Run,
     inner: Run,
     separator: Symbol,
 ) -> Result<(), AllocError> {
@@ -226,7 +224,7 @@ fn add_of_pair(
     };
     match lexed.outline.find(second.start, second.end, separator) {
         Some(_) => Ok(()),
-        None => add_exchange(found, lexed, whole, first, second),
+        None => add_exchange(found, lexed, first, second),
     }
 }
 
@@ -250,9 +248,9 @@ pub(crate) fn changes_at(
                 start: around.start.saturating_add(1),
                 end: around.end.saturating_sub(1),
             };
-            add_of_pair(&mut found, lexed, around, inner, Symbol::Comma)?;
+            add_of_pair(&mut found, lexed, inner, Symbol::Comma)?;
         }
-        Role::Operand => add_of_pair(&mut found, lexed, around, around, Symbol::Colon)?,
+        Role::Operand => add_of_pair(&mut found, lexed, around, Symbol::Colon)?,
         Role::Pattern => {
             add_unlisted_inside(&mut found, lexed, part)?;
             return Ok(found);

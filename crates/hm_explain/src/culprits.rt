@@ -1,10 +1,10 @@
 //! The search for the parts without which a definition has a type.
 use crate::costs::{Effort, MOST_TRIALS};
-use crate::edits::{Edit, Filling, before, copied, edited, in_place};
+use crate::edits::{Edit, Filling, edited, in_place};
 use crate::parts::{Part, Role, parts_below};
+use crate::patterns::add_open_patterns;
 use crate::tokens::{Lexed, Run};
 use crate::trial::{HOLE, Question, has_types_in};
-use hm_parse_grammar::Symbol;
 use std::alloc::{AllocError, Global};
 
 /// From how many parts on halves of them are asked about first.
@@ -41,38 +41,16 @@ pub(crate) fn is_mended_by(
     )
 }
 
-// Why: docs/DECISIONS.md, "Patterns".
-/// Appends what takes a pattern of a lambda away: `_` in place of it, and a hole for each of its variables in front of the body.
-fn add_open_pattern(
-    edits: &mut Vec<Edit>,
-    lexed: &Lexed<'_>,
-    pattern: Part,
-) -> Result<(), AllocError> {
-    let outline = lexed.outline;
-    let Run { start, end } = pattern.around;
-    let Some(arrow) = outline.find(start.saturating_add(1), end, Symbol::Arrow) else {
-        return Ok(());
-    };
-    let body = Run {
-        start: arrow.saturating_add(1),
-        end,
-    };
-    edits.push(in_place(lexed, pattern.run, Filling::Text("_")))?;
-    edits.push(before(lexed, body, Filling::Text("let { ")))?;
-    for at in pattern.run.start..pattern.run.end {
-        if outline.symbol(at).is(Symbol::Var) {
-            let name = Run {
-                start: at,
-                end: at.saturating_add(1),
-            };
-            edits.push(before(lexed, body, copied(lexed, name)))?;
-            edits.push(before(lexed, body, Filling::Text(" = ")))?;
-            edits.push(before(lexed, body, Filling::Text(HOLE)))?;
-            edits.push(before(lexed, body, Filling::Text(" ; ")))?;
-        }
+/// How many of the parts from this one on are patterns of the same clause, alternative or lambda.
+fn same_around(parts: &[Part], from: usize) -> usize {
+    if from >= parts.len() {
+        return 0;
     }
-    edits.push(before(lexed, body, Filling::Text("} in ")))?;
-    Ok(())
+    let start = parts[from].around.start;
+    parts[from..]
+        .iter()
+        .take_while(|part| part.role == Role::Pattern && part.around.start == start)
+        .count()
 }
 
 /// Holes in place of parts, which are in order: one for all of them where they are neighbours in a list.
@@ -89,11 +67,18 @@ fn holes(alloc: Global, lexed: &Lexed<'_>, parts: &[Part]) -> Result<Vec<Edit>, 
         edits.push(in_place(lexed, run, Filling::Text(HOLE)))?;
         return Ok(edits);
     }
-    for part in parts {
-        if part.role == Role::Pattern {
-            add_open_pattern(&mut edits, lexed, *part)?;
-        } else {
+    let mut next = 0usize;
+    for number in 0..parts.len() {
+        let part = parts[number];
+        if part.role != Role::Pattern {
             edits.push(in_place(lexed, part.run, Filling::Text(HOLE)))?;
+        } else if number >= next {
+            next = number.saturating_add(same_around(parts, number));
+            let patterns = Run {
+                start: number,
+                end: next,
+            };
+            add_open_patterns(&mut edits, lexed, part.around, parts_in(parts, patterns))?;
         }
     }
     edits.sort_by_key(|edit| edit.from)?;

@@ -12,13 +12,17 @@ mod culprits;
 mod cutting;
 mod edits;
 pub mod laws;
+mod mends;
 mod parts;
+mod patterns;
 mod places;
 mod ranking;
 mod search;
 mod tokens;
+mod told;
 mod trial;
 
 pub use crate::costs::Effort;
-pub use crate::search::{Culprit, culprit_of};
+pub use crate::mends::Mend;
+pub use crate::search::{Culprit, mend_of};
 pub use crate::trial::Question;

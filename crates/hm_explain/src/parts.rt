@@ -1,4 +1,5 @@
-//! The expressions that stand directly inside a definition or an expression (Haskell 98 Report, chapter 3).
+//! The expressions and patterns that stand directly inside a definition or an expression (Haskell 98 Report, chapter 3).
+use crate::binding::declaration_end;
 use crate::tokens::{Outline, Run};
 use hm_parse_grammar::Symbol;
 use std::alloc::{AllocError, Global};
@@ -16,7 +17,7 @@ pub(crate) enum Role {
     Component,
     /// Of `:`.
     Operand,
-    /// A pattern of a lambda that isn't a variable.
+    /// A pattern of a clause, an alternative or a lambda, or a part of one, that is no variable.
     Pattern,
 }
 
@@ -25,8 +26,22 @@ pub(crate) enum Role {
 pub(crate) struct Part {
     pub run: Run,
     pub role: Role,
-    /// The expression that it stands directly inside; its own run if it is a body.
+    /// The expression that it stands directly inside; its own run if it is a body. Of a pattern, the clause, alternative or lambda that it is of.
     pub around: Run,
+}
+
+/// Whether these tokens are no pattern that may be to blame: there are none, or one that fits every type.
+fn fits_all(outline: &Outline, run: Run) -> bool {
+    if run.start >= run.end {
+        return true;
+    }
+    if run.end.saturating_sub(run.start) > 1 {
+        return false;
+    }
+    match outline.symbol(run.start) {
+        Symbol::Var | Symbol::Wild | Symbol::At | Symbol::Tilde => true,
+        _ => false,
+    }
 }
 
 /// The parts that are found.
@@ -44,6 +59,14 @@ impl Found {
             self.parts.push(Part { run, role, around })?;
         }
         Ok(())
+    }
+
+    /// Appends a pattern of a clause, alternative or lambda, if it may be to blame.
+    fn add_pattern(&mut self, outline: &Outline, run: Run, around: Run) -> Result<(), AllocError> {
+        if fits_all(outline, run) {
+            return Ok(());
+        }
+        self.add_in(run, Role::Pattern, around)
     }
 
     /// Appends the right side, guard, body or branch of these tokens, if there are any.
@@ -119,9 +142,67 @@ fn spot_behind(spot: Spot, symbol: Symbol, at: usize) -> Option<Spot> {
     }
 }
 
-/// Adds the guards and right sides of a list of declarations or alternatives, and notes the lists of their `where`.
+/// Whether a declaration or an alternative, of which these are the tokens behind its patterns, is an alternative.
+fn is_alternative(outline: &Outline, behind: Run) -> bool {
+    let Some(arrow) = outline.find(behind.start, behind.end, Symbol::Arrow) else {
+        return false;
+    };
+    match outline.find(behind.start, behind.end, Symbol::Equals) {
+        Some(equals) => arrow < equals,
+        None => true,
+    }
+}
+
+/// Adds the patterns of a clause or an alternative, which stand before this token. A pattern binding has none.
+fn add_head(
+    found: &mut Found,
+    outline: &Outline,
+    whole: Run,
+    end: usize,
+) -> Result<(), AllocError> {
+    let start = whole.start;
+    let behind = Run {
+        start: end,
+        end: whole.end,
+    };
+    if is_alternative(outline, behind) {
+        return found.add_pattern(outline, Run { start, end }, whole);
+    }
+    let first = start.saturating_add(1);
+    if !outline.symbol(start).is(Symbol::Var)
+        || outline.symbol(first).is(Symbol::At)
+        || outline.find(start, end, Symbol::Colon).is_some()
+    {
+        return Ok(());
+    }
+    add_atoms(found, outline, Run { start: first, end }, whole)
+}
+
+/// Adds the patterns that are atoms next to each other.
+fn add_atoms(
+    found: &mut Found,
+    outline: &Outline,
+    atoms: Run,
+    whole: Run,
+) -> Result<(), AllocError> {
+    let mut next = atoms.start;
+    for at in atoms.start..atoms.end {
+        if at == next {
+            next = outline.past(at);
+            let atom = Run {
+                start: at,
+                end: next,
+            };
+            found.add_pattern(outline, atom, whole)?;
+        }
+    }
+    Ok(())
+}
+
+/// Adds the patterns, guards and right sides of a list of declarations or alternatives, and notes the lists of their `where`.
 fn add_right_sides(found: &mut Found, outline: &Outline, list: Run) -> Result<(), AllocError> {
     let mut spot = AT_PATTERNS;
+    let mut start = list.start;
     let mut next = list.start;
     for at in list.start..list.end {
         if at == next {
@@ -131,35 +212,19 @@ fn add_right_sides(found: &mut Found, outline: &Outline, list: Run) -> Result<()
                 found.add_list(outline, at)?;
             }
             if let Some(behind) = spot_behind(spot, symbol, at) {
+                if spot.expression.is_none() && behind.expression.is_some() {
+                    let end = declaration_end(outline, start).min(list.end);
+                    add_head(found, outline, Run { start, end }, at)?;
+                }
                 found.end(spot.expression, at)?;
                 spot = behind;
+            }
+            if symbol.is(Symbol::Semicolon) {
+                start = next;
             }
         }
     }
     found.end(spot.expression, list.end)
-}
-
-/// Adds the patterns of a lambda that are more than one token.
-fn add_patterns(
-    found: &mut Found,
-    outline: &Outline,
-    lambda: Run,
-    arrow: usize,
-) -> Result<(), AllocError> {
-    let mut next = lambda.start.saturating_add(1);
-    for at in next..arrow {
-        if at == next {
-            next = outline.past(at);
-            if next > at.saturating_add(1) {
-                let pattern = Run {
-                    start: at,
-                    end: next,
-                };
-                found.add_in(pattern, Role::Pattern, lambda)?;
-            }
-        }
-    }
-    Ok(())
 }
 
 /// Adds what a lambda, a `let` or a conditional has directly inside.
@@ -169,7 +234,11 @@ fn add_open_form(found: &mut Found, outline: &Outline, run: Run) -> Result<(), A
     match outline.symbol(start) {
         Symbol::Backslash => {
             if let Some(arrow) = outline.find(inner, end, Symbol::Arrow) {
-                add_patterns(found, outline, run, arrow)?;
+                let patterns = Run {
+                    start: inner,
+                    end: arrow,
+                };
+                add_atoms(found, outline, patterns, run)?;
                 found.add(arrow.saturating_add(1), end)?;
             }
         }
@@ -339,7 +408,7 @@ fn finished(found: Found, outline: &Outline) -> Result<Vec<Part>, AllocError> {
     Ok(found.parts)
 }
 
-/// The guards and right sides of a definition, those of its `where` among them.
+/// The patterns, guards and right sides of a definition, those of its `where` among them.
 pub(crate) fn right_sides(
     alloc: Global,
     outline: &Outline,
@@ -353,8 +422,27 @@ pub(crate) fn right_sides(
     finished(found, outline)
 }
 
+/// The patterns among the parts of one.
+fn patterns_in(
+    alloc: Global,
+    outline: &Outline,
+    inside: Found,
+    around: Run,
+) -> Result<Vec<Part>, AllocError> {
+    let mut found = Found {
+        parts: Vec::new(alloc),
+        lists: Vec::new(alloc),
+    };
+    for part in &inside.parts {
+        if part.role != Role::Function {
+            found.add_pattern(outline, part.run, around)?;
+        }
+    }
+    Ok(found.parts)
+}
+
 // Why: docs/DECISIONS.md, "Parts of a definition".
-/// The expressions that stand directly inside an expression.
+/// The expressions that stand directly inside an expression, or the patterns inside a pattern.
 pub(crate) fn parts_below(
     alloc: Global,
     outline: &Outline,
@@ -364,8 +452,9 @@ pub(crate) fn parts_below(
         parts: Vec::new(alloc),
         lists: Vec::new(alloc),
     };
-    if part.role != Role::Pattern {
-        add_below(&mut found, outline, part.run)?;
+    add_below(&mut found, outline, part.run)?;
+    if part.role == Role::Pattern {
+        return patterns_in(alloc, outline, found, part.around);
     }
     finished(found, outline)
 }

@@ -3,7 +3,9 @@ use crate::changes::{Change, changes_at};
 use crate::costs::Effort;
 use crate::culprits::{Searched, is_mended_by};
 use crate::parts::{Part, Role};
-use crate::tokens::Run;
+use crate::tokens::{Outline, Run};
+use crate::told::Told;
+use hm_parse_grammar::Symbol;
 use std::alloc::{AllocError, Global};
 
 /// A part without which a definition has a type.
@@ -12,22 +14,37 @@ struct Suspect {
     /// Where the part begins.
     start: usize,
     /// What is told: the part, or what stands round a change of it.
-    told: Run,
+    told: Told,
     points: usize,
+}
+
+/// Whether a part is one literal or constructor.
+fn is_constant(outline: &Outline, run: Run) -> bool {
+    if run.end.saturating_sub(run.start) != 1 {
+        return false;
+    }
+    match outline.symbol(run.start) {
+        Symbol::Con | Symbol::QCon | Symbol::Integer | Symbol::Character | Symbol::Text => true,
+        _ => false,
+    }
 }
 
 // Why: docs/DECISIONS.md, "Points".
 /// How likely a part is to be the slip if no change of it gives the definition a type. A function comes behind its arguments, since any fault
 /// of these is gone with another function too. The numbers were found on slips in good modules; docs/DECISIONS.md says how.
-fn points_of(role: Role) -> usize {
-    match role {
-        Role::Function | Role::Pattern => 1,
-        _ => 2,
+fn points_of(outline: &Outline, part: Part) -> usize {
+    let points = match part.role {
+        Role::Function | Role::Pattern => 2usize,
+        _ => 4,
+    };
+    if is_constant(outline, part.run) {
+        return points.saturating_add(1);
     }
+    points
 }
 
 /// How much likelier it is if a small change of it gives the definition a type.
-const POINTS_OF_CHANGE: usize = 2;
+const POINTS_OF_CHANGE: usize = 4;
 
 /// Whether a part is a function, and one of these parts lies in its arguments.
 fn has_faulty_argument(parts: &[Part], part: Part) -> bool {
@@ -59,7 +76,7 @@ fn judged_part(
     effort: &mut Effort,
 ) -> Result<Suspect, AllocError> {
     let start = part.run.start;
-    let points = points_of(part.role);
+    let points = points_of(searched.lexed.outline, part);
     let changes = changes_for(alloc, searched, parts, part)?;
     for change in &changes {
         let edits = [change.first, change.second];
@@ -72,8 +89,8 @@ fn judged_part(
         }
     }
     let told = match part.role {
-        Role::Pattern => part.around,
-        _ => part.run,
+        Role::Pattern => Told::Pattern(part.run, part.around),
+        _ => Told::Expression(part.run),
     };
     Ok(Suspect {
         start,
@@ -88,7 +105,7 @@ pub(crate) fn likeliest(
     searched: &Searched<'_, '_>,
     parts: &[Part],
     effort: &mut Effort,
-) -> Result<Option<Run>, AllocError> {
+) -> Result<Option<Told>, AllocError> {
     let mut best: Option<Suspect> = None;
     for part in parts {
         let suspect = judged_part(alloc, searched, parts, *part, effort)?;

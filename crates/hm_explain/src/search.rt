@@ -1,19 +1,24 @@
-//! The search for a part without which a definition has a type.
-ghost use Rattle.std.specs.Prelude.{◌≡◌, ◌≤◌, IfOk, IfSome, length, map, take};
+//! The search for what gives a definition a type.
+ghost use Rattle.std.specs.Prelude.{◌≡◌, ◌≤◌, ◌<◌, IfOk, IfSome, length, map, take};
 ghost use Rattle.std.specs.Arc.{arc_value};
-ghost use Rattle.hm_explain.specs.Holes.{IsCulprit};
+ghost use Rattle.hm_explain.specs.Holes.{IsPartOf};
+ghost use Rattle.hm_explain.specs.Mends.{IsMend};
 
 use crate::binding::{binding_at, names_in};
 use crate::costs::{Effort, cost_of};
 use crate::culprits::{Searched, culprits};
 use crate::cutting::{Cut, cut_of};
+use crate::mends::{Mend, Rebound, Span, types_exchanged, types_with_pattern};
 use crate::parts::right_sides;
+use crate::patterns::spot_in;
 use crate::places::place_behind;
 use crate::ranking::likeliest;
-use crate::tokens::{Lexed, Outline, Run};
+use crate::tokens::{Lexed, Outline, Run, one};
+use crate::told::Told;
 use crate::trial::{Question, types_without};
 use hm_lex::{LexFault, Place, Token, lex};
 use hm_names::Fault;
+use hm_parse_grammar::Symbol;
 use std::alloc::{AllocError, Global};
 
 /// The longest source whose faults are explained, in bytes.
@@ -71,26 +76,26 @@ fn token_at(tokens: &[Token], byte: usize) -> usize {
     tokens.iter().take_while(|token| token.start < byte).count()
 }
 
-/// The part of a definition that is told.
+/// What is told of a definition.
 fn likeliest_in(
     alloc: Global,
     searched: &Searched<'_, '_>,
     definition: Run,
     effort: &mut Effort,
-) -> Result<Option<Run>, AllocError> {
+) -> Result<Option<Told>, AllocError> {
     let top = right_sides(alloc, searched.lexed.outline, definition)?;
     let found = culprits(alloc, searched, top.as_slice(), effort)?;
     likeliest(alloc, searched, found.as_slice(), effort)
 }
 
-/// The part of a definition of so many tokens that is told, in tokens from the first one of the definition on.
-fn part_in_cut(
+/// What is told of a definition, which is searched in this smaller source.
+fn told_in_cut(
     alloc: Global,
     searched: &Searched<'_, '_>,
     cut: &Cut,
-    size: usize,
+    definition: Run,
     effort: &mut Effort,
-) -> Result<Option<Run>, AllocError> {
+) -> Result<Option<Told>, AllocError> {
     let source = cut.text.as_slice();
     let Some(reading) = reading_of(alloc, source)? else {
         return Ok(None);
@@ -109,87 +114,174 @@ fn part_in_cut(
         cost: cost_of(source, &reading.outline),
     };
     let start = token_at(tokens, cut.definition);
+    let size = definition.end.saturating_sub(definition.start);
     let end = start.saturating_add(size);
     let Some(told) = likeliest_in(alloc, &smaller, Run { start, end }, effort)? else {
         return Ok(None);
     };
-    Ok(Some(Run {
-        start: told.start.saturating_sub(start),
-        end: told.end.saturating_sub(start),
-    }))
+    Ok(Some(told.moved(start, definition.start)))
 }
 
-/// The part of a definition that is told, which is searched in a smaller source.
-fn part_in(
+/// What is told of a definition, which is searched in a smaller source.
+fn told_in(
     alloc: Global,
     searched: &Searched<'_, '_>,
     definition: Run,
     effort: &mut Effort,
-) -> Result<Option<Run>, AllocError> {
-    let Some(cut) = cut_of(alloc, searched.lexed, definition)? else {
-        return Ok(None);
-    };
-    let size = definition.end.saturating_sub(definition.start);
-    let Some(told) = part_in_cut(alloc, searched, &cut, size, effort)? else {
-        return Ok(None);
-    };
-    Ok(Some(Run {
-        start: told.start.saturating_add(definition.start),
-        end: told.end.saturating_add(definition.start),
-    }))
+) -> Result<Option<Told>, AllocError> {
+    match cut_of(alloc, searched.lexed, definition)? {
+        Some(cut) => told_in_cut(alloc, searched, &cut, definition, effort),
+        None => Ok(None),
+    }
 }
 
-/// The part, if the definition has a type with the hole in place of it.
-fn confirmed(
+/// A part of a source.
+fn part_at(source: &[u8], from: usize, to: usize) -> Culprit
+    requires some { from < to }
+    requires within { to ≤ length source.now }
+    ensures { IsPartOf source.now result }
+{
+    Culprit {
+        from,
+        to,
+        start: place_behind(source, from),
+        end: place_behind(source, to - 1),
+    }
+}
+
+/// The part of a source that these tokens are.
+fn part_of(tokens: &[Token], run: Run, source: &[u8]) -> Option<Culprit>
+    ensures { IfSome result (IsPartOf source.now) }
+{
+    let (from, to) = bytes_of(tokens, run, source)?;
+    if from >= to {
+        return None;
+    }
+    Some(part_at(source, from, to))
+}
+
+/// An expression, if the definition has a type with the hole in place of it.
+fn expression_mend(
     alloc: Global,
     searched: &Searched<'_, '_>,
-    part: Run,
-) -> Result<Option<Culprit>, AllocError>
-    ensures { IfOk result (λ found. IfSome found (IsCulprit searched.now.question.now.source.now searched.now.question.now.name.now
+    run: Run,
+) -> Result<Option<Mend>, AllocError>
+    ensures { IfOk result (λ found. IfSome found (IsMend searched.now.question.now.source.now searched.now.question.now.name.now
         (map arc_value searched.now.question.now.imports.now) searched.now.definition.now)) }
 {
     let question = searched.question;
-    let Some((from, to)) = bytes_of(searched.lexed.tokens, part, question.source) else {
+    let Some(part) = part_of(searched.lexed.tokens, run, question.source) else {
         return Ok(None);
     };
-    if from >= to {
+    let bytes = (part.from, part.to);
+    if !types_without(alloc, question, bytes, searched.definition, searched.others)? {
         return Ok(None);
     }
-    if !types_without(
-        alloc,
-        question,
-        (from, to),
-        searched.definition,
-        searched.others,
-    )? {
+    Ok(Some(Mend::Expression(part)))
+}
+
+/// The variables of a pattern.
+fn variables_in(alloc: Global, lexed: &Lexed<'_>, pattern: Run) -> Result<Vec<Span>, AllocError> {
+    let mut found = Vec::new(alloc);
+    for at in pattern.start..pattern.end {
+        if lexed.outline.symbol(at).is(Symbol::Var) {
+            let run = one(at);
+            found.push(Span {
+                from: lexed.start(at),
+                to: lexed.end(run),
+            })?;
+        }
+    }
+    Ok(found)
+}
+
+// Why: docs/DECISIONS.md, "Patterns".
+/// A pattern of a clause, alternative or lambda, if the definition has a type without it.
+fn pattern_mend(
+    alloc: Global,
+    searched: &Searched<'_, '_>,
+    pattern: Run,
+    around: Run,
+) -> Result<Option<Mend>, AllocError>
+    ensures { IfOk result (λ found. IfSome found (IsMend searched.now.question.now.source.now searched.now.question.now.name.now
+        (map arc_value searched.now.question.now.imports.now) searched.now.definition.now)) }
+{
+    let lexed = searched.lexed;
+    let Some(part) = part_of(lexed.tokens, pattern, searched.question.source) else {
+        return Ok(None);
+    };
+    let Some(spot) = spot_in(lexed, around) else {
+        return Ok(None);
+    };
+    let variables = variables_in(alloc, lexed, pattern)?;
+    let rebound = Rebound {
+        at: spot.at,
+        frame: spot.frame,
+        variables: variables.as_slice(),
+    };
+    if !types_with_pattern(alloc, searched, part, &rebound)? {
         return Ok(None);
     }
-    Ok(Some(Culprit {
-        from,
-        to,
-        start: place_behind(question.source, from),
-        end: place_behind(question.source, to - 1),
-    }))
+    Ok(Some(Mend::Pattern(part)))
+}
+
+/// Two expressions, if the definition has a type with them exchanged.
+fn exchange_mend(
+    alloc: Global,
+    searched: &Searched<'_, '_>,
+    first: Run,
+    second: Run,
+) -> Result<Option<Mend>, AllocError>
+    ensures { IfOk result (λ found. IfSome found (IsMend searched.now.question.now.source.now searched.now.question.now.name.now
+        (map arc_value searched.now.question.now.imports.now) searched.now.definition.now)) }
+{
+    let source = searched.question.source;
+    let Some(first) = part_of(searched.lexed.tokens, first, source) else {
+        return Ok(None);
+    };
+    let Some(second) = part_of(searched.lexed.tokens, second, source) else {
+        return Ok(None);
+    };
+    if !types_exchanged(alloc, searched, first, second)? {
+        return Ok(None);
+    }
+    Ok(Some(Mend::Exchange(first, second)))
+}
+
+/// What is told, if it gives the definition a type.
+fn confirmed(
+    alloc: Global,
+    searched: &Searched<'_, '_>,
+    told: Told,
+) -> Result<Option<Mend>, AllocError>
+    ensures { IfOk result (λ found. IfSome found (IsMend searched.now.question.now.source.now searched.now.question.now.name.now
+        (map arc_value searched.now.question.now.imports.now) searched.now.definition.now)) }
+{
+    match told {
+        Told::Expression(run) => Ok(expression_mend(alloc, searched, run)?),
+        Told::Pattern(run, around) => Ok(pattern_mend(alloc, searched, run, around)?),
+        Told::Exchange(first, second) => Ok(exchange_mend(alloc, searched, first, second)?),
+    }
 }
 
 // Why: docs/DECISIONS.md, "Notes at type faults".
-/// A part of the definition that a type fault tells, such that the definition has a type with the hole in place of it: the likeliest of
-/// those that are found. `faults` are all faults of the module, and `effort` is less by what the search costs.
+/// What gives the definition a type that a type fault tells: the likeliest of what is found. `faults` are all faults of the module, and
+/// `effort` is less by what the search costs.
 ///
-/// None where no part is found, or where the effort doesn't pay for a trial; of a source of more than 65,536 bytes, and of a definition
+/// None where nothing is found, or where the effort doesn't pay for a trial; of a source of more than 65,536 bytes, and of a definition
 /// that mentions more than 256 names.
 ///
 /// # Errors
 ///
 /// Memory ran out, or a type would have grown past the limits of the question.
-pub fn culprit_of(
+pub fn mend_of(
     alloc: Global,
     question: &Question<'_>,
     fault: &Fault,
     faults: &[Fault],
     effort: &mut Effort,
-) -> Result<Option<Culprit>, AllocError>
-    ensures { IfOk result (λ found. IfSome found (IsCulprit question.now.source.now question.now.name.now (map arc_value question.now.imports.now)
+) -> Result<Option<Mend>, AllocError>
+    ensures { IfOk result (λ found. IfSome found (IsMend question.now.source.now question.now.name.now (map arc_value question.now.imports.now)
         fault.now.name)) }
 {
     let source = question.source;
@@ -225,8 +317,8 @@ pub fn culprit_of(
     if !effort.pays(searched.cost) {
         return Ok(None);
     }
-    let Some(part) = part_in(alloc, &searched, binding, effort)? else {
+    let Some(told) = told_in(alloc, &searched, binding, effort)? else {
         return Ok(None);
     };
-    confirmed(alloc, &searched, part)
+    confirmed(alloc, &searched, told)
 }

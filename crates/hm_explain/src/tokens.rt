@@ -14,6 +14,14 @@ pub(crate) struct Run {
     pub end: usize,
 }
 
+/// The run of one token.
+pub(crate) fn one(at: usize) -> Run {
+    Run {
+        start: at,
+        end: at.saturating_add(1),
+    }
+}
+
 /// What tokens are to the grammar, and where each bracket is closed.
 #[derive(Drop)]
 pub(crate) struct Outline {

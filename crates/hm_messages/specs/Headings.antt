@@ -14,6 +14,8 @@ use Rattle.hm_names.specs.declared.faults.Kind.TheVariants.{NotExported, Duplica
 use Rattle.hm_names.specs.Faults.Phases.{written_in}
 use Rattle.hm_verdicts.specs.Reports.{kind_word}
 use Rattle.hm_messages.specs.Subjects.{Subject, fault, replaceable, faulty, skipped, too_long, lexeme, open_comment, too_deep, syntax_fault, too_many, twice, missing, cycle, exhausted, step}
+use Rattle.hm_messages.specs.declared.topic.Way.{Way}
+use Rattle.hm_messages.specs.declared.topic.Way.TheVariants.{Expression, Pattern, Exchange}
 use Rattle.hm_messages.specs.declared.heading.Paint.{Paint}
 use Rattle.hm_messages.specs.declared.heading.Paint.TheVariants.{Plain, Coloured, Json}
 
@@ -114,8 +116,22 @@ abbrev pub fault_title : Kind → List ℕ → Known → List ℕ
 fault_title k x known = kind_title k x ++ detail_text known
 
 -- what is said of an expression that ends at this place
-abbrev pub replaceable_title : List ℕ → Place → List ℕ
-replaceable_title x p = codes "'" ++ x ++ codes "' has a type with another expression here (up to " ++ decimal p.line ++ codes ":" ++ decimal p.column ++ codes ")"
+abbrev pub expression_title : List ℕ → Place → List ℕ
+expression_title x p = codes "'" ++ x ++ codes "' has a type with another expression here (up to " ++ decimal p.line ++ codes ":" ++ decimal p.column ++ codes ")"
+
+-- what is said of a pattern that ends at this place
+abbrev pub pattern_title : List ℕ → Place → List ℕ
+pattern_title x p = codes "'" ++ x ++ codes "' has a type with another pattern here (up to " ++ decimal p.line ++ codes ":" ++ decimal p.column ++ codes ")"
+
+-- what is said of an expression that changes places with the one at this place
+abbrev pub exchange_title : List ℕ → Place → List ℕ
+exchange_title x p = codes "'" ++ x ++ codes "' has a type with this expression and the one at " ++ decimal p.line ++ codes ":" ++ decimal p.column ++ codes " exchanged"
+
+-- in which way a definition has a type
+abbrev pub replaceable_title : List ℕ → Way → List ℕ
+replaceable_title x (Expression p) = expression_title x p
+replaceable_title x (Pattern p) = pattern_title x p
+replaceable_title x (Exchange p) = exchange_title x p
 
 abbrev pub title : Subject → List ℕ
 title (fault k x known) = fault_title k x known

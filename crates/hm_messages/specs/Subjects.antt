@@ -3,15 +3,15 @@ use Rattle.std.specs.Prelude.{ℕ, List}
 use Rattle.hm_messages_details.specs.Details.{Known, known_of}
 use Rattle.hm_messages_hints.specs.declared.lexeme_hints.LexemeHint.{LexemeHint}
 use Rattle.hm_messages_hints.specs.declared.syntax_hints.SyntaxHint.{SyntaxHint}
-use Rattle.hm_lex.specs.declared.token.Place.{Place}
 use Rattle.hm_names.specs.declared.faults.Kind.{Kind}
 use Rattle.hm_messages.specs.declared.topic.Topic.{Topic}
+use Rattle.hm_messages.specs.declared.topic.Way.{Way}
 use Rattle.hm_messages.specs.declared.topic.Topic.TheVariants as topic
 
--- a fault of a module; with another expression up to a place a definition has a type; a module is skipped for a faulty import, or for a skipped one; why a set is refused; a module that there is no memory to check; a step of a cycle
+-- a fault of a module; a way in which a definition has a type; a module is skipped for a faulty import, or for a skipped one; why a set is refused; a module that there is no memory to check; a step of a cycle
 pub data Subject : Type 0 where
   fault : Kind → List ℕ → Known → Subject
-  replaceable : List ℕ → Place → Subject
+  replaceable : List ℕ → Way → Subject
   faulty : List ℕ → Subject
   skipped : List ℕ → Subject
   too_long : Subject

@@ -1,10 +1,10 @@
 //! The first line of a message, behind its file's name.
 ghost use Rattle.std.specs.Prelude.{◌≡◌, IfOk, option_map, string_bytes};
-ghost use Rattle.hm_messages.specs.Headings.{begin, end, heading as heading_bytes, level_of as level_is, kind_of as kind_bytes, name_in, replaceable_title as replaceable_title_bytes, tag as tag_bytes, title as title_bytes};
+ghost use Rattle.hm_messages.specs.Headings.{begin, end, exchange_title as exchange_title_bytes, expression_title as expression_title_bytes, heading as heading_bytes, level_of as level_is, kind_of as kind_bytes, name_in, pattern_title as pattern_title_bytes, replaceable_title as replaceable_title_bytes, tag as tag_bytes, title as title_bytes};
 ghost use Rattle.hm_messages.specs.Subjects.{subject_of};
 
 use crate::fault_titles::fault_title;
-use crate::topic::Topic;
+use crate::topic::{Topic, Way};
 use hm_lex::Place;
 use hm_messages_excerpts::shown;
 use hm_messages_hints::{lexeme_text, syntax_text};
@@ -119,11 +119,40 @@ fn end(paint: Paint) -> &'static str
 }
 
 /// What is said of an expression that ends at this place.
-fn replaceable_title(alloc: Global, name: &str, end: Place) -> Result<String, AllocError>
-    ensures { IfOk result (λ text. string_bytes text ≡ replaceable_title_bytes name.now end) }
+fn expression_title(alloc: Global, name: &str, end: Place) -> Result<String, AllocError>
+    ensures { IfOk result (λ text. string_bytes text ≡ expression_title_bytes name.now end) }
 {
     let Place { line, column } = end;
     format!(in alloc; "'{name}' has a type with another expression here (up to {line}:{column})")
+}
+
+/// What is said of a pattern that ends at this place.
+fn pattern_title(alloc: Global, name: &str, end: Place) -> Result<String, AllocError>
+    ensures { IfOk result (λ text. string_bytes text ≡ pattern_title_bytes name.now end) }
+{
+    let Place { line, column } = end;
+    format!(in alloc; "'{name}' has a type with another pattern here (up to {line}:{column})")
+}
+
+/// What is said of an expression that changes places with the one at this place.
+fn exchange_title(alloc: Global, name: &str, other: Place) -> Result<String, AllocError>
+    ensures { IfOk result (λ text. string_bytes text ≡ exchange_title_bytes name.now other) }
+{
+    let Place { line, column } = other;
+    format!(in alloc;
+        "'{name}' has a type with this expression and the one at {line}:{column} exchanged"
+    )
+}
+
+/// In which way a definition has a type.
+fn replaceable_title(alloc: Global, name: &str, way: Way) -> Result<String, AllocError>
+    ensures { IfOk result (λ text. string_bytes text ≡ replaceable_title_bytes name.now way) }
+{
+    match way {
+        Way::Expression(end) => expression_title(alloc, name, end),
+        Way::Pattern(end) => pattern_title(alloc, name, end),
+        Way::Exchange(other) => exchange_title(alloc, name, other),
+    }
 }
 
 /// What is wrong, in a few words.
@@ -132,7 +161,7 @@ pub(crate) fn title(alloc: Global, topic: &Topic<'_>) -> Result<String, AllocErr
 {
     match topic {
         Topic::Fault(kind, named) => fault_title(alloc, *kind, named),
-        Topic::Replaceable(name, end) => replaceable_title(alloc, name, *end),
+        Topic::Replaceable(name, way) => replaceable_title(alloc, name, *way),
         Topic::Faulty(name) => format!(in alloc; "skipped, since '{name}' has errors"),
         Topic::Skipped(name) => format!(in alloc; "skipped, since '{name}' is skipped"),
         Topic::TooLong => String::from_str(alloc, "the source is too long"),

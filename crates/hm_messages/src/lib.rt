@@ -20,4 +20,4 @@ pub use crate::heading::Paint;
 pub use crate::messages::{MessageFault, message};
 pub use crate::pages::{ModuleStart, Page, Pages, pages_of};
 pub use crate::refusals::{headers_in, refusal_messages};
-pub use crate::topic::{Named, Topic};
+pub use crate::topic::{Named, Topic, Way};

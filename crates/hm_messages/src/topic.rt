@@ -11,13 +11,24 @@ pub struct Named<'a> {
     pub detail: Detail<'a>,
 }
 
+/// What gives a definition a type.
+#[derive(Clone, Copy)]
+pub enum Way {
+    /// Another expression, up to this place.
+    Expression(Place),
+    /// Another pattern, up to this place.
+    Pattern(Place),
+    /// That the expression changes places with the one that begins here.
+    Exchange(Place),
+}
+
 /// What a message tells. Names are as they are written.
 #[derive(Clone, Copy)]
 pub enum Topic<'a> {
     /// A fault of a module.
     Fault(Kind, Named<'a>),
-    /// With another expression up to this place a definition has a type.
-    Replaceable(&'a str, Place),
+    /// A definition has a type in this way.
+    Replaceable(&'a str, Way),
     /// A module is skipped, since it imports this one, which is faulty.
     Faulty(&'a str),
     /// A module is skipped, since it imports this one, which is skipped.

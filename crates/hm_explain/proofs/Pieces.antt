@@ -1,0 +1,14 @@
+-- Texts that are made of pieces.
+use Rattle.std.proofs.Common.{◌≡◌, ◌∙◌, ℕ, ◌+◌, ◌<◌, List, [], ◌∷◌, ◌++◌, length, take, get_or, append_assoc, sym, ap}
+use Rattle.std.specs.Prelude.{flat_map}
+use Rattle.std.proofs.lemmas.List.{flat_map_more, take_more}
+
+-- one piece for each element of a list: the step of a loop
+pub pieces_more : {X A : Type 0} (f : X → List A) (xs : List X) (i : ℕ) (d : X) (text next piece : List A) → i < length xs → text ≡ flat_map f (take i xs) → piece ≡ f (get_or xs i d) → next ≡ text ++ piece → next ≡ flat_map f (take (i + 1) xs)
+pieces_more f xs i d text next piece within before of_one e =
+    e ∙ (ap (λ t. t ++ piece) before ∙ (ap (λ p. flat_map f (take i xs) ++ p) of_one ∙ (flat_map_more f [] (take i xs) (get_or xs i d) ∙ sym (ap (flat_map f) (take_more xs i d within)))))
+
+-- four pieces, one put in behind the other
+pub four_pieces : {A : Type 0} (a b c d t u v w : List A) → t ≡ a → u ≡ t ++ b → v ≡ u ++ c → w ≡ v ++ d → w ≡ a ++ (b ++ (c ++ d))
+four_pieces a b c d t u v w e f g h =
+    h ∙ (ap (λ x. x ++ d) (g ∙ ap (λ x. x ++ c) (f ∙ ap (λ x. x ++ b) e)) ∙ (append_assoc (a ++ b) c d ∙ append_assoc a b (c ++ d)))

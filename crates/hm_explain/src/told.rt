@@ -1,0 +1,35 @@
+//! What the search finds, in tokens.
+use crate::tokens::Run;
+
+/// What is told of a definition.
+#[derive(Clone, Copy)]
+pub(crate) enum Told {
+    Expression(Run),
+    /// A pattern, and the clause, alternative or lambda that it is of.
+    Pattern(Run, Run),
+    /// Two expressions that change places.
+    Exchange(Run, Run),
+}
+
+/// The run, as if its token with the first number had the second one.
+fn moved(run: Run, from: usize, to: usize) -> Run {
+    Run {
+        start: run.start.saturating_sub(from).saturating_add(to),
+        end: run.end.saturating_sub(from).saturating_add(to),
+    }
+}
+
+impl Told {
+    /// The same, as if the token with the first number had the second one.
+    pub fn moved(self, from: usize, to: usize) -> Told {
+        match self {
+            Told::Expression(run) => Told::Expression(moved(run, from, to)),
+            Told::Pattern(run, around) => {
+                Told::Pattern(moved(run, from, to), moved(around, from, to))
+            }
+            Told::Exchange(first, second) => {
+                Told::Exchange(moved(first, from, to), moved(second, from, to))
+            }
+        }
+    }
+}
