@@ -32,8 +32,9 @@ operator_help name =
     (if bytes_eq name (codes "<") || bytes_eq name (codes ">") || bytes_eq name (codes "<=") || bytes_eq name (codes ">=") then codes "Numbers and characters can't be compared by order: use patterns.\n" else
     (if bytes_eq name (codes "!!") then codes "Write `head (drop n xs)` for `xs !! n`.\n" else
     (if bytes_eq name (codes "$!") then codes "Write `seq x (f x)` for `f $! x`.\n" else
+    (if bytes_eq name (codes "!") then codes "Leave it out before an argument of a constructor: no argument is strict.\n" else
     (if bytes_eq name (codes ">>=") || bytes_eq name (codes ">>") || bytes_eq name (codes "=<<") then codes "There is no IO and no monad.\n" else
-    codes "Define a function with a name, and write it before its arguments.\n"))))))))))
+    codes "Define a function with a name, and write it before its arguments.\n")))))))))))
 
 -- the second line
 abbrev pub lexeme_help : LexemeHint → List ℕ → List ℕ

@@ -82,6 +82,8 @@ fn operator_help(name: &[u8]) -> &'static str
         "Write `head (drop n xs)` for `xs !! n`.\n"
     } else if name == b"$!".as_slice() {
         "Write `seq x (f x)` for `f $! x`.\n"
+    } else if name == b"!".as_slice() {
+        "Leave it out before an argument of a constructor: no argument is strict.\n"
     } else if name == b">>=".as_slice() || name == b">>".as_slice() || name == b"=<<".as_slice() {
         "There is no IO and no monad.\n"
     } else {

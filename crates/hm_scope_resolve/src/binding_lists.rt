@@ -58,10 +58,7 @@ fn add_binding<'a>(
 }
 
 /// Returns the variables of the bindings of a list.
-pub(crate) fn binding_names<'a>(
-    alloc: Global,
-    decls: &'a [Decl],
-) -> Result<LentNames<'a>, AllocError>
+pub fn binding_names<'a>(alloc: Global, decls: &'a [Decl]) -> Result<LentNames<'a>, AllocError>
     ensures { IfOk result (λ names. names ≡ binding_names None (declarations decls.now)) }
 {
     let mut names = LentNames::new(alloc);

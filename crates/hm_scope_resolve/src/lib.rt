@@ -34,5 +34,8 @@ mod type_declarations;
 mod types;
 mod walking;
 
+pub use crate::binding_lists::binding_names;
+pub use crate::copies::special_arity;
+pub use crate::list_names::{add_names, constructor_names, signed_names, type_names};
 pub use crate::resolving::Resolving;
 pub use crate::walking::{Walked, walk};

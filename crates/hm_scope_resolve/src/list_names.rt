@@ -46,7 +46,7 @@ fn add_type<'a>(out: &mut LentNames<'a>, decl: &'a Decl) -> Result<(), AllocErro
 }
 
 /// Returns the types that a list declares.
-pub(crate) fn type_names<'a>(alloc: Global, decls: &'a [Decl]) -> Result<LentNames<'a>, AllocError>
+pub fn type_names<'a>(alloc: Global, decls: &'a [Decl]) -> Result<LentNames<'a>, AllocError>
     ensures { IfOk result (λ names. names ≡ type_names (declarations decls.now)) }
 {
     let mut names = LentNames::new(alloc);
@@ -71,10 +71,7 @@ fn add_declared_constructors<'a>(out: &mut LentNames<'a>, decl: &'a Decl) -> Res
 }
 
 /// Returns the constructors that a list declares.
-pub(crate) fn constructor_names<'a>(
-    alloc: Global,
-    decls: &'a [Decl],
-) -> Result<LentNames<'a>, AllocError>
+pub fn constructor_names<'a>(alloc: Global, decls: &'a [Decl]) -> Result<LentNames<'a>, AllocError>
     ensures { IfOk result (λ names. names ≡ constructor_names (declarations decls.now)) }
 {
     let mut names = LentNames::new(alloc);
@@ -99,10 +96,7 @@ fn add_signed<'a>(out: &mut LentNames<'a>, decl: &'a Decl) -> Result<(), AllocEr
 }
 
 /// Returns the variables with a signature in a list.
-pub(crate) fn signed_names<'a>(
-    alloc: Global,
-    decls: &'a [Decl],
-) -> Result<LentNames<'a>, AllocError>
+pub fn signed_names<'a>(alloc: Global, decls: &'a [Decl]) -> Result<LentNames<'a>, AllocError>
     ensures { IfOk result (λ names. names ≡ signed_names (declarations decls.now)) }
 {
     let mut names = LentNames::new(alloc);
@@ -127,10 +121,7 @@ fn add_clause<'a>(out: &mut LentNames<'a>, decl: &'a Decl) -> Result<(), AllocEr
 }
 
 /// Returns the variables that a list binds by clauses, once for each clause.
-pub(crate) fn clause_names<'a>(
-    alloc: Global,
-    decls: &'a [Decl],
-) -> Result<LentNames<'a>, AllocError>
+pub fn clause_names<'a>(alloc: Global, decls: &'a [Decl]) -> Result<LentNames<'a>, AllocError>
     ensures { IfOk result (λ names. names ≡ clause_names (declarations decls.now)) }
 {
     let mut names = LentNames::new(alloc);
