@@ -24,6 +24,7 @@ PROGRAM = "PROGRAM"
 PARTS = {
     "workers": ["bench/workers.py", PROGRAM],
     "instructions": ["bench/instructions.py", PROGRAM],
+    "profile": ["bench/profile.py", PROGRAM],
     "checks": ["bench/checks.py", PROGRAM],
     "many_modules": ["bench/many_modules.py", PROGRAM],
     "ghc": ["bench/ghc_times.py", PROGRAM],
