@@ -93,9 +93,12 @@ fn note_for(
     let Some(columns) = module.page.lines.columns(other) else {
         return Ok(Vec::new(alloc));
     };
+    let Ok(column) = u32::try_from(columns.characters) else {
+        return Ok(Vec::new(alloc));
+    };
     let place = Place {
         line: other.line,
-        column: columns.characters,
+        column,
     };
     let topic = Topic::Replaceable(fault.name.as_str(), way_of(&mend, place));
     Ok(message(alloc, module.paint, module.page, first_of(&mend), &topic)?)

@@ -47,6 +47,11 @@ fn past_semicolons(outline: &Outline, start: usize) -> usize {
     outline.len()
 }
 
+/// Returns the bytes of a token, or none if it isn't in the source.
+fn token_bytes<'a>(source: &'a [u8], token: &Token) -> &'a [u8] {
+    bytes_in(source, token.start as usize, token.end as usize)
+}
+
 /// Returns whether a clause of the variable at the token `variable` begins at the token `at`.
 pub(crate) fn is_clause_of(
     source: &[u8],
@@ -65,9 +70,7 @@ pub(crate) fn is_clause_of(
     if behind.begins_signature() || behind.continues_pattern() {
         return false;
     }
-    let here = &tokens[at];
-    let other = &tokens[variable];
-    bytes_in(source, here.start, here.end) == bytes_in(source, other.start, other.end)
+    token_bytes(source, &tokens[at]) == token_bytes(source, &tokens[variable])
 }
 
 /// Returns the tokens of the definition that begins at a place: all clauses that follow each other, or one pattern binding.

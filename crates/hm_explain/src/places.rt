@@ -7,8 +7,8 @@ use hm_lex::Place;
 
 /// Returns the place after a byte at a place.
 fn past(place: Place, byte: u8) -> Place
-    requires line { place.line + 1 < 2 ^ 64 }
-    requires column { place.column + 1 < 2 ^ 64 }
+    requires line { place.line + 1 < 2 ^ 32 }
+    requires column { place.column + 1 < 2 ^ 32 }
     ensures { result ≡ place_step place byte }
 {
     if byte == b'\n' {
@@ -26,6 +26,7 @@ fn past(place: Place, byte: u8) -> Place
 
 /// Returns the place after a text.
 fn place_behind_all(text: &[u8]) -> Place
+    requires { length text.now + 1 < 2 ^ 32 }
     ensures { result ≡ place_after text.now }
 {
     let mut place = Place { line: 1, column: 1 };
@@ -37,7 +38,8 @@ fn place_behind_all(text: &[u8]) -> Place
 
 /// Returns the place after the first bytes of a source.
 pub(crate) fn place_behind(source: &[u8], at: usize) -> Place
-    requires { at ≤ length source.now }
+    requires within { at ≤ length source.now }
+    requires short { at + 1 < 2 ^ 32 }
     ensures { result ≡ place_after (take at source.now) }
 {
     place_behind_all(&source[..at])

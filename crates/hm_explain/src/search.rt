@@ -1,5 +1,5 @@
 //! The search for what gives a definition a type.
-ghost use Rattle.std.specs.Prelude.{◌≡◌, ◌≤◌, ◌<◌, IfOk, IfSome, length, map, take};
+ghost use Rattle.std.specs.Prelude.{◌≡◌, ◌≤◌, ◌<◌, ◌^◌, IfOk, IfSome, length, map, take};
 ghost use Rattle.std.specs.Arc.{arc_value};
 ghost use Rattle.hm_explain.specs.Holes.{IsPartOf};
 ghost use Rattle.hm_explain.specs.Mends.{IsMend};
@@ -39,14 +39,16 @@ pub struct Culprit {
 
 /// The bytes of a run of tokens, from one number up to another.
 fn bytes_of(tokens: &[Token], run: Run, source: &[u8]) -> Option<(usize, usize)>
-    ensures { IfSome result (λ r. (r.0 ≤ r.1) × (r.1 ≤ length source.now)) }
+    ensures ordered { IfSome result (λ r. r.0 ≤ r.1) }
+    ensures within { IfSome result (λ r. r.1 ≤ length source.now) }
+    ensures short { IfSome result (λ r. r.1 < 2 ^ 32) }
 {
     let last = run.end.checked_sub(1)?;
     if run.start >= tokens.len() || last >= tokens.len() {
         return None;
     }
-    let from = tokens[run.start].start;
-    let to = tokens[last].end;
+    let from = tokens[run.start].start as usize;
+    let to = tokens[last].end as usize;
     if from <= to && to <= source.len() {
         return Some((from, to));
     }
@@ -73,7 +75,10 @@ fn reading_of(alloc: Global, source: &[u8]) -> Result<Option<Reading>, AllocErro
 
 /// The number of the token that begins at a byte, or of the first one behind it.
 fn token_at(tokens: &[Token], byte: usize) -> usize {
-    tokens.iter().take_while(|token| token.start < byte).count()
+    tokens
+        .iter()
+        .take_while(|token| (token.start as usize) < byte)
+        .count()
 }
 
 /// What is told of a definition.
@@ -139,6 +144,7 @@ fn told_in(
 fn part_at(source: &[u8], from: usize, to: usize) -> Culprit
     requires some { from < to }
     requires within { to ≤ length source.now }
+    requires short { to < 2 ^ 32 }
     ensures { IsPartOf source.now result }
 {
     Culprit {

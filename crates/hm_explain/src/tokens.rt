@@ -153,7 +153,7 @@ impl Lexed<'_> {
     /// The number of the first byte of a token; 0 of a token that isn't there.
     pub fn start(&self, at: usize) -> usize {
         if at < self.tokens.len() {
-            self.tokens[at].start
+            self.tokens[at].start as usize
         } else {
             0
         }
@@ -163,7 +163,7 @@ impl Lexed<'_> {
     pub fn end(&self, run: Run) -> usize {
         let last = run.end.saturating_sub(1);
         if last < self.tokens.len() {
-            self.tokens[last].end
+            self.tokens[last].end as usize
         } else {
             0
         }

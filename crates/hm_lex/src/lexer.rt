@@ -20,8 +20,8 @@ const MAX_DEPTH: usize = 200;
 impl Place {
     /// Returns the place after one byte.
     fn past(self, byte: u8) -> Place
-        requires line { self.line + 1 < 2 ^ 64 }
-        requires column { self.column + 1 < 2 ^ 64 }
+        requires line { self.line + 1 < 2 ^ 32 }
+        requires column { self.column + 1 < 2 ^ 32 }
         ensures { result ≡ place_step self byte }
     {
         if byte == b'\n' {
@@ -39,8 +39,8 @@ impl Place {
 
     /// Returns the place after a text that begins here.
     fn after(self, text: &[u8]) -> Place
-        requires line { self.line + length text.now < 2 ^ 64 }
-        requires column { self.column + length text.now < 2 ^ 64 }
+        requires line { self.line + length text.now < 2 ^ 32 }
+        requires column { self.column + length text.now < 2 ^ 32 }
         ensures { (before : List ℕ) → self ≡ place_after before → result ≡ place_after (before ++ text.now) }
     {
         let mut place = self;
@@ -53,14 +53,14 @@ impl Place {
     /// Returns the place after an item that begins here, with this text.
     fn behind(self, item: Item, text: &[u8]) -> Place
         requires shape { HasShape (shape_of item) text.now }
-        requires line { self.line + length text.now < 2 ^ 64 }
-        requires column { self.column + length text.now < 2 ^ 64 }
+        requires line { self.line + length text.now < 2 ^ 32 }
+        requires column { self.column + length text.now < 2 ^ 32 }
         ensures { (before : List ℕ) → self ≡ place_after before → result ≡ place_after (before ++ text.now) }
     {
         match item {
             Item::Lexeme(kind) if has_one_line(kind) => Place {
                 line: self.line,
-                column: self.column + text.len(),
+                column: self.column + text.len() as u32,
             },
             _ => self.after(text),
         }
@@ -108,16 +108,15 @@ fn add_token(
     len: usize,
     place: Place,
 ) -> Result<(), LexFault>
-    requires { start + len < 2 ^ 64 }
+    requires { start + len < 2 ^ 32 }
     ensures ok { OnOk result (tokens.new.items ≡ tokens.old.items ++ tokens_at start place item len) }
     ensures err { IfErr result (λ fault. fault ≡ LexFault.Memory) }
 {
     if let Item::Lexeme(kind) = item {
-        let end = start + len;
         let token = Token {
             kind,
-            start,
-            end,
+            start: start as u32,
+            end: (start + len) as u32,
             place,
         };
         tokens.push(token).map_err(|_| LexFault::Memory)?;

@@ -1,10 +1,11 @@
 use thiserror::Error;
 
+// Why: docs/DECISIONS.md, "Places in 32 bits".
 /// A place in a source. Lines and columns are counted from 1, columns in bytes.
 #[derive(Clone, Copy, Debug, PartialEq, Eq)]
 pub struct Place {
-    pub line: usize,
-    pub column: usize,
+    pub line: u32,
+    pub column: u32,
 }
 
 /// The kind of a lexeme (Haskell 98 Report, sections 2.2 to 2.6).
@@ -36,8 +37,8 @@ pub enum Kind {
 #[derive(Clone, Copy, Debug, PartialEq, Eq)]
 pub struct Token {
     pub kind: Kind,
-    pub start: usize,
-    pub end: usize,
+    pub start: u32,
+    pub end: u32,
     pub place: Place,
 }
 

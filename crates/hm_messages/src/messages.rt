@@ -54,9 +54,10 @@ fn reader_place(page: &Page<'_>, place: Place) -> Option<Place>
     ensures { IfSome result (λ p. (columns : Columns) × AreColumnsAt page.now.lines place columns × (p ≡ reader_place place columns)) }
 {
     let columns = page.lines.columns(place)?;
+    let column = u32::try_from(columns.characters).ok()?;
     Some(Place {
         line: place.line,
-        column: columns.characters,
+        column,
     })
 }
 

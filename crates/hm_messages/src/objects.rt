@@ -25,7 +25,7 @@ fn position_at(page: &Page<'_>, place: Place) -> Option<Position>
 {
     let columns = page.lines.columns(place)?;
     Some(Position {
-        line: place.line,
+        line: place.line as usize,
         columns,
     })
 }
@@ -35,8 +35,11 @@ fn range_at(page: &Page<'_>, place: Place) -> Option<Range>
     ensures { IfSome result (λ range. IsRangeAt page.now.lines place range.start range.end) }
 {
     let start = position_at(page, place)?;
-    let behind = page.lines.mark_end(place)?;
-    let end = position_at(page, behind)?;
+    let columns = page.lines.mark_end(place)?;
+    let end = Position {
+        line: start.line,
+        columns,
+    };
     Some(Range { start, end })
 }
 

@@ -5,10 +5,10 @@ use Rattle.std.proofs.lemmas.List.Elements.{All-take, All-drop}
 use Rattle.hm_lex.specs.declared.token.Place.{Place}
 use Rattle.hm_lex.specs.Cut.{is_line_end, place_after}
 use Rattle.hm_lex.proofs.Places.{place, place_same}
-use Rattle.hm_messages_excerpts.specs.Excerpts.{IsLineAround, IsPlaceIn}
+use Rattle.hm_messages_excerpts.specs.Excerpts.{IsLineAround}
 use Rattle.hm_messages_excerpts.specs.Lines.{IsSpotOf, IsWithout}
 use Rattle.hm_messages_excerpts.specs.declared.lines.Spot.{Spot}
-use Rattle.hm_messages_excerpts.proofs.Places.{place_along_line, place_within}
+use Rattle.hm_messages_excerpts.proofs.Places.{place_along_line}
 
 plain_left : (xs ys : List ℕ) → IsWithout is_line_end (xs ++ ys) → IsWithout is_line_end xs
 plain_left xs ys h = subst (IsWithout is_line_end) (take_at xs ys (length xs) refl) (All-take (λ b. is_line_end b ≡ false) (length xs) (xs ++ ys) h)
@@ -74,16 +74,13 @@ back_same source p spot is =
     ∙ sym (drop-take spot.offset left (drop spot.start source))
     ∙ ap (λ (n : ℕ). drop spot.offset (take n (drop spot.start source))) sum
 
--- the place so many bytes behind a spot's, on the same line
-pub mark_inside : (source : List ℕ) (p : Place) (spot : Spot) (n : ℕ) → IsSpotOf source p spot → n ≤ spot.end - (spot.start + spot.offset) → IsPlaceIn source (record { line = p.line; column = p.column + n })
-mark_inside source p spot n is low =
-    let at = is.line in
-    let k : ℕ = spot.offset + n in
-    let here : place_after (take (spot.start + k) source) ≡ place (is.number + 1) (k + 1) =
-    place_within source spot.start (spot.end - spot.start) k is.number (omega (arith, at.ordered, at.within)) (omega (arith, low, is.within, at.ordered)) at.line at.column at.plain in
-    record {
-      before = take (spot.start + k) source;
-      after = drop (spot.start + k) source;
-      whole = sym (take-append-drop (spot.start + k) source);
-      placed = place_same p.line (is.number + 1) (p.column + n) (k + 1) is.line_is (omega (arith, is.column_is)) ∙ sym here;
-    }
+-- the spot so many bytes further on, on the same line
+pub spot_along : (source : List ℕ) (p : Place) (spot : Spot) (n : ℕ) → IsSpotOf source p spot → n ≤ spot.end - (spot.start + spot.offset)
+    → IsSpotOf source (place p.line (p.column + n)) (record { start = spot.start; end = spot.end; offset = spot.offset + n })
+spot_along source p spot n is low = record {
+  number = is.number;
+  line = is.line;
+  line_is = is.line_is;
+  column_is = omega (arith, is.column_is);
+  within = omega (arith, low, is.within, is.line.ordered);
+}

@@ -1,6 +1,7 @@
 //! The lines of a source, by number.
 ghost use Rattle.std.specs.Prelude.{◌≡◌, ◌≤◌, ◌<◌, ◌+◌, All, IfNone, IfOk, IfSome, length, slice_index, take};
 ghost use Rattle.hm_lex.specs.Cut.{is_line_end};
+ghost use Rattle.hm_lex.specs.declared.token.Place.{Place as SourcePlace};
 ghost use Rattle.hm_messages_excerpts.specs.Columns.{AreColumnsAt, IsMarkEnd};
 ghost use Rattle.hm_messages_excerpts.specs.Excerpts.{IsExcerptAt, IsLineAround, IsPlaceIn};
 ghost use Rattle.hm_messages_excerpts.specs.Lines.{AreLinesOf, IsSpotOf, IsWithout};
@@ -105,14 +106,14 @@ impl<'a> SourceLines<'a> {
         if place.line == 0 {
             return None;
         }
-        if place.line > self.spans.len() {
+        if place.line as usize > self.spans.len() {
             return None;
         }
         if place.column == 0 {
             return None;
         }
-        let Span { start, end } = self.spans[place.line - 1];
-        let offset = place.column - 1;
+        let Span { start, end } = self.spans[place.line as usize - 1];
+        let offset = place.column as usize - 1;
         if offset > end - start {
             return None;
         }
@@ -129,30 +130,34 @@ impl<'a> SourceLines<'a> {
         Some(shown_round(front, back))
     }
 
+    /// Returns the columns of the place at a spot.
+    fn columns_of(&self, spot: Spot) -> Columns
+        requires { (place : SourcePlace) × IsSpotOf self.now place spot }
+        ensures { (place : SourcePlace) → IsSpotOf self.now place spot → AreColumnsAt self.now place result }
+    {
+        columns_at(self.source, &self.units, spot.start, spot.offset)
+    }
+
     /// Returns the columns of a place, if it is in the source.
     pub fn columns(&self, place: Place) -> Option<Columns>
         ensures some { IfSome result (AreColumnsAt self.now place) }
         ensures none { IfNone result (IsPlaceIn self.now place → ⊥) }
     {
-        let Spot {
-            start,
-            end: _end,
-            offset,
-        } = self.spot(place)?;
-        Some(columns_at(self.source, &self.units, start, offset))
+        let spot = self.spot(place)?;
+        Some(self.columns_of(spot))
     }
 
-    /// Returns the place after the mark at a place, if it is in the source.
-    pub fn mark_end(&self, place: Place) -> Option<Place>
-        ensures some { IfSome result (IsMarkEnd self.now place) }
-        ensures inside { IfSome result (IsPlaceIn self.now) }
+    /// Returns the columns of the place after the mark at a place, on the same line, if the place is in the source.
+    pub fn mark_end(&self, place: Place) -> Option<Columns>
+        ensures some { IfSome result (λ columns. (behind : SourcePlace) × IsMarkEnd self.now place behind × AreColumnsAt self.now behind columns) }
         ensures none { IfNone result (IsPlaceIn self.now place → ⊥) }
     {
         let Spot { start, end, offset } = self.spot(place)?;
         let len = marked(&self.source[start + offset..end]);
-        Some(Place {
-            line: place.line,
-            column: place.column + len,
-        })
+        Some(self.columns_of(Spot {
+            start,
+            end,
+            offset: offset + len,
+        }))
     }
 }

@@ -10,17 +10,18 @@ use hm_messages_hints::{Change, Mark, Range, Repair, Scope};
 use hm_parse::parse_run;
 use std::alloc::{AllocError, Global};
 
-/// Appends a mark to a text, and returns its token.
+/// Appends a mark to a text, and returns its token. A text of 4 GiB counts as out of memory.
 fn mark_token(text: &mut Vec<u8>, mark: Mark) -> Result<Token, AllocError>
     ensures extends { OnOk result ((rest : List ℕ) × (text.new.items ≡ text.old.items ++ rest)) }
     ensures mark { IfOk result (λ token. IsMarkIn text.new.items mark token) }
 {
-    let start = text.len();
+    let start = u32::try_from(text.len()).map_err(|_| AllocError)?;
     text.extend_from_slice(mark.text().as_bytes())?;
+    let end = u32::try_from(text.len()).map_err(|_| AllocError)?;
     Ok(Token {
         kind: mark.kind(),
         start,
-        end: text.len(),
+        end,
         place: Place { line: 1, column: 1 },
     })
 }

@@ -14,7 +14,7 @@ pub fn text_of<'a>(source: &'a [u8], token: &Token) -> &'a [u8]
     requires { LiesIn source.now token.now }
     ensures { result.now ≡ token_text source.now token.now }
 {
-    &source[token.start..token.end]
+    &source[token.start as usize..token.end as usize]
 }
 
 /// Returns where the last part of a name begins: after its last dot.

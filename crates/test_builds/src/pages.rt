@@ -10,7 +10,7 @@ fn told(
     paint: Paint,
     names: &[Vec<u8>],
     source: &[u8],
-    column: usize,
+    column: u32,
 ) -> Result<Vec<u8>, AllocError> {
     let mut sources = Vec::new(alloc);
     sources.push(Vec::from_slice(alloc, source)?)?;
@@ -68,7 +68,7 @@ fn labels_have_colours(rt: HostRuntime) -> Result<(), Fail> {
 #[test]
 fn a_place_outside_is_not_told(rt: HostRuntime) -> Result<(), Fail> {
     let names = Vec::new(rt.alloc());
-    for column in [0usize, 4, 9] {
+    for column in [0u32, 4, 9] {
         let text = told(rt.alloc(), Paint::Plain, names.as_slice(), b"ab", column)?;
         assert!(&rt; text.is_empty());
     }

@@ -4,7 +4,7 @@ use std::alloc::Global;
 use std::test::Fail;
 
 /// The kind, the start and the end of a token.
-type Cut = (Kind, usize, usize);
+type Cut = (Kind, u32, u32);
 
 /// Returns whether the tokens have these kinds, starts and ends.
 fn are_cut(tokens: &[Token], wanted: &[Cut]) -> bool {
@@ -81,12 +81,15 @@ fn is_one_lexeme(alloc: Global, text: &[u8], kind: Kind) -> bool {
     let Ok(tokens) = lex(alloc, text) else {
         return false;
     };
+    let Ok(end) = u32::try_from(text.len()) else {
+        return false;
+    };
     tokens.len() == 1
         && tokens[0]
             == Token {
                 kind,
                 start: 0,
-                end: text.len(),
+                end,
                 place: Place { line: 1, column: 1 },
             }
 }

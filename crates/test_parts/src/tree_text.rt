@@ -11,7 +11,7 @@ use std::alloc::{AllocError, Global};
 #[derive(Clone, Copy, Drop)]
 enum Piece<'a> {
     Text(&'static str),
-    Column(usize),
+    Column(u32),
     Name(&'a Name),
     Names(&'a [Name]),
     Literal(&'a Literal),
