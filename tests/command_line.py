@@ -70,6 +70,16 @@ module M4096 where { }
        ^^^^^
 errors: 1, skipped modules: 0
 """
+TWO_FAULTS = """bad.hs:1:18: error: expected ';', found '=' [syntax]
+With it this can be read.
+module C where { = }
+                 ^
+<stdin>:1:22: error: the operator '#' isn't supported: the only one is ':' [lexeme]
+Define a function with a name, and write it before its arguments.
+module D where { z = # }
+                     ^
+errors: 2, skipped modules: 0
+"""
 MISSING = """a.hs:1:25: error: no module 'B' is given [missing]
 An import names a module of the set or `Prelude`; there is no other library.
 module A where { import B ; x = y }
@@ -126,6 +136,7 @@ ROWS = {
         "refused: module A imports missing B\n",
         MISSING + "errors: 1, skipped modules: 0\n",
     ),
+    "messages of two faulty sources": (["--explain", "bad.hs", "b.hs", "-"], "module D where { z = # }", 2, "refused: source 1 at 1:18: syntax\n", TWO_FAULTS),
     "messages of a source that is too long": (["--explain"], "x" * 1_048_577, 2, "refused: source 1 too long\n", TOO_LONG),
     "messages of too many modules": (
         ["--explain"],

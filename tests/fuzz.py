@@ -29,6 +29,8 @@ TOP = os.path.dirname(os.path.dirname(os.path.abspath(__file__)))
 with open(os.path.join(TOP, "tests", "message.schema.json"), encoding="utf-8") as it:
     SCHEMA = json.load(it)
 LARGE = 100_000
+# the kinds of a source's own fault
+SOURCE_KINDS = {"lexeme", "open-comment", "syntax", "too-deep", "too-long"}
 MESSAGES = {0: b"", 1: b"", 2: b""}
 Run = collections.namedtuple("Run", "status out err seconds megabytes")
 
@@ -123,11 +125,13 @@ def message_fault(explained, text):
     lines = err.split("\n")
     if lines[-1] or not re.fullmatch(r"errors: \d+, skipped modules: \d+", lines[-2]):
         return "no counts of messages"
-    told = re.findall(r"^[^:\n]*:(\d+):(\d+): error: ([^\n]*) \[([a-z-]+)\]$", err, re.MULTILINE)
+    heads = re.findall(r"^([^:\n]*):(\d+):(\d+): error: ([^\n]*) \[([a-z-]+)\]$", err, re.MULTILINE)
+    told = [head[1:] for head in heads]
     blamed = re.findall(r"^[^:\n]*:\d+:\d+: note: skipped, since '(\S*)' (?:has errors|is skipped)$", err, re.MULTILINE)
     if explained.status == 2:
-        # only missing imports have a message each
-        is_one = len(told) == 1 or told and {word for *_, word in told} == {"missing"}
+        # missing imports have a message each, and so has the first fault of each source
+        words, files = {word for *_, word in told}, [file for file, *_ in heads]
+        is_one = len(told) == 1 or told and (words == {"missing"} or words <= SOURCE_KINDS and len({*files}) == len(files))
         return None if is_one and not blamed and lines[-2] == f"errors: {len(told)}, skipped modules: 0" else "the message of a refusal"
     wanted = re.findall(r"^  (\d+):(\d+) ([a-z-]+) ([^\n]*)$", text, re.MULTILINE)
     # a message's column counts characters, the report's bytes

@@ -5,3 +5,4 @@ pub mod Telling
 pub mod FinishedRuns
 pub mod Detailed
 pub mod Blamed
+pub mod Further

@@ -2,4 +2,5 @@ pub mod BuildTexts
 pub mod Checks
 pub mod Explained
 pub mod Explanations
+pub mod FurtherTold
 pub mod JournalledRuns

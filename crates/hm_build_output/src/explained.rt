@@ -2,29 +2,20 @@
 ghost use Rattle.std.specs.Prelude.{ℕ, List, IfOk, IfSome, map, string_bytes};
 ghost use Rattle.hm_store.specs.declared.record.Record.{Record};
 ghost use Rattle.hm_build_reports.specs.FinishedBuilds.{IsFinished};
-ghost use Rattle.hm_messages.specs.Refused.{IsAdvised};
-ghost use Rattle.hm_build_output.specs.Explained.{AreMessagesOf, IsExplained, TellsRefusal};
+ghost use Rattle.hm_build_output.specs.Explained.{AreMessagesOf, IsExplained};
 ghost use Rattle.hm_build_output.specs.JournalledRuns.{IsRun};
 ghost use Rattle.hm_run_sources.specs.Runs.{IsRefusalOf};
 
 use crate::answers::finished_answer;
 use crate::explaining::{Told, explanation};
+use crate::refused::refused_messages;
 use crate::{Explain, Wanted};
 use hm_build_reports::{settled_in, skipped_in};
-use hm_messages::{MessageFault, headers_in, pages_of, refusal_messages};
-use hm_messages_hints::{Advice, SyntaxHint};
-use hm_messages_repairs::advice_at;
-use hm_parse_grammar::ParseFault;
-use hm_run_sources::{Answer, SetFault, SetFaultKind, refusal_answer};
+use hm_messages::{MessageFault, headers_in, pages_of};
+use hm_run_sources::{Answer, SetFault, refusal_answer};
 use hm_store::Store;
 use hm_types_prelude::SharedPrelude;
 use std::alloc::Global;
-
-/// The advice for faults that aren't of syntax.
-const NO_ADVICE: Advice<'static> = Advice {
-    hint: SyntaxHint::Unexpected,
-    text: "",
-};
 
 /// The text and the status of a run, and its messages. There are none if faults aren't explained.
 #[derive(Drop)]
@@ -97,49 +88,6 @@ pub fn finished_explained<'a>(
     let answer = finished_answer(alloc, store, wanted.options.journal)?;
     let messages = finished_messages(alloc, store, sources, wanted)?;
     Ok(Explained { answer, messages })
-}
-
-/// Returns the advice for a fault of syntax. It says nothing about other faults.
-fn advice_on<'a>(
-    alloc: Global,
-    sources: &'a [Vec<u8>],
-    fault: &SetFault,
-) -> Result<Advice<'a>, MessageFault>
-    ensures { IfOk result (λ a. IsAdvised (map (λ s. s.items) sources.entry.now) fault.now a.hint a.text.now) }
-{
-    let SetFaultKind::Parse { source, fault } = &fault.kind else {
-        return Ok(NO_ADVICE);
-    };
-    let ParseFault::Syntax(place) = *fault else {
-        return Ok(NO_ADVICE);
-    };
-    let Some(number) = source.checked_sub(1) else {
-        return Err(MessageFault::Place);
-    };
-    if number >= sources.len() {
-        return Err(MessageFault::Place);
-    }
-    Ok(advice_at(alloc, sources[number].as_slice(), place)?)
-}
-
-/// Returns the messages of a refused set if its faults are explained.
-fn refused_messages<'a>(
-    alloc: Global,
-    sources: &'a [Vec<u8>],
-    fault: &SetFault,
-    wanted: &'a Wanted,
-) -> Result<Vec<u8>, MessageFault>
-    ensures { IfOk result (λ m. IsRefusalOf (map (λ s. s.items) sources.now) fault.now
-        → IfSome wanted.now.explain (λ e. TellsRefusal e.paint (map (λ s. s.items) e.names.items) (map (λ s. s.items) sources.now) m.items)) }
-{
-    match &wanted.explain {
-        Some(explain) => {
-            let pages = pages_of(alloc, explain.paint, sources, &explain.names, &[])?;
-            let advice = advice_on(alloc, sources, fault)?;
-            Ok(refusal_messages(alloc, &pages, sources, fault, advice)?)
-        }
-        None => Ok(Vec::new(alloc)),
-    }
 }
 
 /// Returns the text, the status and the messages of a refused set.

@@ -8,6 +8,7 @@ mod explained;
 mod explaining;
 mod faulty;
 mod options;
+mod refused;
 
 pub use exhausted::exhausted_message;
 pub use explained::{Explained, finished_explained, refused_explained};

@@ -3,3 +3,4 @@ pub mod InOrder
 pub mod Ways
 mod Naming
 mod Gathering
+pub mod WorkedFaults

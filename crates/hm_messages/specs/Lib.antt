@@ -1,3 +1,4 @@
+pub mod FurtherFaults
 pub mod Headings
 pub mod Messages
 pub mod Missing
@@ -5,3 +6,4 @@ pub mod Pages
 pub mod Refused
 pub mod Sentences
 pub mod Subjects
+pub mod Worked

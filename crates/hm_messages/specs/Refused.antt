@@ -13,6 +13,7 @@ use Rattle.hm_graph.specs.declared.faults.PlanFault.TheVariants as planning
 use Rattle.hm_run_sources.specs.Origins.{AreLocated}
 use Rattle.hm_run_sources.specs.declared.located.Located.{Located}
 use Rattle.hm_run_sources.specs.Refusals.{Refusal, lex, parse, plan}
+use Rattle.hm_messages.specs.FurtherFaults.{AreFurtherFaults}
 use Rattle.hm_messages.specs.Headings.{count_text}
 use Rattle.hm_messages.specs.Messages.{AreEach, IsHeadingAt, IsMessage}
 use Rattle.hm_messages.specs.Missing.{SetImport, missing_imports}
@@ -121,9 +122,13 @@ pub record AreRefusalMessages (paint : Paint) (files sources : List (List ℕ)) 
   pub followed : IsBehind paint files sources refusal number place errors behind
   pub whole : text ≡ first ++ behind
 
--- these messages, and after them the counts. No module is skipped
+-- these messages, then one for the first fault of each further source, and the counts. No module is skipped
 pub record IsRefusalTold (paint : Paint) (files sources : List (List ℕ)) (refusal : Refusal) (text : List ℕ) : Type 0 where
   pub messages : List ℕ
   pub errors : ℕ
   pub told : AreRefusalMessages paint files sources refusal errors messages
-  pub whole : text ≡ messages ++ count_text paint errors 0
+  pub further : List Refusal
+  pub faults : AreFurtherFaults sources refusal further
+  pub behind : List ℕ
+  pub each : AreEach (λ r t. AreRefusalMessages paint files sources r 1 t) further behind
+  pub whole : text ≡ messages ++ (behind ++ count_text paint (errors + length further) 0)

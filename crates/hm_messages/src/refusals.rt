@@ -6,10 +6,9 @@ ghost use Rattle.hm_run_sources.specs.Refusals.{lex, parse, plan};
 ghost use Rattle.hm_messages.specs.Pages.{files_in, texts_in};
 ghost use Rattle.hm_messages.specs.Messages.{AreEach};
 ghost use Rattle.hm_messages.specs.Missing.{import_of};
-ghost use Rattle.hm_messages.specs.Refused.{Way, AreFurtherTold, AreMessagesOf, AreRefusalMessages, IsAdvised, IsLexemeHintAt, IsMessageAt, IsMissingTold, IsRefusalTold, IsWayTold};
+ghost use Rattle.hm_messages.specs.Refused.{Way, AreFurtherTold, AreMessagesOf, AreRefusalMessages, IsAdvised, IsLexemeHintAt, IsMessageAt, IsMissingTold, IsWayTold};
 ghost use Rattle.hm_messages.specs.Subjects.{cycle, missing, subject_of};
 
-use crate::counts::count_text;
 use crate::cycles::{Step, cycle_of};
 use crate::messages::{MessageFault, heading_at, message};
 use crate::missing::{MissingImport, missing_imports};
@@ -235,9 +234,9 @@ fn cycle_messages(
 
 /// Messages, and the number of errors that they report.
 #[derive(Drop)]
-struct Told {
-    text: Vec<u8>,
-    errors: usize,
+pub struct Messages {
+    pub text: Vec<u8>,
+    pub errors: usize,
 }
 
 /// Returns the message of an import that names no module.
@@ -279,7 +278,7 @@ fn missing_messages(
     pages: &Pages<'_>,
     located: &[Located],
     name: &str,
-) -> Result<Told, MessageFault>
+) -> Result<Messages, MessageFault>
     requires { AreLocated (texts_in pages.now.items.items) located.now }
     ensures { IfOk result (λ told. (number : ℕ) × (place : Place) × (first : List ℕ) × (behind : List ℕ)
         × IsMessageAt pages.now.paint (files_in pages.now.items.items) (texts_in pages.now.items.items) number place (missing name.now) first
@@ -297,7 +296,7 @@ fn missing_messages(
     let further = further_messages(alloc, pages, more)?;
     text.extend_from_slice(further.as_slice())?;
     let errors = imports.len();
-    Ok(Told { text, errors })
+    Ok(Messages { text, errors })
 }
 
 /// Returns the messages of a set without a plan.
@@ -306,7 +305,7 @@ fn plan_messages(
     pages: &Pages<'_>,
     located: &[Located],
     refused: &Refused<'_>,
-) -> Result<Told, MessageFault>
+) -> Result<Messages, MessageFault>
     requires { AreLocated (texts_in pages.now.items.items) located.now }
     ensures { IfOk result (λ told. AreRefusalMessages pages.now.paint (files_in pages.now.items.items) (texts_in pages.now.items.items)
         (plan refused.now.fault refused.now.module.now refused.now.import.now) told.errors told.text.items) }
@@ -319,19 +318,19 @@ fn plan_messages(
                 return Err(MessageFault::Place);
             };
             let text = message_at(alloc, pages, spot, &Topic::TooMany)?;
-            Ok(Told { text, errors })
+            Ok(Messages { text, errors })
         }
         PlanFault::Duplicate { module } => {
             let Some(spot) = module_spot(located, module) else {
                 return Err(MessageFault::Place);
             };
             let text = message_at(alloc, pages, spot, &Topic::Twice(name))?;
-            Ok(Told { text, errors })
+            Ok(Messages { text, errors })
         }
         PlanFault::Missing { .. } => Ok(missing_messages(alloc, pages, located, refused.import)?),
         PlanFault::Cycle { module } => {
             let text = cycle_messages(alloc, pages, located, module, name)?;
-            Ok(Told { text, errors })
+            Ok(Messages { text, errors })
         }
         PlanFault::Memory => Err(MessageFault::Memory),
     }
@@ -353,46 +352,33 @@ pub fn headers_in(alloc: Global, sources: &[Vec<u8>]) -> Result<Vec<Located>, Me
     }
 }
 
-/// Returns the messages of a fault of sources, without the counts.
-fn set_messages(
+/// Returns the message of a fault of lexemes or of syntax.
+///
+/// `advice` is that for a fault of syntax, and isn't used for a lexical fault.
+///
+/// # Errors
+///
+/// `Place` if the fault has no place in the sources or is one of the plan, and `Memory` if memory ran out.
+pub fn source_message(
     alloc: Global,
     pages: &Pages<'_>,
-    sources: &[Vec<u8>],
     fault: &SetFault,
     advice: Advice<'_>,
-) -> Result<Told, MessageFault>
+) -> Result<Vec<u8>, MessageFault>
     requires advised { IsAdvised (texts_in pages.now.items.items) fault.now advice.hint advice.text.now }
-    requires texts { texts_in pages.now.items.items ≡ map (λ s. s.items) sources.now }
-    ensures { IfOk result (λ told. AreRefusalMessages pages.now.paint (files_in pages.now.items.items) (texts_in pages.now.items.items)
-        fault.now told.errors told.text.items) }
+    ensures { IfOk result (λ text. AreRefusalMessages pages.now.paint (files_in pages.now.items.items) (texts_in pages.now.items.items)
+        fault.now 1 text.items) }
 {
-    let errors = 1;
     match &fault.kind {
-        SetFaultKind::Lex { source, fault } => {
-            let text = lex_messages(alloc, pages, *source, *fault)?;
-            Ok(Told { text, errors })
-        }
-        SetFaultKind::Parse { source, fault } => {
-            let text = parse_messages(alloc, pages, *source, *fault, advice)?;
-            Ok(Told { text, errors })
-        }
-        SetFaultKind::Plan {
-            fault,
-            module,
-            import,
-        } => {
-            let located = headers_in(alloc, sources)?;
-            let refused = Refused {
-                fault: *fault,
-                module: module.as_str(),
-                import: import.as_str(),
-            };
-            Ok(plan_messages(alloc, pages, located.as_slice(), &refused)?)
-        }
+        SetFaultKind::Lex { source, fault } => Ok(lex_messages(alloc, pages, *source, *fault)?),
+        SetFaultKind::Parse { source, fault } => Ok(parse_messages(
+            alloc, pages, *source, *fault, advice,
+        )?),
+        SetFaultKind::Plan { .. } => Err(MessageFault::Place),
     }
 }
 
-/// Returns the messages of a refused set: one at its fault, one for each further import that names no module, and the counts.
+/// Returns the messages of the fault for which a set is refused: one at its place, and one for each further import that names no module.
 ///
 /// `advice` is that for a fault of syntax, and isn't used for other faults. The pages are those of the sources.
 ///
@@ -405,13 +391,26 @@ pub fn refusal_messages(
     sources: &[Vec<u8>],
     fault: &SetFault,
     advice: Advice<'_>,
-) -> Result<Vec<u8>, MessageFault>
+) -> Result<Messages, MessageFault>
     requires advised { IsAdvised (texts_in pages.now.items.items) fault.now advice.hint advice.text.now }
     requires texts { texts_in pages.now.items.items ≡ map (λ s. s.items) sources.now }
-    ensures { IfOk result (λ text. IsRefusalTold pages.now.paint (files_in pages.now.items.items) (texts_in pages.now.items.items) fault.now text.items) }
+    ensures { IfOk result (λ told. AreRefusalMessages pages.now.paint (files_in pages.now.items.items) (texts_in pages.now.items.items)
+        fault.now told.errors told.text.items) }
 {
-    let Told { mut text, errors } = set_messages(alloc, pages, sources, fault, advice)?;
-    let counts = count_text(alloc, pages.paint, errors, 0)?;
-    text.extend_from_slice(counts.as_bytes())?;
-    Ok(text)
+    let SetFaultKind::Plan {
+        fault: kind,
+        module,
+        import,
+    } = &fault.kind
+    else {
+        let text = source_message(alloc, pages, fault, advice)?;
+        return Ok(Messages { text, errors: 1 });
+    };
+    let located = headers_in(alloc, sources)?;
+    let refused = Refused {
+        fault: *kind,
+        module: module.as_str(),
+        import: import.as_str(),
+    };
+    Ok(plan_messages(alloc, pages, located.as_slice(), &refused)?)
 }

@@ -10,6 +10,15 @@ use hm_messages_hints::{Advice, Change, Mark, Repair, SyntaxHint, syntax_hint};
 use hm_parse_grammar::{Symbol, symbol_of, text_of};
 use std::alloc::{AllocError, Global};
 
+/// Which hint at a fault of syntax is looked for.
+#[derive(Clone, Copy)]
+pub enum Search {
+    /// A change of one token after which the source can be parsed. If there is none, a fact about the token. This tries many changes.
+    Changes,
+    /// A fact about the token.
+    Facts,
+}
+
 /// Returns the number of the token at a place, or the number of tokens if there is none.
 fn number_at(tokens: &[Token], place: Place) -> usize
     ensures { IsAt tokens.now place result }
@@ -104,6 +113,7 @@ fn hint_at(
     source: &[u8],
     tokens: &[Token],
     number: usize,
+    search: Search,
 ) -> Result<SyntaxHint, AllocError>
     requires lie { All (LiesIn source.now) tokens.now }
     requires within { number ≤ length tokens.now }
@@ -113,6 +123,9 @@ fn hint_at(
     if fact.is_enough() {
         return Ok(fact);
     }
+    let Search::Changes = search else {
+        return Ok(fact);
+    };
     let Some(repair) = repair_at(alloc, source, tokens, number)? else {
         return Ok(fact);
     };
@@ -131,6 +144,7 @@ pub fn advice_at<'a>(
     alloc: Global,
     source: &'a [u8],
     place: Place,
+    search: Search,
 ) -> Result<Advice<'a>, AllocError>
     ensures { IfOk result (λ advice. IsAdviceAt source.entry.now place advice.hint advice.text.now) }
 {
@@ -138,7 +152,7 @@ pub fn advice_at<'a>(
         return Err(AllocError);
     };
     let number = number_at(tokens.as_slice(), place);
-    let hint = hint_at(alloc, source, tokens.as_slice(), number)?;
+    let hint = hint_at(alloc, source, tokens.as_slice(), number, search)?;
     let text = text_at(source, tokens.as_slice(), about(hint, number));
     Ok(Advice { hint, text })
 }

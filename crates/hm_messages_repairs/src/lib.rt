@@ -10,4 +10,4 @@ pub mod laws;
 mod search;
 mod trial;
 
-pub use crate::advice::advice_at;
+pub use crate::advice::{Search, advice_at};

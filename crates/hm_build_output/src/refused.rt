@@ -1,0 +1,182 @@
+//! The messages of a refused set: of the fault for which it is refused, and of the first fault of each further source.
+ghost use Rattle.std.specs.Prelude.{◌≡◌, ◌+◌, ◌<◌, ◌≤◌, ℕ, List, Option, IfOk, IfSome, drop, length, map, option_map};
+ghost use Rattle.hm_messages.specs.FurtherFaults.{AreFirstFaults, AreFurtherFaults, IsFirstFault};
+ghost use Rattle.hm_messages.specs.Messages.{AreEach};
+ghost use Rattle.hm_messages.specs.Pages.{files_in, texts_in};
+ghost use Rattle.hm_messages.specs.Refused.{AreRefusalMessages, IsAdvised};
+ghost use Rattle.hm_build_output.specs.FurtherTold.{IsFirstTold};
+ghost use Rattle.hm_build_output.specs.Explained.{TellsRefusal};
+ghost use Rattle.hm_run_sources.specs.Refusals.{Refusal};
+ghost use Rattle.hm_run_sources.specs.Runs.{IsRefusalOf};
+
+use crate::{Explain, Wanted};
+use hm_messages::{
+    MessageFault, Messages, Pages, count_text, pages_of, refusal_messages, source_message,
+};
+use hm_messages_hints::{Advice, SyntaxHint};
+use hm_messages_repairs::{Search, advice_at};
+use hm_parse_grammar::ParseFault;
+use hm_run_sources::{SetError, SetFault, SetFaultKind, source_tokens, spelled_modules};
+use std::alloc::Global;
+
+/// The advice for faults that aren't of syntax.
+const NO_ADVICE: Advice<'static> = Advice {
+    hint: SyntaxHint::Unexpected,
+    text: "",
+};
+
+// Why: docs/DECISIONS.md, "Further sources".
+/// The most bytes of further sources in which changes are tried.
+const MOST_TRIED: usize = 1 << 17;
+
+/// Returns the advice for a fault of syntax. It says nothing about other faults.
+fn advice_on<'a>(
+    alloc: Global,
+    sources: &'a [Vec<u8>],
+    fault: &SetFault,
+    search: Search,
+) -> Result<Advice<'a>, MessageFault>
+    ensures { IfOk result (λ a. IsAdvised (map (λ s. s.items) sources.entry.now) fault.now a.hint a.text.now) }
+{
+    let SetFaultKind::Parse { source, fault } = &fault.kind else {
+        return Ok(NO_ADVICE);
+    };
+    let ParseFault::Syntax(place) = *fault else {
+        return Ok(NO_ADVICE);
+    };
+    let Some(number) = source.checked_sub(1) else {
+        return Err(MessageFault::Place);
+    };
+    if number >= sources.len() {
+        return Err(MessageFault::Place);
+    }
+    Ok(advice_at(alloc, sources[number].as_slice(), place, search)?)
+}
+
+/// Returns the first fault of the source with this number, counted from 1, if it has any.
+fn first_fault(alloc: Global, number: usize, text: &[u8]) -> Result<Option<SetFault>, MessageFault>
+    ensures { IfOk result (IsFirstFault number text.now) }
+{
+    let tokens = match source_tokens(alloc, number, text) {
+        Ok(tokens) => tokens,
+        Err(SetError::Refused(fault)) => return Ok(Some(fault)),
+        Err(SetError::Memory) => return Err(MessageFault::Memory),
+    };
+    match spelled_modules(alloc, number, text, tokens.as_slice()) {
+        Ok(_modules) => Ok(None),
+        Err(SetError::Refused(fault)) => Ok(Some(fault)),
+        Err(SetError::Memory) => Err(MessageFault::Memory),
+    }
+}
+
+/// Returns which hint is looked for in a further source of so many bytes. Adds them to those in which changes are tried.
+fn search_in(tried: &mut usize, bytes: usize) -> Search {
+    match tried.checked_add(bytes) {
+        Some(sum) if sum <= MOST_TRIED => {
+            *tried = sum;
+            Search::Changes
+        }
+        _ => Search::Facts,
+    }
+}
+
+/// Returns the message of the first fault of a source, counted from 0, if it has any.
+fn first_message(
+    alloc: Global,
+    pages: &Pages<'_>,
+    sources: &[Vec<u8>],
+    source: usize,
+    tried: &mut usize,
+) -> Result<Option<Vec<u8>>, MessageFault>
+    requires within { source < length sources.now }
+    requires texts { texts_in pages.now.items.items ≡ map (λ s. s.items) sources.now }
+    ensures { IfOk result (λ m. IsFirstTold pages.now.paint (files_in pages.now.items.items) (texts_in pages.now.items.items) source
+        (option_map (λ text. text.items) m)) }
+{
+    let text = sources[source].as_slice();
+    let Some(fault) = first_fault(alloc, source + 1, text)? else {
+        return Ok(None);
+    };
+    let search = search_in(tried, text.len());
+    let advice = advice_on(alloc, sources, &fault, search)?;
+    Ok(Some(source_message(alloc, pages, &fault, advice)?))
+}
+
+/// Returns the messages of the first faults of the sources from this one on, counted from 0.
+fn further_messages(
+    alloc: Global,
+    pages: &Pages<'_>,
+    sources: &[Vec<u8>],
+    from: usize,
+) -> Result<Messages, MessageFault>
+    requires within { from ≤ length sources.now }
+    requires texts { texts_in pages.now.items.items ≡ map (λ s. s.items) sources.now }
+    ensures { IfOk result (λ told. (faults : List Refusal) × AreFirstFaults (from + 1) (drop from (texts_in pages.now.items.items)) faults
+        × AreEach (λ r t. AreRefusalMessages pages.now.paint (files_in pages.now.items.items) (texts_in pages.now.items.items) r 1 t) faults told.text.items
+        × (told.errors ≡ length faults)) }
+{
+    let mut text = Vec::new(alloc);
+    let mut errors = 0;
+    let mut tried = 0;
+    for source in from..sources.len() {
+        if let Some(message) = first_message(alloc, pages, sources, source, &mut tried)? {
+            text.extend_from_slice(message.as_slice())?;
+            errors += 1;
+        }
+    }
+    Ok(Messages { text, errors })
+}
+
+/// Returns the number of the first source behind that of a fault, counted from 0. If no source has a fault, it is the number of sources.
+fn behind(fault: &SetFault, sources: usize) -> usize
+    ensures { (texts : List (List ℕ)) (faults : List Refusal) → length texts ≡ sources → AreFirstFaults (result + 1) (drop result texts) faults
+        → AreFurtherFaults texts fault.now faults }
+{
+    match &fault.kind {
+        SetFaultKind::Lex { source, .. } | SetFaultKind::Parse { source, .. } => *source,
+        SetFaultKind::Plan { .. } => sources,
+    }
+}
+
+/// Returns the messages of a refused set.
+fn told_refusal<'a>(
+    alloc: Global,
+    sources: &'a [Vec<u8>],
+    fault: &SetFault,
+    explain: &'a Explain,
+) -> Result<Vec<u8>, MessageFault>
+    ensures { IfOk result (λ m. IsRefusalOf (map (λ s. s.items) sources.now) fault.now
+        → TellsRefusal explain.now.paint (map (λ s. s.items) explain.now.names.items) (map (λ s. s.items) sources.now) m.items) }
+{
+    let pages = pages_of(alloc, explain.paint, sources, &explain.names, &[])?;
+    let advice = advice_on(alloc, sources, fault, Search::Changes)?;
+    let Messages { mut text, errors } = refusal_messages(alloc, &pages, sources, fault, advice)?;
+    let from = behind(fault, sources.len());
+    if from > sources.len() {
+        return Err(MessageFault::Place);
+    }
+    let further = further_messages(alloc, &pages, sources, from)?;
+    let Some(all) = errors.checked_add(further.errors) else {
+        return Err(MessageFault::Memory);
+    };
+    text.extend_from_slice(further.text.as_slice())?;
+    let counts = count_text(alloc, explain.paint, all, 0)?;
+    text.extend_from_slice(counts.as_bytes())?;
+    Ok(text)
+}
+
+/// Returns the messages of a refused set if its faults are explained.
+pub(crate) fn refused_messages<'a>(
+    alloc: Global,
+    sources: &'a [Vec<u8>],
+    fault: &SetFault,
+    wanted: &'a Wanted,
+) -> Result<Vec<u8>, MessageFault>
+    ensures { IfOk result (λ m. IsRefusalOf (map (λ s. s.items) sources.now) fault.now
+        → IfSome wanted.now.explain (λ e. TellsRefusal e.paint (map (λ s. s.items) e.names.items) (map (λ s. s.items) sources.now) m.items)) }
+{
+    match &wanted.explain {
+        Some(explain) => Ok(told_refusal(alloc, sources, fault, explain)?),
+        None => Ok(Vec::new(alloc)),
+    }
+}
