@@ -5,7 +5,7 @@
 of the crates `test_calls` and `test_builds` too whose names are `refused::..` (`crates/NAME/out/NAME_tests`, after `rt ci`). A run of the
 program, with 1 and with 4 workers, must print the right text and end with the right status, or print nothing, say `hmc: no memory` and
 end with 3, or, where a thread could not be started, say `hmc: no worker` and end with 6. With messages, for readers and for programs, it may also
-leave the note of a type fault out, or name the module whose check was refused before it says `hmc: no memory`. Of a set whose types grow, the first,
+leave the note of a type fault out, or its types, or name the module whose check was refused before it says `hmc: no memory`. Of a set whose types grow, the first,
 second, fourth, eighth .. allocation is refused, and of a run with messages one in some. A test must pass or end for want of memory, and the call that
 it is about must have been refused by some of the refusals. Ends with 1 where anything else came of a refusal.
 """
@@ -106,18 +106,31 @@ def numbers(total, doubles):
     return [2**k for k in range(total.bit_length()) if 2**k <= total] if doubles else range(1, total + 1)
 
 
+TYPES = b"this has type 'a -> b', but 'a' is expected"
+ANOTHER = b"'twice' has a type with another expression here"
+
+
 def without_notes(messages):
     """The messages without the note of a type fault: three lines for readers, and one for programs."""
     lines = messages.splitlines(True)
-    notes = [number for number, line in enumerate(lines) if b"has a type with another expression here" in line]
+    notes = [number for number, line in enumerate(lines) if TYPES in line]
     lost = {number + more for number in notes for more in range(1 if lines[number].startswith(b"{") else 3)}
     return b"".join(line for number, line in enumerate(lines) if number not in lost)
+
+
+def without_types(messages):
+    """The messages with a note that doesn't have the two types."""
+    lines = [line.replace(TYPES, ANOTHER) for line in messages.splitlines(True)]
+    objects = [(b'"expected":"a"', b'"expected":null'), (b'"type":"a -> b"', b'"type":null'), (b'"mistyped"', b'"replaceable"')]
+    for old, new in objects:
+        lines = [line.replace(old, new) if line.startswith(b"{") else line for line in lines]
+    return b"".join(lines)
 
 
 def ending_of_explained(ran, messages):
     """What came of a run with messages, which are these where nothing is refused; none where it may not end so."""
     if (ran.returncode, ran.stdout) == (1, FAULTY_REPORT):
-        return {messages: "right", without_notes(messages): "no note"}.get(ran.stderr)
+        return {messages: "right", without_types(messages): "no types", without_notes(messages): "no note"}.get(ran.stderr)
     names_a_module = re.match(rb"(<stdin>:[12]:8: error: there is no memory to check module '[AB]' \[no-memory\]\n(.*\n){3}|\{.*\"no-memory\".*\}\n)hmc: no memory\n\Z", ran.stderr)
     if (ran.returncode, ran.stdout) == (3, b"") and names_a_module:
         return "no memory, with the module"

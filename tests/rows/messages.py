@@ -103,7 +103,7 @@ KINDS = [
         "This definition has no type, though everything that it refers to has one.\n"
         "module M where { twice f = f f }\n"
         "                 ^^^^^\n"
-        "M.hs:1:30: note: 'twice' has a type with another expression here (up to 1:30)\n"
+        "M.hs:1:30: note: this has type 'a -> b', but 'a' is expected (up to 1:30)\n"
         "module M where { twice f = f f }\n"
         "                             ^\n"
         "errors: 1, skipped modules: 0\n",
@@ -116,7 +116,7 @@ KINDS = [
         "This definition has no type, though everything that it refers to has one.\n"
         "module M where { f x = if x then 1 else (2 : []) }\n"
         "                 ^\n"
-        "M.hs:1:34: note: 'f' has a type with another expression here (up to 1:34)\n"
+        "M.hs:1:34: note: this has type 'Int', but '[Int]' is expected (up to 1:34)\n"
         "module M where { f x = if x then 1 else (2 : []) }\n"
         "                                 ^\n"
         "errors: 1, skipped modules: 0\n",
@@ -145,6 +145,9 @@ KINDS = [
         "M.hs:1:67: note: 'f' has a type with another pattern here (up to 1:69)\n"
         "module M where { f :: Maybe Bool -> Bool ; f x = case x of { Just [y] -> z where { z = not y } ; Nothing -> True } }\n"
         "                                                                  ^\n"
+        "M.hs:1:18: note: 'f' has type 'Maybe [Bool] -> Bool' without this signature (up to 1:40)\n"
+        "module M where { f :: Maybe Bool -> Bool ; f x = case x of { Just [y] -> z where { z = not y } ; ...\n"
+        "                 ^\n"
         "errors: 1, skipped modules: 0\n",
     ),
     # no part alone is to blame
@@ -166,7 +169,7 @@ KINDS = [
         "This definition has no type, though everything that it refers to has one.\n"
         "module B where { import A ; y = not k }\n"
         "                            ^\n"
-        "M.hs:2:37: note: 'y' has a type with another expression here (up to 2:37)\n"
+        "M.hs:2:37: note: this has type 'Int', but 'Bool' is expected (up to 2:37)\n"
         "module B where { import A ; y = not k }\n"
         "                                    ^\n"
         "errors: 1, skipped modules: 0\n",
@@ -179,7 +182,7 @@ KINDS = [
         "This definition has no type, though everything that it refers to has one.\n"
         "module M where { f x = g where { g = (x, h) ; h = [x, [x]] } }\n"
         "                 ^\n"
-        "M.hs:1:55: note: 'f' has a type with another expression here (up to 1:57)\n"
+        "M.hs:1:55: note: this has type '[a]', but 'a' is expected (up to 1:57)\n"
         "module M where { f x = g where { g = (x, h) ; h = [x, [x]] } }\n"
         "                                                      ^\n"
         "errors: 1, skipped modules: 0\n",
@@ -195,6 +198,9 @@ KINDS = [
         "M.hs:1:66: note: 'f' has a type with this expression and the one at 1:70 exchanged\n"
         "module M where { f :: Bool -> Maybe Bool -> Bool ; f x y = maybe not x y }\n"
         "                                                                 ^^^\n"
+        "M.hs:1:18: note: 'f' has type '(a -> Bool -> Bool) -> Maybe a -> Bool -> Bool' without this signature (up to 1:48)\n"
+        "module M where { f :: Bool -> Maybe Bool -> Bool ; f x y = maybe not x y }\n"
+        "                 ^\n"
         "errors: 1, skipped modules: 0\n",
     ),
     # an argument that is given twice
@@ -218,9 +224,12 @@ KINDS = [
         "This definition has no type, though everything that it refers to has one.\n"
         "module M where { f :: Bool ; f = maybe True not }\n"
         "                             ^\n"
-        "M.hs:1:34: note: 'f' has a type with another expression here (up to 1:47)\n"
+        "M.hs:1:34: note: this has type 'Maybe Bool -> Bool', but 'Bool' is expected (up to 1:47)\n"
         "module M where { f :: Bool ; f = maybe True not }\n"
         "                                 ^^^^^\n"
+        "M.hs:1:18: note: 'f' has type 'Maybe Bool -> Bool' without this signature (up to 1:26)\n"
+        "module M where { f :: Bool ; f = maybe True not }\n"
+        "                 ^\n"
         "errors: 1, skipped modules: 0\n",
     ),
     # a pattern of a lambda
@@ -234,6 +243,45 @@ KINDS = [
         "M.hs:1:52: note: 'f' has a type with another pattern here (up to 1:54)\n"
         "module M where { f :: [Bool] -> [Bool] ; f = map (\\[x] -> not x) }\n"
         "                                                   ^\n"
+        "M.hs:1:18: note: 'f' has type '[[Bool]] -> [Bool]' without this signature (up to 1:38)\n"
+        "module M where { f :: [Bool] -> [Bool] ; f = map (\\[x] -> not x) }\n"
+        "                 ^\n"
+        "errors: 1, skipped modules: 0\n",
+    ),
+    # two faults: each other definition is a hole where types are found, and the module has an export list
+    (
+        "module M (f, g) where { f :: Bool -> Bool ; f x = 'c' ; g = not 1 }",
+        1,
+        "M.hs:1:45: error: type error in 'f' [type]\n"
+        "This definition has no type, though everything that it refers to has one.\n"
+        "module M (f, g) where { f :: Bool -> Bool ; f x = 'c' ; g = not 1 }\n"
+        "                                            ^\n"
+        "M.hs:1:51: note: this has type 'Char', but 'Bool' is expected (up to 1:53)\n"
+        "module M (f, g) where { f :: Bool -> Bool ; f x = 'c' ; g = not 1 }\n"
+        "                                                  ^^^\n"
+        "M.hs:1:25: note: 'f' has type 'a -> Char' without this signature (up to 1:41)\n"
+        "module M (f, g) where { f :: Bool -> Bool ; f x = 'c' ; g = not 1 }\n"
+        "                        ^\n"
+        "M.hs:1:57: error: type error in 'g' [type]\n"
+        "This definition has no type, though everything that it refers to has one.\n"
+        "module M (f, g) where { f :: Bool -> Bool ; f x = 'c' ; g = not 1 }\n"
+        "                                                        ^\n"
+        "M.hs:1:65: note: this has type 'Int', but 'Bool' is expected (up to 1:65)\n"
+        "module M (f, g) where { f :: Bool -> Bool ; f x = 'c' ; g = not 1 }\n"
+        "                                                                ^\n"
+        "errors: 2, skipped modules: 0\n",
+    ),
+    # the part has no type with what stands around it, so neither type is told
+    (
+        "module M where { f = let { g y = y 1 } in g True }",
+        1,
+        "M.hs:1:18: error: type error in 'f' [type]\n"
+        "This definition has no type, though everything that it refers to has one.\n"
+        "module M where { f = let { g y = y 1 } in g True }\n"
+        "                 ^\n"
+        "M.hs:1:34: note: 'f' has a type with another expression here (up to 1:36)\n"
+        "module M where { f = let { g y = y 1 } in g True }\n"
+        "                                 ^\n"
         "errors: 1, skipped modules: 0\n",
     ),
     # one of many elements
@@ -244,7 +292,7 @@ KINDS = [
         "This definition has no type, though everything that it refers to has one.\n"
         "module M where { f x = [1, 2, 3, 4, x, 'c', 7, 8] }\n"
         "                 ^\n"
-        "M.hs:1:40: note: 'f' has a type with another expression here (up to 1:42)\n"
+        "M.hs:1:40: note: this has type 'Char', but 'Int' is expected (up to 1:42)\n"
         "module M where { f x = [1, 2, 3, 4, x, 'c', 7, 8] }\n"
         "                                       ^^^\n"
         "errors: 1, skipped modules: 0\n",
@@ -267,7 +315,7 @@ KINDS = [
         "This definition has no type, though everything that it refers to has one.\n"
         "module B where { twice f = f f }\n"
         "                 ^^^^^\n"
-        "M.hs:1:30: note: 'twice' has a type with another expression here (up to 1:30)\n"
+        "M.hs:1:30: note: this has type 'a -> b', but 'a' is expected (up to 1:30)\n"
         "module B where { twice f = f f }\n"
         "                             ^\n"
         "M.hs:2:25: note: skipped, since 'B' has errors\n"

@@ -16,13 +16,16 @@ use Rattle.hm_messages_excerpts.specs.Columns.{AreColumnsAt}
 use Rattle.hm_messages_excerpts.specs.declared.columns.Columns.{Columns}
 use Rattle.hm_messages.specs.Headings.{count_text}
 use Rattle.hm_messages.specs.Messages.{AreEach, IsFaultMessage, IsMessage, reader_place}
-use Rattle.hm_messages.specs.Subjects.{Subject, faulty, replaceable, skipped}
+use Rattle.hm_messages.specs.Subjects.{Subject, faulty, mistyped, replaceable, skipped, unsigned}
 use Rattle.hm_messages.specs.declared.heading.Paint.{Paint}
 use Rattle.hm_messages.specs.declared.topic.Way.{Way}
 use Rattle.hm_messages.specs.declared.topic.Way.TheVariants as way
 use Rattle.hm_explain.specs.Mends.{IsMend}
+use Rattle.hm_explain.specs.PartTypes.{HasPartTypes}
+use Rattle.hm_explain.specs.Signatures.{IsUnsigned}
 use Rattle.hm_explain.specs.declared.mends.Mend.{Mend}
 use Rattle.hm_explain.specs.declared.mends.Mend.TheVariants.{Expression, Pattern, Exchange}
+use Rattle.hm_explain.specs.declared.search.Culprit.{Culprit}
 use Rattle.hm_run_sources.specs.Names.{name_below}
 use Rattle.hm_run_sources.specs.Origins.{IsSpelledBy}
 use Rattle.hm_build_output.specs.declared.explaining.Blame.{Blame}
@@ -56,22 +59,46 @@ way_of (Expression part) p = way.Expression p
 way_of (Pattern part) p = way.Pattern p
 way_of (Exchange first second) p = way.Exchange p
 
--- the note of a type fault tells what gives its definition a type, with places as readers count
+-- these are the two types of the part that is to blame
+abbrev pub ArePartTypes : List ℕ → List ℕ → List Interface → List ℕ → Mend → List ℕ → List ℕ → Type 0
+ArePartTypes source name fs definition (Expression part) expected actual = HasPartTypes source name fs definition part expected actual
+ArePartTypes source name fs definition (Pattern part) expected actual = ⊥
+ArePartTypes source name fs definition (Exchange first second) expected actual = ⊥
+
+-- the text tells what gives the definition a type, or the two types of the part, with this as the other place
+pub data IsToldOf (paint : Paint) (file source name : List ℕ) (fs : List Interface) (definition : List ℕ) (mend : Mend) (other : Place) (text : List ℕ) : Type 0 where
+  by_mend : IsMessage paint file source (first_of mend) (replaceable definition (way_of mend other)) text → IsToldOf paint file source name fs definition mend other text
+  by_types : (expected actual : List ℕ) → ArePartTypes source name fs definition mend expected actual
+      → IsMessage paint file source (first_of mend) (mistyped definition other expected actual) text → IsToldOf paint file source name fs definition mend other text
+
+-- the note of a type fault tells what gives its definition a type, or the two types of the part, with places as readers count
 pub record IsNote (paint : Paint) (file source name : List ℕ) (fs : List Interface) (f : Fault) (text : List ℕ) : Type 0 where
   pub untyped : f.kind ≡ Untyped
   pub mend : Mend
   pub mended : IsMend source name fs f.name mend
   pub columns : Columns
   pub columns_at : AreColumnsAt source (other_of mend) columns
-  pub told : IsMessage paint file source (first_of mend) (replaceable f.name (way_of mend (reader_place (other_of mend) columns))) text
+  pub told : IsToldOf paint file source name fs f.name mend (reader_place (other_of mend) columns) text
 
--- the message of a fault of which nothing else is known, and behind it its note, or nothing
+-- the note of a signature tells the type that the definition of a type fault has without it
+pub record IsSignatureNote (paint : Paint) (file source name : List ℕ) (fs : List Interface) (f : Fault) (text : List ℕ) : Type 0 where
+  pub untyped : f.kind ≡ Untyped
+  pub signature : Culprit
+  pub own : List ℕ
+  pub alone : IsUnsigned source name fs f.name signature own
+  pub columns : Columns
+  pub columns_at : AreColumnsAt source signature.end columns
+  pub told : IsMessage paint file source signature.start (unsigned f.name (reader_place signature.end columns) own) text
+
+-- the message of a fault of which nothing else is known, and behind it its note and that of its signature, or nothing
 pub record IsNoted (paint : Paint) (file source name : List ℕ) (fs : List Interface) (f : Fault) (text : List ℕ) : Type 0 where
   pub message : List ℕ
   pub note : List ℕ
   pub says : IsFaultMessage paint file source f nothing message
+  pub signed : List ℕ
   pub noted : (note ≡ []) ⊎ IsNote paint file source name fs f note
-  pub whole : text ≡ message ++ note
+  pub signature : (signed ≡ []) ⊎ IsSignatureNote paint file source name fs f signed
+  pub whole : text ≡ message ++ note ++ signed
 
 -- the same of module number i: the note speaks of it for the interfaces of what it imports
 abbrev pub IsNotedIn : Paint → List ℕ → List ℕ → ModuleSet → (ℕ → Status) → ℕ → Fault → List ℕ → Type 0

@@ -1,14 +1,17 @@
 //! The messages of a module with type faults: one for each fault, and behind it a note of what gives the definition a type.
-ghost use Rattle.std.specs.Prelude.{◌≡◌, ◌⊎◌, IfOk, IfSome, [], map};
+ghost use Rattle.std.specs.Prelude.{◌≡◌, ◌⊎◌, IfOk, IfSome, [], map, string_bytes};
 ghost use Rattle.std.specs.Arc.{arc_value};
 ghost use Rattle.hm_messages.specs.Messages.{AreEach};
 ghost use Rattle.hm_explain.specs.Mends.{IsMend};
+ghost use Rattle.hm_explain.specs.Signatures.{IsUnsigned};
 ghost use Rattle.hm_names.specs.declared.faults.Kind.TheVariants.{Untyped};
-ghost use Rattle.hm_build_output.specs.Explanations.{IsNote, IsNoted, first_of as first_place, other_of as other_place, way_of as told_way};
+ghost use Rattle.hm_build_output.specs.Explanations.{ArePartTypes, IsNote, IsNoted, IsSignatureNote, IsToldOf, first_of as first_place, other_of as other_place, way_of as told_way};
 
-use hm_explain::{Effort, Mend, Question, mend_of};
+use hm_explain::{
+    Effort, Mend, PartTypes, Question, TypeFault, Unsigned, mend_of, part_types_of, unsigned_of,
+};
 use hm_lex::Place;
-use hm_messages::{MessageFault, Page, Paint, Topic, Way, fault_message, message};
+use hm_messages::{BothTypes, MessageFault, Page, Paint, Topic, Way, fault_message, message};
 use hm_messages_details::Detail;
 use hm_names::{Fault, Kind};
 use std::alloc::{AllocError, Global};
@@ -74,6 +77,75 @@ fn way_of(mend: &Mend, other: Place) -> Way
     }
 }
 
+/// The two types of the part that is to blame, if it is an expression and they are found.
+fn types_for(
+    alloc: Global,
+    module: &FaultyModule<'_, '_>,
+    fault: &Fault,
+    mend: &Mend,
+    effort: &mut Effort,
+) -> Option<PartTypes>
+    ensures { IfSome result (λ types. ArePartTypes «module».now.question.now.source.now «module».now.question.now.name.now
+        (map arc_value «module».now.question.now.imports.now) fault.now.name mend.now (string_bytes types.expected) (string_bytes types.actual)) }
+{
+    let found = TypeFault {
+        fault,
+        faults: module.faults,
+    };
+    match mend {
+        Mend::Expression(part) => match part_types_of(
+            alloc,
+            module.question,
+            &found,
+            *part,
+            effort,
+        ) {
+            Ok(types) => types,
+            Err(AllocError) => None,
+        },
+        Mend::Pattern(_) => None,
+        Mend::Exchange(_, _) => None,
+    }
+}
+
+/// What gives a definition a type, and the two types of the part, where they are found.
+#[derive(Drop)]
+struct FaultyPart {
+    mend: Mend,
+    types: Option<PartTypes>,
+}
+
+/// The note of what gives the definition a type, or of the two types, with this as the other place.
+fn note_text(
+    alloc: Global,
+    module: &FaultyModule<'_, '_>,
+    definition: &str,
+    part: &FaultyPart,
+    other: Place,
+) -> Result<Vec<u8>, MessageFault>
+    requires { IfSome part.now.types (λ types. ArePartTypes «module».now.page.now.lines «module».now.question.now.name.now
+        (map arc_value «module».now.question.now.imports.now) definition.now part.now.mend (string_bytes types.expected) (string_bytes types.actual)) }
+    ensures { IfOk result (λ text. IsToldOf «module».now.paint «module».now.page.now.file.now «module».now.page.now.lines
+        «module».now.question.now.name.now (map arc_value «module».now.question.now.imports.now) definition.now part.now.mend other text.items) }
+{
+    let mend = &part.mend;
+    match &part.types {
+        Some(types) => {
+            let both = BothTypes {
+                end: other,
+                expected: types.expected.as_str(),
+                actual: types.actual.as_str(),
+            };
+            let topic = Topic::Mistyped(definition, both);
+            Ok(message(alloc, module.paint, module.page, first_of(mend), &topic)?)
+        }
+        None => {
+            let topic = Topic::Replaceable(definition, way_of(mend, other));
+            Ok(message(alloc, module.paint, module.page, first_of(mend), &topic)?)
+        }
+    }
+}
+
 // Why: docs/DECISIONS.md, "Memory in a trial".
 /// The note of a fault, or nothing.
 fn note_for(
@@ -100,11 +172,61 @@ fn note_for(
         line: other.line,
         column,
     };
-    let topic = Topic::Replaceable(fault.name.as_str(), way_of(&mend, place));
-    Ok(message(alloc, module.paint, module.page, first_of(&mend), &topic)?)
+    let types = types_for(alloc, module, fault, &mend, effort);
+    let part = FaultyPart { mend, types };
+    Ok(note_text(alloc, module, fault.name.as_str(), &part, place)?)
 }
 
-/// The message of a fault with its note.
+/// The type that the definition of a type fault has without its signature, where it is found.
+fn unsigned_for(
+    alloc: Global,
+    module: &FaultyModule<'_, '_>,
+    fault: &Fault,
+    effort: &mut Effort,
+) -> Option<Unsigned>
+    ensures { IfSome result (λ found. (fault.now.kind ≡ Untyped) × IsUnsigned «module».now.question.now.source.now «module».now.question.now.name.now
+        (map arc_value «module».now.question.now.imports.now) fault.now.name found.signature (string_bytes found.own)) }
+{
+    if fault.kind != Kind::Untyped {
+        return None;
+    }
+    let found = TypeFault {
+        fault,
+        faults: module.faults,
+    };
+    match unsigned_of(alloc, module.question, &found, effort) {
+        Ok(unsigned) => unsigned,
+        Err(AllocError) => None,
+    }
+}
+
+/// The note of the signature of a fault, or nothing.
+fn signature_note(
+    alloc: Global,
+    module: &FaultyModule<'_, '_>,
+    fault: &Fault,
+    effort: &mut Effort,
+) -> Result<Vec<u8>, MessageFault>
+    requires { «module».now.question.now.source.now ≡ «module».now.page.now.lines }
+    ensures { IfOk result (λ text. (text.items ≡ []) ⊎ IsSignatureNote «module».now.paint «module».now.page.now.file.now «module».now.page.now.lines
+        «module».now.question.now.name.now (map arc_value «module».now.question.now.imports.now) fault.now text.items) }
+{
+    let Some(found) = unsigned_for(alloc, module, fault, effort) else {
+        return Ok(Vec::new(alloc));
+    };
+    let Unsigned { signature, own } = &found;
+    let Some(columns) = module.page.lines.columns(signature.end) else {
+        return Ok(Vec::new(alloc));
+    };
+    let end = Place {
+        line: signature.end.line,
+        column: columns.characters,
+    };
+    let topic = Topic::Unsigned(fault.name.as_str(), end, own.as_str());
+    Ok(message(alloc, module.paint, module.page, signature.start, &topic)?)
+}
+
+/// The message of a fault with its notes.
 fn fault_text(
     alloc: Global,
     module: &FaultyModule<'_, '_>,
@@ -117,7 +239,9 @@ fn fault_text(
 {
     let mut text = fault_message(alloc, module.paint, module.page, fault, Detail::Nothing)?;
     let note = note_for(alloc, module, fault, effort)?;
+    let signed = signature_note(alloc, module, fault, effort)?;
     text.extend_from_slice(note.as_slice())?;
+    text.extend_from_slice(signed.as_slice())?;
     Ok(text)
 }
 

@@ -1,4 +1,7 @@
 pub mod Elsewhere
+pub mod Found
 pub mod Pieces
+pub mod TextParts
 pub mod WorkedHoles
 pub mod WorkedMends
+pub mod WorkedPartTypes

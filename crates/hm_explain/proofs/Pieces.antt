@@ -12,3 +12,13 @@ pieces_more f xs i d text next piece within before of_one e =
 pub four_pieces : {A : Type 0} (a b c d t u v w : List A) → t ≡ a → u ≡ t ++ b → v ≡ u ++ c → w ≡ v ++ d → w ≡ a ++ (b ++ (c ++ d))
 four_pieces a b c d t u v w e f g h =
     h ∙ (ap (λ x. x ++ d) (g ∙ ap (λ x. x ++ c) (f ∙ ap (λ x. x ++ b) e)) ∙ (append_assoc (a ++ b) c d ∙ append_assoc a b (c ++ d)))
+
+-- five pieces, each put in behind the others
+pub five_in_row : {A : Type 0} (a b c d e t u v w x : List A) → t ≡ a → u ≡ t ++ b → v ≡ u ++ c → w ≡ v ++ d → x ≡ w ++ e → x ≡ a ++ b ++ c ++ d ++ e
+five_in_row a b c d e t u v w x h i j k l =
+    l ∙ ap (λ y. y ++ e) (k ∙ ap (λ y. y ++ d) (j ∙ ap (λ y. y ++ c) (i ∙ ap (λ y. y ++ b) h)))
+
+-- and six
+pub six_in_row : {A : Type 0} (a b c d e f t u v w x y : List A) → t ≡ a → u ≡ t ++ b → v ≡ u ++ c → w ≡ v ++ d → x ≡ w ++ e → y ≡ x ++ f → y ≡ a ++ b ++ c ++ d ++ e ++ f
+six_in_row a b c d e f t u v w x y h i j k l m =
+    m ∙ ap (λ z. z ++ f) (five_in_row a b c d e t u v w x h i j k l)

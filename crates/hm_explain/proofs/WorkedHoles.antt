@@ -73,7 +73,7 @@ one_list source ms ns a b =
     spelled_once source a.tokens ms ns a.parsed (subst (λ ts. Spells ns source ts) (sym (one_tokens source a.tokens b.tokens a.lexed b.lexed)) b.parsed)
 
 -- so a module in a source of one module is that one
-only_module : (source name : List ℕ) (m p : Module) → HasModules source (m ∷ []) → IsModuleIn source name p → p ≡ m
+pub only_module : (source name : List ℕ) (m p : Module) → HasModules source (m ∷ []) → IsModuleIn source name p → p ≡ m
 only_module source name m p h i =
     All-contains (λ (q : Module). q ≡ m) (m ∷ []) p (All-cons (λ (q : Module). q ≡ m) m [] refl (none (λ (q : Module). q ≡ m)))
     (subst (λ (ms : List Module). Contains ms p) (one_list source i.modules (m ∷ []) i.read h) i.among)

@@ -1,3 +1,7 @@
 pub mod Holes
+pub mod Layouts
 pub mod Mends
+pub mod PartTypes
+pub mod Signatures
 pub mod Worked
+pub mod WorkedPartTypes

@@ -17,7 +17,7 @@ pub(crate) struct Cut {
 }
 
 /// Returns the header of the module that a token is in: from its first token to the bracket that opens its declarations.
-fn header_of(outline: &Outline, token: usize) -> Option<Run> {
+pub(crate) fn header_of(outline: &Outline, token: usize) -> Option<Run> {
     let mut start = 0usize;
     let mut next = 0usize;
     for at in 0..token {
@@ -55,6 +55,29 @@ fn has_clause(lexed: &Lexed<'_>, signature: Run, at: usize) -> bool {
         }
     }
     false
+}
+
+/// Returns the signature of the variable of which a clause begins at this token.
+pub(crate) fn signature_of(lexed: &Lexed<'_>, clause: usize) -> Option<Run> {
+    let header = header_of(lexed.outline, clause)?;
+    let close = lexed.outline.closing(header.end.saturating_sub(1));
+    let mut at = header.end;
+    for _ in header.end..close {
+        if at >= close {
+            return None;
+        }
+        let end = declaration_end(lexed.outline, at);
+        let run = Run { start: at, end };
+        let behind = lexed.outline.symbol(at.saturating_add(1));
+        if lexed.outline.symbol(at).is(Symbol::Var)
+            && behind.begins_signature()
+            && has_clause(lexed, run, clause)
+        {
+            return Some(run);
+        }
+        at = end.saturating_add(1);
+    }
+    None
 }
 
 /// The text so far, and its last signature and hole.

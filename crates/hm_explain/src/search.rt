@@ -38,7 +38,7 @@ pub struct Culprit {
 }
 
 /// The bytes of a run of tokens, from one number up to another.
-fn bytes_of(tokens: &[Token], run: Run, source: &[u8]) -> Option<(usize, usize)>
+pub(crate) fn bytes_of(tokens: &[Token], run: Run, source: &[u8]) -> Option<(usize, usize)>
     ensures ordered { IfSome result (λ r. r.0 ≤ r.1) }
     ensures within { IfSome result (λ r. r.1 ≤ length source.now) }
     ensures short { IfSome result (λ r. r.1 < 2 ^ 32) }
@@ -57,13 +57,24 @@ fn bytes_of(tokens: &[Token], run: Run, source: &[u8]) -> Option<(usize, usize)>
 
 /// The tokens of a source with their outline.
 #[derive(Drop)]
-struct Reading {
+pub(crate) struct Reading {
     tokens: Vec<Token>,
     outline: Outline,
 }
 
+impl Reading {
+    /// The source with its tokens.
+    pub fn lexed<'a>(&'a self, source: &'a [u8]) -> Lexed<'a> {
+        Lexed {
+            source,
+            tokens: self.tokens.as_slice(),
+            outline: &self.outline,
+        }
+    }
+}
+
 /// The tokens of a source with their outline, if it has tokens.
-fn reading_of(alloc: Global, source: &[u8]) -> Result<Option<Reading>, AllocError> {
+pub(crate) fn reading_of(alloc: Global, source: &[u8]) -> Result<Option<Reading>, AllocError> {
     let tokens = match lex(alloc, source) {
         Ok(tokens) => tokens,
         Err(LexFault::Memory) => return Err(AllocError),
@@ -156,7 +167,7 @@ fn part_at(source: &[u8], from: usize, to: usize) -> Culprit
 }
 
 /// The part of a source that these tokens are.
-fn part_of(tokens: &[Token], run: Run, source: &[u8]) -> Option<Culprit>
+pub(crate) fn part_of(tokens: &[Token], run: Run, source: &[u8]) -> Option<Culprit>
     ensures { IfSome result (IsPartOf source.now) }
 {
     let (from, to) = bytes_of(tokens, run, source)?;

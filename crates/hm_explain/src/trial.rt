@@ -105,7 +105,7 @@ fn module_in(alloc: Global, source: &[u8], name: &str) -> Result<Option<Module>,
 
 /// Returns the outcome of the module of a question in a changed source, or `None` if the source spells no such module, or one with other
 /// imports.
-fn judged(
+pub(crate) fn judged(
     alloc: Global,
     question: &Question<'_>,
     changed: &[u8],

@@ -13,7 +13,7 @@ use Rattle.hm_names.specs.declared.faults.Kind.{Kind}
 use Rattle.hm_names.specs.declared.faults.Kind.TheVariants.{NotExported, Duplicate, NoBinding, Unbound, Ambiguous, ExportClash, NotImported, NonLinear, Arity, ClauseLength, Untyped, Recursive}
 use Rattle.hm_names.specs.Faults.Phases.{written_in}
 use Rattle.hm_verdicts.specs.Reports.{kind_word}
-use Rattle.hm_messages.specs.Subjects.{Subject, fault, replaceable, faulty, skipped, too_long, lexeme, open_comment, too_deep, syntax_fault, too_many, twice, missing, cycle, exhausted, step}
+use Rattle.hm_messages.specs.Subjects.{Subject, fault, replaceable, mistyped, unsigned, faulty, skipped, too_long, lexeme, open_comment, too_deep, syntax_fault, too_many, twice, missing, cycle, exhausted, step}
 use Rattle.hm_messages.specs.declared.topic.Way.{Way}
 use Rattle.hm_messages.specs.declared.topic.Way.TheVariants.{Expression, Pattern, Exchange}
 use Rattle.hm_messages.specs.declared.heading.Paint.{Paint}
@@ -21,6 +21,8 @@ use Rattle.hm_messages.specs.declared.heading.Paint.TheVariants.{Plain, Coloured
 
 abbrev pub level_of : Subject → Level
 level_of (replaceable x p) = Note
+level_of (mistyped x p t u) = Note
+level_of (unsigned x p t) = Note
 level_of (faulty x) = Note
 level_of (skipped x) = Note
 level_of (step x y) = Note
@@ -40,6 +42,8 @@ level_of (exhausted x) = Error
 abbrev pub kind_of : Subject → List ℕ
 kind_of (fault k x known) = kind_word k
 kind_of (replaceable x p) = codes "replaceable"
+kind_of (mistyped x p t u) = codes "mistyped"
+kind_of (unsigned x p t) = codes "signature"
 kind_of (faulty x) = codes "skipped"
 kind_of (skipped x) = codes "skipped"
 kind_of too_long = codes "too-long"
@@ -58,6 +62,8 @@ kind_of (step x y) = codes "import"
 abbrev pub name_in : Subject → Option (List ℕ)
 name_in (fault k x known) = Some x
 name_in (replaceable x p) = Some x
+name_in (mistyped x p t u) = Some x
+name_in (unsigned x p t) = Some x
 name_in (faulty x) = Some x
 name_in (skipped x) = Some x
 name_in too_long = None
@@ -71,6 +77,16 @@ name_in (missing x) = Some x
 name_in (cycle x) = Some x
 name_in (exhausted x) = Some x
 name_in (step x y) = Some y
+
+-- the type that is expected at a part, and the type that it or a definition has, if it tells them
+abbrev pub expected_in : Subject → Option (List ℕ)
+expected_in (mistyped x p expected actual) = Some expected
+expected_in s = None
+
+abbrev pub actual_in : Subject → Option (List ℕ)
+actual_in (mistyped x p expected actual) = Some actual
+actual_in (unsigned x p own) = Some own
+actual_in s = None
 
 -- a coloured word stands between two escapes, which begin with byte 27
 abbrev pub begin : Paint → Level → List ℕ
@@ -133,9 +149,19 @@ replaceable_title x (Expression p) = expression_title x p
 replaceable_title x (Pattern p) = pattern_title x p
 replaceable_title x (Exchange p) = exchange_title x p
 
+-- what is said of a part that ends at this place, with the type that is expected there and the one that it has
+abbrev pub mistyped_title : Place → List ℕ → List ℕ → List ℕ
+mistyped_title p expected actual = codes "this has type '" ++ actual ++ codes "', but '" ++ expected ++ codes "' is expected (up to " ++ decimal p.line ++ codes ":" ++ decimal p.column ++ codes ")"
+
+-- what is said of a signature that ends at this place, with the type that its definition has without it
+abbrev pub unsigned_title : List ℕ → Place → List ℕ → List ℕ
+unsigned_title x p own = codes "'" ++ x ++ codes "' has type '" ++ own ++ codes "' without this signature (up to " ++ decimal p.line ++ codes ":" ++ decimal p.column ++ codes ")"
+
 abbrev pub title : Subject → List ℕ
 title (fault k x known) = fault_title k x known
 title (replaceable x p) = replaceable_title x p
+title (mistyped x p expected actual) = mistyped_title p expected actual
+title (unsigned x p own) = unsigned_title x p own
 title (faulty x) = codes "skipped, since '" ++ x ++ codes "' has errors"
 title (skipped x) = codes "skipped, since '" ++ x ++ codes "' is skipped"
 title too_long = codes "the source is too long"

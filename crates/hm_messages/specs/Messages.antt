@@ -13,7 +13,7 @@ use Rattle.hm_messages_excerpts.specs.declared.excerpt.Excerpt.{Excerpt}
 use Rattle.hm_messages_json.specs.Objects.{message_text}
 use Rattle.hm_messages_json.specs.declared.message.Message.{Message}
 use Rattle.hm_messages_json.specs.declared.message.Position.{Position}
-use Rattle.hm_messages.specs.Headings.{heading, kind_of, level_of, name_in, title}
+use Rattle.hm_messages.specs.Headings.{actual_in, expected_in, heading, kind_of, level_of, name_in, title}
 use Rattle.hm_messages.specs.Sentences.{sentence}
 use Rattle.hm_messages.specs.Subjects.{Subject, fault}
 use Rattle.hm_messages.specs.declared.heading.Paint.{Paint}
@@ -48,6 +48,8 @@ pub record IsAbout (subject : Subject) (m : Message) : Type 0 where
   pub kind_is : m.kind.now ≡ kind_of subject
   pub name_is : option_map (λ name. name.now) m.name ≡ name_in subject
   pub text_is : m.text.now ≡ title subject
+  pub expected_is : option_map (λ text. text.now) m.expected ≡ expected_in subject
+  pub actual_is : option_map (λ text. text.now) m.actual ≡ actual_in subject
   pub hint_is : IsHint (sentence subject) (option_map (λ hint. hint.now) m.hint)
 
 -- the position is the place's

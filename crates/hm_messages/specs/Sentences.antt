@@ -4,7 +4,7 @@ use Rattle.hm_messages_hints.specs.LexemeTexts.{lexeme_help}
 use Rattle.hm_messages_hints.specs.SyntaxTexts.{syntax_help}
 use Rattle.hm_names.specs.declared.faults.Kind.{Kind}
 use Rattle.hm_names.specs.declared.faults.Kind.TheVariants.{NotExported, Duplicate, NoBinding, Unbound, Ambiguous, ExportClash, NotImported, NonLinear, Arity, ClauseLength, Untyped, Recursive}
-use Rattle.hm_messages.specs.Subjects.{Subject, fault, replaceable, faulty, skipped, too_long, lexeme, open_comment, too_deep, syntax_fault, too_many, twice, missing, cycle, exhausted, step}
+use Rattle.hm_messages.specs.Subjects.{Subject, fault, replaceable, mistyped, unsigned, faulty, skipped, too_long, lexeme, open_comment, too_deep, syntax_fault, too_many, twice, missing, cycle, exhausted, step}
 
 abbrev pub fault_sentence : Kind → List ℕ
 fault_sentence NotExported = codes "The imported module doesn't export this name, or not as a constructor of this type.\n"
@@ -24,6 +24,8 @@ fault_sentence Recursive = codes "A synonym is replaced by its right side, so th
 abbrev pub sentence : Subject → List ℕ
 sentence (fault k x known) = fault_sentence k
 sentence (replaceable x p) = []
+sentence (mistyped x p t u) = []
+sentence (unsigned x p t) = []
 sentence (faulty x) = []
 sentence (skipped x) = []
 sentence too_long = codes "A source has at most 1,048,576 bytes.\n"

@@ -1,10 +1,10 @@
 //! The first line of a message, behind its file's name.
 ghost use Rattle.std.specs.Prelude.{◌≡◌, IfOk, option_map, string_bytes};
-ghost use Rattle.hm_messages.specs.Headings.{begin, end, exchange_title as exchange_title_bytes, expression_title as expression_title_bytes, heading as heading_bytes, level_of as level_is, kind_of as kind_bytes, name_in, pattern_title as pattern_title_bytes, replaceable_title as replaceable_title_bytes, tag as tag_bytes, title as title_bytes};
+ghost use Rattle.hm_messages.specs.Headings.{begin, end, exchange_title as exchange_title_bytes, expression_title as expression_title_bytes, heading as heading_bytes, level_of as level_is, actual_in, expected_in, kind_of as kind_bytes, mistyped_title as mistyped_title_bytes, name_in, pattern_title as pattern_title_bytes, replaceable_title as replaceable_title_bytes, tag as tag_bytes, title as title_bytes, unsigned_title as unsigned_title_bytes};
 ghost use Rattle.hm_messages.specs.Subjects.{subject_of};
 
 use crate::fault_titles::fault_title;
-use crate::topic::{Topic, Way};
+use crate::topic::{BothTypes, Topic, Way};
 use hm_lex::Place;
 use hm_messages_excerpts::shown;
 use hm_messages_hints::{lexeme_text, syntax_text};
@@ -28,6 +28,8 @@ pub(crate) fn level_of(topic: &Topic<'_>) -> Level
 {
     match topic {
         Topic::Replaceable(_, _) => Level::Note,
+        Topic::Mistyped(_, _) => Level::Note,
+        Topic::Unsigned(_, _, _) => Level::Note,
         Topic::Faulty(_) => Level::Note,
         Topic::Skipped(_) => Level::Note,
         Topic::Step(_, _) => Level::Note,
@@ -52,6 +54,8 @@ pub(crate) fn kind_of(topic: &Topic<'_>) -> &'static str
     match topic {
         Topic::Fault(kind, _) => kind_word(*kind),
         Topic::Replaceable(_, _) => "replaceable",
+        Topic::Mistyped(_, _) => "mistyped",
+        Topic::Unsigned(_, _, _) => "signature",
         Topic::Faulty(_) => "skipped",
         Topic::Skipped(_) => "skipped",
         Topic::TooLong => "too-long",
@@ -76,6 +80,8 @@ pub(crate) fn name_in<'a>(topic: &Topic<'a>) -> Option<&'a str>
     match topic {
         Topic::Fault(_, named) => Some(named.name),
         Topic::Replaceable(name, _) => Some(name),
+        Topic::Mistyped(name, _) => Some(name),
+        Topic::Unsigned(name, _, _) => Some(name),
         Topic::Faulty(name) => Some(name),
         Topic::Skipped(name) => Some(name),
         Topic::TooLong => None,
@@ -89,6 +95,27 @@ pub(crate) fn name_in<'a>(topic: &Topic<'a>) -> Option<&'a str>
         Topic::Cycle(name) => Some(name),
         Topic::Exhausted(name) => Some(name),
         Topic::Step(_, import) => Some(import),
+    }
+}
+
+/// The type that is expected at a part, if a topic tells two types.
+pub(crate) fn expected_in<'a>(topic: &Topic<'a>) -> Option<&'a str>
+    ensures { option_map (λ text. text.now) result ≡ expected_in (subject_of topic.now) }
+{
+    match topic {
+        Topic::Mistyped(_, types) => Some(types.expected),
+        _ => None,
+    }
+}
+
+/// The type that a part or a definition has, if a topic tells it.
+pub(crate) fn actual_in<'a>(topic: &Topic<'a>) -> Option<&'a str>
+    ensures { option_map (λ text. text.now) result ≡ actual_in (subject_of topic.now) }
+{
+    match topic {
+        Topic::Mistyped(_, types) => Some(types.actual),
+        Topic::Unsigned(_, _, own) => Some(own),
+        _ => None,
     }
 }
 
@@ -155,6 +182,29 @@ fn replaceable_title(alloc: Global, name: &str, way: Way) -> Result<String, Allo
     }
 }
 
+/// What is said of a part with these two types.
+fn mistyped_title(alloc: Global, types: &BothTypes<'_>) -> Result<String, AllocError>
+    ensures { IfOk result (λ text. string_bytes text ≡ mistyped_title_bytes types.now.end types.now.expected.now types.now.actual.now) }
+{
+    let BothTypes {
+        end,
+        expected,
+        actual,
+    } = *types;
+    let Place { line, column } = end;
+    format!(in alloc;
+        "this has type '{actual}', but '{expected}' is expected (up to {line}:{column})"
+    )
+}
+
+/// What is said of a signature that ends at this place.
+fn unsigned_title(alloc: Global, name: &str, end: Place, own: &str) -> Result<String, AllocError>
+    ensures { IfOk result (λ text. string_bytes text ≡ unsigned_title_bytes name.now end own.now) }
+{
+    let Place { line, column } = end;
+    format!(in alloc; "'{name}' has type '{own}' without this signature (up to {line}:{column})")
+}
+
 /// What is wrong, in a few words.
 pub(crate) fn title(alloc: Global, topic: &Topic<'_>) -> Result<String, AllocError>
     ensures { IfOk result (λ text. string_bytes text ≡ title_bytes (subject_of topic.now)) }
@@ -162,6 +212,8 @@ pub(crate) fn title(alloc: Global, topic: &Topic<'_>) -> Result<String, AllocErr
     match topic {
         Topic::Fault(kind, named) => fault_title(alloc, *kind, named),
         Topic::Replaceable(name, way) => replaceable_title(alloc, name, *way),
+        Topic::Mistyped(_, types) => mistyped_title(alloc, types),
+        Topic::Unsigned(name, end, own) => unsigned_title(alloc, name, *end, own),
         Topic::Faulty(name) => format!(in alloc; "skipped, since '{name}' has errors"),
         Topic::Skipped(name) => format!(in alloc; "skipped, since '{name}' is skipped"),
         Topic::TooLong => String::from_str(alloc, "the source is too long"),

@@ -21,4 +21,4 @@ pub use crate::heading::Paint;
 pub use crate::messages::{MessageFault, message};
 pub use crate::pages::{ModuleStart, Page, Pages, pages_of};
 pub use crate::refusals::{Messages, headers_in, refusal_messages, source_message};
-pub use crate::topic::{Named, Topic, Way};
+pub use crate::topic::{BothTypes, Named, Topic, Way};

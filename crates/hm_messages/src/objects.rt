@@ -3,7 +3,7 @@ ghost use Rattle.std.specs.Prelude.{IfOk, IfSome, option_map, string_bytes};
 ghost use Rattle.hm_messages.specs.Messages.{IsHint, IsObject, IsPositionAt, IsRangeAt};
 ghost use Rattle.hm_messages.specs.Subjects.{subject_of};
 
-use crate::heading::{kind_of, level_of, name_in, title};
+use crate::heading::{actual_in, expected_in, kind_of, level_of, name_in, title};
 use crate::messages::MessageFault;
 use crate::pages::Page;
 use crate::sentences::sentence;
@@ -83,6 +83,8 @@ pub(crate) fn object(
         name: name_in(topic),
         text: text.as_str(),
         hint,
+        expected: expected_in(topic),
+        actual: actual_in(topic),
     };
     let line = message_line(alloc, &message)?;
     Ok(Vec::from_slice(alloc, line.as_bytes())?)

@@ -43,6 +43,8 @@ pub(crate) fn sentence(topic: &Topic<'_>) -> &'static str
     match topic {
         Topic::Fault(kind, _) => fault_sentence(*kind),
         Topic::Replaceable(_, _) => "",
+        Topic::Mistyped(_, _) => "",
+        Topic::Unsigned(_, _, _) => "",
         Topic::Faulty(_) => "",
         Topic::Skipped(_) => "",
         Topic::TooLong => "A source has at most 1,048,576 bytes.\n",

@@ -22,6 +22,17 @@ pub enum Way {
     Exchange(Place),
 }
 
+/// The two types of a part of a definition.
+#[derive(Clone, Copy)]
+pub struct BothTypes<'a> {
+    /// The place of the last character of the part.
+    pub end: Place,
+    /// The type that is expected in place of the part.
+    pub expected: &'a str,
+    /// The type that the part has.
+    pub actual: &'a str,
+}
+
 /// What a message tells. Names are as they are written.
 #[derive(Clone, Copy)]
 pub enum Topic<'a> {
@@ -29,6 +40,10 @@ pub enum Topic<'a> {
     Fault(Kind, Named<'a>),
     /// A definition has a type in this way.
     Replaceable(&'a str, Way),
+    /// A part of a definition has one type, and another one is expected in its place.
+    Mistyped(&'a str, BothTypes<'a>),
+    /// A definition has this type without its signature, which ends here.
+    Unsigned(&'a str, Place, &'a str),
     /// A module is skipped, since it imports this one, which is faulty.
     Faulty(&'a str),
     /// A module is skipped, since it imports this one, which is skipped.

@@ -25,8 +25,9 @@ position_data p = object (member (codes "byte") (count p.columns.bytes)
     (member (codes "utf16") (count p.columns.utf16) no_members))))
 
 -- the message's object, with the members that aren't texts or may be missing
-abbrev pub joined_data : Message → Data → Data → Data → Data → Data → Data
-joined_data m end hint owner name start = object (member (codes "end") end
+abbrev pub joined_data : Message → Data → Data → Data → Data → Data → Data → Data → Data
+joined_data m end expected hint owner name start actual = object (member (codes "end") end
+    (member (codes "expected") expected
     (member (codes "file") (string m.file.now)
     (member (codes "hint") hint
     (member (codes "kind") (string m.kind.now)
@@ -34,11 +35,13 @@ joined_data m end hint owner name start = object (member (codes "end") end
     (member (codes "module") owner
     (member (codes "name") name
     (member (codes "start") start
-    (member (codes "text") (string m.text.now) no_members)))))))))
+    (member (codes "text") (string m.text.now)
+    (member (codes "type") actual no_members)))))))))))
 
 abbrev pub message_data : Message → Data
-message_data m = joined_data m (position_data m.end) (text_data (option_map (λ t. t.now) m.hint)) (text_data (option_map (λ t. t.now) m.module))
-    (text_data (option_map (λ t. t.now) m.name)) (position_data m.start)
+message_data m = joined_data m (position_data m.end) (text_data (option_map (λ t. t.now) m.expected)) (text_data (option_map (λ t. t.now) m.hint))
+    (text_data (option_map (λ t. t.now) m.module)) (text_data (option_map (λ t. t.now) m.name)) (position_data m.start)
+    (text_data (option_map (λ t. t.now) m.actual))
 
 abbrev pub counts_data : ℕ → ℕ → Data
 counts_data errors skipped = object (member (codes "errors") (count errors)

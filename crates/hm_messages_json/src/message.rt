@@ -35,4 +35,8 @@ pub struct Message<'a> {
     pub text: &'a str,
     /// The broken rule, or something that may help, if there is more to say.
     pub hint: Option<&'a str>,
+    /// The type that is expected there, if two types differ.
+    pub expected: Option<&'a str>,
+    /// The type that is there, if two types differ.
+    pub actual: Option<&'a str>,
 }

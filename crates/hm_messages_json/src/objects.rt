@@ -43,16 +43,18 @@ fn position_value(alloc: Global, position: Position) -> Result<Value, AllocError
 #[derive(Clone, Copy)]
 struct Parts<'a> {
     end: &'a Value,
+    expected: &'a Value,
     hint: &'a Value,
     owner: &'a Value,
     name: &'a Value,
     start: &'a Value,
+    actual: &'a Value,
 }
 
 /// Returns the object of a message with these members.
 fn joined(alloc: Global, message: &Message<'_>, parts: Parts<'_>) -> Result<Value, AllocError>
-    ensures { IfOk result (λ value. view value ≡ joined_data message.now (view parts.entry.end.now) (view parts.entry.hint.now) (view parts.entry.owner.now)
-        (view parts.entry.name.now) (view parts.entry.start.now)) }
+    ensures { IfOk result (λ value. view value ≡ joined_data message.now (view parts.entry.end.now) (view parts.entry.expected.now) (view parts.entry.hint.now)
+        (view parts.entry.owner.now) (view parts.entry.name.now) (view parts.entry.start.now) (view parts.entry.actual.now)) }
 {
     let level = level_word(message.level);
     let Message {
@@ -63,13 +65,16 @@ fn joined(alloc: Global, message: &Message<'_>, parts: Parts<'_>) -> Result<Valu
     } = *message;
     let Parts {
         end,
+        expected,
         hint,
         owner,
         name,
         start,
+        actual,
     } = parts;
     json!(in alloc; {
         "end": end,
+        "expected": expected,
         "file": file,
         "hint": hint,
         "kind": kind,
@@ -78,6 +83,7 @@ fn joined(alloc: Global, message: &Message<'_>, parts: Parts<'_>) -> Result<Valu
         "name": name,
         "start": start,
         "text": text,
+        "type": actual,
     })
 }
 
@@ -87,17 +93,21 @@ fn message_value(alloc: Global, message: &Message<'_>) -> Result<Value, AllocErr
 {
     let start = position_value(alloc, message.start)?;
     let end = position_value(alloc, message.end)?;
+    let expected = text_value(alloc, message.expected)?;
+    let actual = text_value(alloc, message.actual)?;
     let hint = text_value(alloc, message.hint)?;
     let owner = text_value(alloc, message.module)?;
     let name = text_value(alloc, message.name)?;
     let parts = Parts {
         end: &end,
+        expected: &expected,
         hint: &hint,
         owner: &owner,
         name: &name,
         start: &start,
+        actual: &actual,
     };
-    joined(alloc, message, parts)
+    Ok(joined(alloc, message, parts)?)
 }
 
 /// Returns the counts as an object.

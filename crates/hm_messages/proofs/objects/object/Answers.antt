@@ -18,6 +18,8 @@ returns c =
       name = c.name_in.result;
       text = c.as_str-3.result;
       hint = c.match-hint.hint;
+      expected = c.expected_in.result;
+      actual = c.actual_in.result;
     } in
     let hint_same : option_map string_bytes c.in_ok-hint.hint ≡ option_map (λ hint. hint.now) c.match-hint.hint = elim c.match-hint.branch [
       | in-Some-hint w ↦ search rules
@@ -32,6 +34,8 @@ returns c =
         kind_is = search rules;
         name_is = search rules;
         text_is = search rules;
+        expected_is = search rules;
+        actual_is = search rules;
         hint_is = subst (IsHint (sentence (subject_of c.args.topic.now))) hint_same (search rules);
       };
       says = search rules;

@@ -1,0 +1,120 @@
+-- The worked types of parts.
+use Rattle.std.proofs.Common.{◌≡◌, ◌∙◌, ℕ, List, [], ◌∷◌, ◌++◌, All, Contains, length, get_or, refl, sym, ap, subst, arith}
+use Rattle.std.specs.Prelude.{codes, slice_range}
+use Rattle.std.proofs.lemmas.List.Elements.{All-contains, All-cons}
+use Rattle.hm_types.specs.Interfaces.{Exports as Interface}
+use Rattle.hm_types.specs.Monotypes.{Mono, Monos, var}
+use Rattle.hm_types.specs.Schemes.{TypeScheme}
+use Rattle.hm_types.specs.StandardPrelude.{prelude_interface}
+use Rattle.hm_types.specs.Types.{Var as leaf, App as app, done as none, more}
+use Rattle.hm_types_display.specs.Texts.{scheme_text_of}
+use Rattle.hm_types.specs.declared.entries.ValueEntry.{ValueEntry}
+use Rattle.hm_syntax.specs.declared.ast.Module.{Module}
+use Rattle.hm_run_sources.specs.SourceModules.{HasModules}
+use Rattle.hm_verdicts.specs.ModuleVerdicts.{Verdict, Good, Faulty, IsVerdict}
+use Rattle.hm_verdicts.specs.Worked.{module_A}
+use Rattle.hm_verdicts.specs.WorkedVerdicts.{character, entry_x, interface_A}
+use Rattle.hm_verdicts.proofs.OneModuleVerdict.{one_module_verdict}
+use Rattle.hm_verdicts.proofs.WorkedModules.{good_A}
+use Rattle.hm_explain.specs.Holes.{hole}
+use Rattle.hm_explain.specs.PartTypes.{AreTextsOf, ExportsIn, hollowed}
+use Rattle.hm_explain.specs.WorkedPartTypes.{ExportsRow, OthersRow, ProbesRow, SignaturesRow, TextsRow, a, applied_to_itself, equal_types, function}
+use Rattle.hm_explain.specs.declared.layout.Other.{Other}
+use Rattle.hm_explain.proofs.WorkedHoles.{only_module}
+
+pub worked_probes : ProbesRow
+worked_probes = record {
+  argument = refl;
+  listed = refl;
+  unlisted = λ e. let other : 102 ≡ 112 = ap (λ (l : List ℕ). get_or l 10 0) e in absurd (omega (arith, other));
+}
+
+hollow_g : (g : Other) → g.name.now ≡ codes "g" → g.from ≡ 0 → g.to ≡ 5 → hollowed (codes "g = 1 ; f") 0 9 (g ∷ []) ≡ codes "g = (let { h = h } in h) ; f"
+hollow_g g name from to =
+    let text : List ℕ → ℕ → ℕ → List ℕ = λ n i j. slice_range (codes "g = 1 ; f") 0 i ++ n ++ codes " = " ++ hole ++ slice_range (codes "g = 1 ; f") j 9 in
+    ap (λ (n : List ℕ). text n g.from g.to) name ∙ (ap (λ (i : ℕ). text (codes "g") i g.to) from ∙ ap (λ (j : ℕ). text (codes "g") 0 j) to)
+
+pub worked_others : OthersRow
+worked_others = record {
+  hollow = hollow_g;
+  none = λ e. absurd (omega (arith, ap length e));
+}
+
+pub worked_signatures : SignaturesRow
+worked_signatures = record {
+  gone = refl;
+  stays = λ e. absurd (omega (arith, ap length e));
+  own = refl;
+}
+
+-- the arguments of a type, and the first and the second one of some
+abbrev arguments : Mono → Monos
+arguments (leaf v) = none
+arguments (app h ts) = ts
+
+abbrev first_of : Mono → Monos → Mono
+first_of d none = d
+first_of d (more t ts) = t
+
+abbrev rest_of : Monos → Monos
+rest_of none = none
+rest_of (more t ts) = ts
+
+abbrev pair_in : Mono → Monos
+pair_in t = arguments (first_of t (arguments t))
+
+abbrev expected_in : Mono → Mono
+expected_in t = first_of t (pair_in t)
+
+abbrev actual_in : Mono → Mono
+actual_in t = first_of t (rest_of (pair_in t))
+
+not_exchanged : ¬ (AreTextsOf applied_to_itself (codes "a -> b") (codes "a"))
+not_exchanged h =
+    let first : a ≡ h.expected_type = ap expected_in h.pair in
+    let text : codes "a -> b" ≡ codes "a" = subst (λ (t : Mono). codes "a -> b" ≡ scheme_text_of (record { vars = 2; body = t })) (sym first) h.expected_is in
+    absurd (omega (arith, ap length text))
+
+not_equal : (t u : List ℕ) → ¬ (AreTextsOf equal_types t u)
+not_equal t u h = h.apart (sym (ap expected_in h.pair) ∙ ap actual_in h.pair)
+
+a_function : ¬ (a ≡ function a (leaf (var 1)))
+a_function e = cc
+
+pub worked_texts : TextsRow
+worked_texts = record {
+  itself = record { expected_type = a; actual_type = function a (leaf (var 1)); pair = refl; apart = a_function; expected_is = refl; actual_is = refl };
+  exchanged = not_exchanged;
+  equal = not_equal;
+}
+
+here : (source : List ℕ) → HasModules source (module_A ∷ []) → ExportsIn source (codes "A") [] (codes "x") character
+here source h = record {
+  «module» = module_A;
+  spelled = record { modules = module_A ∷ []; read = h; among = (0, omega arith, refl); named = refl };
+  asked = refl;
+  exports = interface_A;
+  right = good_A;
+  exported = record { entry = entry_x character; listed = (0, omega arith, refl); named = refl; scheme_is = refl };
+}
+
+-- the interface in a verdict
+abbrev interface_in : Interface → Verdict → Interface
+interface_in d (Good f) = f
+interface_in d (Faulty found) = d
+
+no_y : (e : ValueEntry) → Contains interface_A.values e → ¬ (e.name ≡ codes "y")
+no_y e there =
+    All-contains (λ (v : ValueEntry). ¬ (v.name ≡ codes "y")) (entry_x character ∷ []) e
+    (All-cons (λ (v : ValueEntry). ¬ (v.name ≡ codes "y")) (entry_x character) [] (λ q. let other : 120 ≡ 121 = ap (λ (l : List ℕ). get_or l 0 0) q in absurd (omega (arith, other))) (λ i d l. absurd (omega (arith, l)))) there
+
+other : (source : List ℕ) (s : TypeScheme) → HasModules source (module_A ∷ []) → ¬ (ExportsIn source (codes "A") [] (codes "y") s)
+other source s h e =
+    let same : e.«module» ≡ module_A = only_module source (codes "A") module_A e.«module» h e.spelled in
+    let own : IsVerdict module_A (prelude_interface ∷ []) (Good e.exports) = subst (λ (m : Module). IsVerdict m (prelude_interface ∷ []) (Good e.exports)) same e.right in
+    let one : Good e.exports ≡ Good interface_A = one_module_verdict module_A (prelude_interface ∷ []) (Good e.exports) (Good interface_A) own good_A in
+    let is : e.exports ≡ interface_A = ap (interface_in interface_A) one in
+    no_y e.exported.entry (subst (λ (f : Interface). Contains f.values e.exported.entry) is e.exported.listed) e.exported.named
+
+pub worked_exports : ExportsRow
+worked_exports = record { here = here; other = other }

@@ -1,0 +1,36 @@
+-- The type that a definition has without its signature, where that is to blame for a type fault.
+use Rattle.std.specs.Prelude.{◌≡◌, ◌≤◌, ℕ, List, ◌∷◌, ◌++◌, codes, length, take, drop, slice_range}
+use Rattle.hm_types.specs.Interfaces.{Exports as Interface}
+use Rattle.hm_types.specs.Schemes.{TypeScheme}
+use Rattle.hm_types_display.specs.Texts.{scheme_text_of}
+use Rattle.hm_explain.specs.Holes.{HasTypesIn, IsPartOf}
+use Rattle.hm_explain.specs.PartTypes.{ExportsIn, Surroundings, around, hollow}
+use Rattle.hm_explain.specs.declared.search.Culprit.{Culprit}
+
+-- the source without its bytes from the first number up to the second
+abbrev pub without : List ℕ → ℕ → ℕ → List ℕ
+without source from to = take from source ++ drop to source
+
+-- a variable that is what a definition is without a signature, which is local (Report 3.12, 4.5.1)
+abbrev pub alone : List ℕ → List ℕ → List ℕ
+alone name definition = hollow name ++ codes " ; part'types = let { " ++ definition ++ codes " } in " ++ name
+
+-- the source with that variable in place of a definition
+abbrev pub with_alone : List ℕ → List ℕ → Surroundings → List ℕ
+with_alone source name s = around source s (alone name (slice_range source s.whole.from s.whole.to))
+
+-- with that variable in place of the definition the module is good, and this is the text of the variable's type
+pub record HasTypeAlone (source name : List ℕ) (fs : List Interface) (definition text : List ℕ) : Type 0 where
+  pub place : Surroundings
+  pub ordered : place.whole.from ≤ place.whole.to
+  pub within : place.whole.to ≤ length source
+  pub scheme : TypeScheme
+  pub typed : ExportsIn (with_alone source definition place) name fs (codes "part'types") scheme
+  pub text_is : text ≡ scheme_text_of scheme
+
+-- The definition has a type without this part of the source, and this is the text of the type that it has alone
+pub record IsUnsigned (source name : List ℕ) (fs : List Interface) (definition : List ℕ) (part : Culprit) (text : List ℕ) : Type 0 where
+  pub part_of : IsPartOf source part
+  pub others : List (List ℕ)
+  pub types : HasTypesIn (without source part.from part.to) name fs (definition ∷ others)
+  pub own : HasTypeAlone source name fs definition text

@@ -1,0 +1,59 @@
+-- Worked examples of the two types of a part.
+use Rattle.std.specs.Prelude.{◌≡◌, ℕ, List, [], ◌∷◌, None, Some, codes}
+use Rattle.hm_types.specs.Monotypes.{Mono, var}
+use Rattle.hm_types.specs.Schemes.{TypeScheme}
+use Rattle.hm_types.specs.Types.{Var as leaf, App as app, done as none, more}
+use Rattle.hm_types.specs.declared.Head.TheVariants.{Arrow}
+use Rattle.hm_run_sources.specs.SourceModules.{HasModules}
+use Rattle.hm_verdicts.specs.Worked.{module_A}
+use Rattle.hm_verdicts.specs.WorkedVerdicts.{character}
+use Rattle.hm_explain.specs.PartTypes.{AreTextsOf, ExportsIn, Surroundings, before, from_pair, hollowed, with_probe}
+use Rattle.hm_explain.specs.Signatures.{with_alone, without}
+use Rattle.hm_explain.specs.declared.layout.Other.{Other}
+use Rattle.hm_explain.specs.Worked.{part, span}
+
+-- a definition from the first byte up to the second, in a module without an export list
+abbrev pub alone_at : ℕ → ℕ → Surroundings
+alone_at from to = record { whole = span from to; exported = None; before = []; behind = [] }
+
+-- g is another definition, from the first byte up to byte 5
+pub record OthersRow : Type 0 where
+  pub hollow : (g : Other) → g.name.now ≡ codes "g" → g.from ≡ 0 → g.to ≡ 5 → hollowed (codes "g = 1 ; f") 0 9 (g ∷ []) ≡ codes "g = (let { h = h } in h) ; f"
+  pub none : ¬ (hollowed (codes "g = 1 ; f") 0 9 [] ≡ codes "g = (let { h = h } in h) ; f")
+
+-- without its signature f has the type that it has alone
+pub record SignaturesRow : Type 0 where
+  pub gone : without (codes "f :: a ; f = 1") 0 6 ≡ codes " ; f = 1"
+  pub stays : ¬ (without (codes "f :: a ; f = 1") 0 0 ≡ codes " ; f = 1")
+  pub own : with_alone (codes "f = 1") (codes "f") (alone_at 0 5) ≡ codes "f = (let { h = h } in h) ; part'declared = f ; part'types = let { f = 1 } in f"
+
+-- x is the part of f x = x from byte 6 to byte 7. Where a module has an export list, the function is in it
+pub record ProbesRow : Type 0 where
+  pub argument : with_probe (codes "f x = x") (codes "f") (alone_at 0 7) (part 6 7)
+      ≡ codes "f = (let { h = h } in h) ; part'declared = f ; part'types (part'expected, part'actual) = case let { f x = (case part'actual : (x) : [] of { _ -> part'expected }) } in f : part'declared : [] of { _ -> () }"
+  pub listed : before (codes "module A (f) where {") (Some 10) 20 [] ≡ codes "module A (part'types , f) where {"
+  pub unlisted : ¬ (before (codes "module A (f) where {") None 20 [] ≡ codes "module A (part'types , f) where {")
+
+abbrev pub a : Mono
+a = leaf (var 0)
+
+abbrev pub function : Mono → Mono → Mono
+function t u = app Arrow (more t (more u none))
+
+-- the types of f in f f: a function from a to b, where a is expected
+abbrev pub applied_to_itself : TypeScheme
+applied_to_itself = record { vars = 2; body = from_pair a (function a (leaf (var 1))) }
+
+abbrev pub equal_types : TypeScheme
+equal_types = record { vars = 1; body = from_pair a a }
+
+-- the expected type is the first one, and two equal types are none
+pub record TextsRow : Type 0 where
+  pub itself : AreTextsOf applied_to_itself (codes "a") (codes "a -> b")
+  pub exchanged : ¬ (AreTextsOf applied_to_itself (codes "a -> b") (codes "a"))
+  pub equal : (t u : List ℕ) → ¬ (AreTextsOf equal_types t u)
+
+-- the module A has only x = 'c', and exports x and no y
+pub record ExportsRow : Type 0 where
+  pub here : (source : List ℕ) → HasModules source (module_A ∷ []) → ExportsIn source (codes "A") [] (codes "x") character
+  pub other : (source : List ℕ) (s : TypeScheme) → HasModules source (module_A ∷ []) → ¬ (ExportsIn source (codes "A") [] (codes "y") s)

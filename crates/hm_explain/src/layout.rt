@@ -1,0 +1,240 @@
+//! The sources in which a function takes a value of each of the two types of a part, or a variable has the type of a definition.
+ghost use Rattle.std.specs.Prelude.{◌≡◌, ◌≤◌, ◌++◌, IfOk, IfSome, codes, length};
+ghost use Rattle.hm_explain.specs.Holes.{hole};
+ghost use Rattle.hm_explain.specs.Layouts.{surroundings_of};
+ghost use Rattle.hm_explain.specs.PartTypes.{around as around_text, before as before_text, hollow as hollow_text, hollowed as hollowed_text, listed_before as listed_text, probe as probe_text, probed_definition as definition_text, probed_part as part_text, with_probe as probed_text};
+ghost use Rattle.hm_explain.specs.Signatures.{alone as alone_text, with_alone as with_alone_text};
+
+use crate::mends::Span;
+use crate::search::Culprit;
+use crate::trial::HOLE;
+use std::alloc::{AllocError, Global};
+
+/// A definition that is a hole in a changed source: its name and its bytes.
+#[derive(Clone, Copy)]
+pub(crate) struct Other<'a> {
+    pub name: &'a str,
+    pub from: usize,
+    pub to: usize,
+}
+
+/// Where a definition is in a source.
+#[derive(Clone, Copy)]
+pub(crate) struct Layout<'a> {
+    pub source: &'a [u8],
+    /// The name of the definition.
+    pub name: &'a str,
+    /// Where the export list of the module begins, if it has one.
+    pub exported: Option<usize>,
+    /// The bytes of the definition.
+    pub whole: Span,
+    /// The definitions before it that are holes, in order.
+    pub before: &'a [Other<'a>],
+    /// The definitions after it that are holes, in order.
+    pub behind: &'a [Other<'a>],
+}
+
+/// Returns a value of the expected type, with a value of the part's own type in one list with the part.
+fn probed_part(alloc: Global, part: &[u8]) -> Result<Vec<u8>, AllocError>
+    ensures { IfOk result (λ made. made.items ≡ part_text part.now) }
+{
+    let mut made = Vec::from_slice(alloc, b"(case part'actual : (")?;
+    made.extend_from_slice(part)?;
+    made.extend_from_slice(b") : [] of { _ -> part'expected })")?;
+    Ok(made)
+}
+
+/// Returns the definition with its part so.
+fn probed_definition(
+    alloc: Global,
+    source: &[u8],
+    whole: Span,
+    part: Culprit,
+) -> Result<Vec<u8>, AllocError>
+    requires starts { whole.from ≤ part.from }
+    requires ordered { part.from ≤ part.to }
+    requires ends { part.to ≤ whole.to }
+    requires within { whole.to ≤ length source.now }
+    ensures { IfOk result (λ made. made.items ≡ definition_text source.now whole part) }
+{
+    let probed = probed_part(alloc, &source[part.from..part.to])?;
+    let mut made = Vec::from_slice(alloc, &source[whole.from..part.from])?;
+    made.extend_from_slice(probed.as_slice())?;
+    made.extend_from_slice(&source[part.to..whole.to])?;
+    Ok(made)
+}
+
+/// Returns the hole in place of a definition, and a second name for it.
+fn hollow(alloc: Global, name: &[u8]) -> Result<Vec<u8>, AllocError>
+    ensures { IfOk result (λ made. made.items ≡ hollow_text name.now) }
+{
+    let mut made = Vec::from_slice(alloc, name)?;
+    made.extend_from_slice(b" = ")?;
+    made.extend_from_slice(HOLE.as_bytes())?;
+    made.extend_from_slice(b" ; part'declared = ")?;
+    made.extend_from_slice(name)?;
+    Ok(made)
+}
+
+// Why: docs/DECISIONS.md, "Signatures in a note".
+/// Returns the function of the two values, in which the definition is local.
+fn probe(alloc: Global, name: &[u8], definition: &[u8]) -> Result<Vec<u8>, AllocError>
+    ensures { IfOk result (λ made. made.items ≡ probe_text name.now definition.now) }
+{
+    let mut made = hollow(alloc, name)?;
+    made.extend_from_slice(b" ; part'types (part'expected, part'actual) = case let { ")?;
+    made.extend_from_slice(definition)?;
+    made.extend_from_slice(b" } in ")?;
+    made.extend_from_slice(name)?;
+    made.extend_from_slice(b" : part'declared : [] of { _ -> () }")?;
+    Ok(made)
+}
+
+/// Returns a variable that is what the definition is without a signature.
+fn alone(alloc: Global, name: &[u8], definition: &[u8]) -> Result<Vec<u8>, AllocError>
+    ensures { IfOk result (λ made. made.items ≡ alone_text name.now definition.now) }
+{
+    let mut made = hollow(alloc, name)?;
+    made.extend_from_slice(b" ; part'types = let { ")?;
+    made.extend_from_slice(definition)?;
+    made.extend_from_slice(b" } in ")?;
+    made.extend_from_slice(name)?;
+    Ok(made)
+}
+
+/// Returns the hole in place of a definition, between two texts.
+fn with_hollow(
+    alloc: Global,
+    front: &[u8],
+    name: &str,
+    behind: &[u8],
+) -> Result<Vec<u8>, AllocError>
+    ensures { IfOk result (λ made. made.items ≡ front.now ++ name.now ++ codes " = " ++ hole ++ behind.now) }
+{
+    let mut made = Vec::from_slice(alloc, front)?;
+    made.extend_from_slice(name.as_bytes())?;
+    made.extend_from_slice(b" = ")?;
+    made.extend_from_slice(HOLE.as_bytes())?;
+    made.extend_from_slice(behind)?;
+    Ok(made)
+}
+
+/// Returns the bytes from one number up to another, with the hole in place of definitions. Returns `None` if these aren't in order there.
+fn hollowed(
+    alloc: Global,
+    source: &[u8],
+    from: usize,
+    to: usize,
+    others: &[Other<'_>],
+) -> Result<Option<Vec<u8>>, AllocError>
+    ensures { IfOk result (λ found. IfSome found (λ made. made.items ≡ hollowed_text source.now from to others.now)) }
+{
+    let Some((first, rest)) = others.split_first() else {
+        if from > to || to > source.len() {
+            return Ok(None);
+        }
+        return Ok(Some(Vec::from_slice(alloc, &source[from..to])?));
+    };
+    if from > first.from || first.from > source.len() {
+        return Ok(None);
+    }
+    let Some(behind) = hollowed(alloc, source, first.to, to, rest)? else {
+        return Ok(None);
+    };
+    let front = &source[from..first.from];
+    Ok(Some(with_hollow(alloc, front, first.name, behind.as_slice())?))
+}
+
+/// Returns the source before the definition, with the function at the beginning of the export list.
+fn listed_before(
+    alloc: Global,
+    source: &[u8],
+    at: usize,
+    from: usize,
+    others: &[Other<'_>],
+) -> Result<Option<Vec<u8>>, AllocError>
+    ensures { IfOk result (λ found. IfSome found (λ made. made.items ≡ listed_text source.now at from others.now)) }
+{
+    if at > source.len() {
+        return Ok(None);
+    }
+    let Some(behind) = hollowed(alloc, source, at, from, others)? else {
+        return Ok(None);
+    };
+    let mut made = Vec::from_slice(alloc, &source[..at])?;
+    made.extend_from_slice(b"part'types , ")?;
+    made.extend_from_slice(behind.as_slice())?;
+    Ok(Some(made))
+}
+
+/// Returns the source before the definition, with the function among the exports.
+fn before(alloc: Global, layout: &Layout<'_>) -> Result<Option<Vec<u8>>, AllocError>
+    ensures { IfOk result (λ found. IfSome found (λ made. made.items
+        ≡ before_text layout.now.source.now layout.now.exported layout.now.whole.from layout.now.before.now)) }
+{
+    let source = layout.source;
+    let from = layout.whole.from;
+    match layout.exported {
+        None => Ok(hollowed(alloc, source, 0, from, layout.before)?),
+        Some(at) => Ok(listed_before(alloc, source, at, from, layout.before)?),
+    }
+}
+
+/// Returns the source with a text in place of the definition.
+fn around(alloc: Global, layout: &Layout<'_>, text: &[u8]) -> Result<Option<Vec<u8>>, AllocError>
+    ensures { IfOk result (λ found. IfSome found (λ made. made.items ≡ around_text layout.now.source.now (surroundings_of layout.now) text.now)) }
+{
+    let source = layout.source;
+    let Some(mut made) = before(alloc, layout)? else {
+        return Ok(None);
+    };
+    let to = layout.whole.to;
+    let Some(behind) = hollowed(alloc, source, to, source.len(), layout.behind)? else {
+        return Ok(None);
+    };
+    made.extend_from_slice(text)?;
+    made.extend_from_slice(behind.as_slice())?;
+    Ok(Some(made))
+}
+
+/// Returns the source with the function in place of the definition, or `None` if the part doesn't lie in that.
+pub(crate) fn with_probe(
+    alloc: Global,
+    layout: &Layout<'_>,
+    part: Culprit,
+) -> Result<Option<Vec<u8>>, AllocError>
+    ensures starts { IfOk result (λ found. IfSome found (λ made. layout.now.whole.from ≤ part.from)) }
+    ensures ordered { IfOk result (λ found. IfSome found (λ made. part.from ≤ part.to)) }
+    ensures ends { IfOk result (λ found. IfSome found (λ made. part.to ≤ layout.now.whole.to)) }
+    ensures within { IfOk result (λ found. IfSome found (λ made. layout.now.whole.to ≤ length layout.now.source.now)) }
+    ensures made { IfOk result (λ found. IfSome found (λ made. made.items
+        ≡ probed_text layout.now.source.now layout.now.name.now (surroundings_of layout.now) part)) }
+{
+    let source = layout.source;
+    let whole = layout.whole;
+    if whole.from > part.from || part.from > part.to {
+        return Ok(None);
+    }
+    if part.to > whole.to || whole.to > source.len() {
+        return Ok(None);
+    }
+    let definition = probed_definition(alloc, source, whole, part)?;
+    let probe = probe(alloc, layout.name.as_bytes(), definition.as_slice())?;
+    Ok(around(alloc, layout, probe.as_slice())?)
+}
+
+/// Returns the source with a variable in place of the definition that is what the definition is without a signature.
+pub(crate) fn with_alone(alloc: Global, layout: &Layout<'_>) -> Result<Option<Vec<u8>>, AllocError>
+    ensures ordered { IfOk result (λ found. IfSome found (λ made. layout.now.whole.from ≤ layout.now.whole.to)) }
+    ensures within { IfOk result (λ found. IfSome found (λ made. layout.now.whole.to ≤ length layout.now.source.now)) }
+    ensures made { IfOk result (λ found. IfSome found (λ made. made.items
+        ≡ with_alone_text layout.now.source.now layout.now.name.now (surroundings_of layout.now))) }
+{
+    let source = layout.source;
+    let Span { from, to } = layout.whole;
+    if from > to || to > source.len() {
+        return Ok(None);
+    }
+    let alone = alone(alloc, layout.name.as_bytes(), &source[from..to])?;
+    Ok(around(alloc, layout, alone.as_slice())?)
+}
