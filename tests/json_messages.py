@@ -97,6 +97,11 @@ def row_fault(source, status, run, schema):
             return f"an end before its start: {value}"
         if value["module"] != (None if status == 2 else module_at(source, start)):
             return f"another module: {value}"
+        if other := value["other"]:
+            if why := position_fault(source, other):
+                return why
+            if not value["text"].endswith(f": the first is at {other['line']}:{other['character']}"):
+                return f"another first place: {value}"
         if value["hint"] is not None and value["hint"] + "\n" not in plain.stderr.decode():
             return f"another hint: {value}"
     errors = sum(value["level"] == "error" for value in values)

@@ -15,7 +15,7 @@ KINDS = [
     (
         "module M where { f = 1 ; g = 2 ; f = 3 }",
         1,
-        "M.hs:1:34: error: a second declaration of 'f' [duplicate]\n"
+        "M.hs:1:34: error: a second declaration of 'f': the first is at 1:18 [duplicate]\n"
         "A name has one declaration, one signature and one parameter in a list; the clauses of a function must stand together.\n"
         "module M where { f = 1 ; g = 2 ; f = 3 }\n"
         "                                 ^\n"
@@ -72,7 +72,7 @@ KINDS = [
     (
         "module M where { f x x = x }",
         1,
-        "M.hs:1:22: error: 'x' occurs twice in these patterns [non-linear]\n"
+        "M.hs:1:22: error: 'x' occurs twice in these patterns: the first is at 1:20 [non-linear]\n"
         "The patterns of one clause, lambda, alternative or binding have each variable once.\n"
         "module M where { f x x = x }\n"
         "                     ^\n"
@@ -81,7 +81,7 @@ KINDS = [
     (
         "module M where { f :: Maybe ; f = f }",
         1,
-        "M.hs:1:23: error: wrong number of arguments for 'Maybe' [arity]\n"
+        "M.hs:1:23: error: wrong number of arguments for 'Maybe': it has 0 here, but takes 1 [arity]\n"
         "A type, synonym or constructor takes as many arguments as its declaration gives it.\n"
         "module M where { f :: Maybe ; f = f }\n"
         "                      ^^^^^\n"
@@ -90,7 +90,7 @@ KINDS = [
     (
         "module M where { f x = x ; f x y = x }",
         1,
-        "M.hs:1:28: error: the clauses of 'f' have different numbers of patterns [clause-length]\n"
+        "M.hs:1:28: error: the clauses of 'f' have different numbers of patterns: 2 here, but 1 in the first [clause-length]\n"
         "Each clause of a function has as many patterns as the first one.\n"
         "module M where { f x = x ; f x y = x }\n"
         "                           ^\n"
@@ -107,6 +107,127 @@ KINDS = [
         "module M where { twice f = f f }\n"
         "                             ^\n"
         "errors: 1, skipped modules: 0\n",
+    ),
+    # the first of three, and not the one before
+    (
+        "module M where { f = 1 ; g = 2 ; f = 3 ; g = 4 ; f = 5 }",
+        1,
+        "M.hs:1:34: error: a second declaration of 'f': the first is at 1:18 [duplicate]\n"
+        "A name has one declaration, one signature and one parameter in a list; the clauses of a function must stand together.\n"
+        "module M where { f = 1 ; g = 2 ; f = 3 ; g = 4 ; f = 5 }\n"
+        "                                 ^\n"
+        "M.hs:1:42: error: a second declaration of 'g': the first is at 1:26 [duplicate]\n"
+        "A name has one declaration, one signature and one parameter in a list; the clauses of a function must stand together.\n"
+        "module M where { f = 1 ; g = 2 ; f = 3 ; g = 4 ; f = 5 }\n"
+        "                                         ^\n"
+        "M.hs:1:50: error: a second declaration of 'f': the first is at 1:18 [duplicate]\n"
+        "A name has one declaration, one signature and one parameter in a list; the clauses of a function must stand together.\n"
+        "module M where { f = 1 ; g = 2 ; f = 3 ; g = 4 ; f = 5 }\n"
+        "                                                 ^\n"
+        "errors: 3, skipped modules: 0\n",
+    ),
+    # types and their parameters, constructors, signatures
+    (
+        "module M where { data T a a = A | A ; type T = Int ; f, f :: Int ; f = 1 }",
+        1,
+        "M.hs:1:27: error: a second declaration of 'a': the first is at 1:25 [duplicate]\n"
+        "A name has one declaration, one signature and one parameter in a list; the clauses of a function must stand together.\n"
+        "module M where { data T a a = A | A ; type T = Int ; f, f :: Int ; f = 1 }\n"
+        "                          ^\n"
+        "M.hs:1:35: error: a second declaration of 'A': the first is at 1:31 [duplicate]\n"
+        "A name has one declaration, one signature and one parameter in a list; the clauses of a function must stand together.\n"
+        "module M where { data T a a = A | A ; type T = Int ; f, f :: Int ; f = 1 }\n"
+        "                                  ^\n"
+        "M.hs:1:44: error: a second declaration of 'T': the first is at 1:23 [duplicate]\n"
+        "A name has one declaration, one signature and one parameter in a list; the clauses of a function must stand together.\n"
+        "module M where { data T a a = A | A ; type T = Int ; f, f :: Int ; f = 1 }\n"
+        "                                           ^\n"
+        "M.hs:1:57: error: a second declaration of 'f': the first is at 1:54 [duplicate]\n"
+        "A name has one declaration, one signature and one parameter in a list; the clauses of a function must stand together.\n"
+        "module M where { data T a a = A | A ; type T = Int ; f, f :: Int ; f = 1 }\n"
+        "                                                        ^\n"
+        "errors: 4, skipped modules: 0\n",
+    ),
+    # a local list, with a pattern; a comment that isn't ASCII
+    (
+        "module M where {\n"
+        "  f = 1 ;\n"
+        "  g = let { (x, y) = (1, 2) ; {- é -} z = 1 ; x = 2 } in x where { z = 1 ; {- é -} z = 2 }\n"
+        "}",
+        1,
+        "M.hs:3:47: error: a second declaration of 'x': the first is at 3:14 [duplicate]\n"
+        "A name has one declaration, one signature and one parameter in a list; the clauses of a function must stand together.\n"
+        "  g = let { (x, y) = (1, 2) ; {- é -} z = 1 ; x = 2 } in x where { z = 1 ; {- é -} z = 2 }\n"
+        "                                              ^\n"
+        "M.hs:3:84: error: a second declaration of 'z': the first is at 3:68 [duplicate]\n"
+        "A name has one declaration, one signature and one parameter in a list; the clauses of a function must stand together.\n"
+        "... let { (x, y) = (1, 2) ; {- é -} z = 1 ; x = 2 } in x where { z = 1 ; {- é -} z = 2 }\n"
+        "                                                                                 ^\n"
+        "errors: 2, skipped modules: 0\n",
+    ),
+    # a lambda, and an alternative with a nested pattern
+    (
+        "module M where { f = \\ x (y, x) -> x ; g z = case z of { (a : b : a) -> a } }",
+        1,
+        "M.hs:1:30: error: 'x' occurs twice in these patterns: the first is at 1:24 [non-linear]\n"
+        "The patterns of one clause, lambda, alternative or binding have each variable once.\n"
+        "module M where { f = \\ x (y, x) -> x ; g z = case z of { (a : b : a) -> a } }\n"
+        "                             ^\n"
+        "M.hs:1:67: error: 'a' occurs twice in these patterns: the first is at 1:59 [non-linear]\n"
+        "The patterns of one clause, lambda, alternative or binding have each variable once.\n"
+        "module M where { f = \\ x (y, x) -> x ; g z = case z of { (a : b : a) -> a } }\n"
+        "                                                                  ^\n"
+        "errors: 2, skipped modules: 0\n",
+    ),
+    # constructors in patterns, special ones too, and one with a qualifier
+    (
+        "module M where { data R = R Int Int ; f (R a) = a ; g ((:) x) = x ; h (Prelude.Just) = 1 ; i ((,) a b c) = a }",
+        1,
+        "M.hs:1:42: error: wrong number of arguments for 'R': it has 1 here, but takes 2 [arity]\n"
+        "A type, synonym or constructor takes as many arguments as its declaration gives it.\n"
+        "module M where { data R = R Int Int ; f (R a) = a ; g ((:) x) = x ; h (Prelude.Just) = 1 ; i ((,) a b c) = a }\n"
+        "                                         ^\n"
+        "M.hs:1:56: error: wrong number of arguments for ':': it has 1 here, but takes 2 [arity]\n"
+        "A type, synonym or constructor takes as many arguments as its declaration gives it.\n"
+        "module M where { data R = R Int Int ; f (R a) = a ; g ((:) x) = x ; h (Prelude.Just) = 1 ; i ((,) a b c) = a }\n"
+        "                                                       ^\n"
+        "M.hs:1:72: error: wrong number of arguments for 'Prelude.Just': it has 0 here, but takes 1 [arity]\n"
+        "A type, synonym or constructor takes as many arguments as its declaration gives it.\n"
+        "module M where { data R = R Int Int ; f (R a) = a ; g ((:) x) = x ; h (Prelude.Just) = 1 ; i ((,) a b c) = a }\n"
+        "                                                                       ^^^^^^^^^^^^\n"
+        "M.hs:1:95: error: wrong number of arguments for '(,)': it has 3 here, but takes 2 [arity]\n"
+        "A type, synonym or constructor takes as many arguments as its declaration gives it.\n"
+        "... { data R = R Int Int ; f (R a) = a ; g ((:) x) = x ; h (Prelude.Just) = 1 ; i ((,) a b c) = a }\n"
+        "                                                                                   ^\n"
+        "errors: 4, skipped modules: 0\n",
+    ),
+    # types, where a synonym has parameters
+    (
+        "module M where { type P a b = (a, b) ; f :: [P Int] -> Int Int ; f = f }",
+        1,
+        "M.hs:1:46: error: wrong number of arguments for 'P': it has 1 here, but takes 2 [arity]\n"
+        "A type, synonym or constructor takes as many arguments as its declaration gives it.\n"
+        "module M where { type P a b = (a, b) ; f :: [P Int] -> Int Int ; f = f }\n"
+        "                                             ^\n"
+        "M.hs:1:56: error: wrong number of arguments for 'Int': it has 1 here, but takes 0 [arity]\n"
+        "A type, synonym or constructor takes as many arguments as its declaration gives it.\n"
+        "module M where { type P a b = (a, b) ; f :: [P Int] -> Int Int ; f = f }\n"
+        "                                                       ^^^\n"
+        "errors: 2, skipped modules: 0\n",
+    ),
+    # a local function: the first clause counts, and not the one before
+    (
+        "module M where { f = g where { g x y = x ; g x = x ; g x y z = x } }",
+        1,
+        "M.hs:1:44: error: the clauses of 'g' have different numbers of patterns: 1 here, but 2 in the first [clause-length]\n"
+        "Each clause of a function has as many patterns as the first one.\n"
+        "module M where { f = g where { g x y = x ; g x = x ; g x y z = x } }\n"
+        "                                           ^\n"
+        "M.hs:1:54: error: the clauses of 'g' have different numbers of patterns: 3 here, but 2 in the first [clause-length]\n"
+        "Each clause of a function has as many patterns as the first one.\n"
+        "module M where { f = g where { g x y = x ; g x = x ; g x y z = x } }\n"
+        "                                                     ^\n"
+        "errors: 2, skipped modules: 0\n",
     ),
     # either branch would do: a literal is likelier than another expression
     (

@@ -1,33 +1,42 @@
 //! The messages of a faulty module, with what its scope or the checker tells of its faults.
-ghost use Rattle.std.specs.Prelude.{◌≡◌, ◌<◌, List, IfOk, IfSome, length, map};
+ghost use Rattle.std.specs.Prelude.{◌≡◌, ◌<◌, ◌∷◌, List, IfOk, IfSome, length, map};
 ghost use Rattle.std.specs.Arc.{arc_value};
 ghost use Rattle.hm_messages_details.specs.Details.{IsKnown, known_of, nothing};
-ghost use Rattle.hm_syntax.specs.declared.ast.Module.{Module};
 ghost use Rattle.hm_types.specs.Interfaces.{Exports as Interface};
+ghost use Rattle.hm_types.specs.StandardPrelude.{prelude_interface};
 ghost use Rattle.hm_names.specs.Bindings.{IsScopeOf};
+ghost use Rattle.hm_scope_tables.specs.KnownTables.{AreTablesOf};
 ghost use Rattle.hm_messages.specs.Messages.{AreEach};
 ghost use Rattle.hm_messages.specs.Pages.{files_in, texts_in};
 ghost use Rattle.hm_build_reports.specs.Settling.{module_set, statuses_of};
 ghost use Rattle.hm_store.specs.Settlements.{settlement};
 ghost use Rattle.hm_build_output.specs.Explanations.{AreFaultsTold, IsDetailed};
-ghost use Rattle.hm_verdicts.specs.Sets.{IsLawfulSet};
+ghost use Rattle.hm_verdicts.specs.Sets.{IsLawfulSet, module_at};
 ghost use Rattle.hm_verdicts.specs.Verdicts.{ArePublished};
 
 use crate::explaining::Told;
 use crate::faulty::{FaultyModule, noted_messages};
 use hm_explain::{Effort, Question};
 use hm_messages::{MessageFault, Page, Paint, fault_message};
-use hm_messages_details::{Detail, detail_of};
-use hm_names::{Fault, Kind};
-use hm_scope_imports::scope_of;
+use hm_messages_details::{Detail, Site, detail_of};
+use hm_names::{Fault, Kind, TypeLimits};
+use hm_scope_entities::Tables;
+use hm_scope_imports::{interfaces_of, scope_of};
 use hm_scope_tables::Scope;
 use hm_store::Store;
+use hm_syntax::Module;
 use hm_types::Interface as ModuleInterface;
 use std::alloc::{AllocError, Global};
 use std::sync::Arc;
 
-/// For how many faults of a module its scope is searched.
+/// For how many faults of a module its scope and its trees are searched.
 const MOST_SEARCHES: usize = 16;
+
+/// Limits under which no synonym is expanded.
+const NO_SYNONYMS: TypeLimits = TypeLimits {
+    levels: 0,
+    nodes: 0,
+};
 
 /// The interfaces of the modules with these numbers, if all are published.
 fn published(
@@ -47,9 +56,19 @@ fn published(
     Ok(Some(interfaces))
 }
 
-/// Whether a scope tells more of one of these faults.
-fn are_of_names(faults: &[Fault]) -> bool {
-    faults.iter().any(|fault| matches!(fault.kind, Kind::Unbound | Kind::Ambiguous))
+/// Whether a module's scope and its trees tell more of one of these faults.
+fn have_details(faults: &[Fault]) -> bool {
+    faults.iter().any(|fault| {
+        matches!(
+            fault.kind,
+            Kind::Unbound
+                | Kind::Ambiguous
+                | Kind::Duplicate
+                | Kind::NonLinear
+                | Kind::Arity
+                | Kind::ClauseLength
+        )
+    })
 }
 
 /// The messages of faults of which nothing more is known.
@@ -69,40 +88,95 @@ fn plain_messages(
     Ok(text)
 }
 
-/// What is known of a fault of a module with this scope; nothing, where so many faults were looked at before.
-fn detail_at<'a>(
+/// What is known of a fault of a module; nothing, if so many faults were looked at before.
+fn detail_at<'s>(
     alloc: Global,
-    scope: &Scope<'a>,
+    site: &Site<'_, 's, '_>,
     index: usize,
     fault: &Fault,
-) -> Result<Detail<'a>, AllocError>
-    ensures { IfOk result (λ detail. (m : Module) (fs : List Interface) → IsScopeOf m fs scope.now → IsKnown m fs fault.now (known_of detail)) }
+) -> Result<Detail<'s>, AllocError>
+    ensures { IfOk result (λ detail. (fs : List Interface) → IsScopeOf site.now.program.now fs site.now.scope.now → AreTablesOf site.now.program.now fs site.now.tables.now
+        → IsKnown site.now.program.now fs fault.now (known_of detail)) }
 {
     if index >= MOST_SEARCHES {
         return Ok(Detail::Nothing);
     }
-    Ok(detail_of(alloc, scope, fault)?)
+    Ok(detail_of(alloc, site, fault)?)
 }
 
-/// The messages of the faults of a module with this scope.
+/// The messages of the faults of a module with this scope and these tables.
 fn detailed_messages(
     alloc: Global,
     paint: Paint,
     page: &Page<'_>,
-    scope: &Scope<'_>,
+    site: &Site<'_, '_, '_>,
     faults: &[Fault],
 ) -> Result<Vec<u8>, MessageFault>
-    ensures { IfOk result (λ text. (m : Module) (fs : List Interface) → IsScopeOf m fs scope.now
-        → AreEach (IsDetailed paint page.now.file.now page.now.lines (IsKnown m fs)) faults.now text.items) }
+    ensures { IfOk result (λ text. (fs : List Interface) → IsScopeOf site.now.program.now fs site.now.scope.now → AreTablesOf site.now.program.now fs site.now.tables.now
+        → AreEach (IsDetailed paint page.now.file.now page.now.lines (IsKnown site.now.program.now fs)) faults.now text.items) }
 {
     let mut text = Vec::new(alloc);
     for index in 0..faults.len() {
         let fault = &faults[index];
-        let detail = detail_at(alloc, scope, index, fault)?;
+        let detail = detail_at(alloc, site, index, fault)?;
         let message = fault_message(alloc, paint, page, fault, detail)?;
         text.extend_from_slice(message.as_slice())?;
     }
     Ok(text)
+}
+
+/// A module with its scope, and the interfaces from which that is made.
+#[derive(Clone, Copy)]
+struct ScopedModule<'r, 'a> {
+    program: &'a Module,
+    interfaces: &'r [&'a ModuleInterface],
+    scope: &'r Scope<'a>,
+}
+
+/// The messages of the faults of a module with this scope.
+fn scoped_messages(
+    alloc: Global,
+    paint: Paint,
+    page: &Page<'_>,
+    scoped: &ScopedModule<'_, '_>,
+    faults: &[Fault],
+) -> Result<Vec<u8>, MessageFault>
+    requires { IsScopeOf scoped.now.program.now (map (λ f. f.now) scoped.now.interfaces.now) scoped.now.scope.now }
+    ensures { IfOk result (λ text. AreEach (IsDetailed paint page.now.file.now page.now.lines (IsKnown scoped.now.program.now (map (λ f. f.now) scoped.now.interfaces.now)))
+        faults.now text.items) }
+{
+    let tables = Tables::of(alloc, scoped.program, scoped.interfaces, NO_SYNONYMS)?;
+    let site = Site {
+        program: scoped.program,
+        scope: scoped.scope,
+        tables: &tables,
+    };
+    Ok(detailed_messages(alloc, paint, page, &site, faults)?)
+}
+
+/// The messages of the faults of a module with these imports.
+fn searched_messages(
+    alloc: Global,
+    told: &Told<'_, '_, '_>,
+    page: &Page<'_>,
+    faulty: Faulty<'_>,
+    imports: &[Arc<ModuleInterface>],
+) -> Result<Vec<u8>, MessageFault>
+    requires { faulty.number < length told.now.modules.now }
+    ensures { IfOk result (λ text. AreEach (IsDetailed told.now.pages.now.paint page.now.file.now page.now.lines
+        (IsKnown (module_at (module_set told.now.modules.now told.now.plan.now) faulty.entry.number) (prelude_interface ∷ map arc_value imports.now)))
+        faulty.entry.faults.now text.items) }
+{
+    let module: &Module = &told.modules[faulty.number];
+    let prelude: &ModuleInterface = told.prelude.interface();
+    let scope = scope_of(alloc, module, prelude, imports)?;
+    let interfaces = interfaces_of(alloc, prelude, imports)?;
+    let scoped = ScopedModule {
+        program: module,
+        interfaces: interfaces.as_slice(),
+        scope: &scope,
+    };
+    Ok(scoped_messages(alloc, told.pages.paint, page, &scoped, faulty.faults)?)
 }
 
 /// A faulty module: its number, that of the source that spells it, and its faults.
@@ -134,10 +208,8 @@ pub(crate) fn faulty_messages(
     let Some(imports) = published(alloc, told.store, told.plan.imports(faulty.number))? else {
         return Ok(plain_messages(alloc, paint, page, faulty.faults)?);
     };
-    if are_of_names(faulty.faults) {
-        let prelude = told.prelude.interface();
-        let scope = scope_of(alloc, module, prelude, imports.as_slice())?;
-        return Ok(detailed_messages(alloc, paint, page, &scope, faulty.faults)?);
+    if have_details(faulty.faults) {
+        return Ok(searched_messages(alloc, told, page, faulty, imports.as_slice())?);
     }
     let question = Question {
         source: page.lines.source(),

@@ -218,9 +218,12 @@ fn signature_note(
     let Some(columns) = module.page.lines.columns(signature.end) else {
         return Ok(Vec::new(alloc));
     };
+    let Ok(column) = u32::try_from(columns.characters) else {
+        return Ok(Vec::new(alloc));
+    };
     let end = Place {
         line: signature.end.line,
-        column: columns.characters,
+        column,
     };
     let topic = Topic::Unsigned(fault.name.as_str(), end, own.as_str());
     Ok(message(alloc, module.paint, module.page, signature.start, &topic)?)

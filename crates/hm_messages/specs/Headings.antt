@@ -5,7 +5,8 @@ use Rattle.hm_messages_excerpts.specs.Escapes.{shown}
 use Rattle.hm_messages_json.specs.Objects.{counts_text}
 use Rattle.hm_messages_json.specs.declared.message.Level.{Level}
 use Rattle.hm_messages_json.specs.declared.message.Level.TheVariants.{Error, Note}
-use Rattle.hm_messages_details.specs.Details.{Known, nothing, near, of_report, either}
+use Rattle.hm_messages_json.specs.declared.message.Position.{Position}
+use Rattle.hm_messages_details.specs.Details.{Known, nothing, near, of_report, either, first, arguments, lengths}
 use Rattle.hm_messages_hints.specs.LexemeTexts.{lexeme_text}
 use Rattle.hm_messages_hints.specs.SyntaxTexts.{syntax_text}
 use Rattle.hm_lex.specs.declared.token.Place.{Place}
@@ -26,7 +27,7 @@ level_of (unsigned x p t) = Note
 level_of (faulty x) = Note
 level_of (skipped x) = Note
 level_of (step x y) = Note
-level_of (fault k x known) = Error
+level_of (fault k x known other) = Error
 level_of too_long = Error
 level_of (lexeme h x) = Error
 level_of open_comment = Error
@@ -40,7 +41,7 @@ level_of (exhausted x) = Error
 
 -- the report's word for what is wrong, or the word for a sort of note
 abbrev pub kind_of : Subject → List ℕ
-kind_of (fault k x known) = kind_word k
+kind_of (fault k x known other) = kind_word k
 kind_of (replaceable x p) = codes "replaceable"
 kind_of (mistyped x p t u) = codes "mistyped"
 kind_of (unsigned x p t) = codes "signature"
@@ -60,7 +61,7 @@ kind_of (step x y) = codes "import"
 
 -- the name that it is about, if it is about one
 abbrev pub name_in : Subject → Option (List ℕ)
-name_in (fault k x known) = Some x
+name_in (fault k x known other) = Some x
 name_in (replaceable x p) = Some x
 name_in (mistyped x p t u) = Some x
 name_in (unsigned x p t) = Some x
@@ -87,6 +88,26 @@ abbrev pub actual_in : Subject → Option (List ℕ)
 actual_in (mistyped x p expected actual) = Some actual
 actual_in (unsigned x p own) = Some own
 actual_in s = None
+
+-- the other place that it names, if it names one
+abbrev pub other_in : Subject → Option Position
+other_in (fault k x known other) = other
+other_in (replaceable x p) = None
+other_in (mistyped x p t u) = None
+other_in (unsigned x p t) = None
+other_in (faulty x) = None
+other_in (skipped x) = None
+other_in too_long = None
+other_in (lexeme h x) = None
+other_in open_comment = None
+other_in too_deep = None
+other_in (syntax_fault h x) = None
+other_in too_many = None
+other_in (twice x) = None
+other_in (missing x) = None
+other_in (cycle x) = None
+other_in (exhausted x) = None
+other_in (step x y) = None
 
 -- a coloured word stands between two escapes, which begin with byte 27
 abbrev pub begin : Paint → Level → List ℕ
@@ -127,9 +148,17 @@ detail_text nothing = []
 detail_text (near q x) = near_text q x
 detail_text of_report = codes ": this Prelude leaves it out"
 detail_text (either d e) = codes ": '" ++ d.«module» ++ codes "." ++ d.name ++ codes "' or '" ++ e.«module» ++ codes "." ++ e.name ++ codes "'"
+detail_text (first p) = []
+detail_text (arguments here takes) = codes ": it has " ++ decimal here ++ codes " here, but takes " ++ decimal takes
+detail_text (lengths here others) = codes ": " ++ decimal here ++ codes " here, but " ++ decimal others ++ codes " in the first"
 
-abbrev pub fault_title : Kind → List ℕ → Known → List ℕ
-fault_title k x known = kind_title k x ++ detail_text known
+-- where the first of two names is, its column in characters
+abbrev pub first_text : Option Position → List ℕ
+first_text None = []
+first_text (Some p) = codes ": the first is at " ++ decimal p.line ++ codes ":" ++ decimal p.columns.characters
+
+abbrev pub fault_title : Kind → List ℕ → Known → Option Position → List ℕ
+fault_title k x known other = (kind_title k x ++ detail_text known) ++ first_text other
 
 -- what is said of an expression that ends at this place
 abbrev pub expression_title : List ℕ → Place → List ℕ
@@ -158,7 +187,7 @@ abbrev pub unsigned_title : List ℕ → Place → List ℕ → List ℕ
 unsigned_title x p own = codes "'" ++ x ++ codes "' has type '" ++ own ++ codes "' without this signature (up to " ++ decimal p.line ++ codes ":" ++ decimal p.column ++ codes ")"
 
 abbrev pub title : Subject → List ℕ
-title (fault k x known) = fault_title k x known
+title (fault k x known other) = fault_title k x known other
 title (replaceable x p) = replaceable_title x p
 title (mistyped x p expected actual) = mistyped_title p expected actual
 title (unsigned x p own) = unsigned_title x p own

@@ -3,7 +3,7 @@ use Rattle.std.specs.Prelude.{◌≡◌, ℕ, List, [], ◌∷◌, ◌++◌, Opt
 use Rattle.std.specs.Str.Lossy.{utf8_lossy}
 use Rattle.hm_lex.specs.declared.token.Place.{Place}
 use Rattle.hm_names.specs.declared.faults.Fault.{Fault}
-use Rattle.hm_messages_details.specs.Details.{Known}
+use Rattle.hm_messages_details.specs.Details.{Known, nothing, near, of_report, either, first, arguments, lengths}
 use Rattle.hm_messages_excerpts.specs.Columns.{AreColumnsAt, IsMarkEnd}
 use Rattle.hm_messages_excerpts.specs.Drawing.{excerpt_text}
 use Rattle.hm_messages_excerpts.specs.Escapes.{shown}
@@ -13,7 +13,7 @@ use Rattle.hm_messages_excerpts.specs.declared.excerpt.Excerpt.{Excerpt}
 use Rattle.hm_messages_json.specs.Objects.{message_text}
 use Rattle.hm_messages_json.specs.declared.message.Message.{Message}
 use Rattle.hm_messages_json.specs.declared.message.Position.{Position}
-use Rattle.hm_messages.specs.Headings.{actual_in, expected_in, heading, kind_of, level_of, name_in, title}
+use Rattle.hm_messages.specs.Headings.{actual_in, expected_in, heading, kind_of, level_of, name_in, other_in, title}
 use Rattle.hm_messages.specs.Sentences.{sentence}
 use Rattle.hm_messages.specs.Subjects.{Subject, fault}
 use Rattle.hm_messages.specs.declared.heading.Paint.{Paint}
@@ -47,6 +47,7 @@ pub record IsAbout (subject : Subject) (m : Message) : Type 0 where
   pub level_is : m.level ≡ level_of subject
   pub kind_is : m.kind.now ≡ kind_of subject
   pub name_is : option_map (λ name. name.now) m.name ≡ name_in subject
+  pub other_is : m.other ≡ other_in subject
   pub text_is : m.text.now ≡ title subject
   pub expected_is : option_map (λ text. text.now) m.expected ≡ expected_in subject
   pub actual_is : option_map (λ text. text.now) m.actual ≡ actual_in subject
@@ -83,9 +84,22 @@ IsHeadingAt Plain file source place subject text = IsProseHeading Plain file sou
 IsHeadingAt Coloured file source place subject text = IsProseHeading Coloured file source place subject text
 IsHeadingAt Json file source place subject text = IsObject file source place subject text
 
+-- the position of the place that the detail names, if it names one
+abbrev pub IsOther : List ℕ → Known → Option Position → Type 0
+IsOther source nothing other = other ≡ None
+IsOther source (near q x) other = other ≡ None
+IsOther source of_report other = other ≡ None
+IsOther source (either d e) other = other ≡ None
+IsOther source (first p) None = ⊥
+IsOther source (first p) (Some position) = IsPositionAt source p position
+IsOther source (arguments here takes) other = other ≡ None
+IsOther source (lengths here others) other = other ≡ None
+
 -- the message of a fault of which this is known, at the fault's place
-abbrev pub IsFaultMessage : Paint → List ℕ → List ℕ → Fault → Known → List ℕ → Type 0
-IsFaultMessage paint file source f known text = IsMessage paint file source f.place (fault f.kind f.name known) text
+pub record IsFaultMessage (paint : Paint) (file source : List ℕ) (f : Fault) (known : Known) (text : List ℕ) : Type 0 where
+  pub other : Option Position
+  pub other_is : IsOther source known other
+  pub told : IsMessage paint file source f.place (fault f.kind f.name known other) text
 
 -- the text has a part for each element, in order, and no more
 abbrev pub AreEach : {X : Type 0} → (X → List ℕ → Type 0) → List X → List ℕ → Type 0

@@ -22,7 +22,7 @@ fault_sentence Recursive = codes "A synonym is replaced by its right side, so th
 
 -- notes have none
 abbrev pub sentence : Subject → List ℕ
-sentence (fault k x known) = fault_sentence k
+sentence (fault k x known other) = fault_sentence k
 sentence (replaceable x p) = []
 sentence (mistyped x p t u) = []
 sentence (unsigned x p t) = []

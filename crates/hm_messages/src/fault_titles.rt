@@ -1,10 +1,11 @@
 //! What is wrong with a module, in a few words.
 ghost use Rattle.std.specs.Prelude.{◌≡◌, IfOk, option_map, string_bytes};
 ghost use Rattle.hm_messages_details.specs.Details.{known_of};
-ghost use Rattle.hm_messages.specs.Headings.{detail_text as detail_bytes, fault_title as fault_title_bytes, kind_title as kind_title_bytes, near_text};
+ghost use Rattle.hm_messages.specs.Headings.{detail_text as detail_bytes, fault_title as fault_title_bytes, first_text, kind_title as kind_title_bytes, near_text};
 
 use crate::topic::Named;
 use hm_messages_details::{Detail, Origin};
+use hm_messages_json::Position;
 use hm_names::Kind;
 use std::alloc::{AllocError, Global};
 
@@ -56,6 +57,27 @@ fn detail_text(alloc: Global, detail: &Detail<'_>) -> Result<String, AllocError>
             } = *other;
             format!(in alloc; ": '{module}.{name}' or '{other_module}.{other_name}'")
         }
+        Detail::First(_) => Ok(String::new(alloc)),
+        Detail::Arguments(here, takes) => format!(in alloc;
+            ": it has {here} here, but takes {takes}"
+        ),
+        Detail::Patterns(here, first) => format!(in alloc;
+            ": {here} here, but {first} in the first"
+        ),
+    }
+}
+
+/// Where the first of two names is.
+fn first_text(alloc: Global, other: Option<Position>) -> Result<String, AllocError>
+    ensures { IfOk result (λ text. string_bytes text ≡ first_text other) }
+{
+    match other {
+        Some(position) => {
+            let line = position.line;
+            let column = position.columns.characters;
+            format!(in alloc; ": the first is at {line}:{column}")
+        }
+        None => Ok(String::new(alloc)),
     }
 }
 
@@ -65,9 +87,10 @@ pub(crate) fn fault_title(
     kind: Kind,
     named: &Named<'_>,
 ) -> Result<String, AllocError>
-    ensures { IfOk result (λ text. string_bytes text ≡ fault_title_bytes kind named.now.name.now (known_of named.now.detail)) }
+    ensures { IfOk result (λ text. string_bytes text ≡ fault_title_bytes kind named.now.name.now (known_of named.now.detail) named.now.other) }
 {
     let mut text = kind_title(alloc, kind, named.name)?;
     text.push_str(detail_text(alloc, &named.detail)?.as_str())?;
+    text.push_str(first_text(alloc, named.other)?.as_str())?;
     Ok(text)
 }

@@ -1,6 +1,6 @@
 //! The first line of a message, behind its file's name.
 ghost use Rattle.std.specs.Prelude.{◌≡◌, IfOk, option_map, string_bytes};
-ghost use Rattle.hm_messages.specs.Headings.{begin, end, exchange_title as exchange_title_bytes, expression_title as expression_title_bytes, heading as heading_bytes, level_of as level_is, actual_in, expected_in, kind_of as kind_bytes, mistyped_title as mistyped_title_bytes, name_in, pattern_title as pattern_title_bytes, replaceable_title as replaceable_title_bytes, tag as tag_bytes, title as title_bytes, unsigned_title as unsigned_title_bytes};
+ghost use Rattle.hm_messages.specs.Headings.{actual_in, begin, end, exchange_title as exchange_title_bytes, expected_in, expression_title as expression_title_bytes, heading as heading_bytes, kind_of as kind_bytes, level_of as level_is, mistyped_title as mistyped_title_bytes, name_in, other_in, pattern_title as pattern_title_bytes, replaceable_title as replaceable_title_bytes, tag as tag_bytes, title as title_bytes, unsigned_title as unsigned_title_bytes};
 ghost use Rattle.hm_messages.specs.Subjects.{subject_of};
 
 use crate::fault_titles::fault_title;
@@ -8,7 +8,7 @@ use crate::topic::{BothTypes, Topic, Way};
 use hm_lex::Place;
 use hm_messages_excerpts::shown;
 use hm_messages_hints::{lexeme_text, syntax_text};
-use hm_messages_json::Level;
+use hm_messages_json::{Level, Position};
 use hm_verdicts::kind_word;
 use std::alloc::{AllocError, Global};
 
@@ -116,6 +116,31 @@ pub(crate) fn actual_in<'a>(topic: &Topic<'a>) -> Option<&'a str>
         Topic::Mistyped(_, types) => Some(types.actual),
         Topic::Unsigned(_, _, own) => Some(own),
         _ => None,
+    }
+}
+
+/// The other place that a topic names, if it names one.
+pub(crate) fn other_in(topic: &Topic<'_>) -> Option<Position>
+    ensures { result ≡ other_in (subject_of topic.now) }
+{
+    match topic {
+        Topic::Fault(_, named) => named.other,
+        Topic::Replaceable(_, _) => None,
+        Topic::Mistyped(_, _) => None,
+        Topic::Unsigned(_, _, _) => None,
+        Topic::Faulty(_) => None,
+        Topic::Skipped(_) => None,
+        Topic::TooLong => None,
+        Topic::Lexeme(_, _) => None,
+        Topic::OpenComment => None,
+        Topic::TooDeep => None,
+        Topic::Syntax(_) => None,
+        Topic::TooMany => None,
+        Topic::Twice(_) => None,
+        Topic::Missing(_) => None,
+        Topic::Cycle(_) => None,
+        Topic::Exhausted(_) => None,
+        Topic::Step(_, _) => None,
     }
 }
 

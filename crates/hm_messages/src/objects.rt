@@ -3,7 +3,7 @@ ghost use Rattle.std.specs.Prelude.{IfOk, IfSome, option_map, string_bytes};
 ghost use Rattle.hm_messages.specs.Messages.{IsHint, IsObject, IsPositionAt, IsRangeAt};
 ghost use Rattle.hm_messages.specs.Subjects.{subject_of};
 
-use crate::heading::{actual_in, expected_in, kind_of, level_of, name_in, title};
+use crate::heading::{actual_in, expected_in, kind_of, level_of, name_in, other_in, title};
 use crate::messages::MessageFault;
 use crate::pages::Page;
 use crate::sentences::sentence;
@@ -20,7 +20,7 @@ struct Range {
 }
 
 /// Returns the position of a place, if it is in the source.
-fn position_at(page: &Page<'_>, place: Place) -> Option<Position>
+pub(crate) fn position_at(page: &Page<'_>, place: Place) -> Option<Position>
     ensures { IfSome result (IsPositionAt page.now.lines place) }
 {
     let columns = page.lines.columns(place)?;
@@ -81,6 +81,7 @@ pub(crate) fn object(
         kind: kind_of(topic),
         module: page.module_at(place),
         name: name_in(topic),
+        other: other_in(topic),
         text: text.as_str(),
         hint,
         expected: expected_in(topic),

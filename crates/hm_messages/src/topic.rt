@@ -2,6 +2,7 @@
 use hm_lex::Place;
 use hm_messages_details::Detail;
 use hm_messages_hints::{Advice, LexemeHint};
+use hm_messages_json::Position;
 use hm_names::Kind;
 
 /// The name that a fault is about, as it is written, and what is known beside it.
@@ -9,6 +10,8 @@ use hm_names::Kind;
 pub struct Named<'a> {
     pub name: &'a str,
     pub detail: Detail<'a>,
+    /// The position of the place that the detail names, if it names one.
+    pub other: Option<Position>,
 }
 
 /// What gives a definition a type.

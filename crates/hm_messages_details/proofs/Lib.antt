@@ -1,1 +1,6 @@
+mod Arities
+mod Found
+mod InModules
+mod LaterClauses
+mod PartLists
 mod WorkedDetails

@@ -1,7 +1,8 @@
 -- What is known of a fault beyond its kind and its name.
-use Rattle.std.specs.Prelude.{◌≡◌, ℕ, ⊤, Bool, false, List, [], ◌∷◌, length, Option, option_map, Contains}
+use Rattle.std.specs.Prelude.{◌≡◌, ◌⊎◌, ℕ, ⊤, Bool, false, List, [], ◌∷◌, length, Option, option_map, Contains}
 use Rattle.std.specs.Int.{is_in_range}
 use Rattle.std.specs.Str.{chars}
+use Rattle.hm_lex.specs.declared.token.Place.{Place}
 use Rattle.strsim.specs.Edits.{osa_table}
 use Rattle.hm_types.specs.declared.Entity.{Entity}
 use Rattle.hm_types.specs.Interfaces.{Exports as Interface}
@@ -10,19 +11,25 @@ use Rattle.hm_names.specs.Bindings.{Pair}
 use Rattle.hm_names.specs.Faults.Phases.{written_in}
 use Rattle.hm_names.specs.Scope.{InScope}
 use Rattle.hm_names.specs.declared.faults.Fault.{Fault}
-use Rattle.hm_names.specs.declared.faults.Kind.TheVariants.{Ambiguous, Unbound}
+use Rattle.hm_names.specs.declared.faults.Kind.TheVariants.{Ambiguous, Arity, ClauseLength, Duplicate, NonLinear, Unbound}
 use Rattle.hm_names.specs.declared.namespace.Namespace.{Namespace}
+use Rattle.hm_messages_details.specs.Counts.{AreArguments, AreLengths}
+use Rattle.hm_messages_details.specs.Firsts.{IsFirst}
 use Rattle.hm_messages_details.specs.LeftOut.{left_out}
 use Rattle.hm_messages_details.specs.declared.detail.Detail.{Detail}
 use Rattle.hm_messages_details.specs.declared.detail.Detail.TheVariants as detail
 use Rattle.hm_messages_details.specs.declared.detail.Origin.{Origin}
 
--- nothing; a name in scope that is near, by its qualifier and its text; the Report's Prelude has the name; two entities that it stands for
+-- nothing; a name in scope that is near, by its qualifier and its text; the Report's Prelude has the name; two entities that it stands for; the place of
+-- the first name that is the same; its arguments and how many it takes; the patterns of the clause and of the first one
 pub data Known : Type 0 where
   nothing : Known
   near : Option (List ℕ) → List ℕ → Known
   of_report : Known
   either : Entity → Entity → Known
+  first : Place → Known
+  arguments : ℕ → ℕ → Known
+  lengths : ℕ → ℕ → Known
 
 abbrev pub entity_of : Origin → Entity
 entity_of o = record { «module» = o.«module».now; name = o.name.now }
@@ -32,6 +39,9 @@ known_of detail.Nothing = nothing
 known_of (detail.Near q x) = near (option_map (λ s. s.now) q) x.now
 known_of detail.LeftOut = of_report
 known_of (detail.Either d e) = either (entity_of d) (entity_of e)
+known_of (detail.First p) = first p
+known_of (detail.Arguments here takes) = arguments here takes
+known_of (detail.Patterns here others) = lengths here others
 
 -- how many letters are put in, taken out or replaced, or change places with their neighbour, to make one text of the other (the optimal
 -- string alignment distance)
@@ -84,3 +94,6 @@ IsKnown m fs f nothing = ⊤
 IsKnown m fs f (near q x) = (f.kind ≡ Unbound) × IsNear m fs f.name q x
 IsKnown m fs f of_report = (f.kind ≡ Unbound) × Contains left_out f.name
 IsKnown m fs f (either d e) = (f.kind ≡ Ambiguous) × IsEither m fs f.name d e
+IsKnown m fs f (first p) = ((f.kind ≡ Duplicate) ⊎ (f.kind ≡ NonLinear)) × IsFirst m f p
+IsKnown m fs f (arguments here takes) = (f.kind ≡ Arity) × AreArguments m fs f here takes
+IsKnown m fs f (lengths here others) = (f.kind ≡ ClauseLength) × AreLengths m f here others

@@ -1,4 +1,5 @@
 //! What is known of a fault beyond its kind and its name.
+use hm_lex::Place;
 
 /// Where something is defined.
 #[derive(Clone, Copy, Debug, PartialEq, Eq)]
@@ -18,4 +19,10 @@ pub enum Detail<'a> {
     LeftOut,
     /// The name is ambiguous, and stands for both of these.
     Either(Origin<'a>, Origin<'a>),
+    /// There is an earlier one of the same name, and the first is here.
+    First(Place),
+    /// The name has so many arguments, and takes so many.
+    Arguments(usize, usize),
+    /// The clause has so many patterns, and the first clause of its binding so many.
+    Patterns(usize, usize),
 }

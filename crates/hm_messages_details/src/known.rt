@@ -1,16 +1,22 @@
 //! What is known of a fault.
-ghost use Rattle.std.specs.Prelude.{◌≡◌, List, IfOk, IfSome};
-ghost use Rattle.hm_syntax.specs.declared.ast.Module.{Module};
+ghost use Rattle.std.specs.Prelude.{◌≡◌, ◌⊎◌, List, IfOk, IfSome};
+ghost use Rattle.hm_syntax.specs.declared.ast.Module.{Module as ModuleTree};
 ghost use Rattle.hm_types.specs.Interfaces.{Exports as Interface};
 ghost use Rattle.hm_names.specs.Bindings.{IsScopeOf};
-ghost use Rattle.hm_names.specs.declared.faults.Kind.TheVariants.{Ambiguous, Unbound};
+ghost use Rattle.hm_names.specs.declared.faults.Kind.TheVariants.{Ambiguous, Arity, ClauseLength, Duplicate, NonLinear, Unbound};
+ghost use Rattle.hm_scope_tables.specs.KnownTables.{AreTablesOf};
 ghost use Rattle.hm_messages_details.specs.Details.{IsKnown, entity_of as entity_at, known_of};
 
+use crate::counts::argument_counts;
 use crate::detail::{Detail, Origin};
+use crate::firsts::first_of_two;
 use crate::left_out::is_left_out;
+use crate::lengths::pattern_counts;
 use crate::nearest::{entity_of, nearest, other_entity_of};
+use crate::site::Site;
 use hm_names::{Fault, Kind, Namespace};
 use hm_scope_tables::{EntityRef, Scope};
+use hm_syntax::Module;
 use std::alloc::{AllocError, Global};
 
 /// Where an entity is defined.
@@ -30,7 +36,7 @@ fn unbound_detail<'a>(
     fault: &Fault,
 ) -> Result<Detail<'a>, AllocError>
     requires { fault.now.kind ≡ Unbound }
-    ensures { IfOk result (λ detail. (m : Module) (fs : List Interface) → IsScopeOf m fs scope.now → IsKnown m fs fault.now (known_of detail)) }
+    ensures { IfOk result (λ detail. (m : ModuleTree) (fs : List Interface) → IsScopeOf m fs scope.now → IsKnown m fs fault.now (known_of detail)) }
 {
     let name = fault.name.as_str();
     if is_left_out(name) {
@@ -44,7 +50,7 @@ fn unbound_detail<'a>(
 
 /// Two entities for which a name stands in a namespace.
 fn either_in<'a>(scope: &Scope<'a>, name: &str, space: Namespace) -> Option<Detail<'a>>
-    ensures { IfSome result (λ detail. (f : Fault) (m : Module) (fs : List Interface) → f.kind ≡ Ambiguous → f.name ≡ name.now → IsScopeOf m fs scope.now
+    ensures { IfSome result (λ detail. (f : Fault) (m : ModuleTree) (fs : List Interface) → f.kind ≡ Ambiguous → f.name ≡ name.now → IsScopeOf m fs scope.now
         → IsKnown m fs f (known_of detail)) }
 {
     let one = entity_of(name, space, scope.pairs())?;
@@ -55,7 +61,7 @@ fn either_in<'a>(scope: &Scope<'a>, name: &str, space: Namespace) -> Option<Deta
 /// What is known of a name that is ambiguous.
 fn ambiguous_detail<'a>(scope: &Scope<'a>, fault: &Fault) -> Detail<'a>
     requires { fault.now.kind ≡ Ambiguous }
-    ensures { (m : Module) (fs : List Interface) → IsScopeOf m fs scope.now → IsKnown m fs fault.now (known_of result) }
+    ensures { (m : ModuleTree) (fs : List Interface) → IsScopeOf m fs scope.now → IsKnown m fs fault.now (known_of result) }
 {
     let name = fault.name.as_str();
     for space in [Namespace::Values, Namespace::Constructors, Namespace::Types] {
@@ -66,19 +72,71 @@ fn ambiguous_detail<'a>(scope: &Scope<'a>, fault: &Fault) -> Detail<'a>
     Detail::Nothing
 }
 
-/// Returns what is known of a fault of a module with this scope: a name that it may be meant for, or what it stands for.
-///
-/// The time goes by the number of the scope's pairs.
-pub fn detail_of<'a>(
+/// What is known of a name that is a second one.
+fn second_detail<'a>(
     alloc: Global,
-    scope: &Scope<'a>,
+    program: &Module,
     fault: &Fault,
 ) -> Result<Detail<'a>, AllocError>
-    ensures { IfOk result (λ detail. (m : Module) (fs : List Interface) → IsScopeOf m fs scope.now → IsKnown m fs fault.now (known_of detail)) }
+    requires { (fault.now.kind ≡ Duplicate) ⊎ (fault.now.kind ≡ NonLinear) }
+    ensures { IfOk result (λ detail. (fs : List Interface) → IsKnown program.now fs fault.now (known_of detail)) }
+{
+    match first_of_two(alloc, program, fault)? {
+        Some(place) => Ok(Detail::First(place)),
+        None => Ok(Detail::Nothing),
+    }
+}
+
+/// What is known of a wrong number of arguments.
+fn arity_detail<'a>(
+    alloc: Global,
+    site: &Site<'_, '_, '_>,
+    fault: &Fault,
+) -> Result<Detail<'a>, AllocError>
+    requires { fault.now.kind ≡ Arity }
+    ensures { IfOk result (λ detail. (fs : List Interface) → IsScopeOf site.now.program.now fs site.now.scope.now → AreTablesOf site.now.program.now fs site.now.tables.now
+        → IsKnown site.now.program.now fs fault.now (known_of detail)) }
+{
+    match argument_counts(alloc, site, fault)? {
+        Some(counts) => Ok(Detail::Arguments(counts.here, counts.right)),
+        None => Ok(Detail::Nothing),
+    }
+}
+
+/// What is known of a wrong number of patterns.
+fn length_detail<'a>(
+    alloc: Global,
+    program: &Module,
+    fault: &Fault,
+) -> Result<Detail<'a>, AllocError>
+    requires { fault.now.kind ≡ ClauseLength }
+    ensures { IfOk result (λ detail. (fs : List Interface) → IsKnown program.now fs fault.now (known_of detail)) }
+{
+    match pattern_counts(alloc, program, fault)? {
+        Some(counts) => Ok(Detail::Patterns(counts.here, counts.right)),
+        None => Ok(Detail::Nothing),
+    }
+}
+
+/// Returns what is known of a fault of a module: a name that it may be meant for, what it stands for, where the first of two is, or numbers of
+/// arguments or patterns.
+///
+/// The time goes by the size of the module and by the number of the scope's pairs.
+pub fn detail_of<'s>(
+    alloc: Global,
+    site: &Site<'_, 's, '_>,
+    fault: &Fault,
+) -> Result<Detail<'s>, AllocError>
+    ensures { IfOk result (λ detail. (fs : List Interface) → IsScopeOf site.now.program.now fs site.now.scope.now → AreTablesOf site.now.program.now fs site.now.tables.now
+        → IsKnown site.now.program.now fs fault.now (known_of detail)) }
 {
     match fault.kind {
-        Kind::Unbound => Ok(unbound_detail(alloc, scope, fault)?),
-        Kind::Ambiguous => Ok(ambiguous_detail(scope, fault)),
+        Kind::Unbound => Ok(unbound_detail(alloc, site.scope, fault)?),
+        Kind::Ambiguous => Ok(ambiguous_detail(site.scope, fault)),
+        Kind::Duplicate => Ok(second_detail(alloc, site.program, fault)?),
+        Kind::NonLinear => Ok(second_detail(alloc, site.program, fault)?),
+        Kind::Arity => Ok(arity_detail(alloc, site, fault)?),
+        Kind::ClauseLength => Ok(length_detail(alloc, site.program, fault)?),
         _ => Ok(Detail::Nothing),
     }
 }

@@ -1,8 +1,21 @@
-//! Worked examples: a function with an empty body, whose contract has the facts.
-ghost use Rattle.hm_messages_details.specs.Worked.{LeftOutRow};
+//! Worked examples: functions with an empty body, whose contracts have the facts.
+ghost use Rattle.hm_messages_details.specs.Worked.{ArgumentsRow, FirstRow, LeftOutRow, LengthsRow};
 
 /// A name that only the Report's Prelude has, and one that both have.
 #[tactic(auto, using(crate::proofs::WorkedDetails::worked_left_out))]
 pub fn worked_details()
     ensures { LeftOutRow }
+{}
+
+/// The first of several names, and one that isn't the first.
+#[tactic(auto, using(crate::proofs::WorkedDetails::worked_firsts))]
+pub fn worked_firsts()
+    ensures { FirstRow }
+{}
+
+/// Numbers of arguments and of patterns that are right, and others that aren't.
+#[tactic(auto, using(crate::proofs::WorkedDetails::worked_arguments, crate::proofs::WorkedDetails::worked_lengths))]
+pub fn worked_counts()
+    ensures arguments { ArgumentsRow }
+    ensures lengths { LengthsRow }
 {}

@@ -24,9 +24,13 @@ position_data p = object (member (codes "byte") (count p.columns.bytes)
     (member (codes "line") (count p.line)
     (member (codes "utf16") (count p.columns.utf16) no_members))))
 
+abbrev pub optional_data : Option Position → Data
+optional_data None = null
+optional_data (Some p) = position_data p
+
 -- the message's object, with the members that aren't texts or may be missing
-abbrev pub joined_data : Message → Data → Data → Data → Data → Data → Data → Data → Data
-joined_data m end expected hint owner name start actual = object (member (codes "end") end
+abbrev pub joined_data : Message → Data → Data → Data → Data → Data → Data → Data → Data → Data
+joined_data m end expected hint owner name other start actual = object (member (codes "end") end
     (member (codes "expected") expected
     (member (codes "file") (string m.file.now)
     (member (codes "hint") hint
@@ -34,13 +38,14 @@ joined_data m end expected hint owner name start actual = object (member (codes 
     (member (codes "level") (string (level_word m.level))
     (member (codes "module") owner
     (member (codes "name") name
+    (member (codes "other") other
     (member (codes "start") start
     (member (codes "text") (string m.text.now)
-    (member (codes "type") actual no_members)))))))))))
+    (member (codes "type") actual no_members))))))))))))
 
 abbrev pub message_data : Message → Data
 message_data m = joined_data m (position_data m.end) (text_data (option_map (λ t. t.now) m.expected)) (text_data (option_map (λ t. t.now) m.hint))
-    (text_data (option_map (λ t. t.now) m.module)) (text_data (option_map (λ t. t.now) m.name)) (position_data m.start)
+    (text_data (option_map (λ t. t.now) m.module)) (text_data (option_map (λ t. t.now) m.name)) (optional_data m.other) (position_data m.start)
     (text_data (option_map (λ t. t.now) m.actual))
 
 abbrev pub counts_data : ℕ → ℕ → Data

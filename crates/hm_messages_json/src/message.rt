@@ -31,6 +31,8 @@ pub struct Message<'a> {
     pub module: Option<&'a str>,
     /// The name that it is about, if any.
     pub name: Option<&'a str>,
+    /// The position of another place that the text names, if it names one.
+    pub other: Option<Position>,
     /// What is wrong, in a few words.
     pub text: &'a str,
     /// The broken rule, or something that may help, if there is more to say.

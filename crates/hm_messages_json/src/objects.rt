@@ -2,7 +2,7 @@
 ghost use Rattle.std.specs.Prelude.{◌≡◌, ◌++◌, IfOk, codes, false, option_map, string_bytes};
 ghost use Rattle.serde_json.specs.View.{view};
 ghost use Rattle.serde_json.specs.Written.{compact_text, has_float};
-ghost use Rattle.hm_messages_json.specs.Objects.{counts_data, counts_text, joined_data, level_word, message_data, message_text, position_data, text_data};
+ghost use Rattle.hm_messages_json.specs.Objects.{counts_data, counts_text, joined_data, level_word, message_data, message_text, optional_data, position_data, text_data};
 
 use crate::message::{Level, Message, Position};
 use serde_json::{Value, json};
@@ -39,6 +39,16 @@ fn position_value(alloc: Global, position: Position) -> Result<Value, AllocError
     json!(in alloc; {"byte": byte, "character": character, "line": line, "utf16": utf16})
 }
 
+/// Returns a position as an object, or null if there is none.
+fn optional_value(alloc: Global, position: Option<Position>) -> Result<Value, AllocError>
+    ensures { IfOk result (λ value. view value ≡ optional_data position) }
+{
+    match position {
+        Some(position) => Ok(position_value(alloc, position)?),
+        None => Ok(Value::Null),
+    }
+}
+
 /// The members of a message that aren't texts, or may be missing.
 #[derive(Clone, Copy)]
 struct Parts<'a> {
@@ -47,6 +57,7 @@ struct Parts<'a> {
     hint: &'a Value,
     owner: &'a Value,
     name: &'a Value,
+    other: &'a Value,
     start: &'a Value,
     actual: &'a Value,
 }
@@ -54,7 +65,7 @@ struct Parts<'a> {
 /// Returns the object of a message with these members.
 fn joined(alloc: Global, message: &Message<'_>, parts: Parts<'_>) -> Result<Value, AllocError>
     ensures { IfOk result (λ value. view value ≡ joined_data message.now (view parts.entry.end.now) (view parts.entry.expected.now) (view parts.entry.hint.now)
-        (view parts.entry.owner.now) (view parts.entry.name.now) (view parts.entry.start.now) (view parts.entry.actual.now)) }
+        (view parts.entry.owner.now) (view parts.entry.name.now) (view parts.entry.other.now) (view parts.entry.start.now) (view parts.entry.actual.now)) }
 {
     let level = level_word(message.level);
     let Message {
@@ -69,6 +80,7 @@ fn joined(alloc: Global, message: &Message<'_>, parts: Parts<'_>) -> Result<Valu
         hint,
         owner,
         name,
+        other,
         start,
         actual,
     } = parts;
@@ -81,6 +93,7 @@ fn joined(alloc: Global, message: &Message<'_>, parts: Parts<'_>) -> Result<Valu
         "level": level,
         "module": owner,
         "name": name,
+        "other": other,
         "start": start,
         "text": text,
         "type": actual,
@@ -98,16 +111,18 @@ fn message_value(alloc: Global, message: &Message<'_>) -> Result<Value, AllocErr
     let hint = text_value(alloc, message.hint)?;
     let owner = text_value(alloc, message.module)?;
     let name = text_value(alloc, message.name)?;
+    let other = optional_value(alloc, message.other)?;
     let parts = Parts {
         end: &end,
         expected: &expected,
         hint: &hint,
         owner: &owner,
         name: &name,
+        other: &other,
         start: &start,
         actual: &actual,
     };
-    Ok(joined(alloc, message, parts)?)
+    joined(alloc, message, parts)
 }
 
 /// Returns the counts as an object.

@@ -1,14 +1,12 @@
 use Rattle.std.proofs.Common.{rules, ◌≡◌, ◌∷◌, ◌∙◌, IfSome, List, ℕ, inl, inr, map, subst, sym}
 use Rattle.std.specs.Arc.{arc_value}
-use Rattle.std.proofs.lemmas.List.{get_or-map}
 use Rattle.hm_messages_details.specs.Details.{IsKnown, nothing}
 use Rattle.hm_types.specs.StandardPrelude.{prelude_interface}
-use Rattle.hm_names.specs.Bindings.{IsScopeOf}
 use Rattle.hm_messages.specs.Messages.{AreEach}
 use Rattle.hm_messages.specs.declared.pages.Page.{Page}
 use Rattle.hm_build_reports.specs.Settling.{module_set, statuses_of}
 use Rattle.hm_store.specs.Settlements.{settlement}
-use Rattle.hm_verdicts.specs.Sets.{imports_of, module_at, no_module}
+use Rattle.hm_verdicts.specs.Sets.{imports_of, module_at}
 use Rattle.hm_verdicts.specs.Verdicts.{ArePublished}
 use Rattle.hm_build_output.specs.Explanations.{IsDetailed, IsFaultTold, IsNoted}
 use Rattle.hm_build_reports.proofs.Reporting.{name_by_place}
@@ -28,9 +26,9 @@ returns-in_default c =
     (each_so (IsDetailed told.pages.now.paint page.file.now page.lines (λ f known. known ≡ nothing)) (IsFaultTold told.pages.now.paint page.file.now page.lines p status faulty.number)
     (λ f t h. inl (record { known = h.known; so = inl h.so; told = h.told })) faulty.faults.now c.in_ok-plain_messages.field-0.items c.in_ok-plain_messages.ensures)
 
--- the scope of the module tells of names
-pub returns-then-are_of_names : goal.returns-then-are_of_names
-returns-then-are_of_names c =
+-- the scope and the trees of the module tell of names and numbers
+pub returns-then-have_details : goal.returns-then-have_details
+returns-then-have_details c =
     let told = c.args.told.now in
     let p = module_set told.modules.now told.plan.now in
     let status = statuses_of told.settled.now in
@@ -43,16 +41,12 @@ returns-then-are_of_names c =
     subst (λ o. IfSome o (λ interfaces. ArePublished (settlement told.store.now) c.imports.result.now (map arc_value interfaces.items))) c.in-Some.is c.in_ok-imports.ensures in
     let published : ArePublished status (imports_of p number) fs =
     subst (λ s. ArePublished s (imports_of p number) fs) (sym c.requires.settled) (subst (λ row. ArePublished (settlement told.store.now) row fs) c.imports.ensures have) in
-    let first : c.deref-then-are_of_names.result.now ≡ prelude_interface = c.deref-then-are_of_names.ensures ∙ c.interface-prelude.ensures in
-    let program : c.deref.result.now ≡ module_at p number = c.deref.ensures ∙ (sym (get_or-map arc_value told.modules.now number c.index-told-faulty.result no_module c.requires.number)) in
-    let scoped : IsScopeOf (module_at p number) (prelude_interface ∷ fs) c.in_ok-scope.scope =
-    subst (λ m. IsScopeOf m (prelude_interface ∷ fs) c.in_ok-scope.scope) program
-    (subst (λ f. IsScopeOf c.deref.result.now (f ∷ fs) c.in_ok-scope.scope) first
-    (subst (λ l. IsScopeOf c.deref.result.now (c.deref-then-are_of_names.result.now ∷ map arc_value l) c.in_ok-scope.scope) c.as_slice.ensures.value c.in_ok-scope.ensures)) in
-    at_page told.pages.now.paint pages faulty.source page p status number faulty.faults.now c.in_ok-detailed_messages.field-0.items c.requires.source (search rules)
+    let each : AreEach (IsDetailed told.pages.now.paint page.file.now page.lines (IsKnown (module_at p number) (prelude_interface ∷ fs))) faulty.faults.now c.in_ok-searched_messages.field-0.items =
+    subst (λ l. AreEach (IsDetailed told.pages.now.paint page.file.now page.lines (IsKnown (module_at p number) (prelude_interface ∷ map arc_value l))) faulty.faults.now c.in_ok-searched_messages.field-0.items)
+    c.as_slice.ensures.value c.in_ok-searched_messages.ensures in
+    at_page told.pages.now.paint pages faulty.source page p status number faulty.faults.now c.in_ok-searched_messages.field-0.items c.requires.source (search rules)
     (each_so (IsDetailed told.pages.now.paint page.file.now page.lines (IsKnown (module_at p number) (prelude_interface ∷ fs))) (IsFaultTold told.pages.now.paint page.file.now page.lines p status number)
-    (λ f t h. inl (record { known = h.known; so = inr (fs, published, h.so); told = h.told })) faulty.faults.now c.in_ok-detailed_messages.field-0.items
-    (c.in_ok-detailed_messages.ensures (module_at p number) (prelude_interface ∷ fs) scoped))
+    (λ f t h. inl (record { known = h.known; so = inr (fs, published, h.so); told = h.told })) faulty.faults.now c.in_ok-searched_messages.field-0.items each)
 
 -- the checker tells of type faults
 pub returns : goal.returns

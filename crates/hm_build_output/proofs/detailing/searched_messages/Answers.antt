@@ -1,0 +1,32 @@
+use Rattle.std.proofs.Common.{◌≡◌, ◌∷◌, ◌∙◌, List, ap, map, subst, sym}
+use Rattle.std.specs.Arc.{arc_value}
+use Rattle.std.proofs.lemmas.List.{get_or-map}
+use Rattle.hm_types.specs.Interfaces.{Exports as Interface}
+use Rattle.hm_types.specs.StandardPrelude.{prelude_interface}
+use Rattle.hm_names.specs.Bindings.{IsScopeOf}
+use Rattle.hm_messages.specs.Messages.{AreEach}
+use Rattle.hm_messages_details.specs.Details.{IsKnown}
+use Rattle.hm_build_reports.specs.Settling.{module_set}
+use Rattle.hm_verdicts.specs.Sets.{module_at, no_module}
+use Rattle.hm_build_output.specs.Explanations.{IsDetailed}
+use Rattle.hm_build_output.proofs.detailing.searched_messages.Goals as goal
+
+pub scoped_messages-requires : goal.scoped_messages-requires
+scoped_messages-requires c =
+    subst (λ (l : List Interface). IsScopeOf c.deref-module.result.now l c.in_ok-scope.scope) (sym (ap (map (λ f. f.now)) c.as_slice.ensures.value ∙ c.in_ok-interfaces.ensures)) c.in_ok-scope.ensures
+
+pub returns : goal.returns
+returns c =
+    let told = c.args.told.now in
+    let p = module_set told.modules.now told.plan.now in
+    let faulty = c.args.faulty in
+    let page = c.args.page.now in
+    let fs = map arc_value c.args.imports.now in
+    let text = c.in_ok-scoped_messages.field-0.items in
+    let first : c.deref-prelude.result.now ≡ prelude_interface = c.deref-prelude.ensures ∙ c.interface.ensures in
+    let program : c.deref-module.result.now ≡ module_at p faulty.number =
+    c.deref-module.ensures ∙ (sym (get_or-map arc_value told.modules.now faulty.number c.index-told-faulty.result no_module c.requires)) in
+    let list : map (λ f. f.now) c.as_slice.result.now ≡ prelude_interface ∷ fs =
+    ap (map (λ f. f.now)) c.as_slice.ensures.value ∙ (c.in_ok-interfaces.ensures ∙ ap (λ f. f ∷ fs) first) in
+    subst (λ m. AreEach (IsDetailed told.pages.now.paint page.file.now page.lines (IsKnown m (prelude_interface ∷ fs))) faulty.faults.now text) program
+    (subst (λ l. AreEach (IsDetailed told.pages.now.paint page.file.now page.lines (IsKnown c.deref-module.result.now l)) faulty.faults.now text) list c.in_ok-scoped_messages.ensures)
