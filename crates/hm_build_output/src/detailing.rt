@@ -1,4 +1,4 @@
-//! The messages of a faulty module, with what its scope or the checker tells of its faults.
+//! The messages of a faulty module, with details from its scope or notes by the checker.
 ghost use Rattle.std.specs.Prelude.{◌≡◌, ◌<◌, ◌∷◌, List, IfOk, IfSome, length, map};
 ghost use Rattle.std.specs.Arc.{arc_value};
 ghost use Rattle.hm_messages_details.specs.Details.{IsKnown, known_of, nothing};
@@ -38,7 +38,7 @@ const NO_SYNONYMS: TypeLimits = TypeLimits {
     nodes: 0,
 };
 
-/// The interfaces of the modules with these numbers, if all are published.
+/// Returns the interfaces of the modules with these numbers, if all are published.
 fn published(
     alloc: Global,
     store: &Store,
@@ -56,7 +56,7 @@ fn published(
     Ok(Some(interfaces))
 }
 
-/// Whether a module's scope and its trees tell more of one of these faults.
+/// Returns whether a module's scope and its trees may have a detail of one of these faults.
 fn have_details(faults: &[Fault]) -> bool {
     faults.iter().any(|fault| {
         matches!(
@@ -71,7 +71,7 @@ fn have_details(faults: &[Fault]) -> bool {
     })
 }
 
-/// The messages of faults of which nothing more is known.
+/// Returns the messages of faults without details.
 fn plain_messages(
     alloc: Global,
     paint: Paint,
@@ -88,7 +88,7 @@ fn plain_messages(
     Ok(text)
 }
 
-/// What is known of a fault of a module; nothing, if so many faults were looked at before.
+/// Returns the detail of a fault of a module, or no detail if enough faults were looked up before.
 fn detail_at<'s>(
     alloc: Global,
     site: &Site<'_, 's, '_>,
@@ -104,7 +104,7 @@ fn detail_at<'s>(
     Ok(detail_of(alloc, site, fault)?)
 }
 
-/// The messages of the faults of a module with this scope and these tables.
+/// Returns the messages of the faults of a module with this scope and these tables.
 fn detailed_messages(
     alloc: Global,
     paint: Paint,
@@ -133,7 +133,7 @@ struct ScopedModule<'r, 'a> {
     scope: &'r Scope<'a>,
 }
 
-/// The messages of the faults of a module with this scope.
+/// Returns the messages of the faults of a module with this scope.
 fn scoped_messages(
     alloc: Global,
     paint: Paint,
@@ -154,7 +154,7 @@ fn scoped_messages(
     Ok(detailed_messages(alloc, paint, page, &site, faults)?)
 }
 
-/// The messages of the faults of a module with these imports.
+/// Returns the messages of the faults of a module with these imports.
 fn searched_messages(
     alloc: Global,
     told: &Told<'_, '_, '_>,
@@ -187,7 +187,7 @@ pub(crate) struct Faulty<'f> {
     pub faults: &'f [Fault],
 }
 
-/// The messages of the faults of a module: with what its scope tells of names, or with notes.
+/// Returns the messages of the faults of a module: with details of names from its scope, or with notes.
 pub(crate) fn faulty_messages(
     alloc: Global,
     told: &Told<'_, '_, '_>,

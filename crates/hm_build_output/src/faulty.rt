@@ -1,4 +1,4 @@
-//! The messages of a module with type faults: one for each fault, and behind it a note of what gives the definition a type.
+//! The messages of a module with type faults: one for each fault, and after it a note of the change that gives the definition a type.
 ghost use Rattle.std.specs.Prelude.{◌≡◌, ◌⊎◌, IfOk, IfSome, [], map, string_bytes};
 ghost use Rattle.std.specs.Arc.{arc_value};
 ghost use Rattle.hm_messages.specs.Messages.{AreEach};
@@ -16,7 +16,7 @@ use hm_messages_details::Detail;
 use hm_names::{Fault, Kind};
 use std::alloc::{AllocError, Global};
 
-/// A module as its faults are told: the page of its source, what trials ask of it, and its faults.
+/// A module whose faults are reported: the page of its source, the data of its trials, and its faults.
 #[derive(Clone, Copy)]
 pub(crate) struct FaultyModule<'f, 'p> {
     pub paint: Paint,
@@ -25,7 +25,7 @@ pub(crate) struct FaultyModule<'f, 'p> {
     pub faults: &'f [Fault],
 }
 
-/// What gives the definition of a type fault a type, where it is found; none where memory or the effort doesn't suffice to look for it.
+/// Returns the change that gives the definition of a type fault a type, if one is found. Returns `None` if memory or the effort doesn't suffice for the search.
 fn mend_for(
     alloc: Global,
     module: &FaultyModule<'_, '_>,
@@ -44,7 +44,7 @@ fn mend_for(
     }
 }
 
-/// Where what is told begins.
+/// Returns where the part begins.
 fn first_of(mend: &Mend) -> Place
     ensures { result ≡ first_place mend.now }
 {
@@ -55,7 +55,7 @@ fn first_of(mend: &Mend) -> Place
     }
 }
 
-/// The other place that is told: where it ends, or where the second expression begins.
+/// Returns the other place of the note: where the part ends, or where the second expression begins.
 fn other_of(mend: &Mend) -> Place
     ensures { result ≡ other_place mend.now }
 {
@@ -66,7 +66,7 @@ fn other_of(mend: &Mend) -> Place
     }
 }
 
-/// How it is told, with this as the other place.
+/// Returns the topic of the note, with this as the other place.
 fn way_of(mend: &Mend, other: Place) -> Way
     ensures { result ≡ told_way mend.now other }
 {
@@ -77,7 +77,7 @@ fn way_of(mend: &Mend, other: Place) -> Way
     }
 }
 
-/// The two types of the part that is to blame, if it is an expression and they are found.
+/// Returns the two types of the part that is to blame, if it is an expression and they are found.
 fn types_for(
     alloc: Global,
     module: &FaultyModule<'_, '_>,
@@ -108,14 +108,14 @@ fn types_for(
     }
 }
 
-/// What gives a definition a type, and the two types of the part, where they are found.
+/// The change that gives a definition a type, and the two types of the part, if they are found.
 #[derive(Drop)]
 struct FaultyPart {
     mend: Mend,
     types: Option<PartTypes>,
 }
 
-/// The note of what gives the definition a type, or of the two types, with this as the other place.
+/// Returns the note of the change that gives the definition a type, or of the two types, with this as the other place.
 fn note_text(
     alloc: Global,
     module: &FaultyModule<'_, '_>,
@@ -147,7 +147,7 @@ fn note_text(
 }
 
 // Why: docs/DECISIONS.md, "Memory in a trial".
-/// The note of a fault, or nothing.
+/// Returns the note of a fault, or no text.
 fn note_for(
     alloc: Global,
     module: &FaultyModule<'_, '_>,
@@ -177,7 +177,7 @@ fn note_for(
     Ok(note_text(alloc, module, fault.name.as_str(), &part, place)?)
 }
 
-/// The type that the definition of a type fault has without its signature, where it is found.
+/// Returns the type that the definition of a type fault has without its signature, if it is found.
 fn unsigned_for(
     alloc: Global,
     module: &FaultyModule<'_, '_>,
@@ -200,7 +200,7 @@ fn unsigned_for(
     }
 }
 
-/// The note of the signature of a fault, or nothing.
+/// Returns the note of the signature of a fault, or no text.
 fn signature_note(
     alloc: Global,
     module: &FaultyModule<'_, '_>,
@@ -229,7 +229,7 @@ fn signature_note(
     Ok(message(alloc, module.paint, module.page, signature.start, &topic)?)
 }
 
-/// The message of a fault with its notes.
+/// Returns the message of a fault with its notes.
 fn fault_text(
     alloc: Global,
     module: &FaultyModule<'_, '_>,
@@ -248,7 +248,7 @@ fn fault_text(
     Ok(text)
 }
 
-/// The messages of the faults of a module, in order.
+/// Returns the messages of the faults of a module, in order.
 pub(crate) fn noted_messages(
     alloc: Global,
     module: &FaultyModule<'_, '_>,

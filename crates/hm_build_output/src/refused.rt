@@ -127,7 +127,7 @@ fn further_messages(
     Ok(Messages { text, errors })
 }
 
-/// Returns the number of the first source behind that of a fault, counted from 0. If no source has a fault, it is the number of sources.
+/// Returns the number of the first source after that of a fault, counted from 0. If no source has a fault, it is the number of sources.
 fn behind(fault: &SetFault, sources: usize) -> usize
     ensures { (texts : List (List ℕ)) (faults : List Refusal) → length texts ≡ sources → AreFirstFaults (result + 1) (drop result texts) faults
         → AreFurtherFaults texts fault.now faults }

@@ -7,7 +7,7 @@ use crate::trial::HOLE;
 use hm_parse_grammar::Symbol;
 use std::alloc::{AllocError, Global};
 
-/// How many arguments an application may have in which they are changed.
+/// The most arguments of an application in which they are changed.
 const MOST_ARGUMENTS: usize = 6;
 
 const NOTHING: Filling = Filling::Text(" ");
@@ -18,13 +18,13 @@ const LAST_ARGUMENT: &str = " (let { h = h } in h))";
 /// A change of an expression: edits in two places.
 #[derive(Clone, Copy)]
 pub(crate) struct Change {
-    /// What is told if the change gives a definition a type. With a hole in place of an expression that is told, the definition has one too.
+    /// What is reported if the change gives a definition a type. With a hole in place of a reported expression, the definition has one too.
     pub told: Told,
     pub first: Edit,
     pub second: Edit,
 }
 
-/// The function and the arguments of an application.
+/// Returns the function and the arguments of an application.
 fn atoms_of(alloc: Global, outline: &Outline, run: Run) -> Result<Vec<Run>, AllocError> {
     let mut atoms = Vec::new(alloc);
     let mut next = run.start;
@@ -40,7 +40,7 @@ fn atoms_of(alloc: Global, outline: &Outline, run: Run) -> Result<Vec<Run>, Allo
     Ok(atoms)
 }
 
-/// Adds the change that two runs, the first of them in front, change places.
+/// Adds the exchange of two runs, which are in order.
 fn add_exchange(
     found: &mut Vec<Change>,
     lexed: &Lexed<'_>,
@@ -69,7 +69,7 @@ fn add_exchanges(
     Ok(())
 }
 
-/// Adds the changes that leave an argument out, the last one first. It and the one before it are told.
+/// Adds the changes that leave an argument out, the last one first. That argument and the one before it are reported.
 fn add_without_one(
     found: &mut Vec<Change>,
     lexed: &Lexed<'_>,
@@ -96,7 +96,7 @@ fn add_without_one(
     Ok(())
 }
 
-/// Adds the changes that put an argument more into an application, the last place first. What stands before it is told.
+/// Adds the changes that put one more argument into an application, at the last place first. The part before it is reported.
 fn add_with_one_more(
     found: &mut Vec<Change>,
     lexed: &Lexed<'_>,
@@ -136,7 +136,7 @@ fn add_of_application(
     add_with_one_more(found, lexed, whole, atoms)
 }
 
-/// Adds the changes that put arguments behind a name.
+/// Adds the changes that put arguments after a name.
 fn add_of_name(found: &mut Vec<Change>, lexed: &Lexed<'_>, name: Run) -> Result<(), AllocError> {
     match lexed.outline.symbol(name.start) {
         Symbol::Var | Symbol::QVar | Symbol::Con | Symbol::QCon => {}
@@ -152,7 +152,7 @@ fn add_of_name(found: &mut Vec<Change>, lexed: &Lexed<'_>, name: Run) -> Result<
     Ok(())
 }
 
-/// Whether a run is a list of one element.
+/// Returns whether a run is a list of one element.
 fn is_list_of_one(outline: &Outline, run: Run) -> bool {
     let last = run.end.saturating_sub(1);
     let inner = run.start.saturating_add(1);
@@ -204,7 +204,7 @@ fn add_unlisted_inside(
     Ok(())
 }
 
-/// Adds the exchange of the two sides of a form that has two parts, which a separator stands between.
+/// Adds the exchange of the two sides of a form of two parts with a separator between them.
 fn add_of_pair(
     found: &mut Vec<Change>,
     lexed: &Lexed<'_>,
@@ -229,7 +229,7 @@ fn add_of_pair(
 }
 
 // Why: docs/DECISIONS.md, "Small changes".
-/// The changes that are tried at a part, the most telling ones first.
+/// Returns the changes that are tried at a part, the most likely ones first.
 pub(crate) fn changes_at(
     alloc: Global,
     lexed: &Lexed<'_>,

@@ -7,21 +7,21 @@ use crate::tokens::{Lexed, Run};
 use crate::trial::{HOLE, Question, has_types_in};
 use std::alloc::{AllocError, Global};
 
-/// From how many parts on halves of them are asked about first.
+/// The number of parts from which on halves of them are tried first.
 const SPLIT: usize = 6;
 
-/// What is searched: a definition of a source, and what trials ask of it.
+/// A search: a definition of a source, and the data of its trials.
 #[derive(Clone, Copy)]
 pub(crate) struct Searched<'a, 'q> {
     pub question: &'a Question<'q>,
     pub lexed: &'a Lexed<'a>,
     pub definition: &'a str,
     pub others: &'a [&'a str],
-    /// What a trial costs.
+    /// The cost of a trial.
     pub cost: usize,
 }
 
-/// Whether a definition has a type with these edits. Where no trial is left, the answer is `false`.
+/// Returns whether a definition has a type with these edits. Returns `false` if no trial is left.
 pub(crate) fn is_mended_by(
     alloc: Global,
     searched: &Searched<'_, '_>,
@@ -41,7 +41,7 @@ pub(crate) fn is_mended_by(
     )
 }
 
-/// How many of the parts from this one on are patterns of the same clause, alternative or lambda.
+/// Returns how many of the parts from this one on are patterns of the same clause, alternative or lambda.
 fn same_around(parts: &[Part], from: usize) -> usize {
     if from >= parts.len() {
         return 0;
@@ -53,7 +53,7 @@ fn same_around(parts: &[Part], from: usize) -> usize {
         .count()
 }
 
-/// Holes in place of parts, which are in order: one for all of them where they are neighbours in a list.
+/// Returns edits with holes in place of parts, which are in order. Neighbours in a list have one hole for all of them.
 fn holes(alloc: Global, lexed: &Lexed<'_>, parts: &[Part]) -> Result<Vec<Edit>, AllocError> {
     let mut edits = Vec::new(alloc);
     let (Some(first), Some(last)) = (parts.first(), parts.last()) else {
@@ -85,7 +85,7 @@ fn holes(alloc: Global, lexed: &Lexed<'_>, parts: &[Part]) -> Result<Vec<Edit>, 
     Ok(edits)
 }
 
-/// Whether a definition has a type with holes in place of all these parts.
+/// Returns whether a definition has a type with holes in place of all these parts.
 fn mends(
     alloc: Global,
     searched: &Searched<'_, '_>,
@@ -96,7 +96,7 @@ fn mends(
     is_mended_by(alloc, searched, edits.as_slice(), effort)
 }
 
-/// The parts with these numbers.
+/// Returns the parts with these numbers.
 fn parts_in(parts: &[Part], run: Run) -> &[Part] {
     if run.start <= run.end && run.end <= parts.len() {
         &parts[run.start..run.end]
@@ -105,7 +105,7 @@ fn parts_in(parts: &[Part], run: Run) -> &[Part] {
     }
 }
 
-/// Those of the parts that mend. Of many parts halves are asked about first: a half that doesn't mend has no part that does.
+/// Returns the parts that mend. If there are many, halves of them are tried first: a half that doesn't mend has no part that does.
 fn mending(
     alloc: Global,
     searched: &Searched<'_, '_>,
@@ -154,8 +154,7 @@ fn mending(
     Ok(found)
 }
 
-/// The parts without which a definition has a type, while no part inside them has that property. Where the trials run out, those that were
-/// found by then.
+/// Returns the parts without which a definition has a type, and inside which no part has this property. If the trials run out, it returns those found by then.
 pub(crate) fn culprits(
     alloc: Global,
     searched: &Searched<'_, '_>,

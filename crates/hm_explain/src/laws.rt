@@ -11,7 +11,7 @@ pub fn worked_holes()
     ensures types { TypesRow }
 {}
 
-/// What a source is without a pattern, and with two parts exchanged.
+/// A source without a pattern, and with two parts exchanged.
 #[tactic(auto, using(crate::proofs::WorkedMends::worked_mends_row))]
 pub fn worked_mends()
     ensures { MendsRow }

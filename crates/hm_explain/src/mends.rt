@@ -9,14 +9,14 @@ use crate::search::Culprit;
 use crate::trial::{HOLE, has_types_in};
 use std::alloc::{AllocError, Global};
 
-/// What gives a definition a type.
+/// A change that gives a definition a type.
 #[derive(Clone, Copy)]
 pub enum Mend {
     /// Another expression in place of this one.
     Expression(Culprit),
     /// Another pattern in place of this one.
     Pattern(Culprit),
-    /// That these expressions change places.
+    /// These expressions, exchanged.
     Exchange(Culprit, Culprit),
 }
 
@@ -27,18 +27,18 @@ pub struct Span {
     pub to: usize,
 }
 
-/// What stands round the bindings of the variables of a pattern that is taken away.
+/// The text around the bindings for the variables of a removed pattern.
 #[derive(Clone, Copy, PartialEq, Eq)]
 pub enum Frame {
-    /// A `where` of their own, behind a clause or an alternative.
+    /// A `where` of their own, after a clause or an alternative.
     Where,
-    /// Nothing: they stand in front of the declarations of a `where` that is there.
+    /// Nothing: they come before the declarations of a `where` that is there.
     Front,
-    /// A `let`, in front of the body of a lambda.
+    /// A `let`, before the body of a lambda.
     Let,
 }
 
-/// What stands before the bindings.
+/// Returns the text before the bindings.
 pub(crate) fn opening(frame: Frame) -> &'static str
     ensures { result.now ≡ opening_text frame }
 {
@@ -49,7 +49,7 @@ pub(crate) fn opening(frame: Frame) -> &'static str
     }
 }
 
-/// What stands behind them.
+/// Returns the text after the bindings.
 pub(crate) fn closing(frame: Frame) -> &'static str
     ensures { result.now ≡ closing_text frame }
 {
@@ -60,7 +60,7 @@ pub(crate) fn closing(frame: Frame) -> &'static str
     }
 }
 
-/// A binding of a variable to the hole.
+/// Returns a binding of a variable to the hole.
 fn hole_for(alloc: Global, source: &[u8], variable: Span) -> Result<Vec<u8>, AllocError>
     requires ordered { variable.from ≤ variable.to }
     requires within { variable.to ≤ length source.now }
@@ -73,7 +73,7 @@ fn hole_for(alloc: Global, source: &[u8], variable: Span) -> Result<Vec<u8>, All
     Ok(made)
 }
 
-/// Bindings of variables to the hole.
+/// Returns bindings of variables to the hole.
 fn holes_for(alloc: Global, source: &[u8], variables: &[Span]) -> Result<Vec<u8>, AllocError>
     requires { All (λ v. (v.from ≤ v.to) × (v.to ≤ length source.now)) variables.now }
     ensures { IfOk result (λ made. made.items ≡ flat_map (hole_text source.now) variables.now) }
@@ -86,7 +86,7 @@ fn holes_for(alloc: Global, source: &[u8], variables: &[Span]) -> Result<Vec<u8>
     Ok(made)
 }
 
-/// Where the variables of a pattern are bound that is taken away, and which they are.
+/// The variables of a removed pattern, and where they are bound.
 #[derive(Clone, Copy)]
 pub(crate) struct Rebound<'a> {
     pub at: usize,
@@ -94,7 +94,7 @@ pub(crate) struct Rebound<'a> {
     pub variables: &'a [Span],
 }
 
-/// Bindings of variables to the hole, with what stands round them.
+/// Returns bindings of variables to the hole, with the text around them.
 fn bindings(alloc: Global, source: &[u8], rebound: &Rebound<'_>) -> Result<Vec<u8>, AllocError>
     requires { All (λ v. (v.from ≤ v.to) × (v.to ≤ length source.now)) rebound.now.variables.now }
     ensures { IfOk result (λ made. made.items ≡ bindings_text source.now rebound.now.frame rebound.now.variables.now) }
@@ -106,7 +106,7 @@ fn bindings(alloc: Global, source: &[u8], rebound: &Rebound<'_>) -> Result<Vec<u
     Ok(made)
 }
 
-/// The source with `_` in place of a part, and with a text behind it.
+/// Returns the source with `_` in place of a part, and with a text after it.
 fn with_wildcard(
     alloc: Global,
     source: &[u8],
@@ -127,21 +127,21 @@ fn with_wildcard(
     Ok(made)
 }
 
-/// Whether a variable lies in a part.
+/// Returns whether a variable lies in a part.
 fn is_inside(variable: &Span, part: Culprit) -> bool
     ensures { result ≡ true → IsInside part variable.now }
 {
     part.from <= variable.from && variable.from <= variable.to && variable.to <= part.to
 }
 
-/// Whether variables lie in a part.
+/// Returns whether variables lie in a part.
 fn are_inside(variables: &[Span], part: Culprit) -> bool
     ensures { result ≡ true → All (IsInside part) variables.now }
 {
     variables.iter().all(|variable| is_inside(variable, part))
 }
 
-/// Whether the definition has a type with `_` in place of a part, where variables of it are bound to the hole.
+/// Returns whether the definition has a type with `_` in place of a part, and with the part's variables bound to the hole.
 pub(crate) fn types_with_pattern(
     alloc: Global,
     searched: &Searched<'_, '_>,
@@ -170,7 +170,7 @@ pub(crate) fn types_with_pattern(
     )?)
 }
 
-/// A part of the source in brackets.
+/// Returns a part of the source in brackets.
 fn bracketed(alloc: Global, source: &[u8], part: Culprit) -> Result<Vec<u8>, AllocError>
     requires { IsPartOf source.now part }
     ensures { IfOk result (λ made. made.items ≡ bracketed_text source.now part) }
@@ -181,7 +181,7 @@ fn bracketed(alloc: Global, source: &[u8], part: Culprit) -> Result<Vec<u8>, All
     Ok(made)
 }
 
-/// The source with two parts exchanged.
+/// Returns the source with two parts exchanged.
 fn with_exchanged(
     alloc: Global,
     source: &[u8],
@@ -203,7 +203,7 @@ fn with_exchanged(
     Ok(made)
 }
 
-/// Whether the definition has a type with two parts exchanged.
+/// Returns whether the definition has a type with two parts exchanged.
 pub(crate) fn types_exchanged(
     alloc: Global,
     searched: &Searched<'_, '_>,

@@ -1,10 +1,10 @@
-//! The expressions and patterns that stand directly inside a definition or an expression (Haskell 98 Report, chapter 3).
+//! The expressions and patterns directly inside a definition or an expression (Haskell 98 Report, chapter 3).
 use crate::binding::declaration_end;
 use crate::tokens::{Outline, Run};
 use hm_parse_grammar::Symbol;
 use std::alloc::{AllocError, Global};
 
-/// What an expression is to the one that it stands directly inside.
+/// The role of an expression in the one that it is directly inside.
 #[derive(Clone, Copy, PartialEq, Eq)]
 pub(crate) enum Role {
     /// A right side, a guard, or the body or a branch of another form.
@@ -17,7 +17,7 @@ pub(crate) enum Role {
     Component,
     /// Of `:`.
     Operand,
-    /// A pattern of a clause, an alternative or a lambda, or a part of one, that is no variable.
+    /// A pattern of a clause, an alternative or a lambda, or a part of one. It isn't a variable.
     Pattern,
 }
 
@@ -26,11 +26,11 @@ pub(crate) enum Role {
 pub(crate) struct Part {
     pub run: Run,
     pub role: Role,
-    /// The expression that it stands directly inside; its own run if it is a body. Of a pattern, the clause, alternative or lambda that it is of.
+    /// The expression that it is directly inside, or its own run if it is a body. For a pattern, its clause, alternative or lambda.
     pub around: Run,
 }
 
-/// Whether these tokens are no pattern that may be to blame: there are none, or one that fits every type.
+/// Returns whether these tokens aren't a pattern that may be to blame: there are none, or one that fits every type.
 fn fits_all(outline: &Outline, run: Run) -> bool {
     if run.start >= run.end {
         return true;
@@ -48,7 +48,7 @@ fn fits_all(outline: &Outline, run: Run) -> bool {
 #[derive(Drop)]
 struct Found {
     parts: Vec<Part>,
-    /// Lists of declarations or of alternatives that are still to be gone through.
+    /// Lists of declarations or of alternatives that a walk still has to go over.
     lists: Vec<Run>,
 }
 
@@ -94,10 +94,10 @@ impl Found {
     }
 }
 
-/// Where a walk over a list of declarations or alternatives is.
+/// The position of a walk over a list of declarations or alternatives.
 #[derive(Clone, Copy)]
 struct Spot {
-    /// Where the expression began that the walk is in.
+    /// The number of the token at which the current expression began.
     expression: Option<usize>,
     is_guard: bool,
     is_signature: bool,
@@ -110,7 +110,7 @@ const AT_PATTERNS: Spot = Spot {
     is_signature: false,
 };
 
-/// The spot behind a symbol of a list, which the token with this number is.
+/// Returns the position of a walk after a symbol that changes it. `at` is the number of its token.
 fn spot_behind(spot: Spot, symbol: Symbol, at: usize) -> Option<Spot> {
     let next = Some(at.saturating_add(1));
     let is_signature = spot.is_signature;
@@ -142,7 +142,7 @@ fn spot_behind(spot: Spot, symbol: Symbol, at: usize) -> Option<Spot> {
     }
 }
 
-/// Whether a declaration or an alternative, of which these are the tokens behind its patterns, is an alternative.
+/// Returns whether this is an alternative and not a declaration, by the tokens after its patterns.
 fn is_alternative(outline: &Outline, behind: Run) -> bool {
     let Some(arrow) = outline.find(behind.start, behind.end, Symbol::Arrow) else {
         return false;
@@ -153,7 +153,7 @@ fn is_alternative(outline: &Outline, behind: Run) -> bool {
     }
 }
 
-/// Adds the patterns of a clause or an alternative, which stand before this token. A pattern binding has none.
+/// Adds the patterns of a clause or an alternative, which come before this token. A pattern binding has none.
 fn add_head(
     found: &mut Found,
     outline: &Outline,
@@ -227,7 +227,7 @@ fn add_right_sides(found: &mut Found, outline: &Outline, list: Run) -> Result<()
     found.end(spot.expression, list.end)
 }
 
-/// Adds what a lambda, a `let` or a conditional has directly inside.
+/// Adds the parts directly inside a lambda, a `let` or a conditional.
 fn add_open_form(found: &mut Found, outline: &Outline, run: Run) -> Result<(), AllocError> {
     let Run { start, end } = run;
     let inner = start.saturating_add(1);
@@ -262,7 +262,7 @@ fn add_open_form(found: &mut Found, outline: &Outline, run: Run) -> Result<(), A
     Ok(())
 }
 
-/// Adds what stands between the commas of a list or a tuple.
+/// Adds the elements of a list or the components of a tuple.
 fn add_elements(found: &mut Found, outline: &Outline, whole: Run) -> Result<(), AllocError> {
     let role = if outline.symbol(whole.start).is(Symbol::Open) {
         Role::Component
@@ -301,7 +301,7 @@ fn add_application(found: &mut Found, outline: &Outline, run: Run) -> Result<(),
     Ok(())
 }
 
-/// Adds what a `case` has directly inside.
+/// Adds the parts directly inside a `case`.
 fn add_case(found: &mut Found, outline: &Outline, run: Run) -> Result<(), AllocError> {
     if let Some(of) = outline.find_word(run.start, run.end, Symbol::Case, Symbol::Of) {
         found.add(run.start.saturating_add(1), of)?;
@@ -310,7 +310,7 @@ fn add_case(found: &mut Found, outline: &Outline, run: Run) -> Result<(), AllocE
     Ok(())
 }
 
-/// Where the operand ends that begins here: before a `:` or `::`, or at the end of the whole.
+/// Returns where the operand that begins here ends: before a `:` or `::`, or at the end of the whole.
 fn operand_end(outline: &Outline, start: usize, end: usize) -> usize {
     match outline.symbol(start) {
         Symbol::Backslash | Symbol::Let | Symbol::If => return end,
@@ -334,7 +334,7 @@ fn operand_end(outline: &Outline, start: usize, end: usize) -> usize {
     end
 }
 
-/// Adds the operands of `:`, and what stands before `::`; where the whole is one operand, what is inside it.
+/// Adds the operands of `:`, and the expression before `::`. If the whole is one operand, it adds the parts inside it.
 fn add_operands(found: &mut Found, outline: &Outline, run: Run) -> Result<(), AllocError> {
     let first = operand_end(outline, run.start, run.end);
     if first >= run.end {
@@ -356,7 +356,7 @@ fn add_operands(found: &mut Found, outline: &Outline, run: Run) -> Result<(), Al
     Ok(())
 }
 
-/// The expression without brackets round the whole of it.
+/// Returns the expression without brackets around the whole of it.
 fn without_brackets(outline: &Outline, run: Run) -> Run {
     let mut inner = run;
     for _ in run.start..run.end {
@@ -380,7 +380,7 @@ fn without_brackets(outline: &Outline, run: Run) -> Run {
     inner
 }
 
-/// Adds what an expression has directly inside.
+/// Adds the parts directly inside an expression.
 fn add_below(found: &mut Found, outline: &Outline, whole: Run) -> Result<(), AllocError> {
     let run = without_brackets(outline, whole);
     let last = run.end.saturating_sub(1);
@@ -395,7 +395,7 @@ fn add_below(found: &mut Found, outline: &Outline, whole: Run) -> Result<(), All
     }
 }
 
-/// Goes through the lists that are noted.
+/// Goes over the lists that are noted, and returns all parts.
 fn finished(found: Found, outline: &Outline) -> Result<Vec<Part>, AllocError> {
     let mut found = found;
     for _ in 0..outline.len() {
@@ -408,7 +408,7 @@ fn finished(found: Found, outline: &Outline) -> Result<Vec<Part>, AllocError> {
     Ok(found.parts)
 }
 
-/// The patterns, guards and right sides of a definition, those of its `where` among them.
+/// Returns the patterns, guards and right sides of a definition, with those of its `where`.
 pub(crate) fn right_sides(
     alloc: Global,
     outline: &Outline,
@@ -422,7 +422,7 @@ pub(crate) fn right_sides(
     finished(found, outline)
 }
 
-/// The patterns among the parts of one.
+/// Returns the patterns among the parts of one.
 fn patterns_in(
     alloc: Global,
     outline: &Outline,
@@ -442,7 +442,7 @@ fn patterns_in(
 }
 
 // Why: docs/DECISIONS.md, "Parts of a definition".
-/// The expressions that stand directly inside an expression, or the patterns inside a pattern.
+/// Returns the expressions directly inside an expression, or the patterns inside a pattern.
 pub(crate) fn parts_below(
     alloc: Global,
     outline: &Outline,

@@ -1,4 +1,4 @@
-//! Patterns taken away: `_` in place of one, and an expression of every type for each of its variables.
+//! Removes patterns: puts `_` in place of one, and binds each of its variables to an expression of every type.
 use crate::edits::{Edit, Filling, copied, in_place};
 use crate::mends::{Frame, closing, opening};
 use crate::parts::Part;
@@ -7,7 +7,7 @@ use crate::trial::HOLE;
 use hm_parse_grammar::Symbol;
 use std::alloc::AllocError;
 
-/// Where the variables of a pattern are bound that is taken away.
+/// The place where the variables of a removed pattern are bound.
 #[derive(Clone, Copy)]
 pub(crate) struct Spot {
     pub frame: Frame,
@@ -15,7 +15,7 @@ pub(crate) struct Spot {
     pub at: usize,
 }
 
-/// Where the variables of a pattern of this clause, alternative or lambda are bound.
+/// Returns where the variables of a pattern of this clause, alternative or lambda are bound.
 pub(crate) fn spot_in(lexed: &Lexed<'_>, around: Run) -> Option<Spot> {
     let outline = lexed.outline;
     let Run { start, end } = around;
@@ -38,7 +38,7 @@ pub(crate) fn spot_in(lexed: &Lexed<'_>, around: Run) -> Option<Spot> {
     }
 }
 
-/// An edit that puts something in at a spot.
+/// Returns an edit that puts something in at a spot.
 fn put(spot: Spot, by: Filling) -> Edit {
     Edit {
         from: spot.at,
@@ -47,7 +47,7 @@ fn put(spot: Spot, by: Filling) -> Edit {
     }
 }
 
-/// Appends what binds the variables of a pattern.
+/// Appends edits that bind the variables of a pattern.
 fn add_bindings(
     edits: &mut Vec<Edit>,
     lexed: &Lexed<'_>,
@@ -65,7 +65,7 @@ fn add_bindings(
     Ok(())
 }
 
-/// Appends what takes patterns away that are of one clause, alternative or lambda.
+/// Appends edits that remove patterns of one clause, alternative or lambda.
 pub(crate) fn add_open_patterns(
     edits: &mut Vec<Edit>,
     lexed: &Lexed<'_>,

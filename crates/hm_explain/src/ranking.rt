@@ -1,4 +1,4 @@
-//! Which of several parts is told.
+//! Decides which of several parts is reported.
 use crate::changes::{Change, changes_at};
 use crate::costs::Effort;
 use crate::culprits::{Searched, is_mended_by};
@@ -13,12 +13,12 @@ use std::alloc::{AllocError, Global};
 struct Suspect {
     /// Where the part begins.
     start: usize,
-    /// What is told: the part, or what stands round a change of it.
+    /// What is reported: the part, or the expression around a change of it.
     told: Told,
     points: usize,
 }
 
-/// Whether a part is one literal or constructor.
+/// Returns whether a part is one literal or constructor.
 fn is_constant(outline: &Outline, run: Run) -> bool {
     if run.end.saturating_sub(run.start) != 1 {
         return false;
@@ -30,8 +30,8 @@ fn is_constant(outline: &Outline, run: Run) -> bool {
 }
 
 // Why: docs/DECISIONS.md, "Points".
-/// How likely a part is to be the slip if no change of it gives the definition a type. A function comes behind its arguments, since any fault
-/// of these is gone with another function too. The numbers were found on slips in good modules; docs/DECISIONS.md says how.
+/// Returns how likely a part is to be the slip if no change of it gives the definition a type. A function gets less than its arguments, because another
+/// function hides any fault of these. The numbers were found on slips in good modules; docs/DECISIONS.md says how.
 fn points_of(outline: &Outline, part: Part) -> usize {
     let points = match part.role {
         Role::Function | Role::Pattern => 2usize,
@@ -43,10 +43,10 @@ fn points_of(outline: &Outline, part: Part) -> usize {
     points
 }
 
-/// How much likelier it is if a small change of it gives the definition a type.
+/// How much more likely it is if a small change of it gives the definition a type.
 const POINTS_OF_CHANGE: usize = 4;
 
-/// Whether a part is a function, and one of these parts lies in its arguments.
+/// Returns whether a part is a function, and one of these parts lies in its arguments.
 fn has_faulty_argument(parts: &[Part], part: Part) -> bool {
     if part.role != Role::Function {
         return false;
@@ -54,7 +54,7 @@ fn has_faulty_argument(parts: &[Part], part: Part) -> bool {
     parts.iter().any(|other| other.run.start >= part.run.end && other.run.end <= part.around.end)
 }
 
-/// The changes that are tried at a part. None are tried at a function if one of these parts lies in its arguments: that one is likelier.
+/// Returns the changes that are tried at a part. None are tried at a function if one of these parts lies in its arguments: that one is more likely.
 fn changes_for(
     alloc: Global,
     searched: &Searched<'_, '_>,
@@ -67,7 +67,7 @@ fn changes_for(
     changes_at(alloc, searched.lexed, part)
 }
 
-/// A part of these, and what is told of it: what stands round the first change at it that gives the definition a type, if there is one.
+/// Returns a part of these, and what is reported of it: the expression around the first change that gives the definition a type, if there is one.
 fn judged_part(
     alloc: Global,
     searched: &Searched<'_, '_>,
@@ -99,7 +99,7 @@ fn judged_part(
     })
 }
 
-/// What is told of these parts: of the one with the most points, and of the last of several that have as many.
+/// Returns what is reported of these parts: of the one with the most points, and of the last of several with as many.
 pub(crate) fn likeliest(
     alloc: Global,
     searched: &Searched<'_, '_>,

@@ -1,4 +1,4 @@
-//! The search for what gives a definition a type.
+//! The search for a change that gives a definition a type.
 ghost use Rattle.std.specs.Prelude.{◌≡◌, ◌≤◌, ◌<◌, ◌^◌, IfOk, IfSome, length, map, take};
 ghost use Rattle.std.specs.Arc.{arc_value};
 ghost use Rattle.hm_explain.specs.Holes.{IsPartOf};
@@ -37,7 +37,7 @@ pub struct Culprit {
     pub end: Place,
 }
 
-/// The bytes of a run of tokens, from one number up to another.
+/// Returns the bytes of a run of tokens, from one number up to another.
 pub(crate) fn bytes_of(tokens: &[Token], run: Run, source: &[u8]) -> Option<(usize, usize)>
     ensures ordered { IfSome result (λ r. r.0 ≤ r.1) }
     ensures within { IfSome result (λ r. r.1 ≤ length source.now) }
@@ -63,7 +63,7 @@ pub(crate) struct Reading {
 }
 
 impl Reading {
-    /// The source with its tokens.
+    /// Returns the source with its tokens.
     pub fn lexed<'a>(&'a self, source: &'a [u8]) -> Lexed<'a> {
         Lexed {
             source,
@@ -73,7 +73,7 @@ impl Reading {
     }
 }
 
-/// The tokens of a source with their outline, if it has tokens.
+/// Returns the tokens of a source with their outline, if it has tokens.
 pub(crate) fn reading_of(alloc: Global, source: &[u8]) -> Result<Option<Reading>, AllocError> {
     let tokens = match lex(alloc, source) {
         Ok(tokens) => tokens,
@@ -84,7 +84,7 @@ pub(crate) fn reading_of(alloc: Global, source: &[u8]) -> Result<Option<Reading>
     Ok(Some(Reading { tokens, outline }))
 }
 
-/// The number of the token that begins at a byte, or of the first one behind it.
+/// Returns the number of the token that begins at a byte, or of the first one after it.
 fn token_at(tokens: &[Token], byte: usize) -> usize {
     tokens
         .iter()
@@ -92,7 +92,7 @@ fn token_at(tokens: &[Token], byte: usize) -> usize {
         .count()
 }
 
-/// What is told of a definition.
+/// Returns what is reported of a definition.
 fn likeliest_in(
     alloc: Global,
     searched: &Searched<'_, '_>,
@@ -104,7 +104,7 @@ fn likeliest_in(
     likeliest(alloc, searched, found.as_slice(), effort)
 }
 
-/// What is told of a definition, which is searched in this smaller source.
+/// Returns what is reported of a definition, by a search in this smaller source.
 fn told_in_cut(
     alloc: Global,
     searched: &Searched<'_, '_>,
@@ -138,7 +138,7 @@ fn told_in_cut(
     Ok(Some(told.moved(start, definition.start)))
 }
 
-/// What is told of a definition, which is searched in a smaller source.
+/// Returns what is reported of a definition, by a search in a smaller source.
 fn told_in(
     alloc: Global,
     searched: &Searched<'_, '_>,
@@ -151,7 +151,7 @@ fn told_in(
     }
 }
 
-/// A part of a source.
+/// Returns a part of a source.
 fn part_at(source: &[u8], from: usize, to: usize) -> Culprit
     requires some { from < to }
     requires within { to ≤ length source.now }
@@ -166,7 +166,7 @@ fn part_at(source: &[u8], from: usize, to: usize) -> Culprit
     }
 }
 
-/// The part of a source that these tokens are.
+/// Returns the part of a source with these tokens.
 pub(crate) fn part_of(tokens: &[Token], run: Run, source: &[u8]) -> Option<Culprit>
     ensures { IfSome result (IsPartOf source.now) }
 {
@@ -177,7 +177,7 @@ pub(crate) fn part_of(tokens: &[Token], run: Run, source: &[u8]) -> Option<Culpr
     Some(part_at(source, from, to))
 }
 
-/// An expression, if the definition has a type with the hole in place of it.
+/// Returns an expression, if the definition has a type with the hole in place of it.
 fn expression_mend(
     alloc: Global,
     searched: &Searched<'_, '_>,
@@ -197,7 +197,7 @@ fn expression_mend(
     Ok(Some(Mend::Expression(part)))
 }
 
-/// The variables of a pattern.
+/// Returns the variables of a pattern.
 fn variables_in(alloc: Global, lexed: &Lexed<'_>, pattern: Run) -> Result<Vec<Span>, AllocError> {
     let mut found = Vec::new(alloc);
     for at in pattern.start..pattern.end {
@@ -213,7 +213,7 @@ fn variables_in(alloc: Global, lexed: &Lexed<'_>, pattern: Run) -> Result<Vec<Sp
 }
 
 // Why: docs/DECISIONS.md, "Patterns".
-/// A pattern of a clause, alternative or lambda, if the definition has a type without it.
+/// Returns a pattern of a clause, alternative or lambda, if the definition has a type without it.
 fn pattern_mend(
     alloc: Global,
     searched: &Searched<'_, '_>,
@@ -242,7 +242,7 @@ fn pattern_mend(
     Ok(Some(Mend::Pattern(part)))
 }
 
-/// Two expressions, if the definition has a type with them exchanged.
+/// Returns two expressions, if the definition has a type with them exchanged.
 fn exchange_mend(
     alloc: Global,
     searched: &Searched<'_, '_>,
@@ -265,7 +265,7 @@ fn exchange_mend(
     Ok(Some(Mend::Exchange(first, second)))
 }
 
-/// What is told, if it gives the definition a type.
+/// Returns what is reported, if it gives the definition a type.
 fn confirmed(
     alloc: Global,
     searched: &Searched<'_, '_>,
@@ -282,11 +282,11 @@ fn confirmed(
 }
 
 // Why: docs/DECISIONS.md, "Notes at type faults".
-/// What gives the definition a type that a type fault tells: the likeliest of what is found. `faults` are all faults of the module, and
-/// `effort` is less by what the search costs.
+/// Returns the change that gives the definition of a type fault a type: the most likely one that is found. `faults` are all faults of the module, and `effort`
+/// is less by what the search costs.
 ///
-/// None where nothing is found, or where the effort doesn't pay for a trial; of a source of more than 65,536 bytes, and of a definition
-/// that mentions more than 256 names.
+/// Returns `None` if nothing is found or the effort doesn't pay for a trial, for a source of more than 65,536 bytes, and for a definition that mentions more
+/// than 256 names.
 ///
 /// # Errors
 ///

@@ -1,5 +1,4 @@
-//! The tokens of a source as the grammar sees them. Nothing is claimed of the parts that are found in them but that looking for them ends:
-//! a trial alone decides what is to blame.
+//! The tokens of a source as the grammar sees them. It is proved only that the search for parts ends: a trial alone decides which one is to blame.
 ghost use Rattle.std.specs.Prelude.{All};
 ghost use Rattle.hm_lex.specs.Texts.{LiesIn};
 
@@ -14,7 +13,7 @@ pub(crate) struct Run {
     pub end: usize,
 }
 
-/// The run of one token.
+/// Returns the run of one token.
 pub(crate) fn one(at: usize) -> Run {
     Run {
         start: at,
@@ -22,7 +21,7 @@ pub(crate) fn one(at: usize) -> Run {
     }
 }
 
-/// What tokens are to the grammar, and where each bracket is closed.
+/// The symbols of tokens, and where each bracket is closed.
 #[derive(Drop)]
 pub(crate) struct Outline {
     symbols: Vec<Symbol>,
@@ -30,7 +29,7 @@ pub(crate) struct Outline {
     closing: Vec<usize>,
 }
 
-/// What each token is to the grammar.
+/// Returns the symbol of each token.
 fn symbols_of(alloc: Global, source: &[u8], tokens: &[Token]) -> Result<Vec<Symbol>, AllocError>
     requires { All (LiesIn source.now) tokens.now }
 {
@@ -41,7 +40,7 @@ fn symbols_of(alloc: Global, source: &[u8], tokens: &[Token]) -> Result<Vec<Symb
     Ok(symbols)
 }
 
-/// Where each bracket is closed.
+/// Returns where each bracket is closed.
 fn closing_of(alloc: Global, symbols: &[Symbol]) -> Result<Vec<usize>, AllocError> {
     let mut closing = Vec::with_capacity(alloc, symbols.len())?;
     let mut open = Vec::new(alloc);
@@ -63,7 +62,7 @@ fn closing_of(alloc: Global, symbols: &[Symbol]) -> Result<Vec<usize>, AllocErro
 }
 
 impl Outline {
-    /// The outline of the tokens of a source.
+    /// Returns the outline of the tokens of a source.
     pub fn of(alloc: Global, source: &[u8], tokens: &[Token]) -> Result<Outline, AllocError>
         requires { All (LiesIn source.now) tokens.now }
     {
@@ -72,12 +71,12 @@ impl Outline {
         Ok(Outline { symbols, closing })
     }
 
-    /// How many tokens there are.
+    /// Returns the number of tokens.
     pub fn len(&self) -> usize {
         self.symbols.len()
     }
 
-    /// What the token with this number is; `End` behind the last one.
+    /// Returns the symbol of the token with this number, or `End` after the last one.
     pub fn symbol(&self, at: usize) -> Symbol {
         if at >= self.symbols.len() {
             return Symbol::End;
@@ -85,7 +84,7 @@ impl Outline {
         self.symbols[at]
     }
 
-    /// The number of the token that closes the bracket which opens here; of any other token its own.
+    /// Returns the number of the token that closes the bracket which opens here. For any other token it returns its own number.
     pub fn closing(&self, at: usize) -> usize {
         if at >= self.closing.len() {
             return at;
@@ -93,12 +92,12 @@ impl Outline {
         self.closing[at]
     }
 
-    /// The number of the token behind this one, and behind the brackets that it opens.
+    /// Returns the number of the token after this one, and after the brackets that it opens.
     pub fn past(&self, at: usize) -> usize {
         self.closing(at).saturating_add(1)
     }
 
-    /// The first of these tokens, outside brackets that open among them, that is a symbol.
+    /// Returns the first of these tokens with a symbol, outside brackets that open among them.
     pub fn find(&self, start: usize, end: usize, symbol: Symbol) -> Option<usize> {
         let mut next = start;
         for at in start..end {
@@ -112,7 +111,7 @@ impl Outline {
         None
     }
 
-    /// The word `last` of the form that begins here with `first`: as `else` of `if`, or `of` of `case`. Forms of the same kind may nest.
+    /// Returns the word `last` of the form that begins here with `first`, as `else` for `if`, or `of` for `case`. Forms of the same kind may nest.
     pub fn find_word(
         &self,
         start: usize,
@@ -150,7 +149,7 @@ pub(crate) struct Lexed<'a> {
 }
 
 impl Lexed<'_> {
-    /// The number of the first byte of a token; 0 of a token that isn't there.
+    /// Returns the number of the first byte of a token, or 0 if there is no such token.
     pub fn start(&self, at: usize) -> usize {
         if at < self.tokens.len() {
             self.tokens[at].start as usize
@@ -159,7 +158,7 @@ impl Lexed<'_> {
         }
     }
 
-    /// The number of the byte behind the last token of a run; 0 of a run that ends behind all tokens.
+    /// Returns the number of the byte after the last token of a run, or 0 if the run ends after all tokens.
     pub fn end(&self, run: Run) -> usize {
         let last = run.end.saturating_sub(1);
         if last < self.tokens.len() {

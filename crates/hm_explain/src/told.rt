@@ -1,17 +1,17 @@
 //! What the search finds, in tokens.
 use crate::tokens::Run;
 
-/// What is told of a definition.
+/// What is reported of a definition.
 #[derive(Clone, Copy)]
 pub(crate) enum Told {
     Expression(Run),
     /// A pattern, and the clause, alternative or lambda that it is of.
     Pattern(Run, Run),
-    /// Two expressions that change places.
+    /// Two expressions that are exchanged.
     Exchange(Run, Run),
 }
 
-/// The run, as if its token with the first number had the second one.
+/// Returns the run, as if its token with the first number had the second one.
 fn moved(run: Run, from: usize, to: usize) -> Run {
     Run {
         start: run.start.saturating_sub(from).saturating_add(to),
@@ -20,7 +20,7 @@ fn moved(run: Run, from: usize, to: usize) -> Run {
 }
 
 impl Told {
-    /// The same, as if the token with the first number had the second one.
+    /// Returns the same, as if the token with the first number had the second one.
     pub fn moved(self, from: usize, to: usize) -> Told {
         match self {
             Told::Expression(run) => Told::Expression(moved(run, from, to)),

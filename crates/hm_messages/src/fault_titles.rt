@@ -9,7 +9,7 @@ use hm_messages_json::Position;
 use hm_names::Kind;
 use std::alloc::{AllocError, Global};
 
-/// What is wrong, by the kind and the name alone.
+/// Returns what is wrong, by the kind and the name alone.
 fn kind_title(alloc: Global, kind: Kind, name: &str) -> Result<String, AllocError>
     ensures { IfOk result (λ text. string_bytes text ≡ kind_title_bytes kind name.now) }
 {
@@ -31,7 +31,7 @@ fn kind_title(alloc: Global, kind: Kind, name: &str) -> Result<String, AllocErro
     }
 }
 
-/// A name that one may be meant for, behind its qualifier.
+/// Returns the text about a similar name, with its qualifier.
 fn near_text(alloc: Global, qualifier: Option<&str>, name: &str) -> Result<String, AllocError>
     ensures { IfOk result (λ text. string_bytes text ≡ near_text (option_map (λ q. q.now) qualifier.entry) name.now) }
 {
@@ -41,7 +41,7 @@ fn near_text(alloc: Global, qualifier: Option<&str>, name: &str) -> Result<Strin
     }
 }
 
-/// What is known beyond the kind and the name.
+/// Returns the text of a detail beyond the kind and the name.
 fn detail_text(alloc: Global, detail: &Detail<'_>) -> Result<String, AllocError>
     ensures { IfOk result (λ text. string_bytes text ≡ detail_bytes (known_of detail.now)) }
 {
@@ -67,7 +67,7 @@ fn detail_text(alloc: Global, detail: &Detail<'_>) -> Result<String, AllocError>
     }
 }
 
-/// Where the first of two names is.
+/// Returns the text about the place of the first of two names.
 fn first_text(alloc: Global, other: Option<Position>) -> Result<String, AllocError>
     ensures { IfOk result (λ text. string_bytes text ≡ first_text other) }
 {
@@ -81,7 +81,7 @@ fn first_text(alloc: Global, other: Option<Position>) -> Result<String, AllocErr
     }
 }
 
-/// What is wrong, with what is known beyond the kind and the name.
+/// Returns what is wrong, with the detail beyond the kind and the name.
 pub(crate) fn fault_title(
     alloc: Global,
     kind: Kind,

@@ -31,7 +31,7 @@ fn other_at(page: &Page<'_>, detail: &Detail<'_>) -> Result<Option<Position>, Me
     }
 }
 
-/// Returns the message of a fault of which this is known.
+/// Returns the message of a fault with this detail.
 ///
 /// # Errors
 ///

@@ -1,4 +1,4 @@
-//! The first line of a message, behind its file's name.
+//! The first line of a message, after the name of its file.
 ghost use Rattle.std.specs.Prelude.{◌≡◌, IfOk, option_map, string_bytes};
 ghost use Rattle.hm_messages.specs.Headings.{actual_in, begin, end, exchange_title as exchange_title_bytes, expected_in, expression_title as expression_title_bytes, heading as heading_bytes, kind_of as kind_bytes, level_of as level_is, mistyped_title as mistyped_title_bytes, name_in, other_in, pattern_title as pattern_title_bytes, replaceable_title as replaceable_title_bytes, tag as tag_bytes, title as title_bytes, unsigned_title as unsigned_title_bytes};
 ghost use Rattle.hm_messages.specs.Subjects.{subject_of};
@@ -16,13 +16,13 @@ use std::alloc::{AllocError, Global};
 #[derive(Clone, Copy, Debug, PartialEq, Eq)]
 pub enum Paint {
     Plain,
-    /// With the escapes of a terminal.
+    /// For a reader, with the escapes of a terminal.
     Coloured,
     /// As a JSON object each, on a line of its own.
     Json,
 }
 
-/// What the message of a topic is called.
+/// Returns the level of a topic's message.
 pub(crate) fn level_of(topic: &Topic<'_>) -> Level
     ensures { result ≡ level_is (subject_of topic.now) }
 {
@@ -47,7 +47,7 @@ pub(crate) fn level_of(topic: &Topic<'_>) -> Level
     }
 }
 
-/// The report's word for what is wrong, or the word for a sort of note.
+/// Returns the report's word for what is wrong, or the word for a kind of note.
 pub(crate) fn kind_of(topic: &Topic<'_>) -> &'static str
     ensures { result.now ≡ kind_bytes (subject_of topic.now) }
 {
@@ -73,7 +73,7 @@ pub(crate) fn kind_of(topic: &Topic<'_>) -> &'static str
 }
 
 // Why: docs/DECISIONS.md, "Names of files".
-/// The name that a topic is about, if it is about one.
+/// Returns the name that a topic is about, if it is about one.
 pub(crate) fn name_in<'a>(topic: &Topic<'a>) -> Option<&'a str>
     ensures { option_map (λ name. name.now) result ≡ name_in (subject_of topic.now) }
 {
@@ -98,7 +98,7 @@ pub(crate) fn name_in<'a>(topic: &Topic<'a>) -> Option<&'a str>
     }
 }
 
-/// The type that is expected at a part, if a topic tells two types.
+/// Returns the type that is expected at a part, if a topic has two types.
 pub(crate) fn expected_in<'a>(topic: &Topic<'a>) -> Option<&'a str>
     ensures { option_map (λ text. text.now) result ≡ expected_in (subject_of topic.now) }
 {
@@ -108,7 +108,7 @@ pub(crate) fn expected_in<'a>(topic: &Topic<'a>) -> Option<&'a str>
     }
 }
 
-/// The type that a part or a definition has, if a topic tells it.
+/// Returns the type that a part or a definition has, if a topic has it.
 pub(crate) fn actual_in<'a>(topic: &Topic<'a>) -> Option<&'a str>
     ensures { option_map (λ text. text.now) result ≡ actual_in (subject_of topic.now) }
 {
@@ -119,7 +119,7 @@ pub(crate) fn actual_in<'a>(topic: &Topic<'a>) -> Option<&'a str>
     }
 }
 
-/// The other place that a topic names, if it names one.
+/// Returns the other place that a topic names, if it names one.
 pub(crate) fn other_in(topic: &Topic<'_>) -> Option<Position>
     ensures { result ≡ other_in (subject_of topic.now) }
 {
@@ -144,7 +144,7 @@ pub(crate) fn other_in(topic: &Topic<'_>) -> Option<Position>
     }
 }
 
-/// The word of a level, behind the escape that begins its colour.
+/// Returns the word of a level, after the escape that begins its colour.
 fn begin(paint: Paint, level: Level) -> &'static str
     ensures { result.now ≡ begin paint level }
 {
@@ -160,7 +160,7 @@ fn begin(paint: Paint, level: Level) -> &'static str
     }
 }
 
-/// The escape that ends a colour.
+/// Returns the escape that ends a colour.
 fn end(paint: Paint) -> &'static str
     ensures { result.now ≡ end paint }
 {
@@ -170,7 +170,7 @@ fn end(paint: Paint) -> &'static str
     }
 }
 
-/// What is said of an expression that ends at this place.
+/// Returns the text about an expression that ends at this place.
 fn expression_title(alloc: Global, name: &str, end: Place) -> Result<String, AllocError>
     ensures { IfOk result (λ text. string_bytes text ≡ expression_title_bytes name.now end) }
 {
@@ -178,7 +178,7 @@ fn expression_title(alloc: Global, name: &str, end: Place) -> Result<String, All
     format!(in alloc; "'{name}' has a type with another expression here (up to {line}:{column})")
 }
 
-/// What is said of a pattern that ends at this place.
+/// Returns the text about a pattern that ends at this place.
 fn pattern_title(alloc: Global, name: &str, end: Place) -> Result<String, AllocError>
     ensures { IfOk result (λ text. string_bytes text ≡ pattern_title_bytes name.now end) }
 {
@@ -186,7 +186,7 @@ fn pattern_title(alloc: Global, name: &str, end: Place) -> Result<String, AllocE
     format!(in alloc; "'{name}' has a type with another pattern here (up to {line}:{column})")
 }
 
-/// What is said of an expression that changes places with the one at this place.
+/// Returns the text about an expression that is exchanged with the one at this place.
 fn exchange_title(alloc: Global, name: &str, other: Place) -> Result<String, AllocError>
     ensures { IfOk result (λ text. string_bytes text ≡ exchange_title_bytes name.now other) }
 {
@@ -196,7 +196,7 @@ fn exchange_title(alloc: Global, name: &str, other: Place) -> Result<String, All
     )
 }
 
-/// In which way a definition has a type.
+/// Returns the text about the change with which a definition has a type.
 fn replaceable_title(alloc: Global, name: &str, way: Way) -> Result<String, AllocError>
     ensures { IfOk result (λ text. string_bytes text ≡ replaceable_title_bytes name.now way) }
 {
@@ -207,7 +207,7 @@ fn replaceable_title(alloc: Global, name: &str, way: Way) -> Result<String, Allo
     }
 }
 
-/// What is said of a part with these two types.
+/// Returns the text about a part with these two types.
 fn mistyped_title(alloc: Global, types: &BothTypes<'_>) -> Result<String, AllocError>
     ensures { IfOk result (λ text. string_bytes text ≡ mistyped_title_bytes types.now.end types.now.expected.now types.now.actual.now) }
 {
@@ -222,7 +222,7 @@ fn mistyped_title(alloc: Global, types: &BothTypes<'_>) -> Result<String, AllocE
     )
 }
 
-/// What is said of a signature that ends at this place.
+/// Returns the text about a signature that ends at this place.
 fn unsigned_title(alloc: Global, name: &str, end: Place, own: &str) -> Result<String, AllocError>
     ensures { IfOk result (λ text. string_bytes text ≡ unsigned_title_bytes name.now end own.now) }
 {
@@ -230,7 +230,7 @@ fn unsigned_title(alloc: Global, name: &str, end: Place, own: &str) -> Result<St
     format!(in alloc; "'{name}' has type '{own}' without this signature (up to {line}:{column})")
 }
 
-/// What is wrong, in a few words.
+/// Returns what is wrong, in a few words.
 pub(crate) fn title(alloc: Global, topic: &Topic<'_>) -> Result<String, AllocError>
     ensures { IfOk result (λ text. string_bytes text ≡ title_bytes (subject_of topic.now)) }
 {
@@ -255,7 +255,7 @@ pub(crate) fn title(alloc: Global, topic: &Topic<'_>) -> Result<String, AllocErr
     }
 }
 
-/// The word for an error, between brackets. Notes have none.
+/// Returns the word for an error, in square brackets. Notes have none.
 fn tag(alloc: Global, level: Level, kind: &str) -> Result<String, AllocError>
     ensures { IfOk result (λ text. string_bytes text ≡ tag_bytes level kind.now) }
 {
@@ -265,7 +265,7 @@ fn tag(alloc: Global, level: Level, kind: &str) -> Result<String, AllocError>
     }
 }
 
-/// The first line of a message, behind its file's name.
+/// Returns the first line of a message, after the name of its file.
 pub(crate) fn heading(
     alloc: Global,
     paint: Paint,

@@ -7,7 +7,7 @@ use crate::topic::Topic;
 use hm_messages_hints::{lexeme_help, syntax_help};
 use hm_names::Kind;
 
-/// The line that explains a kind of fault.
+/// Returns the line that explains a kind of fault.
 fn fault_sentence(kind: Kind) -> &'static str
     ensures { result.now ≡ fault_sentence kind }
 {
@@ -36,7 +36,7 @@ fn fault_sentence(kind: Kind) -> &'static str
     }
 }
 
-/// The line that explains a message; notes have none.
+/// Returns the line that explains a message. Notes have none.
 pub(crate) fn sentence(topic: &Topic<'_>) -> &'static str
     ensures { result.now ≡ sentence (subject_of topic.now) }
 {

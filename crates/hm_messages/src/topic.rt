@@ -1,11 +1,11 @@
-//! What a message tells.
+//! The topics of messages.
 use hm_lex::Place;
 use hm_messages_details::Detail;
 use hm_messages_hints::{Advice, LexemeHint};
 use hm_messages_json::Position;
 use hm_names::Kind;
 
-/// The name that a fault is about, as it is written, and what is known beside it.
+/// The name that a fault is about, as it is written, with the detail of the fault.
 #[derive(Clone, Copy)]
 pub struct Named<'a> {
     pub name: &'a str,
@@ -14,14 +14,14 @@ pub struct Named<'a> {
     pub other: Option<Position>,
 }
 
-/// What gives a definition a type.
+/// The change that gives a definition a type.
 #[derive(Clone, Copy)]
 pub enum Way {
     /// Another expression, up to this place.
     Expression(Place),
     /// Another pattern, up to this place.
     Pattern(Place),
-    /// That the expression changes places with the one that begins here.
+    /// An exchange of the expression with the one that begins here.
     Exchange(Place),
 }
 
@@ -36,20 +36,20 @@ pub struct BothTypes<'a> {
     pub actual: &'a str,
 }
 
-/// What a message tells. Names are as they are written.
+/// What a message is about. Names are as they are written.
 #[derive(Clone, Copy)]
 pub enum Topic<'a> {
     /// A fault of a module.
     Fault(Kind, Named<'a>),
-    /// A definition has a type in this way.
+    /// A definition has a type with this change.
     Replaceable(&'a str, Way),
     /// A part of a definition has one type, and another one is expected in its place.
     Mistyped(&'a str, BothTypes<'a>),
     /// A definition has this type without its signature, which ends here.
     Unsigned(&'a str, Place, &'a str),
-    /// A module is skipped, since it imports this one, which is faulty.
+    /// A module is skipped because it imports this one, which is faulty.
     Faulty(&'a str),
-    /// A module is skipped, since it imports this one, which is skipped.
+    /// A module is skipped because it imports this one, which is skipped.
     Skipped(&'a str),
     /// A source is too long.
     TooLong,
@@ -59,7 +59,7 @@ pub enum Topic<'a> {
     OpenComment,
     /// Too many brackets are open.
     TooDeep,
-    /// No modules are spelled: what is so where they end.
+    /// The tokens spell no modules. The advice is about the place of the fault.
     Syntax(Advice<'a>),
     /// A set has too many modules.
     TooMany,
@@ -69,7 +69,7 @@ pub enum Topic<'a> {
     Missing(&'a str),
     /// A module reaches itself by imports.
     Cycle(&'a str),
-    /// There was no memory to check a module.
+    /// Memory ran out in the check of a module.
     Exhausted(&'a str),
     /// A step of a cycle: the first module imports the second.
     Step(&'a str, &'a str),

@@ -1,7 +1,7 @@
-//! What is known of a fault beyond its kind and its name.
+//! A detail of a fault, beyond its kind and its name.
 use hm_lex::Place;
 
-/// Where something is defined.
+/// The place where something is defined: a module, and a name there.
 #[derive(Clone, Copy, Debug, PartialEq, Eq)]
 pub struct Origin<'a> {
     pub module: &'a str,
@@ -9,7 +9,7 @@ pub struct Origin<'a> {
     pub name: &'a str,
 }
 
-/// What is known of a fault beyond its kind and its name.
+/// A detail of a fault, beyond its kind and its name.
 #[derive(Clone, Copy, Debug, PartialEq, Eq)]
 pub enum Detail<'a> {
     Nothing,
@@ -17,7 +17,7 @@ pub enum Detail<'a> {
     Near(Option<&'a str>, &'a str),
     /// The name is unbound, and one of the Report's Prelude that this Prelude leaves out.
     LeftOut,
-    /// The name is ambiguous, and stands for both of these.
+    /// The name is ambiguous, and means both of these.
     Either(Origin<'a>, Origin<'a>),
     /// There is an earlier one of the same name, and the first is here.
     First(Place),

@@ -1,4 +1,4 @@
-//! What is known of a fault.
+//! The details of faults of names.
 ghost use Rattle.std.specs.Prelude.{◌≡◌, ◌⊎◌, List, IfOk, IfSome};
 ghost use Rattle.hm_syntax.specs.declared.ast.Module.{Module as ModuleTree};
 ghost use Rattle.hm_types.specs.Interfaces.{Exports as Interface};
@@ -19,7 +19,7 @@ use hm_scope_tables::{EntityRef, Scope};
 use hm_syntax::Module;
 use std::alloc::{AllocError, Global};
 
-/// Where an entity is defined.
+/// Returns where an entity is defined.
 fn origin_of<'a>(entity: &EntityRef<'a>) -> Origin<'a>
     ensures { entity_at result ≡ entity.now }
 {
@@ -29,7 +29,7 @@ fn origin_of<'a>(entity: &EntityRef<'a>) -> Origin<'a>
     }
 }
 
-/// What is known of a name that is unbound.
+/// Returns the detail of an unbound name, if there is one.
 fn unbound_detail<'a>(
     alloc: Global,
     scope: &Scope<'a>,
@@ -48,7 +48,7 @@ fn unbound_detail<'a>(
     }
 }
 
-/// Two entities for which a name stands in a namespace.
+/// Returns two entities that a name means in a namespace, if there are two.
 fn either_in<'a>(scope: &Scope<'a>, name: &str, space: Namespace) -> Option<Detail<'a>>
     ensures { IfSome result (λ detail. (f : Fault) (m : ModuleTree) (fs : List Interface) → f.kind ≡ Ambiguous → f.name ≡ name.now → IsScopeOf m fs scope.now
         → IsKnown m fs f (known_of detail)) }
@@ -58,7 +58,7 @@ fn either_in<'a>(scope: &Scope<'a>, name: &str, space: Namespace) -> Option<Deta
     Some(Detail::Either(origin_of(one.entity()), origin_of(other.entity())))
 }
 
-/// What is known of a name that is ambiguous.
+/// Returns the detail of an ambiguous name, if there is one.
 fn ambiguous_detail<'a>(scope: &Scope<'a>, fault: &Fault) -> Detail<'a>
     requires { fault.now.kind ≡ Ambiguous }
     ensures { (m : ModuleTree) (fs : List Interface) → IsScopeOf m fs scope.now → IsKnown m fs fault.now (known_of result) }
@@ -72,7 +72,7 @@ fn ambiguous_detail<'a>(scope: &Scope<'a>, fault: &Fault) -> Detail<'a>
     Detail::Nothing
 }
 
-/// What is known of a name that is a second one.
+/// Returns the detail of a second declaration: the first one, if it is found.
 fn second_detail<'a>(
     alloc: Global,
     program: &Module,
@@ -87,7 +87,7 @@ fn second_detail<'a>(
     }
 }
 
-/// What is known of a wrong number of arguments.
+/// Returns the detail of a wrong number of arguments, if there is one.
 fn arity_detail<'a>(
     alloc: Global,
     site: &Site<'_, '_, '_>,
@@ -103,7 +103,7 @@ fn arity_detail<'a>(
     }
 }
 
-/// What is known of a wrong number of patterns.
+/// Returns the detail of a wrong number of patterns, if there is one.
 fn length_detail<'a>(
     alloc: Global,
     program: &Module,
