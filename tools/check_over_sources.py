@@ -1,9 +1,11 @@
 #!/usr/bin/env python3
 """Proves functions of a crate without proving the crates below it first.
 
-`check_over_sources.py CRATE [PART..]` checks the functions of CRATE whose path contains a PART, and the functions of the crate that they call; without
-a PART, all of them. The prover reads the crates below as sources, and takes their contracts as they are. On a fresh clone that takes one to two
-minutes before the first function, where `rt check` would prove all crates below. What it proves is kept in the crate's out/ for its next run.
+`check_over_sources.py CRATE [PART..]` checks the functions of CRATE that a PART names, and all that these call, in the crates below too; without a PART,
+all of CRATE. A PART is a module or a function: a name that a check prints after `fn`, or its end, as `references` or `ast::ExprKind::drop`. It must
+name one thing. The prover reads the crates below as sources, and proves of them only what is called. On a fresh clone the first line comes after some
+seconds in a low crate and a minute near the top, where `rt check` would prove all crates below first. What it proves is kept in the crate's out/
+for its next run.
 
 The exit status is that of the check. Only `rt ci` is the verdict: this one says nothing of the crates below.
 """
