@@ -10,7 +10,7 @@ Prints how many faults have a place (told), and how many of these places overlap
 that are at most two tokens wider than the slip (tight; three tokens always are). Then how many tokens a place and a slip have (width), and how
 much longer runs with messages take. hmc's place is its note, and GHC's, with `--ghc`, its first error. With `--show` the first notes that miss are printed.
 """
-# Why: docs/DECISIONS.md, "Hits of notes", "Time of notes", "Misses of notes", "Sorts of slips".
+# Why: docs/DECISIONS.md, "Hits of notes", "Widths of notes", "Time of notes", "Misses of notes", "Sorts of slips".
 import argparse
 import os
 import random
