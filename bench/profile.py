@@ -5,6 +5,7 @@
 that owns them: an allocator, a kind of table, a group of crates. `valgrind --tool=callgrind` counts, so other work on the machine doesn't matter.
 Ends with 2 if there is no `valgrind`.
 """
+# Why: docs/DECISIONS.md, "Blocks of memory".
 import collections
 import os
 import re
