@@ -64,6 +64,10 @@ def doubling_synonyms(count):
     return module(["type T0 = Int"] + [f"type T{n} = (T{n - 1}, T{n - 1})" for n in range(1, count)] + ["x = True"])
 
 
+def faults_of_types(count):
+    return "module A where {\n" + " ;\n".join(f"f{at} :: Int -> Char ; f{at} x = x" for at in range(count)) + " }\n"
+
+
 def faults(count):
     return module(f"f{n} = y" for n in range(count))
 
@@ -91,6 +95,7 @@ KINDS = [
 # the same for inputs with faults, whose messages are printed too
 FAULTY = [
     ("faults of one module, each with its message", faults, 5_000),
+    ("definitions without their declared type, each with its message", faults_of_types, 5_000),
     ("faulty modules, and as many that are skipped for them", chained_faults, 1_000),
 ]
 

@@ -10,7 +10,7 @@ use crate::costs::{Effort, cost_of};
 use crate::cutting::header_of;
 use crate::layout::{Layout, Other, with_probe};
 use crate::mends::Span;
-use crate::search::{Culprit, bytes_of, reading_of};
+use crate::search::{Culprit, bytes_of, pays_for_reading, reading_of};
 use crate::tokens::{Lexed, Run, one};
 use crate::trial::{Question, judged};
 use hm_names::Fault;
@@ -261,6 +261,9 @@ pub fn part_types_of(
     ensures { IfOk result (λ both. IfSome both (λ types. HasPartTypes question.now.source.now question.now.name.now (map arc_value question.now.imports.now)
         found.now.fault.now.name part (string_bytes types.expected) (string_bytes types.actual))) }
 {
+    if !pays_for_reading(effort, question.source) {
+        return Ok(None);
+    }
     let Some(reading) = reading_of(alloc, question.source)? else {
         return Ok(None);
     };

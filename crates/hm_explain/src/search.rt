@@ -73,6 +73,11 @@ impl Reading {
     }
 }
 
+/// Returns whether a source is short enough for notes and the effort pays for reading it. `effort` is less by what that costs.
+pub(crate) fn pays_for_reading(effort: &mut Effort, source: &[u8]) -> bool {
+    source.len() <= LONGEST && effort.pays(source.len())
+}
+
 /// Returns the tokens of a source with their outline, if it has tokens.
 pub(crate) fn reading_of(alloc: Global, source: &[u8]) -> Result<Option<Reading>, AllocError> {
     let tokens = match lex(alloc, source) {
@@ -303,7 +308,7 @@ pub fn mend_of(
 {
     let source = question.source;
     effort.begin();
-    if source.len() > LONGEST || !effort.pays(source.len()) {
+    if !pays_for_reading(effort, source) {
         return Ok(None);
     }
     let tokens = match lex(alloc, source) {

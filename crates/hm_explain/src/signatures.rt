@@ -9,7 +9,7 @@ use crate::costs::{Effort, cost_of};
 use crate::cutting::signature_of;
 use crate::layout::{Layout, with_alone};
 use crate::part_typing::{FUNCTION, TypeFault, layout_of, others_of, scheme_in};
-use crate::search::{Culprit, part_of, reading_of};
+use crate::search::{Culprit, part_of, pays_for_reading, reading_of};
 use crate::trial::{Question, has_types_in};
 use hm_types_display::scheme_text;
 use std::alloc::{AllocError, Global};
@@ -90,6 +90,9 @@ pub fn unsigned_of(
     ensures { IfOk result (λ found_type. IfSome found_type (λ u. IsUnsigned question.now.source.now question.now.name.now
         (map arc_value question.now.imports.now) found.now.fault.now.name u.signature (string_bytes u.own))) }
 {
+    if !pays_for_reading(effort, question.source) {
+        return Ok(None);
+    }
     let Some(reading) = reading_of(alloc, question.source)? else {
         return Ok(None);
     };
