@@ -19,7 +19,7 @@ use crate::faulty::{FaultyModule, noted_messages};
 use hm_explain::{Effort, Question};
 use hm_messages::{MessageFault, Page, Paint, fault_message};
 use hm_messages_details::{Detail, Site, detail_of};
-use hm_names::{Fault, Kind, TypeLimits};
+use hm_names::{Fault, Kind, NO_SYNONYMS};
 use hm_scope_entities::Tables;
 use hm_scope_imports::{interfaces_of, scope_of};
 use hm_scope_tables::Scope;
@@ -31,12 +31,6 @@ use std::sync::Arc;
 
 /// For how many faults of a module its scope and its trees are searched.
 const MOST_SEARCHES: usize = 16;
-
-/// Limits under which no synonym is expanded.
-const NO_SYNONYMS: TypeLimits = TypeLimits {
-    levels: 0,
-    nodes: 0,
-};
 
 /// Returns the interfaces of the modules with these numbers, if all are published.
 fn published(

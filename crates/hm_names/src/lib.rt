@@ -29,7 +29,7 @@ pub use crate::monotypes::monotype;
 pub use crate::namespace::Namespace;
 pub use crate::scheme_table::Schemes;
 pub use crate::special::tuple_arity;
-pub use crate::type_limits::{TypeLimits, WIDE_LIMITS};
+pub use crate::type_limits::{NO_SYNONYMS, TypeLimits, WIDE_LIMITS};
 pub use crate::type_variables::TypeVariables;
 pub use crate::variables::{
     LentNames, add_all_bound, add_constructor, add_constructors, add_pattern, add_patterns,

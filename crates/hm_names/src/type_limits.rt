@@ -16,3 +16,9 @@ pub const WIDE_LIMITS: TypeLimits = TypeLimits {
     levels: 1 << 20,
     nodes: 1 << 27,
 };
+
+/// Limits under which no synonym is expanded.
+pub const NO_SYNONYMS: TypeLimits = TypeLimits {
+    levels: 0,
+    nodes: 0,
+};

@@ -24,7 +24,9 @@ use crate::declared_synonyms::{OwnSynonyms, own_synonyms, reference_graph};
 use crate::finished_synonyms::{DeclaredSynonyms, add_synonyms};
 use crate::phases::{TreeFaults, by_phases};
 use crate::recursive_synonyms::synonym_faults;
-use hm_names::{Core, Exported, Fault, Namespace, ScopeFault, TypeLimits, WIDE_LIMITS};
+use hm_names::{
+    Core, Exported, Fault, NO_SYNONYMS, Namespace, ScopeFault, TypeLimits, WIDE_LIMITS,
+};
 use hm_scope_entities::Tables;
 use hm_scope_exports::{ModuleExports, exported_in, module_exports};
 use hm_scope_imports::{import_faults, interfaces_of, scope_of};
@@ -35,12 +37,6 @@ use hm_types::{Interface, Text};
 use hm_types_prelude::SharedPrelude;
 use std::alloc::{AllocError, Global};
 use std::sync::Arc;
-
-/// Limits under which a walk expands no synonym.
-const NO_SYNONYMS: TypeLimits = TypeLimits {
-    levels: 0,
-    nodes: 0,
-};
 
 /// A module's resolved declarations, and the faults of its trees by phase: declaration lists; names; numbers of arguments with recursive
 /// synonyms.
