@@ -13,8 +13,6 @@ mod lexeme_texts;
 mod mark;
 mod syntax_hints;
 mod syntax_texts;
-#[cfg(test)]
-mod tests;
 
 pub use crate::brackets::open_bracket;
 pub use crate::change::{Change, Range, Repair, Scope};

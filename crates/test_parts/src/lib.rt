@@ -1,8 +1,10 @@
-//! Tests of tokens, trees, the nesting of sources, graphs and import plans.
+//! Tests of tokens, trees, the nesting of sources, graphs, import plans and hints.
 #![tactic(auto)]
 
 #[cfg(test)]
 mod groups;
+#[cfg(test)]
+mod hints;
 #[cfg(test)]
 mod nesting;
 #[cfg(test)]

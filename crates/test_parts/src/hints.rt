@@ -1,4 +1,6 @@
-use crate::{
+//! Hints of lexical and syntax faults, as tables.
+
+use hm_messages_hints::{
     Feature, LexemeHint, SyntaxHint, feature_of, lexeme_hint, open_bracket, operator_in,
     syntax_hint,
 };
