@@ -77,7 +77,10 @@ BOMBS = [
     ("lambdas that bind", module("x = " + nested("(\\y -> (y, y)) (", "1", ")", 30)), GOOD, True),
     ("a guard of pairs", module("x | True = a25 | otherwise = a25", *PAIRS[:26]), GOOD, True),
     # synonyms and newtypes
-    ("a synonym that nothing uses", module(*SYNONYMS, "x = 1"), GOOD, True),
+    ("synonyms that nothing uses", module(*SYNONYMS, "x = 1", head="A (x)"), GOOD, False),
+    ("1,000 synonyms that nothing uses", module(*chain("type T0 = (Int, Int)", "type T{n} = (T{m}, T{m})", 999), "x = 1", head="A (x)"), GOOD, False),
+    ("a small synonym below them", module(*SYNONYMS, "x :: T3", "x = x", head="A (x, T2)"), GOOD, False),
+    ("a synonym that nothing else uses", module(*SYNONYMS, "x = 1"), GOOD, True),
     ("a synonym that is exported", module(*SYNONYMS, head="A (T30)"), GOOD, True),
     ("a synonym in a signature", module(*SYNONYMS, "x :: T30", "x = x"), GOOD, True),
     ("a synonym within itself", module(DOUBLED, "x :: " + nested("D (", "Int", ")", 30), "x = x"), GOOD, True),

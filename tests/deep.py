@@ -38,6 +38,10 @@ KINDS = {
     "arguments of one function": ("f a = a", " 1", "", "", ""),
     "elements of a list": ("f a = [a", ",a", "]", "", ""),
     "colons of what is bound": ("f a = ", "a:", "[]", "", ""),
+    # a module with synonyms is walked over once more
+    "lambdas beside a synonym": ("type S = () ; f = ", "\\x-> ", "1", "", ""),
+    "lets beside a synonym": ("type S = () ; f = ", "let{}in ", "1", "", ""),
+    "colons beside a synonym": ("type S = () ; f a = ", "a:", "[]", "", ""),
     "a declared type": ("f :: a ->", "Int->", "a", "", "; f = f"),
 }
 

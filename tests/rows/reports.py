@@ -160,6 +160,47 @@ DECLARED = [
 
 # lists of exports
 EXPORTED = [
+    # a synonym is expanded if it is exported, or if a type names it: in a signature of any level, in an expression, in a constructor, or on the
+    # right side of such a synonym
+    (
+        "module A (x) where { type S = (Int, Int) ; type T = (S, S) ; x = 1 }",
+        0,
+        "module A\n  val x = A.x :: Int\n1 modules: 1 good, 0 faulty, 0 skipped\n",
+    ),
+    (
+        "module A (x, T) where { type S = (Int, Int) ; type T = (S, S) ; x = 1 }",
+        0,
+        "module A\n  syn T/0 = A.T :: ((Int, Int), (Int, Int))\n  val x = A.x :: Int\n1 modules: 1 good, 0 faulty, 0 skipped\n",
+    ),
+    (
+        "module A (x) where { type S = Bool ; type T = [S] ; x = let { y :: T ; y = y } in y }",
+        0,
+        "module A\n  val x = A.x :: [Bool]\n1 modules: 1 good, 0 faulty, 0 skipped\n",
+    ),
+    (
+        "module A (x) where { type S = Bool ; x y = z where { z = w y ; w :: S -> S ; w v = v } }",
+        0,
+        "module A\n  val x = A.x :: Bool -> Bool\n1 modules: 1 good, 0 faulty, 0 skipped\n",
+    ),
+    (
+        "module A (x, z) where { type S = Bool ; type T = S ; x y = case y of { True -> (y :: T) ; v -> v } ; z = \\y -> [if True then (y :: S) else y] }",
+        0,
+        "module A\n  val x = A.x :: Bool -> Bool\n  val z = A.z :: Bool -> [Bool]\n1 modules: 1 good, 0 faulty, 0 skipped\n",
+    ),
+    (
+        "module A (x, B(..), D(..)) where { type S = Bool ; type T = [S] ; type U = Char ; data B = C T ; newtype D = E U ; x y | (y :: S) = y | True = y }",
+        0,
+        "module A\n"
+        "  type B/0 = A.B\n"
+        "  type D/0 = A.D\n"
+        "  con C = A.C :: [Bool] -> A.B\n"
+        "  con E = A.E :: Char -> A.D\n"
+        "  val x = A.x :: Bool -> Bool\n"
+        "1 modules: 1 good, 0 faulty, 0 skipped\n",
+    ),
+    # a synonym that nothing uses has its faults all the same
+    ("module A (x) where { type S = (S, S) ; type T = Y ; x = 1 }", 1, "faulty A\n  1:49 unbound Y\n1 modules: 0 good, 1 faulty, 0 skipped\n"),
+    ("module A (x) where { type S = (T, T) ; type T = S ; x = 1 }", 1, "faulty A\n  1:27 recursive S\n  1:45 recursive T\n1 modules: 0 good, 1 faulty, 0 skipped\n"),
     (
         "module A where { type P b a = (a, b) ; newtype W a = W [a] }",
         0,

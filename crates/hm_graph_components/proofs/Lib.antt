@@ -15,3 +15,4 @@ pub mod Walks
 pub mod Cycles
 pub mod LoneNode
 pub mod WorkedOrders
+pub mod SpreadMarks

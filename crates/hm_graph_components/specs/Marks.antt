@@ -29,6 +29,11 @@ pub record MarksReached (graph : Graph) (from : ℕ) (marks : List Bool) : Type 
   pub nodes : length marks ≡ length graph
   pub reached : (k : ℕ) → IsMarked marks k ↔ Reaches graph from k
 
+-- the marks are at the nodes that had one, and at those that these reach
+pub record Spreads (graph : Graph) (old new : List Bool) : Type 0 where
+  pub nodes : length new ≡ length old
+  pub marks : (k : ℕ) → IsMarked new k ↔ (IsMarked old k ⊎ ((j : ℕ) × (IsMarked old j × Reaches graph j k)))
+
 -- the mark at y in the row of x
 abbrev pub bit : List (Vec Bool Global) → ℕ → ℕ → Bool
 bit table x y = slice_index_or (slice_index_or (lists table) x []) y false

@@ -8,6 +8,8 @@ mod groups;
 pub mod laws;
 mod recursion;
 mod reversal;
+mod spreading;
 
 pub use groups::{empty_rows, groups_of, mark_reached, reached_from};
 pub use recursion::{joined, recursive_marks};
+pub use spreading::spread;

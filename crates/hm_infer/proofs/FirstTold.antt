@@ -15,7 +15,8 @@ use Rattle.hm_names.specs.Variables.{pattern_variables, patterns_variables}
 use Rattle.hm_names.specs.Texts.{same_text}
 use Rattle.hm_names.specs.Syntax.{Known, name_of, pattern_of, patterns_of, bindings_of, is_continued, add_clause, bound_by, declaration_count}
 use Rattle.hm_syntax.specs.declared.ast.Module.{Module}
-use Rattle.hm_names.specs.Cores.{IsSomeCore}
+use Rattle.hm_names.specs.declared.cores.Exported.{Exported}
+use Rattle.hm_names.specs.Cores.{IsSomeCore, kept}
 use Rattle.hm_names.specs.Entities.{own as own_entity}
 use Rattle.hm_names.specs.Resolved.{Resolver, top, declaration_with}
 use Rattle.hm_names.specs.Untyped.{Begins, by_clause, by_pattern, by_number, IsTold, here, behind, bare, first_text}
@@ -229,14 +230,14 @@ module _ (c : ModuleCore) (k : Known) (home : k.home ≡ c.name) (all : Declarat
 
 -- The clauses of a core are named by their texts
 
-by_text : (m : Module) (r : Resolver) (ds : List Declaration) → AreByText (λ x. global (own_entity m x)) (map (declaration_with r (top m) []) ds)
-by_text m r [] = tt
-by_text m r (data_declaration n ps cs ∷ ds) = by_text m r ds
-by_text m r (newtype_declaration n ps b ∷ ds) = by_text m r ds
-by_text m r (synonym_declaration n ps b ∷ ds) = by_text m r ds
-by_text m r (signature ns b ∷ ds) = by_text m r ds
-by_text m r (clause n ps g ∷ ds) = (refl, by_text m r ds)
-by_text m r (pattern_binding l c p g ∷ ds) = by_text m r ds
+by_text : (m : Module) (r : Resolver) (es : List Exported) (ds : List Declaration) → AreByText (λ x. global (own_entity m x)) (map (kept es) (map (declaration_with r (top m) []) ds))
+by_text m r es [] = tt
+by_text m r es (data_declaration n ps cs ∷ ds) = by_text m r es ds
+by_text m r es (newtype_declaration n ps b ∷ ds) = by_text m r es ds
+by_text m r es (synonym_declaration n ps b ∷ ds) = by_text m r es ds
+by_text m r es (signature ns b ∷ ds) = by_text m r es ds
+by_text m r es (clause n ps g ∷ ds) = (refl, by_text m r es ds)
+by_text m r es (pattern_binding l c p g ∷ ds) = by_text m r es ds
 
 pub core_by_text : (c : ModuleCore) → IsSomeCore c → (own : List ℕ → Name) × AreByText own c.decls
-core_by_text c s = ((λ x. global (own_entity s.module_of x)), subst (AreByText (λ x. global (own_entity s.module_of x))) (sym s.is_core.trees) (by_text s.module_of s.is_core.resolver s.module_of.decls))
+core_by_text c s = ((λ x. global (own_entity s.module_of x)), subst (AreByText (λ x. global (own_entity s.module_of x))) (sym s.is_core.trees) (by_text s.module_of s.is_core.resolver c.exported_types s.module_of.decls))

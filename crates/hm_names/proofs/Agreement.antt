@@ -217,97 +217,117 @@ module _ (m : Module) (fs : List Interface) (r s : Resolver) (a : IsResolver m f
         same_type r s t (λ o q. alike o (clear_type m fs [] t (clean n ps t c) o q) (λ e g qs u d. referred k (same_right_side k) left n ps t l c h all o q e g qs u d))
 
     -- each type of the module has one resolution
-    type_agree : (xs : Locals) (t : TypeTree) → ¬ (InType (Wrong m fs) xs t) → type_with r t ≡ type_with s t
+    pub type_agree : (xs : Locals) (t : TypeTree) → ¬ (InType (Wrong m fs) xs t) → type_with r t ≡ type_with s t
     type_agree xs t h = same_type r s t (λ n c. alike n (clear_type m fs xs t h n c) (λ e g ps u d.
         same_right_side (length (synonyms m.decls)) (synonyms m.decls) d.name ps u (omega arith) d.stands (is_synonym m.decls d.name ps u d.stands) (λ o qs v c. inl (is_synonym m.decls o qs v c))))
 
-    types_agree : (xs : Locals) (ts : TypeTrees) → ¬ (InTypes (Wrong m fs) xs ts) → types_with r ts ≡ types_with s ts
-    types_agree xs no_types h = refl
-    types_agree xs (more_types t ts) h = ap₂ more_types (type_agree xs t (λ g. h (inl g))) (types_agree xs ts (λ g. h (inr g)))
+-- both replace a name in one way where it has one meaning
+pub record SameNames (m : Module) (fs : List Interface) (r s : Resolver) : Type 0 where
+  pub local : (xs : Locals) (n : Identifier) → IsLocal xs n → r.name Values xs n ≡ s.name Values xs n
+  pub value : (xs : Locals) (n : Identifier) (e : Entity) → ¬ (IsLocal xs n) → Means m fs Values n e → r.name Values xs n ≡ s.name Values xs n
+  pub special : (xs : Locals) (n : Identifier) → IsSpecial n → r.name Constructors xs n ≡ s.name Constructors xs n
+  pub constructor : (xs : Locals) (n : Identifier) (e : Entity) → ¬ (IsSpecial n) → Means m fs Constructors n e → r.name Constructors xs n ≡ s.name Constructors xs n
+  pub type : (xs : Locals) (n : Identifier) (e : Entity) → Means m fs Types n e → r.name Types xs n ≡ s.name Types xs n
 
-    constructor_agree : (xs : Locals) (b : Binders) (c : DataConstructor) → ¬ (InConstructor (Wrong m fs) xs c) → constructor_with r b c ≡ constructor_with s b c
-    constructor_agree xs b (data_constructor n ts) h = ap (data_constructor (b n)) (types_agree xs ts h)
+pub same_names : (m : Module) (fs : List Interface) (r s : Resolver) → IsResolver m fs r → IsResolver m fs s → SameNames m fs r s
+same_names m fs r s a b = record {
+  local = λ xs n p. a.local xs n p ∙ sym (b.local xs n p);
+  value = λ xs n e p g. a.value xs n e p g ∙ sym (b.value xs n e p g);
+  special = λ xs n p. a.special xs n p ∙ sym (b.special xs n p);
+  constructor = λ xs n e p g. a.constructor xs n e p g ∙ sym (b.constructor xs n e p g);
+  type = λ xs n e g. a.type xs n e g ∙ sym (b.type xs n e g);
+}
 
-    constructors_agree : (xs : Locals) (b : Binders) (cs : DataConstructors) → ¬ (InConstructors (Wrong m fs) xs cs) → constructors_with r b cs ≡ constructors_with s b cs
-    constructors_agree xs b no_constructors h = refl
-    constructors_agree xs b (more_constructors c cs) h = ap₂ more_constructors (constructor_agree xs b c (λ g. h (inl g))) (constructors_agree xs b cs (λ g. h (inr g)))
+-- Trees without a node at which Q holds have one resolution, if Q holds at each wrong name, and types without such a node have one
+module _ (m : Module) (fs : List Interface) (r s : Resolver) (names : SameNames m fs r s) (Q : Rule) (wrong : (xs : Locals) (t : Node) → Wrong m fs xs t → Q xs t)
+    (type_agrees : (xs : Locals) (t : TypeTree) → ¬ (InType Q xs t) → type_with r t ≡ type_with s t) where
+  types_agree : (xs : Locals) (ts : TypeTrees) → ¬ (InTypes Q xs ts) → types_with r ts ≡ types_with s ts
+  types_agree xs no_types h = refl
+  types_agree xs (more_types t ts) h = ap₂ more_types (type_agrees xs t (λ g. h (inl g))) (types_agree xs ts (λ g. h (inr g)))
 
-    used : (k : Namespace) (xs ys : Locals) (t : Node) (n : Identifier) → Uses ys t k n → ¬ (Wrong m fs ys t) → ((e : Entity) → Means m fs k n e → r.name k xs n ≡ s.name k xs n) → r.name k xs n ≡ s.name k xs n
-    used k xs ys t n u h f = stably m fs k n (name_discrete (r.name k xs n) (s.name k xs n)) (λ z. h (Unbound, (n, unbound u z))) (λ z. h (Ambiguous, (n, ambiguous u z))) f
+  constructor_agree : (xs : Locals) (b : Binders) (c : DataConstructor) → ¬ (InConstructor Q xs c) → constructor_with r b c ≡ constructor_with s b c
+  constructor_agree xs b (data_constructor n ts) h = ap (data_constructor (b n)) (types_agree xs ts h)
 
-    constructor_name_agree : (xs ys : Locals) (t : Node) (n : Identifier) → (¬ (IsSpecial n) → Uses ys t Constructors n) → ¬ (Wrong m fs ys t) → r.name Constructors xs n ≡ s.name Constructors xs n
-    constructor_name_agree xs ys t n u h = elim (special_dec n) [
-      | yes p ↦ a.special xs n p ∙ sym (b.special xs n p)
-      | no p ↦ used Constructors xs ys t n (u p) h (λ e g. a.constructor xs n e p g ∙ sym (b.constructor xs n e p g))
-    ]
+  constructors_agree : (xs : Locals) (b : Binders) (cs : DataConstructors) → ¬ (InConstructors Q xs cs) → constructors_with r b cs ≡ constructors_with s b cs
+  constructors_agree xs b no_constructors h = refl
+  constructors_agree xs b (more_constructors c cs) h = ap₂ more_constructors (constructor_agree xs b c (λ g. h (inl g))) (constructors_agree xs b cs (λ g. h (inr g)))
 
-    value_agree : (xs : Locals) (n : Identifier) → ¬ (Wrong m fs xs (at_expression (variable_expression n))) → r.name Values xs n ≡ s.name Values xs n
-    value_agree xs n h = elim (local_dec xs n) [
-      | yes p ↦ a.local xs n p ∙ sym (b.local xs n p)
-      | no p ↦ used Values xs xs (at_expression (variable_expression n)) n (a_variable p) h (λ e g. a.value xs n e p g ∙ sym (b.value xs n e p g))
-    ]
+  used : (k : Namespace) (xs ys : Locals) (t : Node) (n : Identifier) → Uses ys t k n → ¬ (Q ys t) → ((e : Entity) → Means m fs k n e → r.name k xs n ≡ s.name k xs n) → r.name k xs n ≡ s.name k xs n
+  used k xs ys t n u h f = stably m fs k n (name_discrete (r.name k xs n) (s.name k xs n)) (λ z. h (wrong ys t (Unbound, (n, unbound u z)))) (λ z. h (wrong ys t (Ambiguous, (n, ambiguous u z)))) f
 
-    mutual
-      pattern_agree : (xs : Locals) (b : Binders) (p : Pattern) → ¬ (InPattern (Wrong m fs) xs p) → pattern_with r b p ≡ pattern_with s b p
-      pattern_agree xs b (variable_pattern n) h = refl
-      pattern_agree xs b (bound_pattern n p) h = ap (bound_pattern (b n)) (pattern_agree xs b p h)
-      pattern_agree xs b (constructor_pattern n ps) h = ap₂ constructor_pattern (constructor_name_agree [] xs (at_pattern (constructor_pattern n ps)) n (λ p. a_pattern p) (λ g. h (inl g))) (patterns_agree xs b ps (λ g. h (inr g)))
-      pattern_agree xs b (literal_pattern l) h = refl
-      pattern_agree xs b wildcard_pattern h = refl
-      pattern_agree xs b (tuple_pattern ps) h = ap tuple_pattern (patterns_agree xs b ps h)
-      pattern_agree xs b (list_pattern ps) h = ap list_pattern (patterns_agree xs b ps h)
-      pattern_agree xs b (lazy_pattern p) h = ap lazy_pattern (pattern_agree xs b p h)
+  constructor_name_agree : (xs ys : Locals) (t : Node) (n : Identifier) → (¬ (IsSpecial n) → Uses ys t Constructors n) → ¬ (Q ys t) → r.name Constructors xs n ≡ s.name Constructors xs n
+  constructor_name_agree xs ys t n u h = elim (special_dec n) [
+    | yes p ↦ names.special xs n p
+    | no p ↦ used Constructors xs ys t n (u p) h (λ e g. names.constructor xs n e p g)
+  ]
 
-      patterns_agree : (xs : Locals) (b : Binders) (ps : Patterns) → ¬ (InPatterns (Wrong m fs) xs ps) → patterns_with r b ps ≡ patterns_with s b ps
-      patterns_agree xs b no_patterns h = refl
-      patterns_agree xs b (more_patterns p ps) h = ap₂ more_patterns (pattern_agree xs b p (λ g. h (inl g))) (patterns_agree xs b ps (λ g. h (inr g)))
+  value_agree : (xs : Locals) (n : Identifier) → ¬ (Q xs (at_expression (variable_expression n))) → r.name Values xs n ≡ s.name Values xs n
+  value_agree xs n h = elim (local_dec xs n) [
+    | yes p ↦ names.local xs n p
+    | no p ↦ used Values xs xs (at_expression (variable_expression n)) n (a_variable p) h (λ e g. names.value xs n e p g)
+  ]
 
-    mutual
-      expression_agree : (xs : Locals) (e : Expression) → ¬ (InExpression (Wrong m fs) xs e) → expression_with r xs e ≡ expression_with s xs e
-      expression_agree xs (variable_expression n) h = ap variable_expression (value_agree xs n h)
-      expression_agree xs (constructor_expression n) h = ap constructor_expression (constructor_name_agree [] xs (at_expression (constructor_expression n)) n (λ p. a_constructor p) h)
-      expression_agree xs (literal_expression l) h = refl
-      expression_agree xs (application f e) h = ap₂ application (expression_agree xs f (λ g. h (inl g))) (expression_agree xs e (λ g. h (inr g)))
-      expression_agree xs (lambda ps e) h = ap₂ lambda (patterns_agree xs bare ps (λ g. h (inl (inr g)))) (expression_agree (with_patterns ps xs) e (λ g. h (inr g)))
-      expression_agree xs (let_expression ds e) h = ap₂ let_expression (declarations_agree bare (with_list ds xs) ds (λ g. h (inl (inr g)))) (expression_agree (with_list ds xs) e (λ g. h (inr g)))
-      expression_agree xs (if_expression a b c) h = λ i. if_expression (expression_agree xs a (λ g. h (inl g)) i) (expression_agree xs b (λ g. h (inr (inl g))) i) (expression_agree xs c (λ g. h (inr (inr g))) i)
-      expression_agree xs (case_expression e bs) h = ap₂ case_expression (expression_agree xs e (λ g. h (inl g))) (alternatives_agree xs bs (λ g. h (inr g)))
-      expression_agree xs (tuple_expression es) h = ap tuple_expression (expressions_agree xs es h)
-      expression_agree xs (list_expression es) h = ap list_expression (expressions_agree xs es h)
-      expression_agree xs (typed_expression e t) h = ap₂ typed_expression (expression_agree xs e (λ g. h (inl g))) (type_agree xs t (λ g. h (inr g)))
+  mutual
+    pattern_agree : (xs : Locals) (b : Binders) (p : Pattern) → ¬ (InPattern Q xs p) → pattern_with r b p ≡ pattern_with s b p
+    pattern_agree xs b (variable_pattern n) h = refl
+    pattern_agree xs b (bound_pattern n p) h = ap (bound_pattern (b n)) (pattern_agree xs b p h)
+    pattern_agree xs b (constructor_pattern n ps) h = ap₂ constructor_pattern (constructor_name_agree [] xs (at_pattern (constructor_pattern n ps)) n (λ p. a_pattern p) (λ g. h (inl g))) (patterns_agree xs b ps (λ g. h (inr g)))
+    pattern_agree xs b (literal_pattern l) h = refl
+    pattern_agree xs b wildcard_pattern h = refl
+    pattern_agree xs b (tuple_pattern ps) h = ap tuple_pattern (patterns_agree xs b ps h)
+    pattern_agree xs b (list_pattern ps) h = ap list_pattern (patterns_agree xs b ps h)
+    pattern_agree xs b (lazy_pattern p) h = ap lazy_pattern (pattern_agree xs b p h)
 
-      expressions_agree : (xs : Locals) (es : Expressions) → ¬ (InExpressions (Wrong m fs) xs es) → expressions_with r xs es ≡ expressions_with s xs es
-      expressions_agree xs no_expressions h = refl
-      expressions_agree xs (more_expressions e es) h = ap₂ more_expressions (expression_agree xs e (λ g. h (inl g))) (expressions_agree xs es (λ g. h (inr g)))
+    patterns_agree : (xs : Locals) (b : Binders) (ps : Patterns) → ¬ (InPatterns Q xs ps) → patterns_with r b ps ≡ patterns_with s b ps
+    patterns_agree xs b no_patterns h = refl
+    patterns_agree xs b (more_patterns p ps) h = ap₂ more_patterns (pattern_agree xs b p (λ g. h (inl g))) (patterns_agree xs b ps (λ g. h (inr g)))
 
-      alternatives_agree : (xs : Locals) (bs : Alternatives) → ¬ (InAlternatives (Wrong m fs) xs bs) → alternatives_with r xs bs ≡ alternatives_with s xs bs
-      alternatives_agree xs no_alternatives h = refl
-      alternatives_agree xs (more_alternatives (alternative p q) bs) h =
-          λ i. more_alternatives (alternative (pattern_agree xs bare p (λ g. h (inl (inr (inl g)))) i) (right_side_agree (with_patterns (more_patterns p no_patterns) xs) q (λ g. h (inr (inl g))) i)) (alternatives_agree xs bs (λ g. h (inr (inr g))) i)
+  mutual
+    expression_agree : (xs : Locals) (e : Expression) → ¬ (InExpression Q xs e) → expression_with r xs e ≡ expression_with s xs e
+    expression_agree xs (variable_expression n) h = ap variable_expression (value_agree xs n h)
+    expression_agree xs (constructor_expression n) h = ap constructor_expression (constructor_name_agree [] xs (at_expression (constructor_expression n)) n (λ p. a_constructor p) h)
+    expression_agree xs (literal_expression l) h = refl
+    expression_agree xs (application f e) h = ap₂ application (expression_agree xs f (λ g. h (inl g))) (expression_agree xs e (λ g. h (inr g)))
+    expression_agree xs (lambda ps e) h = ap₂ lambda (patterns_agree xs bare ps (λ g. h (inl (inr g)))) (expression_agree (with_patterns ps xs) e (λ g. h (inr g)))
+    expression_agree xs (let_expression ds e) h = ap₂ let_expression (declarations_agree bare (with_list ds xs) ds (λ g. h (inl (inr g)))) (expression_agree (with_list ds xs) e (λ g. h (inr g)))
+    expression_agree xs (if_expression a b c) h = λ i. if_expression (expression_agree xs a (λ g. h (inl g)) i) (expression_agree xs b (λ g. h (inr (inl g))) i) (expression_agree xs c (λ g. h (inr (inr g))) i)
+    expression_agree xs (case_expression e bs) h = ap₂ case_expression (expression_agree xs e (λ g. h (inl g))) (alternatives_agree xs bs (λ g. h (inr g)))
+    expression_agree xs (tuple_expression es) h = ap tuple_expression (expressions_agree xs es h)
+    expression_agree xs (list_expression es) h = ap list_expression (expressions_agree xs es h)
+    expression_agree xs (typed_expression e t) h = ap₂ typed_expression (expression_agree xs e (λ g. h (inl g))) (type_agrees xs t (λ g. h (inr g)))
 
-      right_side_agree : (xs : Locals) (q : RightSide) → ¬ (InRightSide (Wrong m fs) xs q) → right_side_with r xs q ≡ right_side_with s xs q
-      right_side_agree xs (right_side gs ds) h = ap₂ right_side (bodies_agree (with_list ds xs) gs (λ g. h (inl g))) (declarations_agree bare (with_list ds xs) ds (λ g. h (inr (inr g))))
+    expressions_agree : (xs : Locals) (es : Expressions) → ¬ (InExpressions Q xs es) → expressions_with r xs es ≡ expressions_with s xs es
+    expressions_agree xs no_expressions h = refl
+    expressions_agree xs (more_expressions e es) h = ap₂ more_expressions (expression_agree xs e (λ g. h (inl g))) (expressions_agree xs es (λ g. h (inr g)))
 
-      bodies_agree : (xs : Locals) (gs : Bodies) → ¬ (InBodies (Wrong m fs) xs gs) → bodies_with r xs gs ≡ bodies_with s xs gs
-      bodies_agree xs no_bodies h = refl
-      bodies_agree xs (plain_body e gs) h = ap₂ plain_body (expression_agree xs e (λ g. h (inl g))) (bodies_agree xs gs (λ g. h (inr g)))
-      bodies_agree xs (guarded_body c e gs) h = λ i. guarded_body (expression_agree xs c (λ g. h (inl g)) i) (expression_agree xs e (λ g. h (inr (inl g))) i) (bodies_agree xs gs (λ g. h (inr (inr g))) i)
+    alternatives_agree : (xs : Locals) (bs : Alternatives) → ¬ (InAlternatives Q xs bs) → alternatives_with r xs bs ≡ alternatives_with s xs bs
+    alternatives_agree xs no_alternatives h = refl
+    alternatives_agree xs (more_alternatives (alternative p q) bs) h =
+        λ i. more_alternatives (alternative (pattern_agree xs bare p (λ g. h (inl (inr (inl g)))) i) (right_side_agree (with_patterns (more_patterns p no_patterns) xs) q (λ g. h (inr (inl g))) i)) (alternatives_agree xs bs (λ g. h (inr (inr g))) i)
 
-      declarations_agree : (b : Binders) (xs : Locals) (ds : Declarations) → ¬ (InDeclarations (Wrong m fs) xs ds) → declarations_with r b xs ds ≡ declarations_with s b xs ds
-      declarations_agree b xs no_declarations h = refl
-      declarations_agree b xs (more_declarations d ds) h = ap₂ more_declarations (declaration_agree b xs d (λ g. h (inl g))) (declarations_agree b xs ds (λ g. h (inr g)))
+    right_side_agree : (xs : Locals) (q : RightSide) → ¬ (InRightSide Q xs q) → right_side_with r xs q ≡ right_side_with s xs q
+    right_side_agree xs (right_side gs ds) h = ap₂ right_side (bodies_agree (with_list ds xs) gs (λ g. h (inl g))) (declarations_agree bare (with_list ds xs) ds (λ g. h (inr (inr g))))
 
-      declaration_agree : (b : Binders) (xs : Locals) (d : Declaration) → ¬ (InDeclaration (Wrong m fs) xs d) → declaration_with r b xs d ≡ declaration_with s b xs d
-      declaration_agree b xs (data_declaration n ps cs) h = ap (data_declaration (b n) ps) (constructors_agree xs b cs (λ g. h (inr g)))
-      declaration_agree b xs (newtype_declaration n ps c) h = ap (newtype_declaration (b n) ps) (constructor_agree xs b c (λ g. h (inr g)))
-      declaration_agree b xs (synonym_declaration n ps t) h = ap (synonym_declaration (b n) ps) (type_agree xs t (λ g. h (inr g)))
-      declaration_agree b xs (signature ns t) h = ap (signature (map b ns)) (type_agree xs t h)
-      declaration_agree b xs (clause n ps q) h = ap₂ (clause (b n)) (patterns_agree xs bare ps (λ g. h (inl (inr g)))) (right_side_agree (with_patterns ps xs) q (λ g. h (inr g)))
-      declaration_agree b xs (pattern_binding l c p q) h = ap₂ (pattern_binding l c) (pattern_agree xs b p (λ g. h (inl (inr (inl g))))) (right_side_agree xs q (λ g. h (inr g)))
+    bodies_agree : (xs : Locals) (gs : Bodies) → ¬ (InBodies Q xs gs) → bodies_with r xs gs ≡ bodies_with s xs gs
+    bodies_agree xs no_bodies h = refl
+    bodies_agree xs (plain_body e gs) h = ap₂ plain_body (expression_agree xs e (λ g. h (inl g))) (bodies_agree xs gs (λ g. h (inr g)))
+    bodies_agree xs (guarded_body c e gs) h = λ i. guarded_body (expression_agree xs c (λ g. h (inl g)) i) (expression_agree xs e (λ g. h (inr (inl g))) i) (bodies_agree xs gs (λ g. h (inr (inr g))) i)
 
-    list_agree : (b : Binders) (ds : List Declaration) → ¬ (InDeclarations (Wrong m fs) [] (declarations ds)) → map (declaration_with r b []) ds ≡ map (declaration_with s b []) ds
-    list_agree b [] h = refl
-    list_agree b (d ∷ ds) h = ap₂ (λ d ds. d ∷ ds) (declaration_agree b [] d (λ g. h (inl g))) (list_agree b ds (λ g. h (inr g)))
+    declarations_agree : (b : Binders) (xs : Locals) (ds : Declarations) → ¬ (InDeclarations Q xs ds) → declarations_with r b xs ds ≡ declarations_with s b xs ds
+    declarations_agree b xs no_declarations h = refl
+    declarations_agree b xs (more_declarations d ds) h = ap₂ more_declarations (declaration_agree b xs d (λ g. h (inl g))) (declarations_agree b xs ds (λ g. h (inr g)))
+
+    pub declaration_agree : (b : Binders) (xs : Locals) (d : Declaration) → ¬ (InDeclaration Q xs d) → declaration_with r b xs d ≡ declaration_with s b xs d
+    declaration_agree b xs (data_declaration n ps cs) h = ap (data_declaration (b n) ps) (constructors_agree xs b cs (λ g. h (inr g)))
+    declaration_agree b xs (newtype_declaration n ps c) h = ap (newtype_declaration (b n) ps) (constructor_agree xs b c (λ g. h (inr g)))
+    declaration_agree b xs (synonym_declaration n ps t) h = ap (synonym_declaration (b n) ps) (type_agrees xs t (λ g. h (inr g)))
+    declaration_agree b xs (signature ns t) h = ap (signature (map b ns)) (type_agrees xs t h)
+    declaration_agree b xs (clause n ps q) h = ap₂ (clause (b n)) (patterns_agree xs bare ps (λ g. h (inl (inr g)))) (right_side_agree (with_patterns ps xs) q (λ g. h (inr g)))
+    declaration_agree b xs (pattern_binding l c p q) h = ap₂ (pattern_binding l c) (pattern_agree xs b p (λ g. h (inl (inr (inl g))))) (right_side_agree xs q (λ g. h (inr g)))
+
+  pub list_agree : (b : Binders) (ds : List Declaration) → ¬ (InDeclarations Q [] (declarations ds)) → map (declaration_with r b []) ds ≡ map (declaration_with s b []) ds
+  list_agree b [] h = refl
+  list_agree b (d ∷ ds) h = ap₂ (λ d ds. d ∷ ds) (declaration_agree b [] d (λ g. h (inl g))) (list_agree b ds (λ g. h (inr g)))
 
 -- the right side of a synonym of a clean module is clean
 pub clean_right_sides : (m : Module) (fs : List Interface) (ds : List Declaration) → ¬ (InDeclarations (Wrong m fs) [] (declarations ds)) → (n : Identifier) (ps : List Identifier) (t : TypeTree) → Contains ds (synonym_declaration n ps t) → ¬ (InType (Wrong m fs) [] t)
@@ -322,4 +342,4 @@ clean_right_sides m fs (d ∷ ds) h n ps t c g =
 pub one_resolution : (m : Module) (fs : List Interface) (r s : Resolver) → IsWellFormed m fs → IsResolver m fs r → IsResolver m fs s → resolved m r ≡ resolved m s
 one_resolution m fs r s w a b =
     let h = nothing_wrong m fs w in
-    list_agree m fs r s a b w (clean_right_sides m fs m.decls h) (top m) m.decls h
+    list_agree m fs r s (same_names m fs r s a b) (Wrong m fs) (λ xs t g. g) (type_agree m fs r s a b w (clean_right_sides m fs m.decls h)) (top m) m.decls h

@@ -1,5 +1,5 @@
 -- Laws of cores.
-use Rattle.std.proofs.Common.{◌≡◌, ℕ, suc, List, [], ◌∷◌, length, arith, None, Some, ◌⊎◌, inl, inr, refl, sym, ap, ap₂, ◌∙◌, subst, cond, true, false}
+use Rattle.std.proofs.Common.{◌≡◌, ℕ, suc, List, [], ◌∷◌, map, length, arith, None, Some, ◌⊎◌, inl, inr, refl, sym, ap, ap₂, ◌∙◌, subst, cond, true, false}
 use Rattle.std.specs.Prelude.{◌↔◌}
 use Rattle.std.proofs.lemmas.Bool.{cases_Bool}
 use Rattle.hm_types.specs.declared.Entity.{Entity}
@@ -25,14 +25,18 @@ use Rattle.hm_names.specs.Variables.{type_count}
 use Rattle.hm_names.specs.Types.{type_in, types_in}
 use Rattle.hm_names.specs.Expansion.{argument, filled_at, all_filled_at}
 use Rattle.hm_names.specs.Resolved.{Resolver, IsResolver, resolved}
-use Rattle.hm_names.specs.Cores.{IsCore, syntax_of, elaborated, known_in, assumed, assumptions, imported_values}
+use Rattle.hm_names.specs.Cores.{IsCore, kept, syntax_of, elaborated, known_in, assumed, assumptions, imported_values}
 use Rattle.hm_names.proofs.Members.{same_entity-Decides}
 use Rattle.hm_names.proofs.Agreement.{one_resolution}
+use Rattle.hm_names.proofs.KeptDeclarations.{same_bindings, same_known}
 
 pub is_elaborated : (m : Module) (fs : List Interface) (c : ModuleCore) (r : Resolver) → IsCore m fs c → IsResolver m fs r → syntax_of c ≡ elaborated m fs r
 is_elaborated m fs c r a b =
-    let t : c.decls ≡ resolved m r = a.trees ∙ one_resolution m fs a.resolver r a.well_formed a.resolves b in
-    λ i. bindings_of (known_in (a.name i) (t i) (a.interfaces i)) (declarations (t i)) (declarations (t i))
+    let es = c.exported_types in
+    let t : c.decls ≡ map (kept es) (resolved m r) = a.trees ∙ ap (map (kept es)) (one_resolution m fs a.resolver r a.well_formed a.resolves b) in
+    (λ i. bindings_of (known_in (a.name i) (t i) (a.interfaces i)) (declarations (t i)) (declarations (t i))) ∙
+    (same_bindings es (known_in m.header.name.text (map (kept es) (resolved m r)) fs) (resolved m r) ∙
+    ap (λ k. bindings_of k (declarations (resolved m r)) (declarations (resolved m r))) (same_known es m.header.name.text (resolved m r) fs))
 
 pub one_syntax : (m : Module) (fs : List Interface) (c d : ModuleCore) → IsCore m fs c → IsCore m fs d → (syntax_of c ≡ syntax_of d) × (assumptions c ≡ assumptions d)
 one_syntax m fs c d a b = (

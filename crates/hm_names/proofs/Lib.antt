@@ -10,6 +10,7 @@ pub mod OneCore
 pub mod Assigned
 pub mod WorkedRows
 pub mod TopEntities
+pub mod KeptDeclarations
 pub mod Listings
 pub mod ListedScope
 pub mod Existence

@@ -1,11 +1,11 @@
 -- A module has one core for given interfaces, and a core one interface for given schemes.
-use Rattle.std.proofs.Common.{◌≡◌, ℕ, List, map, Option, Contains, ◌↔◌, sym, ap, ◌∙◌}
+use Rattle.std.proofs.Common.{◌≡◌, ℕ, List, map, Option, Contains, ◌↔◌, sym, ap, ap₂, ◌∙◌}
 use Rattle.hm_types.specs.Interfaces.{Exports as Interface, AreOrdered, IsInterface}
 use Rattle.hm_types.specs.Schemes.{TypeScheme}
 use Rattle.hm_syntax.specs.Trees.{Declaration}
 use Rattle.hm_syntax.specs.declared.ast.Module.{Module}
 use Rattle.hm_names.specs.ModuleCores.{ModuleCore}
-use Rattle.hm_names.specs.Cores.{IsCore, exports_in, IsInterfaceOf, HasArity, HasSynonym, IsDescribed, HasScheme}
+use Rattle.hm_names.specs.Cores.{IsCore, kept, exports_in, IsInterfaceOf, HasArity, HasSynonym, IsDescribed, HasScheme}
 use Rattle.hm_names.specs.declared.cores.Exported.{Exported}
 use Rattle.hm_names.specs.declared.namespace.Namespace.{Namespace}
 use Rattle.hm_names.specs.declared.namespace.Namespace.TheVariants.{Types, Constructors, Values}
@@ -31,7 +31,7 @@ same_exports m fs c d a b s = same_ordered (λ r. r.name) (exports_in c s) (expo
 
 pub one_core : (m : Module) (fs : List Interface) (c d : ModuleCore) → IsCore m fs c → IsCore m fs d → c ≡ d
 one_core m fs c d a b = made_same c d (a.name ∙ sym b.name)
-    (a.trees ∙ (one_resolution m fs a.resolver b.resolver a.well_formed a.resolves b.resolves ∙ sym b.trees))
+    (a.trees ∙ (ap₂ (λ es ds. map (kept es) ds) (same_exports m fs c d a b Types) (one_resolution m fs a.resolver b.resolver a.well_formed a.resolves b.resolves) ∙ sym b.trees))
     (a.interfaces ∙ sym b.interfaces) (same_exports m fs c d a b)
 
 -- Interfaces

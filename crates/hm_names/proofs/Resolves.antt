@@ -10,10 +10,11 @@ use Rattle.hm_names.specs.Described.{TypeDescription, type_meant}
 use Rattle.hm_names.specs.Expansion.{as_entity}
 use Rattle.hm_names.specs.Scope.{Means}
 use Rattle.hm_names.specs.Walk.{Locals}
-use Rattle.hm_names.specs.Resolved.{IsResolver, synonym_meant}
+use Rattle.hm_names.specs.Resolved.{Resolver, IsResolver, synonym_meant}
 use Rattle.hm_names.specs.Bindings.{entity, meaning_of, meaning_in}
 use Rattle.hm_names.specs.Found.{Lookups, is_local, is_special, stays, as_meant, resolved_name, resolver_of, synonym_among}
 use Rattle.hm_names.specs.NodeFaults.{AreLookupsOf}
+use Rattle.hm_names.proofs.Agreement.{SameNames}
 use Rattle.hm_names.proofs.Meant.{meant, one_meaning}
 use Rattle.hm_names.proofs.Standing.{local_decides, special_decides, unless}
 
@@ -36,4 +37,14 @@ module _ (m : Module) (fs : List Interface) (k : Lookups) (known : AreLookupsOf 
     constructor = λ xs n e l t. moved Constructors xs n e (unless (is_special n) (special_decides n) l) t;
     type = λ xs n e t. moved Types xs n e refl t;
     synonym = synonyms;
+  }
+
+  -- whatever synonyms it knows, it replaces names as each resolver of the module
+  pub names_resolve : (r : Resolver) → IsResolver m fs r → SameNames m fs (resolver_of k) r
+  names_resolve r a = record {
+    local = λ xs n l. stayed Values xs n ((local_decides xs n).1 l) ∙ sym (a.local xs n l);
+    value = λ xs n e l t. moved Values xs n e (unless (is_local xs n) (local_decides xs n) l) t ∙ sym (a.value xs n e l t);
+    special = λ xs n l. stayed Constructors xs n ((special_decides n).1 l) ∙ sym (a.special xs n l);
+    constructor = λ xs n e l t. moved Constructors xs n e (unless (is_special n) (special_decides n) l) t ∙ sym (a.constructor xs n e l t);
+    type = λ xs n e t. moved Types xs n e refl t ∙ sym (a.type xs n e t);
   }

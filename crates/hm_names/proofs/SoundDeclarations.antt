@@ -1,22 +1,23 @@
 -- What a well-formed module and its core keep of declarations: parameters are distinct, and synonyms have no other variables.
 use Rattle.hm_names.proofs.ClosedTypes.{of_type}
 use Rattle.hm_names.proofs.Members.{none_in, cases, contains_dec, mapped}
-use Rattle.hm_names.specs.Cores.{IsCore}
+use Rattle.hm_names.specs.Cores.{IsCore, kept, is_exported}
 use Rattle.hm_names.specs.DeclaredSynonyms.{IsSound}
 use Rattle.hm_names.specs.Faults.Lists.{Repeats, second_parameter}
 use Rattle.hm_names.specs.Faults.Names.{no_parameter}
 use Rattle.hm_names.specs.Faults.Phases.{Declaring, fault, IsWellFormed, Naming}
 use Rattle.hm_names.specs.ModuleCores.{ModuleCore}
-use Rattle.hm_names.specs.Resolved.{type_with, declaration_with, top}
+use Rattle.hm_names.specs.Resolved.{type_with, declaration_with, top, resolved}
+use Rattle.hm_names.specs.Types.{entity_of}
 use Rattle.hm_names.specs.Variables.{texts, type_variables}
 use Rattle.hm_names.specs.Walk.{Rule, InDeclaration, InDeclarations}
 use Rattle.hm_names.specs.declared.faults.Kind.TheVariants.{Duplicate, Unbound}
 use Rattle.hm_syntax.specs.Lists.{declarations}
 use Rattle.hm_syntax.specs.Names.{Identifier}
-use Rattle.hm_syntax.specs.Trees.{TypeTree, Declaration, data_declaration, newtype_declaration, synonym_declaration, signature, clause, pattern_binding}
+use Rattle.hm_syntax.specs.Trees.{TypeTree, unit_type, Declaration, data_declaration, newtype_declaration, synonym_declaration, signature, clause, pattern_binding}
 use Rattle.hm_syntax.specs.declared.ast.Module.{Module}
 use Rattle.hm_types.specs.Interfaces.{Exports as Interface}
-use Rattle.std.proofs.Common.{◌≡◌, List, [], ◌∷◌, inl, inr, refl, sym, ap, ◌∙◌, subst, Contains}
+use Rattle.std.proofs.Common.{◌≡◌, List, [], ◌∷◌, inl, inr, refl, sym, ap, ◌∙◌, subst, Contains, Bool, true, false, cond, ◌⊎◌}
 
 -- What a well-formed module says of its synonyms
 
@@ -42,9 +43,17 @@ parameters_in (signature ns t) = []
 parameters_in (clause n ps r) = []
 parameters_in (pattern_binding line column p r) = []
 
+-- a right side that is kept or left out
+kept_side : (b : Bool) (t u : TypeTree) → t ≡ cond b u unit_type → (t ≡ u) ⊎ (t ≡ unit_type)
+kept_side true t u h = inl h
+kept_side false t u h = inr h
+
 module _ (m : Module) (fs : List Interface) (c : ModuleCore) (core : IsCore m fs c) where
-  was : (d : Declaration) → Contains c.decls d → (o : Declaration) × (Contains m.decls o × (d ≡ declaration_with core.resolver (top m) [] o))
-  was d h = (mapped (declaration_with core.resolver (top m) []) m.decls d).0 (subst (λ l. Contains l d) core.trees h)
+  was : (d : Declaration) → Contains c.decls d → (o : Declaration) × (Contains m.decls o × (d ≡ kept c.exported_types (declaration_with core.resolver (top m) [] o)))
+  was d h =
+      let k = (mapped (kept c.exported_types) (resolved m core.resolver) d).0 (subst (λ l. Contains l d) core.trees h) in
+      let o = (mapped (declaration_with core.resolver (top m) []) m.decls k.0).0 k.1.0 in
+      (o.0, (o.1.0, k.1.1 ∙ ap (kept c.exported_types) o.1.1))
 
   none_repeated : (o : Declaration) → Contains m.decls o → (k : Identifier) → ¬ (Repeats (parameters_in o) k)
   none_repeated (data_declaration n ps cs) h k r = core.well_formed Declaring (fault Duplicate k) (record { kind = Duplicate; name = k; stands = inr (stands_in _ m.decls (data_declaration n ps cs) h (inl (second_parameter r))); is = refl })
@@ -54,7 +63,7 @@ module _ (m : Module) (fs : List Interface) (c : ModuleCore) (core : IsCore m fs
   none_repeated (clause n ps g) h k r = r
   none_repeated (pattern_binding a b p g) h k r = r
 
-  parameters_kept : (o : Declaration) → parameters_in (declaration_with core.resolver (top m) [] o) ≡ parameters_in o
+  parameters_kept : (o : Declaration) → parameters_in (kept c.exported_types (declaration_with core.resolver (top m) [] o)) ≡ parameters_in o
   parameters_kept (data_declaration n ps cs) = refl
   parameters_kept (newtype_declaration n ps d) = refl
   parameters_kept (synonym_declaration n ps t) = refl
@@ -68,14 +77,17 @@ module _ (m : Module) (fs : List Interface) (c : ModuleCore) (core : IsCore m fs
   pub sound_there : (n : Identifier) (ps : List Identifier) (t : TypeTree) → Contains c.decls (synonym_declaration n ps t) → IsSound ps t
   sound_there n ps t h = let o = was (synonym_declaration n ps t) h in from o.0 o.1.0 o.1.1
     where
-      from : (o : Declaration) → Contains m.decls o → synonym_declaration n ps t ≡ declaration_with core.resolver (top m) [] o → IsSound ps t
+      from : (o : Declaration) → Contains m.decls o → synonym_declaration n ps t ≡ kept c.exported_types (declaration_with core.resolver (top m) [] o) → IsSound ps t
       from (synonym_declaration k qs u) stands e =
           let params : ps ≡ qs = cc in
-          let side : t ≡ type_with core.resolver u = cc in
+          let side : t ≡ cond (is_exported c.exported_types (entity_of (top m k))) (type_with core.resolver u) unit_type = cc in
           let s = sound m fs core.well_formed k qs u stands in
           record {
             distinct = λ j r. s.distinct j (subst (λ l. Repeats l j) params r);
-            closed = λ j i. subst (λ l. Contains (texts l) j.text) (sym params) (s.closed j (of_type core.resolver u j (subst (λ z. Contains (type_variables z) j) side i)));
+            closed = λ j i. elim (kept_side (is_exported c.exported_types (entity_of (top m k))) t (type_with core.resolver u) side) [
+              | inl h ↦ subst (λ l. Contains (texts l) j.text) (sym params) (s.closed j (of_type core.resolver u j (subst (λ z. Contains (type_variables z) j) h i)))
+              | inr h ↦ absurd (none_in j (subst (λ z. Contains (type_variables z) j) h i))
+            ];
           }
       from (data_declaration k qs cs) stands e = absurd (cc)
       from (newtype_declaration k qs d) stands e = absurd (cc)

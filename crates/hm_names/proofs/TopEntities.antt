@@ -13,8 +13,9 @@ use Rattle.hm_names.specs.ModuleCores.{ModuleCore}
 use Rattle.hm_names.specs.Variables.{texts, pattern_variables, patterns_variables, bound_names}
 use Rattle.hm_names.specs.Entities.{named, own}
 use Rattle.hm_names.specs.Syntax.{is_continued}
-use Rattle.hm_names.specs.Resolved.{Resolver, top, pattern_with, patterns_with, declaration_with}
+use Rattle.hm_names.specs.Resolved.{Resolver, top, pattern_with, patterns_with, declaration_with, resolved}
 use Rattle.hm_names.specs.Cores.{IsCore, IsTop, syntax_of}
+use Rattle.hm_names.proofs.KeptDeclarations.{same_bound}
 use Rattle.hm_names.proofs.TopNames.{heads, map-++}
 use Rattle.hm_names.proofs.TopVariables.{names_of_core, continued_by, clause_there}
 
@@ -107,7 +108,7 @@ to_heads m (pattern_binding l c p q ∷ ds) x h =
 -- a top-level variable is of the core's module, and one that its declarations bind
 pub top_is_bound : (m : Module) (fs : List Interface) (c : ModuleCore) → IsCore m fs c → (e : Entity) → IsTop c e ↔ ((e.«module» ≡ c.name) × IsOneOf e.name (texts (bound_names (declarations c.decls))))
 top_is_bound m fs c a e =
-    let same : texts (bound_names (declarations c.decls)) ≡ texts (bound_names (declarations m.decls)) = ap (λ ds. texts (bound_names (declarations ds))) a.trees ∙ kept_names a.resolver m m.decls in (
+    let same : texts (bound_names (declarations c.decls)) ≡ texts (bound_names (declarations m.decls)) = ap (λ ds. texts (bound_names (declarations ds))) a.trees ∙ (ap texts (same_bound c.exported_types (resolved m a.resolver)) ∙ kept_names a.resolver m m.decls) in (
       (λ h. let r = from_heads m m.decls e (subst (IsOneOf (global e)) (names_of_core m fs c a) h) in (ap (λ d. d.«module») r.0 ∙ sym a.name, subst (IsOneOf e.name) (sym same) r.1)),
       (λ h. let here : own m e.name ≡ e = ap (λ z. named z e.name) (sym (h.0 ∙ a.name)) in
           subst (λ d. IsOneOf (global d) (typed.names (syntax_of c))) here (subst (IsOneOf (global (own m e.name))) (sym (names_of_core m fs c a)) (to_heads m m.decls e.name (subst (IsOneOf e.name) same h.1)))),

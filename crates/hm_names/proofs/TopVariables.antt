@@ -28,6 +28,7 @@ use Rattle.hm_names.specs.Walk.{InDeclarations}
 use Rattle.hm_names.specs.Faults.Lists.{has_patterns, OpenBinding, opened, goes_on, binding_names, firsts, Repeats, second_binding}
 use Rattle.hm_names.specs.Faults.Names.{NameFault, non_linear}
 use Rattle.hm_names.specs.Faults.Phases.{IsWellFormed, Declaring, Naming, fault}
+use Rattle.hm_names.proofs.KeptDeclarations.{same_bindings}
 use Rattle.hm_names.proofs.Members.{none_in, cases, first, rest}
 use Rattle.hm_names.proofs.Synonyms.{exported_of}
 use Rattle.hm_names.proofs.TopNames.{heads, names_of_list, map-++}
@@ -273,7 +274,7 @@ distinct_heads m fs w =
 pub names_of_core : (m : Module) (fs : List Interface) (c : ModuleCore) → IsCore m fs c → typed.names (syntax_of c) ≡ heads m m.decls
 names_of_core m fs c a =
     let h = names_of_list m a.resolver (known c) (declarations (resolved m a.resolver)) m.decls a.name in
-    ap (λ ds. typed.names (bindings_of (known c) (declarations ds) (declarations ds))) a.trees ∙ h
+    ap (λ ds. typed.names (bindings_of (known c) (declarations ds) (declarations ds))) a.trees ∙ (ap typed.names (same_bindings c.exported_types (known c) (resolved m a.resolver)) ∙ h)
 
 pub distinct_names_of_core : (m : Module) (fs : List Interface) (c : ModuleCore) → IsCore m fs c → IsDistinct (typed.names (syntax_of c))
 distinct_names_of_core m fs c a = subst IsDistinct (sym (names_of_core m fs c a)) (distinct_heads m fs a.well_formed)

@@ -98,6 +98,12 @@ clause_length = record { kind = ClauseLength; name = at 28 (codes "f"); stands =
 pub expansion : Worked.ExpansionRow
 expansion n t u = refl
 
+pub kept : Worked.KeptRow
+kept t = refl
+
+pub left_out : Worked.LeftOutRow
+left_out t = refl
+
 pub pattern : Worked.PatternRow
 pattern c a = names_of_core Worked.with_pattern Worked.prelude_alone c a
 

@@ -1,5 +1,5 @@
 -- Cores, which are modules with resolved names; their binding lists and assumptions; and their interfaces.
-use Rattle.std.specs.Prelude.{◌≡◌, ℕ, List, [], ◌∷◌, ◌++◌, map, Option, None, Some, ◌↔◌, Contains}
+use Rattle.std.specs.Prelude.{◌≡◌, ℕ, Bool, false, cond, ◌||◌, List, [], ◌∷◌, ◌++◌, map, Option, None, Some, ◌↔◌, Contains}
 use Rattle.hm_types.specs.declared.Entity.{Entity}
 use Rattle.hm_types.specs.declared.entries.TypeEntry.{TypeEntry}
 use Rattle.hm_types.specs.declared.entries.SynonymEntry.{SynonymEntry}
@@ -14,7 +14,7 @@ use Rattle.hm_typing.specs.Names.{global, IsOneOf}
 use Rattle.hm_typing.specs.Programs.{scheme_of}
 use Rattle.hm_typing.specs.Syntax.{Bindings, names}
 use Rattle.hm_syntax.specs.Names.{Identifier}
-use Rattle.hm_syntax.specs.Trees.{DataConstructor, data_constructor, Declaration, data_declaration, newtype_declaration, synonym_declaration, signature, clause, pattern_binding}
+use Rattle.hm_syntax.specs.Trees.{unit_type, DataConstructor, data_constructor, Declaration, data_declaration, newtype_declaration, synonym_declaration, signature, clause, pattern_binding}
 use Rattle.hm_syntax.specs.Lists.{declarations}
 use Rattle.hm_syntax.specs.declared.ast.Module.{Module}
 use Rattle.hm_names.specs.ModuleCores.{ModuleCore}
@@ -29,6 +29,7 @@ use Rattle.hm_names.specs.Imports.{AreImportsOf}
 use Rattle.hm_names.specs.Resolved.{Resolver, IsResolver, resolved}
 use Rattle.hm_names.specs.Special.{Special, special_of}
 use Rattle.hm_names.specs.Syntax.{Known, bindings_of}
+use Rattle.hm_names.specs.Texts.{same_entity}
 use Rattle.hm_names.specs.Types.{entity_of, constructor_type_in, declared_scheme, special_type, synonym_of}
 
 -- the exports of a core in a namespace
@@ -37,6 +38,20 @@ exports_in c Types = c.exported_types
 exports_in c Constructors = c.exported_constructors
 exports_in c Values = c.exported_values
 
+-- a type constructor is among the exports
+abbrev pub is_exported : List Exported → Entity → Bool
+is_exported [] e = false
+is_exported (r ∷ rs) e = same_entity e r.entity || is_exported rs e
+
+-- a declaration in a core. A synonym that isn't exported has no right side there, because each type that names it has it expanded (Report 4.2.2)
+abbrev pub kept : List Exported → Declaration → Declaration
+kept es (data_declaration n ps cs) = data_declaration n ps cs
+kept es (newtype_declaration n ps c) = newtype_declaration n ps c
+kept es (synonym_declaration n ps t) = synonym_declaration n ps (cond (is_exported es (entity_of n)) t unit_type)
+kept es (signature ns t) = signature ns t
+kept es (clause n ps r) = clause n ps r
+kept es (pattern_binding line column p r) = pattern_binding line column p r
+
 -- the core of a well-formed module: its declarations with each name resolved, and its exports, ordered by name, each once
 pub record IsCore (m : Module) (fs : List Interface) (c : ModuleCore) : Type 0 where
   pub well_formed : IsWellFormed m fs
@@ -44,7 +59,7 @@ pub record IsCore (m : Module) (fs : List Interface) (c : ModuleCore) : Type 0 w
   pub interfaces : c.interfaces ≡ fs
   pub resolver : Resolver
   pub resolves : IsResolver m fs resolver
-  pub trees : c.decls ≡ resolved m resolver
+  pub trees : c.decls ≡ map (kept c.exported_types) (resolved m resolver)
   pub exports : (s : Namespace) (x : List ℕ) (e : Entity) → Contains (exports_in c s) (record { name = x; entity = e }) ↔ IsExported m fs s x e
   pub ordered : (s : Namespace) → AreOrdered (map (λ r. r.name) (exports_in c s))
 

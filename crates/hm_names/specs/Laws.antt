@@ -15,6 +15,7 @@ use Rattle.hm_syntax.specs.Names.{Identifier}
 use Rattle.hm_syntax.specs.Trees.{TypeTrees}
 use Rattle.hm_syntax.specs.declared.ast.Module.{Module}
 use Rattle.hm_names.specs.ModuleCores.{ModuleCore}
+use Rattle.hm_names.specs.declared.cores.Exported.{Exported}
 use Rattle.hm_names.specs.declared.namespace.Namespace.TheVariants.{Values}
 use Rattle.hm_syntax.specs.Lists.{declarations}
 use Rattle.hm_names.specs.Variables.{texts, bound_names}
@@ -57,6 +58,11 @@ HasResolver = (m : Module) (fs : List Interface) → IsWellFormed m fs → (r : 
 -- the binding list of a module's core is the module's, under any resolver
 abbrev pub IsElaborated : Type 0
 IsElaborated = (m : Module) (fs : List Interface) (c : ModuleCore) (r : Resolver) → IsCore m fs c → IsResolver m fs r → syntax_of c ≡ elaborated m fs r
+
+-- an exported type means in a core's declarations what it means in the module's
+abbrev pub KeepsExports : Type 0
+KeepsExports = (m : Module) (fs : List Interface) (c : ModuleCore) (r : Resolver) → IsCore m fs c → IsResolver m fs r → (x : Exported) → Contains c.exported_types x →
+    type_meant c.name c.decls c.interfaces x.entity ≡ type_meant c.name (resolved m r) c.interfaces x.entity
 
 -- two cores of one module have the same binding list and the same assumptions
 abbrev pub HasOneSyntax : Type 0

@@ -8,7 +8,7 @@ use Rattle.hm_types.specs.Types.{App, done}
 use Rattle.hm_typing.specs.Names.{global, binding}
 use Rattle.hm_typing.specs.Syntax.{names}
 use Rattle.hm_syntax.specs.Names.{Identifier, integer}
-use Rattle.hm_syntax.specs.Trees.{TypeTree, variable_type, constructor_type, tuple_type, no_types, more_types, data_constructor, no_constructors, more_constructors, Pattern, variable_pattern, tuple_pattern, no_patterns, more_patterns, Expression, variable_expression, constructor_expression, literal_expression, lambda, RightSide, right_side, no_bodies, plain_body, Declaration, data_declaration, synonym_declaration, signature, clause, pattern_binding, no_declarations}
+use Rattle.hm_syntax.specs.Trees.{TypeTree, unit_type, variable_type, constructor_type, tuple_type, no_types, more_types, data_constructor, no_constructors, more_constructors, Pattern, variable_pattern, tuple_pattern, no_patterns, more_patterns, Expression, variable_expression, constructor_expression, literal_expression, lambda, RightSide, right_side, no_bodies, plain_body, Declaration, data_declaration, synonym_declaration, signature, clause, pattern_binding, no_declarations}
 use Rattle.hm_syntax.specs.declared.ast.Module.{Module}
 use Rattle.hm_syntax.specs.declared.ast.Import.{Import}
 use Rattle.hm_syntax.specs.declared.ast.Export.{Export}
@@ -26,7 +26,8 @@ use Rattle.hm_names.specs.Scope.{Means}
 use Rattle.hm_names.specs.Resolved.{Resolver, IsResolver, expression_with}
 use Rattle.hm_names.specs.Types.{synonym_of}
 use Rattle.hm_names.specs.ModuleCores.{ModuleCore}
-use Rattle.hm_names.specs.Cores.{IsCore, syntax_of}
+use Rattle.hm_names.specs.declared.cores.Exported.{Exported}
+use Rattle.hm_names.specs.Cores.{IsCore, kept, syntax_of}
 use Rattle.hm_names.specs.Faults.Phases.{Phase, Importing, Declaring, Exporting, Naming, Counting, HasFault, fault}
 
 -- a bare name on line 1
@@ -176,6 +177,19 @@ swap = tuple_type (more_types (variable_type (at 31 (codes "a"))) (more_types (v
 
 abbrev pub ExpansionRow : Type 0
 ExpansionRow = (n : Identifier) (t u : TypeTree) → expanded (Some (synonym_of (at 24 (codes "b") ∷ at 26 (codes "a") ∷ []) swap)) n (more_types t (more_types u no_types)) ≡ tuple_type (more_types u (more_types t no_types))
+
+-- If T is exported, a core has the right side of T, and none of a synonym S beside it
+abbrev pub exports_T : List Exported
+exports_T = record { name = codes "T"; entity = named (codes "A") (codes "T") } ∷ []
+
+abbrev pub synonym_of_A : List ℕ → TypeTree → Declaration
+synonym_of_A x t = synonym_declaration (as_entity (at 23 x) (named (codes "A") x)) [] t
+
+abbrev pub KeptRow : Type 0
+KeptRow = (t : TypeTree) → kept exports_T (synonym_of_A (codes "T") t) ≡ synonym_of_A (codes "T") t
+
+abbrev pub LeftOutRow : Type 0
+LeftOutRow = (t : TypeTree) → kept exports_T (synonym_of_A (codes "S") t) ≡ synonym_of_A (codes "S") unit_type
 
 -- A core of module A where { (x, y) = 1 ; z = 1 } binds x, y, the pattern binding itself, and z
 abbrev pub with_pattern : Module

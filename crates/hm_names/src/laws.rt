@@ -9,6 +9,8 @@ ghost use Rattle.hm_names.specs.Worked.{
   DuplicateRow,
   ExpansionRow,
   HiddenRow,
+  KeptRow,
+  LeftOutRow,
   NoBindingRow,
   NoCaptureRow,
   NoDuplicateRow,
@@ -38,11 +40,13 @@ ghost use Rattle.hm_names.specs.Laws.{
   HasResolver,
   HasScope,
   IsElaborated,
+  KeepsExports,
   TopIsBound,
 };
 
 /// A module has one meaning. Each name is unbound, ambiguous, or means one entity. A well-formed module has one resolution of its names, one
-/// expansion of its synonyms, one core, one binding list and one set of assumptions. With schemes for its variables, it has one interface.
+/// expansion of its synonyms, one core, one binding list and one set of assumptions. With schemes for its variables, it has one interface. An
+/// exported type means in the core what it means in the module.
 pub fn one_meaning()
     ensures scope { HasScope }
     ensures meaning { HasMeaning }
@@ -52,6 +56,7 @@ pub fn one_meaning()
     ensures syntax { HasOneSyntax }
     ensures core { HasOneCore }
     ensures interface { HasOneInterface }
+    ensures exports { KeepsExports }
 {}
 
 /// The binding list of a core binds each declared variable and each pattern binding of the module once, and nothing else. The variables that a
@@ -76,7 +81,8 @@ pub fn expansion_of_synonyms()
 {}
 
 /// Worked modules have the right faults at the right places. An import with `hiding` leaves a name unbound. A name that is in scope only
-/// qualified isn't exported with its module. A synonym takes its arguments in the order of its parameters. A pattern binding binds its
+/// qualified isn't exported with its module. A synonym takes its arguments in the order of its parameters. A core has
+/// the right side of an exported synonym, and not that of another one. A pattern binding binds its
 /// variables and itself. A local binder with a qualifier binds the bare name, and captures no entity.
 pub fn worked_modules()
     ensures not_exported { NotExportedRow }
@@ -94,6 +100,8 @@ pub fn worked_modules()
     ensures clause_length { ClauseLengthRow }
     ensures recursive { RecursiveRow }
     ensures expansion { ExpansionRow }
+    ensures kept { KeptRow }
+    ensures left_out { LeftOutRow }
     ensures pattern { PatternRow }
     ensures binder { BinderRow }
     ensures no_capture { NoCaptureRow }

@@ -7,3 +7,7 @@ pub mod PhasesAnswered
 pub mod PhasesInOrder
 pub mod References
 pub mod SynonymReferences
+pub mod TypesInTrees
+pub mod KeptTrees
+pub mod NeededOrders
+pub mod NeededMarks

@@ -1,5 +1,5 @@
 -- The answers of the phases, one after another.
-use Rattle.std.proofs.Common.{◌≡◌, ℕ, ◌++◌, ◌∷◌, [], Bool, true, false, cond, List, map, filter, inl, inr, ⊎_elim, ◌↔◌, refl, sym, ap, ◌∙◌, subst, Contains}
+use Rattle.std.proofs.Common.{◌≡◌, ℕ, ◌++◌, ◌∷◌, [], Bool, true, false, cond, List, map, filter, None, inl, inr, ⊎_elim, ◌↔◌, refl, sym, ap, ◌∙◌, subst, Contains}
 use Rattle.std.proofs.lemmas.List.Elements.{Contains-append_left, Contains-append_right, Contains-append_cases}
 use Rattle.hm_types.specs.declared.Entity.{Entity}
 use Rattle.hm_types.specs.Interfaces.{Exports as Interface, AreOrdered}
@@ -14,6 +14,7 @@ use Rattle.hm_scope.specs.declared.scoping.ExportedRows.{ExportedRows}
 use Rattle.hm_scope.specs.declared.scoping.Trees.{Trees}
 use Rattle.hm_names.specs.ModuleCores.{ModuleCore}
 use Rattle.hm_names.specs.Cores.{IsCore, exports_in}
+use Rattle.hm_names.specs.Exports.{IsExported}
 use Rattle.hm_names.specs.Bindings.{Pair, IsScopeOf}
 use Rattle.hm_scope_exports.specs.ExportedRows.{IsBound}
 use Rattle.hm_scope_exports.specs.ModuleExports.{AreExportsOf}
@@ -22,14 +23,16 @@ use Rattle.hm_names.specs.Resolved.{top, declaration_with}
 use Rattle.hm_names.specs.Found.{Lookups, resolver_of}
 use Rattle.hm_scope_tables.specs.KnownTables.{KnownTables, AreTablesOf, lookups_of}
 use Rattle.hm_names.specs.NodeFaults.{NodeFault, AreLookupsOf}
-use Rattle.hm_scope.specs.Synonyms.{HasSynonymFault, AreResolved}
+use Rattle.hm_names.specs.Entities.{named, own}
+use Rattle.hm_scope.specs.Synonyms.{HasSynonymFault}
+use Rattle.hm_scope.specs.NeededSynonyms.{Exports, AreExportedTypes, kept_by, ResolvesNeeded}
 use Rattle.hm_names.specs.Faults.Phases.{Exporting, IsWellFormed}
 use Rattle.hm_scope.specs.PhaseAnswers.{is_of_lists, is_of_names, is_of_numbers}
 use Rattle.hm_scope.specs.declared.phases.TreeFaults.{TreeFaults}
 use Rattle.hm_scope.specs.Answers.{AreNoted, AreTreeFaults, AreTrees, AreWalked, IsResolvedModule, AreExportedRows, rows_in}
 use Rattle.hm_names.proofs.Members.{none_in, cases, first, rest}
 use Rattle.hm_scope.proofs.OneEntity.{one_entity, bound_is_exported}
-use Rattle.hm_names.proofs.Resolves.{resolves}
+use Rattle.hm_scope.proofs.KeptTrees.{kept_trees}
 use Rattle.hm_scope.proofs.TreePhases.{declaring, naming, counting}
 
 -- The rows of a core
@@ -63,16 +66,19 @@ core_is m fs ds given r c is rows name decls interfaces types constructors value
   interfaces = interfaces;
   resolver = is.are_resolved.resolver;
   resolves = is.are_resolved.resolves;
-  trees = decls ∙ is.are_resolved.trees;
-  exports = λ s x e. (
-    λ h. (is.exact s x e).0 ((rows.exact s x e).0 (subst (λ (l : List Exported). Contains l (record { name = x; entity = e })) (same s) h)),
-    λ h. subst (λ (l : List Exported). Contains l (record { name = x; entity = e })) (sym (same s)) ((rows.exact s x e).1 ((is.exact s x e).1 h)),
-  );
+  trees = decls ∙ is.are_resolved.trees c.exported_types (exports Types);
+  exports = exports;
   ordered = λ s. subst (λ (l : List Exported). AreOrdered (map (λ (k : Exported). k.name) l)) (sym (same s)) (rows.ordered s);
 }
   where
     same : (s : Namespace) → exports_in c s ≡ rows_in r s
     same = same_rows r c types constructors values
+
+    exports : (s : Namespace) (x : List ℕ) (e : Entity) → Contains (exports_in c s) (record { name = x; entity = e }) ↔ IsExported m fs s x e
+    exports s x e = (
+      λ h. (is.exact s x e).0 ((rows.exact s x e).0 (subst (λ (l : List Exported). Contains l (record { name = x; entity = e })) (same s) h)),
+      λ h. subst (λ (l : List Exported). Contains l (record { name = x; entity = e })) (sym (same s)) ((rows.exact s x e).1 ((is.exact s x e).1 h)),
+    )
 
 -- The faults of the trees
 
@@ -99,13 +105,27 @@ are_lookups m fs pairs start tables scope known types constructors = record {
   constructors = λ e. ap (λ l. Rattle.hm_names.specs.Found.arity_among l e) constructors ∙ known.constructors.arities e;
 }
 
-pub are_walked : (m : Module) (fs : List Interface) (pairs : List Pair) (start tables : KnownTables) (ds : List Declaration) (walked : List Fault) → IsScopeOf m fs pairs → AreTablesOf m fs start → tables.types ≡ start.types → tables.constructors ≡ start.constructors
-    → (IsWellFormed m fs → AreResolved m fs (lookups_of pairs tables))
+-- the exported types that the module defines, by its exports
+pub own_exported : (m : Module) (fs : List Interface) (e : ModuleExports) (home : List ℕ) (xs : List (List ℕ)) → AreExportsOf m fs e → home ≡ m.header.name.text → ((x : List ℕ) → Contains xs x ↔ Exports home e.given.items x) → AreExportedTypes m fs xs
+own_exported m fs e home xs are here names x = (
+  λ c. let q = (names x).0 c in (q.0.text, (are.given_names Types q.0.text (own m x)).0 (subst (λ (z : Pair). Contains e.given.items z) (same q.0 q.1.1.0 (are.bare q.0 q.1.0) q.1.1.1) q.1.0)),
+  λ h. (names x).1 (record { space = Types; qualifier = None; text = h.0; entity = own m x }, ((are.given_names Types h.0 (own m x)).1 h.1, (refl, ap (λ z. named z x) (sym here)))),
+)
+  where
+    same : (p : Pair) → p.space ≡ Types → p.qualifier ≡ None → p.entity ≡ named home x → p ≡ record { space = Types; qualifier = None; text = p.text; entity = own m x }
+    same p s q t = λ i. record { space = s i; qualifier = q i; text = p.text; entity = (t ∙ ap (λ z. named z x) here) i }
+
+pub are_walked : (m : Module) (fs : List Interface) (pairs : List Pair) (start tables : KnownTables) (exported : List (List ℕ)) (decls ds : List Declaration) (walked : List Fault) → IsScopeOf m fs pairs → AreTablesOf m fs start → tables.types ≡ start.types → tables.constructors ≡ start.constructors
+    → AreExportedTypes m fs exported → (IsWellFormed m fs → ResolvesNeeded m fs exported tables.synonyms)
     → ((gs : List Interface) → AreLookupsOf m gs (lookups_of pairs tables) → (f : Fault) → Contains walked f ↔ Somewhere m (NodeFault m gs f))
-    → ds ≡ map (declaration_with (resolver_of (lookups_of pairs tables)) (top m) []) m.decls → AreWalked m fs ds walked
-are_walked m fs pairs start tables ds walked scope known types constructors finished noted decls = record {
+    → decls ≡ map (declaration_with (resolver_of (lookups_of pairs tables)) (top m) []) m.decls → ds ≡ map (kept_by exported) decls → AreWalked m fs ds walked
+are_walked m fs pairs start tables exported decls ds walked scope known types constructors own_types finished noted resolved kept = record {
   faults = noted fs looked;
-  are_resolved = λ w. record { resolver = resolver_of k; resolves = resolves m fs k looked (finished w); trees = decls };
+  are_resolved = λ w. record {
+    resolver = (finished w).resolver;
+    resolves = (finished w).resolves;
+    trees = λ es is. kept ∙ (ap (map (kept_by exported)) resolved ∙ kept_trees m fs w k looked exported (finished w) own_types es is);
+  };
 }
   where
     k : Lookups

@@ -1,5 +1,5 @@
 -- A module's synonyms, finished one after another, are what a resolver of the module has.
-use Rattle.std.proofs.Common.{◌≡◌, ℕ, zero, suc, ◌+◌, ◌<◌, ◌≤◌, true, false, cond, List, [], ◌∷◌, ◌++◌, map, length, take, get_or, Option, Some, ◌⊎◌, inl, inr, ⊎_elim, refl, sym, ap, ◌∙◌, subst, Contains, arith}
+use Rattle.std.proofs.Common.{◌≡◌, ℕ, zero, suc, ◌+◌, ◌<◌, ◌≤◌, Bool, true, false, cond, filter, List, [], ◌∷◌, ◌++◌, map, length, take, get_or, Option, Some, ◌⊎◌, inl, inr, ⊎_elim, refl, sym, ap, ◌∙◌, subst, Contains, arith}
 use Rattle.std.specs.Prelude.{slice_index_or}
 use Rattle.std.proofs.lemmas.Bool.{cases_Bool}
 use Rattle.std.proofs.lemmas.List.{take_more, get_or_default, length-map}
@@ -29,11 +29,12 @@ use Rattle.hm_names.specs.Bindings.{Pair, IsScopeOf, entity, meaning_of, meaning
 use Rattle.hm_names.specs.Found.{KnownSynonym, KnownArity, lookups_in, resolver_of, resolved_name, as_meant, synonym_among}
 use Rattle.hm_scope_tables.specs.KnownTables.{KnownTables, AreTablesOf, imported_of, imported_in, lookups_of}
 use Rattle.hm_names.specs.Faults.Lists.{Repeats, type_names, second_type}
-use Rattle.hm_names.specs.Faults.Arities.{RefersTo, refers, Reaches}
+use Rattle.hm_names.specs.Faults.Arities.{refers, Reaches}
 use Rattle.hm_names.specs.Faults.Phases.{IsWellFormed, Declaring, fault}
-use Rattle.hm_graph_components.specs.NodeOrders.{IsOrder}
 use Rattle.hm_names.specs.DeclaredSynonyms.{IsSound}
-use Rattle.hm_scope.specs.Synonyms.{AreOwnSynonyms, IsReferenceGraph, IsSettled, IsExpandable, Finishes, AreResolved}
+use Rattle.hm_scope.specs.NeededSynonyms.{IsNeededOrder, ResolvesNeeded}
+use Rattle.hm_scope.specs.Synonyms.{DeclaresSynonym, AreOwnSynonyms, IsReferenceGraph, IsSettled, IsExpandable, Finishes}
+use Rattle.hm_scope.proofs.NeededOrders.{in_filter, whole_place}
 use Rattle.hm_names.proofs.Members.{none_in, cases, first, rest, name_discrete, optional_synonym_discrete, same_entity-Decides}
 use Rattle.hm_names.proofs.Listings.{both_dec}
 use Rattle.hm_names.proofs.Meant.{meant, one_meaning}
@@ -185,7 +186,10 @@ finishes_more m fs r pairs home declared order i number start old new scope here
 -- All of them
 
 module _ (m : Module) (fs : List Interface) (pairs : List Pair) (scope : IsScopeOf m fs pairs) (r : Resolver) (resolves : IsResolver m fs r) (w : IsWellFormed m fs) (synonyms : OwnSynonyms) (are : AreOwnSynonyms m.decls synonyms) (graph : Graph) (references : IsReferenceGraph m fs synonyms.names graph)
-    (order : List ℕ) (ordered : IsOrder graph order) (start : KnownTables) (tables : AreTablesOf m fs start) where
+    (exported : List (List ℕ)) (order : List ℕ) (needs : IsNeededOrder m fs synonyms.names exported graph order) (start : KnownTables) (tables : AreTablesOf m fs start) where
+  abbrev is_needed : ℕ → Bool
+  is_needed k = slice_index_or needs.marks k false
+
   abbrev at : ℕ → List ℕ
   at i = slice_index_or synonyms.names i []
 
@@ -217,8 +221,27 @@ module _ (m : Module) (fs : List Interface) (pairs : List Pair) (scope : IsScope
       prepended (one f) = more (one e) f
       prepended (more c f) = more (prepended c) f
 
-  pub expandable : IsExpandable m fs r synonyms.declared.items order start.synonyms
-  expandable = record {
+  -- the synonym that a type constructor means has a place, and an edge leads there from that on whose right side it is
+  refers_to : (from : ℕ) (d : OwnSynonym) (o : Identifier) (e : Entity) → from < length synonyms.declared.items → Contains (constructors_in (slice_index_or synonyms.declared.items from d).ty.now) o → Means m fs Types o e
+      → (to : ℕ) → to < length synonyms.names → e ≡ own m (at to) → Edge graph from to
+  refers_to from d o e within c means to inside is =
+      let from_inside : from < length synonyms.names = omega (arith, same_length, within) in
+      (references.edges from to from_inside inside).1
+      (refers (are.stand (slice_index_or synonyms.declared.items from d) (Contains-get_or synonyms.declared.items from d within)) (declared_at from d within) c (subst (λ x. Means m fs Types o x) is means))
+
+  -- the place of a declared synonym
+  record PlaceOf (e : Entity) : Type 0 where
+    pub number : ℕ
+    pub inside : number < length synonyms.names
+    pub is : e ≡ own m (at number)
+
+  place_of : (e : Entity) (x : List ℕ) → DeclaresSynonym m.decls x → e ≡ own m x → PlaceOf e
+  place_of e x declared is =
+      let place = (are.names.all x).1 declared in
+      record { number = place.0; inside = place.1; is = is ∙ ap (own m) (sym (get_or_default synonyms.names place.0 [] x place.1 ∙ place.2)) }
+
+  whole_expandable : IsExpandable m fs r synonyms.declared.items (filter is_needed needs.all) start.synonyms
+  whole_expandable = record {
     resolver = resolves;
     well_formed = w;
     stand = are.stand;
@@ -227,51 +250,61 @@ module _ (m : Module) (fs : List Interface) (pairs : List Pair) (scope : IsScope
         ready i d o e inside within c means q.0 q.1 q.0.meaning refl;
   }
     where
-      ready : (i : ℕ) (d : OwnSynonym) (o : Identifier) (e : Entity) → i < length order → get_or order i 0 < length synonyms.declared.items → Contains (constructors_in (get_or synonyms.declared.items (get_or order i 0) d).ty.now) o → Means m fs Types o e
+      ready : (i : ℕ) (d : OwnSynonym) (o : Identifier) (e : Entity) → i < length (filter is_needed needs.all) → get_or (filter is_needed needs.all) i 0 < length synonyms.declared.items → Contains (constructors_in (get_or synonyms.declared.items (get_or (filter is_needed needs.all) i 0) d).ty.now) o → Means m fs Types o e
           → (k : TypeDescription) → type_meant m.header.name.text m.decls fs e ≡ Some k → (t : TypeMeaning) → k.meaning ≡ t
-          → IsSettled r start.synonyms e ⊎ ((k : ℕ) × (Contains (take i order) k × ((k < length synonyms.declared.items) × (e ≡ own m (get_or synonyms.declared.items k d).name.now.text))))
+          → IsSettled r start.synonyms e ⊎ ((k : ℕ) × (Contains (take i (filter is_needed needs.all)) k × ((k < length synonyms.declared.items) × (e ≡ own m (get_or synonyms.declared.items k d).name.now.text))))
       ready i d o e inside within c means k g (algebraic n) q = inl (from_start e k g (algebraic n) q (λ ps u z. cc))
       ready i d o e inside within c means k g (imported_synonym s) q = inl (from_start e k g (imported_synonym s) q (λ ps u z. cc))
       ready i d o e inside within c means k g (declared_synonym ps u) q =
-          let s = get_or synonyms.declared.items (get_or order i 0) d in
+          let from = get_or (filter is_needed needs.all) i 0 in
           let it = is_declared m fs e k ps u g q in
-          let place = (are.names.all it.name.text).1 (it.name, ps, u, (it.stands, refl)) in
-          let to_is : at place.0 ≡ it.name.text = get_or_default synonyms.names place.0 [] it.name.text place.1 ∙ place.2 in
-          let from_inside : get_or order i 0 < length synonyms.names = omega (arith, same_length, within) in
-          let to_inside : place.0 < length synonyms.declared.items = omega (arith, same_length, place.1) in
-          let refer : RefersTo m fs (at (get_or order i 0)) (at place.0) =
-          refers (are.stand s (Contains-get_or synonyms.declared.items (get_or order i 0) d within)) (declared_at (get_or order i 0) d within) c (subst (λ x. Means m fs Types o x) (it.is ∙ ap (own m) (sym to_is)) means) in
-          let edge = (references.edges (get_or order i 0) place.0 from_inside place.1).1 refer in
-          elim (ordered.after i place.0 inside (one edge)) [
-            | inl before ↦ inr (place.0, (before, (to_inside, it.is ∙ ap (own m) (sym (declared_at place.0 d to_inside ∙ to_is)))))
-            | inr back ↦ absurd (not_back (get_or order i 0) place.0 from_inside edge back)
+          let to = place_of e it.name.text (it.name, ps, u, (it.stands, refl)) it.is in
+          let to_inside : to.number < length synonyms.declared.items = (let z = to.inside in omega (arith, same_length, z)) in
+          let from_inside : from < length synonyms.names = omega (arith, same_length, within) in
+          let edge = refers_to from d o e within c means to.number to.inside to.is in
+          let place = whole_place is_needed needs.all i inside in
+          elim (needs.ordered.after place.at to.number place.inside (subst (λ z. GraphReaches graph z to.number) (sym place.same) (one edge))) [
+            | inl before ↦ inr (to.number, (subst (λ l. Contains l to.number) (sym place.before) (in_filter is_needed (take place.at needs.all) to.number before (needs.needed.closed from to.number edge place.marked)), (to_inside, to.is ∙ ap (own m) (sym (declared_at to.number d to_inside)))))
+            | inr back ↦ absurd (not_back from to.number from_inside edge (subst (λ z. GraphReaches graph to.number z) place.same back))
           ]
 
-  pub resolved : (new : KnownTables) → Finishes r m.header.name.text synonyms.declared.items order start.synonyms new.synonyms → AreResolved m fs (lookups_of pairs new)
-  resolved new done e d g = settled e d g ∙ (resolves.synonym e d g ∙ same d.meaning refl)
+  pub expandable : IsExpandable m fs r synonyms.declared.items order start.synonyms
+  expandable = subst (λ (l : List ℕ). IsExpandable m fs r synonyms.declared.items l start.synonyms) (sym needs.is) whole_expandable
+
+  pub resolves_needed : (new : KnownTables) → Finishes r m.header.name.text synonyms.declared.items order start.synonyms new.synonyms → ResolvesNeeded m fs exported new.synonyms
+  resolves_needed new done = record {
+    resolver = r;
+    resolves = resolves;
+    used = λ o e c means. settled o e means (λ to inside is. needs.needed.used_marked o to c inside (subst (λ z. Means m fs Types o z) is means));
+    right_sides = λ n ps t o e stands x c means. settled o e means (λ to inside is. right_side n ps t o e stands x c means to inside is);
+  }
     where
-      declared_settled : (n : Identifier) (ps : List Identifier) (u : TypeTree) → Contains m.decls (synonym_declaration n ps u) → IsSettled r new.synonyms (own m n.text)
-      declared_settled n ps u c =
-          let place = (are.names.all n.text).1 (n, ps, u, (c, refl)) in
-          let is : at place.0 ≡ n.text = get_or_default synonyms.names place.0 [] n.text place.1 ∙ place.2 in
-          let inside : place.0 < length synonyms.declared.items = omega (arith, same_length, place.1) in
-          go synonyms.declared.items refl place.0 place.1 inside is
+      finished_at : (to : ℕ) → to < length synonyms.names → is_needed to ≡ true → IsSettled r new.synonyms (own m (at to))
+      finished_at to inside marked = go synonyms.declared.items refl (omega (arith, same_length, inside))
         where
-          go : (l : List OwnSynonym) → synonyms.declared.items ≡ l → (k : ℕ) → k < length synonyms.names → k < length synonyms.declared.items → at k ≡ n.text → IsSettled r new.synonyms (own m n.text)
-          go [] q k h i z = absurd (let y : length synonyms.declared.items ≡ 0 = ap length q in omega (arith, y, i))
-          go (s ∷ ss) q k h i z = subst (λ x. IsSettled r new.synonyms (own m x)) (declared_at k s i ∙ z) (done.finished k s (ordered.all k (subst (λ n. k < n) (sym references.nodes) h)) i)
+          listed : Contains order to
+          listed = subst (λ l. Contains l to) (sym needs.is) (in_filter is_needed needs.all to (needs.ordered.all to (subst (λ n. to < n) (sym references.nodes) inside)) marked)
 
-      by_meaning : (e : Entity) (d : TypeDescription) → type_meant m.header.name.text m.decls fs e ≡ Some d → (t : TypeMeaning) → d.meaning ≡ t → IsSettled r new.synonyms e
-      by_meaning e d g (algebraic k) q = done.kept e (from_start e d g (algebraic k) q (λ ps u z. cc))
-      by_meaning e d g (imported_synonym s) q = done.kept e (from_start e d g (imported_synonym s) q (λ ps u z. cc))
-      by_meaning e d g (declared_synonym ps u) q = let it = is_declared m fs e d ps u g q in subst (λ x. IsSettled r new.synonyms x) (sym it.is) (declared_settled it.name ps u it.stands)
+          go : (l : List OwnSynonym) → synonyms.declared.items ≡ l → to < length synonyms.declared.items → IsSettled r new.synonyms (own m (at to))
+          go [] q i = absurd (let y : length synonyms.declared.items ≡ 0 = ap length q in omega (arith, y, i))
+          go (s ∷ ss) q i = subst (λ x. IsSettled r new.synonyms (own m x)) (declared_at to s i) (done.finished to s listed i)
 
-      settled : (e : Entity) (d : TypeDescription) → type_meant m.header.name.text m.decls fs e ≡ Some d → IsSettled r new.synonyms e
-      settled e d g = by_meaning e d g d.meaning refl
+      settled : (o : Identifier) (e : Entity) → Means m fs Types o e → ((to : ℕ) → to < length synonyms.names → e ≡ own m (at to) → is_needed to ≡ true) → IsSettled r new.synonyms e
+      settled o e means marked = let q = is_described m fs o.qualifier o.text e means.in_scope in by_meaning q.0 q.1 q.0.meaning refl
+        where
+          by_meaning : (d : TypeDescription) → type_meant m.header.name.text m.decls fs e ≡ Some d → (t : TypeMeaning) → d.meaning ≡ t → IsSettled r new.synonyms e
+          by_meaning d g (algebraic k) q = done.kept e (from_start e d g (algebraic k) q (λ ps u z. cc))
+          by_meaning d g (imported_synonym s) q = done.kept e (from_start e d g (imported_synonym s) q (λ ps u z. cc))
+          by_meaning d g (declared_synonym ps u) q =
+              let it = is_declared m fs e d ps u g q in
+              let to = place_of e it.name.text (it.name, ps, u, (it.stands, refl)) it.is in
+              subst (λ x. IsSettled r new.synonyms x) (sym to.is) (finished_at to.number to.inside (marked to.number to.inside to.is))
 
-      same : (t : TypeMeaning) → d.meaning ≡ t → synonym_meant r t ≡ synonym_meant (resolver_of (lookups_of pairs new)) t
-      same (algebraic k) q = refl
-      same (imported_synonym s) q = refl
-      same (declared_synonym ps u) q =
-          let it = is_declared m fs e d ps u g q in
-          ap (λ z. Some (synonym_of ps z)) (sym (same_expansion m fs pairs scope r resolves w new.synonyms new.types new.constructors it.name ps u it.stands (λ o x c means. let k = is_described m fs o.qualifier o.text x means.in_scope in settled x k.0 k.1)))
+      -- a synonym on the right side of an exported one is needed as that is
+      right_side : (n : Identifier) (ps : List Identifier) (t : TypeTree) (o : Identifier) (e : Entity) → Contains m.decls (synonym_declaration n ps t) → Contains exported n.text → Contains (constructors_in t) o → Means m fs Types o e
+          → (to : ℕ) → to < length synonyms.names → e ≡ own m (at to) → is_needed to ≡ true
+      right_side n ps t o e stands x c means to inside is =
+          let from = place_of (own m n.text) n.text (n, ps, t, (stands, refl)) refl in
+          let named_so : n.text ≡ at from.number = ap (λ (z : Entity). z.name) from.is in
+          let edge = (references.edges from.number to from.inside inside).1 (refers stands named_so c (subst (λ z. Means m fs Types o z) is means)) in
+          needs.needed.closed from.number to edge (needs.needed.exported_marked from.number from.inside (subst (λ z. Contains exported z) named_so x))

@@ -18,16 +18,21 @@ use Rattle.hm_names.specs.Bindings.{Pair}
 use Rattle.hm_scope_exports.specs.ExportedRows.{HaveOneEntity, IsBound}
 use Rattle.hm_scope.specs.PhaseAnswers.{AreExact}
 use Rattle.hm_scope.specs.declared.phases.TreeFaults.{TreeFaults}
+use Rattle.hm_names.specs.Cores.{kept}
 use Rattle.hm_names.specs.Resolved.{Resolver, IsResolver, resolved}
 use Rattle.hm_names.specs.NodeFaults.{NodeFault}
 use Rattle.hm_names.specs.Walk.{Somewhere}
 use Rattle.hm_names.specs.Faults.Phases.{Importing, Declaring, Naming, Counting, HasFault, IsWellFormed, AreFaults}
 
--- the declarations are the module's, with each name resolved
+-- the list has the types that the module exports
+abbrev pub HasExportedTypes : Module → List Interface → List Exported → Type 0
+HasExportedTypes m fs es = (x : List Rattle.std.specs.Prelude.ℕ) (e : Entity) → Contains es (record { name = x; entity = e }) ↔ IsExported m fs Types x e
+
+-- the declarations are those of the module's core
 pub record AreResolvedTrees (m : Module) (fs : List Interface) (ds : List Declaration) : Type 0 where
   pub resolver : Resolver
   pub resolves : IsResolver m fs resolver
-  pub trees : ds ≡ resolved m resolver
+  pub trees : (es : List Exported) → HasExportedTypes m fs es → ds ≡ map (kept es) (resolved m resolver)
 
 -- the faults in the module's trees
 abbrev pub AreNoted : Module → List Interface → List Fault → Type 0

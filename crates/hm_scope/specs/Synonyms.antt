@@ -1,5 +1,5 @@
 -- The references of a module's synonyms to each other, as the code computes them. No public clause names these.
-use Rattle.std.specs.Prelude.{◌≡◌, ℕ, ◌<◌, ◌↔◌, ◌⊎◌, Bool, true, false, List, [], map, length, Some, slice_index, slice_index_or, take, Contains}
+use Rattle.std.specs.Prelude.{◌≡◌, ℕ, ◌<◌, ◌↔◌, ◌⊎◌, Bool, true, false, List, [], map, length, slice_index, slice_index_or, take, Contains}
 use Rattle.hm_types.specs.Interfaces.{Exports as Interface}
 use Rattle.hm_syntax.specs.Names.{Identifier}
 use Rattle.hm_syntax.specs.Trees.{TypeTree, Declaration, synonym_declaration}
@@ -11,9 +11,8 @@ use Rattle.hm_scope.specs.declared.declared_synonyms.OwnSynonyms.{OwnSynonyms}
 use Rattle.hm_names.specs.declared.faults.Kind.{Kind}
 use Rattle.hm_names.specs.declared.faults.Kind.TheVariants.{Recursive}
 use Rattle.hm_names.specs.Variables.{constructors_in}
-use Rattle.hm_names.specs.Described.{TypeDescription, type_meant}
-use Rattle.hm_names.specs.Resolved.{Resolver, IsResolver, synonym_meant}
-use Rattle.hm_names.specs.Found.{KnownSynonym, Lookups, resolver_of, synonym_among}
+use Rattle.hm_names.specs.Resolved.{Resolver, IsResolver}
+use Rattle.hm_names.specs.Found.{KnownSynonym, synonym_among}
 use Rattle.hm_names.specs.declared.faults.Fault.{Fault}
 use Rattle.hm_names.specs.declared.namespace.Namespace.TheVariants.{Types}
 use Rattle.hm_names.specs.Entities.{own, named}
@@ -89,10 +88,6 @@ pub record IsMarkedFault (names : List (List ℕ)) (marks : List Bool) (ds : Lis
   pub stands : Contains ds (synonym_declaration name parameters type)
   pub marked : IsMarked names marks name.text
   pub is : f ≡ fault Recursive name
-
--- the tables have for each type constructor the synonym of its description
-abbrev pub AreResolved : Module → List Interface → Lookups → Type 0
-AreResolved m fs k = (e : Entity) (d : TypeDescription) → type_meant m.header.name.text m.decls fs e ≡ Some d → synonym_among k.synonyms e ≡ synonym_meant (resolver_of k) d.meaning
 
 -- the tables have for an entity the synonym that the resolver has
 abbrev pub IsSettled : Resolver → List KnownSynonym → Entity → Type 0

@@ -78,7 +78,12 @@ pub fn own_synonyms<'a>(alloc: Global, decls: &'a [Decl]) -> Result<OwnSynonyms<
 }
 
 /// Returns the number of the module's synonym that a type constructor means, if it means one.
-fn own_synonym(scope: &Scope<'_>, home: &str, names: &TextSet<'_>, name: &Name) -> Option<usize>
+pub(crate) fn own_synonym(
+    scope: &Scope<'_>,
+    home: &str,
+    names: &TextSet<'_>,
+    name: &Name,
+) -> Option<usize>
     ensures within { IfSome result (λ j. j < length names.now) }
     ensures own { IfSome result (λ j. (m : Module) (fs : List Interface) → IsScopeOf m fs scope.now → home.now ≡ m.header.name.text
         → Means m fs Types name.now (own m (slice_index_or names.now j []))) }
@@ -100,10 +105,10 @@ fn own_synonym(scope: &Scope<'_>, home: &str, names: &TextSet<'_>, name: &Name) 
 
 /// The names of a module's synonyms, and the scope in which type constructors are looked up.
 #[derive(Clone, Copy)]
-struct ScopedNames<'r, 'a> {
-    scope: &'r Scope<'a>,
-    home: &'r str,
-    names: &'r TextSet<'a>,
+pub(crate) struct ScopedNames<'r, 'a> {
+    pub(crate) scope: &'r Scope<'a>,
+    pub(crate) home: &'r str,
+    pub(crate) names: &'r TextSet<'a>,
 }
 
 /// Adds the edge from a synonym to the one that a type constructor means, if it is one of the module.

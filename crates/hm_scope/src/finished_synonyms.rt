@@ -13,14 +13,15 @@ ghost use Rattle.hm_names.specs.Found.{resolver_of, synonym_among};
 ghost use Rattle.hm_scope_tables.specs.KnownTables.{AreTablesOf, lookups_of};
 ghost use Rattle.hm_names.specs.Resolved.{Resolver, type_with};
 ghost use Rattle.hm_names.specs.DeclaredSynonyms.{AreAmong, IsSound};
-ghost use Rattle.hm_scope.specs.Synonyms.{AreOwnSynonyms, IsReferenceGraph, IsExpandable, Finishes, AreResolved};
+ghost use Rattle.hm_scope.specs.NeededSynonyms.{ResolvesNeeded};
+ghost use Rattle.hm_scope.specs.Synonyms.{AreOwnSynonyms, IsReferenceGraph, IsExpandable, Finishes};
 ghost use Rattle.hm_names.specs.Texts.{same_entity};
 ghost use Rattle.hm_names.specs.Types.{synonym_of, program_of, type_in};
 ghost use Rattle.hm_names.specs.Variables.{texts, type_variables};
 ghost use Rattle.hm_types.specs.Shape.{type_of};
 
-use crate::declared_synonyms::{OwnSynonym, OwnSynonyms};
-use hm_graph::Digraph;
+use crate::declared_synonyms::OwnSynonym;
+use crate::needed_synonyms::{DeclaredSynonyms, needed_order};
 use hm_names::{LentNames, TypeVariables, add_type, monotype, parameters_of};
 use hm_scope_entities::Tables;
 use hm_scope_resolve::Resolving;
@@ -187,15 +188,8 @@ fn add_in_order<'a>(
     Ok(())
 }
 
-/// A module's declared synonyms, with the graph of their references.
-#[derive(Clone, Copy)]
-pub(crate) struct DeclaredSynonyms<'r, 'a> {
-    pub(crate) own: &'r OwnSynonyms<'a>,
-    pub(crate) graph: &'r Digraph,
-}
-
 // Why: docs/DECISIONS.md, "Unused synonyms".
-/// Adds a module's synonyms, each after those on its right side. May omit synonyms of a module with faults.
+/// Adds the synonyms of a module that its core needs, each after those on its right side. May omit synonyms of a module with faults.
 pub(crate) fn add_synonyms<'a>(
     alloc: Global,
     tables: &mut Tables<'a>,
@@ -203,14 +197,15 @@ pub(crate) fn add_synonyms<'a>(
     program: &'a Module,
     synonyms: &DeclaredSynonyms<'_, 'a>,
 ) -> Result<(), AllocError>
-    requires { length synonyms.now.graph.now ≡ length synonyms.now.own.now.names }
+    requires synonyms { AreOwnSynonyms program.now.decls synonyms.now.own.now }
+    requires nodes { length synonyms.now.graph.now ≡ length synonyms.now.own.now.names }
     ensures types { OnOk result (tables.new.types ≡ tables.old.types) }
     ensures constructors { OnOk result (tables.new.constructors ≡ tables.old.constructors) }
     ensures synonyms { OnOk result ((fs : List Interface) → IsScopeOf program.now fs scope.now → AreTablesOf program.now fs tables.old
-        → AreOwnSynonyms program.now.decls synonyms.now.own.now → IsReferenceGraph program.now fs synonyms.now.own.now.names synonyms.now.graph.now
-        → IsWellFormed program.now fs → AreResolved program.now fs (lookups_of scope.now tables.new)) }
+        → IsReferenceGraph program.now fs synonyms.now.own.now.names synonyms.now.graph.now → IsWellFormed program.now fs
+        → ResolvesNeeded program.now fs synonyms.now.exported.now tables.new.synonyms) }
 {
-    let order = synonyms.graph.order()?;
+    let order = needed_order(alloc, scope, program, synonyms)?;
     let unfinished = Unfinished {
         scope,
         home: program.header.name.as_str(),

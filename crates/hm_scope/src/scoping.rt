@@ -10,6 +10,7 @@ ghost use Rattle.hm_names.specs.declared.namespace.Namespace.{Namespace};
 ghost use Rattle.hm_scope.specs.Answers.{AreNoted, AreTreeFaults, AreTrees, AreWalked, IsAnswer, IsAnswerBehind, AreExportedRows, rows_in};
 ghost use Rattle.hm_names.specs.Faults.Phases.{Exporting};
 ghost use Rattle.hm_scope_exports.specs.ModuleExports.{AreExportsOf};
+ghost use Rattle.hm_scope.specs.NeededSynonyms.{AreExportedTypes};
 ghost use Rattle.hm_scope.specs.PhaseAnswers.{AreExact, is_of_lists, is_of_names, is_of_numbers};
 ghost use Rattle.hm_scope_tables.specs.KnownTables.{AreTablesOf};
 ghost use Rattle.hm_scope.specs.Synonyms.{AreOwnSynonyms, HasSynonymFault, IsReferenceGraph};
@@ -21,7 +22,8 @@ ghost use Rattle.hm_scope.specs.Outcome.{IsFaulty, IsOutcome};
 
 use crate::answering::{first_faults, phase_answer};
 use crate::declared_synonyms::{OwnSynonyms, own_synonyms, reference_graph};
-use crate::finished_synonyms::{DeclaredSynonyms, add_synonyms};
+use crate::finished_synonyms::add_synonyms;
+use crate::needed_synonyms::{DeclaredSynonyms, exported_types, kept_decls};
 use crate::phases::{TreeFaults, by_phases};
 use crate::recursive_synonyms::synonym_faults;
 use hm_names::{
@@ -31,7 +33,7 @@ use hm_scope_entities::Tables;
 use hm_scope_exports::{ModuleExports, exported_in, module_exports};
 use hm_scope_imports::{import_faults, interfaces_of, scope_of};
 use hm_scope_resolve::{Walked, walk};
-use hm_scope_tables::{Binding, Scope};
+use hm_scope_tables::{Binding, Scope, TextSet};
 use hm_syntax::{Decl, Module, Row};
 use hm_types::{Interface, Text};
 use hm_types_prelude::SharedPrelude;
@@ -82,16 +84,22 @@ fn walked_with<'a>(
     tables: &mut Tables<'a>,
     synonyms: &DeclaredSynonyms<'_, 'a>,
 ) -> Result<Walked, AllocError>
-    requires { length synonyms.now.graph.now ≡ length synonyms.now.own.now.names }
+    requires synonyms { AreOwnSynonyms program.now.decls synonyms.now.own.now }
+    requires nodes { length synonyms.now.graph.now ≡ length synonyms.now.own.now.names }
     ensures { IfOk result (λ walked. (fs : List Interface) → IsScopeOf program.now fs scope.now → AreTablesOf program.now fs tables.old
-        → AreOwnSynonyms program.now.decls synonyms.now.own.now
-        → IsReferenceGraph program.now fs synonyms.now.own.now.names synonyms.now.graph.now → AreWalked program.now fs walked.decls.items walked.faults.items) }
+        → IsReferenceGraph program.now fs synonyms.now.own.now.names synonyms.now.graph.now → AreExportedTypes program.now fs synonyms.now.exported.now
+        → AreWalked program.now fs walked.decls.items walked.faults.items) }
 {
     let nodes = tables.nodes().get();
     add_synonyms(alloc, tables, scope, program, synonyms)?;
     // The limit of the walk doesn't count the nodes of the synonyms.
     tables.nodes().set(nodes);
-    Ok(walk(alloc, scope, tables, program)?)
+    let Walked { decls, faults } = walk(alloc, scope, tables, program)?;
+    let kept = kept_decls(alloc, decls, synonyms.exported)?;
+    Ok(Walked {
+        decls: kept,
+        faults,
+    })
 }
 
 /// Walks over a module with these synonyms.
@@ -105,6 +113,7 @@ fn walked_trees<'a>(
     requires synonyms { AreOwnSynonyms scoped.now.program.now.decls synonyms.now.own.now }
     requires nodes { length synonyms.now.graph.now ≡ length synonyms.now.own.now.names }
     requires edges { IsReferenceGraph scoped.now.program.now (map (λ f. f.now) scoped.now.interfaces.now) synonyms.now.own.now.names synonyms.now.graph.now }
+    requires exported { AreExportedTypes scoped.now.program.now (map (λ f. f.now) scoped.now.interfaces.now) synonyms.now.exported.now }
     ensures { IfOk result (λ walked. AreWalked scoped.now.program.now (map (λ f. f.now) scoped.now.interfaces.now) walked.decls.items walked.faults.items) }
 {
     let mut tables = Tables::of(alloc, scoped.program, scoped.interfaces, limits)?;
@@ -156,6 +165,7 @@ fn trees_with<'a>(
     requires synonyms { AreOwnSynonyms scoped.now.program.now.decls synonyms.now.own.now }
     requires nodes { length synonyms.now.graph.now ≡ length synonyms.now.own.now.names }
     requires edges { IsReferenceGraph scoped.now.program.now (map (λ f. f.now) scoped.now.interfaces.now) synonyms.now.own.now.names synonyms.now.graph.now }
+    requires exported { AreExportedTypes scoped.now.program.now (map (λ f. f.now) scoped.now.interfaces.now) synonyms.now.exported.now }
     ensures { IfOk result (AreTrees scoped.now.program.now (map (λ f. f.now) scoped.now.interfaces.now)) }
 {
     let recursive = synonym_faults(alloc, scoped.program, &synonyms.own.names, synonyms.graph)?;
@@ -168,28 +178,37 @@ fn trees_over<'a>(
     alloc: Global,
     scoped: &ScopedModule<'_, 'a>,
     own: &OwnSynonyms<'a>,
+    exported: &TextSet<'a>,
     limits: TypeLimits,
 ) -> Result<Trees, AllocError>
     requires scope { IsScopeOf scoped.now.program.now (map (λ f. f.now) scoped.now.interfaces.now) scoped.now.scope.now }
     requires synonyms { AreOwnSynonyms scoped.now.program.now.decls own.now }
+    requires exported { AreExportedTypes scoped.now.program.now (map (λ f. f.now) scoped.now.interfaces.now) exported.now }
     ensures { IfOk result (AreTrees scoped.now.program.now (map (λ f. f.now) scoped.now.interfaces.now)) }
 {
     let graph = reference_graph(alloc, scoped.scope, scoped.program, &own.names)?;
-    let synonyms = DeclaredSynonyms { own, graph: &graph };
+    let synonyms = DeclaredSynonyms {
+        own,
+        graph: &graph,
+        exported,
+    };
     trees_with(alloc, scoped, &synonyms, limits)
 }
 
-/// Returns the trees of a module. Its names are resolved if it has no faults.
-fn resolved_trees(
+/// Returns the trees of a module with these exports. Its names are resolved if it has no faults.
+fn resolved_trees<'a>(
     alloc: Global,
-    scoped: &ScopedModule<'_, '_>,
+    scoped: &ScopedModule<'_, 'a>,
+    exports: &ModuleExports<'a>,
     limits: TypeLimits,
 ) -> Result<Trees, AllocError>
-    requires { IsScopeOf scoped.now.program.now (map (λ f. f.now) scoped.now.interfaces.now) scoped.now.scope.now }
+    requires scope { IsScopeOf scoped.now.program.now (map (λ f. f.now) scoped.now.interfaces.now) scoped.now.scope.now }
+    requires exports { AreExportsOf scoped.now.program.now (map (λ f. f.now) scoped.now.interfaces.now) exports.now }
     ensures { IfOk result (AreTrees scoped.now.program.now (map (λ f. f.now) scoped.now.interfaces.now)) }
 {
     let own = own_synonyms(alloc, scoped.program.decls.as_slice())?;
-    trees_over(alloc, scoped, &own, limits)
+    let exported = exported_types(alloc, scoped.program.header.name.as_str(), &exports.given)?;
+    trees_over(alloc, scoped, &own, &exported, limits)
 }
 
 /// Walks over a module without expanding synonyms, and returns the faults in its trees.
@@ -292,7 +311,7 @@ fn behind_imports<'a>(
     ensures { IfOk result (λ answer. IsAnswerBehind scoped.now.program.now (map (λ f. f.now) scoped.now.interfaces.now) answer) }
 {
     let exports = module_exports(alloc, scoped.program, scoped.interfaces, scoped.scope)?;
-    match resolved_trees(alloc, scoped, limits) {
+    match resolved_trees(alloc, scoped, &exports, limits) {
         Ok(trees) => answer_with_trees(exports, trees, scoped),
         Err(AllocError) => {
             let ModuleExports {

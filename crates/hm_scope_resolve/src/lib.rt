@@ -35,7 +35,7 @@ mod types;
 mod walking;
 
 pub use crate::binding_lists::binding_names;
-pub use crate::copies::special_arity;
+pub use crate::copies::{copy_name, copy_names, special_arity};
 pub use crate::list_names::{add_names, constructor_names, signed_names, type_names};
 pub use crate::resolving::Resolving;
 pub use crate::walking::{Walked, walk};
