@@ -6,7 +6,7 @@ KINDS = [
         "module A where { x = 1 }\n"
         "module B where { import A (y) }",
         1,
-        "M.hs:2:28: error: cannot import 'y' [not-exported]\n"
+        "M.hs:2:28: error: cannot import 'y': 'A' doesn't export it [not-exported]\n"
         "The imported module doesn't export this name, or not as a constructor of this type.\n"
         "module B where { import A (y) }\n"
         "                           ^\n"
@@ -44,10 +44,33 @@ KINDS = [
         "module B where { x = 2 }\n"
         "module C where { import A ; import B ; y = x }",
         1,
-        "M.hs:3:44: error: 'x' is ambiguous: 'A.x' or 'B.x' [ambiguous]\n"
+        "M.hs:3:44: error: 'x' is ambiguous: write 'A.x' (imported in line 3) or 'B.x' (imported in line 3) [ambiguous]\n"
         "Several things in scope have this name: write a qualifier, or hide it in an import.\n"
         "module C where { import A ; import B ; y = x }\n"
         "                                           ^\n"
+        "errors: 1, skipped modules: 0\n",
+    ),
+    (
+        # one qualifier for two imports: no name means either alone
+        "module A where { x = 1 }\n"
+        "module B where { x = 2 }\n"
+        "module C where { import A as L ; import B as L ; y = x }",
+        1,
+        "M.hs:3:54: error: 'x' is ambiguous: 'A.x' or 'B.x' [ambiguous]\n"
+        "Several things in scope have this name: write a qualifier, or hide it in an import.\n"
+        "module C where { import A as L ; import B as L ; y = x }\n"
+        "                                                     ^\n"
+        "errors: 1, skipped modules: 0\n",
+    ),
+    (
+        # another type of the module has this constructor
+        "module A where { data T = C ; data U = D }\n"
+        "module B where { import A (T(C, D)) }",
+        1,
+        "M.hs:2:33: error: cannot import 'D': 'A' doesn't export it as a constructor of 'T' [not-exported]\n"
+        "The imported module doesn't export this name, or not as a constructor of this type.\n"
+        "module B where { import A (T(C, D)) }\n"
+        "                                ^\n"
         "errors: 1, skipped modules: 0\n",
     ),
     (
@@ -702,9 +725,17 @@ DETAILS = [
     ("import Prelude hiding (length) ; f = lenght", "1:55", "'lenght' isn't in scope [unbound]"),
     ("f = putStrLn", "1:22", "'putStrLn' isn't in scope: this Prelude leaves it out [unbound]"),
     ("x :: Integer ; x = 1", "1:23", "'Integer' isn't in scope: this Prelude leaves it out [unbound]"),
-    ("filter = 1 ; f = filter", "1:35", "'filter' is ambiguous: 'M.filter' or 'Prelude.filter' [ambiguous]"),
-    ("data T = Left ; f = Left", "1:38", "'Left' is ambiguous: 'M.Left' or 'Prelude.Left' [ambiguous]"),
-    ("data Int = I ; f :: Int ; f = 1", "1:38", "'Int' is ambiguous: 'M.Int' or 'Prelude.Int' [ambiguous]"),
+    ("filter = 1 ; f = filter", "1:35", "'filter' is ambiguous: write 'M.filter' or 'Prelude.filter', or add 'import Prelude hiding (filter)' [ambiguous]"),
+    ("data T = Left ; f = Left", "1:38", "'Left' is ambiguous: write 'M.Left' or 'Prelude.Left', or add 'import Prelude hiding (Left)' [ambiguous]"),
+    ("data Int = I ; f :: Int ; f = 1", "1:38", "'Int' is ambiguous: write 'M.Int' or 'Prelude.Int', or add 'import Prelude hiding (Int)' [ambiguous]"),
+    # an import names Prelude, so another one wouldn't hide a name of it
+    ("import Prelude ; filter = 1 ; f = filter", "1:52", "'filter' is ambiguous: write 'M.filter' or 'Prelude.filter' (imported in line 1) [ambiguous]"),
+    # the names that a list binds, less those with a signature; a near name of another list isn't meant
+    ("fooBar :: Int -> Int ; foobar x = x", "1:18", "the signature of 'fooBar' has no clauses (did you mean 'foobar'?) [no-binding]"),
+    ("foo1 :: Int ; foo2 :: Int ; foo2 = 2 ; foo3 = 3", "1:18", "the signature of 'foo1' has no clauses (did you mean 'foo3'?) [no-binding]"),
+    ("foo1 :: Int ; foo2 :: Int ; foo2 = 2", "1:18", "the signature of 'foo1' has no clauses [no-binding]"),
+    ("f = 1 where { foo1 :: Int } ; foo2 = 2", "1:32", "the signature of 'foo1' has no clauses [no-binding]"),
+    ("f = g where { foo1 :: Int ; (foo2, g) = (1, 2) }", "1:32", "the signature of 'foo1' has no clauses (did you mean 'foo2'?) [no-binding]"),
 ]
 
 # what has no lexemes, with the place and the first line of its message, less its word

@@ -61,6 +61,8 @@ fn have_details(faults: &[Fault]) -> bool {
                 | Kind::NonLinear
                 | Kind::Arity
                 | Kind::ClauseLength
+                | Kind::NotExported
+                | Kind::NoBinding
         )
     })
 }

@@ -1,12 +1,13 @@
 -- The first line of a message behind its file's name, and the line of counts.
-use Rattle.std.specs.Prelude.{ℕ, ◌==◌, ◌&&◌, List, [], ◌∷◌, ◌++◌, Option, Some, None, codes, if◌then◌else◌}
+use Rattle.std.specs.Prelude.{ℕ, cond, ◌==◌, ◌&&◌, List, [], ◌∷◌, ◌++◌, Option, Some, None, codes, if◌then◌else◌}
 use Rattle.std.specs.Fmt.{decimal}
 use Rattle.hm_messages_excerpts.specs.Escapes.{shown}
 use Rattle.hm_messages_json.specs.Objects.{counts_text}
 use Rattle.hm_messages_json.specs.declared.message.Level.{Level}
 use Rattle.hm_messages_json.specs.declared.message.Level.TheVariants.{Error, Note}
 use Rattle.hm_messages_json.specs.declared.message.Position.{Position}
-use Rattle.hm_messages_details.specs.Details.{Known, nothing, near, of_report, either, first, arguments, lengths}
+use Rattle.hm_messages_details.specs.Candidates.{Candidate}
+use Rattle.hm_messages_details.specs.Details.{Known, nothing, near, of_report, either, first, arguments, lengths, not_from, near_binding}
 use Rattle.hm_messages_hints.specs.LexemeTexts.{lexeme_text}
 use Rattle.hm_messages_hints.specs.SyntaxTexts.{syntax_text}
 use Rattle.hm_lex.specs.declared.token.Place.{Place}
@@ -142,15 +143,50 @@ kind_title Recursive x = codes "the type synonym '" ++ x ++ codes "' is defined 
 abbrev pub near_text : Option (List ℕ) → List ℕ → List ℕ
 near_text q x = codes " (did you mean '" ++ written_in q x ++ codes "'?)"
 
+-- two entities of one name, by the modules that define them
+abbrev pub both_text : Candidate → Candidate → List ℕ
+both_text c d = codes ": '" ++ c.entity.«module» ++ codes "." ++ c.entity.name ++ codes "' or '" ++ d.entity.«module» ++ codes "." ++ d.entity.name ++ codes "'"
+
+abbrev pub line_text : Option ℕ → List ℕ
+line_text None = []
+line_text (Some line) = codes " (imported in line " ++ decimal line ++ codes ")"
+
+-- an entity by its name with a qualifier, and the line of the import that gives this
+abbrev pub qualified_text : List ℕ → Candidate → List ℕ
+qualified_text q c = (codes "'" ++ q ++ codes "." ++ c.entity.name ++ codes "'") ++ line_text c.line
+
+-- how to hide an entity of Prelude that is imported implicitly
+abbrev pub hiding_text : Candidate → List ℕ
+hiding_text c = cond c.implicit (codes ", or add 'import Prelude hiding (" ++ c.entity.name ++ codes ")'") []
+
+-- what to write for two entities of one name
+abbrev pub written_text : List ℕ → List ℕ → Candidate → Candidate → List ℕ
+written_text q r c d = codes ": write " ++ qualified_text q c ++ codes " or " ++ qualified_text r d ++ hiding_text c ++ hiding_text d
+
+abbrev pub either_by : Option (List ℕ) → Option (List ℕ) → Candidate → Candidate → List ℕ
+either_by (Some q) (Some r) c d = written_text q r c d
+either_by (Some q) None c d = both_text c d
+either_by None r c d = both_text c d
+
+abbrev pub either_text : Candidate → Candidate → List ℕ
+either_text c d = either_by c.qualifier d.qualifier c d
+
+-- the module that doesn't export the name, or not as a constructor of this type
+abbrev pub not_from_text : List ℕ → Option (List ℕ) → List ℕ
+not_from_text x None = codes ": '" ++ x ++ codes "' doesn't export it"
+not_from_text x (Some t) = codes ": '" ++ x ++ codes "' doesn't export it as a constructor of '" ++ t ++ codes "'"
+
 -- what is known beyond the kind and the name
 abbrev pub detail_text : Known → List ℕ
 detail_text nothing = []
 detail_text (near q x) = near_text q x
 detail_text of_report = codes ": this Prelude leaves it out"
-detail_text (either d e) = codes ": '" ++ d.«module» ++ codes "." ++ d.name ++ codes "' or '" ++ e.«module» ++ codes "." ++ e.name ++ codes "'"
+detail_text (either c d) = either_text c d
 detail_text (first p) = []
 detail_text (arguments here takes) = codes ": it has " ++ decimal here ++ codes " here, but takes " ++ decimal takes
 detail_text (lengths here others) = codes ": " ++ decimal here ++ codes " here, but " ++ decimal others ++ codes " in the first"
+detail_text (not_from x t) = not_from_text x t
+detail_text (near_binding x) = near_text None x
 
 -- where the first of two names is, its column in characters
 abbrev pub first_text : Option Position → List ℕ

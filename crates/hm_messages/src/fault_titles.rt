@@ -1,10 +1,10 @@
 //! What is wrong with a module, in a few words.
 ghost use Rattle.std.specs.Prelude.{◌≡◌, IfOk, option_map, string_bytes};
-ghost use Rattle.hm_messages_details.specs.Details.{known_of};
-ghost use Rattle.hm_messages.specs.Headings.{detail_text as detail_bytes, fault_title as fault_title_bytes, first_text, kind_title as kind_title_bytes, near_text};
+ghost use Rattle.hm_messages_details.specs.Details.{candidate_of, known_of};
+ghost use Rattle.hm_messages.specs.Headings.{both_text as both_bytes, detail_text as detail_bytes, either_text as either_bytes, fault_title as fault_title_bytes, first_text, hiding_text as hiding_bytes, kind_title as kind_title_bytes, line_text as line_bytes, near_text, not_from_text as not_from_bytes, qualified_text as qualified_bytes, written_text as written_bytes};
 
 use crate::topic::Named;
-use hm_messages_details::{Detail, Origin};
+use hm_messages_details::{Candidate, Detail, Origin};
 use hm_messages_json::Position;
 use hm_names::Kind;
 use std::alloc::{AllocError, Global};
@@ -41,6 +41,118 @@ fn near_text(alloc: Global, qualifier: Option<&str>, name: &str) -> Result<Strin
     }
 }
 
+/// Returns the text about two entities of one name, by the modules that define them.
+fn both_text(
+    alloc: Global,
+    one: &Candidate<'_>,
+    other: &Candidate<'_>,
+) -> Result<String, AllocError>
+    ensures { IfOk result (λ text. string_bytes text ≡ both_bytes (candidate_of one.now) (candidate_of other.now)) }
+{
+    let Origin { module, name } = one.origin;
+    let Origin {
+        module: other_module,
+        name: other_name,
+    } = other.origin;
+    format!(in alloc; ": '{module}.{name}' or '{other_module}.{other_name}'")
+}
+
+/// Returns the text about the line of an import.
+fn line_text(alloc: Global, line: Option<u32>) -> Result<String, AllocError>
+    ensures { IfOk result (λ text. string_bytes text ≡ line_bytes line) }
+{
+    match line {
+        Some(line) => format!(in alloc; " (imported in line {line})"),
+        None => Ok(String::new(alloc)),
+    }
+}
+
+/// Returns how to write an entity with a qualifier, and where this comes from.
+fn qualified_text(
+    alloc: Global,
+    qualifier: &str,
+    candidate: &Candidate<'_>,
+) -> Result<String, AllocError>
+    ensures { IfOk result (λ text. string_bytes text ≡ qualified_bytes qualifier.now (candidate_of candidate.now)) }
+{
+    let name = candidate.origin.name;
+    let mut text = format!(in alloc; "'{qualifier}.{name}'")?;
+    text.push_str(line_text(alloc, candidate.line)?.as_str())?;
+    Ok(text)
+}
+
+/// Returns how to hide an entity of Prelude that is imported implicitly.
+fn hiding_text(alloc: Global, candidate: &Candidate<'_>) -> Result<String, AllocError>
+    ensures { IfOk result (λ text. string_bytes text ≡ hiding_bytes (candidate_of candidate.now)) }
+{
+    if !candidate.is_implicit {
+        return Ok(String::new(alloc));
+    }
+    let name = candidate.origin.name;
+    format!(in alloc; ", or add 'import Prelude hiding ({name})'")
+}
+
+/// A name of an entity that means it alone: a qualifier, and the entity.
+#[derive(Clone, Copy)]
+struct Qualified<'r, 'a> {
+    qualifier: &'r str,
+    candidate: &'r Candidate<'a>,
+}
+
+/// Returns the text about two entities of one name, with what to write for each.
+fn written_text(
+    alloc: Global,
+    one: Qualified<'_, '_>,
+    other: Qualified<'_, '_>,
+) -> Result<String, AllocError>
+    ensures { IfOk result (λ text. string_bytes text ≡ written_bytes one.entry.qualifier.now other.entry.qualifier.now (candidate_of one.entry.candidate.now) (candidate_of other.entry.candidate.now)) }
+{
+    let mut text = String::from_str(alloc, ": write ")?;
+    text.push_str(qualified_text(alloc, one.qualifier, one.candidate)?.as_str())?;
+    text.push_str(" or ")?;
+    text.push_str(qualified_text(alloc, other.qualifier, other.candidate)?.as_str())?;
+    text.push_str(hiding_text(alloc, one.candidate)?.as_str())?;
+    text.push_str(hiding_text(alloc, other.candidate)?.as_str())?;
+    Ok(text)
+}
+
+/// Returns the text about two entities of one name.
+fn either_text(
+    alloc: Global,
+    one: &Candidate<'_>,
+    other: &Candidate<'_>,
+) -> Result<String, AllocError>
+    ensures { IfOk result (λ text. string_bytes text ≡ either_bytes (candidate_of one.now) (candidate_of other.now)) }
+{
+    let Some(qualifier) = one.qualifier else {
+        return both_text(alloc, one, other);
+    };
+    let first = Qualified {
+        qualifier,
+        candidate: one,
+    };
+    let Some(qualifier) = other.qualifier else {
+        return both_text(alloc, one, other);
+    };
+    let second = Qualified {
+        qualifier,
+        candidate: other,
+    };
+    written_text(alloc, first, second)
+}
+
+/// Returns the text about the module that doesn't export a name.
+fn not_from_text(alloc: Global, module: &str, owner: Option<&str>) -> Result<String, AllocError>
+    ensures { IfOk result (λ text. string_bytes text ≡ not_from_bytes «module».now (option_map (λ t. t.now) owner.entry)) }
+{
+    match owner {
+        Some(owner) => format!(in alloc;
+            ": '{module}' doesn't export it as a constructor of '{owner}'"
+        ),
+        None => format!(in alloc; ": '{module}' doesn't export it"),
+    }
+}
+
 /// Returns the text of a detail beyond the kind and the name.
 fn detail_text(alloc: Global, detail: &Detail<'_>) -> Result<String, AllocError>
     ensures { IfOk result (λ text. string_bytes text ≡ detail_bytes (known_of detail.now)) }
@@ -49,14 +161,7 @@ fn detail_text(alloc: Global, detail: &Detail<'_>) -> Result<String, AllocError>
         Detail::Nothing => Ok(String::new(alloc)),
         Detail::Near(qualifier, name) => near_text(alloc, *qualifier, name),
         Detail::LeftOut => String::from_str(alloc, ": this Prelude leaves it out"),
-        Detail::Either(one, other) => {
-            let Origin { module, name } = *one;
-            let Origin {
-                module: other_module,
-                name: other_name,
-            } = *other;
-            format!(in alloc; ": '{module}.{name}' or '{other_module}.{other_name}'")
-        }
+        Detail::Either(one, other) => either_text(alloc, one, other),
         Detail::First(_) => Ok(String::new(alloc)),
         Detail::Arguments(here, takes) => format!(in alloc;
             ": it has {here} here, but takes {takes}"
@@ -64,6 +169,8 @@ fn detail_text(alloc: Global, detail: &Detail<'_>) -> Result<String, AllocError>
         Detail::Patterns(here, first) => format!(in alloc;
             ": {here} here, but {first} in the first"
         ),
+        Detail::NotFrom(module, owner) => not_from_text(alloc, module, *owner),
+        Detail::NearBinding(name) => near_text(alloc, None, name),
     }
 }
 

@@ -28,6 +28,8 @@ fn other_at(page: &Page<'_>, detail: &Detail<'_>) -> Result<Option<Position>, Me
         Detail::Either(_, _) => Ok(None),
         Detail::Arguments(_, _) => Ok(None),
         Detail::Patterns(_, _) => Ok(None),
+        Detail::NotFrom(_, _) => Ok(None),
+        Detail::NearBinding(_) => Ok(None),
     }
 }
 

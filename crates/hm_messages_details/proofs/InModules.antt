@@ -13,7 +13,8 @@ use Rattle.hm_names.specs.Variables.{type_variables, constructor_variables, cons
 use Rattle.hm_names.proofs.Members.{none_in, cases}
 use Rattle.hm_messages_details.specs.Counts.{HasArguments, of_type, of_constructor, HasLengthsAt}
 use Rattle.hm_messages_details.specs.Firsts.{IsFirstOf}
-use Rattle.hm_messages_details.specs.Parts.{Part, a_list, a_head, a_row, a_pattern, a_type, IsPart, list_is, head_is, parameters_are, pattern_is, type_is, type_parts, types_parts, constructor_parts, constructors_parts, pattern_parts, patterns_parts, head_parts, expression_parts, expressions_parts, alternative_parts, alternatives_parts, right_side_parts, bodies_parts, declarations_parts, declaration_parts, module_parts, IsFirstIn, HasArgumentsIn, HasLengthsIn}
+use Rattle.hm_messages_details.specs.NearBindings.{HasNearBinding, IsNearBindingAt}
+use Rattle.hm_messages_details.specs.Parts.{Part, a_list, a_head, a_row, a_pattern, a_type, IsPart, list_is, head_is, parameters_are, pattern_is, type_is, type_parts, types_parts, constructor_parts, constructors_parts, pattern_parts, patterns_parts, head_parts, expression_parts, expressions_parts, alternative_parts, alternatives_parts, right_side_parts, bodies_parts, declarations_parts, declaration_parts, module_parts, IsFirstIn, HasArgumentsIn, HasLengthsIn, IsNearBindingIn}
 
 module _ (Q : Locals → Node → Type 0) (p : Part) (h : (xs : Locals) (k : Node) → IsPart k p → Q xs k) where
   -- the node of the part
@@ -137,6 +138,13 @@ lengths_of f here first parameters_are s = absurd s
 lengths_of f here first pattern_is s = absurd s
 lengths_of f here first type_is s = absurd s
 
+near_of : (f : Fault) (x : List ℕ) {p : Part} {k : Node} → IsPart k p → IsNearBindingIn p f x → IsNearBindingAt k f x
+near_of f x list_is s = s
+near_of f x head_is s = absurd s
+near_of f x parameters_are s = absurd s
+near_of f x pattern_is s = absurd s
+near_of f x type_is s = absurd s
+
 -- and so it stands somewhere in the module
 
 pub somewhere_first : (m : Module) (f : Fault) (q : Place) (p : Part) → Contains (module_parts m.decls) p → IsFirstIn p f q → Somewhere m (λ xs k. IsFirstOf k f q)
@@ -147,3 +155,6 @@ somewhere_arguments m fs f here takes p c s = in_top (λ xs k. HasArguments m fs
 
 pub somewhere_lengths : (m : Module) (f : Fault) (here first : ℕ) (p : Part) → Contains (module_parts m.decls) p → HasLengthsIn f here first p → Somewhere m (λ xs k. HasLengthsAt f here first k)
 somewhere_lengths m f here first p c s = in_top (λ xs k. HasLengthsAt f here first k) p (λ xs k is. lengths_of f here first is s) m.decls c
+
+pub somewhere_near : (m : Module) (f : Fault) (x : List ℕ) (p : Part) → Contains (module_parts m.decls) p → IsNearBindingIn p f x → HasNearBinding m f x
+somewhere_near m f x p c s = in_top (λ xs k. IsNearBindingAt k f x) p (λ xs k is. near_of f x is s) m.decls c

@@ -2,5 +2,9 @@ mod Arities
 mod Found
 mod InModules
 mod LaterClauses
+mod Listing
+mod Meant
+mod Signing
 mod PartLists
 mod WorkedDetails
+mod WorkedNames

@@ -1,9 +1,6 @@
 -- What is known of a fault beyond its kind and its name.
-use Rattle.std.specs.Prelude.{◌≡◌, ◌⊎◌, ℕ, ⊤, Bool, false, List, [], ◌∷◌, length, Option, option_map, Contains}
-use Rattle.std.specs.Int.{is_in_range}
-use Rattle.std.specs.Str.{chars}
+use Rattle.std.specs.Prelude.{◌≡◌, ◌⊎◌, ℕ, ⊤, List, Option, option_map, Contains}
 use Rattle.hm_lex.specs.declared.token.Place.{Place}
-use Rattle.strsim.specs.Edits.{osa_table}
 use Rattle.hm_types.specs.declared.Entity.{Entity}
 use Rattle.hm_types.specs.Interfaces.{Exports as Interface}
 use Rattle.hm_syntax.specs.declared.ast.Module.{Module}
@@ -11,46 +8,50 @@ use Rattle.hm_names.specs.Bindings.{Pair}
 use Rattle.hm_names.specs.Faults.Phases.{written_in}
 use Rattle.hm_names.specs.Scope.{InScope}
 use Rattle.hm_names.specs.declared.faults.Fault.{Fault}
-use Rattle.hm_names.specs.declared.faults.Kind.TheVariants.{Ambiguous, Arity, ClauseLength, Duplicate, NonLinear, Unbound}
+use Rattle.hm_names.specs.declared.faults.Kind.TheVariants.{Ambiguous, Arity, ClauseLength, Duplicate, NoBinding, NonLinear, NotExported, Unbound}
 use Rattle.hm_names.specs.declared.namespace.Namespace.{Namespace}
+use Rattle.hm_messages_details.specs.Candidates.{Candidate, IsCandidate}
 use Rattle.hm_messages_details.specs.Counts.{AreArguments, AreLengths}
 use Rattle.hm_messages_details.specs.Firsts.{IsFirst}
 use Rattle.hm_messages_details.specs.LeftOut.{left_out}
+use Rattle.hm_messages_details.specs.Listed.{IsListedFrom}
+use Rattle.hm_messages_details.specs.NearBindings.{HasNearBinding}
+use Rattle.hm_messages_details.specs.Nearness.{begins_capital, edits}
+use Rattle.hm_messages_details.specs.declared.detail.Candidate.{Candidate as LentCandidate}
 use Rattle.hm_messages_details.specs.declared.detail.Detail.{Detail}
 use Rattle.hm_messages_details.specs.declared.detail.Detail.TheVariants as detail
 use Rattle.hm_messages_details.specs.declared.detail.Origin.{Origin}
 
 -- nothing; a name in scope that is near, by its qualifier and its text; the Report's Prelude has the name; two entities that it stands for; the place of
--- the first name that is the same; its arguments and how many it takes; the patterns of the clause and of the first one
+-- the first name that is the same; its arguments and how many it takes; the patterns of the clause and of the first one; the module that doesn't export
+-- the name, or not as a constructor of a type; a near name that the list of the signature binds
 pub data Known : Type 0 where
   nothing : Known
   near : Option (List ℕ) → List ℕ → Known
   of_report : Known
-  either : Entity → Entity → Known
+  either : Candidate → Candidate → Known
   first : Place → Known
   arguments : ℕ → ℕ → Known
   lengths : ℕ → ℕ → Known
+  not_from : List ℕ → Option (List ℕ) → Known
+  near_binding : List ℕ → Known
 
 abbrev pub entity_of : Origin → Entity
 entity_of o = record { «module» = o.«module».now; name = o.name.now }
+
+abbrev pub candidate_of : LentCandidate → Candidate
+candidate_of c = record { entity = entity_of c.origin; qualifier = option_map (λ q. q.now) c.qualifier; line = c.line; implicit = c.is_implicit }
 
 abbrev pub known_of : Detail → Known
 known_of detail.Nothing = nothing
 known_of (detail.Near q x) = near (option_map (λ s. s.now) q) x.now
 known_of detail.LeftOut = of_report
-known_of (detail.Either d e) = either (entity_of d) (entity_of e)
+known_of (detail.Either c d) = either (candidate_of c) (candidate_of d)
 known_of (detail.First p) = first p
 known_of (detail.Arguments here takes) = arguments here takes
 known_of (detail.Patterns here others) = lengths here others
-
--- how many letters are put in, taken out or replaced, or change places with their neighbour, to make one text of the other (the optimal
--- string alignment distance)
-abbrev pub edits : List ℕ → List ℕ → ℕ
-edits xs ys = (osa_table (chars xs) (chars ys)).last_row (length (chars ys))
-
-abbrev pub begins_capital : List ℕ → Bool
-begins_capital [] = false
-begins_capital (b ∷ bs) = is_in_range 65 90 b
+known_of (detail.NotFrom x t) = not_from x.now (option_map (λ s. s.now) t)
+known_of (detail.NearBinding x) = near_binding x.now
 
 -- the name of the pair is one edit away from this one, behind the same qualifier, and both or none begin with a capital letter
 pub record IsNearPair (name : List ℕ) (p : Pair) : Type 0 where
@@ -76,24 +77,26 @@ pub record IsNear (m : Module) (fs : List Interface) (name : List ℕ) (q : Opti
   pub is_near : IsNearPair name pair
 
 -- the name stands for both entities, which differ, in one namespace (Report, section 5.5.2)
-pub record IsEither (m : Module) (fs : List Interface) (name : List ℕ) (d e : Entity) : Type 0 where
+pub record IsEither (m : Module) (fs : List Interface) (name : List ℕ) (c d : Candidate) : Type 0 where
   pub space : Namespace
   pub one : Pair
   pub one_in_scope : IsPairInScope m fs one
   pub one_named : IsEntityFor name space one
-  pub one_is : one.entity ≡ d
+  pub one_is : IsCandidate m fs space one.entity c
   pub other : Pair
   pub other_in_scope : IsPairInScope m fs other
   pub other_named : IsEntityFor name space other
-  pub other_is : other.entity ≡ e
-  pub differ : ¬ (d ≡ e)
+  pub other_is : IsCandidate m fs space other.entity d
+  pub differ : ¬ (one.entity ≡ other.entity)
 
 -- what is known of a fault of a module with these interfaces is so
 abbrev pub IsKnown : Module → List Interface → Fault → Known → Type 0
 IsKnown m fs f nothing = ⊤
 IsKnown m fs f (near q x) = (f.kind ≡ Unbound) × IsNear m fs f.name q x
 IsKnown m fs f of_report = (f.kind ≡ Unbound) × Contains left_out f.name
-IsKnown m fs f (either d e) = (f.kind ≡ Ambiguous) × IsEither m fs f.name d e
+IsKnown m fs f (either c d) = (f.kind ≡ Ambiguous) × IsEither m fs f.name c d
 IsKnown m fs f (first p) = ((f.kind ≡ Duplicate) ⊎ (f.kind ≡ NonLinear)) × IsFirst m f p
 IsKnown m fs f (arguments here takes) = (f.kind ≡ Arity) × AreArguments m fs f here takes
 IsKnown m fs f (lengths here others) = (f.kind ≡ ClauseLength) × AreLengths m f here others
+IsKnown m fs f (not_from x t) = (f.kind ≡ NotExported) × IsListedFrom m f x t
+IsKnown m fs f (near_binding x) = (f.kind ≡ NoBinding) × HasNearBinding m f x

@@ -1,6 +1,10 @@
+pub mod Candidates
 pub mod Counts
 pub mod Details
 pub mod Firsts
 pub mod LeftOut
+pub mod Listed
+pub mod NearBindings
+pub mod Nearness
 pub mod Parts
 pub mod Worked

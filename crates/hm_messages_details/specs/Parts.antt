@@ -12,6 +12,7 @@ use Rattle.hm_names.specs.Variables.{pattern_count, patterns_variables, type_cou
 use Rattle.hm_names.specs.declared.faults.Fault.{Fault}
 use Rattle.hm_messages_details.specs.Counts.{ConstructorTakes, HasLengths, LaterClause, TypeTakes}
 use Rattle.hm_messages_details.specs.Firsts.{IsAt, IsFirstAt}
+use Rattle.hm_messages_details.specs.NearBindings.{IsNearBinding}
 use Rattle.hm_messages_details.specs.declared.lengths.Later.{Later}
 use Rattle.hm_messages_details.specs.declared.parts.Part.{Part as LentPart}
 use Rattle.hm_messages_details.specs.declared.parts.Part.TheVariants as lent
@@ -159,6 +160,13 @@ HasLengthsIn f here first (a_head ps) = ⊥
 HasLengthsIn f here first (a_row ps) = ⊥
 HasLengthsIn f here first (a_pattern n ps) = ⊥
 HasLengthsIn f here first (a_type n ts) = ⊥
+
+abbrev pub IsNearBindingIn : Part → Fault → List ℕ → Type 0
+IsNearBindingIn (a_list ds) f x = IsNearBinding ds f x
+IsNearBindingIn (a_head ps) f x = ⊥
+IsNearBindingIn (a_row ps) f x = ⊥
+IsNearBindingIn (a_pattern n ps) f x = ⊥
+IsNearBindingIn (a_type n ts) f x = ⊥
 
 -- a clause that continues a binding, as the code has it
 abbrev pub later_of : Later → LaterClause

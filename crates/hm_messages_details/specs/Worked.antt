@@ -1,18 +1,28 @@
--- Worked examples: names that only the Report's Prelude has, the first of several names, and numbers of arguments and patterns.
-use Rattle.std.specs.Prelude.{◌≡◌, ℕ, List, [], ◌∷◌, None, Contains, codes}
+-- Worked examples: names that only the Report's Prelude has, the first of several names, numbers of arguments and patterns, and names of imports and
+-- signatures.
+use Rattle.std.specs.Prelude.{◌≡◌, ℕ, false, List, [], ◌∷◌, None, Some, Contains, codes}
 use Rattle.hm_lex.specs.declared.token.Place.{Place}
 use Rattle.hm_syntax.specs.Names.{Identifier}
-use Rattle.hm_syntax.specs.Trees.{Patterns, no_patterns, more_patterns, variable_pattern, constructor_pattern, Declarations, no_declarations, more_declarations, clause, RightSide, right_side, no_bodies}
+use Rattle.hm_syntax.specs.Trees.{Patterns, no_patterns, more_patterns, variable_pattern, constructor_pattern, Declarations, no_declarations, more_declarations, clause, signature, unit_type, RightSide, right_side, no_bodies}
+use Rattle.hm_syntax.specs.declared.ast.Import.{Import}
+use Rattle.hm_syntax.specs.declared.ast.ImportItem.{ImportItem}
+use Rattle.hm_syntax.specs.declared.ast.ImportItem.TheVariants as item
+use Rattle.hm_syntax.specs.declared.ast.ImportList.TheVariants as list
 use Rattle.hm_syntax.specs.declared.ast.Module.{Module}
+use Rattle.hm_syntax.specs.declared.ast.SubItems.TheVariants as subs
 use Rattle.hm_types.specs.Interfaces.{Exports as Interface}
 use Rattle.hm_names.specs.Faults.Phases.{fault}
 use Rattle.hm_names.specs.Walk.{at_pattern}
 use Rattle.hm_names.specs.declared.faults.Fault.{Fault}
-use Rattle.hm_names.specs.declared.faults.Kind.TheVariants.{Ambiguous, Arity, ClauseLength, Duplicate, Unbound}
+use Rattle.hm_names.specs.declared.faults.Kind.TheVariants.{Ambiguous, Arity, ClauseLength, Duplicate, NoBinding, NotExported, Unbound}
+use Rattle.hm_messages_details.specs.Candidates.{IsImportLine}
 use Rattle.hm_messages_details.specs.Counts.{HasArguments, HasLengths}
 use Rattle.hm_messages_details.specs.Details.{IsKnown, of_report}
 use Rattle.hm_messages_details.specs.Firsts.{IsFirstAt}
 use Rattle.hm_messages_details.specs.LeftOut.{left_out}
+use Rattle.hm_messages_details.specs.Listed.{IsListedAs}
+use Rattle.hm_messages_details.specs.NearBindings.{IsNearBinding}
+use Rattle.hm_messages_details.specs.Nearness.{AreNear}
 
 -- this Prelude leaves out `putStrLn` of the Report's Prelude, and has `map`. An ambiguous name isn't reported as left out
 pub record LeftOutRow : Type 0 where
@@ -57,3 +67,30 @@ three_clauses =
 pub record LengthsRow : Type 0 where
   pub counted : HasLengths (fault ClauseLength (name_on (codes "f") 3)) 1 2 three_clauses
   pub other : (here : ℕ) → ¬ (HasLengths (fault ClauseLength (name_on (codes "f") 3)) here 1 three_clauses)
+
+abbrev pub constructor_item : ImportItem
+constructor_item = item.Con (name_on (codes "T") 1) (subs.Some (name_on (codes "D") 2 ∷ []))
+
+-- `T(D)`: D is listed as a constructor of T, and not alone
+pub record ListedRow : Type 0 where
+  pub after : IsListedAs (fault NotExported (name_on (codes "D") 2)) constructor_item (Some (codes "T"))
+  pub alone : ¬ (IsListedAs (fault NotExported (name_on (codes "D") 2)) constructor_item None)
+
+abbrev pub import_on : List ℕ → List ℕ → ℕ → Import
+import_on x k line = record { qualified = false; name = name_on x line; alias = Some (name_on k line); list = list.Every }
+
+-- `import A as L` on line 1 and `import B as M` on line 2: what begins with `L.` is from line 1, and not from line 2
+pub record ImportLineRow : Type 0 where
+  pub first : (m : Module) → m.header.imports ≡ import_on (codes "A") (codes "L") 1 ∷ import_on (codes "B") (codes "M") 2 ∷ [] → IsImportLine m (codes "L") 1
+  pub second : (m : Module) → m.header.imports ≡ import_on (codes "A") (codes "L") 1 ∷ import_on (codes "B") (codes "M") 2 ∷ [] → ¬ (IsImportLine m (codes "L") 2)
+
+-- `fooBar :: ()` on line 1, and `foobar` with a clause on line 2
+abbrev pub one_signature : Declarations
+one_signature =
+    more_declarations (signature (name_on (codes "fooBar") 1 ∷ []) unit_type)
+    (more_declarations (clause (name_on (codes "foobar") 2) one_pattern no_right_side) no_declarations)
+
+-- the clause may be meant for the signature if its name is near, and no other name is bound there
+pub record NearBindingRow : Type 0 where
+  pub bound : AreNear (codes "fooBar") (codes "foobar") → IsNearBinding one_signature (fault NoBinding (name_on (codes "fooBar") 1)) (codes "foobar")
+  pub other : ¬ (IsNearBinding one_signature (fault NoBinding (name_on (codes "fooBar") 1)) (codes "fooBaz"))

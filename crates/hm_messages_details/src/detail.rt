@@ -9,6 +9,18 @@ pub struct Origin<'a> {
     pub name: &'a str,
 }
 
+/// An entity that an ambiguous name stands for, and how to write it so that it is the only one.
+#[derive(Clone, Copy, Debug, PartialEq, Eq)]
+pub struct Candidate<'a> {
+    pub origin: Origin<'a>,
+    /// A qualifier with which the entity's name means it alone.
+    pub qualifier: Option<&'a str>,
+    /// The line of the import with that qualifier.
+    pub line: Option<u32>,
+    /// Whether Prelude defines it, and is imported implicitly.
+    pub is_implicit: bool,
+}
+
 /// A detail of a fault, beyond its kind and its name.
 #[derive(Clone, Copy, Debug, PartialEq, Eq)]
 pub enum Detail<'a> {
@@ -18,11 +30,15 @@ pub enum Detail<'a> {
     /// The name is unbound, and one of the Report's Prelude that this Prelude leaves out.
     LeftOut,
     /// The name is ambiguous, and means both of these.
-    Either(Origin<'a>, Origin<'a>),
+    Either(Candidate<'a>, Candidate<'a>),
     /// There is an earlier one of the same name, and the first is here.
     First(Place),
     /// The name has so many arguments, and takes so many.
     Arguments(usize, usize),
     /// The clause has so many patterns, and the first clause of its binding so many.
     Patterns(usize, usize),
+    /// The module with this name doesn't export the name, or not as a constructor of this type.
+    NotFrom(&'a str, Option<&'a str>),
+    /// The name has a signature without clauses, and the same list binds this one, one edit away.
+    NearBinding(&'a str),
 }

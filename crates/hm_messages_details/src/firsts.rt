@@ -31,7 +31,7 @@ pub(crate) fn is_at(fault: &Fault, name: &Name) -> bool
 }
 
 /// Returns whether a fault is at one of these names.
-fn is_among(fault: &Fault, names: &[&Name]) -> bool
+pub(crate) fn is_among(fault: &Fault, names: &[&Name]) -> bool
     ensures { result ≡ true → (second : Identifier) × Contains (map (λ n. n.now) names.now) second × IsAt fault.now second }
 {
     'names: for name in names {

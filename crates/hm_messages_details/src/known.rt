@@ -3,31 +3,24 @@ ghost use Rattle.std.specs.Prelude.{◌≡◌, ◌⊎◌, List, IfOk, IfSome};
 ghost use Rattle.hm_syntax.specs.declared.ast.Module.{Module as ModuleTree};
 ghost use Rattle.hm_types.specs.Interfaces.{Exports as Interface};
 ghost use Rattle.hm_names.specs.Bindings.{IsScopeOf};
-ghost use Rattle.hm_names.specs.declared.faults.Kind.TheVariants.{Ambiguous, Arity, ClauseLength, Duplicate, NonLinear, Unbound};
+ghost use Rattle.hm_names.specs.declared.faults.Kind.TheVariants.{Ambiguous, Arity, ClauseLength, Duplicate, NoBinding, NonLinear, Unbound};
 ghost use Rattle.hm_scope_tables.specs.KnownTables.{AreTablesOf};
-ghost use Rattle.hm_messages_details.specs.Details.{IsKnown, entity_of as entity_at, known_of};
+ghost use Rattle.hm_messages_details.specs.Details.{IsKnown, known_of};
 
+use crate::candidates::candidate;
 use crate::counts::argument_counts;
-use crate::detail::{Detail, Origin};
+use crate::detail::Detail;
 use crate::firsts::first_of_two;
 use crate::left_out::is_left_out;
 use crate::lengths::pattern_counts;
+use crate::listed::import_detail;
 use crate::nearest::{entity_of, nearest, other_entity_of};
+use crate::signed::near_binding;
 use crate::site::Site;
 use hm_names::{Fault, Kind, Namespace};
-use hm_scope_tables::{EntityRef, Scope};
+use hm_scope_tables::Scope;
 use hm_syntax::Module;
 use std::alloc::{AllocError, Global};
-
-/// Returns where an entity is defined.
-fn origin_of<'a>(entity: &EntityRef<'a>) -> Origin<'a>
-    ensures { entity_at result ≡ entity.now }
-{
-    Origin {
-        module: entity.module(),
-        name: entity.name(),
-    }
-}
 
 /// Returns the detail of an unbound name, if there is one.
 fn unbound_detail<'a>(
@@ -49,27 +42,50 @@ fn unbound_detail<'a>(
 }
 
 /// Returns two entities that a name means in a namespace, if there are two.
-fn either_in<'a>(scope: &Scope<'a>, name: &str, space: Namespace) -> Option<Detail<'a>>
-    ensures { IfSome result (λ detail. (f : Fault) (m : ModuleTree) (fs : List Interface) → f.kind ≡ Ambiguous → f.name ≡ name.now → IsScopeOf m fs scope.now
-        → IsKnown m fs f (known_of detail)) }
+fn either_in<'a>(
+    program: &Module,
+    scope: &Scope<'a>,
+    name: &str,
+    space: Namespace,
+) -> Option<Detail<'a>>
+    ensures { IfSome result (λ detail. (f : Fault) (fs : List Interface) → f.kind ≡ Ambiguous → f.name ≡ name.now → IsScopeOf program.now fs scope.now
+        → IsKnown program.now fs f (known_of detail)) }
 {
-    let one = entity_of(name, space, scope.pairs())?;
-    let other = other_entity_of(name, space, scope.pairs(), one.entity())?;
-    Some(Detail::Either(origin_of(one.entity()), origin_of(other.entity())))
+    let row = scope.pairs();
+    let one = entity_of(name, space, row)?;
+    let other = other_entity_of(name, space, row, one.entity())?;
+    let first = candidate(program, row, space, one.entity());
+    let second = candidate(program, row, space, other.entity());
+    Some(Detail::Either(first, second))
 }
 
 /// Returns the detail of an ambiguous name, if there is one.
-fn ambiguous_detail<'a>(scope: &Scope<'a>, fault: &Fault) -> Detail<'a>
+fn ambiguous_detail<'a>(program: &Module, scope: &Scope<'a>, fault: &Fault) -> Detail<'a>
     requires { fault.now.kind ≡ Ambiguous }
-    ensures { (m : ModuleTree) (fs : List Interface) → IsScopeOf m fs scope.now → IsKnown m fs fault.now (known_of result) }
+    ensures { (fs : List Interface) → IsScopeOf program.now fs scope.now → IsKnown program.now fs fault.now (known_of result) }
 {
     let name = fault.name.as_str();
     for space in [Namespace::Values, Namespace::Constructors, Namespace::Types] {
-        if let Some(detail) = either_in(scope, name, space) {
+        if let Some(detail) = either_in(program, scope, name, space) {
             return detail;
         }
     }
     Detail::Nothing
+}
+
+/// Returns the detail of a signature without clauses: a near name that its list binds, if there is one.
+fn signature_detail<'a>(
+    alloc: Global,
+    program: &'a Module,
+    fault: &Fault,
+) -> Result<Detail<'a>, AllocError>
+    requires { fault.now.kind ≡ NoBinding }
+    ensures { IfOk result (λ detail. (fs : List Interface) → IsKnown program.now fs fault.now (known_of detail)) }
+{
+    match near_binding(alloc, program, fault)? {
+        Some(name) => Ok(Detail::NearBinding(name)),
+        None => Ok(Detail::Nothing),
+    }
 }
 
 /// Returns the detail of a second declaration: the first one, if it is found.
@@ -118,8 +134,8 @@ fn length_detail<'a>(
     }
 }
 
-/// Returns what is known of a fault of a module: a name that it may be meant for, what it stands for, where the first of two is, or numbers of
-/// arguments or patterns.
+/// Returns what is known of a fault of a module: a name that it may be meant for, what it stands for, where the first of two is, numbers of arguments or
+/// patterns, or the module that doesn't export it.
 ///
 /// The time goes by the size of the module and by the number of the scope's pairs.
 pub fn detail_of<'s>(
@@ -132,11 +148,13 @@ pub fn detail_of<'s>(
 {
     match fault.kind {
         Kind::Unbound => Ok(unbound_detail(alloc, site.scope, fault)?),
-        Kind::Ambiguous => Ok(ambiguous_detail(site.scope, fault)),
+        Kind::Ambiguous => Ok(ambiguous_detail(site.program, site.scope, fault)),
         Kind::Duplicate => Ok(second_detail(alloc, site.program, fault)?),
         Kind::NonLinear => Ok(second_detail(alloc, site.program, fault)?),
         Kind::Arity => Ok(arity_detail(alloc, site, fault)?),
         Kind::ClauseLength => Ok(length_detail(alloc, site.program, fault)?),
+        Kind::NotExported => Ok(import_detail(site.program, fault)),
+        Kind::NoBinding => Ok(signature_detail(alloc, site.program, fault)?),
         _ => Ok(Detail::Nothing),
     }
 }

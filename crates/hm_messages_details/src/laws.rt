@@ -1,5 +1,5 @@
 //! Worked examples: functions with an empty body, whose contracts have the facts.
-ghost use Rattle.hm_messages_details.specs.Worked.{ArgumentsRow, FirstRow, LeftOutRow, LengthsRow};
+ghost use Rattle.hm_messages_details.specs.Worked.{ArgumentsRow, FirstRow, ImportLineRow, LeftOutRow, LengthsRow, ListedRow, NearBindingRow};
 
 /// A name that only the Report's Prelude has, and one that both have.
 #[tactic(auto, using(crate::proofs::WorkedDetails::worked_left_out))]
@@ -18,4 +18,12 @@ pub fn worked_firsts()
 pub fn worked_counts()
     ensures arguments { ArgumentsRow }
     ensures lengths { LengthsRow }
+{}
+
+/// A constructor that an import lists, the line of an import, and the name that a signature may be meant for; and others that aren't so.
+#[tactic(auto, using(crate::proofs::WorkedNames::worked_listed, crate::proofs::WorkedNames::worked_lines, crate::proofs::WorkedNames::worked_bindings))]
+pub fn worked_names()
+    ensures listed { ListedRow }
+    ensures lines { ImportLineRow }
+    ensures bindings { NearBindingRow }
 {}

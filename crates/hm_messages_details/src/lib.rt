@@ -1,6 +1,8 @@
-//! Finds details of a fault beyond its kind and its name: similar names, entities of an ambiguous name, earlier declarations, and numbers of arguments.
+//! Finds details of a fault beyond its kind and its name: similar names, entities of an ambiguous name, earlier declarations, numbers of arguments, and
+//! the module of an import.
 #![tactic(auto)]
 
+mod candidates;
 mod counts;
 mod detail;
 mod firsts;
@@ -8,11 +10,13 @@ mod known;
 pub mod laws;
 mod left_out;
 mod lengths;
+mod listed;
 mod nearest;
 mod parts;
+mod signed;
 mod site;
 mod written;
 
-pub use crate::detail::{Detail, Origin};
+pub use crate::detail::{Candidate, Detail, Origin};
 pub use crate::known::detail_of;
 pub use crate::site::Site;

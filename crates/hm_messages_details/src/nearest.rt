@@ -1,6 +1,7 @@
 //! Finds names in scope that are one edit away from a name, and the entities that a name means.
 ghost use Rattle.std.specs.Prelude.{◌≡◌, Contains, IfOk, IfSome, true};
-ghost use Rattle.hm_messages_details.specs.Details.{IsEntityFor, IsNearPair, begins_capital, edits};
+ghost use Rattle.hm_messages_details.specs.Details.{IsEntityFor, IsNearPair};
+ghost use Rattle.hm_messages_details.specs.Nearness.{AreNear, begins_capital};
 
 use crate::written::behind;
 use hm_names::Namespace;
@@ -51,9 +52,8 @@ fn are_alike(text: &[u8], other: &[u8]) -> bool {
 }
 
 /// Returns whether two texts are one edit apart, and both or neither begin with a capital letter.
-fn is_near(alloc: Global, text: &str, other: &str) -> Result<bool, AllocError>
-    ensures edits { IfOk result (λ is. is ≡ true → edits text.now other.now ≡ 1) }
-    ensures capital { IfOk result (λ is. is ≡ true → begins_capital text.now ≡ begins_capital other.now) }
+pub(crate) fn is_near(alloc: Global, text: &str, other: &str) -> Result<bool, AllocError>
+    ensures { IfOk result (λ is. is ≡ true → AreNear text.now other.now) }
 {
     if text.len() < SHORTEST || !are_alike(text.as_bytes(), other.as_bytes()) {
         return Ok(false);

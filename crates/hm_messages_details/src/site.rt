@@ -6,7 +6,7 @@ use hm_syntax::Module;
 /// A module, with its scope and the tables of its types and constructors.
 #[derive(Clone, Copy)]
 pub struct Site<'r, 's, 't> {
-    pub program: &'r Module,
+    pub program: &'s Module,
     pub scope: &'r Scope<'s>,
     pub tables: &'r Tables<'t>,
 }

@@ -1,9 +1,6 @@
 use Rattle.std.proofs.Common.{rules, append_assoc}
 use Rattle.hm_messages.proofs.fault_titles.detail_text.Goals as goal
 
-pub returns-in-Either : goal.returns-in-Either
-returns-in-Either c = rw c.in-Either.is (simp append_assoc (search rules))
-
 pub returns-in-Arguments : goal.returns-in-Arguments
 returns-in-Arguments c = rw c.in-Arguments.is (simp append_assoc (search rules))
 

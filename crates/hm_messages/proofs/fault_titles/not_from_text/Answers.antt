@@ -1,0 +1,8 @@
+use Rattle.std.proofs.Common.{rules, append_assoc}
+use Rattle.hm_messages.proofs.fault_titles.not_from_text.Goals as goal
+
+pub returns-in-Some : goal.returns-in-Some
+returns-in-Some c = rw c.in-Some.is (simp append_assoc (search rules))
+
+pub returns-in-None : goal.returns-in-None
+returns-in-None c = rw c.in-None.is (simp append_assoc (search rules))

@@ -1,0 +1,69 @@
+-- The worked names of imports and signatures.
+use Rattle.std.proofs.Common.{◌≡◌, ◌∷◌, ◌∙◌, [], ℕ, List, All, None, ⊎_elim, ap, arith, refl, subst, sym}
+use Rattle.std.proofs.lemmas.List.Elements.{All-cons, All-nil}
+use Rattle.std.specs.Prelude.{Contains, codes}
+use Rattle.hm_syntax.specs.Names.{Identifier}
+use Rattle.hm_syntax.specs.declared.ast.Import.{Import}
+use Rattle.hm_names.specs.Faults.Phases.{fault}
+use Rattle.hm_names.specs.declared.faults.Kind.TheVariants.{NotExported}
+use Rattle.hm_names.proofs.Members.{cases, none_in}
+use Rattle.hm_messages_details.specs.Candidates.{IsInLine}
+use Rattle.hm_messages_details.specs.Listed.{IsListedAs, a_constructor, a_type}
+use Rattle.hm_messages_details.specs.Worked.{ImportLineRow, ListedRow, NearBindingRow, constructor_item, import_on, name_on}
+use Rattle.hm_lex.specs.declared.token.Place.{Place}
+
+pub worked_listed : ListedRow
+worked_listed = record {
+  after = a_constructor (0, omega arith, refl) (record { place_is = refl; name_is = refl });
+  alone = λ h. not_alone h;
+}
+  where
+    not_alone : ¬ (IsListedAs (fault NotExported (name_on (codes "D") 2)) constructor_item None)
+    not_alone (a_type at) = let lines : 2 ≡ 1 = ap (λ (p : Place). p.line) at.place_is in omega (arith, lines)
+
+two_imports : List Import
+two_imports = import_on (codes "A") (codes "L") 1 ∷ import_on (codes "B") (codes "M") 2 ∷ []
+
+first_letter : List ℕ → ℕ
+first_letter [] = 0
+first_letter (x ∷ xs) = x
+
+pub worked_lines : ImportLineRow
+unfolding two_imports first_letter
+worked_lines = record {
+  first = λ m is. record {
+    import = import_on (codes "A") (codes "L") 1;
+    written = subst (λ l. Contains l (import_on (codes "A") (codes "L") 1)) (sym is) (0, omega arith, refl);
+    known = refl;
+    each = subst (All (IsInLine (codes "L") 1)) (sym is)
+        (All-cons (IsInLine (codes "L") 1) (import_on (codes "A") (codes "L") 1) (import_on (codes "B") (codes "M") 2 ∷ []) (λ e. refl)
+        (All-cons (IsInLine (codes "L") 1) (import_on (codes "B") (codes "M") 2) [] (λ e. let letters : 77 ≡ 76 = ap first_letter e in omega (arith, letters)) (All-nil (IsInLine (codes "L") 1))));
+  };
+  second = λ m is h.
+      let each : All (IsInLine (codes "L") 2) two_imports = subst (All (IsInLine (codes "L") 2)) is h.each in
+      let lines : 1 ≡ 2 = each 0 (import_on (codes "A") (codes "L") 1) (omega arith) refl in
+      omega (arith, lines);
+}
+
+pub worked_bindings : NearBindingRow
+worked_bindings = record {
+  bound = λ near. record {
+    signed = name_on (codes "fooBar") 1;
+    among = (0, omega arith, refl);
+    at_signed = record { place_is = refl; name_is = refl };
+    bound = name_on (codes "foobar") 2;
+    binds = (0, omega arith, refl);
+    text_is = refl;
+    near = near;
+  };
+  other = λ h. not_bound h.bound h.binds h.text_is;
+}
+  where
+    fourth : List ℕ → ℕ
+    fourth (a ∷ b ∷ c ∷ d ∷ xs) = d
+    fourth _ = 0
+
+    not_bound : (n : Identifier) → Contains (name_on (codes "foobar") 2 ∷ []) n → ¬ (n.text ≡ codes "fooBaz")
+    not_bound n c e = ⊎_elim
+        (λ s. let letters : 98 ≡ 66 = ap fourth (ap (λ (k : Identifier). k.text) (sym s) ∙ e) in omega (arith, letters))
+        (λ o. none_in n o) (cases (name_on (codes "foobar") 2) [] n c)
