@@ -1,16 +1,17 @@
 #!/usr/bin/env python3
 """Measures how often the note of a type fault is at the slip: makes single slips in good modules, and asks the program.
 
-`slips.py [--program PROGRAM] [--ghc] [--count N] [--seed N] [--show N] FILE..`: FILEs are sources of good modules, each a set by itself. A slip
+`slips.py [--program PROGRAM] [--ghc] [--count N] [--seed N].. [--show N] FILE..`: FILEs are sources of good modules, each a set by itself. A slip
 changes one token or one small expression: two arguments exchanged, one left out or given twice, a function left out, a literal of another kind, another
 constructor or variable, list brackets put in or left out, a tuple without its last component, another right side, a pattern or a type of a signature.
 What it is comes by chance first, each sort as often, and then where. It is kept where the set then has one faulty module, with type faults alone.
 
 Prints how many faults have a place (told), and how many of these places overlap the changed tokens (hit), have all of them (contain), and are hits
 that are at most two tokens wider than the slip (tight; three tokens always are). Then how many tokens a place and a slip have (width), and how
-much longer runs with messages take. hmc's place is its note, and GHC's, with `--ghc`, its first error. With `--show` the first notes that miss are printed.
+much longer runs with messages take. This is printed of hmc's first note alone, of all its notes, and with `--ghc` of GHC's first error. With `--show` the
+first slips are printed that the first note misses.
 """
-# Why: docs/DECISIONS.md, "Hits of notes", "Widths of notes", "Time of notes", "Misses of notes", "Sorts of slips".
+# Why: docs/DECISIONS.md, "Hits of notes", "Widths of notes", "Time of notes", "Misses of notes", "Sorts of slips", "The order of notes".
 import argparse
 import os
 import random
@@ -236,12 +237,12 @@ class Slip:
     def __init__(self, kind, source, changed):
         self.kind, self.source, self.changed, self.tokens = kind, source, changed, tokens_of(source)
         self.own_width = sum(1 for it in self.tokens if changed[0] <= it.start < changed[1])
-        self.notes, self.seconds, self.mine, self.theirs = [], None, None, None
+        self.notes, self.seconds, self.first, self.any, self.theirs = [], None, None, None, None
 
     def explain(self, program, plain):
         _, messages, seconds = run(program, self.source, "--explain")
         self.notes, self.seconds = list(notes_in(self.source, self.tokens, messages)), seconds - plain
-        self.mine = Told(self, self.notes)
+        self.first, self.any = Told(self, self.notes[:1]), Told(self, self.notes)
 
     def ask_ghc(self):
         with tempfile.TemporaryDirectory() as folder:
@@ -286,26 +287,28 @@ def row_of(name, told):
 
 def compared(slips):
     """The lines of what is told of slips by both."""
-    mine = sum(it.mine.is_hit and not it.theirs.is_hit for it in slips)
-    theirs = sum(it.theirs.is_hit and not it.mine.is_hit for it in slips)
-    return [row_of("GHC", [it.theirs for it in slips]), f"hmc alone hits {mine}, GHC alone {theirs}"]
+    mine = sum(it.first.is_hit and not it.theirs.is_hit for it in slips)
+    theirs = sum(it.theirs.is_hit and not it.first.is_hit for it in slips)
+    return [row_of("GHC", [it.theirs for it in slips]), f"hmc's first note alone hits {mine}, GHC alone {theirs}"]
 
 
 def summary(slips, is_compared):
     """The lines that are printed of slips."""
-    lines = [f"slips: {len(slips)}, width in tokens: {spread([it.own_width for it in slips])}", row_of("hmc", [it.mine for it in slips])]
+    lines = [f"slips: {len(slips)}, width in tokens: {spread([it.own_width for it in slips])}"]
+    lines += [row_of("hmc's first note", [it.first for it in slips]), row_of("any note of hmc", [it.any for it in slips])]
     lines += compared(slips) if is_compared else []
     extra = sorted(it.seconds for it in slips)
     lines.append(f"seconds of a processor more with messages: median {statistics.median(extra):.3f}, 90 % {extra[9 * len(extra) // 10]:.3f}, most {extra[-1]:.3f}")
     for kind in sorted({it.kind for it in slips}):
         of_kind = [it for it in slips if it.kind == kind]
         theirs = f", GHC {sum(it.theirs.is_hit for it in of_kind)}" if is_compared else ""
-        lines.append(f"  {kind}: {sum(it.mine.is_hit for it in of_kind)}{theirs} of {len(of_kind)}, median width {width_of(of_kind)}")
+        hits = f"first note {sum(it.first.is_hit for it in of_kind)}, any note {sum(it.any.is_hit for it in of_kind)}"
+        lines.append(f"  {kind}: {hits}{theirs} of {len(of_kind)}, median width {width_of(of_kind)}")
     return lines
 
 
 def width_of(slips):
-    widths = [width for it in slips for width in it.mine.widths]
+    widths = [width for it in slips for width in it.first.widths]
     return statistics.median(widths) if widths else "none"
 
 
@@ -324,21 +327,23 @@ def main():
     parser.add_argument("--program", default=os.path.join(TOP, "crates", "hmc", "out", "hmc"))
     parser.add_argument("--ghc", action="store_true", help="ask GHC of each slip too")
     parser.add_argument("--count", type=int, default=40, help="slips in each file")
-    parser.add_argument("--seed", type=int, default=1)
+    parser.add_argument("--seed", type=int, action="append", help="may be given several times; 1 if it isn't given")
     parser.add_argument("--show", type=int, default=0)
     parser.add_argument("files", nargs="+")
     words = parser.parse_args()
-    chance, slips = random.Random(words.seed), []
-    for name in words.files:
-        with open(name, encoding="utf-8") as file:
-            slips += slips_in(words.program, file.read(), chance, words.count)
+    slips = []
+    for seed in words.seed or [1]:
+        chance = random.Random(seed)
+        for name in words.files:
+            with open(name, encoding="utf-8") as file:
+                slips += slips_in(words.program, file.read(), chance, words.count)
     if not slips:
         sys.exit("no slip was kept")
     if words.ghc:
         with ThreadPoolExecutor(2) as pool:
             list(pool.map(Slip.ask_ghc, slips))
     print("\n".join(summary(slips, words.ghc)))
-    for slip in [it for it in slips if not it.mine.is_hit][:words.show]:
+    for slip in [it for it in slips if not it.first.is_hit][:words.show]:
         show(slip)
 
 

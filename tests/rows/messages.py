@@ -392,6 +392,45 @@ KINDS = [
         "                 ^\n"
         "errors: 1, skipped modules: 0\n",
     ),
+    # a signature without which the module is good: its note is first
+    (
+        "module M where { f :: Bool -> Char ; f x = not x ; g = not (f True) }",
+        1,
+        "M.hs:1:38: error: type error in 'f' [type]\n"
+        "This definition has no type, though everything that it refers to has one.\n"
+        "module M where { f :: Bool -> Char ; f x = not x ; g = not (f True) }\n"
+        "                                     ^\n"
+        "M.hs:1:18: note: 'f' has type 'Bool -> Bool' without this signature (up to 1:34)\n"
+        "module M where { f :: Bool -> Char ; f x = not x ; g = not (f True) }\n"
+        "                 ^\n"
+        "M.hs:1:44: note: this has type 'Bool -> Bool', but 'Bool -> Char' is expected (up to 1:46)\n"
+        "module M where { f :: Bool -> Char ; f x = not x ; g = not (f True) }\n"
+        "                                           ^^^\n"
+        "M.hs:1:52: error: type error in 'g' [type]\n"
+        "This definition has no type, though everything that it refers to has one.\n"
+        "module M where { f :: Bool -> Char ; f x = not x ; g = not (f True) }\n"
+        "                                                   ^\n"
+        "M.hs:1:61: note: this has type 'Bool -> Char', but 'Bool -> Bool' is expected (up to 1:61)\n"
+        "module M where { f :: Bool -> Char ; f x = not x ; g = not (f True) }\n"
+        "                                                            ^\n"
+        "errors: 2, skipped modules: 0\n",
+    ),
+    # brackets without a last component, and an argument that could be to blame too
+    (
+        "module M where { f :: ([((), ())] -> ()) -> [()] -> () ; f g xs = g (map (\\x -> (x)) xs) }",
+        1,
+        "M.hs:1:58: error: type error in 'f' [type]\n"
+        "This definition has no type, though everything that it refers to has one.\n"
+        "module M where { f :: ([((), ())] -> ()) -> [()] -> () ; f g xs = g (map (\\x -> (x)) xs) }\n"
+        "                                                         ^\n"
+        "M.hs:1:81: note: this has type '()', but '((), ())' is expected (up to 1:83)\n"
+        "module M where { f :: ([((), ())] -> ()) -> [()] -> () ; f g xs = g (map (\\x -> (x)) xs) }\n"
+        "                                                                                ^\n"
+        "M.hs:1:18: note: 'f' has type '([a] -> b) -> [a] -> b' without this signature (up to 1:54)\n"
+        "module M where { f :: ([((), ())] -> ()) -> [()] -> () ; f g xs = g (map (\\x -> (x)) xs) }\n"
+        "                 ^\n"
+        "errors: 1, skipped modules: 0\n",
+    ),
     # two faults: each other definition is a hole where types are found, and the module has an export list
     (
         "module M (f, g) where { f :: Bool -> Bool ; f x = 'c' ; g = not 1 }",

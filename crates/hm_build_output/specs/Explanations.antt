@@ -1,5 +1,5 @@
 -- The messages of a build: what is told of each module, in the order of the report.
-use Rattle.std.specs.Prelude.{◌≡◌, ◌⊎◌, ℕ, zero, suc, ◌+◌, ◌-◌, ◌^◌, ◌<◌, All, Contains, List, [], ◌∷◌, ◌++◌, cond, length, map, min, slice_index_or}
+use Rattle.std.specs.Prelude.{◌≡◌, ◌⊎◌, Bool, true, ℕ, zero, suc, ◌+◌, ◌-◌, ◌^◌, ◌<◌, All, Contains, List, [], ◌∷◌, ◌++◌, cond, length, map, min, slice_index_or}
 use Rattle.std.specs.List.Sorted.{IsPermutation, IsSortedBy}
 use Rattle.hm_messages_details.specs.Details.{IsKnown, Known, nothing}
 use Rattle.hm_lex.specs.declared.token.Place.{Place}
@@ -22,7 +22,7 @@ use Rattle.hm_messages.specs.declared.topic.Way.{Way}
 use Rattle.hm_messages.specs.declared.topic.Way.TheVariants as way
 use Rattle.hm_explain.specs.Mends.{IsMend}
 use Rattle.hm_explain.specs.PartTypes.{HasPartTypes}
-use Rattle.hm_explain.specs.Signatures.{IsUnsigned}
+use Rattle.hm_explain.specs.Signatures.{IsUnsigned, Leads}
 use Rattle.hm_explain.specs.declared.mends.Mend.{Mend}
 use Rattle.hm_explain.specs.declared.mends.Mend.TheVariants.{Expression, Pattern, Exchange}
 use Rattle.hm_explain.specs.declared.search.Culprit.{Culprit}
@@ -80,25 +80,33 @@ pub record IsNote (paint : Paint) (file source name : List ℕ) (fs : List Inter
   pub columns_at : AreColumnsAt source (other_of mend) columns
   pub told : IsToldOf paint file source name fs f.name mend (reader_place (other_of mend) columns) text
 
--- the note of a signature tells the type that the definition of a type fault has without it
-pub record IsSignatureNote (paint : Paint) (file source name : List ℕ) (fs : List Interface) (f : Fault) (text : List ℕ) : Type 0 where
+-- the note of a signature tells the type that the definition of a type fault has without it. If the note leads, the module is good without the signature
+pub record IsSignatureNote (paint : Paint) (file source name : List ℕ) (fs : List Interface) (f : Fault) (leads : Bool) (text : List ℕ) : Type 0 where
   pub untyped : f.kind ≡ Untyped
   pub signature : Culprit
   pub own : List ℕ
   pub alone : IsUnsigned source name fs f.name signature own
+  pub led : leads ≡ true → Leads source name fs signature
   pub columns : Columns
   pub columns_at : AreColumnsAt source signature.end columns
   pub told : IsMessage paint file source signature.start (unsigned f.name (reader_place signature.end columns) own) text
 
--- the message of a fault of which nothing else is known, and behind it its note and that of its signature, or nothing
+-- the notes of a type fault: that of its part and that of its signature, or one of them, or none. That of the signature is first if it leads
+pub record AreNotes (paint : Paint) (file source name : List ℕ) (fs : List Interface) (f : Fault) (text : List ℕ) : Type 0 where
+  pub note : List ℕ
+  pub signed : List ℕ
+  pub leads : Bool
+  pub noted : (note ≡ []) ⊎ IsNote paint file source name fs f note
+  pub signature : (signed ≡ []) ⊎ IsSignatureNote paint file source name fs f leads signed
+  pub whole : text ≡ cond leads (signed ++ note) (note ++ signed)
+
+-- the message of a fault of which nothing else is known, and behind it its notes, or nothing
 pub record IsNoted (paint : Paint) (file source name : List ℕ) (fs : List Interface) (f : Fault) (text : List ℕ) : Type 0 where
   pub message : List ℕ
-  pub note : List ℕ
+  pub notes : List ℕ
   pub says : IsFaultMessage paint file source f nothing message
-  pub signed : List ℕ
-  pub noted : (note ≡ []) ⊎ IsNote paint file source name fs f note
-  pub signature : (signed ≡ []) ⊎ IsSignatureNote paint file source name fs f signed
-  pub whole : text ≡ message ++ note ++ signed
+  pub noted : (notes ≡ []) ⊎ AreNotes paint file source name fs f notes
+  pub whole : text ≡ message ++ notes
 
 -- the same of module number i: the note speaks of it for the interfaces of what it imports
 abbrev pub IsNotedIn : Paint → List ℕ → List ℕ → ModuleSet → (ℕ → Status) → ℕ → Fault → List ℕ → Type 0

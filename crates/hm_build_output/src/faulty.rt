@@ -1,14 +1,16 @@
 //! The messages of a module with type faults: one for each fault, and after it a note of the change that gives the definition a type.
-ghost use Rattle.std.specs.Prelude.{◌≡◌, ◌⊎◌, IfOk, IfSome, [], map, string_bytes};
+ghost use Rattle.std.specs.Prelude.{◌≡◌, ◌⊎◌, ◌++◌, IfOk, IfSome, [], cond, map, string_bytes, true};
 ghost use Rattle.std.specs.Arc.{arc_value};
-ghost use Rattle.hm_messages.specs.Messages.{AreEach};
+ghost use Rattle.hm_messages.specs.Messages.{AreEach, IsMessage};
+ghost use Rattle.hm_messages.specs.Subjects.{unsigned as unsigned_subject};
 ghost use Rattle.hm_explain.specs.Mends.{IsMend};
-ghost use Rattle.hm_explain.specs.Signatures.{IsUnsigned};
+ghost use Rattle.hm_explain.specs.Signatures.{IsUnsigned, Leads};
 ghost use Rattle.hm_names.specs.declared.faults.Kind.TheVariants.{Untyped};
-ghost use Rattle.hm_build_output.specs.Explanations.{ArePartTypes, IsNote, IsNoted, IsSignatureNote, IsToldOf, first_of as first_place, other_of as other_place, way_of as told_way};
+ghost use Rattle.hm_build_output.specs.Explanations.{ArePartTypes, AreNotes, IsNote, IsNoted, IsSignatureNote, IsToldOf, first_of as first_place, other_of as other_place, way_of as told_way};
 
 use hm_explain::{
-    Effort, Mend, PartTypes, Question, TypeFault, Unsigned, mend_of, part_types_of, unsigned_of,
+    Effort, Mend, PartTypes, Question, Reading, TypeFault, Unsigned, mend_of, part_types_of,
+    reading_of, unsigned_of,
 };
 use hm_lex::Place;
 use hm_messages::{BothTypes, MessageFault, Page, Paint, Topic, Way, fault_message, message};
@@ -29,17 +31,17 @@ pub(crate) struct FaultyModule<'f, 'p> {
 fn mend_for(
     alloc: Global,
     module: &FaultyModule<'_, '_>,
-    fault: &Fault,
+    found: &TypeFault<'_>,
     effort: &mut Effort,
 ) -> Option<Mend>
-    ensures { IfSome result (λ mend. (fault.now.kind ≡ Untyped) × IsMend «module».now.question.now.source.now «module».now.question.now.name.now
-        (map arc_value «module».now.question.now.imports.now) fault.now.name mend) }
+    ensures { IfSome result (λ mend. (found.now.fault.now.kind ≡ Untyped) × IsMend «module».now.question.now.source.now «module».now.question.now.name.now
+        (map arc_value «module».now.question.now.imports.now) found.now.fault.now.name mend) }
 {
-    if fault.kind != Kind::Untyped {
+    if found.fault.kind != Kind::Untyped {
         return None;
     }
-    match mend_of(alloc, module.question, fault, module.faults, effort) {
-        Ok(found) => found,
+    match mend_of(alloc, module.question, found, effort) {
+        Ok(mend) => mend,
         Err(AllocError) => None,
     }
 }
@@ -81,22 +83,18 @@ fn way_of(mend: &Mend, other: Place) -> Way
 fn types_for(
     alloc: Global,
     module: &FaultyModule<'_, '_>,
-    fault: &Fault,
+    found: &TypeFault<'_>,
     mend: &Mend,
     effort: &mut Effort,
 ) -> Option<PartTypes>
     ensures { IfSome result (λ types. ArePartTypes «module».now.question.now.source.now «module».now.question.now.name.now
-        (map arc_value «module».now.question.now.imports.now) fault.now.name mend.now (string_bytes types.expected) (string_bytes types.actual)) }
+        (map arc_value «module».now.question.now.imports.now) found.now.fault.now.name mend.now (string_bytes types.expected) (string_bytes types.actual)) }
 {
-    let found = TypeFault {
-        fault,
-        faults: module.faults,
-    };
     match mend {
         Mend::Expression(part) => match part_types_of(
             alloc,
             module.question,
-            &found,
+            found,
             *part,
             effort,
         ) {
@@ -151,14 +149,14 @@ fn note_text(
 fn note_for(
     alloc: Global,
     module: &FaultyModule<'_, '_>,
-    fault: &Fault,
+    found: &TypeFault<'_>,
     effort: &mut Effort,
 ) -> Result<Vec<u8>, MessageFault>
     requires { «module».now.question.now.source.now ≡ «module».now.page.now.lines }
     ensures { IfOk result (λ text. (text.items ≡ []) ⊎ IsNote «module».now.paint «module».now.page.now.file.now «module».now.page.now.lines
-        «module».now.question.now.name.now (map arc_value «module».now.question.now.imports.now) fault.now text.items) }
+        «module».now.question.now.name.now (map arc_value «module».now.question.now.imports.now) found.now.fault.now text.items) }
 {
-    let Some(mend) = mend_for(alloc, module, fault, effort) else {
+    let Some(mend) = mend_for(alloc, module, found, effort) else {
         return Ok(Vec::new(alloc));
     };
     let other = other_of(&mend);
@@ -172,67 +170,173 @@ fn note_for(
         line: other.line,
         column,
     };
-    let types = types_for(alloc, module, fault, &mend, effort);
+    let types = types_for(alloc, module, found, &mend, effort);
     let part = FaultyPart { mend, types };
-    Ok(note_text(alloc, module, fault.name.as_str(), &part, place)?)
+    Ok(note_text(alloc, module, found.fault.name.as_str(), &part, place)?)
 }
 
 /// Returns the type that the definition of a type fault has without its signature, if it is found.
 fn unsigned_for(
     alloc: Global,
     module: &FaultyModule<'_, '_>,
-    fault: &Fault,
+    found: &TypeFault<'_>,
     effort: &mut Effort,
 ) -> Option<Unsigned>
-    ensures { IfSome result (λ found. (fault.now.kind ≡ Untyped) × IsUnsigned «module».now.question.now.source.now «module».now.question.now.name.now
-        (map arc_value «module».now.question.now.imports.now) fault.now.name found.signature (string_bytes found.own)) }
+    ensures own { IfSome result (λ own. (found.now.fault.now.kind ≡ Untyped) × IsUnsigned «module».now.question.now.source.now «module».now.question.now.name.now
+        (map arc_value «module».now.question.now.imports.now) found.now.fault.now.name own.signature (string_bytes own.own)) }
+    ensures leads { IfSome result (λ own. own.leads ≡ true → Leads «module».now.question.now.source.now «module».now.question.now.name.now
+        (map arc_value «module».now.question.now.imports.now) own.signature) }
 {
-    if fault.kind != Kind::Untyped {
+    if found.fault.kind != Kind::Untyped {
         return None;
     }
-    let found = TypeFault {
-        fault,
-        faults: module.faults,
-    };
-    match unsigned_of(alloc, module.question, &found, effort) {
+    match unsigned_of(alloc, module.question, found, effort) {
         Ok(unsigned) => unsigned,
         Err(AllocError) => None,
     }
+}
+
+/// The note of a signature, or no text, and whether it is before the other note.
+#[derive(Drop)]
+struct SignatureNote {
+    text: Vec<u8>,
+    leads: bool,
+}
+
+/// Returns no note of a signature.
+fn no_note(alloc: Global) -> SignatureNote
+    ensures { result.text.items ≡ [] }
+{
+    SignatureNote {
+        text: Vec::new(alloc),
+        leads: false,
+    }
+}
+
+/// Returns the note of the signature of a fault, with this as the place of the signature's end.
+fn signature_text(
+    alloc: Global,
+    module: &FaultyModule<'_, '_>,
+    definition: &str,
+    unsigned: &Unsigned,
+    end: Place,
+) -> Result<Vec<u8>, MessageFault>
+    ensures { IfOk result (λ text. IsMessage «module».now.paint «module».now.page.now.file.now «module».now.page.now.lines unsigned.now.signature.start
+        (unsigned_subject definition.now end (string_bytes unsigned.now.own)) text.items) }
+{
+    let topic = Topic::Unsigned(definition, end, unsigned.own.as_str());
+    Ok(message(
+        alloc,
+        module.paint,
+        module.page,
+        unsigned.signature.start,
+        &topic,
+    )?)
 }
 
 /// Returns the note of the signature of a fault, or no text.
 fn signature_note(
     alloc: Global,
     module: &FaultyModule<'_, '_>,
-    fault: &Fault,
+    found: &TypeFault<'_>,
     effort: &mut Effort,
-) -> Result<Vec<u8>, MessageFault>
+) -> Result<SignatureNote, MessageFault>
     requires { «module».now.question.now.source.now ≡ «module».now.page.now.lines }
-    ensures { IfOk result (λ text. (text.items ≡ []) ⊎ IsSignatureNote «module».now.paint «module».now.page.now.file.now «module».now.page.now.lines
-        «module».now.question.now.name.now (map arc_value «module».now.question.now.imports.now) fault.now text.items) }
+    ensures { IfOk result (λ note. (note.text.items ≡ []) ⊎ IsSignatureNote «module».now.paint «module».now.page.now.file.now «module».now.page.now.lines
+        «module».now.question.now.name.now (map arc_value «module».now.question.now.imports.now) found.now.fault.now note.leads note.text.items) }
 {
-    let Some(found) = unsigned_for(alloc, module, fault, effort) else {
-        return Ok(Vec::new(alloc));
+    let Some(unsigned) = unsigned_for(alloc, module, found, effort) else {
+        return Ok(no_note(alloc));
     };
-    let Unsigned { signature, own } = &found;
+    let signature = unsigned.signature;
     let Some(columns) = module.page.lines.columns(signature.end) else {
-        return Ok(Vec::new(alloc));
+        return Ok(no_note(alloc));
     };
     let Ok(column) = u32::try_from(columns.characters) else {
-        return Ok(Vec::new(alloc));
+        return Ok(no_note(alloc));
     };
     let end = Place {
         line: signature.end.line,
         column,
     };
-    let topic = Topic::Unsigned(fault.name.as_str(), end, own.as_str());
-    Ok(message(alloc, module.paint, module.page, signature.start, &topic)?)
+    let text = signature_text(alloc, module, found.fault.name.as_str(), &unsigned, end)?;
+    Ok(SignatureNote {
+        text,
+        leads: unsigned.leads,
+    })
 }
 
-/// Returns the message of a fault with its notes.
+/// Returns two texts, one after the other. The second one is first if it leads.
+fn in_order(alloc: Global, first: &[u8], second: &[u8], leads: bool) -> Result<Vec<u8>, AllocError>
+    ensures { IfOk result (λ text. text.items ≡ cond leads (second.now ++ first.now) (first.now ++ second.now)) }
+{
+    if leads {
+        let mut text = Vec::from_slice(alloc, second)?;
+        text.extend_from_slice(first)?;
+        return Ok(text);
+    }
+    let mut text = Vec::from_slice(alloc, first)?;
+    text.extend_from_slice(second)?;
+    Ok(text)
+}
+
+/// Returns the reading of a module's source for its notes. Returns `None` if memory or the effort doesn't suffice.
+fn reading_for(
+    alloc: Global,
+    module: &FaultyModule<'_, '_>,
+    effort: &mut Effort,
+) -> Option<Reading> {
+    match reading_of(alloc, module.question.source, effort) {
+        Ok(reading) => reading,
+        Err(AllocError) => None,
+    }
+}
+
+// Why: docs/DECISIONS.md, "The order of notes".
+/// Returns the notes of a fault, one after the other.
+fn notes_of(
+    alloc: Global,
+    module: &FaultyModule<'_, '_>,
+    found: &TypeFault<'_>,
+    effort: &mut Effort,
+) -> Result<Vec<u8>, MessageFault>
+    requires { «module».now.question.now.source.now ≡ «module».now.page.now.lines }
+    ensures { IfOk result (λ text. AreNotes «module».now.paint «module».now.page.now.file.now «module».now.page.now.lines
+        «module».now.question.now.name.now (map arc_value «module».now.question.now.imports.now) found.now.fault.now text.items) }
+{
+    let note = note_for(alloc, module, found, effort)?;
+    let signed = signature_note(alloc, module, found, effort)?;
+    Ok(in_order(alloc, note.as_slice(), signed.text.as_slice(), signed.leads)?)
+}
+
+/// Returns the notes of a fault, or no text without a reading of the module's source.
+fn notes_for(
+    alloc: Global,
+    module: &FaultyModule<'_, '_>,
+    reading: Option<&Reading>,
+    fault: &Fault,
+    effort: &mut Effort,
+) -> Result<Vec<u8>, MessageFault>
+    requires { «module».now.question.now.source.now ≡ «module».now.page.now.lines }
+    ensures { IfOk result (λ text. (text.items ≡ []) ⊎ AreNotes «module».now.paint «module».now.page.now.file.now «module».now.page.now.lines
+        «module».now.question.now.name.now (map arc_value «module».now.question.now.imports.now) fault.now text.items) }
+{
+    let Some(reading) = reading else {
+        return Ok(Vec::new(alloc));
+    };
+    let found = TypeFault {
+        fault,
+        faults: module.faults,
+        reading,
+    };
+    Ok(notes_of(alloc, module, &found, effort)?)
+}
+
+/// Returns the message of a fault with its notes, which need the reading of the module's source.
 fn fault_text(
     alloc: Global,
     module: &FaultyModule<'_, '_>,
+    reading: Option<&Reading>,
     fault: &Fault,
     effort: &mut Effort,
 ) -> Result<Vec<u8>, MessageFault>
@@ -241,10 +345,8 @@ fn fault_text(
         «module».now.question.now.name.now (map arc_value «module».now.question.now.imports.now) fault.now text.items) }
 {
     let mut text = fault_message(alloc, module.paint, module.page, fault, Detail::Nothing)?;
-    let note = note_for(alloc, module, fault, effort)?;
-    let signed = signature_note(alloc, module, fault, effort)?;
-    text.extend_from_slice(note.as_slice())?;
-    text.extend_from_slice(signed.as_slice())?;
+    let notes = notes_for(alloc, module, reading, fault, effort)?;
+    text.extend_from_slice(notes.as_slice())?;
     Ok(text)
 }
 
@@ -258,9 +360,10 @@ pub(crate) fn noted_messages(
     ensures { IfOk result (λ text. AreEach (IsNoted «module».now.paint «module».now.page.now.file.now «module».now.page.now.lines
         «module».now.question.now.name.now (map arc_value «module».now.question.now.imports.now)) «module».now.faults.now text.items) }
 {
+    let reading = reading_for(alloc, module, effort);
     let mut text = Vec::new(alloc);
     for fault in module.faults {
-        let message = fault_text(alloc, module, fault, effort)?;
+        let message = fault_text(alloc, module, reading.as_ref(), fault, effort)?;
         text.extend_from_slice(message.as_slice())?;
     }
     Ok(text)

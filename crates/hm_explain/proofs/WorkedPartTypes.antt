@@ -1,5 +1,5 @@
 -- The worked types of parts.
-use Rattle.std.proofs.Common.{◌≡◌, ◌∙◌, ℕ, List, [], ◌∷◌, ◌++◌, All, Contains, length, get_or, refl, sym, ap, subst, arith}
+use Rattle.std.proofs.Common.{◌≡◌, ◌∙◌, ℕ, List, [], ◌∷◌, ◌++◌, Contains, length, get_or, refl, sym, ap, subst, arith}
 use Rattle.std.specs.Prelude.{codes, slice_range}
 use Rattle.std.proofs.lemmas.List.Elements.{All-contains, All-cons}
 use Rattle.hm_types.specs.Interfaces.{Exports as Interface}
@@ -12,13 +12,14 @@ use Rattle.hm_types.specs.declared.entries.ValueEntry.{ValueEntry}
 use Rattle.hm_syntax.specs.declared.ast.Module.{Module}
 use Rattle.hm_run_sources.specs.SourceModules.{HasModules}
 use Rattle.hm_verdicts.specs.ModuleVerdicts.{Verdict, Good, Faulty, IsVerdict}
-use Rattle.hm_verdicts.specs.Worked.{module_A}
-use Rattle.hm_verdicts.specs.WorkedVerdicts.{character, entry_x, interface_A}
+use Rattle.hm_verdicts.specs.Worked.{module_A, module_B}
+use Rattle.hm_verdicts.specs.WorkedVerdicts.{character, entry_x, fault_Z, interface_A}
 use Rattle.hm_verdicts.proofs.OneModuleVerdict.{one_module_verdict}
-use Rattle.hm_verdicts.proofs.WorkedModules.{good_A}
+use Rattle.hm_verdicts.proofs.WorkedModules.{faulty_B, good_A}
 use Rattle.hm_explain.specs.Holes.{hole}
 use Rattle.hm_explain.specs.PartTypes.{AreTextsOf, ExportsIn, hollowed}
-use Rattle.hm_explain.specs.WorkedPartTypes.{ExportsRow, OthersRow, ProbesRow, SignaturesRow, TextsRow, a, applied_to_itself, equal_types, function}
+use Rattle.hm_explain.specs.Signatures.{IsGood, IsGoodIn}
+use Rattle.hm_explain.specs.WorkedPartTypes.{ExportsRow, GoodRow, OthersRow, ProbesRow, SignaturesRow, TextsRow, a, applied_to_itself, equal_types, function}
 use Rattle.hm_explain.specs.declared.layout.Other.{Other}
 use Rattle.hm_explain.proofs.WorkedHoles.{only_module}
 
@@ -118,3 +119,22 @@ other source s h e =
 
 pub worked_exports : ExportsRow
 worked_exports = record { here = here; other = other }
+
+good_here : (source : List ℕ) → HasModules source (module_A ∷ []) → IsGoodIn source (codes "A") []
+good_here source h = record {
+  «module» = module_A;
+  spelled = record { modules = module_A ∷ []; read = h; among = (0, omega arith, refl); named = refl };
+  asked = refl;
+  verdict = Good interface_A;
+  right = good_A;
+  good = tt;
+}
+
+not_good : (source : List ℕ) → HasModules source (module_B ∷ []) → ¬ (IsGoodIn source (codes "B") [])
+not_good source h g =
+    let same : g.«module» ≡ module_B = only_module source (codes "B") module_B g.«module» h g.spelled in
+    let own : IsVerdict module_B (prelude_interface ∷ []) g.verdict = subst (λ (m : Module). IsVerdict m (prelude_interface ∷ []) g.verdict) same g.right in
+    subst IsGood (one_module_verdict module_B (prelude_interface ∷ []) g.verdict (Faulty (fault_Z ∷ [])) own faulty_B) g.good
+
+pub worked_good : GoodRow
+worked_good = record { good = good_here; faulty = not_good }

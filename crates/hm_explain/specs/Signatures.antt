@@ -2,8 +2,12 @@
 use Rattle.std.specs.Prelude.{◌≡◌, ◌≤◌, ℕ, List, ◌∷◌, ◌++◌, codes, length, take, drop, slice_range}
 use Rattle.hm_types.specs.Interfaces.{Exports as Interface}
 use Rattle.hm_types.specs.Schemes.{TypeScheme}
+use Rattle.hm_types.specs.StandardPrelude.{prelude_interface}
 use Rattle.hm_types_display.specs.Texts.{scheme_text_of}
-use Rattle.hm_explain.specs.Holes.{HasTypesIn, IsPartOf}
+use Rattle.hm_syntax.specs.declared.ast.Module.{Module}
+use Rattle.hm_names.specs.Imports.{AreImportsOf}
+use Rattle.hm_verdicts.specs.ModuleVerdicts.{Verdict, Good, Faulty, IsVerdict}
+use Rattle.hm_explain.specs.Holes.{HasTypesIn, IsModuleIn, IsPartOf}
 use Rattle.hm_explain.specs.PartTypes.{ExportsIn, Surroundings, around, hollow}
 use Rattle.hm_explain.specs.declared.search.Culprit.{Culprit}
 
@@ -34,3 +38,20 @@ pub record IsUnsigned (source name : List ℕ) (fs : List Interface) (definition
   pub others : List (List ℕ)
   pub types : HasTypesIn (without source part.from part.to) name fs (definition ∷ others)
   pub own : HasTypeAlone source name fs definition text
+
+abbrev pub IsGood : Verdict → Type 0
+IsGood (Good f) = Unit {0}
+IsGood (Faulty found) = ⊥
+
+-- the source spells a module with this name that needs these interfaces, and it is good for them and Prelude's
+pub record IsGoodIn (source name : List ℕ) (fs : List Interface) : Type 0 where
+  pub «module» : Module
+  pub spelled : IsModuleIn source name «module»
+  pub asked : AreImportsOf «module» fs
+  pub verdict : Verdict
+  pub right : IsVerdict «module» (prelude_interface ∷ fs) verdict
+  pub good : IsGood verdict
+
+-- The signature is likelier to be wrong than its definition: without it the module is good
+abbrev pub Leads : List ℕ → List ℕ → List Interface → Culprit → Type 0
+Leads source name fs part = IsGoodIn (without source part.from part.to) name fs

@@ -5,10 +5,10 @@ use Rattle.hm_types.specs.Schemes.{TypeScheme}
 use Rattle.hm_types.specs.Types.{Var as leaf, App as app, done as none, more}
 use Rattle.hm_types.specs.declared.Head.TheVariants.{Arrow}
 use Rattle.hm_run_sources.specs.SourceModules.{HasModules}
-use Rattle.hm_verdicts.specs.Worked.{module_A}
+use Rattle.hm_verdicts.specs.Worked.{module_A, module_B}
 use Rattle.hm_verdicts.specs.WorkedVerdicts.{character}
 use Rattle.hm_explain.specs.PartTypes.{AreTextsOf, ExportsIn, Surroundings, before, from_pair, hollowed, with_probe}
-use Rattle.hm_explain.specs.Signatures.{with_alone, without}
+use Rattle.hm_explain.specs.Signatures.{IsGoodIn, with_alone, without}
 use Rattle.hm_explain.specs.declared.layout.Other.{Other}
 use Rattle.hm_explain.specs.Worked.{part, span}
 
@@ -57,3 +57,8 @@ pub record TextsRow : Type 0 where
 pub record ExportsRow : Type 0 where
   pub here : (source : List ℕ) → HasModules source (module_A ∷ []) → ExportsIn source (codes "A") [] (codes "x") character
   pub other : (source : List ℕ) (s : TypeScheme) → HasModules source (module_A ∷ []) → ¬ (ExportsIn source (codes "A") [] (codes "y") s)
+
+-- the module A is good, and the module B isn't, because it exports a module that it doesn't import
+pub record GoodRow : Type 0 where
+  pub good : (source : List ℕ) → HasModules source (module_A ∷ []) → IsGoodIn source (codes "A") []
+  pub faulty : (source : List ℕ) → HasModules source (module_B ∷ []) → ¬ (IsGoodIn source (codes "B") [])

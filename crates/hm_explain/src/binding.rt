@@ -1,12 +1,9 @@
 //! The tokens of a definition, and the names that it mentions.
-ghost use Rattle.std.specs.Prelude.{All};
-ghost use Rattle.hm_lex.specs.Texts.{LiesIn};
-
 use crate::edits::bytes_in;
-use crate::tokens::{Outline, Run};
+use crate::tokens::{Lexed, Outline, Run};
 use hm_lex::{Kind, Place, Token};
 use hm_names::Fault;
-use hm_parse_grammar::{Symbol, text_of};
+use hm_parse_grammar::Symbol;
 use std::alloc::{AllocError, Global};
 
 /// The most different names that a definition may mention to be explained.
@@ -105,11 +102,9 @@ fn is_fault(faults: &[Fault], name: &str) -> bool {
     faults.iter().any(|fault| fault.name.as_str() == name)
 }
 
-/// Returns the text of a token.
-fn name_at<'a>(source: &'a [u8], token: &Token) -> &'a str
-    requires { LiesIn source.now token.now }
-{
-    match std::str::from_utf8(text_of(source, token)) {
+/// Returns the text of a token, or no text if it isn't in the source.
+fn name_at<'a>(source: &'a [u8], token: &Token) -> &'a str {
+    match std::str::from_utf8(token_bytes(source, token)) {
         Ok(text) => text,
         Err(_) => "",
     }
@@ -118,18 +113,15 @@ fn name_at<'a>(source: &'a [u8], token: &Token) -> &'a str
 /// Returns the variables that a definition mentions, each once, except the names of faults. Returns `None` if there are too many.
 pub(crate) fn names_in<'a>(
     alloc: Global,
-    source: &'a [u8],
-    tokens: &[Token],
+    lexed: &Lexed<'a>,
     run: Run,
     faults: &[Fault],
-) -> Result<Option<Vec<&'a str>>, AllocError>
-    requires { All (LiesIn source.now) tokens.now }
-{
+) -> Result<Option<Vec<&'a str>>, AllocError> {
     let mut names = Vec::new(alloc);
-    for at in run.start..run.end.min(tokens.len()) {
-        let token = &tokens[at];
+    for at in run.start..run.end.min(lexed.tokens.len()) {
+        let token = &lexed.tokens[at];
         if token.kind == Kind::VarId {
-            let name = name_at(source, token);
+            let name = name_at(lexed.source, token);
             if !is_among(names.as_slice(), name) && !is_fault(faults, name) {
                 names.push(name)?;
             }

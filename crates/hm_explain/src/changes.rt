@@ -15,6 +15,9 @@ const NOTHING: Filling = Filling::Text(" ");
 /// A hole as the last argument in brackets.
 const LAST_ARGUMENT: &str = " (let { h = h } in h))";
 
+/// A hole as the last component of a tuple.
+const LAST_COMPONENT: &str = ", let { h = h } in h";
+
 /// A change of an expression: edits in two places.
 #[derive(Clone, Copy)]
 pub(crate) struct Change {
@@ -204,6 +207,29 @@ fn add_unlisted_inside(
     Ok(())
 }
 
+/// Adds the change that puts one more component into brackets, if these are around the whole of an expression.
+fn add_with_component(
+    found: &mut Vec<Change>,
+    lexed: &Lexed<'_>,
+    run: Run,
+) -> Result<(), AllocError> {
+    let last = run.end.saturating_sub(1);
+    if lexed.outline.symbol(run.start).is(Symbol::Open)
+        && lexed.outline.closing(run.start) == last
+    {
+        let inner = Run {
+            start: run.start,
+            end: last,
+        };
+        found.push(Change {
+            told: Told::Expression(run),
+            first: behind(lexed, inner, Filling::Text(LAST_COMPONENT)),
+            second: behind(lexed, run, NOTHING),
+        })?;
+    }
+    Ok(())
+}
+
 /// Adds the exchange of the two sides of a form of two parts with a separator between them.
 fn add_of_pair(
     found: &mut Vec<Change>,
@@ -259,6 +285,7 @@ pub(crate) fn changes_at(
     }
     if part.role != Role::Function {
         add_of_name(&mut found, lexed, part.run)?;
+        add_with_component(&mut found, lexed, part.run)?;
     }
     Ok(found)
 }

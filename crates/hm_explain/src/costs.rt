@@ -67,6 +67,12 @@ impl Effort {
         }
     }
 
+    /// Takes off what walks over the tokens of a source cost, and returns whether the effort was enough for it. So the walks of all faults of a module end
+    /// in time.
+    pub(crate) fn pays_for_walks(&mut self, source: &[u8]) -> bool {
+        self.pays(source.len())
+    }
+
     /// Returns whether no trial is left.
     pub(crate) fn is_spent(&self) -> bool {
         self.trials == 0

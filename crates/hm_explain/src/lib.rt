@@ -19,6 +19,7 @@ mod parts;
 mod patterns;
 mod places;
 mod ranking;
+mod reading;
 mod search;
 mod signatures;
 mod tokens;
@@ -27,7 +28,8 @@ mod trial;
 
 pub use crate::costs::Effort;
 pub use crate::mends::Mend;
-pub use crate::part_typing::{PartTypes, TypeFault, part_types_of};
+pub use crate::part_typing::{PartTypes, part_types_of};
+pub use crate::reading::{Reading, TypeFault, reading_of};
 pub use crate::search::{Culprit, mend_of};
 pub use crate::signatures::{Unsigned, unsigned_of};
 pub use crate::trial::Question;

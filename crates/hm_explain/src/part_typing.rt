@@ -1,8 +1,7 @@
 //! The two types of a part of a definition.
-ghost use Rattle.std.specs.Prelude.{◌≡◌, ◌≤◌, ◌++◌, IfOk, IfSome, codes, length, map, string_bytes};
+ghost use Rattle.std.specs.Prelude.{◌≡◌, ◌≤◌, ◌++◌, IfOk, IfSome, length, map, string_bytes};
 ghost use Rattle.std.specs.Arc.{arc_value};
 ghost use Rattle.hm_types.specs.Shape.{type_of};
-ghost use Rattle.hm_types_display.specs.Texts.{scheme_text_of};
 ghost use Rattle.hm_explain.specs.PartTypes.{AreTextsOf, ExportsIn, HasPartTypes, IsExported, from_pair};
 
 use crate::binding::binding_at;
@@ -10,7 +9,8 @@ use crate::costs::{Effort, cost_of};
 use crate::cutting::header_of;
 use crate::layout::{Layout, Other, with_probe};
 use crate::mends::Span;
-use crate::search::{Culprit, bytes_of, pays_for_reading, reading_of};
+use crate::reading::TypeFault;
+use crate::search::{Culprit, bytes_of};
 use crate::tokens::{Lexed, Run, one};
 use crate::trial::{Question, judged};
 use hm_names::Fault;
@@ -235,13 +235,6 @@ fn types_for(
     }
 }
 
-/// A type fault, and all faults of its module.
-#[derive(Clone, Copy)]
-pub struct TypeFault<'a> {
-    pub fault: &'a Fault,
-    pub faults: &'a [Fault],
-}
-
 // Why: docs/DECISIONS.md, "Both types".
 /// Returns the two types of a part of a definition that is a type fault: the one that it has, and the one that is expected in its place. `effort`
 /// is less by what that costs.
@@ -261,13 +254,10 @@ pub fn part_types_of(
     ensures { IfOk result (λ both. IfSome both (λ types. HasPartTypes question.now.source.now question.now.name.now (map arc_value question.now.imports.now)
         found.now.fault.now.name part (string_bytes types.expected) (string_bytes types.actual))) }
 {
-    if !pays_for_reading(effort, question.source) {
+    if !effort.pays_for_walks(question.source) {
         return Ok(None);
     }
-    let Some(reading) = reading_of(alloc, question.source)? else {
-        return Ok(None);
-    };
-    let lexed = reading.lexed(question.source);
+    let lexed = found.reading.lexed(question.source);
     let Some(binding) = binding_at(lexed.source, lexed.tokens, lexed.outline, found.fault.place)
     else {
         return Ok(None);

@@ -43,8 +43,14 @@ fn points_of(outline: &Outline, part: Part) -> usize {
     points
 }
 
-/// How much more likely it is if a small change of it gives the definition a type.
-const POINTS_OF_CHANGE: usize = 4;
+/// Returns how much more likely a part is if this change of it gives the definition a type. Of a pattern only lists of one element are changed, which is
+/// a rarer slip than those that other changes mend.
+fn points_of_change(change: &Change) -> usize {
+    match change.told {
+        Told::Pattern(_, _) => 5,
+        _ => 4,
+    }
+}
 
 /// Returns whether a part is a function, and one of these parts lies in its arguments.
 fn has_faulty_argument(parts: &[Part], part: Part) -> bool {
@@ -84,7 +90,7 @@ fn judged_part(
             return Ok(Suspect {
                 start,
                 told: change.told,
-                points: points.saturating_add(POINTS_OF_CHANGE),
+                points: points.saturating_add(points_of_change(change)),
             });
         }
     }

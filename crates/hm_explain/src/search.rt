@@ -1,5 +1,5 @@
 //! The search for a change that gives a definition a type.
-ghost use Rattle.std.specs.Prelude.{◌≡◌, ◌≤◌, ◌<◌, ◌^◌, IfOk, IfSome, length, map, take};
+ghost use Rattle.std.specs.Prelude.{◌≤◌, ◌<◌, ◌^◌, IfOk, IfSome, length, map};
 ghost use Rattle.std.specs.Arc.{arc_value};
 ghost use Rattle.hm_explain.specs.Holes.{IsPartOf};
 ghost use Rattle.hm_explain.specs.Mends.{IsMend};
@@ -13,16 +13,13 @@ use crate::parts::right_sides;
 use crate::patterns::spot_in;
 use crate::places::place_behind;
 use crate::ranking::likeliest;
-use crate::tokens::{Lexed, Outline, Run, one};
+use crate::reading::{TypeFault, read};
+use crate::tokens::{Lexed, Run, one};
 use crate::told::Told;
 use crate::trial::{Question, types_without};
-use hm_lex::{LexFault, Place, Token, lex};
-use hm_names::Fault;
+use hm_lex::{Place, Token};
 use hm_parse_grammar::Symbol;
 use std::alloc::{AllocError, Global};
-
-/// The longest source whose faults are explained, in bytes.
-const LONGEST: usize = 1 << 16;
 
 /// A part of a source without which a definition has a type.
 #[derive(Clone, Copy)]
@@ -55,40 +52,6 @@ pub(crate) fn bytes_of(tokens: &[Token], run: Run, source: &[u8]) -> Option<(usi
     None
 }
 
-/// The tokens of a source with their outline.
-#[derive(Drop)]
-pub(crate) struct Reading {
-    tokens: Vec<Token>,
-    outline: Outline,
-}
-
-impl Reading {
-    /// Returns the source with its tokens.
-    pub fn lexed<'a>(&'a self, source: &'a [u8]) -> Lexed<'a> {
-        Lexed {
-            source,
-            tokens: self.tokens.as_slice(),
-            outline: &self.outline,
-        }
-    }
-}
-
-/// Returns whether a source is short enough for notes and the effort pays for reading it. `effort` is less by what that costs.
-pub(crate) fn pays_for_reading(effort: &mut Effort, source: &[u8]) -> bool {
-    source.len() <= LONGEST && effort.pays(source.len())
-}
-
-/// Returns the tokens of a source with their outline, if it has tokens.
-pub(crate) fn reading_of(alloc: Global, source: &[u8]) -> Result<Option<Reading>, AllocError> {
-    let tokens = match lex(alloc, source) {
-        Ok(tokens) => tokens,
-        Err(LexFault::Memory) => return Err(AllocError),
-        Err(_) => return Ok(None),
-    };
-    let outline = Outline::of(alloc, source, tokens.as_slice())?;
-    Ok(Some(Reading { tokens, outline }))
-}
-
 /// Returns the number of the token that begins at a byte, or of the first one after it.
 fn token_at(tokens: &[Token], byte: usize) -> usize {
     tokens
@@ -118,23 +81,18 @@ fn told_in_cut(
     effort: &mut Effort,
 ) -> Result<Option<Told>, AllocError> {
     let source = cut.text.as_slice();
-    let Some(reading) = reading_of(alloc, source)? else {
+    let Some(reading) = read(alloc, source)? else {
         return Ok(None);
     };
-    let tokens = reading.tokens.as_slice();
-    let lexed = Lexed {
-        source,
-        tokens,
-        outline: &reading.outline,
-    };
+    let lexed = reading.lexed(source);
     let smaller = Searched {
         question: searched.question,
         lexed: &lexed,
         definition: searched.definition,
         others: searched.others,
-        cost: cost_of(source, &reading.outline),
+        cost: cost_of(source, lexed.outline),
     };
-    let start = token_at(tokens, cut.definition);
+    let start = token_at(lexed.tokens, cut.definition);
     let size = definition.end.saturating_sub(definition.start);
     let end = start.saturating_add(size);
     let Some(told) = likeliest_in(alloc, &smaller, Run { start, end }, effort)? else {
@@ -287,11 +245,9 @@ fn confirmed(
 }
 
 // Why: docs/DECISIONS.md, "Notes at type faults".
-/// Returns the change that gives the definition of a type fault a type: the most likely one that is found. `faults` are all faults of the module, and `effort`
-/// is less by what the search costs.
+/// Returns the change that gives the definition of a type fault a type: the most likely one that is found. `effort` is less by what the search costs.
 ///
-/// Returns `None` if nothing is found or the effort doesn't pay for a trial, for a source of more than 65,536 bytes, and for a definition that mentions more
-/// than 256 names.
+/// Returns `None` if nothing is found or the effort doesn't pay for a trial, and for a definition that mentions more than 256 names.
 ///
 /// # Errors
 ///
@@ -299,42 +255,30 @@ fn confirmed(
 pub fn mend_of(
     alloc: Global,
     question: &Question<'_>,
-    fault: &Fault,
-    faults: &[Fault],
+    found: &TypeFault<'_>,
     effort: &mut Effort,
 ) -> Result<Option<Mend>, AllocError>
-    ensures { IfOk result (λ found. IfSome found (IsMend question.now.source.now question.now.name.now (map arc_value question.now.imports.now)
-        fault.now.name)) }
+    ensures { IfOk result (λ mend. IfSome mend (IsMend question.now.source.now question.now.name.now (map arc_value question.now.imports.now)
+        found.now.fault.now.name)) }
 {
-    let source = question.source;
     effort.begin();
-    if !pays_for_reading(effort, source) {
+    if !effort.pays_for_walks(question.source) {
         return Ok(None);
     }
-    let tokens = match lex(alloc, source) {
-        Ok(tokens) => tokens,
-        Err(LexFault::Memory) => return Err(AllocError),
-        Err(_) => return Ok(None),
-    };
-    let tokens = tokens.as_slice();
-    let outline = Outline::of(alloc, source, tokens)?;
-    let Some(binding) = binding_at(source, tokens, &outline, fault.place) else {
+    let fault = found.fault;
+    let lexed = found.reading.lexed(question.source);
+    let Some(binding) = binding_at(lexed.source, lexed.tokens, lexed.outline, fault.place) else {
         return Ok(None);
     };
-    let Some(others) = names_in(alloc, source, tokens, binding, faults)? else {
+    let Some(others) = names_in(alloc, &lexed, binding, found.faults)? else {
         return Ok(None);
-    };
-    let lexed = Lexed {
-        source,
-        tokens,
-        outline: &outline,
     };
     let searched = Searched {
         question,
         lexed: &lexed,
         definition: fault.name.as_str(),
         others: others.as_slice(),
-        cost: cost_of(source, &outline),
+        cost: cost_of(question.source, lexed.outline),
     };
     if !effort.pays(searched.cost) {
         return Ok(None);

@@ -1,16 +1,19 @@
 //! The type that a definition has without its signature.
-ghost use Rattle.std.specs.Prelude.{◌≡◌, ◌≤◌, IfOk, IfSome, length, map, string_bytes};
+ghost use Rattle.std.specs.Prelude.{◌≡◌, ◌≤◌, IfOk, IfSome, length, map, string_bytes, true};
 ghost use Rattle.std.specs.Arc.{arc_value};
 ghost use Rattle.hm_explain.specs.Holes.{IsPartOf};
-ghost use Rattle.hm_explain.specs.Signatures.{HasTypeAlone, IsUnsigned, without as without_text};
+ghost use Rattle.hm_explain.specs.Signatures.{HasTypeAlone, IsUnsigned, Leads, without as without_text};
 
 use crate::binding::binding_at;
 use crate::costs::{Effort, cost_of};
-use crate::cutting::signature_of;
+use crate::cutting::{header_of, signature_of};
 use crate::layout::{Layout, with_alone};
-use crate::part_typing::{FUNCTION, TypeFault, layout_of, others_of, scheme_in};
-use crate::search::{Culprit, part_of, pays_for_reading, reading_of};
-use crate::trial::{Question, has_types_in};
+use crate::part_typing::{FUNCTION, layout_of, others_of, scheme_in};
+use crate::reading::TypeFault;
+use crate::search::{Culprit, part_of};
+use crate::tokens::{Lexed, Run};
+use crate::trial::{Question, has_types_in, is_good_in};
+use hm_parse_grammar::Symbol;
 use hm_types_display::scheme_text;
 use std::alloc::{AllocError, Global};
 
@@ -20,6 +23,9 @@ pub struct Unsigned {
     pub signature: Culprit,
     /// The text of the type.
     pub own: String,
+    /// Whether the signature is likelier to be wrong than the definition: other definitions mention this one, and without the signature the module
+    /// is good.
+    pub leads: bool,
 }
 
 /// Returns a source without a range of its bytes.
@@ -57,10 +63,13 @@ fn unsigned_in(
     question: &Question<'_>,
     layout: &Layout<'_>,
     signature: Culprit,
+    is_used: bool,
 ) -> Result<Option<Unsigned>, AllocError>
     requires { IsPartOf layout.now.source.now signature }
-    ensures { IfOk result (λ found. IfSome found (λ u. IsUnsigned layout.now.source.now question.now.name.now (map arc_value question.now.imports.now)
+    ensures own { IfOk result (λ found. IfSome found (λ u. IsUnsigned layout.now.source.now question.now.name.now (map arc_value question.now.imports.now)
         layout.now.name.now u.signature (string_bytes u.own))) }
+    ensures leads { IfOk result (λ found. IfSome found (λ u. u.leads ≡ true → Leads layout.now.source.now question.now.name.now
+        (map arc_value question.now.imports.now) u.signature)) }
 {
     let Some(own) = type_alone(alloc, question, layout)? else {
         return Ok(None);
@@ -69,14 +78,41 @@ fn unsigned_in(
     if !has_types_in(alloc, question, changed.as_slice(), layout.name, &[])? {
         return Ok(None);
     }
-    Ok(Some(Unsigned { signature, own }))
+    if !is_used {
+        return Ok(Some(Unsigned {
+            signature,
+            own,
+            leads: false,
+        }));
+    }
+    let leads = is_good_in(alloc, question, changed.as_slice())?;
+    Ok(Some(Unsigned {
+        signature,
+        own,
+        leads,
+    }))
 }
 
-// Why: docs/DECISIONS.md, "Notes at signatures".
+/// Returns whether the declarations of a module mention a variable outside its definition and its signature.
+fn is_used_outside(lexed: &Lexed<'_>, definition: Run, signature: Run) -> bool {
+    let Some(header) = header_of(lexed.outline, definition.start) else {
+        return false;
+    };
+    let close = lexed.outline.closing(header.end.saturating_sub(1));
+    let name = lexed.text(definition.start);
+    (header.end..close).any(|at| {
+        lexed.outline.symbol(at).is(Symbol::Var)
+            && !definition.has(at)
+            && !signature.has(at)
+            && lexed.text(at) == name
+    })
+}
+
+// Why: docs/DECISIONS.md, "Notes at signatures", "The order of notes".
 /// Returns the signature of a definition that is a type fault, and the type that the definition has without it. `effort` is less by what that
 /// costs.
 ///
-/// None if the definition has no signature or no type without it, or if the effort doesn't pay for two trials.
+/// None if the definition has no signature or no type without it, or if the effort doesn't pay for three trials.
 ///
 /// # Errors
 ///
@@ -87,16 +123,15 @@ pub fn unsigned_of(
     found: &TypeFault<'_>,
     effort: &mut Effort,
 ) -> Result<Option<Unsigned>, AllocError>
-    ensures { IfOk result (λ found_type. IfSome found_type (λ u. IsUnsigned question.now.source.now question.now.name.now
+    ensures own { IfOk result (λ found_type. IfSome found_type (λ u. IsUnsigned question.now.source.now question.now.name.now
         (map arc_value question.now.imports.now) found.now.fault.now.name u.signature (string_bytes u.own))) }
+    ensures leads { IfOk result (λ found_type. IfSome found_type (λ u. u.leads ≡ true → Leads question.now.source.now question.now.name.now
+        (map arc_value question.now.imports.now) u.signature)) }
 {
-    if !pays_for_reading(effort, question.source) {
+    if !effort.pays_for_walks(question.source) {
         return Ok(None);
     }
-    let Some(reading) = reading_of(alloc, question.source)? else {
-        return Ok(None);
-    };
-    let lexed = reading.lexed(question.source);
+    let lexed = found.reading.lexed(question.source);
     let Some(binding) = binding_at(lexed.source, lexed.tokens, lexed.outline, found.fault.place)
     else {
         return Ok(None);
@@ -118,8 +153,9 @@ pub fn unsigned_of(
         return Ok(None);
     };
     let cost = cost_of(question.source, lexed.outline);
-    if !effort.pays(cost) || !effort.pays(cost) {
+    if !effort.pays(cost) || !effort.pays(cost) || !effort.pays(cost) {
         return Ok(None);
     }
-    Ok(unsigned_in(alloc, question, &layout, signature)?)
+    let is_used = is_used_outside(&lexed, binding, run);
+    Ok(unsigned_in(alloc, question, &layout, signature, is_used)?)
 }

@@ -2,6 +2,7 @@
 ghost use Rattle.std.specs.Prelude.{All};
 ghost use Rattle.hm_lex.specs.Texts.{LiesIn};
 
+use crate::edits::bytes_in;
 use hm_lex::Token;
 use hm_parse_grammar::{Symbol, symbol_of, text_of};
 use std::alloc::{AllocError, Global};
@@ -11,6 +12,13 @@ use std::alloc::{AllocError, Global};
 pub(crate) struct Run {
     pub start: usize,
     pub end: usize,
+}
+
+impl Run {
+    /// Returns whether a token is in the run.
+    pub fn has(self, at: usize) -> bool {
+        self.start <= at && at < self.end
+    }
 }
 
 /// Returns the run of one token.
@@ -166,5 +174,9 @@ impl Lexed<'_> {
         } else {
             0
         }
+    }
+    /// Returns the bytes of a token, or no bytes if there is no such token.
+    pub fn text(&self, at: usize) -> &[u8] {
+        bytes_in(self.source, self.start(at), self.end(one(at)))
     }
 }

@@ -5,6 +5,7 @@ ghost use Rattle.hm_names.specs.Imports.{AreImportsOf};
 ghost use Rattle.hm_verdicts.specs.Outcomes.{verdict_of};
 ghost use Rattle.hm_run_sources.specs.SourceModules.{HasModules};
 ghost use Rattle.hm_explain.specs.Holes.{AreTyped, HasTypesIn, IsElsewhere, IsModuleIn, with_hole};
+ghost use Rattle.hm_explain.specs.Signatures.{IsGood, IsGoodIn};
 
 use hm_check::{CheckFault, check_module_within};
 use hm_lex::{LexFault, lex};
@@ -205,4 +206,28 @@ pub(crate) fn types_without(
     let (from, to) = part;
     let changed = with_hole(alloc, question.source, from, to)?;
     Ok(has_types_in(alloc, question, changed.as_slice(), definition, others)?)
+}
+
+/// Returns whether a verdict is good.
+fn is_good(verdict: &Verdict) -> bool
+    ensures { result ≡ true → IsGood (verdict_of verdict.now) }
+{
+    match verdict {
+        Verdict::Good(_) => true,
+        Verdict::Faulty(_) => false,
+    }
+}
+
+/// Returns whether the module of a question is good in a changed source.
+pub(crate) fn is_good_in(
+    alloc: Global,
+    question: &Question<'_>,
+    changed: &[u8],
+) -> Result<bool, AllocError>
+    ensures { IfOk result (λ yes. yes ≡ true → IsGoodIn changed.now question.now.name.now (map arc_value question.now.imports.now)) }
+{
+    match judged(alloc, question, changed)? {
+        Some(outcome) => Ok(is_good(outcome.verdict())),
+        None => Ok(false),
+    }
 }
