@@ -415,6 +415,32 @@ KINDS = [
         "                                                            ^\n"
         "errors: 2, skipped modules: 0\n",
     ),
+    # arguments that are exchanged, though another expression in place of the first one would do too
+    (
+        "module M where { n = foldr 0 (\\x y -> y) \"abc\" }",
+        1,
+        "M.hs:1:18: error: type error in 'n' [type]\n"
+        "This definition has no type, though everything that it refers to has one.\n"
+        "module M where { n = foldr 0 (\\x y -> y) \"abc\" }\n"
+        "                 ^\n"
+        "M.hs:1:28: note: 'n' has a type with this expression and the one at 1:30 exchanged\n"
+        "module M where { n = foldr 0 (\\x y -> y) \"abc\" }\n"
+        "                           ^\n"
+        "errors: 1, skipped modules: 0\n",
+    ),
+    # the place leaves out brackets
+    (
+        "module M where { f = not ('c') }",
+        1,
+        "M.hs:1:18: error: type error in 'f' [type]\n"
+        "This definition has no type, though everything that it refers to has one.\n"
+        "module M where { f = not ('c') }\n"
+        "                 ^\n"
+        "M.hs:1:27: note: this has type 'Char', but 'Bool' is expected (up to 1:29)\n"
+        "module M where { f = not ('c') }\n"
+        "                          ^^^\n"
+        "errors: 1, skipped modules: 0\n",
+    ),
     # brackets without a last component, and an argument that could be to blame too
     (
         "module M where { f :: ([((), ())] -> ()) -> [()] -> () ; f g xs = g (map (\\x -> (x)) xs) }",

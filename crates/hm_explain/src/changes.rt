@@ -1,4 +1,6 @@
 //! Small changes of an expression, which show what may be wrong with it.
+ghost use Rattle.std.specs.Prelude.{◌≡◌, ◌≤◌, length, true};
+
 use crate::edits::{Edit, Filling, before, behind, bracketed, in_place};
 use crate::parts::{Part, Role};
 use crate::tokens::{Lexed, Outline, Run};
@@ -121,6 +123,28 @@ fn add_with_one_more(
     Ok(())
 }
 
+/// Returns whether the arguments of an application of a function and arguments are changed.
+fn is_changed(atoms: &[Run]) -> bool
+    ensures { result ≡ true → 2 ≤ length atoms.now }
+{
+    atoms.len() >= 2 && atoms.len() <= MOST_ARGUMENTS
+}
+
+/// Returns the exchanges of two arguments of an application.
+pub(crate) fn exchanges_at(
+    alloc: Global,
+    lexed: &Lexed<'_>,
+    whole: Run,
+) -> Result<Vec<Change>, AllocError> {
+    let mut found = Vec::new(alloc);
+    let atoms = atoms_of(alloc, lexed.outline, whole)?;
+    let atoms = atoms.as_slice();
+    if is_changed(atoms) {
+        add_exchanges(&mut found, lexed, &atoms[1..])?;
+    }
+    Ok(found)
+}
+
 /// Adds the changes of the arguments of an application.
 fn add_of_application(
     alloc: Global,
@@ -130,11 +154,10 @@ fn add_of_application(
 ) -> Result<(), AllocError> {
     let atoms = atoms_of(alloc, lexed.outline, whole)?;
     let atoms = atoms.as_slice();
-    if atoms.len() < 2 || atoms.len() > MOST_ARGUMENTS {
+    if !is_changed(atoms) {
         return Ok(());
     }
-    let arguments = &atoms[1..];
-    add_exchanges(found, lexed, arguments)?;
+    add_exchanges(found, lexed, &atoms[1..])?;
     add_without_one(found, lexed, whole, atoms)?;
     add_with_one_more(found, lexed, whole, atoms)
 }

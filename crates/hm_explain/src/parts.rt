@@ -356,8 +356,8 @@ fn add_operands(found: &mut Found, outline: &Outline, run: Run) -> Result<(), Al
     Ok(())
 }
 
-/// Returns the expression without brackets around the whole of it.
-fn without_brackets(outline: &Outline, run: Run) -> Run {
+/// Returns the expression or pattern without brackets around the whole of it. Brackets of a tuple, of `()` and of `(:)` stay.
+pub(crate) fn without_brackets(outline: &Outline, run: Run) -> Run {
     let mut inner = run;
     for _ in run.start..run.end {
         let Run { start, end } = inner;
@@ -372,9 +372,11 @@ fn without_brackets(outline: &Outline, run: Run) -> Run {
             start: start.saturating_add(1),
             end: last,
         };
-        match outline.find(inner.start, inner.end, Symbol::Comma) {
-            Some(_) => return Run { start, end },
-            None => {}
+        if inner.start == last
+            || outline.symbol(inner.start).is(Symbol::Colon)
+            || outline.find(inner.start, last, Symbol::Comma).is_some()
+        {
+            return Run { start, end };
         }
     }
     inner

@@ -1,8 +1,8 @@
 //! Decides which of several parts is reported.
-use crate::changes::{Change, changes_at};
+use crate::changes::{Change, changes_at, exchanges_at};
 use crate::costs::Effort;
 use crate::culprits::{Searched, is_mended_by};
-use crate::parts::{Part, Role};
+use crate::parts::{Part, Role, without_brackets};
 use crate::tokens::{Outline, Run};
 use crate::told::Told;
 use hm_parse_grammar::Symbol;
@@ -43,12 +43,13 @@ fn points_of(outline: &Outline, part: Part) -> usize {
     points
 }
 
-/// Returns how much more likely a part is if this change of it gives the definition a type. Of a pattern only lists of one element are changed, which is
-/// a rarer slip than those that other changes mend.
+/// Returns how much more likely a part is if this change of it gives the definition a type. An exchange outweighs all else. Of a pattern only lists of one
+/// element are changed, which is a rarer slip than those that other changes mend.
 fn points_of_change(change: &Change) -> usize {
     match change.told {
+        Told::Exchange(_, _) => 8,
         Told::Pattern(_, _) => 5,
-        _ => 4,
+        Told::Expression(_) => 4,
     }
 }
 
@@ -60,7 +61,8 @@ fn has_faulty_argument(parts: &[Part], part: Part) -> bool {
     parts.iter().any(|other| other.run.start >= part.run.end && other.run.end <= part.around.end)
 }
 
-/// Returns the changes that are tried at a part. None are tried at a function if one of these parts lies in its arguments: that one is more likely.
+/// Returns the changes that are tried at a part. At a function these are exchanges alone if one of these parts lies in its arguments: that one is more
+/// likely than the function.
 fn changes_for(
     alloc: Global,
     searched: &Searched<'_, '_>,
@@ -68,12 +70,13 @@ fn changes_for(
     part: Part,
 ) -> Result<Vec<Change>, AllocError> {
     if has_faulty_argument(parts, part) {
-        return Ok(Vec::new(alloc));
+        return exchanges_at(alloc, searched.lexed, part.around);
     }
     changes_at(alloc, searched.lexed, part)
 }
 
-/// Returns a part of these, and what is reported of it: the expression around the first change that gives the definition a type, if there is one.
+/// Returns a part of these, and what is reported of it: the expression around the first change that gives the definition a type, or else the part without
+/// its brackets.
 fn judged_part(
     alloc: Global,
     searched: &Searched<'_, '_>,
@@ -94,9 +97,10 @@ fn judged_part(
             });
         }
     }
+    let run = without_brackets(searched.lexed.outline, part.run);
     let told = match part.role {
-        Role::Pattern => Told::Pattern(part.run, part.around),
-        _ => Told::Expression(part.run),
+        Role::Pattern => Told::Pattern(run, part.around),
+        _ => Told::Expression(run),
     };
     Ok(Suspect {
         start,
