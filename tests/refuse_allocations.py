@@ -107,21 +107,22 @@ def numbers(total, doubles):
 
 
 TYPES = b"this has type 'a -> b', but 'a' is expected"
+INFINITE = b"No type is both: it would contain itself, and so be infinite."
 ANOTHER = b"'twice' has a type with another expression here"
 
 
 def without_notes(messages):
-    """The messages without the note of a type fault: three lines for readers, and one for programs."""
+    """The messages without the note of a type fault: four lines for readers, and one for programs."""
     lines = messages.splitlines(True)
     notes = [number for number, line in enumerate(lines) if TYPES in line]
-    lost = {number + more for number in notes for more in range(1 if lines[number].startswith(b"{") else 3)}
+    lost = {number + more for number in notes for more in range(1 if lines[number].startswith(b"{") else 4)}
     return b"".join(line for number, line in enumerate(lines) if number not in lost)
 
 
 def without_types(messages):
     """The messages with a note that doesn't have the two types."""
-    lines = [line.replace(TYPES, ANOTHER) for line in messages.splitlines(True)]
-    objects = [(b'"expected":"a"', b'"expected":null'), (b'"type":"a -> b"', b'"type":null'), (b'"mistyped"', b'"replaceable"')]
+    lines = [line.replace(TYPES, ANOTHER) for line in messages.splitlines(True) if line.strip() != INFINITE]
+    objects = [(b'"hint":"' + INFINITE + b'"', b'"hint":null'), (b'"expected":"a"', b'"expected":null'), (b'"type":"a -> b"', b'"type":null'), (b'"mistyped"', b'"replaceable"')]
     for old, new in objects:
         lines = [line.replace(old, new) if line.startswith(b"{") else line for line in lines]
     return b"".join(lines)

@@ -127,6 +127,7 @@ KINDS = [
         "module M where { twice f = f f }\n"
         "                 ^^^^^\n"
         "M.hs:1:30: note: this has type 'a -> b', but 'a' is expected (up to 1:30)\n"
+        "No type is both: it would contain itself, and so be infinite.\n"
         "module M where { twice f = f f }\n"
         "                             ^\n"
         "errors: 1, skipped modules: 0\n",
@@ -327,8 +328,36 @@ KINDS = [
         "module M where { f x = g where { g = (x, h) ; h = [x, [x]] } }\n"
         "                 ^\n"
         "M.hs:1:55: note: this has type '[a]', but 'a' is expected (up to 1:57)\n"
+        "No type is both: it would contain itself, and so be infinite.\n"
         "module M where { f x = g where { g = (x, h) ; h = [x, [x]] } }\n"
         "                                                      ^\n"
+        "errors: 1, skipped modules: 0\n",
+    ),
+    # a type that would be infinite as a whole, and one whose result would
+    (
+        "module M where { k xs = xs : xs }",
+        1,
+        "M.hs:1:18: error: type error in 'k' [type]\n"
+        "This definition has no type, though everything that it refers to has one.\n"
+        "module M where { k xs = xs : xs }\n"
+        "                 ^\n"
+        "M.hs:1:30: note: this has type 'a', but '[a]' is expected (up to 1:31)\n"
+        "No type is both: it would contain itself, and so be infinite.\n"
+        "module M where { k xs = xs : xs }\n"
+        "                             ^^\n"
+        "errors: 1, skipped modules: 0\n",
+    ),
+    (
+        "module M where { rev [] = [] ; rev (x : xs) = rev xs : x }",
+        1,
+        "M.hs:1:18: error: type error in 'rev' [type]\n"
+        "This definition has no type, though everything that it refers to has one.\n"
+        "module M where { rev [] = [] ; rev (x : xs) = rev xs : x }\n"
+        "                 ^^^\n"
+        "M.hs:1:47: note: this has type '[[a]] -> [a]', but '[[a]] -> a' is expected (up to 1:49)\n"
+        "No type is both: it would contain itself, and so be infinite.\n"
+        "module M where { rev [] = [] ; rev (x : xs) = rev xs : x }\n"
+        "                                              ^^^\n"
         "errors: 1, skipped modules: 0\n",
     ),
     # arguments that are exchanged
@@ -525,6 +554,7 @@ KINDS = [
         "module B where { twice f = f f }\n"
         "                 ^^^^^\n"
         "M.hs:1:30: note: this has type 'a -> b', but 'a' is expected (up to 1:30)\n"
+        "No type is both: it would contain itself, and so be infinite.\n"
         "module B where { twice f = f f }\n"
         "                             ^\n"
         "M.hs:2:25: note: skipped, since 'B' has errors\n"

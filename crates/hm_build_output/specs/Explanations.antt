@@ -59,17 +59,17 @@ way_of (Expression part) p = way.Expression p
 way_of (Pattern part) p = way.Pattern p
 way_of (Exchange first second) p = way.Exchange p
 
--- these are the two types of the part that is to blame
-abbrev pub ArePartTypes : List ℕ → List ℕ → List Interface → List ℕ → Mend → List ℕ → List ℕ → Type 0
-ArePartTypes source name fs definition (Expression part) expected actual = HasPartTypes source name fs definition part expected actual
-ArePartTypes source name fs definition (Pattern part) expected actual = ⊥
-ArePartTypes source name fs definition (Exchange first second) expected actual = ⊥
+-- these are the two types of the part that is to blame, and whether they are told as infinite
+abbrev pub ArePartTypes : List ℕ → List ℕ → List Interface → List ℕ → Mend → List ℕ → List ℕ → Bool → Type 0
+ArePartTypes source name fs definition (Expression part) expected actual infinite = HasPartTypes source name fs definition part expected actual infinite
+ArePartTypes source name fs definition (Pattern part) expected actual infinite = ⊥
+ArePartTypes source name fs definition (Exchange first second) expected actual infinite = ⊥
 
 -- the text tells what gives the definition a type, or the two types of the part, with this as the other place
 pub data IsToldOf (paint : Paint) (file source name : List ℕ) (fs : List Interface) (definition : List ℕ) (mend : Mend) (other : Place) (text : List ℕ) : Type 0 where
   by_mend : IsMessage paint file source (first_of mend) (replaceable definition (way_of mend other)) text → IsToldOf paint file source name fs definition mend other text
-  by_types : (expected actual : List ℕ) → ArePartTypes source name fs definition mend expected actual
-      → IsMessage paint file source (first_of mend) (mistyped definition other expected actual) text → IsToldOf paint file source name fs definition mend other text
+  by_types : (expected actual : List ℕ) (infinite : Bool) → ArePartTypes source name fs definition mend expected actual infinite
+      → IsMessage paint file source (first_of mend) (mistyped definition other expected actual infinite) text → IsToldOf paint file source name fs definition mend other text
 
 -- the note of a type fault tells what gives its definition a type, or the two types of the part, with places as readers count
 pub record IsNote (paint : Paint) (file source name : List ℕ) (fs : List Interface) (f : Fault) (text : List ℕ) : Type 0 where

@@ -88,7 +88,8 @@ fn types_for(
     effort: &mut Effort,
 ) -> Option<PartTypes>
     ensures { IfSome result (λ types. ArePartTypes «module».now.question.now.source.now «module».now.question.now.name.now
-        (map arc_value «module».now.question.now.imports.now) found.now.fault.now.name mend.now (string_bytes types.expected) (string_bytes types.actual)) }
+        (map arc_value «module».now.question.now.imports.now) found.now.fault.now.name mend.now (string_bytes types.expected) (string_bytes types.actual)
+        types.infinite) }
 {
     match mend {
         Mend::Expression(part) => match part_types_of(
@@ -122,7 +123,8 @@ fn note_text(
     other: Place,
 ) -> Result<Vec<u8>, MessageFault>
     requires { IfSome part.now.types (λ types. ArePartTypes «module».now.page.now.lines «module».now.question.now.name.now
-        (map arc_value «module».now.question.now.imports.now) definition.now part.now.mend (string_bytes types.expected) (string_bytes types.actual)) }
+        (map arc_value «module».now.question.now.imports.now) definition.now part.now.mend (string_bytes types.expected) (string_bytes types.actual)
+        types.infinite) }
     ensures { IfOk result (λ text. IsToldOf «module».now.paint «module».now.page.now.file.now «module».now.page.now.lines
         «module».now.question.now.name.now (map arc_value «module».now.question.now.imports.now) definition.now part.now.mend other text.items) }
 {
@@ -133,6 +135,7 @@ fn note_text(
                 end: other,
                 expected: types.expected.as_str(),
                 actual: types.actual.as_str(),
+                infinite: types.infinite,
             };
             let topic = Topic::Mistyped(definition, both);
             Ok(message(alloc, module.paint, module.page, first_of(mend), &topic)?)

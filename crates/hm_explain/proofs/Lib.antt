@@ -1,5 +1,6 @@
 pub mod Elsewhere
 pub mod Found
+pub mod NoFiniteType
 pub mod Pieces
 pub mod TextParts
 pub mod WorkedHoles

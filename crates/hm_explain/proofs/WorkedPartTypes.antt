@@ -1,5 +1,5 @@
 -- The worked types of parts.
-use Rattle.std.proofs.Common.{◌≡◌, ◌∙◌, ℕ, List, [], ◌∷◌, ◌++◌, Contains, length, get_or, refl, sym, ap, subst, arith}
+use Rattle.std.proofs.Common.{◌≡◌, ◌∙◌, Bool, true, inl, inr, ℕ, List, [], ◌∷◌, ◌++◌, Contains, length, get_or, refl, sym, ap, subst, arith}
 use Rattle.std.specs.Prelude.{codes, slice_range}
 use Rattle.std.proofs.lemmas.List.Elements.{All-contains, All-cons}
 use Rattle.hm_types.specs.Interfaces.{Exports as Interface}
@@ -17,9 +17,10 @@ use Rattle.hm_verdicts.specs.WorkedVerdicts.{character, entry_x, fault_Z, interf
 use Rattle.hm_verdicts.proofs.OneModuleVerdict.{one_module_verdict}
 use Rattle.hm_verdicts.proofs.WorkedModules.{faulty_B, good_A}
 use Rattle.hm_explain.specs.Holes.{hole}
+use Rattle.hm_explain.specs.InfiniteTypes.{NeedInfinite}
 use Rattle.hm_explain.specs.PartTypes.{AreTextsOf, ExportsIn, hollowed}
 use Rattle.hm_explain.specs.Signatures.{IsGood, IsGoodIn}
-use Rattle.hm_explain.specs.WorkedPartTypes.{ExportsRow, GoodRow, OthersRow, ProbesRow, SignaturesRow, TextsRow, a, applied_to_itself, equal_types, function}
+use Rattle.hm_explain.specs.WorkedPartTypes.{ExportsRow, GoodRow, OthersRow, ProbesRow, InfiniteRow, SignaturesRow, TextsRow, a, applied_to_itself, b, equal_types, function, two_variables}
 use Rattle.hm_explain.specs.declared.layout.Other.{Other}
 use Rattle.hm_explain.proofs.WorkedHoles.{only_module}
 
@@ -70,23 +71,37 @@ expected_in t = first_of t (pair_in t)
 abbrev actual_in : Mono → Mono
 actual_in t = first_of t (rest_of (pair_in t))
 
-not_exchanged : ¬ (AreTextsOf applied_to_itself (codes "a -> b") (codes "a"))
-not_exchanged h =
+not_exchanged : (infinite : Bool) → ¬ (AreTextsOf applied_to_itself (codes "a -> b") (codes "a") infinite)
+not_exchanged infinite h =
     let first : a ≡ h.expected_type = ap expected_in h.pair in
     let text : codes "a -> b" ≡ codes "a" = subst (λ (t : Mono). codes "a -> b" ≡ scheme_text_of (record { vars = 2; body = t })) (sym first) h.expected_is in
     absurd (omega (arith, ap length text))
 
-not_equal : (t u : List ℕ) → ¬ (AreTextsOf equal_types t u)
-not_equal t u h = h.apart (sym (ap expected_in h.pair) ∙ ap actual_in h.pair)
+not_equal : (t u : List ℕ) (infinite : Bool) → ¬ (AreTextsOf equal_types t u infinite)
+not_equal t u infinite h = h.apart (sym (ap expected_in h.pair) ∙ ap actual_in h.pair)
 
-a_function : ¬ (a ≡ function a (leaf (var 1)))
+-- two variables need no infinite type
+not_infinite : (t u : List ℕ) → ¬ (AreTextsOf two_variables t u true)
+not_infinite t u h =
+    subst (λ (x : Mono). NeedInfinite a x) (sym (ap actual_in h.pair)) (subst (λ (x : Mono). NeedInfinite x h.actual_type) (sym (ap expected_in h.pair)) (h.contained refl))
+
+a_function : ¬ (a ≡ function a b)
 a_function e = cc
 
 pub worked_texts : TextsRow
 worked_texts = record {
-  itself = record { expected_type = a; actual_type = function a (leaf (var 1)); pair = refl; apart = a_function; expected_is = refl; actual_is = refl };
+  itself = record { expected_type = a; actual_type = function a b; pair = refl; apart = a_function; expected_is = refl; actual_is = refl; contained = λ e. refl };
   exchanged = not_exchanged;
   equal = not_equal;
+  finite = not_infinite;
+}
+
+pub worked_infinite : InfiniteRow
+worked_infinite = record {
+  itself = refl;
+  inside = (refl, inr (inl refl));
+  variables = λ n. n;
+  apart = λ n. cc;
 }
 
 here : (source : List ℕ) → HasModules source (module_A ∷ []) → ExportsIn source (codes "A") [] (codes "x") character

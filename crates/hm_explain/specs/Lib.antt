@@ -1,4 +1,5 @@
 pub mod Holes
+pub mod InfiniteTypes
 pub mod Layouts
 pub mod Mends
 pub mod PartTypes

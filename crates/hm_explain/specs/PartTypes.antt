@@ -1,5 +1,5 @@
 -- The two types of a part of a definition: the one that it has, and the one that is expected in its place.
-use Rattle.std.specs.Prelude.{◌≡◌, ◌≤◌, ℕ, List, [], ◌∷◌, ◌++◌, Option, None, Some, Contains, codes, length, take, slice_range}
+use Rattle.std.specs.Prelude.{◌≡◌, ◌≤◌, Bool, true, ℕ, List, [], ◌∷◌, ◌++◌, Option, None, Some, Contains, codes, length, take, slice_range}
 use Rattle.hm_types.specs.Interfaces.{Exports as Interface}
 use Rattle.hm_types.specs.Monotypes.{Mono}
 use Rattle.hm_types.specs.Schemes.{TypeScheme}
@@ -13,6 +13,7 @@ use Rattle.hm_syntax.specs.declared.ast.Module.{Module}
 use Rattle.hm_names.specs.Imports.{AreImportsOf}
 use Rattle.hm_verdicts.specs.ModuleVerdicts.{Good, IsVerdict}
 use Rattle.hm_explain.specs.Holes.{IsModuleIn, hole}
+use Rattle.hm_explain.specs.InfiniteTypes.{NeedInfinite}
 use Rattle.hm_explain.specs.declared.layout.Other.{Other}
 use Rattle.hm_explain.specs.declared.mends.Span.{Span}
 use Rattle.hm_explain.specs.declared.search.Culprit.{Culprit}
@@ -89,17 +90,19 @@ from_pair t u = app Arrow (more (app (Tuple 2) (more t (more u none))) (more (ap
 abbrev pub text_in : TypeScheme → Mono → List ℕ
 text_in s t = scheme_text_of (record { vars = s.vars; body = t })
 
--- a function with this scheme takes a pair of types that differ, and these are their texts
-pub record AreTextsOf (scheme : TypeScheme) (expected actual : List ℕ) : Type 0 where
+-- a function with this scheme takes a pair of types that differ, and these are their texts. If they are told as infinite, they are equal only if a type
+-- contains itself
+pub record AreTextsOf (scheme : TypeScheme) (expected actual : List ℕ) (infinite : Bool) : Type 0 where
   pub expected_type : Mono
   pub actual_type : Mono
   pub pair : scheme.body ≡ from_pair expected_type actual_type
   pub apart : ¬ (expected_type ≡ actual_type)
   pub expected_is : expected ≡ text_in scheme expected_type
   pub actual_is : actual ≡ text_in scheme actual_type
+  pub contained : infinite ≡ true → NeedInfinite expected_type actual_type
 
 -- With the function in place of the definition, the module is good, and the function takes the two types
-pub record HasPartTypes (source name : List ℕ) (fs : List Interface) (definition : List ℕ) (part : Culprit) (expected actual : List ℕ) : Type 0 where
+pub record HasPartTypes (source name : List ℕ) (fs : List Interface) (definition : List ℕ) (part : Culprit) (expected actual : List ℕ) (infinite : Bool) : Type 0 where
   pub place : Surroundings
   pub starts : place.whole.from ≤ part.from
   pub ordered : part.from ≤ part.to
@@ -107,4 +110,4 @@ pub record HasPartTypes (source name : List ℕ) (fs : List Interface) (definiti
   pub within : place.whole.to ≤ length source
   pub scheme : TypeScheme
   pub typed : ExportsIn (with_probe source definition place part) name fs (codes "part'types") scheme
-  pub texts : AreTextsOf scheme expected actual
+  pub texts : AreTextsOf scheme expected actual infinite

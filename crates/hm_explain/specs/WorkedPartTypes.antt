@@ -1,5 +1,5 @@
 -- Worked examples of the two types of a part.
-use Rattle.std.specs.Prelude.{◌≡◌, ℕ, List, [], ◌∷◌, None, Some, codes}
+use Rattle.std.specs.Prelude.{◌≡◌, Bool, true, ℕ, List, [], ◌∷◌, None, Some, codes}
 use Rattle.hm_types.specs.Monotypes.{Mono, var}
 use Rattle.hm_types.specs.Schemes.{TypeScheme}
 use Rattle.hm_types.specs.Types.{Var as leaf, App as app, done as none, more}
@@ -7,6 +7,7 @@ use Rattle.hm_types.specs.declared.Head.TheVariants.{Arrow}
 use Rattle.hm_run_sources.specs.SourceModules.{HasModules}
 use Rattle.hm_verdicts.specs.Worked.{module_A, module_B}
 use Rattle.hm_verdicts.specs.WorkedVerdicts.{character}
+use Rattle.hm_explain.specs.InfiniteTypes.{NeedInfinite}
 use Rattle.hm_explain.specs.PartTypes.{AreTextsOf, ExportsIn, Surroundings, before, from_pair, hollowed, with_probe}
 use Rattle.hm_explain.specs.Signatures.{IsGoodIn, with_alone, without}
 use Rattle.hm_explain.specs.declared.layout.Other.{Other}
@@ -37,21 +38,35 @@ pub record ProbesRow : Type 0 where
 abbrev pub a : Mono
 a = leaf (var 0)
 
+abbrev pub b : Mono
+b = leaf (var 1)
+
 abbrev pub function : Mono → Mono → Mono
 function t u = app Arrow (more t (more u none))
 
 -- the types of f in f f: a function from a to b, where a is expected
 abbrev pub applied_to_itself : TypeScheme
-applied_to_itself = record { vars = 2; body = from_pair a (function a (leaf (var 1))) }
+applied_to_itself = record { vars = 2; body = from_pair a (function a b) }
 
 abbrev pub equal_types : TypeScheme
 equal_types = record { vars = 1; body = from_pair a a }
 
--- the expected type is the first one, and two equal types are none
+abbrev pub two_variables : TypeScheme
+two_variables = record { vars = 2; body = from_pair a b }
+
+-- The expected type is the first one, and two equal types are none. A type that would be infinite is told as such, and two variables aren't
 pub record TextsRow : Type 0 where
-  pub itself : AreTextsOf applied_to_itself (codes "a") (codes "a -> b")
-  pub exchanged : ¬ (AreTextsOf applied_to_itself (codes "a -> b") (codes "a"))
-  pub equal : (t u : List ℕ) → ¬ (AreTextsOf equal_types t u)
+  pub itself : AreTextsOf applied_to_itself (codes "a") (codes "a -> b") true
+  pub exchanged : (infinite : Bool) → ¬ (AreTextsOf applied_to_itself (codes "a -> b") (codes "a") infinite)
+  pub equal : (t u : List ℕ) (infinite : Bool) → ¬ (AreTextsOf equal_types t u infinite)
+  pub finite : (t u : List ℕ) → ¬ (AreTextsOf two_variables t u true)
+
+-- a and a -> b are equal only as an infinite type, and so are b -> a and b -> a -> b. Two variables aren't, nor is a with a type without it
+pub record InfiniteRow : Type 0 where
+  pub itself : NeedInfinite a (function a b)
+  pub inside : NeedInfinite (function b a) (function b (function a b))
+  pub variables : ¬ (NeedInfinite a b)
+  pub apart : ¬ (NeedInfinite a (function b b))
 
 -- the module A has only x = 'c', and exports x and no y
 pub record ExportsRow : Type 0 where

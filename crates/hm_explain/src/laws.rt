@@ -1,6 +1,7 @@
 //! Worked examples: functions with empty bodies, whose contracts have the facts.
+ghost use Rattle.hm_explain.specs.InfiniteTypes.{NoCommonInstance};
 ghost use Rattle.hm_explain.specs.Worked.{HolesRow, MendsRow, PartsRow, TypesRow, VerdictsRow};
-ghost use Rattle.hm_explain.specs.WorkedPartTypes.{ExportsRow, GoodRow, OthersRow, ProbesRow, SignaturesRow, TextsRow};
+ghost use Rattle.hm_explain.specs.WorkedPartTypes.{ExportsRow, GoodRow, InfiniteRow, OthersRow, ProbesRow, SignaturesRow, TextsRow};
 
 /// Sources with a hole, parts of a source, verdicts with which a definition has a type, and sources in which it has one.
 #[tactic(auto, using(crate::proofs::WorkedHoles::worked_holes, crate::proofs::WorkedHoles::worked_parts, crate::proofs::WorkedHoles::worked_verdicts, crate::proofs::WorkedHoles::worked_types))]
@@ -17,9 +18,9 @@ pub fn worked_mends()
     ensures { MendsRow }
 {}
 
-/// Sources with a function of two types or a definition alone, the texts of two types, a source in which a module exports a variable, and sources in which
-/// one is good and in which it isn't.
-#[tactic(auto, using(crate::proofs::WorkedPartTypes::worked_probes, crate::proofs::WorkedPartTypes::worked_texts, crate::proofs::WorkedPartTypes::worked_exports, crate::proofs::WorkedPartTypes::worked_others, crate::proofs::WorkedPartTypes::worked_signatures, crate::proofs::WorkedPartTypes::worked_good))]
+/// Sources with a function of two types or a definition alone, the texts of two types, a source in which a module exports a variable, sources in which one
+/// is good and in which it isn't, and types that are equal only as an infinite type.
+#[tactic(auto, using(crate::proofs::WorkedPartTypes::worked_probes, crate::proofs::WorkedPartTypes::worked_texts, crate::proofs::WorkedPartTypes::worked_exports, crate::proofs::WorkedPartTypes::worked_others, crate::proofs::WorkedPartTypes::worked_signatures, crate::proofs::WorkedPartTypes::worked_good, crate::proofs::WorkedPartTypes::worked_infinite))]
 pub fn worked_part_types()
     ensures probes { ProbesRow }
     ensures texts { TextsRow }
@@ -27,4 +28,10 @@ pub fn worked_part_types()
     ensures others { OthersRow }
     ensures signatures { SignaturesRow }
     ensures good { GoodRow }
+    ensures infinite { InfiniteRow }
+{}
+
+/// No substitution makes two types equal that are equal only if a type contains itself.
+pub fn infinite_types()
+    ensures { NoCommonInstance }
 {}

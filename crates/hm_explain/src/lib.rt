@@ -11,6 +11,7 @@ mod costs;
 mod culprits;
 mod cutting;
 mod edits;
+mod infinite;
 pub mod laws;
 mod layout;
 mod mends;

@@ -7,6 +7,7 @@ ghost use Rattle.hm_explain.specs.PartTypes.{AreTextsOf, ExportsIn, HasPartTypes
 use crate::binding::binding_at;
 use crate::costs::{Effort, cost_of};
 use crate::cutting::header_of;
+use crate::infinite::need_infinite;
 use crate::layout::{Layout, Other, with_probe};
 use crate::mends::Span;
 use crate::reading::TypeFault;
@@ -31,6 +32,8 @@ pub struct PartTypes {
     pub expected: String,
     /// The type that it has.
     pub actual: String,
+    /// Whether no type is both because it would contain itself.
+    pub infinite: bool,
 }
 
 /// Returns the scheme with which an interface exports a variable.
@@ -132,7 +135,8 @@ fn between(
 // Why: docs/DECISIONS.md, "The text of two types".
 /// Returns the texts of the types of the pair that a function with this scheme takes, if they differ.
 fn texts_of(alloc: Global, scheme: &Scheme) -> Result<Option<PartTypes>, AllocError>
-    ensures { IfOk result (λ found. IfSome found (λ types. AreTextsOf scheme.now (string_bytes types.expected) (string_bytes types.actual))) }
+    ensures { IfOk result (λ found. IfSome found (λ types. AreTextsOf scheme.now (string_bytes types.expected) (string_bytes types.actual)
+        types.infinite)) }
 {
     let Some((expected, actual)) = pair_of(alloc, scheme.body())? else {
         return Ok(None);
@@ -140,6 +144,7 @@ fn texts_of(alloc: Global, scheme: &Scheme) -> Result<Option<PartTypes>, AllocEr
     if expected.is_same(actual) {
         return Ok(None);
     }
+    let infinite = need_infinite(expected, actual);
     let first = canonical(alloc, expected)?;
     if !first.body().is_same(expected) {
         return Ok(None);
@@ -148,7 +153,11 @@ fn texts_of(alloc: Global, scheme: &Scheme) -> Result<Option<PartTypes>, AllocEr
     let whole = scheme_text(alloc, scheme)?;
     let front = format!(in alloc; "({expected}, ")?;
     match between(alloc, whole.as_bytes(), front.as_bytes(), b") -> ()")? {
-        Some(actual) => Ok(Some(PartTypes { expected, actual })),
+        Some(actual) => Ok(Some(PartTypes {
+            expected,
+            actual,
+            infinite,
+        })),
         None => Ok(None),
     }
 }
@@ -224,7 +233,7 @@ fn types_for(
     part: Culprit,
 ) -> Result<Option<PartTypes>, AllocError>
     ensures { IfOk result (λ found. IfSome found (λ types. HasPartTypes layout.now.source.now question.now.name.now (map arc_value question.now.imports.now)
-        layout.now.name.now part (string_bytes types.expected) (string_bytes types.actual))) }
+        layout.now.name.now part (string_bytes types.expected) (string_bytes types.actual) types.infinite)) }
 {
     let Some(changed) = with_probe(alloc, layout, part)? else {
         return Ok(None);
@@ -252,7 +261,7 @@ pub fn part_types_of(
     effort: &mut Effort,
 ) -> Result<Option<PartTypes>, AllocError>
     ensures { IfOk result (λ both. IfSome both (λ types. HasPartTypes question.now.source.now question.now.name.now (map arc_value question.now.imports.now)
-        found.now.fault.now.name part (string_bytes types.expected) (string_bytes types.actual))) }
+        found.now.fault.now.name part (string_bytes types.expected) (string_bytes types.actual) types.infinite)) }
 {
     if !effort.pays_for_walks(question.source) {
         return Ok(None);

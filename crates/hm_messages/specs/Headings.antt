@@ -23,7 +23,7 @@ use Rattle.hm_messages.specs.declared.heading.Paint.TheVariants.{Plain, Coloured
 
 abbrev pub level_of : Subject → Level
 level_of (replaceable x p) = Note
-level_of (mistyped x p t u) = Note
+level_of (mistyped x p t u infinite) = Note
 level_of (unsigned x p t) = Note
 level_of (faulty x) = Note
 level_of (skipped x) = Note
@@ -44,7 +44,7 @@ level_of (exhausted x) = Error
 abbrev pub kind_of : Subject → List ℕ
 kind_of (fault k x known other) = kind_word k
 kind_of (replaceable x p) = codes "replaceable"
-kind_of (mistyped x p t u) = codes "mistyped"
+kind_of (mistyped x p t u infinite) = codes "mistyped"
 kind_of (unsigned x p t) = codes "signature"
 kind_of (faulty x) = codes "skipped"
 kind_of (skipped x) = codes "skipped"
@@ -64,7 +64,7 @@ kind_of (step x y) = codes "import"
 abbrev pub name_in : Subject → Option (List ℕ)
 name_in (fault k x known other) = Some x
 name_in (replaceable x p) = Some x
-name_in (mistyped x p t u) = Some x
+name_in (mistyped x p t u infinite) = Some x
 name_in (unsigned x p t) = Some x
 name_in (faulty x) = Some x
 name_in (skipped x) = Some x
@@ -82,11 +82,11 @@ name_in (step x y) = Some y
 
 -- the type that is expected at a part, and the type that it or a definition has, if it tells them
 abbrev pub expected_in : Subject → Option (List ℕ)
-expected_in (mistyped x p expected actual) = Some expected
+expected_in (mistyped x p expected actual infinite) = Some expected
 expected_in s = None
 
 abbrev pub actual_in : Subject → Option (List ℕ)
-actual_in (mistyped x p expected actual) = Some actual
+actual_in (mistyped x p expected actual infinite) = Some actual
 actual_in (unsigned x p own) = Some own
 actual_in s = None
 
@@ -94,7 +94,7 @@ actual_in s = None
 abbrev pub other_in : Subject → Option Position
 other_in (fault k x known other) = other
 other_in (replaceable x p) = None
-other_in (mistyped x p t u) = None
+other_in (mistyped x p t u infinite) = None
 other_in (unsigned x p t) = None
 other_in (faulty x) = None
 other_in (skipped x) = None
@@ -225,7 +225,7 @@ unsigned_title x p own = codes "'" ++ x ++ codes "' has type '" ++ own ++ codes 
 abbrev pub title : Subject → List ℕ
 title (fault k x known other) = fault_title k x known other
 title (replaceable x p) = replaceable_title x p
-title (mistyped x p expected actual) = mistyped_title p expected actual
+title (mistyped x p expected actual infinite) = mistyped_title p expected actual
 title (unsigned x p own) = unsigned_title x p own
 title (faulty x) = codes "skipped, since '" ++ x ++ codes "' has errors"
 title (skipped x) = codes "skipped, since '" ++ x ++ codes "' is skipped"

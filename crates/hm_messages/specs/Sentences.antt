@@ -1,5 +1,5 @@
 -- The second line of messages: the rule that is broken, or a hint.
-use Rattle.std.specs.Prelude.{ℕ, List, [], codes}
+use Rattle.std.specs.Prelude.{Bool, ℕ, List, [], codes, cond}
 use Rattle.hm_messages_hints.specs.LexemeTexts.{lexeme_help}
 use Rattle.hm_messages_hints.specs.SyntaxTexts.{syntax_help}
 use Rattle.hm_names.specs.declared.faults.Kind.{Kind}
@@ -20,11 +20,15 @@ fault_sentence ClauseLength = codes "Each clause of a function has as many patte
 fault_sentence Untyped = codes "This definition has no type, though everything that it refers to has one.\n"
 fault_sentence Recursive = codes "A synonym is replaced by its right side, so that would never end; use `data` or `newtype`.\n"
 
--- notes have none
+-- two types that are equal only if a type contains itself (the occurs check)
+abbrev pub types_sentence : Bool → List ℕ
+types_sentence infinite = cond infinite (codes "No type is both: it would contain itself, and so be infinite.\n") []
+
+-- other notes have none
 abbrev pub sentence : Subject → List ℕ
 sentence (fault k x known other) = fault_sentence k
 sentence (replaceable x p) = []
-sentence (mistyped x p t u) = []
+sentence (mistyped x p t u infinite) = types_sentence infinite
 sentence (unsigned x p t) = []
 sentence (faulty x) = []
 sentence (skipped x) = []

@@ -215,6 +215,7 @@ fn mistyped_title(alloc: Global, types: &BothTypes<'_>) -> Result<String, AllocE
         end,
         expected,
         actual,
+        ..
     } = *types;
     let Place { line, column } = end;
     format!(in alloc;

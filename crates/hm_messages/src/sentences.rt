@@ -1,6 +1,6 @@
 //! The second line of messages: the rule that is broken, or a hint.
 ghost use Rattle.std.specs.Prelude.{◌≡◌};
-ghost use Rattle.hm_messages.specs.Sentences.{fault_sentence, sentence};
+ghost use Rattle.hm_messages.specs.Sentences.{fault_sentence, sentence, types_sentence};
 ghost use Rattle.hm_messages.specs.Subjects.{subject_of};
 
 use crate::topic::Topic;
@@ -36,14 +36,25 @@ fn fault_sentence(kind: Kind) -> &'static str
     }
 }
 
-/// Returns the line that explains a message. Notes have none.
+/// Returns the line that explains two types, if no type is both because it would contain itself.
+fn types_sentence(infinite: bool) -> &'static str
+    ensures { result.now ≡ types_sentence infinite }
+{
+    if infinite {
+        "No type is both: it would contain itself, and so be infinite.\n"
+    } else {
+        ""
+    }
+}
+
+/// Returns the line that explains a message. Other notes have none.
 pub(crate) fn sentence(topic: &Topic<'_>) -> &'static str
     ensures { result.now ≡ sentence (subject_of topic.now) }
 {
     match topic {
         Topic::Fault(kind, _) => fault_sentence(*kind),
         Topic::Replaceable(_, _) => "",
-        Topic::Mistyped(_, _) => "",
+        Topic::Mistyped(_, types) => types_sentence(types.infinite),
         Topic::Unsigned(_, _, _) => "",
         Topic::Faulty(_) => "",
         Topic::Skipped(_) => "",

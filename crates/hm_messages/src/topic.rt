@@ -34,6 +34,8 @@ pub struct BothTypes<'a> {
     pub expected: &'a str,
     /// The type that the part has.
     pub actual: &'a str,
+    /// Whether no type is both because it would contain itself.
+    pub infinite: bool,
 }
 
 /// What a message is about. Names are as they are written.

@@ -12,9 +12,9 @@ returns-in_ok-message-in-Some c =
     let types = c.in-Some.types in
     let expected = string_bytes types.expected in
     let actual = string_bytes types.actual in
-    let are : ArePartTypes page.lines c.args.«module».now.question.now.name.now (map arc_value c.args.«module».now.question.now.imports.now) c.args.definition.now mend expected actual = search rules in
-    let says : IsMessage c.args.«module».now.paint page.file.now page.lines (first_of mend) (mistyped c.args.definition.now c.args.other expected actual) c.in_ok-message-in-Some.field-0.items = search rules in
-    by_types expected actual are says
+    let are : ArePartTypes page.lines c.args.«module».now.question.now.name.now (map arc_value c.args.«module».now.question.now.imports.now) c.args.definition.now mend expected actual types.infinite = search rules in
+    let says : IsMessage c.args.«module».now.paint page.file.now page.lines (first_of mend) (mistyped c.args.definition.now c.args.other expected actual types.infinite) c.in_ok-message-in-Some.field-0.items = search rules in
+    by_types expected actual types.infinite are says
 
 pub returns-in_ok-message-in-None : goal.returns-in_ok-message-in-None
 returns-in_ok-message-in-None c =

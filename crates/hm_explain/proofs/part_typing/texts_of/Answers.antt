@@ -23,4 +23,5 @@ returns-in-Some-2 c =
       apart = search rules;
       expected_is = first;
       actual_is = second_text (text_in scheme expected) (text_in scheme actual) (string_bytes c.in-Some-2.actual) (string_bytes c.in_ok-whole.whole) (string_bytes c.in_ok-front.front) whole parts front;
+      contained = c.need_infinite-infinite.ensures;
     }

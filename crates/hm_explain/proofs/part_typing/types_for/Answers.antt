@@ -22,8 +22,8 @@ returns-in-Some-2 c =
     let exports : ExportsIn c.in-Some.changed.items name imports (codes "part'types") scheme = search rules in
     let typed : ExportsIn (with_probe layout.source.now layout.name.now (surroundings_of layout) part) name imports (codes "part'types") scheme
     = subst (λ (s : List ℕ). ExportsIn s name imports (codes "part'types") scheme) changed exports in
-    found_so (λ (t : PartTypes). AreTextsOf scheme (string_bytes t.expected) (string_bytes t.actual))
-    (λ (t : PartTypes). HasPartTypes layout.source.now name imports layout.name.now part (string_bytes t.expected) (string_bytes t.actual))
+    found_so (λ (t : PartTypes). AreTextsOf scheme (string_bytes t.expected) (string_bytes t.actual) t.infinite)
+    (λ (t : PartTypes). HasPartTypes layout.source.now name imports layout.name.now part (string_bytes t.expected) (string_bytes t.actual) t.infinite)
     c.in_ok-texts_of-in-Some-2.field-0
     (λ t texts. record { place = surroundings_of layout; starts = starts; ordered = ordered; ends = ends; within = within; scheme = scheme; typed = typed; texts = texts })
     c.in_ok-texts_of-in-Some-2.ensures
