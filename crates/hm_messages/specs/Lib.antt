@@ -6,4 +6,5 @@ pub mod Pages
 pub mod Refused
 pub mod Sentences
 pub mod Subjects
+pub mod Twins
 pub mod Worked

@@ -1,5 +1,5 @@
 -- The messages of a refused set.
-use Rattle.std.specs.Prelude.{◌≡◌, ℕ, ◌+◌, ◌-◌, ◌<◌, ⊤, List, [], ◌∷◌, ◌++◌, length, slice_index_or}
+use Rattle.std.specs.Prelude.{◌≡◌, ℕ, ◌+◌, ◌-◌, ◌<◌, ⊤, List, [], ◌∷◌, ◌++◌, Option, Some, None, length, slice_index_or, take}
 use Rattle.hm_messages_excerpts.specs.Excerpts.{IsExcerptAt}
 use Rattle.hm_messages_excerpts.specs.declared.excerpt.Excerpt.{Excerpt}
 use Rattle.hm_messages_hints.specs.Advice.{IsAdviceAt}
@@ -17,7 +17,8 @@ use Rattle.hm_messages.specs.FurtherFaults.{AreFurtherFaults}
 use Rattle.hm_messages.specs.Headings.{count_text}
 use Rattle.hm_messages.specs.Messages.{AreEach, IsHeadingAt, IsMessage}
 use Rattle.hm_messages.specs.Missing.{SetImport, missing_imports}
-use Rattle.hm_messages.specs.Subjects.{Subject, too_long, lexeme, open_comment, too_deep, syntax_fault, too_many, twice, missing, cycle, step}
+use Rattle.hm_messages.specs.Subjects.{Subject, too_long, lexeme, open_comment, too_deep, syntax_fault, too_many, twice, twin, missing, cycle, step}
+use Rattle.hm_messages.specs.Twins.{IsTwinOf}
 use Rattle.hm_messages.specs.declared.heading.Paint.{Paint}
 
 -- the hint holds for the shown text from the place on, and the operator that it names is the one there
@@ -98,13 +99,26 @@ pub record AreFurtherTold (paint : Paint) (files sources : List (List ℕ)) (fir
   pub told : AreEach (IsMissingTold paint files sources) more text
   pub count : errors ≡ length more + 1
 
--- the text after the first message, which is at this place, and the number of errors. It has a line for each import of a cycle, or a message for each
--- further import that names no module. Otherwise it is empty
+-- a note at the name of this module, and nothing if there is none
+abbrev pub IsTwinTold : Paint → List (List ℕ) → List (List ℕ) → List ℕ → Option Located → List ℕ → Type 0
+IsTwinTold paint files sources name (Some l) text = IsMessageAt paint files sources l.source (record { line = l.header.name.line; column = l.header.name.column }) (twin name) text
+IsTwinTold paint files sources name None text = text ≡ []
+
+-- the text is a note at a module before the one with this number, which has its name. If none has it, there is no note
+pub record HasTwinTold (paint : Paint) (files sources : List (List ℕ)) («module» : ℕ) (name text : List ℕ) : Type 0 where
+  pub located : List Located
+  pub of_sources : AreLocated sources located
+  pub found : Option Located
+  pub twin_of : IsTwinOf name (take «module» located) found
+  pub told : IsTwinTold paint files sources name found text
+
+-- the text after the first message, which is at this place, and the number of errors. It has a note at the first module of a name that is taken, a line
+-- for each import of a cycle, or a message for each further import that names no module. Otherwise it is empty
 abbrev pub IsBehind : Paint → List (List ℕ) → List (List ℕ) → Refusal → ℕ → Place → ℕ → List ℕ → Type 0
 IsBehind paint files sources (lex n fault) number place errors text = (text ≡ []) × (errors ≡ 1)
 IsBehind paint files sources (parse n fault) number place errors text = (text ≡ []) × (errors ≡ 1)
 IsBehind paint files sources (plan planning.TooMany m i) number place errors text = (text ≡ []) × (errors ≡ 1)
-IsBehind paint files sources (plan (planning.Duplicate k) m i) number place errors text = (text ≡ []) × (errors ≡ 1)
+IsBehind paint files sources (plan (planning.Duplicate k) m i) number place errors text = HasTwinTold paint files sources k m text × (errors ≡ 1)
 IsBehind paint files sources (plan (planning.Missing k j) m i) number place errors text = AreFurtherTold paint files sources (record { number = number; place = place; name = i }) errors text
 IsBehind paint files sources (plan (planning.Cycle k) m i) number place errors text = (ways : List Way) × AreEach (IsWayTold paint files sources) ways text × (errors ≡ 1)
 IsBehind paint files sources (plan planning.Memory m i) number place errors text = (text ≡ []) × (errors ≡ 1)

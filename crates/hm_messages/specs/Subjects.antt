@@ -10,7 +10,7 @@ use Rattle.hm_messages.specs.declared.topic.Topic.{Topic}
 use Rattle.hm_messages.specs.declared.topic.Way.{Way}
 use Rattle.hm_messages.specs.declared.topic.Topic.TheVariants as topic
 
--- a fault of a module, with what is known of it and another place that this names; a way in which a definition has a type; a part of a definition up to a place, with the type that is expected there and the one that it has, and whether no type is both because it would contain itself; a signature up to a place, with the type that its definition has without it; a module is skipped for a faulty import, or for a skipped one; why a set is refused; a module that there is no memory to check; a step of a cycle
+-- a fault of a module, with what is known of it and another place that this names; a way in which a definition has a type; a part of a definition up to a place, with the type that is expected there and the one that it has, and whether no type is both because it would contain itself; a signature up to a place, with the type that its definition has without it; a module is skipped for a faulty import, or for a skipped one; why a set is refused; a module with the name of a later one; a module that there is no memory to check; a step of a cycle
 pub data Subject : Type 0 where
   fault : Kind → List ℕ → Known → Option Position → Subject
   replaceable : List ℕ → Way → Subject
@@ -25,6 +25,7 @@ pub data Subject : Type 0 where
   syntax_fault : SyntaxHint → List ℕ → Subject
   too_many : Subject
   twice : List ℕ → Subject
+  twin : List ℕ → Subject
   missing : List ℕ → Subject
   cycle : List ℕ → Subject
   exhausted : List ℕ → Subject
@@ -44,6 +45,7 @@ subject_of topic.TooDeep = too_deep
 subject_of (topic.Syntax a) = syntax_fault a.hint a.text.now
 subject_of topic.TooMany = too_many
 subject_of (topic.Twice x) = twice x.now
+subject_of (topic.Twin x) = twin x.now
 subject_of (topic.Missing x) = missing x.now
 subject_of (topic.Cycle x) = cycle x.now
 subject_of (topic.Exhausted x) = exhausted x.now

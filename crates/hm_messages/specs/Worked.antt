@@ -1,14 +1,22 @@
--- A worked example: the first faults of further sources.
-use Rattle.std.specs.Prelude.{ℕ, List, [], ◌∷◌}
+-- Worked examples: the first faults of further sources, and modules of one name.
+use Rattle.std.specs.Prelude.{◌≡◌, ℕ, List, [], ◌∷◌, Some, None, codes}
 use Rattle.hm_lex.specs.Faults.{IsRefusal}
 use Rattle.hm_lex.specs.declared.token.Place.{Place}
 use Rattle.hm_lex.specs.declared.token.LexFault.TheVariants.{Lexeme}
 use Rattle.hm_syntax.specs.declared.ast.Module.{Module}
 use Rattle.hm_run_sources.specs.Refusals.{lex}
 use Rattle.hm_run_sources.specs.SourceModules.{HasModules}
+use Rattle.hm_run_sources.specs.declared.located.Located.{Located}
 use Rattle.hm_messages.specs.FurtherFaults.{AreFirstFaults}
+use Rattle.hm_messages.specs.Twins.{IsTwinOf}
 
 -- the second source spells modules, and the third has text that is no lexeme: its fault is that of source 3. Where no source is left, there is none
 pub record FurtherRow : Type 0 where
   pub third : (s t : List ℕ) (modules : List Module) (p : Place) → HasModules s modules → IsRefusal t (Lexeme p) → AreFirstFaults 2 (s ∷ t ∷ []) (lex 3 (Lexeme p) ∷ [])
   pub none_left : (p : Place) → ¬ (AreFirstFaults 2 [] (lex 2 (Lexeme p) ∷ []))
+
+-- after the modules A and B, a second B has the twin B, and not A. A module C has none
+pub record TwinRow : Type 0 where
+  pub second : (a b : Located) → b.header.name.text ≡ codes "B" → IsTwinOf (codes "B") (a ∷ b ∷ []) (Some b)
+  pub other : (a b : Located) → a.header.name.text ≡ codes "A" → ¬ (IsTwinOf (codes "B") (a ∷ b ∷ []) (Some a))
+  pub none_there : (a b : Located) → a.header.name.text ≡ codes "A" → b.header.name.text ≡ codes "B" → IsTwinOf (codes "C") (a ∷ b ∷ []) None

@@ -1,13 +1,15 @@
 //! The messages of a refused set.
-ghost use Rattle.std.specs.Prelude.{◌≡◌, ◌-◌, ◌++◌, ℕ, List, [], IfOk, map, slice_index_or};
+ghost use Rattle.std.specs.Prelude.{◌≡◌, ◌-◌, ◌++◌, ℕ, List, [], IfOk, Option, false, map, option_map, slice_index_or, true};
 ghost use Rattle.hm_lex.specs.declared.token.Place.{Place};
 ghost use Rattle.hm_run_sources.specs.Origins.{AreLocated};
 ghost use Rattle.hm_run_sources.specs.Refusals.{lex, parse, plan};
+ghost use Rattle.hm_run_sources.specs.declared.located.Located.{Located as Row};
 ghost use Rattle.hm_messages.specs.Pages.{files_in, texts_in};
 ghost use Rattle.hm_messages.specs.Messages.{AreEach};
 ghost use Rattle.hm_messages.specs.Missing.{import_of};
-ghost use Rattle.hm_messages.specs.Refused.{Way, AreFurtherTold, AreMessagesOf, AreRefusalMessages, IsAdvised, IsLexemeHintAt, IsMessageAt, IsMissingTold, IsWayTold};
-ghost use Rattle.hm_messages.specs.Subjects.{cycle, missing, subject_of};
+ghost use Rattle.hm_messages.specs.Refused.{Way, AreFurtherTold, AreMessagesOf, AreRefusalMessages, HasTwinTold, IsAdvised, IsLexemeHintAt, IsMessageAt, IsMissingTold, IsTwinTold, IsWayTold};
+ghost use Rattle.hm_messages.specs.Subjects.{cycle, missing, subject_of, twice};
+ghost use Rattle.hm_messages.specs.Twins.{IsTwinOf};
 
 use crate::cycles::{Step, cycle_of};
 use crate::messages::{MessageFault, heading_at, message};
@@ -232,6 +234,74 @@ fn cycle_messages(
     Ok(text)
 }
 
+/// Returns whether a module has this name.
+fn is_called(here: &Located, name: &str) -> bool
+    ensures has { result ≡ true → here.now.header.name.text ≡ name.now }
+    ensures hasnt { result ≡ false → ¬ (here.now.header.name.text ≡ name.now) }
+{
+    here.header.name.as_str() == name
+}
+
+/// Returns the first of these modules that has this name.
+fn module_called<'a>(located: &'a [Located], name: &str) -> Option<&'a Located>
+    ensures { IsTwinOf name.now located.entry.now (option_map (λ l. l.now) result) }
+{
+    'modules: for here in located {
+        if is_called(here, name) {
+            return Some(here);
+        }
+    }
+    None
+}
+
+/// Returns a note at the first of these modules that has this name, or nothing if none has it.
+fn twin_note(
+    alloc: Global,
+    pages: &Pages<'_>,
+    earlier: &[Located],
+    name: &str,
+) -> Result<Vec<u8>, MessageFault>
+    ensures { IfOk result (λ text. (twin : Option Row) × IsTwinOf name.now earlier.now twin
+        × IsTwinTold pages.now.paint (files_in pages.now.items.items) (texts_in pages.now.items.items) name.now twin text.items) }
+{
+    let Some(here) = module_called(earlier, name) else {
+        return Ok(Vec::new(alloc));
+    };
+    let spot = Spot {
+        source: here.source,
+        place: here.header.name.place,
+    };
+    Ok(message_at(alloc, pages, spot, &Topic::Twin(name))?)
+}
+
+/// Returns the messages of a module whose name is taken: one at its name, and a note at the first module before it that has this name.
+fn twice_messages(
+    alloc: Global,
+    pages: &Pages<'_>,
+    located: &[Located],
+    number: usize,
+    name: &str,
+) -> Result<Vec<u8>, MessageFault>
+    requires { AreLocated (texts_in pages.now.items.items) located.now }
+    ensures { IfOk result (λ text. (at : ℕ) × (place : Place) × (first : List ℕ) × (behind : List ℕ)
+        × IsMessageAt pages.now.paint (files_in pages.now.items.items) (texts_in pages.now.items.items) at place (twice name.now) first
+        × HasTwinTold pages.now.paint (files_in pages.now.items.items) (texts_in pages.now.items.items) number name.now behind
+        × (text.items ≡ first ++ behind)) }
+{
+    if number >= located.len() {
+        return Err(MessageFault::Place);
+    }
+    let here = &located[number];
+    let spot = Spot {
+        source: here.source,
+        place: here.header.name.place,
+    };
+    let mut text = message_at(alloc, pages, spot, &Topic::Twice(name))?;
+    let note = twin_note(alloc, pages, &located[..number], name)?;
+    text.extend_from_slice(note.as_slice())?;
+    Ok(text)
+}
+
 /// Messages, and the number of errors that they report.
 #[derive(Drop)]
 pub struct Messages {
@@ -321,10 +391,7 @@ fn plan_messages(
             Ok(Messages { text, errors })
         }
         PlanFault::Duplicate { module } => {
-            let Some(spot) = module_spot(located, module) else {
-                return Err(MessageFault::Place);
-            };
-            let text = message_at(alloc, pages, spot, &Topic::Twice(name))?;
+            let text = twice_messages(alloc, pages, located, module, name)?;
             Ok(Messages { text, errors })
         }
         PlanFault::Missing { .. } => Ok(missing_messages(alloc, pages, located, refused.import)?),

@@ -66,6 +66,7 @@ pub(crate) fn sentence(topic: &Topic<'_>) -> &'static str
         Topic::TooMany => "A set has at most 4,096 modules.\n",
         Topic::Twice(_) =>
             "Each module of a set has a name of its own, and `Prelude` is built in.\n",
+        Topic::Twin(_) => "",
         Topic::Missing(_) =>
             "An import names a module of the set or `Prelude`; there is no other library.\n",
         Topic::Cycle(_) => "Modules may not import each other in a circle.\n",

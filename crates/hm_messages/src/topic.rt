@@ -67,6 +67,8 @@ pub enum Topic<'a> {
     TooMany,
     /// A module has a name that is taken.
     Twice(&'a str),
+    /// A module has the name of a later one.
+    Twin(&'a str),
     /// An import names no module.
     Missing(&'a str),
     /// A module reaches itself by imports.
