@@ -673,6 +673,9 @@ REASONS = [
         "Each module of a set has a name of its own, and `Prelude` is built in.\n"
         "module A where { }\n"
         "       ^\n"
+        "M.hs:1:8: note: this module has the name 'A' too\n"
+        "module A where { }\n"
+        "       ^\n"
         "errors: 1, skipped modules: 0\n",
     ),
     (
@@ -820,12 +823,19 @@ DETAILS = [
     ("import Prelude hiding (length) ; f = lenght", "1:55", "'lenght' isn't in scope [unbound]"),
     ("f = putStrLn", "1:22", "'putStrLn' isn't in scope: this Prelude leaves it out [unbound]"),
     ("x :: Integer ; x = 1", "1:23", "'Integer' isn't in scope: this Prelude leaves it out [unbound]"),
+    # the namespace of the name
+    ("x = Int", "1:22", "'Int' isn't in scope: a type has this name, but can't stand here [unbound]"),
+    ("x :: Just ; x = x", "1:23", "'Just' isn't in scope: a constructor has this name, but can't stand here [unbound]"),
+    ("data T = C ; f (T) = 1", "1:34", "'T' isn't in scope: a type has this name, but can't stand here [unbound]"),
     ("filter = 1 ; f = filter", "1:35", "'filter' is ambiguous: write 'M.filter' or 'Prelude.filter', or add 'import Prelude hiding (filter)' [ambiguous]"),
     ("data T = Left ; f = Left", "1:38", "'Left' is ambiguous: write 'M.Left' or 'Prelude.Left', or add 'import Prelude hiding (Left)' [ambiguous]"),
     ("data Int = I ; f :: Int ; f = 1", "1:38", "'Int' is ambiguous: write 'M.Int' or 'Prelude.Int', or add 'import Prelude hiding (Int)' [ambiguous]"),
     # an import names Prelude, so another one wouldn't hide a name of it
     ("import Prelude ; filter = 1 ; f = filter", "1:52", "'filter' is ambiguous: write 'M.filter' or 'Prelude.filter' (imported in line 1) [ambiguous]"),
     # the names that a list binds, less those with a signature; a near name of another list isn't meant
+    # a variable of a pattern
+    ("(p, q) = (1, 2) ; p :: Int", "1:36", "the signature of 'p' has no clauses: a pattern binds it [no-binding]"),
+    ("f = q where { q :: Int ; Just (_, q) = Nothing }", "1:32", "the signature of 'q' has no clauses: a pattern binds it [no-binding]"),
     ("fooBar :: Int -> Int ; foobar x = x", "1:18", "the signature of 'fooBar' has no clauses (did you mean 'foobar'?) [no-binding]"),
     ("foo1 :: Int ; foo2 :: Int ; foo2 = 2 ; foo3 = 3", "1:18", "the signature of 'foo1' has no clauses (did you mean 'foo3'?) [no-binding]"),
     ("foo1 :: Int ; foo2 :: Int ; foo2 = 2", "1:18", "the signature of 'foo1' has no clauses [no-binding]"),

@@ -7,15 +7,17 @@ use Rattle.hm_messages_json.specs.declared.message.Level.{Level}
 use Rattle.hm_messages_json.specs.declared.message.Level.TheVariants.{Error, Note}
 use Rattle.hm_messages_json.specs.declared.message.Position.{Position}
 use Rattle.hm_messages_details.specs.Candidates.{Candidate}
-use Rattle.hm_messages_details.specs.Details.{Known, nothing, near, of_report, either, first, arguments, lengths, not_from, near_binding}
+use Rattle.hm_messages_details.specs.Details.{Known, nothing, near, of_report, either, first, arguments, lengths, not_from, near_binding, elsewhere, by_pattern}
 use Rattle.hm_messages_hints.specs.LexemeTexts.{lexeme_text}
 use Rattle.hm_messages_hints.specs.SyntaxTexts.{syntax_text}
 use Rattle.hm_lex.specs.declared.token.Place.{Place}
 use Rattle.hm_names.specs.declared.faults.Kind.{Kind}
+use Rattle.hm_names.specs.declared.namespace.Namespace.{Namespace}
+use Rattle.hm_names.specs.declared.namespace.Namespace.TheVariants.{Types, Constructors, Values}
 use Rattle.hm_names.specs.declared.faults.Kind.TheVariants.{NotExported, Duplicate, NoBinding, Unbound, Ambiguous, ExportClash, NotImported, NonLinear, Arity, ClauseLength, Untyped, Recursive}
 use Rattle.hm_names.specs.Faults.Phases.{written_in}
 use Rattle.hm_verdicts.specs.Reports.{kind_word}
-use Rattle.hm_messages.specs.Subjects.{Subject, fault, replaceable, mistyped, unsigned, faulty, skipped, too_long, lexeme, open_comment, too_deep, syntax_fault, too_many, twice, missing, cycle, exhausted, step}
+use Rattle.hm_messages.specs.Subjects.{Subject, fault, replaceable, mistyped, unsigned, faulty, skipped, too_long, lexeme, open_comment, too_deep, syntax_fault, too_many, twice, twin, missing, cycle, exhausted, step}
 use Rattle.hm_messages.specs.declared.topic.Way.{Way}
 use Rattle.hm_messages.specs.declared.topic.Way.TheVariants.{Expression, Pattern, Exchange}
 use Rattle.hm_messages.specs.declared.heading.Paint.{Paint}
@@ -36,6 +38,7 @@ level_of too_deep = Error
 level_of (syntax_fault h x) = Error
 level_of too_many = Error
 level_of (twice x) = Error
+level_of (twin x) = Note
 level_of (missing x) = Error
 level_of (cycle x) = Error
 level_of (exhausted x) = Error
@@ -55,6 +58,7 @@ kind_of too_deep = codes "too-deep"
 kind_of (syntax_fault h x) = codes "syntax"
 kind_of too_many = codes "too-many-modules"
 kind_of (twice x) = codes "twice"
+kind_of (twin x) = codes "twice"
 kind_of (missing x) = codes "missing"
 kind_of (cycle x) = codes "cycle"
 kind_of (exhausted x) = codes "no-memory"
@@ -75,6 +79,7 @@ name_in too_deep = None
 name_in (syntax_fault h x) = None
 name_in too_many = None
 name_in (twice x) = Some x
+name_in (twin x) = Some x
 name_in (missing x) = Some x
 name_in (cycle x) = Some x
 name_in (exhausted x) = Some x
@@ -105,6 +110,7 @@ other_in too_deep = None
 other_in (syntax_fault h x) = None
 other_in too_many = None
 other_in (twice x) = None
+other_in (twin x) = None
 other_in (missing x) = None
 other_in (cycle x) = None
 other_in (exhausted x) = None
@@ -176,6 +182,12 @@ abbrev pub not_from_text : List ℕ → Option (List ℕ) → List ℕ
 not_from_text x None = codes ": '" ++ x ++ codes "' doesn't export it"
 not_from_text x (Some t) = codes ": '" ++ x ++ codes "' doesn't export it as a constructor of '" ++ t ++ codes "'"
 
+-- what has the name in this namespace
+abbrev pub space_noun : Namespace → List ℕ
+space_noun Types = codes "type"
+space_noun Constructors = codes "constructor"
+space_noun Values = codes "variable"
+
 -- what is known beyond the kind and the name
 abbrev pub detail_text : Known → List ℕ
 detail_text nothing = []
@@ -187,6 +199,8 @@ detail_text (arguments here takes) = codes ": it has " ++ decimal here ++ codes 
 detail_text (lengths here others) = codes ": " ++ decimal here ++ codes " here, but " ++ decimal others ++ codes " in the first"
 detail_text (not_from x t) = not_from_text x t
 detail_text (near_binding x) = near_text None x
+detail_text (elsewhere s) = codes ": a " ++ space_noun s ++ codes " has this name, but can't stand here"
+detail_text by_pattern = codes ": a pattern binds it"
 
 -- where the first of two names is, its column in characters
 abbrev pub first_text : Option Position → List ℕ
@@ -236,6 +250,7 @@ title too_deep = codes "too many open brackets"
 title (syntax_fault h x) = syntax_text h x
 title too_many = codes "too many modules"
 title (twice x) = codes "the module name '" ++ x ++ codes "' is taken"
+title (twin x) = codes "this module has the name '" ++ x ++ codes "' too"
 title (missing x) = codes "no module '" ++ x ++ codes "' is given"
 title (cycle x) = codes "the imports of module '" ++ x ++ codes "' lead back to it"
 title (exhausted x) = codes "there is no memory to check module '" ++ x ++ codes "'"

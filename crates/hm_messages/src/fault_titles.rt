@@ -1,12 +1,12 @@
 //! What is wrong with a module, in a few words.
 ghost use Rattle.std.specs.Prelude.{◌≡◌, IfOk, option_map, string_bytes};
-ghost use Rattle.hm_messages_details.specs.Details.{candidate_of, known_of};
-ghost use Rattle.hm_messages.specs.Headings.{both_text as both_bytes, detail_text as detail_bytes, either_text as either_bytes, fault_title as fault_title_bytes, first_text, hiding_text as hiding_bytes, kind_title as kind_title_bytes, line_text as line_bytes, near_text, not_from_text as not_from_bytes, qualified_text as qualified_bytes, written_text as written_bytes};
+ghost use Rattle.hm_messages_details.specs.Details.{candidate_of, elsewhere, known_of};
+ghost use Rattle.hm_messages.specs.Headings.{both_text as both_bytes, detail_text as detail_bytes, either_text as either_bytes, fault_title as fault_title_bytes, first_text, hiding_text as hiding_bytes, kind_title as kind_title_bytes, line_text as line_bytes, near_text, not_from_text as not_from_bytes, qualified_text as qualified_bytes, space_noun as noun_bytes, written_text as written_bytes};
 
 use crate::topic::Named;
 use hm_messages_details::{Candidate, Detail, Origin};
 use hm_messages_json::Position;
-use hm_names::Kind;
+use hm_names::{Kind, Namespace};
 use std::alloc::{AllocError, Global};
 
 /// Returns what is wrong, by the kind and the name alone.
@@ -153,6 +153,25 @@ fn not_from_text(alloc: Global, module: &str, owner: Option<&str>) -> Result<Str
     }
 }
 
+/// Returns what has a name in this namespace.
+fn space_noun(space: Namespace) -> &'static str
+    ensures { result.now ≡ noun_bytes space }
+{
+    match space {
+        Namespace::Types => "type",
+        Namespace::Constructors => "constructor",
+        Namespace::Values => "variable",
+    }
+}
+
+/// Returns the text about the namespace in which a name is in scope.
+fn elsewhere_text(alloc: Global, space: Namespace) -> Result<String, AllocError>
+    ensures { IfOk result (λ text. string_bytes text ≡ detail_bytes (elsewhere space)) }
+{
+    let noun = space_noun(space);
+    format!(in alloc; ": a {noun} has this name, but can't stand here")
+}
+
 /// Returns the text of a detail beyond the kind and the name.
 fn detail_text(alloc: Global, detail: &Detail<'_>) -> Result<String, AllocError>
     ensures { IfOk result (λ text. string_bytes text ≡ detail_bytes (known_of detail.now)) }
@@ -171,6 +190,8 @@ fn detail_text(alloc: Global, detail: &Detail<'_>) -> Result<String, AllocError>
         ),
         Detail::NotFrom(module, owner) => not_from_text(alloc, module, *owner),
         Detail::NearBinding(name) => near_text(alloc, None, name),
+        Detail::Elsewhere(space) => elsewhere_text(alloc, *space),
+        Detail::ByPattern => String::from_str(alloc, ": a pattern binds it"),
     }
 }
 

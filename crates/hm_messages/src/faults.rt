@@ -30,6 +30,8 @@ fn other_at(page: &Page<'_>, detail: &Detail<'_>) -> Result<Option<Position>, Me
         Detail::Patterns(_, _) => Ok(None),
         Detail::NotFrom(_, _) => Ok(None),
         Detail::NearBinding(_) => Ok(None),
+        Detail::Elsewhere(_) => Ok(None),
+        Detail::ByPattern => Ok(None),
     }
 }
 

@@ -14,7 +14,8 @@ use Rattle.hm_names.proofs.Members.{none_in, cases}
 use Rattle.hm_messages_details.specs.Counts.{HasArguments, of_type, of_constructor, HasLengthsAt}
 use Rattle.hm_messages_details.specs.Firsts.{IsFirstOf}
 use Rattle.hm_messages_details.specs.NearBindings.{HasNearBinding, IsNearBindingAt}
-use Rattle.hm_messages_details.specs.Parts.{Part, a_list, a_head, a_row, a_pattern, a_type, IsPart, list_is, head_is, parameters_are, pattern_is, type_is, type_parts, types_parts, constructor_parts, constructors_parts, pattern_parts, patterns_parts, head_parts, expression_parts, expressions_parts, alternative_parts, alternatives_parts, right_side_parts, bodies_parts, declarations_parts, declaration_parts, module_parts, IsFirstIn, HasArgumentsIn, HasLengthsIn, IsNearBindingIn}
+use Rattle.hm_messages_details.specs.PatternBindings.{HasPatternBound, IsPatternBoundAt}
+use Rattle.hm_messages_details.specs.Parts.{Part, a_list, a_head, a_row, a_pattern, a_type, IsPart, list_is, head_is, parameters_are, pattern_is, type_is, type_parts, types_parts, constructor_parts, constructors_parts, pattern_parts, patterns_parts, head_parts, expression_parts, expressions_parts, alternative_parts, alternatives_parts, right_side_parts, bodies_parts, declarations_parts, declaration_parts, module_parts, IsFirstIn, HasArgumentsIn, HasLengthsIn, IsNearBindingIn, IsPatternBoundIn}
 
 module _ (Q : Locals → Node → Type 0) (p : Part) (h : (xs : Locals) (k : Node) → IsPart k p → Q xs k) where
   -- the node of the part
@@ -145,6 +146,13 @@ near_of f x parameters_are s = absurd s
 near_of f x pattern_is s = absurd s
 near_of f x type_is s = absurd s
 
+bound_of : (f : Fault) {p : Part} {k : Node} → IsPart k p → IsPatternBoundIn p f → IsPatternBoundAt k f
+bound_of f list_is s = s
+bound_of f head_is s = absurd s
+bound_of f parameters_are s = absurd s
+bound_of f pattern_is s = absurd s
+bound_of f type_is s = absurd s
+
 -- and so it stands somewhere in the module
 
 pub somewhere_first : (m : Module) (f : Fault) (q : Place) (p : Part) → Contains (module_parts m.decls) p → IsFirstIn p f q → Somewhere m (λ xs k. IsFirstOf k f q)
@@ -158,3 +166,6 @@ somewhere_lengths m f here first p c s = in_top (λ xs k. HasLengthsAt f here fi
 
 pub somewhere_near : (m : Module) (f : Fault) (x : List ℕ) (p : Part) → Contains (module_parts m.decls) p → IsNearBindingIn p f x → HasNearBinding m f x
 somewhere_near m f x p c s = in_top (λ xs k. IsNearBindingAt k f x) p (λ xs k is. near_of f x is s) m.decls c
+
+pub somewhere_bound : (m : Module) (f : Fault) (p : Part) → Contains (module_parts m.decls) p → IsPatternBoundIn p f → HasPatternBound m f
+somewhere_bound m f p c s = in_top (λ xs k. IsPatternBoundAt k f) p (λ xs k is. bound_of f is s) m.decls c

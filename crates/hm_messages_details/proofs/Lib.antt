@@ -1,4 +1,5 @@
 mod Arities
+mod BoundByPatterns
 mod Found
 mod InModules
 mod LaterClauses

@@ -1,15 +1,17 @@
 -- The worked names of imports and signatures.
-use Rattle.std.proofs.Common.{◌≡◌, ◌∷◌, ◌∙◌, [], ℕ, List, All, None, ⊎_elim, ap, arith, refl, subst, sym}
+use Rattle.std.proofs.Common.{◌≡◌, ◌∷◌, ◌∙◌, [], ℕ, List, All, None, ⊎_elim, ap, arith, inl, inr, refl, subst, sym}
 use Rattle.std.proofs.lemmas.List.Elements.{All-cons, All-nil}
 use Rattle.std.specs.Prelude.{Contains, codes}
 use Rattle.hm_syntax.specs.Names.{Identifier}
 use Rattle.hm_syntax.specs.declared.ast.Import.{Import}
 use Rattle.hm_names.specs.Faults.Phases.{fault}
 use Rattle.hm_names.specs.declared.faults.Kind.TheVariants.{NotExported}
+use Rattle.hm_names.specs.declared.namespace.Namespace.{Namespace}
+use Rattle.hm_names.specs.declared.namespace.Namespace.TheVariants.{Types, Constructors, Values}
 use Rattle.hm_names.proofs.Members.{cases, none_in}
 use Rattle.hm_messages_details.specs.Candidates.{IsInLine}
 use Rattle.hm_messages_details.specs.Listed.{IsListedAs, a_constructor, a_type}
-use Rattle.hm_messages_details.specs.Worked.{ImportLineRow, ListedRow, NearBindingRow, constructor_item, import_on, name_on}
+use Rattle.hm_messages_details.specs.Worked.{ImportLineRow, ListedRow, NearBindingRow, PatternRow, SpaceRow, constructor_item, import_on, name_on}
 use Rattle.hm_lex.specs.declared.token.Place.{Place}
 
 pub worked_listed : ListedRow
@@ -67,3 +69,26 @@ worked_bindings = record {
     not_bound n c e = ⊎_elim
         (λ s. let letters : 98 ≡ 66 = ap fourth (ap (λ (k : Identifier). k.text) (sym s) ∙ e) in omega (arith, letters))
         (λ o. none_in n o) (cases (name_on (codes "foobar") 2) [] n c)
+
+is_type : Namespace → ℕ
+is_type Types = 1
+is_type Constructors = 0
+is_type Values = 0
+
+pub worked_spaces : SpaceRow
+unfolding is_type
+worked_spaces = record {
+  there = λ e. record { within = refl; written = refl };
+  other = λ e h. let ones : 1 ≡ 0 = ap is_type h.within in omega (arith, ones);
+}
+
+pub worked_patterns : PatternRow
+worked_patterns = record {
+  bound = record {
+    signed = name_on (codes "p") 1;
+    among = (0, omega arith, refl);
+    at_signed = record { place_is = refl; name_is = refl };
+    bound = inr (inl (name_on (codes "p") 2, (0, omega arith, refl), refl));
+  };
+  other = λ h. ⊎_elim (λ s. absurd s) (λ o. ⊎_elim (λ s. absurd s) (λ n. absurd n) o) h.bound;
+}

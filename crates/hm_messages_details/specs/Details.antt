@@ -17,6 +17,7 @@ use Rattle.hm_messages_details.specs.LeftOut.{left_out}
 use Rattle.hm_messages_details.specs.Listed.{IsListedFrom}
 use Rattle.hm_messages_details.specs.NearBindings.{HasNearBinding}
 use Rattle.hm_messages_details.specs.Nearness.{begins_capital, edits}
+use Rattle.hm_messages_details.specs.PatternBindings.{HasPatternBound}
 use Rattle.hm_messages_details.specs.declared.detail.Candidate.{Candidate as LentCandidate}
 use Rattle.hm_messages_details.specs.declared.detail.Detail.{Detail}
 use Rattle.hm_messages_details.specs.declared.detail.Detail.TheVariants as detail
@@ -24,7 +25,8 @@ use Rattle.hm_messages_details.specs.declared.detail.Origin.{Origin}
 
 -- nothing; a name in scope that is near, by its qualifier and its text; the Report's Prelude has the name; two entities that it stands for; the place of
 -- the first name that is the same; its arguments and how many it takes; the patterns of the clause and of the first one; the module that doesn't export
--- the name, or not as a constructor of a type; a near name that the list of the signature binds
+-- the name, or not as a constructor of a type; a near name that the list of the signature binds; the namespace in which the name is in scope; a pattern
+-- binds the variable of the signature
 pub data Known : Type 0 where
   nothing : Known
   near : Option (List ℕ) → List ℕ → Known
@@ -35,6 +37,8 @@ pub data Known : Type 0 where
   lengths : ℕ → ℕ → Known
   not_from : List ℕ → Option (List ℕ) → Known
   near_binding : List ℕ → Known
+  elsewhere : Namespace → Known
+  by_pattern : Known
 
 abbrev pub entity_of : Origin → Entity
 entity_of o = record { «module» = o.«module».now; name = o.name.now }
@@ -52,6 +56,8 @@ known_of (detail.Arguments here takes) = arguments here takes
 known_of (detail.Patterns here others) = lengths here others
 known_of (detail.NotFrom x t) = not_from x.now (option_map (λ s. s.now) t)
 known_of (detail.NearBinding x) = near_binding x.now
+known_of (detail.Elsewhere s) = elsewhere s
+known_of detail.ByPattern = by_pattern
 
 -- the name of the pair is one edit away from this one, behind the same qualifier, and both or none begin with a capital letter
 pub record IsNearPair (name : List ℕ) (p : Pair) : Type 0 where
@@ -89,6 +95,12 @@ pub record IsEither (m : Module) (fs : List Interface) (name : List ℕ) (c d : 
   pub other_is : IsCandidate m fs space other.entity d
   pub differ : ¬ (one.entity ≡ other.entity)
 
+-- the name is in scope in this namespace (Report, section 1.4)
+pub record IsElsewhere (m : Module) (fs : List Interface) (name : List ℕ) (space : Namespace) : Type 0 where
+  pub pair : Pair
+  pub in_scope : IsPairInScope m fs pair
+  pub named : IsEntityFor name space pair
+
 -- what is known of a fault of a module with these interfaces is so
 abbrev pub IsKnown : Module → List Interface → Fault → Known → Type 0
 IsKnown m fs f nothing = ⊤
@@ -100,3 +112,5 @@ IsKnown m fs f (arguments here takes) = (f.kind ≡ Arity) × AreArguments m fs 
 IsKnown m fs f (lengths here others) = (f.kind ≡ ClauseLength) × AreLengths m f here others
 IsKnown m fs f (not_from x t) = (f.kind ≡ NotExported) × IsListedFrom m f x t
 IsKnown m fs f (near_binding x) = (f.kind ≡ NoBinding) × HasNearBinding m f x
+IsKnown m fs f (elsewhere s) = (f.kind ≡ Unbound) × IsElsewhere m fs f.name s
+IsKnown m fs f by_pattern = (f.kind ≡ NoBinding) × HasPatternBound m f

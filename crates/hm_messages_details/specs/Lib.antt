@@ -7,4 +7,5 @@ pub mod Listed
 pub mod NearBindings
 pub mod Nearness
 pub mod Parts
+pub mod PatternBindings
 pub mod Worked

@@ -13,6 +13,7 @@ use Rattle.hm_names.specs.declared.faults.Fault.{Fault}
 use Rattle.hm_messages_details.specs.Counts.{ConstructorTakes, HasLengths, LaterClause, TypeTakes}
 use Rattle.hm_messages_details.specs.Firsts.{IsAt, IsFirstAt}
 use Rattle.hm_messages_details.specs.NearBindings.{IsNearBinding}
+use Rattle.hm_messages_details.specs.PatternBindings.{IsPatternBound}
 use Rattle.hm_messages_details.specs.declared.lengths.Later.{Later}
 use Rattle.hm_messages_details.specs.declared.parts.Part.{Part as LentPart}
 use Rattle.hm_messages_details.specs.declared.parts.Part.TheVariants as lent
@@ -167,6 +168,13 @@ IsNearBindingIn (a_head ps) f x = ⊥
 IsNearBindingIn (a_row ps) f x = ⊥
 IsNearBindingIn (a_pattern n ps) f x = ⊥
 IsNearBindingIn (a_type n ts) f x = ⊥
+
+abbrev pub IsPatternBoundIn : Part → Fault → Type 0
+IsPatternBoundIn (a_list ds) f = IsPatternBound ds f
+IsPatternBoundIn (a_head ps) f = ⊥
+IsPatternBoundIn (a_row ps) f = ⊥
+IsPatternBoundIn (a_pattern n ps) f = ⊥
+IsPatternBoundIn (a_type n ts) f = ⊥
 
 -- a clause that continues a binding, as the code has it
 abbrev pub later_of : Later → LaterClause

@@ -3,7 +3,7 @@
 use Rattle.std.specs.Prelude.{◌≡◌, ℕ, false, List, [], ◌∷◌, None, Some, Contains, codes}
 use Rattle.hm_lex.specs.declared.token.Place.{Place}
 use Rattle.hm_syntax.specs.Names.{Identifier}
-use Rattle.hm_syntax.specs.Trees.{Patterns, no_patterns, more_patterns, variable_pattern, constructor_pattern, Declarations, no_declarations, more_declarations, clause, signature, unit_type, RightSide, right_side, no_bodies}
+use Rattle.hm_syntax.specs.Trees.{Patterns, no_patterns, more_patterns, variable_pattern, constructor_pattern, tuple_pattern, Declarations, no_declarations, more_declarations, clause, pattern_binding, signature, unit_type, RightSide, right_side, no_bodies}
 use Rattle.hm_syntax.specs.declared.ast.Import.{Import}
 use Rattle.hm_syntax.specs.declared.ast.ImportItem.{ImportItem}
 use Rattle.hm_syntax.specs.declared.ast.ImportItem.TheVariants as item
@@ -11,18 +11,22 @@ use Rattle.hm_syntax.specs.declared.ast.ImportList.TheVariants as list
 use Rattle.hm_syntax.specs.declared.ast.Module.{Module}
 use Rattle.hm_syntax.specs.declared.ast.SubItems.TheVariants as subs
 use Rattle.hm_types.specs.Interfaces.{Exports as Interface}
+use Rattle.hm_types.specs.declared.Entity.{Entity}
+use Rattle.hm_names.specs.Bindings.{Pair}
 use Rattle.hm_names.specs.Faults.Phases.{fault}
 use Rattle.hm_names.specs.Walk.{at_pattern}
 use Rattle.hm_names.specs.declared.faults.Fault.{Fault}
 use Rattle.hm_names.specs.declared.faults.Kind.TheVariants.{Ambiguous, Arity, ClauseLength, Duplicate, NoBinding, NotExported, Unbound}
 use Rattle.hm_messages_details.specs.Candidates.{IsImportLine}
 use Rattle.hm_messages_details.specs.Counts.{HasArguments, HasLengths}
-use Rattle.hm_messages_details.specs.Details.{IsKnown, of_report}
+use Rattle.hm_messages_details.specs.Details.{IsEntityFor, IsKnown, of_report}
 use Rattle.hm_messages_details.specs.Firsts.{IsFirstAt}
 use Rattle.hm_messages_details.specs.LeftOut.{left_out}
 use Rattle.hm_messages_details.specs.Listed.{IsListedAs}
 use Rattle.hm_messages_details.specs.NearBindings.{IsNearBinding}
 use Rattle.hm_messages_details.specs.Nearness.{AreNear}
+use Rattle.hm_messages_details.specs.PatternBindings.{IsPatternBound}
+use Rattle.hm_names.specs.declared.namespace.Namespace.TheVariants.{Types, Constructors}
 
 -- this Prelude leaves out `putStrLn` of the Report's Prelude, and has `map`. An ambiguous name isn't reported as left out
 pub record LeftOutRow : Type 0 where
@@ -94,3 +98,22 @@ one_signature =
 pub record NearBindingRow : Type 0 where
   pub bound : AreNear (codes "fooBar") (codes "foobar") → IsNearBinding one_signature (fault NoBinding (name_on (codes "fooBar") 1)) (codes "foobar")
   pub other : ¬ (IsNearBinding one_signature (fault NoBinding (name_on (codes "fooBar") 1)) (codes "fooBaz"))
+
+abbrev pub type_called : List ℕ → Entity → Pair
+type_called x e = record { space = Types; qualifier = None; text = x; entity = e }
+
+-- a type `Int` has this name among types, and not among constructors
+pub record SpaceRow : Type 0 where
+  pub there : (e : Entity) → IsEntityFor (codes "Int") Types (type_called (codes "Int") e)
+  pub other : (e : Entity) → ¬ (IsEntityFor (codes "Int") Constructors (type_called (codes "Int") e))
+
+-- `p :: ()` on line 1, and a pattern `(p)` on line 2, written as a list of one component
+abbrev pub signed_pattern : Declarations
+signed_pattern =
+    more_declarations (signature (name_on (codes "p") 1 ∷ []) unit_type)
+    (more_declarations (pattern_binding 2 1 (tuple_pattern (more_patterns (variable_pattern (name_on (codes "p") 2)) no_patterns)) no_right_side) no_declarations)
+
+-- the pattern binds the variable of the signature. A clause doesn't count as a pattern
+pub record PatternRow : Type 0 where
+  pub bound : IsPatternBound signed_pattern (fault NoBinding (name_on (codes "p") 1))
+  pub other : ¬ (IsPatternBound one_signature (fault NoBinding (name_on (codes "fooBar") 1)))

@@ -1,5 +1,6 @@
 //! A detail of a fault, beyond its kind and its name.
 use hm_lex::Place;
+use hm_names::Namespace;
 
 /// The place where something is defined: a module, and a name there.
 #[derive(Clone, Copy, Debug, PartialEq, Eq)]
@@ -41,4 +42,8 @@ pub enum Detail<'a> {
     NotFrom(&'a str, Option<&'a str>),
     /// The name has a signature without clauses, and the same list binds this one, one edit away.
     NearBinding(&'a str),
+    /// The name is unbound where it stands, and in scope in this namespace.
+    Elsewhere(Namespace),
+    /// The name has a signature without clauses, and a pattern of the same list binds it.
+    ByPattern,
 }

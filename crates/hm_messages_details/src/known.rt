@@ -14,7 +14,8 @@ use crate::firsts::first_of_two;
 use crate::left_out::is_left_out;
 use crate::lengths::pattern_counts;
 use crate::listed::import_detail;
-use crate::nearest::{entity_of, nearest, other_entity_of};
+use crate::nearest::{entity_of, nearest, other_entity_of, space_of};
+use crate::patterned::is_pattern_bound;
 use crate::signed::near_binding;
 use crate::site::Site;
 use hm_names::{Fault, Kind, Namespace};
@@ -39,6 +40,22 @@ fn unbound_detail<'a>(
         Some(pair) => Ok(Detail::Near(pair.qualifier(), pair.text())),
         None => Ok(Detail::Nothing),
     }
+}
+
+/// Returns the detail of an unbound name: a namespace in which it is in scope, or another detail, if there is one.
+fn name_detail<'a>(
+    alloc: Global,
+    scope: &Scope<'a>,
+    fault: &Fault,
+) -> Result<Detail<'a>, AllocError>
+    requires { fault.now.kind ≡ Unbound }
+    ensures { IfOk result (λ detail. (m : ModuleTree) (fs : List Interface) → IsScopeOf m fs scope.now → IsKnown m fs fault.now (known_of detail)) }
+{
+    match space_of(fault.name.as_str(), scope.pairs()) {
+        Some(space) => return Ok(Detail::Elsewhere(space)),
+        None => {}
+    }
+    Ok(unbound_detail(alloc, scope, fault)?)
 }
 
 /// Returns two entities that a name means in a namespace, if there are two.
@@ -73,7 +90,7 @@ fn ambiguous_detail<'a>(program: &Module, scope: &Scope<'a>, fault: &Fault) -> D
     Detail::Nothing
 }
 
-/// Returns the detail of a signature without clauses: a near name that its list binds, if there is one.
+/// Returns the detail of a signature without clauses: a pattern that binds the name, or a near name that its list binds, if there is one.
 fn signature_detail<'a>(
     alloc: Global,
     program: &'a Module,
@@ -82,6 +99,9 @@ fn signature_detail<'a>(
     requires { fault.now.kind ≡ NoBinding }
     ensures { IfOk result (λ detail. (fs : List Interface) → IsKnown program.now fs fault.now (known_of detail)) }
 {
+    if is_pattern_bound(alloc, program, fault)? {
+        return Ok(Detail::ByPattern);
+    }
     match near_binding(alloc, program, fault)? {
         Some(name) => Ok(Detail::NearBinding(name)),
         None => Ok(Detail::Nothing),
@@ -147,7 +167,7 @@ pub fn detail_of<'s>(
         → IsKnown site.now.program.now fs fault.now (known_of detail)) }
 {
     match fault.kind {
-        Kind::Unbound => Ok(unbound_detail(alloc, site.scope, fault)?),
+        Kind::Unbound => Ok(name_detail(alloc, site.scope, fault)?),
         Kind::Ambiguous => Ok(ambiguous_detail(site.program, site.scope, fault)),
         Kind::Duplicate => Ok(second_detail(alloc, site.program, fault)?),
         Kind::NonLinear => Ok(second_detail(alloc, site.program, fault)?),

@@ -1,5 +1,5 @@
 //! Worked examples: functions with an empty body, whose contracts have the facts.
-ghost use Rattle.hm_messages_details.specs.Worked.{ArgumentsRow, FirstRow, ImportLineRow, LeftOutRow, LengthsRow, ListedRow, NearBindingRow};
+ghost use Rattle.hm_messages_details.specs.Worked.{ArgumentsRow, FirstRow, ImportLineRow, LeftOutRow, LengthsRow, ListedRow, NearBindingRow, PatternRow, SpaceRow};
 
 /// A name that only the Report's Prelude has, and one that both have.
 #[tactic(auto, using(crate::proofs::WorkedDetails::worked_left_out))]
@@ -26,4 +26,11 @@ pub fn worked_names()
     ensures listed { ListedRow }
     ensures lines { ImportLineRow }
     ensures bindings { NearBindingRow }
+{}
+
+/// A type that is no constructor, and a signature whose variable a pattern binds; and others that aren't so.
+#[tactic(auto, using(crate::proofs::WorkedNames::worked_spaces, crate::proofs::WorkedNames::worked_patterns))]
+pub fn worked_spaces()
+    ensures spaces { SpaceRow }
+    ensures patterns { PatternRow }
 {}

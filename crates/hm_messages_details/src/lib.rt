@@ -13,6 +13,7 @@ mod lengths;
 mod listed;
 mod nearest;
 mod parts;
+mod patterned;
 mod signed;
 mod site;
 mod written;

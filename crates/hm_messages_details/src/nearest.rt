@@ -1,5 +1,6 @@
 //! Finds names in scope that are one edit away from a name, and the entities that a name means.
 ghost use Rattle.std.specs.Prelude.{◌≡◌, Contains, IfOk, IfSome, true};
+ghost use Rattle.hm_names.specs.Bindings.{Pair};
 ghost use Rattle.hm_messages_details.specs.Details.{IsEntityFor, IsNearPair};
 ghost use Rattle.hm_messages_details.specs.Nearness.{AreNear, begins_capital};
 
@@ -135,4 +136,22 @@ pub(crate) fn other_entity_of<'r, 'a>(
         }
     }
     None
+}
+
+/// Returns a namespace in which one of these pairs has this name.
+pub(crate) fn space_of(name: &str, pairs: &[Binding<'_>]) -> Option<Namespace>
+    ensures { IfSome result (λ space. (pair : Pair) × Contains pairs.now pair × IsEntityFor name.now space pair) }
+{
+    match entity_of(name, Namespace::Types, pairs) {
+        Some(_) => return Some(Namespace::Types),
+        None => {}
+    }
+    match entity_of(name, Namespace::Constructors, pairs) {
+        Some(_) => return Some(Namespace::Constructors),
+        None => {}
+    }
+    match entity_of(name, Namespace::Values, pairs) {
+        Some(_) => Some(Namespace::Values),
+        None => None,
+    }
 }
