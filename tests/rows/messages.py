@@ -819,6 +819,22 @@ DETAILS = [
     # two edits are too many, and a capital letter isn't a small one
     ("f = mpas", "1:22", "'mpas' isn't in scope [unbound]"),
     ("f = Maps", "1:22", "'Maps' isn't in scope [unbound]"),
+    # a local variable comes before a name of the top or of Prelude, and an inner one before an outer one
+    ("f list = length lsit", "1:34", "'lsit' isn't in scope (did you mean 'list'?) [unbound]"),
+    ("lisp = 1 ; f lift = lifp", "1:38", "'lifp' isn't in scope (did you mean 'lift'?) [unbound]"),
+    ("f lift = \\lifu -> lifo", "1:36", "'lifo' isn't in scope (did you mean 'lifu'?) [unbound]"),
+    ("f = let { total = 1 } in totla", "1:43", "'totla' isn't in scope (did you mean 'total'?) [unbound]"),
+    ("f = let { (one, total) = (1, totl) } in one", "1:47", "'totl' isn't in scope (did you mean 'total'?) [unbound]"),
+    ("f x = totl where { total = x }", "1:24", "'totl' isn't in scope (did you mean 'total'?) [unbound]"),
+    ("f x = case x of { Just word -> wrod ; word -> 1 }", "1:49", "'wrod' isn't in scope (did you mean 'word'?) [unbound]"),
+    ("f xs | null xss = 1 | True = 2", "1:30", "'xss' isn't in scope (did you mean 'xs'?) [unbound]"),
+    ("f list | null lst = 1 | True = 2", "1:32", "'lst' isn't in scope (did you mean 'list'?) [unbound]"),
+    # the scope of these variables ends before the place
+    ("f list = 1 ; g = lsit", "1:35", "'lsit' isn't in scope [unbound]"),
+    ("f = (\\list -> list) lsit", "1:38", "'lsit' isn't in scope [unbound]"),
+    ("f x = case x of { word -> 1 ; _ -> wrod }", "1:53", "'wrod' isn't in scope [unbound]"),
+    # a name with a qualifier is no local variable
+    ("f list = M.lsit", "1:27", "'M.lsit' isn't in scope [unbound]"),
     # what is hidden isn't in scope
     ("import Prelude hiding (length) ; f = lenght", "1:55", "'lenght' isn't in scope [unbound]"),
     ("f = putStrLn", "1:22", "'putStrLn' isn't in scope: this Prelude leaves it out [unbound]"),

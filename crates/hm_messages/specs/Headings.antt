@@ -7,7 +7,7 @@ use Rattle.hm_messages_json.specs.declared.message.Level.{Level}
 use Rattle.hm_messages_json.specs.declared.message.Level.TheVariants.{Error, Note}
 use Rattle.hm_messages_json.specs.declared.message.Position.{Position}
 use Rattle.hm_messages_details.specs.Candidates.{Candidate}
-use Rattle.hm_messages_details.specs.Details.{Known, nothing, near, of_report, either, first, arguments, lengths, not_from, near_binding, elsewhere, by_pattern}
+use Rattle.hm_messages_details.specs.Details.{Known, nothing, near, of_report, either, first, arguments, lengths, not_from, near_binding, near_local, elsewhere, by_pattern}
 use Rattle.hm_messages_hints.specs.LexemeTexts.{lexeme_text}
 use Rattle.hm_messages_hints.specs.SyntaxTexts.{syntax_text}
 use Rattle.hm_lex.specs.declared.token.Place.{Place}
@@ -201,6 +201,7 @@ detail_text (not_from x t) = not_from_text x t
 detail_text (near_binding x) = near_text None x
 detail_text (elsewhere s) = codes ": a " ++ space_noun s ++ codes " has this name, but can't stand here"
 detail_text by_pattern = codes ": a pattern binds it"
+detail_text (near_local x) = near_text None x
 
 -- where the first of two names is, its column in characters
 abbrev pub first_text : Option Position → List ℕ

@@ -3,7 +3,7 @@ use Rattle.std.specs.Prelude.{◌≡◌, ℕ, List, [], ◌∷◌, ◌++◌, Opt
 use Rattle.std.specs.Str.Lossy.{utf8_lossy}
 use Rattle.hm_lex.specs.declared.token.Place.{Place}
 use Rattle.hm_names.specs.declared.faults.Fault.{Fault}
-use Rattle.hm_messages_details.specs.Details.{Known, nothing, near, of_report, either, first, arguments, lengths, not_from, near_binding, elsewhere, by_pattern}
+use Rattle.hm_messages_details.specs.Details.{Known, nothing, near, of_report, either, first, arguments, lengths, not_from, near_binding, near_local, elsewhere, by_pattern}
 use Rattle.hm_messages_excerpts.specs.Columns.{AreColumnsAt, IsMarkEnd}
 use Rattle.hm_messages_excerpts.specs.Drawing.{excerpt_text}
 use Rattle.hm_messages_excerpts.specs.Escapes.{shown}
@@ -98,6 +98,7 @@ IsOther source (not_from x t) other = other ≡ None
 IsOther source (near_binding x) other = other ≡ None
 IsOther source (elsewhere s) other = other ≡ None
 IsOther source by_pattern other = other ≡ None
+IsOther source (near_local x) other = other ≡ None
 
 -- the message of a fault of which this is known, at the fault's place
 pub record IsFaultMessage (paint : Paint) (file source : List ℕ) (f : Fault) (known : Known) (text : List ℕ) : Type 0 where

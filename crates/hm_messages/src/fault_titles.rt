@@ -192,6 +192,7 @@ fn detail_text(alloc: Global, detail: &Detail<'_>) -> Result<String, AllocError>
         Detail::NearBinding(name) => near_text(alloc, None, name),
         Detail::Elsewhere(space) => elsewhere_text(alloc, *space),
         Detail::ByPattern => String::from_str(alloc, ": a pattern binds it"),
+        Detail::NearLocal(name) => near_text(alloc, None, name),
     }
 }
 

@@ -32,6 +32,7 @@ fn other_at(page: &Page<'_>, detail: &Detail<'_>) -> Result<Option<Position>, Me
         Detail::NearBinding(_) => Ok(None),
         Detail::Elsewhere(_) => Ok(None),
         Detail::ByPattern => Ok(None),
+        Detail::NearLocal(_) => Ok(None),
     }
 }
 

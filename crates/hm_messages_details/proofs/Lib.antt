@@ -2,10 +2,12 @@ mod Arities
 mod BoundByPatterns
 mod Found
 mod InModules
+mod InScopes
 mod LaterClauses
 mod Listing
 mod Meant
 mod Signing
 mod PartLists
+mod WorkedCandidates
 mod WorkedDetails
 mod WorkedNames

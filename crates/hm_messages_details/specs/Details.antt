@@ -16,6 +16,7 @@ use Rattle.hm_messages_details.specs.Firsts.{IsFirst}
 use Rattle.hm_messages_details.specs.LeftOut.{left_out}
 use Rattle.hm_messages_details.specs.Listed.{IsListedFrom}
 use Rattle.hm_messages_details.specs.NearBindings.{HasNearBinding}
+use Rattle.hm_messages_details.specs.NearLocals.{HasNearLocal}
 use Rattle.hm_messages_details.specs.Nearness.{begins_capital, edits}
 use Rattle.hm_messages_details.specs.PatternBindings.{HasPatternBound}
 use Rattle.hm_messages_details.specs.declared.detail.Candidate.{Candidate as LentCandidate}
@@ -23,13 +24,14 @@ use Rattle.hm_messages_details.specs.declared.detail.Detail.{Detail}
 use Rattle.hm_messages_details.specs.declared.detail.Detail.TheVariants as detail
 use Rattle.hm_messages_details.specs.declared.detail.Origin.{Origin}
 
--- nothing; a name in scope that is near, by its qualifier and its text; the Report's Prelude has the name; two entities that it stands for; the place of
+-- nothing; a name in scope that is near, by its qualifier and its text; a local variable that is near; the Report's Prelude has the name; two entities that it stands for; the place of
 -- the first name that is the same; its arguments and how many it takes; the patterns of the clause and of the first one; the module that doesn't export
 -- the name, or not as a constructor of a type; a near name that the list of the signature binds; the namespace in which the name is in scope; a pattern
 -- binds the variable of the signature
 pub data Known : Type 0 where
   nothing : Known
   near : Option (List ℕ) → List ℕ → Known
+  near_local : List ℕ → Known
   of_report : Known
   either : Candidate → Candidate → Known
   first : Place → Known
@@ -49,6 +51,7 @@ candidate_of c = record { entity = entity_of c.origin; qualifier = option_map (�
 abbrev pub known_of : Detail → Known
 known_of detail.Nothing = nothing
 known_of (detail.Near q x) = near (option_map (λ s. s.now) q) x.now
+known_of (detail.NearLocal x) = near_local x.now
 known_of detail.LeftOut = of_report
 known_of (detail.Either c d) = either (candidate_of c) (candidate_of d)
 known_of (detail.First p) = first p
@@ -105,6 +108,7 @@ pub record IsElsewhere (m : Module) (fs : List Interface) (name : List ℕ) (spa
 abbrev pub IsKnown : Module → List Interface → Fault → Known → Type 0
 IsKnown m fs f nothing = ⊤
 IsKnown m fs f (near q x) = (f.kind ≡ Unbound) × IsNear m fs f.name q x
+IsKnown m fs f (near_local x) = (f.kind ≡ Unbound) × HasNearLocal m f x
 IsKnown m fs f of_report = (f.kind ≡ Unbound) × Contains left_out f.name
 IsKnown m fs f (either c d) = (f.kind ≡ Ambiguous) × IsEither m fs f.name c d
 IsKnown m fs f (first p) = ((f.kind ≡ Duplicate) ⊎ (f.kind ≡ NonLinear)) × IsFirst m f p

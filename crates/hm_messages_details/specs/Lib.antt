@@ -1,10 +1,12 @@
 pub mod Candidates
 pub mod Counts
 pub mod Details
+pub mod Enclosing
 pub mod Firsts
 pub mod LeftOut
 pub mod Listed
 pub mod NearBindings
+pub mod NearLocals
 pub mod Nearness
 pub mod Parts
 pub mod PatternBindings

@@ -1,9 +1,9 @@
--- Worked examples: names that only the Report's Prelude has, the first of several names, numbers of arguments and patterns, and names of imports and
--- signatures.
-use Rattle.std.specs.Prelude.{◌≡◌, ℕ, false, List, [], ◌∷◌, None, Some, Contains, codes}
+-- Worked examples: names that only the Report's Prelude has, the first of several names, numbers of arguments and patterns, names of imports and
+-- signatures, candidates of an ambiguous name, and near local variables.
+use Rattle.std.specs.Prelude.{◌≡◌, ℕ, true, false, List, [], ◌∷◌, None, Some, Contains, codes}
 use Rattle.hm_lex.specs.declared.token.Place.{Place}
 use Rattle.hm_syntax.specs.Names.{Identifier}
-use Rattle.hm_syntax.specs.Trees.{Patterns, no_patterns, more_patterns, variable_pattern, constructor_pattern, tuple_pattern, Declarations, no_declarations, more_declarations, clause, pattern_binding, signature, unit_type, RightSide, right_side, no_bodies}
+use Rattle.hm_syntax.specs.Trees.{Patterns, no_patterns, more_patterns, variable_pattern, constructor_pattern, tuple_pattern, variable_expression, Declarations, no_declarations, more_declarations, clause, pattern_binding, signature, unit_type, RightSide, right_side, no_bodies}
 use Rattle.hm_syntax.specs.declared.ast.Import.{Import}
 use Rattle.hm_syntax.specs.declared.ast.ImportItem.{ImportItem}
 use Rattle.hm_syntax.specs.declared.ast.ImportItem.TheVariants as item
@@ -14,19 +14,21 @@ use Rattle.hm_types.specs.Interfaces.{Exports as Interface}
 use Rattle.hm_types.specs.declared.Entity.{Entity}
 use Rattle.hm_names.specs.Bindings.{Pair}
 use Rattle.hm_names.specs.Faults.Phases.{fault}
-use Rattle.hm_names.specs.Walk.{at_pattern}
+use Rattle.hm_names.specs.Scope.{Means}
+use Rattle.hm_names.specs.Walk.{at_expression, at_pattern}
 use Rattle.hm_names.specs.declared.faults.Fault.{Fault}
 use Rattle.hm_names.specs.declared.faults.Kind.TheVariants.{Ambiguous, Arity, ClauseLength, Duplicate, NoBinding, NotExported, Unbound}
-use Rattle.hm_messages_details.specs.Candidates.{IsImportLine}
+use Rattle.hm_names.specs.declared.namespace.Namespace.TheVariants.{Types, Constructors, Values}
+use Rattle.hm_messages_details.specs.Candidates.{Candidate, IsCandidate, IsImportLine}
 use Rattle.hm_messages_details.specs.Counts.{HasArguments, HasLengths}
 use Rattle.hm_messages_details.specs.Details.{IsEntityFor, IsKnown, of_report}
 use Rattle.hm_messages_details.specs.Firsts.{IsFirstAt}
 use Rattle.hm_messages_details.specs.LeftOut.{left_out}
 use Rattle.hm_messages_details.specs.Listed.{IsListedAs}
 use Rattle.hm_messages_details.specs.NearBindings.{IsNearBinding}
+use Rattle.hm_messages_details.specs.NearLocals.{IsNearLocal}
 use Rattle.hm_messages_details.specs.Nearness.{AreNear}
 use Rattle.hm_messages_details.specs.PatternBindings.{IsPatternBound}
-use Rattle.hm_names.specs.declared.namespace.Namespace.TheVariants.{Types, Constructors}
 
 -- this Prelude leaves out `putStrLn` of the Report's Prelude, and has `map`. An ambiguous name isn't reported as left out
 pub record LeftOutRow : Type 0 where
@@ -117,3 +119,29 @@ signed_pattern =
 pub record PatternRow : Type 0 where
   pub bound : IsPatternBound signed_pattern (fault NoBinding (name_on (codes "p") 1))
   pub other : ¬ (IsPatternBound one_signature (fault NoBinding (name_on (codes "fooBar") 1)))
+
+abbrev pub preludes_filter : Entity
+preludes_filter = record { «module» = codes "Prelude"; name = codes "filter" }
+
+abbrev pub hidden_filter : Candidate
+hidden_filter = record { entity = preludes_filter; qualifier = None; line = None; implicit = true }
+
+abbrev pub filter_in : List ℕ → ℕ → Candidate
+filter_in q line = record { entity = preludes_filter; qualifier = Some q; line = Some line; implicit = false }
+
+-- Prelude's `filter` can be hidden by an import of Prelude if the only import is `import A as L` on line 1, and not if there is `import Prelude as P`
+-- already. With that import `P.filter` is from line 1, if it means this `filter` alone, and not from line 2
+pub record CandidateRow : Type 0 where
+  pub implicit : (m : Module) (fs : List Interface) → m.header.imports ≡ import_on (codes "A") (codes "L") 1 ∷ [] → IsCandidate m fs Values preludes_filter hidden_filter
+  pub explicit : (m : Module) (fs : List Interface) → m.header.imports ≡ import_on (codes "Prelude") (codes "P") 1 ∷ [] → ¬ (IsCandidate m fs Values preludes_filter hidden_filter)
+  pub line : (m : Module) (fs : List Interface) → m.header.imports ≡ import_on (codes "Prelude") (codes "P") 1 ∷ []
+      → ((n : Identifier) → n.qualifier ≡ Some (codes "P") → n.text ≡ codes "filter" → Means m fs Values n preludes_filter) → IsCandidate m fs Values preludes_filter (filter_in (codes "P") 1)
+  pub other_line : (m : Module) (fs : List Interface) → m.header.imports ≡ import_on (codes "Prelude") (codes "P") 1 ∷ [] → ¬ (IsCandidate m fs Values preludes_filter (filter_in (codes "P") 2))
+
+abbrev pub list_use : Identifier
+list_use = name_on (codes "lsit") 1
+
+-- a use of `lsit` where `list` is local may be meant for it if the name is near, and not where only `word` is
+pub record NearLocalRow : Type 0 where
+  pub inside : AreNear (codes "lsit") (codes "list") → IsNearLocal (fault Unbound list_use) (codes "list") (codes "list" ∷ []) (at_expression (variable_expression list_use))
+  pub outside : ¬ (IsNearLocal (fault Unbound list_use) (codes "list") (codes "word" ∷ []) (at_expression (variable_expression list_use)))

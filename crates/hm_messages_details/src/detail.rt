@@ -28,6 +28,8 @@ pub enum Detail<'a> {
     Nothing,
     /// The name is unbound, and this one is in scope, one edit away: its qualifier, if the name has one, and its text.
     Near(Option<&'a str>, &'a str),
+    /// The name is unbound, and this local variable is in scope at its place, one edit away.
+    NearLocal(&'a str),
     /// The name is unbound, and one of the Report's Prelude that this Prelude leaves out.
     LeftOut,
     /// The name is ambiguous, and means both of these.

@@ -1,6 +1,5 @@
 //! The details of faults of names.
 ghost use Rattle.std.specs.Prelude.{◌≡◌, ◌⊎◌, List, IfOk, IfSome};
-ghost use Rattle.hm_syntax.specs.declared.ast.Module.{Module as ModuleTree};
 ghost use Rattle.hm_types.specs.Interfaces.{Exports as Interface};
 ghost use Rattle.hm_names.specs.Bindings.{IsScopeOf};
 ghost use Rattle.hm_names.specs.declared.faults.Kind.TheVariants.{Ambiguous, Arity, ClauseLength, Duplicate, NoBinding, NonLinear, Unbound};
@@ -14,6 +13,7 @@ use crate::firsts::first_of_two;
 use crate::left_out::is_left_out;
 use crate::lengths::pattern_counts;
 use crate::listed::import_detail;
+use crate::locals::near_local;
 use crate::nearest::{entity_of, nearest, other_entity_of, space_of};
 use crate::patterned::is_pattern_bound;
 use crate::signed::near_binding;
@@ -26,15 +26,20 @@ use std::alloc::{AllocError, Global};
 /// Returns the detail of an unbound name, if there is one.
 fn unbound_detail<'a>(
     alloc: Global,
+    program: &'a Module,
     scope: &Scope<'a>,
     fault: &Fault,
 ) -> Result<Detail<'a>, AllocError>
     requires { fault.now.kind ≡ Unbound }
-    ensures { IfOk result (λ detail. (m : ModuleTree) (fs : List Interface) → IsScopeOf m fs scope.now → IsKnown m fs fault.now (known_of detail)) }
+    ensures { IfOk result (λ detail. (fs : List Interface) → IsScopeOf program.now fs scope.now → IsKnown program.now fs fault.now (known_of detail)) }
 {
     let name = fault.name.as_str();
     if is_left_out(name) {
         return Ok(Detail::LeftOut);
+    }
+    match near_local(alloc, program, fault)? {
+        Some(near) => return Ok(Detail::NearLocal(near)),
+        None => {}
     }
     match nearest(alloc, name, scope.pairs())? {
         Some(pair) => Ok(Detail::Near(pair.qualifier(), pair.text())),
@@ -45,17 +50,18 @@ fn unbound_detail<'a>(
 /// Returns the detail of an unbound name: a namespace in which it is in scope, or another detail, if there is one.
 fn name_detail<'a>(
     alloc: Global,
+    program: &'a Module,
     scope: &Scope<'a>,
     fault: &Fault,
 ) -> Result<Detail<'a>, AllocError>
     requires { fault.now.kind ≡ Unbound }
-    ensures { IfOk result (λ detail. (m : ModuleTree) (fs : List Interface) → IsScopeOf m fs scope.now → IsKnown m fs fault.now (known_of detail)) }
+    ensures { IfOk result (λ detail. (fs : List Interface) → IsScopeOf program.now fs scope.now → IsKnown program.now fs fault.now (known_of detail)) }
 {
     match space_of(fault.name.as_str(), scope.pairs()) {
         Some(space) => return Ok(Detail::Elsewhere(space)),
         None => {}
     }
-    Ok(unbound_detail(alloc, scope, fault)?)
+    Ok(unbound_detail(alloc, program, scope, fault)?)
 }
 
 /// Returns two entities that a name means in a namespace, if there are two.
@@ -167,7 +173,7 @@ pub fn detail_of<'s>(
         → IsKnown site.now.program.now fs fault.now (known_of detail)) }
 {
     match fault.kind {
-        Kind::Unbound => Ok(name_detail(alloc, site.scope, fault)?),
+        Kind::Unbound => Ok(name_detail(alloc, site.program, site.scope, fault)?),
         Kind::Ambiguous => Ok(ambiguous_detail(site.program, site.scope, fault)),
         Kind::Duplicate => Ok(second_detail(alloc, site.program, fault)?),
         Kind::NonLinear => Ok(second_detail(alloc, site.program, fault)?),

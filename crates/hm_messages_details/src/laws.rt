@@ -1,5 +1,5 @@
 //! Worked examples: functions with an empty body, whose contracts have the facts.
-ghost use Rattle.hm_messages_details.specs.Worked.{ArgumentsRow, FirstRow, ImportLineRow, LeftOutRow, LengthsRow, ListedRow, NearBindingRow, PatternRow, SpaceRow};
+ghost use Rattle.hm_messages_details.specs.Worked.{ArgumentsRow, CandidateRow, FirstRow, ImportLineRow, LeftOutRow, LengthsRow, ListedRow, NearBindingRow, NearLocalRow, PatternRow, SpaceRow};
 
 /// A name that only the Report's Prelude has, and one that both have.
 #[tactic(auto, using(crate::proofs::WorkedDetails::worked_left_out))]
@@ -33,4 +33,11 @@ pub fn worked_names()
 pub fn worked_spaces()
     ensures spaces { SpaceRow }
     ensures patterns { PatternRow }
+{}
+
+/// What is said of an entity of an ambiguous name, and a local variable near to a name; and others that aren't so.
+#[tactic(auto, using(crate::proofs::WorkedCandidates::worked_candidates, crate::proofs::WorkedCandidates::worked_locals))]
+pub fn worked_scopes()
+    ensures candidates { CandidateRow }
+    ensures locals { NearLocalRow }
 {}

@@ -11,6 +11,7 @@ pub mod laws;
 mod left_out;
 mod lengths;
 mod listed;
+mod locals;
 mod nearest;
 mod parts;
 mod patterned;

@@ -25,7 +25,7 @@ fn texts_of<'a>(alloc: Global, names: &LentNames<'a>) -> Result<TextSet<'a>, All
 }
 
 /// Returns the first of these names that is near to a text and not among the others.
-fn near_among<'a>(
+pub(crate) fn near_among<'a>(
     alloc: Global,
     text: &str,
     names: &[&'a Name],

@@ -9,7 +9,7 @@ returns-in-Some c =
     let space = c.in-Some.space in
     let found : (pair : Pair) × Contains c.pairs.result.now pair × IsEntityFor c.as_str.result.now space pair =
     subst (λ o. IfSome o (λ s. (pair : Pair) × Contains c.pairs.result.now pair × IsEntityFor c.as_str.result.now s pair)) c.in-Some.is c.space_of.ensures in
-    λ m fs scope. (
+    λ fs scope. (
       c.requires,
       record {
         pair = found.0;

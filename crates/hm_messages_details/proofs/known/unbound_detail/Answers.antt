@@ -1,15 +1,19 @@
-use Rattle.std.proofs.Common.{◌≡◌, sym, subst, IfSome}
+use Rattle.std.proofs.Common.{sym, subst, IfSome}
 use Rattle.std.specs.Prelude.{Contains}
 use Rattle.hm_names.specs.Bindings.{Pair}
 use Rattle.hm_messages_details.specs.Details.{IsNearPair}
+use Rattle.hm_messages_details.specs.NearLocals.{HasNearLocal}
 use Rattle.hm_messages_details.proofs.known.unbound_detail.Goals as goal
 
 pub returns-in-Some : goal.returns-in-Some
-returns-in-Some c =
-    let p : Pair = c.in-Some.pair.now in
+returns-in-Some c = λ fs scope. (c.requires, subst (λ o. IfSome o (λ x. HasNearLocal c.args.program.now c.args.fault.now x.now)) c.in-Some.is c.in_ok-near.ensures)
+
+pub returns-in-Some-2 : goal.returns-in-Some-2
+returns-in-Some-2 c =
+    let p : Pair = c.in-Some-2.pair.now in
     let found : Contains c.pairs.result.now p × IsNearPair c.as_str-name.result.now p =
-    subst (λ o. IfSome o (λ pair. Contains c.pairs.result.now pair.now × IsNearPair c.as_str-name.result.now pair.now)) c.in-Some.is c.in_ok-pair.ensures in
-    λ m fs scope. (
+    subst (λ o. IfSome o (λ pair. Contains c.pairs.result.now pair.now × IsNearPair c.as_str-name.result.now pair.now)) c.in-Some-2.is c.in_ok-pair.ensures in
+    λ fs scope. (
       c.requires,
       record {
         pair = p;
