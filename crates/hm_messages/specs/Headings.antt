@@ -17,7 +17,7 @@ use Rattle.hm_names.specs.declared.namespace.Namespace.TheVariants.{Types, Const
 use Rattle.hm_names.specs.declared.faults.Kind.TheVariants.{NotExported, Duplicate, NoBinding, Unbound, Ambiguous, ExportClash, NotImported, NonLinear, Arity, ClauseLength, Untyped, Recursive}
 use Rattle.hm_names.specs.Faults.Phases.{written_in}
 use Rattle.hm_verdicts.specs.Reports.{kind_word}
-use Rattle.hm_messages.specs.Subjects.{Subject, fault, replaceable, mistyped, unsigned, faulty, skipped, too_long, lexeme, open_comment, too_deep, syntax_fault, too_many, twice, twin, missing, cycle, exhausted, step}
+use Rattle.hm_messages.specs.Subjects.{Subject, fault, replaceable, mistyped, unsigned, faulty, skipped, too_long, lexeme, open_comment, too_deep, syntax_fault, too_many, twice, twin, missing, cycle, exhausted, step, hidden}
 use Rattle.hm_messages.specs.declared.topic.Way.{Way}
 use Rattle.hm_messages.specs.declared.topic.Way.TheVariants.{Expression, Pattern, Exchange}
 use Rattle.hm_messages.specs.declared.heading.Paint.{Paint}
@@ -30,6 +30,7 @@ level_of (unsigned x p t) = Note
 level_of (faulty x) = Note
 level_of (skipped x) = Note
 level_of (step x y) = Note
+level_of (hidden k x) = Note
 level_of (fault k x known other) = Error
 level_of too_long = Error
 level_of (lexeme h x) = Error
@@ -63,6 +64,7 @@ kind_of (missing x) = codes "missing"
 kind_of (cycle x) = codes "cycle"
 kind_of (exhausted x) = codes "no-memory"
 kind_of (step x y) = codes "import"
+kind_of (hidden k x) = codes "hidden"
 
 -- the name that it is about, if it is about one
 abbrev pub name_in : Subject → Option (List ℕ)
@@ -84,6 +86,7 @@ name_in (missing x) = Some x
 name_in (cycle x) = Some x
 name_in (exhausted x) = Some x
 name_in (step x y) = Some y
+name_in (hidden k x) = Some x
 
 -- the type that is expected at a part, and the type that it or a definition has, if it tells them
 abbrev pub expected_in : Subject → Option (List ℕ)
@@ -115,6 +118,7 @@ other_in (missing x) = None
 other_in (cycle x) = None
 other_in (exhausted x) = None
 other_in (step x y) = None
+other_in (hidden k x) = None
 
 -- a coloured word stands between two escapes, which begin with byte 27
 abbrev pub begin : Paint → Level → List ℕ
@@ -237,6 +241,10 @@ mistyped_title p expected actual = codes "this has type '" ++ actual ++ codes "'
 abbrev pub unsigned_title : List ℕ → Place → List ℕ → List ℕ
 unsigned_title x p own = codes "'" ++ x ++ codes "' has type '" ++ own ++ codes "' without this signature (up to " ++ decimal p.line ++ codes ":" ++ decimal p.column ++ codes ")"
 
+-- what is said of a fault that the report leaves out, because names aren't in scope
+abbrev pub hidden_title : Kind → List ℕ → List ℕ
+hidden_title k x = kind_title k x ++ codes ", whatever the names that aren't in scope mean"
+
 abbrev pub title : Subject → List ℕ
 title (fault k x known other) = fault_title k x known other
 title (replaceable x p) = replaceable_title x p
@@ -256,6 +264,7 @@ title (missing x) = codes "no module '" ++ x ++ codes "' is given"
 title (cycle x) = codes "the imports of module '" ++ x ++ codes "' lead back to it"
 title (exhausted x) = codes "there is no memory to check module '" ++ x ++ codes "'"
 title (step x y) = codes "'" ++ x ++ codes "' imports '" ++ y ++ codes "'"
+title (hidden k x) = hidden_title k x
 
 -- behind an error stands its word, between brackets
 abbrev pub tag : Level → List ℕ → List ℕ

@@ -10,7 +10,11 @@ use Rattle.hm_messages.specs.declared.topic.Topic.{Topic}
 use Rattle.hm_messages.specs.declared.topic.Way.{Way}
 use Rattle.hm_messages.specs.declared.topic.Topic.TheVariants as topic
 
--- a fault of a module, with what is known of it and another place that this names; a way in which a definition has a type; a part of a definition up to a place, with the type that is expected there and the one that it has, and whether no type is both because it would contain itself; a signature up to a place, with the type that its definition has without it; a module is skipped for a faulty import, or for a skipped one; why a set is refused; a module with the name of a later one; a module that there is no memory to check; a step of a cycle
+-- a fault of a module, with what is known of it and another place that this names; a way in which a definition has a type; a part of a definition up to
+-- a place, with the type that is expected there and the one that it has, and whether no type is both because it would contain itself; a signature up to a
+-- place, with the type that its definition has without it; a module is skipped for a faulty import, or for a skipped one; why a set is refused; a module
+-- with the name of a later one; a module that there is no memory to check; a step of a cycle; a fault that the report leaves out, because names aren't in
+-- scope
 pub data Subject : Type 0 where
   fault : Kind → List ℕ → Known → Option Position → Subject
   replaceable : List ℕ → Way → Subject
@@ -30,6 +34,7 @@ pub data Subject : Type 0 where
   cycle : List ℕ → Subject
   exhausted : List ℕ → Subject
   step : List ℕ → List ℕ → Subject
+  hidden : Kind → List ℕ → Subject
 
 abbrev pub subject_of : Topic → Subject
 subject_of (topic.Fault k n) = fault k n.name.now (known_of n.detail) n.other
@@ -50,3 +55,4 @@ subject_of (topic.Missing x) = missing x.now
 subject_of (topic.Cycle x) = cycle x.now
 subject_of (topic.Exhausted x) = exhausted x.now
 subject_of (topic.Step x y) = step x.now y.now
+subject_of (topic.Hidden k x) = hidden k x.now

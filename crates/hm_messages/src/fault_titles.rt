@@ -1,7 +1,7 @@
 //! What is wrong with a module, in a few words.
 ghost use Rattle.std.specs.Prelude.{◌≡◌, IfOk, option_map, string_bytes};
 ghost use Rattle.hm_messages_details.specs.Details.{candidate_of, elsewhere, known_of};
-ghost use Rattle.hm_messages.specs.Headings.{both_text as both_bytes, detail_text as detail_bytes, either_text as either_bytes, fault_title as fault_title_bytes, first_text, hiding_text as hiding_bytes, kind_title as kind_title_bytes, line_text as line_bytes, near_text, not_from_text as not_from_bytes, qualified_text as qualified_bytes, space_noun as noun_bytes, written_text as written_bytes};
+ghost use Rattle.hm_messages.specs.Headings.{both_text as both_bytes, detail_text as detail_bytes, either_text as either_bytes, fault_title as fault_title_bytes, first_text, hidden_title as hidden_title_bytes, hiding_text as hiding_bytes, kind_title as kind_title_bytes, line_text as line_bytes, near_text, not_from_text as not_from_bytes, qualified_text as qualified_bytes, space_noun as noun_bytes, written_text as written_bytes};
 
 use crate::topic::Named;
 use hm_messages_details::{Candidate, Detail, Origin};
@@ -221,5 +221,14 @@ pub(crate) fn fault_title(
     let mut text = kind_title(alloc, kind, named.name)?;
     text.push_str(detail_text(alloc, &named.detail)?.as_str())?;
     text.push_str(first_text(alloc, named.other)?.as_str())?;
+    Ok(text)
+}
+
+/// Returns the text about a fault that the report leaves out.
+pub(crate) fn hidden_title(alloc: Global, kind: Kind, name: &str) -> Result<String, AllocError>
+    ensures { IfOk result (λ text. string_bytes text ≡ hidden_title_bytes kind name.now) }
+{
+    let mut text = kind_title(alloc, kind, name)?;
+    text.push_str(", whatever the names that aren't in scope mean")?;
     Ok(text)
 }

@@ -3,7 +3,7 @@ ghost use Rattle.std.specs.Prelude.{◌≡◌, IfOk, option_map, string_bytes};
 ghost use Rattle.hm_messages.specs.Headings.{actual_in, begin, end, exchange_title as exchange_title_bytes, expected_in, expression_title as expression_title_bytes, heading as heading_bytes, kind_of as kind_bytes, level_of as level_is, mistyped_title as mistyped_title_bytes, name_in, other_in, pattern_title as pattern_title_bytes, replaceable_title as replaceable_title_bytes, tag as tag_bytes, title as title_bytes, unsigned_title as unsigned_title_bytes};
 ghost use Rattle.hm_messages.specs.Subjects.{subject_of};
 
-use crate::fault_titles::fault_title;
+use crate::fault_titles::{fault_title, hidden_title};
 use crate::topic::{BothTypes, Topic, Way};
 use hm_lex::Place;
 use hm_messages_excerpts::shown;
@@ -45,6 +45,7 @@ pub(crate) fn level_of(topic: &Topic<'_>) -> Level
         Topic::Missing(_) => Level::Error,
         Topic::Cycle(_) => Level::Error,
         Topic::Exhausted(_) => Level::Error,
+        Topic::Hidden(_, _) => Level::Note,
     }
 }
 
@@ -71,6 +72,7 @@ pub(crate) fn kind_of(topic: &Topic<'_>) -> &'static str
         Topic::Cycle(_) => "cycle",
         Topic::Exhausted(_) => "no-memory",
         Topic::Step(_, _) => "import",
+        Topic::Hidden(_, _) => "hidden",
     }
 }
 
@@ -98,6 +100,7 @@ pub(crate) fn name_in<'a>(topic: &Topic<'a>) -> Option<&'a str>
         Topic::Cycle(name) => Some(name),
         Topic::Exhausted(name) => Some(name),
         Topic::Step(_, import) => Some(import),
+        Topic::Hidden(_, name) => Some(name),
     }
 }
 
@@ -145,6 +148,7 @@ pub(crate) fn other_in(topic: &Topic<'_>) -> Option<Position>
         Topic::Cycle(_) => None,
         Topic::Exhausted(_) => None,
         Topic::Step(_, _) => None,
+        Topic::Hidden(_, _) => None,
     }
 }
 
@@ -258,6 +262,7 @@ pub(crate) fn title(alloc: Global, topic: &Topic<'_>) -> Result<String, AllocErr
         Topic::Cycle(name) => format!(in alloc; "the imports of module '{name}' lead back to it"),
         Topic::Exhausted(name) => format!(in alloc; "there is no memory to check module '{name}'"),
         Topic::Step(name, import) => format!(in alloc; "'{name}' imports '{import}'"),
+        Topic::Hidden(kind, name) => hidden_title(alloc, *kind, name),
     }
 }
 

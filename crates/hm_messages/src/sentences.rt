@@ -72,5 +72,6 @@ pub(crate) fn sentence(topic: &Topic<'_>) -> &'static str
         Topic::Cycle(_) => "Modules may not import each other in a circle.\n",
         Topic::Exhausted(_) => "Its types grow too large, or the machine has no more memory.\n",
         Topic::Step(_, _) => "",
+        Topic::Hidden(_, _) => "",
     }
 }

@@ -77,4 +77,6 @@ pub enum Topic<'a> {
     Exhausted(&'a str),
     /// A step of a cycle: the first module imports the second.
     Step(&'a str, &'a str),
+    /// A fault that the report leaves out, because names of its module aren't in scope.
+    Hidden(Kind, &'a str),
 }
