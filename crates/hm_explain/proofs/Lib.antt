@@ -3,6 +3,7 @@ pub mod Found
 pub mod NoFiniteType
 pub mod Pieces
 pub mod TextParts
+pub mod WorkedHidden
 pub mod WorkedHoles
 pub mod WorkedMends
 pub mod WorkedPartTypes

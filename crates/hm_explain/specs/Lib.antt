@@ -1,3 +1,4 @@
+pub mod Hidden
 pub mod Holes
 pub mod InfiniteTypes
 pub mod Layouts
@@ -5,4 +6,5 @@ pub mod Mends
 pub mod PartTypes
 pub mod Signatures
 pub mod Worked
+pub mod WorkedHidden
 pub mod WorkedPartTypes

@@ -1,6 +1,7 @@
 //! Worked examples: functions with empty bodies, whose contracts have the facts.
 ghost use Rattle.hm_explain.specs.InfiniteTypes.{NoCommonInstance};
 ghost use Rattle.hm_explain.specs.Worked.{HolesRow, MendsRow, PartsRow, TypesRow, VerdictsRow};
+ghost use Rattle.hm_explain.specs.WorkedHidden.{BeyondRow, DefinitionsRow, LaterRow};
 ghost use Rattle.hm_explain.specs.WorkedPartTypes.{ExportsRow, GoodRow, InfiniteRow, OthersRow, ProbesRow, SignaturesRow, TextsRow};
 
 /// Sources with a hole, parts of a source, verdicts with which a definition has a type, and sources in which it has one.
@@ -34,4 +35,12 @@ pub fn worked_part_types()
 /// No substitution makes two types equal that are equal only if a type contains itself.
 pub fn infinite_types()
     ensures { NoCommonInstance }
+{}
+
+/// A source with a definition of a name that isn't in scope, faults of later phases, and verdicts beyond a fault of names.
+#[tactic(auto, using(crate::proofs::WorkedHidden::worked_definitions, crate::proofs::WorkedHidden::worked_later, crate::proofs::WorkedHidden::worked_beyond))]
+pub fn worked_hidden()
+    ensures definitions { DefinitionsRow }
+    ensures later { LaterRow }
+    ensures beyond { BeyondRow }
 {}

@@ -11,6 +11,7 @@ mod costs;
 mod culprits;
 mod cutting;
 mod edits;
+mod hidden;
 mod infinite;
 pub mod laws;
 mod layout;
@@ -28,6 +29,7 @@ mod told;
 mod trial;
 
 pub use crate::costs::Effort;
+pub use crate::hidden::hidden_of;
 pub use crate::mends::Mend;
 pub use crate::part_typing::{PartTypes, part_types_of};
 pub use crate::reading::{Reading, TypeFault, reading_of};
