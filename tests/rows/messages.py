@@ -604,6 +604,76 @@ KINDS = [
         "                        ^\n"
         "errors: 2, skipped modules: 1\n",
     ),
+    # a type fault that the report leaves out
+    (
+        "module M where { f = y ; g = not 'c' }",
+        1,
+        "M.hs:1:22: error: 'y' isn't in scope [unbound]\n"
+        "No declaration, import or parameter gives this name a meaning here.\n"
+        "module M where { f = y ; g = not 'c' }\n"
+        "                     ^\n"
+        "M.hs:1:26: note: type error in 'g', whatever the names that aren't in scope mean\n"
+        "module M where { f = y ; g = not 'c' }\n"
+        "                         ^\n"
+        "errors: 1, skipped modules: 0\n",
+    ),
+    # f and g have a type if y is right, and h has none. Its y is another one
+    (
+        "module M where {\n"
+        "f = y 1 ;\n"
+        "g = not (y 'c') ;\n"
+        "h y = not (y (y y)) }",
+        1,
+        "M.hs:2:5: error: 'y' isn't in scope [unbound]\n"
+        "No declaration, import or parameter gives this name a meaning here.\n"
+        "f = y 1 ;\n"
+        "    ^\n"
+        "M.hs:3:10: error: 'y' isn't in scope [unbound]\n"
+        "No declaration, import or parameter gives this name a meaning here.\n"
+        "g = not (y 'c') ;\n"
+        "         ^\n"
+        "M.hs:4:1: note: type error in 'h', whatever the names that aren't in scope mean\n"
+        "h y = not (y (y y)) }\n"
+        "^\n"
+        "errors: 2, skipped modules: 0\n",
+    ),
+    # faults of patterns come before those of types
+    (
+        "module M where { f = y ; g x = x ; g x z = x ; h = not 'c' }",
+        1,
+        "M.hs:1:22: error: 'y' isn't in scope [unbound]\n"
+        "No declaration, import or parameter gives this name a meaning here.\n"
+        "module M where { f = y ; g x = x ; g x z = x ; h = not 'c' }\n"
+        "                     ^\n"
+        "M.hs:1:36: note: the clauses of 'g' have different numbers of patterns, whatever the names that aren't in scope mean\n"
+        "module M where { f = y ; g x = x ; g x z = x ; h = not 'c' }\n"
+        "                                   ^\n"
+        "errors: 1, skipped modules: 0\n",
+    ),
+    # the second module of a source, with an export list that has a name which isn't in scope
+    (
+        "module A where { y = 1 }\n"
+        "module M (f, z) where { import A ; f = not y }",
+        1,
+        "M.hs:2:14: error: 'z' isn't in scope [unbound]\n"
+        "No declaration, import or parameter gives this name a meaning here.\n"
+        "module M (f, z) where { import A ; f = not y }\n"
+        "             ^\n"
+        "M.hs:2:36: note: type error in 'f', whatever the names that aren't in scope mean\n"
+        "module M (f, z) where { import A ; f = not y }\n"
+        "                                   ^\n"
+        "errors: 1, skipped modules: 0\n",
+    ),
+    # a constructor has no such definition
+    (
+        "module M where { f = Y ; g = not 'c' }",
+        1,
+        "M.hs:1:22: error: 'Y' isn't in scope [unbound]\n"
+        "No declaration, import or parameter gives this name a meaning here.\n"
+        "module M where { f = Y ; g = not 'c' }\n"
+        "                     ^\n"
+        "errors: 1, skipped modules: 0\n",
+    ),
     ("module M where { f = 1 }", 0, ""),
     ("", 0, ""),
 ]

@@ -1,5 +1,6 @@
 pub mod OneRun
 pub mod HeldRuns
+pub mod Beyond
 pub mod Told
 pub mod Telling
 pub mod FinishedRuns

@@ -9,6 +9,7 @@ use Rattle.hm_types.specs.Interfaces.{Exports as Interface}
 use Rattle.hm_types.specs.StandardPrelude.{prelude_interface}
 use Rattle.hm_names.specs.declared.faults.Fault.{Fault}
 use Rattle.hm_names.specs.declared.faults.Kind.TheVariants.{Untyped}
+use Rattle.hm_verdicts.specs.ModuleVerdicts.{Verdict}
 use Rattle.hm_verdicts.specs.Reports.{AreBlamed, is_skipped, tally}
 use Rattle.hm_verdicts.specs.Sets.{ModuleSet, imports_of, module_at, no_module}
 use Rattle.hm_verdicts.specs.Verdicts.{ArePublished, Status, Published, Failed, Skipped}
@@ -16,10 +17,11 @@ use Rattle.hm_messages_excerpts.specs.Columns.{AreColumnsAt}
 use Rattle.hm_messages_excerpts.specs.declared.columns.Columns.{Columns}
 use Rattle.hm_messages.specs.Headings.{count_text}
 use Rattle.hm_messages.specs.Messages.{AreEach, IsFaultMessage, IsMessage, reader_place}
-use Rattle.hm_messages.specs.Subjects.{Subject, faulty, mistyped, replaceable, skipped, unsigned}
+use Rattle.hm_messages.specs.Subjects.{Subject, faulty, hidden, mistyped, replaceable, skipped, unsigned}
 use Rattle.hm_messages.specs.declared.heading.Paint.{Paint}
 use Rattle.hm_messages.specs.declared.topic.Way.{Way}
 use Rattle.hm_messages.specs.declared.topic.Way.TheVariants as way
+use Rattle.hm_explain.specs.Hidden.{IsVerdictBeyond}
 use Rattle.hm_explain.specs.Mends.{IsMend}
 use Rattle.hm_explain.specs.PartTypes.{HasPartTypes}
 use Rattle.hm_explain.specs.Signatures.{IsUnsigned, Leads}
@@ -120,6 +122,34 @@ IsFaultTold paint file source p status i f text = IsDetailed paint file source (
 abbrev pub AreFaultsTold : Paint → List (List ℕ) → List (List ℕ) → ℕ → ModuleSet → (ℕ → Status) → ℕ → List Fault → List ℕ → Type 0
 AreFaultsTold paint files texts source p status i found text = AreEach (IsFaultTold paint (slice_index_or files source []) (slice_index_or texts source []) p status i) found text
 
+-- the note of a fault that the report leaves out, at its place
+abbrev pub IsHiddenNote : Paint → List ℕ → List ℕ → Fault → List ℕ → Type 0
+IsHiddenNote paint file source f text = IsMessage paint file source f.place (hidden f.kind f.name) text
+
+-- a note for each fault of a verdict, in order
+abbrev pub AreHiddenNotes : Paint → List ℕ → List ℕ → Verdict → List ℕ → Type 0
+AreHiddenNotes paint file source (Verdict.Good f) text = text ≡ []
+AreHiddenNotes paint file source (Verdict.Faulty found) text = AreEach (IsHiddenNote paint file source) found text
+
+-- the notes of all faults that the module has with definitions of names that aren't in scope
+pub record AreHiddenTold (paint : Paint) (file source name : List ℕ) (fs : List Interface) (faults : List Fault) (text : List ℕ) : Type 0 where
+  pub verdict : Verdict
+  pub beyond : IsVerdictBeyond source name fs faults verdict
+  pub told : AreHiddenNotes paint file source verdict text
+
+-- the same of module number i: the notes speak of it for the interfaces of what it imports
+abbrev pub AreHiddenToldIn : Paint → List ℕ → List ℕ → ModuleSet → (ℕ → Status) → ℕ → List Fault → List ℕ → Type 0
+AreHiddenToldIn paint file source p status i faults text =
+    (fs : List Interface) × ArePublished status (imports_of p i) fs × AreHiddenTold paint file source (module_at p i).header.name.text fs faults text
+
+-- what is told of a faulty module: a message for each of its faults, and behind them the notes of those that the report leaves out, or nothing
+pub record IsFaultyTold (paint : Paint) (files texts : List (List ℕ)) (source : ℕ) (p : ModuleSet) (status : ℕ → Status) (i : ℕ) (faults : List Fault) (text : List ℕ) : Type 0 where
+  pub messages : List ℕ
+  pub notes : List ℕ
+  pub told : AreFaultsTold paint files texts source p status i faults messages
+  pub beyond : (notes ≡ []) ⊎ AreHiddenToldIn paint (slice_index_or files source []) (slice_index_or texts source []) p status i faults notes
+  pub whole : text ≡ messages ++ notes
+
 -- an import that a module is skipped for: what it names, the place of the name, and what is told of it
 pub record Blamed : Type 0 where
   pub name : List ℕ
@@ -163,7 +193,7 @@ blamed_of b = record { name = b.name.now; place = b.place; subject = cond b.is_f
 -- nothing is told of a good module; of another one a message for each of its lines in the report, from the source that spells it
 abbrev pub IsToldAs : Paint → List (List ℕ) → List (List ℕ) → ModuleSet → (ℕ → Status) → ℕ → List ℕ → Status → Type 0
 IsToldAs paint files texts p status i text (Published f) = text ≡ []
-IsToldAs paint files texts p status i text (Failed found) = (source : ℕ) × IsSpelledBy texts i source × AreFaultsTold paint files texts source p status i found text
+IsToldAs paint files texts p status i text (Failed found) = (source : ℕ) × IsSpelledBy texts i source × IsFaultyTold paint files texts source p status i found text
 IsToldAs paint files texts p status i text Skipped = (source : ℕ) × IsSpelledBy texts i source × AreBlamesTold paint files texts source p status i text
 
 abbrev pub IsModuleTold : Paint → List (List ℕ) → List (List ℕ) → ModuleSet → (ℕ → Status) → ℕ → List ℕ → Type 0

@@ -33,7 +33,7 @@ use std::sync::Arc;
 const MOST_SEARCHES: usize = 16;
 
 /// Returns the interfaces of the modules with these numbers, if all are published.
-fn published(
+pub(crate) fn published(
     alloc: Global,
     store: &Store,
     numbers: &[usize],

@@ -13,7 +13,8 @@ ghost use Rattle.hm_store.specs.Settlements.{settlement as build_settlement};
 ghost use Rattle.hm_build_reports.specs.ReportBlocks.{all_blamed, blamed};
 ghost use Rattle.hm_build_reports.specs.Settling.{module_set, status_of as settlement, statuses_of};
 
-use crate::detailing::{Faulty, faulty_messages};
+use crate::detailing::Faulty;
+use crate::hidden::all_messages;
 use hm_build_reports::Settled;
 use hm_explain::Effort;
 use hm_graph::Plan;
@@ -219,7 +220,7 @@ fn module_messages(
                 source,
                 faults,
             };
-            Ok(faulty_messages(alloc, told, faulty, effort)?)
+            Ok(all_messages(alloc, told, faulty, effort)?)
         }
         Settled::Skipped => {
             let source = source_of(told, number)?;

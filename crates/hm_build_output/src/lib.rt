@@ -7,6 +7,7 @@ mod exhausted;
 mod explained;
 mod explaining;
 mod faulty;
+mod hidden;
 mod options;
 mod refused;
 
