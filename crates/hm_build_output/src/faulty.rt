@@ -13,7 +13,9 @@ use hm_explain::{
     reading_of, unsigned_of,
 };
 use hm_lex::Place;
-use hm_messages::{BothTypes, MessageFault, Page, Paint, Topic, Way, fault_message, message};
+use hm_messages::{
+    BothTypes, MessageFault, Page, Paint, Topic, Way, fault_message, message, reader_place,
+};
 use hm_messages_details::Detail;
 use hm_names::{Fault, Kind};
 use std::alloc::{AllocError, Global};
@@ -162,16 +164,8 @@ fn note_for(
     let Some(mend) = mend_for(alloc, module, found, effort) else {
         return Ok(Vec::new(alloc));
     };
-    let other = other_of(&mend);
-    let Some(columns) = module.page.lines.columns(other) else {
+    let Some(place) = reader_place(module.page, other_of(&mend)) else {
         return Ok(Vec::new(alloc));
-    };
-    let Ok(column) = u32::try_from(columns.characters) else {
-        return Ok(Vec::new(alloc));
-    };
-    let place = Place {
-        line: other.line,
-        column,
     };
     let types = types_for(alloc, module, found, &mend, effort);
     let part = FaultyPart { mend, types };
@@ -251,16 +245,8 @@ fn signature_note(
     let Some(unsigned) = unsigned_for(alloc, module, found, effort) else {
         return Ok(no_note(alloc));
     };
-    let signature = unsigned.signature;
-    let Some(columns) = module.page.lines.columns(signature.end) else {
+    let Some(end) = reader_place(module.page, unsigned.signature.end) else {
         return Ok(no_note(alloc));
-    };
-    let Ok(column) = u32::try_from(columns.characters) else {
-        return Ok(no_note(alloc));
-    };
-    let end = Place {
-        line: signature.end.line,
-        column,
     };
     let text = signature_text(alloc, module, found.fault.name.as_str(), &unsigned, end)?;
     Ok(SignatureNote {

@@ -1,5 +1,5 @@
 -- One message, and messages in a row.
-use Rattle.std.specs.Prelude.{◌≡◌, ℕ, List, [], ◌∷◌, ◌++◌, Option, Some, None, encode_utf8, option_map}
+use Rattle.std.specs.Prelude.{◌≡◌, ◌≤◌, ℕ, List, [], ◌∷◌, ◌++◌, Option, Some, None, encode_utf8, option_map}
 use Rattle.std.specs.Str.Lossy.{utf8_lossy}
 use Rattle.hm_lex.specs.declared.token.Place.{Place}
 use Rattle.hm_names.specs.declared.faults.Fault.{Fault}
@@ -7,7 +7,7 @@ use Rattle.hm_messages_details.specs.Details.{Known, nothing, near, of_report, e
 use Rattle.hm_messages_excerpts.specs.Columns.{AreColumnsAt, IsMarkEnd}
 use Rattle.hm_messages_excerpts.specs.Drawing.{excerpt_text}
 use Rattle.hm_messages_excerpts.specs.Escapes.{shown}
-use Rattle.hm_messages_excerpts.specs.Excerpts.{IsExcerptAt}
+use Rattle.hm_messages_excerpts.specs.Excerpts.{IsExcerptAt, IsPlaceIn}
 use Rattle.hm_messages_excerpts.specs.declared.columns.Columns.{Columns}
 use Rattle.hm_messages_excerpts.specs.declared.excerpt.Excerpt.{Excerpt}
 use Rattle.hm_messages_json.specs.Objects.{message_text}
@@ -22,6 +22,10 @@ use Rattle.hm_messages.specs.declared.heading.Paint.TheVariants.{Plain, Coloured
 -- the place as readers count it, its column in characters
 abbrev pub reader_place : Place → Columns → Place
 reader_place p columns = record { line = p.line; column = columns.characters }
+
+-- no message can tell of the place: it isn't in the source, or its column in characters is 2^32 or more
+abbrev pub HasNoMessage : List ℕ → Place → Type 0
+HasNoMessage source place = IsPlaceIn source place → (columns : Columns) × AreColumnsAt source place columns × (4294967296 ≤ columns.characters)
 
 -- the text tells the subject at a place, which lies in the source: the file, the place, what is wrong, a sentence, and the line with a mark at the place
 pub record IsProse (paint : Paint) (file source : List ℕ) (place : Place) (subject : Subject) (text : List ℕ) : Type 0 where

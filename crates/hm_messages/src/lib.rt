@@ -18,7 +18,7 @@ mod topic;
 pub use crate::counts::count_text;
 pub use crate::faults::fault_message;
 pub use crate::heading::Paint;
-pub use crate::messages::{MessageFault, message};
+pub use crate::messages::{MessageFault, message, reader_place};
 pub use crate::pages::{ModuleStart, Page, Pages, pages_of};
 pub use crate::refusals::{Messages, headers_in, refusal_messages, source_message};
 pub use crate::topic::{BothTypes, Named, Topic, Way};

@@ -1,8 +1,8 @@
 //! One message: a file, a place, what is wrong there, a sentence, and the line with a mark.
-ghost use Rattle.std.specs.Prelude.{◌≡◌, IfOk, IfSome};
+ghost use Rattle.std.specs.Prelude.{◌≡◌, IfNone, IfOk, IfSome};
 ghost use Rattle.hm_messages_excerpts.specs.Columns.{AreColumnsAt};
 ghost use Rattle.hm_messages_excerpts.specs.declared.columns.Columns.{Columns};
-ghost use Rattle.hm_messages.specs.Messages.{IsHeadingAt, IsMessage, IsProse, IsProseHeading, reader_place};
+ghost use Rattle.hm_messages.specs.Messages.{HasNoMessage, IsHeadingAt, IsMessage, IsProse, IsProseHeading, reader_place};
 ghost use Rattle.hm_messages.specs.Subjects.{subject_of};
 
 use crate::heading::{Paint, heading};
@@ -49,9 +49,10 @@ impl From<MessageFault> for RunFault {
     }
 }
 
-/// Returns the place as readers count it: its column in characters.
-fn reader_place(page: &Page<'_>, place: Place) -> Option<Place>
-    ensures { IfSome result (λ p. (columns : Columns) × AreColumnsAt page.now.lines place columns × (p ≡ reader_place place columns)) }
+/// Returns the place as readers count it: its column in characters. Returns `None` if the place isn't in the source.
+pub fn reader_place(page: &Page<'_>, place: Place) -> Option<Place>
+    ensures some { IfSome result (λ p. (columns : Columns) × AreColumnsAt page.now.lines place columns × (p ≡ reader_place place columns)) }
+    ensures none { IfNone result (HasNoMessage page.now.lines place) }
 {
     let columns = page.lines.columns(place)?;
     let column = u32::try_from(columns.characters).ok()?;
