@@ -17,6 +17,8 @@ TOP = os.path.dirname(os.path.dirname(os.path.abspath(__file__)))
 PROGRAM = os.path.abspath(sys.argv[1]) if len(sys.argv) > 1 else os.path.join(TOP, "hmc")
 FILE = "M.hs"
 HEADING = re.compile(r"^(?P<file>[^:\n]*):(?P<line>\d+):(?P<column>\d+): (?P<level>error|note): (?P<text>.*?)(?: \[(?P<kind>[a-z-]+)\])?$", re.MULTILINE)
+# More type faults than a run has trials for.
+LIMIT = "module M where {\n" + " ;\n".join(f"f{n} = not 'c'" for n in range(2000)) + "\n}\n"
 TYPES = {"object": dict, "string": str, "integer": int, "null": type(None)}
 
 
@@ -108,11 +110,19 @@ def row_fault(source, status, run, schema):
     return None if last["errors"] == errors else f"{last}, with {errors} errors"
 
 
+def limit_fault(run):
+    """Why a run with more type faults than it has trials for doesn't say once, behind all other notes, that the limit is reached, or nothing."""
+    lines = run("--message-format", "json").stderr.decode().splitlines()
+    kinds = [value["kind"] for value in map(json.loads, lines) if value["level"] == "note"]
+    return None if kinds[-1:] == ["limit"] and kinds.count("limit") == 1 and "mistyped" in kinds else f"notes at the end: {kinds[-4:]}"
+
+
 def main():
     with open(os.path.join(TOP, "tests", "message.schema.json"), encoding="utf-8") as it:
         schema = json.load(it)
     rows = [row for table in (messages.KINDS, messages.EXCERPTS) for row in table if len(row) == 4 or len(row) == 3]
     rows.append(("module M where { f = 1 }", 0, ""))
+    rows.append((LIMIT, 1, ""))
     failed = 0
     with tempfile.TemporaryDirectory() as folder:
         for source, status, *_ in rows:
@@ -120,7 +130,7 @@ def main():
             with open(os.path.join(folder, FILE), "wb") as it:
                 it.write(source)
             run = lambda *words: subprocess.run([PROGRAM, *words, FILE], cwd=folder, capture_output=True)
-            why = row_fault(source, status, run, schema)
+            why = row_fault(source, status, run, schema) or (limit_fault(run) if source == LIMIT.encode() else None)
             if why:
                 failed += 1
                 print(f"{source[:200]!r}: {why}")

@@ -17,7 +17,7 @@ use Rattle.hm_messages_excerpts.specs.Columns.{AreColumnsAt}
 use Rattle.hm_messages_excerpts.specs.declared.columns.Columns.{Columns}
 use Rattle.hm_messages.specs.Headings.{count_text}
 use Rattle.hm_messages.specs.Messages.{AreEach, IsFaultMessage, IsMessage, reader_place}
-use Rattle.hm_messages.specs.Subjects.{Subject, faulty, hidden, mistyped, replaceable, skipped, unsigned}
+use Rattle.hm_messages.specs.Subjects.{Subject, faulty, hidden, limit, mistyped, replaceable, skipped, unsigned}
 use Rattle.hm_messages.specs.declared.heading.Paint.{Paint}
 use Rattle.hm_messages.specs.declared.topic.Way.{Way}
 use Rattle.hm_messages.specs.declared.topic.Way.TheVariants as way
@@ -102,13 +102,15 @@ pub record AreNotes (paint : Paint) (file source name : List ℕ) (fs : List Int
   pub signature : (signed ≡ []) ⊎ IsSignatureNote paint file source name fs f leads signed
   pub whole : text ≡ cond leads (signed ++ note) (note ++ signed)
 
--- the message of a fault of which nothing else is known, and behind it its notes, or nothing
+-- the message of a fault of which nothing else is known, and behind it its notes, or nothing. A last note may tell that no trial is left for the run
 pub record IsNoted (paint : Paint) (file source name : List ℕ) (fs : List Interface) (f : Fault) (text : List ℕ) : Type 0 where
   pub message : List ℕ
   pub notes : List ℕ
   pub says : IsFaultMessage paint file source f nothing message
   pub noted : (notes ≡ []) ⊎ AreNotes paint file source name fs f notes
-  pub whole : text ≡ message ++ notes
+  pub last : List ℕ
+  pub limited : (last ≡ []) ⊎ IsMessage paint file source f.place limit last
+  pub whole : text ≡ (message ++ notes) ++ last
 
 -- the same of module number i: the note speaks of it for the interfaces of what it imports
 abbrev pub IsNotedIn : Paint → List ℕ → List ℕ → ModuleSet → (ℕ → Status) → ℕ → Fault → List ℕ → Type 0

@@ -2,7 +2,7 @@
 ghost use Rattle.std.specs.Prelude.{◌≡◌, ◌⊎◌, ◌++◌, IfOk, IfSome, [], cond, map, string_bytes, true};
 ghost use Rattle.std.specs.Arc.{arc_value};
 ghost use Rattle.hm_messages.specs.Messages.{AreEach, IsMessage};
-ghost use Rattle.hm_messages.specs.Subjects.{unsigned as unsigned_subject};
+ghost use Rattle.hm_messages.specs.Subjects.{limit, unsigned as unsigned_subject};
 ghost use Rattle.hm_explain.specs.Mends.{IsMend};
 ghost use Rattle.hm_explain.specs.Signatures.{IsUnsigned, Leads};
 ghost use Rattle.hm_names.specs.declared.faults.Kind.TheVariants.{Untyped};
@@ -321,6 +321,23 @@ fn notes_for(
     Ok(notes_of(alloc, module, &found, effort)?)
 }
 
+/// Returns the note that no trial is left for the run, or no text.
+fn limit_note(
+    alloc: Global,
+    module: &FaultyModule<'_, '_>,
+    fault: &Fault,
+    effort: &mut Effort,
+) -> Result<Vec<u8>, MessageFault>
+    ensures { IfOk result (λ text. (text.items ≡ []) ⊎ IsMessage «module».now.paint «module».now.page.now.file.now «module».now.page.now.lines
+        fault.now.place limit text.items) }
+{
+    if !effort.tells_limit() {
+        return Ok(Vec::new(alloc));
+    }
+    let topic = Topic::Limit;
+    Ok(message(alloc, module.paint, module.page, fault.place, &topic)?)
+}
+
 /// Returns the message of a fault with its notes, which need the reading of the module's source.
 fn fault_text(
     alloc: Global,
@@ -336,6 +353,8 @@ fn fault_text(
     let mut text = fault_message(alloc, module.paint, module.page, fault, Detail::Nothing)?;
     let notes = notes_for(alloc, module, reading, fault, effort)?;
     text.extend_from_slice(notes.as_slice())?;
+    let last = limit_note(alloc, module, fault, effort)?;
+    text.extend_from_slice(last.as_slice())?;
     Ok(text)
 }
 

@@ -2,6 +2,7 @@ pub mod Hidden
 pub mod Holes
 pub mod InfiniteTypes
 pub mod Layouts
+pub mod Limits
 pub mod Mends
 pub mod PartTypes
 pub mod Signatures

@@ -1,4 +1,7 @@
 //! The costs of explanations, and their limits.
+ghost use Rattle.std.specs.Prelude.{◌≡◌, false, true};
+ghost use Rattle.hm_explain.specs.Limits.{IsLimitTold, IsUsedUp};
+
 use crate::tokens::Outline;
 use hm_parse_grammar::Symbol;
 
@@ -33,6 +36,8 @@ pub struct Effort {
     left: usize,
     /// The number of trials that are left for the current fault.
     trials: usize,
+    /// Whether `tells_limit` returned true.
+    is_limit_told: bool,
 }
 
 impl Effort {
@@ -41,6 +46,7 @@ impl Effort {
         Effort {
             left: MOST_COST,
             trials: 0,
+            is_limit_told: false,
         }
     }
 
@@ -49,7 +55,7 @@ impl Effort {
         self.trials = MOST_TRIALS;
     }
 
-    /// Takes off a trial of this cost, and returns whether the effort was enough for it. If it wasn't, no trial is left for the fault.
+    /// Takes off a trial of this cost, and returns whether the effort was enough for it. If it wasn't, nothing is left for the run.
     pub(crate) fn pays(&mut self, cost: usize) -> bool {
         if self.trials == 0 {
             return false;
@@ -61,6 +67,7 @@ impl Effort {
                 true
             }
             None => {
+                self.left = 0;
                 self.trials = 0;
                 false
             }
@@ -76,5 +83,18 @@ impl Effort {
     /// Returns whether no trial is left.
     pub(crate) fn is_spent(&self) -> bool {
         self.trials == 0
+    }
+
+    /// Returns whether to report that nothing is left for the run: once, after a trial for which the effort wasn't enough.
+    pub fn tells_limit(&mut self) -> bool
+        ensures told { result ≡ true → IsUsedUp self.new × IsLimitTold self.new }
+        ensures silent { result ≡ false → IsUsedUp self.new → IsLimitTold self.new }
+        ensures once { IsLimitTold self.old → result ≡ false }
+    {
+        if self.left > 0 || self.is_limit_told {
+            return false;
+        }
+        self.is_limit_told = true;
+        true
     }
 }

@@ -17,7 +17,7 @@ use Rattle.hm_names.specs.declared.namespace.Namespace.TheVariants.{Types, Const
 use Rattle.hm_names.specs.declared.faults.Kind.TheVariants.{NotExported, Duplicate, NoBinding, Unbound, Ambiguous, ExportClash, NotImported, NonLinear, Arity, ClauseLength, Untyped, Recursive}
 use Rattle.hm_names.specs.Faults.Phases.{written_in}
 use Rattle.hm_verdicts.specs.Reports.{kind_word}
-use Rattle.hm_messages.specs.Subjects.{Subject, fault, replaceable, mistyped, unsigned, faulty, skipped, too_long, lexeme, open_comment, too_deep, syntax_fault, too_many, twice, twin, missing, cycle, exhausted, step, hidden}
+use Rattle.hm_messages.specs.Subjects.{Subject, fault, replaceable, mistyped, unsigned, faulty, skipped, too_long, lexeme, open_comment, too_deep, syntax_fault, too_many, twice, twin, missing, cycle, exhausted, limit, step, hidden}
 use Rattle.hm_messages.specs.declared.topic.Way.{Way}
 use Rattle.hm_messages.specs.declared.topic.Way.TheVariants.{Expression, Pattern, Exchange}
 use Rattle.hm_messages.specs.declared.heading.Paint.{Paint}
@@ -29,6 +29,7 @@ level_of (mistyped x p t u infinite) = Note
 level_of (unsigned x p t) = Note
 level_of (faulty x) = Note
 level_of (skipped x) = Note
+level_of limit = Note
 level_of (step x y) = Note
 level_of (hidden k x) = Note
 level_of (fault k x known other) = Error
@@ -63,6 +64,7 @@ kind_of (twin x) = codes "twice"
 kind_of (missing x) = codes "missing"
 kind_of (cycle x) = codes "cycle"
 kind_of (exhausted x) = codes "no-memory"
+kind_of limit = codes "limit"
 kind_of (step x y) = codes "import"
 kind_of (hidden k x) = codes "hidden"
 
@@ -85,6 +87,7 @@ name_in (twin x) = Some x
 name_in (missing x) = Some x
 name_in (cycle x) = Some x
 name_in (exhausted x) = Some x
+name_in limit = None
 name_in (step x y) = Some y
 name_in (hidden k x) = Some x
 
@@ -117,6 +120,7 @@ other_in (twin x) = None
 other_in (missing x) = None
 other_in (cycle x) = None
 other_in (exhausted x) = None
+other_in limit = None
 other_in (step x y) = None
 other_in (hidden k x) = None
 
@@ -263,6 +267,7 @@ title (twin x) = codes "this module has the name '" ++ x ++ codes "' too"
 title (missing x) = codes "no module '" ++ x ++ codes "' is given"
 title (cycle x) = codes "the imports of module '" ++ x ++ codes "' lead back to it"
 title (exhausted x) = codes "there is no memory to check module '" ++ x ++ codes "'"
+title limit = codes "type errors after this one have no notes: the limit on trials is reached"
 title (step x y) = codes "'" ++ x ++ codes "' imports '" ++ y ++ codes "'"
 title (hidden k x) = hidden_title k x
 

@@ -4,7 +4,7 @@ use Rattle.hm_messages_hints.specs.LexemeTexts.{lexeme_help}
 use Rattle.hm_messages_hints.specs.SyntaxTexts.{syntax_help}
 use Rattle.hm_names.specs.declared.faults.Kind.{Kind}
 use Rattle.hm_names.specs.declared.faults.Kind.TheVariants.{NotExported, Duplicate, NoBinding, Unbound, Ambiguous, ExportClash, NotImported, NonLinear, Arity, ClauseLength, Untyped, Recursive}
-use Rattle.hm_messages.specs.Subjects.{Subject, fault, replaceable, mistyped, unsigned, faulty, skipped, too_long, lexeme, open_comment, too_deep, syntax_fault, too_many, twice, twin, missing, cycle, exhausted, step, hidden}
+use Rattle.hm_messages.specs.Subjects.{Subject, fault, replaceable, mistyped, unsigned, faulty, skipped, too_long, lexeme, open_comment, too_deep, syntax_fault, too_many, twice, twin, missing, cycle, exhausted, limit, step, hidden}
 
 abbrev pub fault_sentence : Kind → List ℕ
 fault_sentence NotExported = codes "The imported module doesn't export this name, or not as a constructor of this type.\n"
@@ -43,5 +43,6 @@ sentence (twin x) = []
 sentence (missing x) = codes "An import names a module of the set or `Prelude`; there is no other library.\n"
 sentence (cycle x) = codes "Modules may not import each other in a circle.\n"
 sentence (exhausted x) = codes "Its types grow too large, or the machine has no more memory.\n"
+sentence limit = []
 sentence (step x y) = []
 sentence (hidden k x) = []

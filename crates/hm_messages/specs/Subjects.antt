@@ -13,7 +13,7 @@ use Rattle.hm_messages.specs.declared.topic.Topic.TheVariants as topic
 -- a fault of a module, with what is known of it and another place that this names; a way in which a definition has a type; a part of a definition up to
 -- a place, with the type that is expected there and the one that it has, and whether no type is both because it would contain itself; a signature up to a
 -- place, with the type that its definition has without it; a module is skipped for a faulty import, or for a skipped one; why a set is refused; a module
--- with the name of a later one; a module that there is no memory to check; a step of a cycle; a fault that the report leaves out, because names aren't in
+-- with the name of a later one; a module that there is no memory to check; the trials of a run are used up; a step of a cycle; a fault that the report leaves out, because names aren't in
 -- scope
 pub data Subject : Type 0 where
   fault : Kind → List ℕ → Known → Option Position → Subject
@@ -33,6 +33,7 @@ pub data Subject : Type 0 where
   missing : List ℕ → Subject
   cycle : List ℕ → Subject
   exhausted : List ℕ → Subject
+  limit : Subject
   step : List ℕ → List ℕ → Subject
   hidden : Kind → List ℕ → Subject
 
@@ -54,5 +55,6 @@ subject_of (topic.Twin x) = twin x.now
 subject_of (topic.Missing x) = missing x.now
 subject_of (topic.Cycle x) = cycle x.now
 subject_of (topic.Exhausted x) = exhausted x.now
+subject_of topic.Limit = limit
 subject_of (topic.Step x y) = step x.now y.now
 subject_of (topic.Hidden k x) = hidden k x.now

@@ -32,6 +32,7 @@ pub(crate) fn level_of(topic: &Topic<'_>) -> Level
         Topic::Unsigned(_, _, _) => Level::Note,
         Topic::Faulty(_) => Level::Note,
         Topic::Skipped(_) => Level::Note,
+        Topic::Limit => Level::Note,
         Topic::Step(_, _) => Level::Note,
         Topic::Fault(_, _) => Level::Error,
         Topic::TooLong => Level::Error,
@@ -71,6 +72,7 @@ pub(crate) fn kind_of(topic: &Topic<'_>) -> &'static str
         Topic::Missing(_) => "missing",
         Topic::Cycle(_) => "cycle",
         Topic::Exhausted(_) => "no-memory",
+        Topic::Limit => "limit",
         Topic::Step(_, _) => "import",
         Topic::Hidden(_, _) => "hidden",
     }
@@ -99,6 +101,7 @@ pub(crate) fn name_in<'a>(topic: &Topic<'a>) -> Option<&'a str>
         Topic::Missing(name) => Some(name),
         Topic::Cycle(name) => Some(name),
         Topic::Exhausted(name) => Some(name),
+        Topic::Limit => None,
         Topic::Step(_, import) => Some(import),
         Topic::Hidden(_, name) => Some(name),
     }
@@ -147,6 +150,7 @@ pub(crate) fn other_in(topic: &Topic<'_>) -> Option<Position>
         Topic::Missing(_) => None,
         Topic::Cycle(_) => None,
         Topic::Exhausted(_) => None,
+        Topic::Limit => None,
         Topic::Step(_, _) => None,
         Topic::Hidden(_, _) => None,
     }
@@ -261,6 +265,10 @@ pub(crate) fn title(alloc: Global, topic: &Topic<'_>) -> Result<String, AllocErr
         Topic::Missing(name) => format!(in alloc; "no module '{name}' is given"),
         Topic::Cycle(name) => format!(in alloc; "the imports of module '{name}' lead back to it"),
         Topic::Exhausted(name) => format!(in alloc; "there is no memory to check module '{name}'"),
+        Topic::Limit => String::from_str(
+            alloc,
+            "type errors after this one have no notes: the limit on trials is reached",
+        ),
         Topic::Step(name, import) => format!(in alloc; "'{name}' imports '{import}'"),
         Topic::Hidden(kind, name) => hidden_title(alloc, *kind, name),
     }

@@ -71,6 +71,7 @@ pub(crate) fn sentence(topic: &Topic<'_>) -> &'static str
             "An import names a module of the set or `Prelude`; there is no other library.\n",
         Topic::Cycle(_) => "Modules may not import each other in a circle.\n",
         Topic::Exhausted(_) => "Its types grow too large, or the machine has no more memory.\n",
+        Topic::Limit => "",
         Topic::Step(_, _) => "",
         Topic::Hidden(_, _) => "",
     }

@@ -75,6 +75,8 @@ pub enum Topic<'a> {
     Cycle(&'a str),
     /// Memory ran out in the check of a module.
     Exhausted(&'a str),
+    /// The trials of a run are used up, so later type faults have no notes.
+    Limit,
     /// A step of a cycle: the first module imports the second.
     Step(&'a str, &'a str),
     /// A fault that the report leaves out, because names of its module aren't in scope.
