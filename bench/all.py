@@ -28,6 +28,8 @@ PARTS = {
     "checks": ["bench/checks.py", PROGRAM],
     "many_modules": ["bench/many_modules.py", PROGRAM],
     "ghc": ["bench/ghc_times.py", PROGRAM],
+    "slips": ["bench/slips.py", "--program", PROGRAM, "--ghc", "--count", "16", "--seed", "601", "--seed", "602", "--seed", "603", "--seed", "604"],
+    "missing_tokens": ["bench/missing_tokens.py", PROGRAM, "40"],
     "deep": ["tests/deep.py", PROGRAM],
     "growth": ["tests/growth.py", PROGRAM],
     "first": ["bench/build_times.py", "first"],
@@ -55,7 +57,7 @@ def write(found):
 
 
 def heading_of(words):
-    return f"`{' '.join(word for word in words if word != PROGRAM)}`"
+    return f"`{' '.join(word for word in words if word not in ('--program', PROGRAM))}`"
 
 
 def main():

@@ -1,9 +1,9 @@
 #!/usr/bin/env python3
 """Takes single tokens out of good sources, and counts how often the first line of the message names what is missing.
 
-`missing_tokens.py PROGRAM COUNT FILE..`: for each kind of token, COUNT places of the files at most, drawn by a fixed seed. A message names
-a token if its first line has it between quotes, or, for a bracket, the bracket that closes or opens it. Prints a line for each kind and
-last their sum; those that weren't named are written to standard error.
+`missing_tokens.py PROGRAM COUNT [FILE..]`: for each kind of token, COUNT places of the files at most, drawn by a fixed seed. The files are those
+of bench/programs if none is given. A message names a token if its first line has it between quotes, or, for a bracket, the bracket that closes
+or opens it. Prints a line for each kind and last their sum; those that weren't named are written to standard error.
 """
 import collections
 import pathlib
@@ -12,6 +12,7 @@ import re
 import subprocess
 import sys
 
+PROGRAMS = pathlib.Path(__file__).resolve().parent / "programs"
 KINDS = "; } { ) ( ] [ = -> , of then else in where let if case".split()
 PARTNERS = {"(": ")", ")": "(", "[": "]", "]": "[", "{": "}", "}": "{"}
 TOKEN = re.compile(r"""(?P<left>--[^\n]*|\{-(?:.|\n)*?-\}|"(?:[^"\\\n]|\\.)*"|'(?:[^'\\\n]|\\.)+'|[A-Za-z_][\w'.]*|\d\w*)|(?P<op>[!#$%&*+./<=>?@\\^|~:-]+)|[()\[\]{},;]""")
@@ -55,4 +56,4 @@ def main(program, count, files):
 
 
 if __name__ == "__main__":
-    main(sys.argv[1], sys.argv[2], sys.argv[3:])
+    main(sys.argv[1], sys.argv[2], sys.argv[3:] or sorted(map(str, PROGRAMS.glob("*.hs"))))

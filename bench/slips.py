@@ -1,7 +1,8 @@
 #!/usr/bin/env python3
 """Measures how often the note of a type fault is at the slip: makes single slips in good modules, and asks the program.
 
-`slips.py [--program PROGRAM] [--ghc] [--count N] [--seed N].. [--show N] FILE..`: FILEs are sources of good modules, each a set by itself. A slip
+`slips.py [--program PROGRAM] [--ghc] [--count N] [--seed N].. [--show N] [FILE..]`: FILEs are sources of good modules, each a set by itself, and
+those of bench/programs if none is given. A slip
 changes one token or one small expression: two arguments exchanged, one left out or given twice, a function left out, a literal of another kind, another
 constructor or variable, list brackets put in or left out, a tuple without its last component, another right side, a pattern or a type of a signature.
 What it is comes by chance first, each sort as often, and then where. It is kept where the set then has one faulty module, with type faults alone.
@@ -13,6 +14,7 @@ first slips are printed that the first note misses.
 """
 # Why: docs/DECISIONS.md, "Hits of notes", "Widths of notes", "Time of notes", "Misses of notes", "Sorts of slips", "The order of notes".
 import argparse
+import glob
 import os
 import random
 import re
@@ -329,7 +331,7 @@ def main():
     parser.add_argument("--count", type=int, default=40, help="slips in each file")
     parser.add_argument("--seed", type=int, action="append", help="may be given several times; 1 if it isn't given")
     parser.add_argument("--show", type=int, default=0)
-    parser.add_argument("files", nargs="+")
+    parser.add_argument("files", nargs="*", default=sorted(glob.glob(os.path.join(TOP, "bench", "programs", "*.hs"))))
     words = parser.parse_args()
     slips = []
     for seed in words.seed or [1]:
