@@ -12,7 +12,7 @@ that are at most two tokens wider than the slip (tight; three tokens always are)
 much longer runs with messages take. This is printed of hmc's first note alone, of all its notes, and with `--ghc` of GHC's first error. With `--show` the
 first slips are printed that the first note misses.
 """
-# Why: docs/DECISIONS.md, "Hits of notes", "Widths of notes", "Time of notes", "Misses of notes", "Sorts of slips", "The order of notes".
+# Why: docs/DECISIONS.md, "Hits of notes", "Widths of notes", "Misses of notes", "Sorts of slips", "The order of notes".
 import argparse
 import glob
 import os
