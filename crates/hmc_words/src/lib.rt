@@ -85,7 +85,7 @@ fn command<'a>(alloc: Global) -> Result<Command<'a>, AllocError> {
         .arg(
             Arg::new(alloc, "journal")
                 .long("journal")
-                .help("Print the journal of the build behind the report")
+                .help("Print the journal of the build after the report")
                 .action(ArgAction::SetTrue),
         )?
         .arg(
