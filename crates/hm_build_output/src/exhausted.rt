@@ -18,11 +18,11 @@ fn message_of<'a>(
     let located = headers_in(alloc, sources)?;
     let pages = pages_of(alloc, explain.paint, sources, &explain.names, &located)?;
     if number >= located.len() {
-        return Err(MessageFault::Place);
+        return Err(MessageFault::Foreign);
     }
     let here = &located[number];
     if here.source >= pages.items.len() {
-        return Err(MessageFault::Place);
+        return Err(MessageFault::Foreign);
     }
     let page = &pages.items[here.source];
     let topic = Topic::Exhausted(here.header.name.as_str());

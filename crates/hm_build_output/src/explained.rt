@@ -1,5 +1,6 @@
 //! The text, the status and the messages of a run of the checker.
-ghost use Rattle.std.specs.Prelude.{ℕ, List, IfOk, IfSome, map, string_bytes};
+ghost use Rattle.std.specs.Prelude.{ℕ, List, IfOk, IfSome, IsErrOf, map, string_bytes};
+ghost use Rattle.hm_messages.specs.Foreign.{IsForeign};
 ghost use Rattle.hm_store.specs.declared.record.Record.{Record};
 ghost use Rattle.hm_build_reports.specs.FinishedBuilds.{IsFinished};
 ghost use Rattle.hm_build_output.specs.Explained.{AreMessagesOf, IsExplained};
@@ -94,7 +95,7 @@ pub fn finished_explained<'a>(
 ///
 /// # Errors
 ///
-/// `Place` if a message has no place in the sources, and `Memory` if memory ran out.
+/// `Foreign` if the fault isn't one of these sources, and `Memory` if memory ran out.
 pub fn refused_explained<'a>(
     alloc: Global,
     sources: &'a [Vec<u8>],
@@ -106,6 +107,7 @@ pub fn refused_explained<'a>(
     ensures told { IfOk result (λ a. IsRefusalOf (map (λ s. s.items) sources.now) fault.now
         → IfSome wanted.now.explain (λ e. IsExplained e.paint (map (λ s. s.items) e.names.items) (map (λ s.
         s.items) sources.now) a.answer.status (string_bytes a.answer.text) a.messages.items)) }
+    ensures foreign { IsErrOf result MessageFault.Foreign → IsForeign (map (λ s. s.items) sources.now) fault.now }
 {
     let answer = refusal_answer(alloc, fault)?;
     let messages = refused_messages(alloc, sources, fault, wanted)?;

@@ -110,7 +110,7 @@ fn blames_of<'a>(
     for number in row {
         let name = modules[*number].header.name.as_str();
         let Some(index) = import_from(imports, from, name) else {
-            return Err(MessageFault::Place);
+            return Err(MessageFault::Foreign);
         };
         let import = &imports[index];
         let place = import.name.place;
@@ -163,11 +163,11 @@ fn source_of(told: &Told<'_, '_, '_>, number: usize) -> Result<usize, MessageFau
     ensures within { IfOk result (λ source. source < length told.now.pages.now.items.items) }
 {
     if number >= told.located.len() {
-        return Err(MessageFault::Place);
+        return Err(MessageFault::Foreign);
     }
     let source = told.located[number].source;
     if source >= told.pages.items.len() {
-        return Err(MessageFault::Place);
+        return Err(MessageFault::Foreign);
     }
     Ok(source)
 }

@@ -29,11 +29,7 @@ fn note_of(
     ensures { IfOk result (λ found. IfSome found (λ text. IsHiddenNote paint page.now.file.now page.now.lines fault.now text.items)) }
 {
     let topic = Topic::Hidden(fault.kind, fault.name.as_str());
-    match message(alloc, paint, page, fault.place, &topic) {
-        Ok(text) => Ok(Some(text)),
-        Err(MessageFault::Place) => Ok(None),
-        Err(MessageFault::Memory) => Err(AllocError),
-    }
+    Ok(Some(message(alloc, paint, page, fault.place, &topic)?))
 }
 
 /// Returns the notes of faults that the report leaves out, in order, or `None` if one of them has no place in the source.

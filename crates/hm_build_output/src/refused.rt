@@ -1,5 +1,6 @@
 //! The messages of a refused set: of the fault for which it is refused, and of the first fault of each further source.
-ghost use Rattle.std.specs.Prelude.{◌≡◌, ◌+◌, ◌<◌, ◌≤◌, ℕ, List, Option, IfOk, IfSome, drop, length, map, option_map};
+ghost use Rattle.std.specs.Prelude.{◌≡◌, ◌+◌, ◌<◌, ◌≤◌, ℕ, List, Option, IfNone, IfOk, IfSome, IsErrOf, drop, length, map, option_map};
+ghost use Rattle.hm_messages.specs.Foreign.{IsForeign, IsNumbered};
 ghost use Rattle.hm_messages.specs.FurtherFaults.{AreFirstFaults, AreFurtherFaults, IsFirstFault};
 ghost use Rattle.hm_messages.specs.Messages.{AreEach};
 ghost use Rattle.hm_messages.specs.Pages.{files_in, texts_in};
@@ -17,7 +18,7 @@ use hm_messages_hints::{Advice, SyntaxHint};
 use hm_messages_repairs::{Search, advice_at};
 use hm_parse_grammar::ParseFault;
 use hm_run_sources::{SetError, SetFault, SetFaultKind, source_tokens, spelled_modules};
-use std::alloc::Global;
+use std::alloc::{AllocError, Global};
 
 /// The advice for faults that aren't of syntax.
 const NO_ADVICE: Advice<'static> = Advice {
@@ -35,7 +36,8 @@ fn advice_on<'a>(
     sources: &'a [Vec<u8>],
     fault: &SetFault,
     search: Search,
-) -> Result<Advice<'a>, MessageFault>
+) -> Result<Advice<'a>, AllocError>
+    requires { IsNumbered (map (λ s. s.items) sources.now) fault.now }
     ensures { IfOk result (λ a. IsAdvised (map (λ s. s.items) sources.entry.now) fault.now a.hint a.text.now) }
 {
     let SetFaultKind::Parse { source, fault } = &fault.kind else {
@@ -44,28 +46,23 @@ fn advice_on<'a>(
     let ParseFault::Syntax(place) = *fault else {
         return Ok(NO_ADVICE);
     };
-    let Some(number) = source.checked_sub(1) else {
-        return Err(MessageFault::Place);
-    };
-    if number >= sources.len() {
-        return Err(MessageFault::Place);
-    }
+    let number = *source - 1;
     Ok(advice_at(alloc, sources[number].as_slice(), place, search)?)
 }
 
 /// Returns the first fault of the source with this number, counted from 1, if it has any.
-fn first_fault(alloc: Global, number: usize, text: &[u8]) -> Result<Option<SetFault>, MessageFault>
+fn first_fault(alloc: Global, number: usize, text: &[u8]) -> Result<Option<SetFault>, AllocError>
     ensures { IfOk result (IsFirstFault number text.now) }
 {
     let tokens = match source_tokens(alloc, number, text) {
         Ok(tokens) => tokens,
         Err(SetError::Refused(fault)) => return Ok(Some(fault)),
-        Err(SetError::Memory) => return Err(MessageFault::Memory),
+        Err(SetError::Memory) => return Err(AllocError),
     };
     match spelled_modules(alloc, number, text, tokens.as_slice()) {
         Ok(_modules) => Ok(None),
         Err(SetError::Refused(fault)) => Ok(Some(fault)),
-        Err(SetError::Memory) => Err(MessageFault::Memory),
+        Err(SetError::Memory) => Err(AllocError),
     }
 }
 
@@ -87,7 +84,7 @@ fn first_message(
     sources: &[Vec<u8>],
     source: usize,
     tried: &mut usize,
-) -> Result<Option<Vec<u8>>, MessageFault>
+) -> Result<Option<Vec<u8>>, AllocError>
     requires within { source < length sources.now }
     requires texts { texts_in pages.now.items.items ≡ map (λ s. s.items) sources.now }
     ensures { IfOk result (λ m. IsFirstTold pages.now.paint (files_in pages.now.items.items) (texts_in pages.now.items.items) source
@@ -99,7 +96,11 @@ fn first_message(
     };
     let search = search_in(tried, text.len());
     let advice = advice_on(alloc, sources, &fault, search)?;
-    Ok(Some(source_message(alloc, pages, &fault, advice)?))
+    match source_message(alloc, pages, &fault, advice) {
+        Ok(message) => Ok(Some(message)),
+        Err(MessageFault::Memory) => Err(AllocError),
+        Err(MessageFault::Foreign) => unreachable!(),
+    }
 }
 
 /// Returns the messages of the first faults of the sources from this one on, counted from 0.
@@ -108,7 +109,7 @@ fn further_messages(
     pages: &Pages<'_>,
     sources: &[Vec<u8>],
     from: usize,
-) -> Result<Messages, MessageFault>
+) -> Result<Messages, AllocError>
     requires within { from ≤ length sources.now }
     requires texts { texts_in pages.now.items.items ≡ map (λ s. s.items) sources.now }
     ensures { IfOk result (λ told. (faults : List Refusal) × AreFirstFaults (from + 1) (drop from (texts_in pages.now.items.items)) faults
@@ -127,14 +128,23 @@ fn further_messages(
     Ok(Messages { text, errors })
 }
 
-/// Returns the number of the first source after that of a fault, counted from 0. If no source has a fault, it is the number of sources.
-fn behind(fault: &SetFault, sources: usize) -> usize
-    ensures { (texts : List (List ℕ)) (faults : List Refusal) → length texts ≡ sources → AreFirstFaults (result + 1) (drop result texts) faults
-        → AreFurtherFaults texts fault.now faults }
+/// Returns the number of the first source after that of a fault, counted from 0. If the plan has the fault, it is the number of sources. Returns
+/// `None` if no source has the fault's number.
+fn behind(fault: &SetFault, sources: usize) -> Option<usize>
+    ensures within { IfSome result (λ from. from ≤ sources) }
+    ensures numbered { IfSome result (λ from. (texts : List (List ℕ)) → length texts ≡ sources → IsNumbered texts fault.now) }
+    ensures further { IfSome result (λ from. (texts : List (List ℕ)) (faults : List Refusal) → length texts ≡ sources
+        → AreFirstFaults (from + 1) (drop from texts) faults → AreFurtherFaults texts fault.now faults) }
+    ensures foreign { IfNone result ((texts : List (List ℕ)) → length texts ≡ sources → IsForeign texts fault.now) }
 {
     match &fault.kind {
-        SetFaultKind::Lex { source, .. } | SetFaultKind::Parse { source, .. } => *source,
-        SetFaultKind::Plan { .. } => sources,
+        SetFaultKind::Lex { source, .. } | SetFaultKind::Parse { source, .. } => {
+            if *source == 0 || *source > sources {
+                return None;
+            }
+            Some(*source)
+        }
+        SetFaultKind::Plan { .. } => Some(sources),
     }
 }
 
@@ -145,16 +155,16 @@ fn told_refusal<'a>(
     fault: &SetFault,
     explain: &'a Explain,
 ) -> Result<Vec<u8>, MessageFault>
-    ensures { IfOk result (λ m. IsRefusalOf (map (λ s. s.items) sources.now) fault.now
+    ensures ok { IfOk result (λ m. IsRefusalOf (map (λ s. s.items) sources.now) fault.now
         → TellsRefusal explain.now.paint (map (λ s. s.items) explain.now.names.items) (map (λ s. s.items) sources.now) m.items) }
+    ensures foreign { IsErrOf result MessageFault.Foreign → IsForeign (map (λ s. s.items) sources.now) fault.now }
 {
+    let Some(from) = behind(fault, sources.len()) else {
+        return Err(MessageFault::Foreign);
+    };
     let pages = pages_of(alloc, explain.paint, sources, &explain.names, &[])?;
     let advice = advice_on(alloc, sources, fault, Search::Changes)?;
     let Messages { mut text, errors } = refusal_messages(alloc, &pages, sources, fault, advice)?;
-    let from = behind(fault, sources.len());
-    if from > sources.len() {
-        return Err(MessageFault::Place);
-    }
     let further = further_messages(alloc, &pages, sources, from)?;
     let Some(all) = errors.checked_add(further.errors) else {
         return Err(MessageFault::Memory);
@@ -172,8 +182,9 @@ pub(crate) fn refused_messages<'a>(
     fault: &SetFault,
     wanted: &'a Wanted,
 ) -> Result<Vec<u8>, MessageFault>
-    ensures { IfOk result (λ m. IsRefusalOf (map (λ s. s.items) sources.now) fault.now
+    ensures ok { IfOk result (λ m. IsRefusalOf (map (λ s. s.items) sources.now) fault.now
         → IfSome wanted.now.explain (λ e. TellsRefusal e.paint (map (λ s. s.items) e.names.items) (map (λ s. s.items) sources.now) m.items)) }
+    ensures foreign { IsErrOf result MessageFault.Foreign → IsForeign (map (λ s. s.items) sources.now) fault.now }
 {
     match &wanted.explain {
         Some(explain) => Ok(told_refusal(alloc, sources, fault, explain)?),

@@ -8,6 +8,9 @@ use Rattle.hm_messages.specs.Subjects.{Subject}
 use Rattle.hm_messages.specs.declared.heading.Paint.{Paint}
 use Rattle.hm_messages.specs.declared.pages.Page.{Page}
 
+pub as_many : (pages : List Page) → length (texts_in pages) ≡ length pages
+as_many pages = length-map pages (λ p. p.lines)
+
 module _ (pages : List Page) (k : ℕ) (page : Page) (low : k < length pages) (is : page ≡ get_or pages k page) where
   pub inside : k < length (texts_in pages)
   inside = subst (λ n. k < n) (sym (length-map pages (λ p. p.lines))) low

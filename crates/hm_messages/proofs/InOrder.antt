@@ -1,4 +1,4 @@
--- Messages in a row, one more at the end.
+-- Messages in a row, with more at the end.
 use Rattle.std.proofs.Common.{◌≡◌, ℕ, ◌+◌, ◌<◌, List, [], ◌∷◌, ◌++◌, length, map, take, get_or, refl, sym, ap, subst, ◌∙◌, append_assoc, append-nil}
 use Rattle.std.proofs.lemmas.List.{take_more}
 use Rattle.hm_messages.specs.Messages.{AreEach}
@@ -7,6 +7,11 @@ pub each_more : {X : Type 0} (tells : X → List ℕ → Type 0) (xs : List X) (
 each_more tells [] x text message none h = (message, [], h, refl, ap (λ (l : List ℕ). l ++ message) none ∙ sym (append-nil message))
 each_more tells (y ∷ ys) x text message each h =
     (each.0, each.1 ++ message, each.2, each_more tells ys x each.1 message each.3 h, ap (λ (l : List ℕ). l ++ message) each.4 ∙ append_assoc each.0 each.1 message)
+
+pub each_append : {X : Type 0} (tells : X → List ℕ → Type 0) (xs ys : List X) (text more : List ℕ) → AreEach tells xs text → AreEach tells ys more → AreEach tells (xs ++ ys) (text ++ more)
+each_append tells [] ys text more none h = subst (λ (l : List ℕ). AreEach tells ys (l ++ more)) (sym none) h
+each_append tells (x ∷ xs) ys text more each h =
+    (each.0, each.1 ++ more, each.2, each_append tells xs ys each.1 more each.3 h, ap (λ (l : List ℕ). l ++ more) each.4 ∙ append_assoc each.0 each.1 more)
 
 -- the step of a loop
 pub taken_more : {X : Type 0} (tells : X → List ℕ → Type 0) (xs : List X) (i : ℕ) (d : X) (text next message : List ℕ) → i < length xs → AreEach tells (take i xs) text → tells (get_or xs i d) message → next ≡ text ++ message → AreEach tells (take (i + 1) xs) next

@@ -1,28 +1,18 @@
--- The messages of a refusal, with one more import of a cycle.
-use Rattle.std.proofs.Common.{◌≡◌, ℕ, List, [], ◌∷◌, ◌++◌, refl, sym, ap, ◌∙◌, append_assoc, append-nil}
-use Rattle.hm_lex.specs.declared.token.Place.{Place}
-use Rattle.hm_messages.specs.Refused.{Way, AreMessagesOf, IsMessageAt, IsWayTold}
-use Rattle.hm_messages.specs.Subjects.{Subject}
+-- The lines of a cycle, with those of one more import.
+use Rattle.std.proofs.Common.{◌≡◌, ℕ, List, [], ◌∷◌, ◌++◌, refl, sym, subst, append-nil}
+use Rattle.hm_messages.specs.Messages.{AreEach}
+use Rattle.hm_messages.specs.Refused.{Way, IsWayTold}
 use Rattle.hm_messages.specs.declared.heading.Paint.{Paint}
-use Rattle.hm_messages.proofs.InOrder.{each_more}
+use Rattle.hm_messages.proofs.InOrder.{each_append}
 
-pub alone : (paint : Paint) (files sources : List (List ℕ)) (number : ℕ) (place : Place) (subject : Subject) (text : List ℕ) → IsMessageAt paint files sources number place subject text → AreMessagesOf paint files sources number place subject text
-alone paint files sources number place subject text h = record {
-  first = text;
-  told = h;
-  ways = [];
-  lines = [];
-  steps = refl;
-  whole = sym (append-nil text);
-}
+module _ (paint : Paint) (files sources : List (List ℕ)) where
+  -- the text has a line for each of some imports
+  abbrev pub AreWaysTold : List ℕ → Type 0
+  AreWaysTold text = (ways : List Way) × AreEach (IsWayTold paint files sources) ways text
 
-pub way_more : (paint : Paint) (files sources : List (List ℕ)) (number : ℕ) (place : Place) (subject : Subject) (text next line : List ℕ) (way : Way) → AreMessagesOf paint files sources number place subject text → IsWayTold paint files sources way line
-    → next ≡ text ++ line → AreMessagesOf paint files sources number place subject next
-way_more paint files sources number place subject text next line way h w e = record {
-  first = h.first;
-  told = h.told;
-  ways = h.ways ++ way ∷ [];
-  lines = h.lines ++ line;
-  steps = each_more (IsWayTold paint files sources) h.ways way h.lines line h.steps w;
-  whole = e ∙ ap (λ (l : List ℕ). l ++ line) h.whole ∙ append_assoc h.first h.lines line;
-}
+  pub one_way : (way : Way) (text : List ℕ) → IsWayTold paint files sources way text → AreWaysTold text
+  one_way way text h = (way ∷ [], (text, [], h, refl, sym (append-nil text)))
+
+  pub more_ways : (text line next : List ℕ) → AreWaysTold text → AreWaysTold line → next ≡ text ++ line → AreWaysTold next
+  more_ways text line next t l e =
+      (t.0 ++ l.0, subst (AreEach (IsWayTold paint files sources) (t.0 ++ l.0)) (sym e) (each_append (IsWayTold paint files sources) t.0 l.0 text line t.1 l.1))

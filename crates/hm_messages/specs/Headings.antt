@@ -19,7 +19,7 @@ use Rattle.hm_names.specs.Faults.Phases.{written_in}
 use Rattle.hm_verdicts.specs.Reports.{kind_word}
 use Rattle.hm_messages.specs.Subjects.{Subject, fault, replaceable, mistyped, unsigned, faulty, skipped, too_long, lexeme, open_comment, too_deep, syntax_fault, too_many, twice, twin, missing, cycle, exhausted, limit, step, hidden}
 use Rattle.hm_messages.specs.declared.topic.Way.{Way}
-use Rattle.hm_messages.specs.declared.topic.Way.TheVariants.{Expression, Pattern, Exchange}
+use Rattle.hm_messages.specs.declared.topic.Way.TheVariants.{Expression, Pattern, Exchange, Removal}
 use Rattle.hm_messages.specs.declared.heading.Paint.{Paint}
 use Rattle.hm_messages.specs.declared.heading.Paint.TheVariants.{Plain, Coloured, Json}
 
@@ -231,11 +231,16 @@ pattern_title x p = codes "'" ++ x ++ codes "' has a type with another pattern h
 abbrev pub exchange_title : List ℕ → Place → List ℕ
 exchange_title x p = codes "'" ++ x ++ codes "' has a type with this expression and the one at " ++ decimal p.line ++ codes ":" ++ decimal p.column ++ codes " exchanged"
 
+-- what is said of an expression that ends at this place and is left out
+abbrev pub removal_title : List ℕ → Place → List ℕ
+removal_title x p = codes "'" ++ x ++ codes "' has a type if this is left out (up to " ++ decimal p.line ++ codes ":" ++ decimal p.column ++ codes ")"
+
 -- in which way a definition has a type
 abbrev pub replaceable_title : List ℕ → Way → List ℕ
 replaceable_title x (Expression p) = expression_title x p
 replaceable_title x (Pattern p) = pattern_title x p
 replaceable_title x (Exchange p) = exchange_title x p
+replaceable_title x (Removal p) = removal_title x p
 
 -- what is said of a part that ends at this place, with the type that is expected there and the one that it has
 abbrev pub mistyped_title : Place → List ℕ → List ℕ → List ℕ

@@ -1,5 +1,7 @@
+pub mod Foreign
 pub mod FurtherFaults
 pub mod Headings
+pub mod Laws
 pub mod Messages
 pub mod Missing
 pub mod Pages

@@ -23,9 +23,15 @@ use Rattle.hm_messages.specs.declared.heading.Paint.TheVariants.{Plain, Coloured
 abbrev pub reader_place : Place → Columns → Place
 reader_place p columns = record { line = p.line; column = columns.characters }
 
--- no message can tell of the place: it isn't in the source, or its column in characters is 2^32 or more
-abbrev pub HasNoMessage : List ℕ → Place → Type 0
-HasNoMessage source place = IsPlaceIn source place → (columns : Columns) × AreColumnsAt source place columns × (4294967296 ≤ columns.characters)
+-- no message for a reader can name the place: it isn't in the source, or its column in characters is 2^32 or more
+abbrev pub HasNoReaderPlace : List ℕ → Place → Type 0
+HasNoReaderPlace source place = IsPlaceIn source place → (columns : Columns) × AreColumnsAt source place columns × (4294967296 ≤ columns.characters)
+
+-- no message can name the place. One for a program can name any place in the source
+abbrev pub HasNoMessage : Paint → List ℕ → Place → Type 0
+HasNoMessage Plain source place = HasNoReaderPlace source place
+HasNoMessage Coloured source place = HasNoReaderPlace source place
+HasNoMessage Json source place = ¬ IsPlaceIn source place
 
 -- the text tells the subject at a place, which lies in the source: the file, the place, what is wrong, a sentence, and the line with a mark at the place
 pub record IsProse (paint : Paint) (file source : List ℕ) (place : Place) (subject : Subject) (text : List ℕ) : Type 0 where
@@ -77,24 +83,35 @@ pub record IsObject (file source : List ℕ) (place : Place) (subject : Subject)
   pub about : IsAbout subject message
   pub says : text ≡ message_text message
 
--- a message as a reader is told, or as a program is
-abbrev pub IsMessage : Paint → List ℕ → List ℕ → Place → Subject → List ℕ → Type 0
-IsMessage Plain file source place subject text = IsProse Plain file source place subject text
-IsMessage Coloured file source place subject text = IsProse Coloured file source place subject text
-IsMessage Json file source place subject text = IsObject file source place subject text
+-- the text tells the subject at a place, to a reader or to a program
+abbrev pub TellsAt : Paint → List ℕ → List ℕ → Place → Subject → List ℕ → Type 0
+TellsAt Plain file source place subject text = IsProse Plain file source place subject text
+TellsAt Coloured file source place subject text = IsProse Coloured file source place subject text
+TellsAt Json file source place subject text = IsObject file source place subject text
 
-abbrev pub IsHeadingAt : Paint → List ℕ → List ℕ → Place → Subject → List ℕ → Type 0
-IsHeadingAt Plain file source place subject text = IsProseHeading Plain file source place subject text
-IsHeadingAt Coloured file source place subject text = IsProseHeading Coloured file source place subject text
-IsHeadingAt Json file source place subject text = IsObject file source place subject text
+-- the same, to a reader by the first line alone
+abbrev pub TellsInLine : Paint → List ℕ → List ℕ → Place → Subject → List ℕ → Type 0
+TellsInLine Plain file source place subject text = IsProseHeading Plain file source place subject text
+TellsInLine Coloured file source place subject text = IsProseHeading Coloured file source place subject text
+TellsInLine Json file source place subject text = IsObject file source place subject text
 
--- the position of the place that the detail names, if it names one
+-- a message at a place. It is left out only if no message can name the place
+pub data IsMessage (paint : Paint) (file source : List ℕ) (place : Place) (subject : Subject) (text : List ℕ) : Type 0 where
+  message_told : TellsAt paint file source place subject text → IsMessage paint file source place subject text
+  message_left_out : text ≡ [] → HasNoMessage paint source place → IsMessage paint file source place subject text
+
+-- the first line of a message, or its object. It is left out by the same rule
+pub data IsHeadingAt (paint : Paint) (file source : List ℕ) (place : Place) (subject : Subject) (text : List ℕ) : Type 0 where
+  line_told : TellsInLine paint file source place subject text → IsHeadingAt paint file source place subject text
+  line_left_out : text ≡ [] → HasNoMessage paint source place → IsHeadingAt paint file source place subject text
+
+-- the position of the place that the detail names, if it names one that is in the source
 abbrev pub IsOther : List ℕ → Known → Option Position → Type 0
 IsOther source nothing other = other ≡ None
 IsOther source (near q x) other = other ≡ None
 IsOther source of_report other = other ≡ None
 IsOther source (either c d) other = other ≡ None
-IsOther source (first p) None = ⊥
+IsOther source (first p) None = ¬ IsPlaceIn source p
 IsOther source (first p) (Some position) = IsPositionAt source p position
 IsOther source (arguments here takes) other = other ≡ None
 IsOther source (lengths here others) other = other ≡ None

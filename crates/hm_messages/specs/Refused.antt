@@ -1,6 +1,6 @@
 -- The messages of a refused set.
 use Rattle.std.specs.Prelude.{◌≡◌, ℕ, ◌+◌, ◌-◌, ◌<◌, ⊤, List, [], ◌∷◌, ◌++◌, Option, Some, None, length, slice_index_or, take}
-use Rattle.hm_messages_excerpts.specs.Excerpts.{IsExcerptAt}
+use Rattle.hm_messages_excerpts.specs.Excerpts.{IsExcerptAt, IsPlaceIn}
 use Rattle.hm_messages_excerpts.specs.declared.excerpt.Excerpt.{Excerpt}
 use Rattle.hm_messages_hints.specs.Advice.{IsAdviceAt}
 use Rattle.hm_messages_hints.specs.LexemeHints.{IsLexemeHint, operator_in}
@@ -28,10 +28,14 @@ pub record IsLexemeHintAt (source : List ℕ) (p : Place) (hint : LexemeHint) (n
   pub holds : IsLexemeHint shown.right.now hint
   pub name_is : name ≡ operator_in shown.right.now hint
 
+-- the same if the place is in the source. No message names another place
+abbrev pub MayHint : List ℕ → Place → LexemeHint → List ℕ → Type 0
+MayHint source p hint name = IsPlaceIn source p → IsLexemeHintAt source p hint name
+
 -- the subject of the message of a refusal. A set isn't refused if memory ran out
 abbrev pub IsRefusedSubject : List (List ℕ) → Refusal → Subject → Type 0
 IsRefusedSubject sources (lex n lexing.TooLong) s = s ≡ too_long
-IsRefusedSubject sources (lex n (lexing.Lexeme p)) s = (hint : LexemeHint) × (name : List ℕ) × (s ≡ lexeme hint name) × IsLexemeHintAt (slice_index_or sources (n - 1) []) p hint name
+IsRefusedSubject sources (lex n (lexing.Lexeme p)) s = (hint : LexemeHint) × (name : List ℕ) × (s ≡ lexeme hint name) × MayHint (slice_index_or sources (n - 1) []) p hint name
 IsRefusedSubject sources (lex n (lexing.OpenComment p)) s = s ≡ open_comment
 IsRefusedSubject sources (lex n (lexing.TooDeep p)) s = s ≡ too_deep
 IsRefusedSubject sources (lex n lexing.Memory) s = s ≡ too_long
@@ -76,7 +80,7 @@ pub record Way : Type 0 where
 abbrev pub IsWayTold : Paint → List (List ℕ) → List (List ℕ) → Way → List ℕ → Type 0
 IsWayTold paint files sources way text = (way.number < length sources) × IsHeadingAt paint (slice_index_or files way.number []) (slice_index_or sources way.number []) way.place (step way.name way.import) text
 
--- one message at a place of a source, and after it a line for each import of a cycle
+-- one message at a place of a source, and after it a line for each of some imports
 pub record AreMessagesOf (paint : Paint) (files sources : List (List ℕ)) (number : ℕ) (place : Place) (subject : Subject) (text : List ℕ) : Type 0 where
   pub first : List ℕ
   pub told : IsMessageAt paint files sources number place subject first

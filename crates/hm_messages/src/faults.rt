@@ -4,54 +4,47 @@ ghost use Rattle.hm_messages_details.specs.Details.{known_of};
 ghost use Rattle.hm_messages.specs.Messages.{IsFaultMessage, IsOther};
 
 use crate::heading::Paint;
-use crate::messages::{MessageFault, message};
+use crate::messages::message;
 use crate::objects::position_at;
 use crate::pages::Page;
 use crate::topic::{Named, Topic};
 use hm_messages_details::Detail;
 use hm_messages_json::Position;
 use hm_names::Fault;
-use std::alloc::Global;
+use std::alloc::{AllocError, Global};
 
-/// Returns the position of the place that a detail names, if it names one.
-fn other_at(page: &Page<'_>, detail: &Detail<'_>) -> Result<Option<Position>, MessageFault>
-    ensures { IfOk result (IsOther page.now.lines (known_of detail.now)) }
+/// Returns the position of the place that a detail names, if it names one that is in the source.
+fn other_at(page: &Page<'_>, detail: &Detail<'_>) -> Option<Position>
+    ensures { IsOther page.now.lines (known_of detail.now) result }
 {
     match detail {
-        Detail::First(place) => match position_at(page, *place) {
-            Some(position) => Ok(Some(position)),
-            None => Err(MessageFault::Place),
-        },
-        Detail::Nothing => Ok(None),
-        Detail::Near(_, _) => Ok(None),
-        Detail::LeftOut => Ok(None),
-        Detail::Either(_, _) => Ok(None),
-        Detail::Arguments(_, _) => Ok(None),
-        Detail::Patterns(_, _) => Ok(None),
-        Detail::NotFrom(_, _) => Ok(None),
-        Detail::NearBinding(_) => Ok(None),
-        Detail::Elsewhere(_) => Ok(None),
-        Detail::ByPattern => Ok(None),
-        Detail::NearLocal(_) => Ok(None),
+        Detail::First(place) => position_at(page, *place),
+        Detail::Nothing => None,
+        Detail::Near(_, _) => None,
+        Detail::LeftOut => None,
+        Detail::Either(_, _) => None,
+        Detail::Arguments(_, _) => None,
+        Detail::Patterns(_, _) => None,
+        Detail::NotFrom(_, _) => None,
+        Detail::NearBinding(_) => None,
+        Detail::Elsewhere(_) => None,
+        Detail::ByPattern => None,
+        Detail::NearLocal(_) => None,
     }
 }
 
-/// Returns the message of a fault with this detail.
-///
-/// # Errors
-///
-/// Memory ran out, or the fault's place or that of the detail lies in no line of the page.
+/// Returns the message of a fault with this detail. The text is empty if no message can name the fault's place.
 pub fn fault_message(
     alloc: Global,
     paint: Paint,
     page: &Page<'_>,
     fault: &Fault,
     detail: Detail<'_>,
-) -> Result<Vec<u8>, MessageFault>
+) -> Result<Vec<u8>, AllocError>
     ensures { IfOk result (λ text. IsFaultMessage paint page.now.file.now page.now.lines fault.now (known_of detail.entry) text.items) }
 {
     let name = fault.name.as_str();
-    let other = other_at(page, &detail)?;
+    let other = other_at(page, &detail);
     let named = Named {
         name,
         detail,

@@ -1,6 +1,6 @@
 //! The first line of a message, after the name of its file.
 ghost use Rattle.std.specs.Prelude.{◌≡◌, IfOk, option_map, string_bytes};
-ghost use Rattle.hm_messages.specs.Headings.{actual_in, begin, end, exchange_title as exchange_title_bytes, expected_in, expression_title as expression_title_bytes, heading as heading_bytes, kind_of as kind_bytes, level_of as level_is, mistyped_title as mistyped_title_bytes, name_in, other_in, pattern_title as pattern_title_bytes, replaceable_title as replaceable_title_bytes, tag as tag_bytes, title as title_bytes, unsigned_title as unsigned_title_bytes};
+ghost use Rattle.hm_messages.specs.Headings.{actual_in, begin, end, exchange_title as exchange_title_bytes, expected_in, expression_title as expression_title_bytes, heading as heading_bytes, kind_of as kind_bytes, level_of as level_is, mistyped_title as mistyped_title_bytes, name_in, other_in, pattern_title as pattern_title_bytes, removal_title as removal_title_bytes, replaceable_title as replaceable_title_bytes, tag as tag_bytes, title as title_bytes, unsigned_title as unsigned_title_bytes};
 ghost use Rattle.hm_messages.specs.Subjects.{subject_of};
 
 use crate::fault_titles::{fault_title, hidden_title};
@@ -208,6 +208,14 @@ fn exchange_title(alloc: Global, name: &str, other: Place) -> Result<String, All
     )
 }
 
+/// Returns the text about an expression that ends at this place and is left out.
+fn removal_title(alloc: Global, name: &str, end: Place) -> Result<String, AllocError>
+    ensures { IfOk result (λ text. string_bytes text ≡ removal_title_bytes name.now end) }
+{
+    let Place { line, column } = end;
+    format!(in alloc; "'{name}' has a type if this is left out (up to {line}:{column})")
+}
+
 /// Returns the text about the change with which a definition has a type.
 fn replaceable_title(alloc: Global, name: &str, way: Way) -> Result<String, AllocError>
     ensures { IfOk result (λ text. string_bytes text ≡ replaceable_title_bytes name.now way) }
@@ -216,6 +224,7 @@ fn replaceable_title(alloc: Global, name: &str, way: Way) -> Result<String, Allo
         Way::Expression(end) => expression_title(alloc, name, end),
         Way::Pattern(end) => pattern_title(alloc, name, end),
         Way::Exchange(other) => exchange_title(alloc, name, other),
+        Way::Removal(end) => removal_title(alloc, name, end),
     }
 }
 

@@ -1,10 +1,29 @@
-//! Worked examples: functions with an empty body, whose contracts have the facts.
-ghost use Rattle.hm_messages.specs.Worked.{FurtherRow, TwinRow};
+//! Laws and worked examples: functions with an empty body, whose contracts have the facts.
+ghost use Rattle.hm_messages.specs.Laws.{HasNoForeignRefusal};
+ghost use Rattle.hm_messages.specs.Worked.{ForeignRow, FurtherRow, MessageRow, TwinRow};
+
+/// The refusal of sources isn't foreign to them.
+#[tactic(auto, using(crate::proofs::OfSources::refusals_are_theirs))]
+pub fn refusals_are_theirs()
+    ensures { HasNoForeignRefusal }
+{}
 
 /// The first faults of two further sources, and of none.
 #[tactic(auto, using(crate::proofs::WorkedFaults::worked_faults))]
 pub fn worked_faults()
     ensures { FurtherRow }
+{}
+
+/// A message at the one place of an empty source, and at another place.
+#[tactic(auto, using(crate::proofs::WorkedMessages::worked_messages))]
+pub fn worked_messages()
+    ensures { MessageRow }
+{}
+
+/// Faults of sources that aren't there, and of one that is.
+#[tactic(auto, using(crate::proofs::WorkedMessages::worked_foreign))]
+pub fn worked_foreign()
+    ensures { ForeignRow }
 {}
 
 /// A module with the name of an earlier one, and one with a name of its own.

@@ -1,8 +1,10 @@
 //! One message: a file, a place, what is wrong there, a sentence, and the line with a mark.
-ghost use Rattle.std.specs.Prelude.{◌≡◌, IfNone, IfOk, IfSome};
+ghost use Rattle.std.specs.Prelude.{◌≡◌, ◌⊎◌, ◌++◌, [], IfNone, IfOk, IfSome};
 ghost use Rattle.hm_messages_excerpts.specs.Columns.{AreColumnsAt};
 ghost use Rattle.hm_messages_excerpts.specs.declared.columns.Columns.{Columns};
-ghost use Rattle.hm_messages.specs.Messages.{HasNoMessage, IsHeadingAt, IsMessage, IsProse, IsProseHeading, reader_place};
+ghost use Rattle.hm_messages_excerpts.specs.Escapes.{shown as shown_bytes};
+ghost use Rattle.hm_messages.specs.Headings.{heading as heading_bytes};
+ghost use Rattle.hm_messages.specs.Messages.{HasNoReaderPlace, IsHeadingAt, IsMessage, IsProse, IsProseHeading, reader_place};
 ghost use Rattle.hm_messages.specs.Subjects.{subject_of};
 
 use crate::heading::{Paint, heading};
@@ -15,13 +17,13 @@ use hm_messages_excerpts::{add_excerpt, shown};
 use hm_run_io::RunFault;
 use std::alloc::{AllocError, Global};
 
-// Why: docs/DECISIONS.md, "Messages without a place".
-/// Why there is no message.
+// Why: docs/DECISIONS.md, "Foreign faults".
+/// Why there are no messages of a refused set.
 #[derive(Clone, Copy, Debug, PartialEq, Eq, Drop)]
 pub enum MessageFault {
     Memory,
-    /// The place isn't in its source.
-    Place,
+    /// The fault isn't one of these sources.
+    Foreign,
 }
 
 impl From<AllocError> for MessageFault {
@@ -44,15 +46,15 @@ impl From<MessageFault> for RunFault {
     fn from(fault: MessageFault) -> RunFault {
         match fault {
             MessageFault::Memory => RunFault::Memory,
-            MessageFault::Place => RunFault::Mixed,
+            MessageFault::Foreign => RunFault::Mixed,
         }
     }
 }
 
-/// Returns the place as readers count it: its column in characters. Returns `None` if the place isn't in the source.
+/// Returns the place as readers count it: its column in characters. Returns `None` if the place isn't in the source, or if its column is 2^32 or more.
 pub fn reader_place(page: &Page<'_>, place: Place) -> Option<Place>
     ensures some { IfSome result (λ p. (columns : Columns) × AreColumnsAt page.now.lines place columns × (p ≡ reader_place place columns)) }
-    ensures none { IfNone result (HasNoMessage page.now.lines place) }
+    ensures none { IfNone result (HasNoReaderPlace page.now.lines place) }
 {
     let columns = page.lines.columns(place)?;
     let column = u32::try_from(columns.characters).ok()?;
@@ -62,19 +64,16 @@ pub fn reader_place(page: &Page<'_>, place: Place) -> Option<Place>
     })
 }
 
-/// Returns the first line of a message for a reader.
-fn prose_heading(
+/// Returns the first line of a message at a place as readers count it.
+fn first_line(
     alloc: Global,
     paint: Paint,
     page: &Page<'_>,
     place: Place,
     topic: &Topic<'_>,
-) -> Result<Vec<u8>, MessageFault>
-    ensures { IfOk result (λ text. IsProseHeading paint page.now.file.now page.now.lines place (subject_of topic.now) text.items) }
+) -> Result<Vec<u8>, AllocError>
+    ensures { IfOk result (λ text. text.items ≡ shown_bytes page.now.file.now ++ heading_bytes paint place (subject_of topic.now)) }
 {
-    let Some(place) = reader_place(page, place) else {
-        return Err(MessageFault::Place);
-    };
     let heading = heading(alloc, paint, place, topic)?;
     let file = shown(alloc, page.file)?;
     let mut text = Vec::from_slice(alloc, file.as_bytes())?;
@@ -82,33 +81,55 @@ fn prose_heading(
     Ok(text)
 }
 
-/// Returns the message of a topic for a reader.
+/// Returns the first line of a message for a reader, or no text if no message for a reader can name the place.
+fn prose_heading(
+    alloc: Global,
+    paint: Paint,
+    page: &Page<'_>,
+    place: Place,
+    topic: &Topic<'_>,
+) -> Result<Vec<u8>, AllocError>
+    ensures { IfOk result (λ text. IsProseHeading paint page.now.file.now page.now.lines place (subject_of topic.now) text.items
+        ⊎ ((text.items ≡ []) × HasNoReaderPlace page.now.lines place)) }
+{
+    let Some(told) = reader_place(page, place) else {
+        return Ok(Vec::new(alloc));
+    };
+    Ok(first_line(alloc, paint, page, told, topic)?)
+}
+
+/// Returns the message of a topic for a reader, or no text if no message for a reader can name the place.
 fn prose(
     alloc: Global,
     paint: Paint,
     page: &Page<'_>,
     place: Place,
     topic: &Topic<'_>,
-) -> Result<Vec<u8>, MessageFault>
-    ensures { IfOk result (λ text. IsProse paint page.now.file.now page.now.lines place (subject_of topic.now) text.items) }
+) -> Result<Vec<u8>, AllocError>
+    ensures { IfOk result (λ text. IsProse paint page.now.file.now page.now.lines place (subject_of topic.now) text.items
+        ⊎ ((text.items ≡ []) × HasNoReaderPlace page.now.lines place)) }
 {
-    let Some(excerpt) = page.lines.excerpt(place) else {
-        return Err(MessageFault::Place);
+    let Some(told) = reader_place(page, place) else {
+        return Ok(Vec::new(alloc));
     };
-    let mut text = prose_heading(alloc, paint, page, place, topic)?;
+    let Some(excerpt) = page.lines.excerpt(place) else {
+        return Ok(Vec::new(alloc));
+    };
+    let mut text = first_line(alloc, paint, page, told, topic)?;
     text.extend_from_slice(sentence(topic).as_bytes())?;
     add_excerpt(alloc, &mut text, &excerpt)?;
     Ok(text)
 }
 
-/// Returns the first line of a message at a place of a source, or its object if messages are JSON.
+/// Returns the first line of a message at a place of a source, or its object if messages are JSON. The text is empty if no message can name
+/// the place.
 pub(crate) fn heading_at(
     alloc: Global,
     paint: Paint,
     page: &Page<'_>,
     place: Place,
     topic: &Topic<'_>,
-) -> Result<Vec<u8>, MessageFault>
+) -> Result<Vec<u8>, AllocError>
     ensures { IfOk result (λ text. IsHeadingAt paint page.now.file.now page.now.lines place (subject_of topic.now) text.items) }
 {
     match paint {
@@ -118,18 +139,15 @@ pub(crate) fn heading_at(
     }
 }
 
-/// Returns the message of a topic at a place of a source.
-///
-/// # Errors
-///
-/// `Place` if the place isn't in the source, and `Memory` if memory ran out.
+// Why: docs/DECISIONS.md, "Messages without a place".
+/// Returns the message of a topic at a place of a source. The text is empty if no message can name the place.
 pub fn message(
     alloc: Global,
     paint: Paint,
     page: &Page<'_>,
     place: Place,
     topic: &Topic<'_>,
-) -> Result<Vec<u8>, MessageFault>
+) -> Result<Vec<u8>, AllocError>
     ensures { IfOk result (λ text. IsMessage paint page.now.file.now page.now.lines place (subject_of topic.now) text.items) }
 {
     match paint {

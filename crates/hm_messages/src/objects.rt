@@ -1,10 +1,10 @@
 //! Messages for programs, as JSON.
-ghost use Rattle.std.specs.Prelude.{IfOk, IfSome, option_map, string_bytes};
+ghost use Rattle.std.specs.Prelude.{◌≡◌, ◌⊎◌, [], IfNone, IfOk, IfSome, option_map, string_bytes};
+ghost use Rattle.hm_messages_excerpts.specs.Excerpts.{IsPlaceIn};
 ghost use Rattle.hm_messages.specs.Messages.{IsHint, IsObject, IsPositionAt, IsRangeAt};
 ghost use Rattle.hm_messages.specs.Subjects.{subject_of};
 
 use crate::heading::{actual_in, expected_in, kind_of, level_of, name_in, other_in, title};
-use crate::messages::MessageFault;
 use crate::pages::Page;
 use crate::sentences::sentence;
 use crate::topic::Topic;
@@ -21,7 +21,8 @@ struct Range {
 
 /// Returns the position of a place, if it is in the source.
 pub(crate) fn position_at(page: &Page<'_>, place: Place) -> Option<Position>
-    ensures { IfSome result (IsPositionAt page.now.lines place) }
+    ensures some { IfSome result (IsPositionAt page.now.lines place) }
+    ensures none { IfNone result (¬ IsPlaceIn page.now.lines place) }
 {
     let columns = page.lines.columns(place)?;
     Some(Position {
@@ -32,7 +33,8 @@ pub(crate) fn position_at(page: &Page<'_>, place: Place) -> Option<Position>
 
 /// Returns the range from a place to the end of the mark there, if the place is in the source.
 fn range_at(page: &Page<'_>, place: Place) -> Option<Range>
-    ensures { IfSome result (λ range. IsRangeAt page.now.lines place range.start range.end) }
+    ensures some { IfSome result (λ range. IsRangeAt page.now.lines place range.start range.end) }
+    ensures none { IfNone result (¬ IsPlaceIn page.now.lines place) }
 {
     let start = position_at(page, place)?;
     let columns = page.lines.mark_end(place)?;
@@ -54,17 +56,18 @@ fn hint_in(alloc: Global, sentence: &str) -> Result<Option<String>, AllocError>
     }
 }
 
-/// Returns the message of a topic at a place of a source, as an object.
+/// Returns the message of a topic at a place of a source, as an object, or no text if the place isn't in the source.
 pub(crate) fn object(
     alloc: Global,
     page: &Page<'_>,
     place: Place,
     topic: &Topic<'_>,
-) -> Result<Vec<u8>, MessageFault>
-    ensures { IfOk result (λ text. IsObject page.now.file.now page.now.lines place (subject_of topic.now) text.items) }
+) -> Result<Vec<u8>, AllocError>
+    ensures { IfOk result (λ text. IsObject page.now.file.now page.now.lines place (subject_of topic.now) text.items
+        ⊎ ((text.items ≡ []) × (¬ IsPlaceIn page.now.lines place))) }
 {
     let Some(Range { start, end }) = range_at(page, place) else {
-        return Err(MessageFault::Place);
+        return Ok(Vec::new(alloc));
     };
     let file = String::from_utf8_lossy(alloc, page.file)?;
     let text = title(alloc, topic)?;

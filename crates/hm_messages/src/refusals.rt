@@ -1,13 +1,14 @@
 //! The messages of a refused set.
-ghost use Rattle.std.specs.Prelude.{◌≡◌, ◌-◌, ◌++◌, ℕ, List, [], IfOk, Option, false, map, option_map, slice_index_or, true};
+ghost use Rattle.std.specs.Prelude.{◌≡◌, ◌-◌, ◌<◌, ◌++◌, ℕ, List, [], All, IfOk, IfSome, IsErrOf, Option, false, length, map, option_map, slice_index_or, true};
 ghost use Rattle.hm_lex.specs.declared.token.Place.{Place};
 ghost use Rattle.hm_run_sources.specs.Origins.{AreLocated};
 ghost use Rattle.hm_run_sources.specs.Refusals.{lex, parse, plan};
 ghost use Rattle.hm_run_sources.specs.declared.located.Located.{Located as Row};
+ghost use Rattle.hm_messages.specs.Foreign.{HasNoMissing, HasSource, HasSourceFault, IsForeign, IsForeignPlan, IsOfNoSource};
 ghost use Rattle.hm_messages.specs.Pages.{files_in, texts_in};
 ghost use Rattle.hm_messages.specs.Messages.{AreEach};
 ghost use Rattle.hm_messages.specs.Missing.{import_of};
-ghost use Rattle.hm_messages.specs.Refused.{Way, AreFurtherTold, AreMessagesOf, AreRefusalMessages, HasTwinTold, IsAdvised, IsLexemeHintAt, IsMessageAt, IsMissingTold, IsTwinTold, IsWayTold};
+ghost use Rattle.hm_messages.specs.Refused.{Way, AreFurtherTold, AreMessagesOf, AreRefusalMessages, HasTwinTold, IsAdvised, IsMessageAt, IsMissingTold, IsTwinTold, IsWayTold, MayHint};
 ghost use Rattle.hm_messages.specs.Subjects.{cycle, missing, subject_of, twice};
 ghost use Rattle.hm_messages.specs.Twins.{IsTwinOf};
 
@@ -21,7 +22,7 @@ use hm_lex::{LexFault, Place};
 use hm_messages_hints::{Advice, LexemeHint, lexeme_hint, operator_in};
 use hm_parse_grammar::ParseFault;
 use hm_run_sources::{Located, SetError, SetFault, SetFaultKind, located_headers};
-use std::alloc::Global;
+use std::alloc::{AllocError, Global};
 
 /// The most modules of a set.
 const MODULE_LIMIT: usize = 4096;
@@ -34,17 +35,25 @@ struct Spot {
 }
 
 /// Returns the spot of a module's name.
-fn module_spot(located: &[Located], module: usize) -> Option<Spot> {
-    let here = located.get(module)?;
-    Some(Spot {
+fn module_spot(located: &[Located], number: usize) -> Spot
+    requires { number < length located.now }
+    ensures { (sources : List (List ℕ)) → AreLocated sources located.now → result.source < length sources }
+{
+    let here = &located[number];
+    Spot {
         source: here.source,
         place: here.header.name.place,
-    })
+    }
 }
 
 /// Returns the spot of the name in an import of a module.
-fn import_spot(located: &[Located], step: Step) -> Option<Spot> {
-    let here = located.get(step.module)?;
+fn import_spot(located: &[Located], step: Step) -> Option<Spot>
+    ensures { IfSome result (λ spot. (sources : List (List ℕ)) → AreLocated sources located.now → spot.source < length sources) }
+{
+    if step.module >= located.len() {
+        return None;
+    }
+    let here = &located[step.module];
     let import = here.header.imports.as_slice().get(step.import)?;
     Some(Spot {
         source: here.source,
@@ -58,15 +67,21 @@ fn message_at(
     pages: &Pages<'_>,
     spot: Spot,
     topic: &Topic<'_>,
-) -> Result<Vec<u8>, MessageFault>
+) -> Result<Vec<u8>, AllocError>
+    requires { spot.source < length (texts_in pages.now.items.items) }
     ensures { IfOk result (λ text. IsMessageAt pages.now.paint (files_in pages.now.items.items) (texts_in pages.now.items.items) spot.source
         spot.place (subject_of topic.now) text.items) }
 {
-    if spot.source >= pages.items.len() {
-        return Err(MessageFault::Place);
-    }
     let page = &pages.items[spot.source];
     Ok(message(alloc, pages.paint, page, spot.place, topic)?)
+}
+
+/// Returns whether a source has this number, counted from 1.
+fn has_source(pages: &Pages<'_>, source: usize) -> bool
+    ensures has { result ≡ true → HasSource (texts_in pages.now.items.items) source }
+    ensures hasnt { result ≡ false → ¬ (HasSource (texts_in pages.now.items.items) source) }
+{
+    source > 0 && source <= pages.items.len()
 }
 
 /// Returns the message of a topic at a place of a source, counted from 1.
@@ -76,13 +91,12 @@ fn source_messages(
     source: usize,
     place: Place,
     topic: &Topic<'_>,
-) -> Result<Vec<u8>, MessageFault>
+) -> Result<Vec<u8>, AllocError>
+    requires { HasSource (texts_in pages.now.items.items) source }
     ensures { IfOk result (λ text. IsMessageAt pages.now.paint (files_in pages.now.items.items) (texts_in pages.now.items.items) (source - 1)
         place (subject_of topic.now) text.items) }
 {
-    let Some(source) = source.checked_sub(1) else {
-        return Err(MessageFault::Place);
-    };
+    let source = source - 1;
     Ok(message_at(alloc, pages, Spot { source, place }, topic)?)
 }
 
@@ -93,26 +107,20 @@ struct LexemeAdvice<'a> {
     name: &'a str,
 }
 
-/// Returns the hint at a place of a source, counted from 1, where no lexeme begins.
-fn lexeme_advice<'a>(
-    pages: &Pages<'a>,
-    source: usize,
-    place: Place,
-) -> Result<LexemeAdvice<'a>, MessageFault>
-    ensures { IfOk result (λ a. IsLexemeHintAt (slice_index_or (texts_in pages.now.items.items) (source - 1) []) place a.hint a.name.now) }
+/// Returns the hint at a place of a source, counted from 1, where no lexeme begins. It says nothing about a place that isn't in the source.
+fn lexeme_advice<'a>(pages: &Pages<'a>, source: usize, place: Place) -> LexemeAdvice<'a>
+    requires { HasSource (texts_in pages.now.items.items) source }
+    ensures { MayHint (slice_index_or (texts_in pages.now.items.items) (source - 1) []) place result.hint result.name.now }
 {
-    let Some(source) = source.checked_sub(1) else {
-        return Err(MessageFault::Place);
-    };
-    if source >= pages.items.len() {
-        return Err(MessageFault::Place);
-    }
-    let Some(excerpt) = pages.items[source].lines.excerpt(place) else {
-        return Err(MessageFault::Place);
+    let Some(excerpt) = pages.items[source - 1].lines.excerpt(place) else {
+        return LexemeAdvice {
+            hint: LexemeHint::NoText,
+            name: "",
+        };
     };
     let hint = lexeme_hint(excerpt.right);
     let name = operator_in(excerpt.right, hint);
-    Ok(LexemeAdvice { hint, name })
+    LexemeAdvice { hint, name }
 }
 
 /// Returns the message of the lexical fault of a source, counted from 1.
@@ -121,7 +129,8 @@ fn lex_messages(
     pages: &Pages<'_>,
     source: usize,
     fault: LexFault,
-) -> Result<Vec<u8>, MessageFault>
+) -> Result<Vec<u8>, AllocError>
+    requires { HasSource (texts_in pages.now.items.items) source }
     ensures { IfOk result (λ text. AreRefusalMessages pages.now.paint (files_in pages.now.items.items) (texts_in pages.now.items.items)
         (lex source fault) 1 text.items) }
 {
@@ -131,7 +140,7 @@ fn lex_messages(
             Ok(source_messages(alloc, pages, source, place, &Topic::TooLong)?)
         }
         LexFault::Lexeme(place) => {
-            let LexemeAdvice { hint, name } = lexeme_advice(pages, source, place)?;
+            let LexemeAdvice { hint, name } = lexeme_advice(pages, source, place);
             Ok(source_messages(alloc, pages, source, place, &Topic::Lexeme(hint, name))?)
         }
         LexFault::OpenComment(place) => Ok(source_messages(
@@ -148,7 +157,7 @@ fn lex_messages(
             place,
             &Topic::TooDeep,
         )?),
-        LexFault::Memory => Err(MessageFault::Memory),
+        LexFault::Memory => Err(AllocError),
     }
 }
 
@@ -159,8 +168,9 @@ fn parse_messages(
     source: usize,
     fault: ParseFault,
     advice: Advice<'_>,
-) -> Result<Vec<u8>, MessageFault>
-    requires { IsAdvised (texts_in pages.now.items.items) (parse source fault) advice.hint advice.text.now }
+) -> Result<Vec<u8>, AllocError>
+    requires inside { HasSource (texts_in pages.now.items.items) source }
+    requires advised { IsAdvised (texts_in pages.now.items.items) (parse source fault) advice.hint advice.text.now }
     ensures { IfOk result (λ text. AreRefusalMessages pages.now.paint (files_in pages.now.items.items) (texts_in pages.now.items.items)
         (parse source fault) 1 text.items) }
 {
@@ -172,7 +182,7 @@ fn parse_messages(
             place,
             &Topic::Syntax(advice),
         )?),
-        ParseFault::Memory => Err(MessageFault::Memory),
+        ParseFault::Memory => Err(AllocError),
     }
 }
 
@@ -184,28 +194,63 @@ struct Refused<'a> {
     import: &'a str,
 }
 
-/// Returns the first line of the message of a step in a cycle.
+/// Returns the first line of the message of a step in a cycle, or no text if there is no such import.
 fn step_line(
     alloc: Global,
     pages: &Pages<'_>,
     located: &[Located],
     step: Step,
-) -> Result<Vec<u8>, MessageFault>
-    ensures { IfOk result (λ text. (way : Way) × IsWayTold pages.now.paint (files_in pages.now.items.items) (texts_in pages.now.items.items) way text.items) }
+) -> Result<Vec<u8>, AllocError>
+    requires { AreLocated (texts_in pages.now.items.items) located.now }
+    ensures { IfOk result (λ text. (ways : List Way)
+        × AreEach (IsWayTold pages.now.paint (files_in pages.now.items.items) (texts_in pages.now.items.items)) ways text.items) }
 {
     let Some(spot) = import_spot(located, step) else {
-        return Err(MessageFault::Place);
+        return Ok(Vec::new(alloc));
     };
-    if spot.source >= pages.items.len() || step.module >= located.len() {
-        return Err(MessageFault::Place);
+    if step.module >= located.len() {
+        return Ok(Vec::new(alloc));
     }
     let header = &located[step.module].header;
     let Some(import) = header.imports.as_slice().get(step.import) else {
-        return Err(MessageFault::Place);
+        return Ok(Vec::new(alloc));
     };
     let topic = Topic::Step(header.name.as_str(), import.name.as_str());
     let page = &pages.items[spot.source];
     Ok(heading_at(alloc, pages.paint, page, spot.place, &topic)?)
+}
+
+/// Returns a line for each step in a cycle.
+fn step_lines(
+    alloc: Global,
+    pages: &Pages<'_>,
+    located: &[Located],
+    steps: &[Step],
+) -> Result<Vec<u8>, AllocError>
+    requires { AreLocated (texts_in pages.now.items.items) located.now }
+    ensures { IfOk result (λ text. (ways : List Way)
+        × AreEach (IsWayTold pages.now.paint (files_in pages.now.items.items) (texts_in pages.now.items.items)) ways text.items) }
+{
+    let mut text = Vec::new(alloc);
+    for step in steps {
+        let line = step_line(alloc, pages, located, *step)?;
+        text.extend_from_slice(line.as_slice())?;
+    }
+    Ok(text)
+}
+
+/// Returns the spot of the first import of a cycle. Without one it is that of the module's name.
+fn cycle_spot(located: &[Located], steps: &[Step], start: usize) -> Spot
+    requires { start < length located.now }
+    ensures { (sources : List (List ℕ)) → AreLocated sources located.now → result.source < length sources }
+{
+    let Some(first) = steps.first() else {
+        return module_spot(located, start);
+    };
+    match import_spot(located, *first) {
+        Some(spot) => spot,
+        None => module_spot(located, start),
+    }
 }
 
 /// Returns the messages of a cycle: one at its first import, and then a line for each import.
@@ -215,22 +260,17 @@ fn cycle_messages(
     located: &[Located],
     start: usize,
     name: &str,
-) -> Result<Vec<u8>, MessageFault>
+) -> Result<Vec<u8>, AllocError>
+    requires located { AreLocated (texts_in pages.now.items.items) located.now }
+    requires inside { start < length located.now }
     ensures { IfOk result (λ text. (number : ℕ) × (place : Place) × AreMessagesOf pages.now.paint (files_in pages.now.items.items) (texts_in pages.now.items.items)
         number place (cycle name.now) text.items) }
 {
     let steps = cycle_of(alloc, located, start)?;
-    let Some(first) = steps.first() else {
-        return Err(MessageFault::Place);
-    };
-    let Some(spot) = import_spot(located, *first) else {
-        return Err(MessageFault::Place);
-    };
+    let spot = cycle_spot(located, steps.as_slice(), start);
     let mut text = message_at(alloc, pages, spot, &Topic::Cycle(name))?;
-    for step in &steps {
-        let line = step_line(alloc, pages, located, *step)?;
-        text.extend_from_slice(line.as_slice())?;
-    }
+    let lines = step_lines(alloc, pages, located, steps.as_slice())?;
+    text.extend_from_slice(lines.as_slice())?;
     Ok(text)
 }
 
@@ -260,7 +300,8 @@ fn twin_note(
     pages: &Pages<'_>,
     earlier: &[Located],
     name: &str,
-) -> Result<Vec<u8>, MessageFault>
+) -> Result<Vec<u8>, AllocError>
+    requires { All (λ l. l.source < length (texts_in pages.now.items.items)) earlier.now }
     ensures { IfOk result (λ text. (twin : Option Row) × IsTwinOf name.now earlier.now twin
         × IsTwinTold pages.now.paint (files_in pages.now.items.items) (texts_in pages.now.items.items) name.now twin text.items) }
 {
@@ -281,21 +322,15 @@ fn twice_messages(
     located: &[Located],
     number: usize,
     name: &str,
-) -> Result<Vec<u8>, MessageFault>
-    requires { AreLocated (texts_in pages.now.items.items) located.now }
+) -> Result<Vec<u8>, AllocError>
+    requires located { AreLocated (texts_in pages.now.items.items) located.now }
+    requires inside { number < length located.now }
     ensures { IfOk result (λ text. (at : ℕ) × (place : Place) × (first : List ℕ) × (behind : List ℕ)
         × IsMessageAt pages.now.paint (files_in pages.now.items.items) (texts_in pages.now.items.items) at place (twice name.now) first
         × HasTwinTold pages.now.paint (files_in pages.now.items.items) (texts_in pages.now.items.items) number name.now behind
         × (text.items ≡ first ++ behind)) }
 {
-    if number >= located.len() {
-        return Err(MessageFault::Place);
-    }
-    let here = &located[number];
-    let spot = Spot {
-        source: here.source,
-        place: here.header.name.place,
-    };
+    let spot = module_spot(located, number);
     let mut text = message_at(alloc, pages, spot, &Topic::Twice(name))?;
     let note = twin_note(alloc, pages, &located[..number], name)?;
     text.extend_from_slice(note.as_slice())?;
@@ -314,7 +349,8 @@ fn missing_message(
     alloc: Global,
     pages: &Pages<'_>,
     import: &MissingImport<'_>,
-) -> Result<Vec<u8>, MessageFault>
+) -> Result<Vec<u8>, AllocError>
+    requires { import.now.source < length (texts_in pages.now.items.items) }
     ensures { IfOk result (λ text. IsMissingTold pages.now.paint (files_in pages.now.items.items) (texts_in pages.now.items.items) (import_of import.now)
         text.items) }
 {
@@ -330,7 +366,8 @@ fn further_messages(
     alloc: Global,
     pages: &Pages<'_>,
     imports: &[MissingImport<'_>],
-) -> Result<Vec<u8>, MessageFault>
+) -> Result<Vec<u8>, AllocError>
+    requires { All (λ i. i.source < length (texts_in pages.now.items.items)) imports.now }
     ensures { IfOk result (λ text. AreEach (λ i t. IsMissingTold pages.now.paint (files_in pages.now.items.items) (texts_in pages.now.items.items) (import_of i) t)
         imports.now text.items) }
 {
@@ -342,6 +379,14 @@ fn further_messages(
     Ok(text)
 }
 
+/// Returns whether an import has this name.
+fn is_named(import: &MissingImport<'_>, name: &str) -> bool
+    ensures has { result ≡ true → import.now.name.now ≡ name.now }
+    ensures hasnt { result ≡ false → ¬ (import.now.name.now ≡ name.now) }
+{
+    import.name == name
+}
+
 /// Returns the messages of all imports that name no module. Fails unless the first of them has this name.
 fn missing_messages(
     alloc: Global,
@@ -350,17 +395,18 @@ fn missing_messages(
     name: &str,
 ) -> Result<Messages, MessageFault>
     requires { AreLocated (texts_in pages.now.items.items) located.now }
-    ensures { IfOk result (λ told. (number : ℕ) × (place : Place) × (first : List ℕ) × (behind : List ℕ)
+    ensures ok { IfOk result (λ told. (number : ℕ) × (place : Place) × (first : List ℕ) × (behind : List ℕ)
         × IsMessageAt pages.now.paint (files_in pages.now.items.items) (texts_in pages.now.items.items) number place (missing name.now) first
         × AreFurtherTold pages.now.paint (files_in pages.now.items.items) (texts_in pages.now.items.items) (record { number = number; place = place; name = name.now }) told.errors behind
         × (told.text.items ≡ first ++ behind)) }
+    ensures foreign { IsErrOf result MessageFault.Foreign → HasNoMissing (texts_in pages.now.items.items) name.now }
 {
     let imports = missing_imports(alloc, located)?;
     let Some((first, more)) = imports.as_slice().split_first() else {
-        return Err(MessageFault::Place);
+        return Err(MessageFault::Foreign);
     };
-    if first.name != name {
-        return Err(MessageFault::Place);
+    if !is_named(first, name) {
+        return Err(MessageFault::Foreign);
     }
     let mut text = missing_message(alloc, pages, first)?;
     let further = further_messages(alloc, pages, more)?;
@@ -377,25 +423,33 @@ fn plan_messages(
     refused: &Refused<'_>,
 ) -> Result<Messages, MessageFault>
     requires { AreLocated (texts_in pages.now.items.items) located.now }
-    ensures { IfOk result (λ told. AreRefusalMessages pages.now.paint (files_in pages.now.items.items) (texts_in pages.now.items.items)
+    ensures ok { IfOk result (λ told. AreRefusalMessages pages.now.paint (files_in pages.now.items.items) (texts_in pages.now.items.items)
         (plan refused.now.fault refused.now.module.now refused.now.import.now) told.errors told.text.items) }
+    ensures foreign { IsErrOf result MessageFault.Foreign → IsForeignPlan (texts_in pages.now.items.items) refused.now.fault refused.now.import.now }
 {
     let name = refused.module;
     let errors = 1;
     match refused.fault {
         PlanFault::TooMany => {
-            let Some(spot) = module_spot(located, MODULE_LIMIT) else {
-                return Err(MessageFault::Place);
-            };
+            if MODULE_LIMIT >= located.len() {
+                return Err(MessageFault::Foreign);
+            }
+            let spot = module_spot(located, MODULE_LIMIT);
             let text = message_at(alloc, pages, spot, &Topic::TooMany)?;
             Ok(Messages { text, errors })
         }
         PlanFault::Duplicate { module } => {
+            if module >= located.len() {
+                return Err(MessageFault::Foreign);
+            }
             let text = twice_messages(alloc, pages, located, module, name)?;
             Ok(Messages { text, errors })
         }
-        PlanFault::Missing { .. } => Ok(missing_messages(alloc, pages, located, refused.import)?),
+        PlanFault::Missing { .. } => missing_messages(alloc, pages, located, refused.import),
         PlanFault::Cycle { module } => {
+            if module >= located.len() {
+                return Err(MessageFault::Foreign);
+            }
             let text = cycle_messages(alloc, pages, located, module, name)?;
             Ok(Messages { text, errors })
         }
@@ -408,14 +462,15 @@ fn plan_messages(
 ///
 /// # Errors
 ///
-/// `Place` if a source can't be read, and `Memory` if memory ran out.
+/// `Foreign` if a source can't be read, and `Memory` if memory ran out.
 pub fn headers_in(alloc: Global, sources: &[Vec<u8>]) -> Result<Vec<Located>, MessageFault>
-    ensures { IfOk result (λ located. AreLocated (map (λ s. s.items) sources.now) located.items) }
+    ensures ok { IfOk result (λ located. AreLocated (map (λ s. s.items) sources.now) located.items) }
+    ensures foreign { IsErrOf result MessageFault.Foreign → HasSourceFault (map (λ s. s.items) sources.now) }
 {
     match located_headers(alloc, sources) {
         Ok(located) => Ok(located),
         Err(SetError::Memory) => Err(MessageFault::Memory),
-        Err(SetError::Refused(_)) => Err(MessageFault::Place),
+        Err(SetError::Refused(_)) => Err(MessageFault::Foreign),
     }
 }
 
@@ -425,7 +480,7 @@ pub fn headers_in(alloc: Global, sources: &[Vec<u8>]) -> Result<Vec<Located>, Me
 ///
 /// # Errors
 ///
-/// `Place` if the fault has no place in the sources or is one of the plan, and `Memory` if memory ran out.
+/// `Foreign` if no source has the fault's number or the fault is one of the plan, and `Memory` if memory ran out.
 pub fn source_message(
     alloc: Global,
     pages: &Pages<'_>,
@@ -433,15 +488,43 @@ pub fn source_message(
     advice: Advice<'_>,
 ) -> Result<Vec<u8>, MessageFault>
     requires advised { IsAdvised (texts_in pages.now.items.items) fault.now advice.hint advice.text.now }
-    ensures { IfOk result (λ text. AreRefusalMessages pages.now.paint (files_in pages.now.items.items) (texts_in pages.now.items.items)
+    ensures ok { IfOk result (λ text. AreRefusalMessages pages.now.paint (files_in pages.now.items.items) (texts_in pages.now.items.items)
         fault.now 1 text.items) }
+    ensures foreign { IsErrOf result MessageFault.Foreign → IsOfNoSource (texts_in pages.now.items.items) fault.now }
 {
     match &fault.kind {
-        SetFaultKind::Lex { source, fault } => Ok(lex_messages(alloc, pages, *source, *fault)?),
-        SetFaultKind::Parse { source, fault } => Ok(parse_messages(
-            alloc, pages, *source, *fault, advice,
-        )?),
-        SetFaultKind::Plan { .. } => Err(MessageFault::Place),
+        SetFaultKind::Lex { source, fault } => {
+            if !has_source(pages, *source) {
+                return Err(MessageFault::Foreign);
+            }
+            Ok(lex_messages(alloc, pages, *source, *fault)?)
+        }
+        SetFaultKind::Parse { source, fault } => {
+            if !has_source(pages, *source) {
+                return Err(MessageFault::Foreign);
+            }
+            Ok(parse_messages(alloc, pages, *source, *fault, advice)?)
+        }
+        SetFaultKind::Plan { .. } => Err(MessageFault::Foreign),
+    }
+}
+
+/// Returns the messages of the fault of a plan.
+fn planned_messages(
+    alloc: Global,
+    pages: &Pages<'_>,
+    sources: &[Vec<u8>],
+    refused: &Refused<'_>,
+) -> Result<Messages, MessageFault>
+    requires { texts_in pages.now.items.items ≡ map (λ s. s.items) sources.now }
+    ensures ok { IfOk result (λ told. AreRefusalMessages pages.now.paint (files_in pages.now.items.items) (texts_in pages.now.items.items)
+        (plan refused.now.fault refused.now.module.now refused.now.import.now) told.errors told.text.items) }
+    ensures foreign { IsErrOf result MessageFault.Foreign → IsForeign (texts_in pages.now.items.items)
+        (plan refused.now.fault refused.now.module.now refused.now.import.now) }
+{
+    match headers_in(alloc, sources) {
+        Ok(located) => plan_messages(alloc, pages, located.as_slice(), refused),
+        Err(fault) => Err(fault),
     }
 }
 
@@ -451,7 +534,7 @@ pub fn source_message(
 ///
 /// # Errors
 ///
-/// `Place` if the fault has no place in the sources, and `Memory` if memory ran out.
+/// `Foreign` if the fault isn't one of these sources, and `Memory` if memory ran out.
 pub fn refusal_messages(
     alloc: Global,
     pages: &Pages<'_>,
@@ -461,8 +544,9 @@ pub fn refusal_messages(
 ) -> Result<Messages, MessageFault>
     requires advised { IsAdvised (texts_in pages.now.items.items) fault.now advice.hint advice.text.now }
     requires texts { texts_in pages.now.items.items ≡ map (λ s. s.items) sources.now }
-    ensures { IfOk result (λ told. AreRefusalMessages pages.now.paint (files_in pages.now.items.items) (texts_in pages.now.items.items)
+    ensures ok { IfOk result (λ told. AreRefusalMessages pages.now.paint (files_in pages.now.items.items) (texts_in pages.now.items.items)
         fault.now told.errors told.text.items) }
+    ensures foreign { IsErrOf result MessageFault.Foreign → IsForeign (texts_in pages.now.items.items) fault.now }
 {
     let SetFaultKind::Plan {
         fault: kind,
@@ -470,14 +554,15 @@ pub fn refusal_messages(
         import,
     } = &fault.kind
     else {
-        let text = source_message(alloc, pages, fault, advice)?;
-        return Ok(Messages { text, errors: 1 });
+        return match source_message(alloc, pages, fault, advice) {
+            Ok(text) => Ok(Messages { text, errors: 1 }),
+            Err(fault) => Err(fault),
+        };
     };
-    let located = headers_in(alloc, sources)?;
     let refused = Refused {
         fault: *kind,
         module: module.as_str(),
         import: import.as_str(),
     };
-    Ok(plan_messages(alloc, pages, located.as_slice(), &refused)?)
+    planned_messages(alloc, pages, sources, &refused)
 }

@@ -23,6 +23,8 @@ pub enum Way {
     Pattern(Place),
     /// An exchange of the expression with the one that begins here.
     Exchange(Place),
+    /// Nothing in place of the expression, up to this place.
+    Removal(Place),
 }
 
 /// The two types of a part of a definition.

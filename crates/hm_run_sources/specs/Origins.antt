@@ -1,5 +1,5 @@
 -- The source of each module.
-use Rattle.std.specs.Prelude.{◌≡◌, ℕ, ◌+◌, ◌<◌, ◌≤◌, List, [], length, take, slice_index_or}
+use Rattle.std.specs.Prelude.{◌≡◌, ℕ, ◌+◌, ◌<◌, ◌≤◌, List, [], length, map, take, slice_index_or}
 use Rattle.hm_syntax.specs.declared.ast.Module.{Module}
 use Rattle.hm_run_sources.specs.SourceModules.{AreModulesOf, HasModules}
 use Rattle.hm_run_sources.specs.declared.located.Located.{Located}
@@ -14,9 +14,10 @@ pub record IsSpelledBy (sources : List (List ℕ)) (m source : ℕ) : Type 0 whe
   pub low : length earlier ≤ m
   pub high : m < length earlier + length own
 
--- each listed module has its source
+-- the headers of the modules of these sources, each with its source
 pub record AreLocated (sources : List (List ℕ)) (located : List Located) : Type 0 where
   pub modules : List Module
   pub read : AreModulesOf sources modules
   pub as_many : length located ≡ length modules
+  pub headers : map (λ l. l.header) located ≡ map (λ m. m.header) modules
   pub each : (m : ℕ) (d : Located) → m < length located → IsSpelledBy sources m (slice_index_or located m d).source

@@ -22,7 +22,7 @@ fn add_headers(
     modules: Vec<Module>,
     source: usize,
 ) -> Result<(), AllocError>
-    ensures { OnOk result ((tail : List Row) × (located.new.items ≡ located.old.items ++ tail) × (length tail ≡ length modules.items)
+    ensures { OnOk result ((tail : List Row) × (located.new.items ≡ located.old.items ++ tail) × (map (λ l. l.header) tail ≡ map (λ m. m.header) modules.items)
         × All (λ l. l.source ≡ source) tail) }
 {
     for module in modules {

@@ -1,10 +1,10 @@
 //! Single messages: file names that aren't UTF-8, standard input, colours, and bytes before a place that aren't in a character.
 use hm_lex::Place;
-use hm_messages::{MessageFault, Paint, Topic, message, pages_of};
+use hm_messages::{Paint, Topic, message, pages_of};
 use std::alloc::{AllocError, Global};
 use std::test::Fail;
 
-/// Returns the message of an unknown name at a place of the first line of a source, if it has one.
+/// Returns the message of an unknown name at a place of the first line of a source, or no text if the place isn't there.
 fn told(
     alloc: Global,
     paint: Paint,
@@ -17,11 +17,7 @@ fn told(
     let pages = pages_of(alloc, paint, sources.as_slice(), names, &[])?;
     let place = Place { line: 1, column };
     let topic = Topic::Missing("N");
-    match message(alloc, paint, &pages.items[0], place, &topic) {
-        Ok(text) => Ok(text),
-        Err(MessageFault::Memory) => Err(AllocError),
-        Err(MessageFault::Place) => Ok(Vec::new(alloc)),
-    }
+    Ok(message(alloc, paint, &pages.items[0], place, &topic)?)
 }
 
 #[test]

@@ -22,8 +22,8 @@ returns c =
     let text : List ℕ = c.in_ok-message.field-0.items in
     let told : IsMessage c.in_ok-pages.pages.paint page.file.now page.lines place (exhausted name) text = c.in_ok-message.ensures in
     record {
-      modules = c.in_ok-located.ensures.modules;
-      read = c.in_ok-located.ensures.read;
+      modules = c.in_ok-located.ensures.ok.modules;
+      read = c.in_ok-located.ensures.ok.read;
       number = c.args.number;
       within = search rules;
       source = source;

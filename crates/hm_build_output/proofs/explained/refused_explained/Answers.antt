@@ -10,4 +10,4 @@ returns-clause-run c workers because =
 pub returns-clause-told : goal.returns-clause-told
 returns-clause-told c because =
     let a = c.in_ok-answer.answer in
-    all_refused c.args.wanted.now.explain (map (λ s. s.items) c.args.sources.now) a.status (string_bytes a.text) c.in_ok-messages.messages.items c.in_ok-answer.ensures.status (c.in_ok-messages.ensures because)
+    all_refused c.args.wanted.now.explain (map (λ s. s.items) c.args.sources.now) a.status (string_bytes a.text) c.in_ok-messages.messages.items c.in_ok-answer.ensures.status (c.in_ok-messages.ensures.ok because)

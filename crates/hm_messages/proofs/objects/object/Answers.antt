@@ -1,4 +1,4 @@
-use Rattle.std.proofs.Common.{rules, ◌≡◌, option_map, string_bytes, subst}
+use Rattle.std.proofs.Common.{rules, ◌≡◌, inl, option_map, string_bytes, subst}
 use Rattle.hm_messages_json.specs.declared.message.Message.{Message}
 use Rattle.hm_messages.specs.Messages.{IsHint}
 use Rattle.hm_messages.specs.Sentences.{sentence}
@@ -26,7 +26,7 @@ returns c =
       | in-Some-hint w ↦ search rules
       | in-None w ↦ search rules
     ] in
-    record {
+    inl (record {
       message = told;
       file_is = search rules;
       range = search rules;
@@ -41,4 +41,4 @@ returns c =
         hint_is = subst (IsHint (sentence (subject_of c.args.topic.now))) hint_same (search rules);
       };
       says = search rules;
-    }
+    })

@@ -1,11 +1,25 @@
 use Rattle.std.proofs.Common.{rules, ◌≡◌, ◌++◌}
-use Rattle.hm_messages.proofs.Ways.{way_more}
+use Rattle.hm_messages.specs.Pages.{texts_in}
 use Rattle.hm_messages.proofs.refusals.cycle_messages.Goals as goal
 
-pub loop-step-preserved : goal.loop-step-preserved
-loop-step-preserved c =
-    let way = c.in_ok-line.ensures in
-    let line = c.in_ok-line.line.items in
-    let told = c.loop-step.invariant in
-    let pushed : c.extend_from_slice.new.self.items ≡ c.loop-step.text.items ++ line = search rules in
-    (told.0, told.1, way_more _ _ _ _ _ _ c.loop-step.text.items c.extend_from_slice.new.self.items line way.0 told.2 way.1 pushed)
+pub message_at-requires : goal.message_at-requires
+message_at-requires c = c.cycle_spot-spot.ensures (texts_in c.args.pages.now.items.items) c.requires.located
+
+pub returns : goal.returns
+returns c =
+    let spot = c.cycle_spot-spot.result in
+    let first = c.in_ok-text.text.items in
+    let lines = c.in_ok-lines.lines.items in
+    let whole : c.extend_from_slice.new.self.items ≡ first ++ lines = search rules in
+    let ways = c.in_ok-lines.ensures in (
+      spot.source,
+      spot.place,
+      record {
+        first = first;
+        told = c.in_ok-text.ensures;
+        ways = ways.0;
+        lines = lines;
+        steps = ways.1;
+        whole = whole;
+      },
+    )

@@ -1,15 +1,35 @@
-use Rattle.std.proofs.Common.{rules, ◌≡◌, ◌∷◌, ◌++◌, ◌∙◌, ℕ, List, ap, arith, length, map, subst, sym}
+use Rattle.std.proofs.Common.{rules, ◌≡◌, ◌∷◌, ◌++◌, ◌∙◌, ◌<◌, ℕ, List, All, ap, arith, length, map, subst, sym}
 use Rattle.std.proofs.lemmas.List.{length-map}
+use Rattle.std.proofs.lemmas.List.Elements.{All-head, All-tail}
 use Rattle.hm_messages.specs.Missing.{import_of}
 use Rattle.hm_messages.specs.Pages.{files_in, texts_in}
 use Rattle.hm_messages.specs.Refused.{IsMessageAt, IsMissingTold}
 use Rattle.hm_messages.specs.Subjects.{missing}
 use Rattle.hm_messages.specs.declared.missing.MissingImport.{MissingImport}
 use Rattle.hm_messages.proofs.InOrder.{each_mapped}
+use Rattle.hm_messages.proofs.Sourced.{found_inside}
 use Rattle.hm_messages.proofs.refusals.missing_messages.Goals as goal
 
-pub returns : goal.returns
-returns c =
+-- the import is in one of these sources
+abbrev IsInside : List (List ℕ) → MissingImport → Type 0
+IsInside texts i = i.source < length texts
+
+pub missing_message-requires : goal.missing_message-requires
+missing_message-requires c =
+    let texts = texts_in c.args.pages.now.items.items in
+    let imports : List MissingImport = c.in_ok-imports.imports.items in
+    let parts : imports ≡ c.in-Some.first.now ∷ c.in-Some.more.now = search rules in
+    All-head (IsInside texts) c.in-Some.first.now c.in-Some.more.now (subst (All (IsInside texts)) parts (found_inside texts c.args.located.now imports c.requires c.in_ok-imports.ensures))
+
+pub further_messages-requires : goal.further_messages-requires
+further_messages-requires c =
+    let texts = texts_in c.args.pages.now.items.items in
+    let imports : List MissingImport = c.in_ok-imports.imports.items in
+    let parts : imports ≡ c.in-Some.first.now ∷ c.in-Some.more.now = search rules in
+    All-tail (IsInside texts) c.in-Some.first.now c.in-Some.more.now (subst (All (IsInside texts)) parts (found_inside texts c.args.located.now imports c.requires c.in_ok-imports.ensures))
+
+pub returns-clause-ok : goal.returns-clause-ok
+returns-clause-ok c =
     let pages = c.args.pages.now in
     let paint = pages.paint in
     let files = files_in pages.items.items in

@@ -1,6 +1,7 @@
 use Rattle.std.proofs.Common.{rules, ◌≡◌, ◌<◌, ◌+◌, List, ℕ, [], map, length, take, get_or, sym, ap, subst, ◌∙◌}
 use Rattle.std.proofs.lemmas.List.{get_or-map, length-map, take-map}
 use Rattle.std.proofs.lemmas.Result.{err_from_is_err_and}
+use Rattle.hm_syntax.specs.declared.ast.Module.{Module}
 use Rattle.hm_run_sources.specs.Errors.{IsSourceError}
 use Rattle.hm_run_sources.specs.SourceModules.{AreModulesOf, HasModules}
 use Rattle.hm_run_sources.proofs.Origins.{located_more}
@@ -19,7 +20,7 @@ loop-source-preserved c =
     let inside : source < length texts = subst (λ n. source < n) (sym (length-map c.args.sources.now (λ s. s.items))) within in
     let tail = c.in-Ok.ensures in
     let own : c.add_modules.new.modules.items ≡ ok.0 = search rules in
-    located_more texts source c.loop-source.located.items c.add_headers.new.located.items tail.0 ok.0 inside c.loop-source.invariant (subst (λ l. HasModules l ok.0) text ok.1) tail.1 (tail.2 ∙ ap length own) tail.3
+    located_more texts source c.loop-source.located.items c.add_headers.new.located.items tail.0 ok.0 inside c.loop-source.invariant (subst (λ l. HasModules l ok.0) text ok.1) tail.1 (tail.2 ∙ ap (map (λ (m : Module). m.header)) own) tail.3
 
 -- the fault of this source is the first
 pub returns-in_err-add_modules-clause-err : goal.returns-in_err-add_modules-clause-err
