@@ -12,7 +12,7 @@ use hm_build_stages::drop_by_threads;
 use hm_messages::MessageFault;
 use hm_run_io::RunFault;
 use hm_run_sources::{Nesting, Trees};
-use std::alloc::Global;
+use std::alloc::{AllocError, Global};
 use std::mem;
 use std::sync::Wait;
 use std::thread::Threads;
@@ -23,6 +23,17 @@ pub(crate) struct Unanswered {
     pub fault: RunFault,
     /// Names the module whose check ran out of memory.
     pub message: Option<Vec<u8>>,
+}
+
+impl From<AllocError> for Unanswered {
+    ghost use Rattle.std.specs.Prelude.{◌≡◌, None};
+    ghost use Rattle.hm_run_io.specs.declared.faults.RunFault.TheVariants.{Memory};
+
+    ghost from_gives = { λ _ unanswered. (unanswered.fault ≡ Memory) × (unanswered.message ≡ None) };
+
+    fn from(_error: AllocError) -> Unanswered {
+        Unanswered::of(RunFault::Memory)
+    }
 }
 
 impl From<MessageFault> for Unanswered {
@@ -92,7 +103,8 @@ pub(crate) fn build_answer<'a, T: Threads + Wait + Sync>(
     };
     match build_here(rt, alloc, sources, task) {
         Ok(finished) => {
-            let explained = finished_explained(alloc, &finished.store, sources, wanted)?;
+            let counts = finished.counts.as_slice();
+            let explained = finished_explained(alloc, &finished.store, counts, sources, wanted)?;
             let_go(rt, alloc, finished, wanted.options, nesting);
             Ok(explained)
         }

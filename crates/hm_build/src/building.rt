@@ -5,6 +5,7 @@ ghost use Rattle.hm_build_stages.specs.Errors.{IsBuildError, IsBuildFault};
 ghost use Rattle.hm_build_reports.specs.FinishedBuilds.{IsFinished};
 ghost use Rattle.hm_build.specs.Headline.{HasVerdicts};
 ghost use Rattle.hm_build.specs.Workers.{IsWorkError};
+ghost use Rattle.hm_run_sources.specs.ModuleCounts.{AreCountedModules};
 ghost use Rattle.hm_run_sources.specs.SourceModules.{AreModulesOf};
 
 use crate::limits::type_limits;
@@ -69,11 +70,14 @@ fn worked<L: Ledger + Naming + Send + Sync, G: Gate + Sync, R: Threads + Wait + 
     requires empty { fresh.store.journal ≡ [] }
     ensures finished { IfOk result (λ f. (sources : List (List ℕ)) → AreModulesOf sources (map arc_value fresh.modules.items)
         → IsFinished sources task.now.workers f.store f.records.items) }
+    ensures counted { IfOk result (λ f. (sources : List (List ℕ)) → AreCountedModules sources (map arc_value fresh.modules.items) fresh.counts.items
+        → AreCountedModules sources f.store.modules f.counts.items) }
     ensures err { IfErr result (IsWorkError (length fresh.modules.items)) }
 {
     let Fresh {
         modules,
         imports,
+        counts,
         store,
         prelude,
     } = fresh;
@@ -99,7 +103,7 @@ fn worked<L: Ledger + Naming + Send + Sync, G: Gate + Sync, R: Threads + Wait + 
     }
     let (store, _book) = shared.into_store();
     let records = records_of(alloc, passes)?;
-    finished(alloc, store, records, workers)
+    finished(alloc, store, records, counts, workers)
 }
 
 /// Builds the modules of sources on this thread, whose stack must be large enough. `build` and `run` both call it.
@@ -111,6 +115,7 @@ pub(crate) fn build_here<T: Threads + Wait + Sync, G: Gate + Sync>(
 ) -> Result<Finished, BuildFault>
     requires { (0 < task.workers) × (task.workers ≤ 16) }
     ensures finished { IfOk result (λ f. IsFinished (map (λ s. s.items) sources.now) task.entry.workers f.store f.records.items) }
+    ensures counted { IfOk result (λ f. AreCountedModules (map (λ s. s.items) sources.now) f.store.modules f.counts.items) }
     ensures verdicts { IfOk result (λ f. HasVerdicts f.store) }
     ensures err { IfErr result (IsBuildError (map (λ s. s.items) sources.now)) }
 {
@@ -140,8 +145,9 @@ impl Promise<Result<Finished, BuildFault>> for BuildOf {
     ghost use Rattle.hm_build_stages.specs.Errors.{IsBuildError};
     ghost use Rattle.hm_build_reports.specs.FinishedBuilds.{IsFinished};
     ghost use Rattle.hm_build.specs.Headline.{HasVerdicts};
+    ghost use Rattle.hm_run_sources.specs.ModuleCounts.{AreCountedModules};
 
-    ghost kept_by = { λ p r. IfOk r (λ f. IsFinished (map (λ s. s.items) p.sources.value.items) p.workers f.store f.records.items) × (IfOk r (λ f. HasVerdicts f.store) × IfErr r (IsBuildError (map (λ s. s.items) p.sources.value.items))) };
+    ghost kept_by = { λ p r. IfOk r (λ f. IsFinished (map (λ s. s.items) p.sources.value.items) p.workers f.store f.records.items) × (IfOk r (λ f. AreCountedModules (map (λ s. s.items) p.sources.value.items) f.store.modules f.counts.items) × (IfOk r (λ f. HasVerdicts f.store) × IfErr r (IsBuildError (map (λ s. s.items) p.sources.value.items)))) };
 }
 
 /// Builds the modules of sources on a new thread with a large stack.
@@ -154,6 +160,7 @@ fn build_on_thread<T: Threads + Wait + Sync, G: Gate + Sync>(
 ) -> Result<Finished, BuildFault>
     requires { (0 < workers) × (workers ≤ 16) }
     ensures finished { IfOk result (λ f. IsFinished (map (λ s. s.items) sources.items) workers f.store f.records.items) }
+    ensures counted { IfOk result (λ f. AreCountedModules (map (λ s. s.items) sources.items) f.store.modules f.counts.items) }
     ensures verdicts { IfOk result (λ f. HasVerdicts f.store) }
     ensures err { IfErr result (IsBuildError (map (λ s. s.items) sources.items)) }
 {
@@ -163,6 +170,7 @@ fn build_on_thread<T: Threads + Wait + Sync, G: Gate + Sync>(
         move |scope| -> Result<Finished, BuildFault>
             requires { (0 < workers) × (workers ≤ 16) }
             ensures finished { IfOk result (λ f. IsFinished (map (λ s. s.items) sources.items) workers f.store f.records.items) }
+            ensures counted { IfOk result (λ f. AreCountedModules (map (λ s. s.items) sources.items) f.store.modules f.counts.items) }
             ensures verdicts { IfOk result (λ f. HasVerdicts f.store) }
             ensures err { IfErr result (IsBuildError (map (λ s. s.items) sources.items)) }
         {
@@ -209,6 +217,8 @@ pub fn build<T: Threads + Wait + Sync, G: Gate + Sync>(
 ) -> Result<Finished, BuildFault>
     // The journal is legal, settles each module, and agrees with the record of each worker.
     ensures finished { IfOk result (λ f. IsFinished (map (λ s. s.items) sources.items) workers f.store f.records.items) }
+    // Each source has its number of modules.
+    ensures counted { IfOk result (λ f. AreCountedModules (map (λ s. s.items) sources.items) f.store.modules f.counts.items) }
     // Each module has the verdict that the rules give it in its set.
     ensures verdicts { IfOk result (λ f. HasVerdicts f.store) }
     // The number of workers is checked before any source is read.

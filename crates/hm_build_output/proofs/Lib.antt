@@ -6,4 +6,5 @@ pub mod Telling
 pub mod FinishedRuns
 pub mod Detailed
 pub mod Blamed
+pub mod Called
 pub mod Further

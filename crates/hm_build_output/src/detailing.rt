@@ -17,7 +17,7 @@ ghost use Rattle.hm_verdicts.specs.Verdicts.{ArePublished};
 use crate::explaining::Told;
 use crate::faulty::{FaultyModule, noted_messages};
 use hm_explain::{Effort, Question};
-use hm_messages::{MessageFault, Page, Paint, fault_message};
+use hm_messages::{Page, Paint, fault_message};
 use hm_messages_details::{Detail, Site, detail_of};
 use hm_names::{Fault, Kind, NO_SYNONYMS};
 use hm_scope_entities::Tables;
@@ -73,7 +73,7 @@ fn plain_messages(
     paint: Paint,
     page: &Page<'_>,
     faults: &[Fault],
-) -> Result<Vec<u8>, MessageFault>
+) -> Result<Vec<u8>, AllocError>
     ensures { IfOk result (λ text. AreEach (IsDetailed paint page.now.file.now page.now.lines (λ f known. known ≡ nothing)) faults.now text.items) }
 {
     let mut text = Vec::new(alloc);
@@ -107,7 +107,7 @@ fn detailed_messages(
     page: &Page<'_>,
     site: &Site<'_, '_, '_>,
     faults: &[Fault],
-) -> Result<Vec<u8>, MessageFault>
+) -> Result<Vec<u8>, AllocError>
     ensures { IfOk result (λ text. (fs : List Interface) → IsScopeOf site.now.program.now fs site.now.scope.now → AreTablesOf site.now.program.now fs site.now.tables.now
         → AreEach (IsDetailed paint page.now.file.now page.now.lines (IsKnown site.now.program.now fs)) faults.now text.items) }
 {
@@ -136,7 +136,7 @@ fn scoped_messages(
     page: &Page<'_>,
     scoped: &ScopedModule<'_, '_>,
     faults: &[Fault],
-) -> Result<Vec<u8>, MessageFault>
+) -> Result<Vec<u8>, AllocError>
     requires { IsScopeOf scoped.now.program.now (map (λ f. f.now) scoped.now.interfaces.now) scoped.now.scope.now }
     ensures { IfOk result (λ text. AreEach (IsDetailed paint page.now.file.now page.now.lines (IsKnown scoped.now.program.now (map (λ f. f.now) scoped.now.interfaces.now)))
         faults.now text.items) }
@@ -157,7 +157,7 @@ fn searched_messages(
     page: &Page<'_>,
     faulty: Faulty<'_>,
     imports: &[Arc<ModuleInterface>],
-) -> Result<Vec<u8>, MessageFault>
+) -> Result<Vec<u8>, AllocError>
     requires { faulty.number < length told.now.modules.now }
     ensures { IfOk result (λ text. AreEach (IsDetailed told.now.pages.now.paint page.now.file.now page.now.lines
         (IsKnown (module_at (module_set told.now.modules.now told.now.plan.now) faulty.entry.number) (prelude_interface ∷ map arc_value imports.now)))
@@ -189,7 +189,7 @@ pub(crate) fn faulty_messages(
     told: &Told<'_, '_, '_>,
     faulty: Faulty<'_>,
     effort: &mut Effort,
-) -> Result<Vec<u8>, MessageFault>
+) -> Result<Vec<u8>, AllocError>
     requires lawful { IsLawfulSet (module_set told.now.modules.now told.now.plan.now) }
     requires number { faulty.number < length told.now.modules.now }
     requires source { faulty.source < length told.now.pages.now.items.items }

@@ -5,18 +5,20 @@ ghost use Rattle.hm_store.specs.declared.record.Record.{Record};
 ghost use Rattle.hm_build_reports.specs.FinishedBuilds.{IsFinished};
 ghost use Rattle.hm_build_output.specs.Explained.{AreMessagesOf, IsExplained};
 ghost use Rattle.hm_build_output.specs.JournalledRuns.{IsRun};
+ghost use Rattle.hm_run_sources.specs.ModuleCounts.{AreCountedModules};
 ghost use Rattle.hm_run_sources.specs.Runs.{IsRefusalOf};
 
 use crate::answers::finished_answer;
 use crate::explaining::{Told, explanation};
 use crate::refused::refused_messages;
+use crate::starts::starts_of;
 use crate::{Explain, Wanted};
 use hm_build_reports::{settled_in, skipped_in};
-use hm_messages::{MessageFault, headers_in, pages_of};
-use hm_run_sources::{Answer, SetFault, refusal_answer};
+use hm_messages::{MessageFault, pages_of};
+use hm_run_sources::{Answer, SetFault, origins_of, refusal_answer};
 use hm_store::Store;
 use hm_types_prelude::SharedPrelude;
-use std::alloc::Global;
+use std::alloc::{AllocError, Global};
 
 /// The text and the status of a run, and its messages. There are none if faults aren't explained.
 #[derive(Drop)]
@@ -25,26 +27,36 @@ pub struct Explained {
     pub messages: Vec<u8>,
 }
 
-/// Returns the messages of a finished build.
+/// Returns the messages of a finished build. `counts` has the number of modules of each source.
 fn build_messages<'a>(
     alloc: Global,
-    store: &Store,
+    store: &'a Store,
+    counts: &[usize],
     sources: &'a [Vec<u8>],
     explain: &'a Explain,
-) -> Result<Vec<u8>, MessageFault>
+) -> Result<Vec<u8>, AllocError>
+    requires { AreCountedModules (map (λ s. s.items) sources.now) store.now.modules counts.now }
     ensures { IfOk result (λ m. AreMessagesOf explain.now.paint (map (λ s. s.items) explain.now.names.items) (map (λ s.
         s.items) sources.now) store.now m.items) }
 {
     // The journal is legal, so the modules are a lawful set.
     store.legal();
     let settled = settled_in(alloc, store)?;
-    let located = headers_in(alloc, sources)?;
-    let pages = pages_of(alloc, explain.paint, sources, &explain.names, &located)?;
+    let modules = store.modules();
+    let origins = origins_of(alloc, counts)?;
+    let starts = starts_of(alloc, modules, origins.as_slice())?;
+    let pages = pages_of(
+        alloc,
+        explain.paint,
+        sources,
+        &explain.names,
+        starts.as_slice(),
+    )?;
     let prelude = SharedPrelude::new(alloc)?;
     let told = Told {
         pages: &pages,
-        located: located.as_slice(),
-        modules: store.modules(),
+        origins: origins.as_slice(),
+        modules,
         plan: store.plan(),
         settled: settled.as_slice(),
         store,
@@ -56,30 +68,30 @@ fn build_messages<'a>(
 /// Returns the messages of a finished build if its faults are explained.
 fn finished_messages<'a>(
     alloc: Global,
-    store: &Store,
+    store: &'a Store,
+    counts: &[usize],
     sources: &'a [Vec<u8>],
     wanted: &'a Wanted,
-) -> Result<Vec<u8>, MessageFault>
+) -> Result<Vec<u8>, AllocError>
+    requires { AreCountedModules (map (λ s. s.items) sources.now) store.now.modules counts.now }
     ensures { IfOk result (λ m. IfSome wanted.now.explain (λ e.
         AreMessagesOf e.paint (map (λ s. s.items) e.names.items) (map (λ s. s.items) sources.now) store.now m.items)) }
 {
     match &wanted.explain {
-        Some(explain) => Ok(build_messages(alloc, store, sources, explain)?),
+        Some(explain) => Ok(build_messages(alloc, store, counts, sources, explain)?),
         None => Ok(Vec::new(alloc)),
     }
 }
 
-/// Returns the text, the status and the messages of a finished build.
-///
-/// # Errors
-///
-/// `Place` if a message has no place in the sources, and `Memory` if memory ran out.
+/// Returns the text, the status and the messages of a finished build. `counts` has the number of modules of each source.
 pub fn finished_explained<'a>(
     alloc: Global,
-    store: &Store,
+    store: &'a Store,
+    counts: &[usize],
     sources: &'a [Vec<u8>],
     wanted: &'a Wanted,
-) -> Result<Explained, MessageFault>
+) -> Result<Explained, AllocError>
+    requires { AreCountedModules (map (λ s. s.items) sources.now) store.now.modules counts.now }
     ensures run { IfOk result (λ a. (sources : List (List ℕ)) (records : List Record) (workers : ℕ) → IsFinished sources workers store.now records
         → IsRun workers wanted.now.options.journal sources a.answer.status (string_bytes a.answer.text)) }
     ensures told { IfOk result (λ a. (records : List Record) (workers : ℕ) → IsFinished (map (λ s. s.items) sources.now) workers store.now records
@@ -87,7 +99,7 @@ pub fn finished_explained<'a>(
         s.items) sources.now) a.answer.status (string_bytes a.answer.text) a.messages.items)) }
 {
     let answer = finished_answer(alloc, store, wanted.options.journal)?;
-    let messages = finished_messages(alloc, store, sources, wanted)?;
+    let messages = finished_messages(alloc, store, counts, sources, wanted)?;
     Ok(Explained { answer, messages })
 }
 

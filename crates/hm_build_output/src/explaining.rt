@@ -1,11 +1,11 @@
 //! The messages of a build. Each module, in the order of the report, has one for each of its faults, or one for each import because of which it
 //! is skipped.
-ghost use Rattle.std.specs.Prelude.{◌≡◌, ◌<◌, ◌++◌, ◌-◌, ◌^◌, All, IfOk, IfSome, OnOk, length, map, min, option_to_list, slice_index_or};
+ghost use Rattle.std.specs.Prelude.{◌≡◌, ◌<◌, ◌++◌, ◌-◌, ◌^◌, All, Contains, IfOk, IfSome, OnOk, false, length, map, min, option_to_list, slice_index_or, true};
 ghost use Rattle.std.specs.Arc.{arc_value};
 ghost use Rattle.hm_messages.specs.Messages.{AreEach};
 ghost use Rattle.hm_messages.specs.Pages.{files_in, texts_in};
-ghost use Rattle.hm_run_sources.specs.Origins.{AreLocated, IsSpelledBy};
-ghost use Rattle.hm_verdicts.specs.Sets.{IsLawfulSet};
+ghost use Rattle.hm_run_sources.specs.Origins.{HaveOrigins, IsSpelledBy};
+ghost use Rattle.hm_verdicts.specs.Sets.{IsLawfulSet, no_module};
 ghost use Rattle.hm_verdicts.specs.Reports.{AreBlamed, is_skipped, tally};
 ghost use Rattle.hm_syntax.specs.declared.ast.Import.{Import as ImportTree};
 ghost use Rattle.hm_build_output.specs.Explanations.{AreBlamesTold, AreNumbered, IsBlameMessage, IsBlamedBy, IsModuleTold, IsTold, IsToldBy, blamed_of, fault_count, named_of};
@@ -19,8 +19,7 @@ use hm_build_reports::Settled;
 use hm_explain::Effort;
 use hm_graph::Plan;
 use hm_lex::Place;
-use hm_messages::{MessageFault, Page, Pages, Topic, count_text, message};
-use hm_run_sources::Located;
+use hm_messages::{Page, Pages, Topic, count_text, message};
 use hm_store::Store;
 use hm_syntax::{Import, Module};
 use hm_types_prelude::SharedPrelude;
@@ -31,7 +30,8 @@ use std::sync::Arc;
 #[derive(Clone, Copy)]
 pub(crate) struct Told<'t, 'p, 'm> {
     pub pages: &'t Pages<'p>,
-    pub located: &'t [Located],
+    /// For each module the number of its source.
+    pub origins: &'t [usize],
     pub modules: &'m [Arc<Module>],
     pub plan: &'m Plan,
     pub settled: &'t [Settled<'m>],
@@ -58,6 +58,41 @@ fn import_from(imports: &[Import], from: usize, name: &str) -> Option<usize>
         }
     }
     None
+}
+
+/// Returns whether an import has this name.
+fn is_called(import: &Import, name: &str) -> bool
+    ensures has { result ≡ true → import.now.name.text ≡ name.now }
+    ensures hasnt { result ≡ false → ¬ (import.now.name.text ≡ name.now) }
+{
+    import.name.as_str() == name
+}
+
+/// Returns the first import with this name.
+fn import_called(imports: &[Import], name: &str) -> usize
+    requires { Contains (map (λ i. i.name.text) imports.now) name.now }
+    ensures within { result < length imports.now }
+    ensures named { (d : ImportTree) → (slice_index_or imports.now result d).name.text ≡ name.now }
+{
+    'calls: for index in 0..imports.len() {
+        if is_called(&imports[index], name) {
+            return index;
+        }
+    }
+    unreachable!()
+}
+
+/// Returns the first import with this name from this one on, or else the first of all. A row of the plan is in the order of the imports, so the
+/// first search finds each import of a row.
+fn import_of(imports: &[Import], from: usize, name: &str) -> usize
+    requires { Contains (map (λ i. i.name.text) imports.now) name.now }
+    ensures within { result < length imports.now }
+    ensures named { (d : ImportTree) → (slice_index_or imports.now result d).name.text ≡ name.now }
+{
+    match import_from(imports, from, name) {
+        Some(index) => index,
+        None => import_called(imports, name),
+    }
 }
 
 /// Returns an import if the module that it names isn't published.
@@ -99,9 +134,10 @@ fn blames_of<'a>(
     settled: &[Settled<'_>],
     row: &[usize],
     imports: &[Import],
-) -> Result<Vec<Blame<'a>>, MessageFault>
+) -> Result<Vec<Blame<'a>>, AllocError>
     requires modules { All (λ j. j < length modules.now) row.now }
     requires settled { All (λ j. j < length settled.now) row.now }
+    requires imported { All (λ j. Contains (map (λ i. i.name.text) imports.now) (slice_index_or (map arc_value modules.now) j no_module).header.name.text) row.now }
     ensures names { IfOk result (λ blames. map (λ b. b.name.now) blames.items ≡ all_blamed (map arc_value modules.entry.now) (statuses_of settled.now) row.now) }
     ensures right { IfOk result (λ blames. All (λ b. IsBlamedBy (map arc_value modules.entry.now) (statuses_of settled.now) row.now imports.now (blamed_of b)) blames.items) }
 {
@@ -109,9 +145,7 @@ fn blames_of<'a>(
     let mut from = 0usize;
     for number in row {
         let name = modules[*number].header.name.as_str();
-        let Some(index) = import_from(imports, from, name) else {
-            return Err(MessageFault::Foreign);
-        };
+        let index = import_of(imports, from, name);
         let import = &imports[index];
         let place = import.name.place;
         add_blame(&mut blames, blame_of(name, place, &settled[*number]))?;
@@ -126,7 +160,7 @@ fn blame_message(
     pages: &Pages<'_>,
     page: &Page<'_>,
     blame: &Blame<'_>,
-) -> Result<Vec<u8>, MessageFault>
+) -> Result<Vec<u8>, AllocError>
     ensures { IfOk result (λ text. IsBlameMessage pages.now.paint page.now.file.now page.now.lines (blamed_of blame.now) text.items) }
 {
     if blame.is_faulty {
@@ -145,7 +179,7 @@ fn blame_messages(
     pages: &Pages<'_>,
     page: &Page<'_>,
     blames: &[Blame<'_>],
-) -> Result<Vec<u8>, MessageFault>
+) -> Result<Vec<u8>, AllocError>
     ensures { IfOk result (λ text. AreEach (IsBlameMessage pages.now.paint page.now.file.now page.now.lines) (map blamed_of blames.now) text.items) }
 {
     let mut text = Vec::new(alloc);
@@ -157,19 +191,13 @@ fn blame_messages(
 }
 
 /// Returns the number of the source that spells a module.
-fn source_of(told: &Told<'_, '_, '_>, number: usize) -> Result<usize, MessageFault>
-    requires { AreLocated (texts_in told.now.pages.now.items.items) told.now.located.now }
-    ensures spelled { IfOk result (IsSpelledBy (texts_in told.now.pages.now.items.items) number) }
-    ensures within { IfOk result (λ source. source < length told.now.pages.now.items.items) }
+fn source_of(told: &Told<'_, '_, '_>, number: usize) -> usize
+    requires origins { HaveOrigins (texts_in told.now.pages.now.items.items) (length told.now.modules.now) told.now.origins.now }
+    requires number { number < length told.now.modules.now }
+    ensures spelled { IsSpelledBy (texts_in told.now.pages.now.items.items) number result }
+    ensures within { result < length told.now.pages.now.items.items }
 {
-    if number >= told.located.len() {
-        return Err(MessageFault::Foreign);
-    }
-    let source = told.located[number].source;
-    if source >= told.pages.items.len() {
-        return Err(MessageFault::Foreign);
-    }
-    Ok(source)
+    told.origins[number]
 }
 
 /// Returns the messages of a skipped module that this source spells.
@@ -178,7 +206,7 @@ fn skipped_messages(
     told: &Told<'_, '_, '_>,
     number: usize,
     source: usize,
-) -> Result<Vec<u8>, MessageFault>
+) -> Result<Vec<u8>, AllocError>
     requires lawful { IsLawfulSet (module_set told.now.modules.now told.now.plan.now) }
     requires len { length told.now.settled.now ≡ length told.now.modules.now }
     requires number { number < length told.now.modules.now }
@@ -201,11 +229,11 @@ fn module_messages(
     told: &Told<'_, '_, '_>,
     number: usize,
     effort: &mut Effort,
-) -> Result<Vec<u8>, MessageFault>
+) -> Result<Vec<u8>, AllocError>
     requires lawful { IsLawfulSet (module_set told.now.modules.now told.now.plan.now) }
     requires len { length told.now.settled.now ≡ length told.now.modules.now }
     requires number { number < length told.now.modules.now }
-    requires located { AreLocated (texts_in told.now.pages.now.items.items) told.now.located.now }
+    requires origins { HaveOrigins (texts_in told.now.pages.now.items.items) (length told.now.modules.now) told.now.origins.now }
     requires settled { statuses_of told.now.settled.now ≡ build_settlement told.now.store.now }
     ensures { IfOk result (λ text. IsModuleTold told.now.pages.now.paint (files_in told.now.pages.now.items.items) (texts_in told.now.pages.now.items.items)
         (module_set told.now.modules.now told.now.plan.now) (statuses_of told.now.settled.now) number text.items) }
@@ -213,7 +241,7 @@ fn module_messages(
     match &told.settled[number] {
         Settled::Published(_) => Ok(Vec::new(alloc)),
         Settled::Failed(faults) => {
-            let source = source_of(told, number)?;
+            let source = source_of(told, number);
             let faults = faults.as_slice();
             let faulty = Faulty {
                 number,
@@ -223,7 +251,7 @@ fn module_messages(
             Ok(all_messages(alloc, told, faulty, effort)?)
         }
         Settled::Skipped => {
-            let source = source_of(told, number)?;
+            let source = source_of(told, number);
             Ok(skipped_messages(alloc, told, number, source)?)
         }
     }
@@ -266,10 +294,10 @@ pub(crate) fn explanation(
     alloc: Global,
     told: &Told<'_, '_, '_>,
     skipped: usize,
-) -> Result<Vec<u8>, MessageFault>
+) -> Result<Vec<u8>, AllocError>
     requires lawful { IsLawfulSet (module_set told.now.modules.now told.now.plan.now) }
     requires len { length told.now.settled.now ≡ length told.now.modules.now }
-    requires located { AreLocated (texts_in told.now.pages.now.items.items) told.now.located.now }
+    requires origins { HaveOrigins (texts_in told.now.pages.now.items.items) (length told.now.modules.now) told.now.origins.now }
     requires settled { statuses_of told.now.settled.now ≡ build_settlement told.now.store.now }
     requires skipped { skipped ≡ tally is_skipped (statuses_of told.now.settled.now) (length told.now.settled.now) }
     ensures { IfOk result (λ text. IsTold told.now.pages.now.paint (files_in told.now.pages.now.items.items) (texts_in told.now.pages.now.items.items)

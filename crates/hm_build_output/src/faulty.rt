@@ -13,9 +13,7 @@ use hm_explain::{
     reading_of, unsigned_of,
 };
 use hm_lex::Place;
-use hm_messages::{
-    BothTypes, MessageFault, Page, Paint, Topic, Way, fault_message, message, reader_place,
-};
+use hm_messages::{BothTypes, Page, Paint, Topic, Way, fault_message, message, reader_place};
 use hm_messages_details::Detail;
 use hm_names::{Fault, Kind};
 use std::alloc::{AllocError, Global};
@@ -123,7 +121,7 @@ fn note_text(
     definition: &str,
     part: &FaultyPart,
     other: Place,
-) -> Result<Vec<u8>, MessageFault>
+) -> Result<Vec<u8>, AllocError>
     requires { IfSome part.now.types (λ types. ArePartTypes «module».now.page.now.lines «module».now.question.now.name.now
         (map arc_value «module».now.question.now.imports.now) definition.now part.now.mend (string_bytes types.expected) (string_bytes types.actual)
         types.infinite) }
@@ -156,7 +154,7 @@ fn note_for(
     module: &FaultyModule<'_, '_>,
     found: &TypeFault<'_>,
     effort: &mut Effort,
-) -> Result<Vec<u8>, MessageFault>
+) -> Result<Vec<u8>, AllocError>
     requires { «module».now.question.now.source.now ≡ «module».now.page.now.lines }
     ensures { IfOk result (λ text. (text.items ≡ []) ⊎ IsNote «module».now.paint «module».now.page.now.file.now «module».now.page.now.lines
         «module».now.question.now.name.now (map arc_value «module».now.question.now.imports.now) found.now.fault.now text.items) }
@@ -217,7 +215,7 @@ fn signature_text(
     definition: &str,
     unsigned: &Unsigned,
     end: Place,
-) -> Result<Vec<u8>, MessageFault>
+) -> Result<Vec<u8>, AllocError>
     ensures { IfOk result (λ text. IsMessage «module».now.paint «module».now.page.now.file.now «module».now.page.now.lines unsigned.now.signature.start
         (unsigned_subject definition.now end (string_bytes unsigned.now.own)) text.items) }
 {
@@ -237,7 +235,7 @@ fn signature_note(
     module: &FaultyModule<'_, '_>,
     found: &TypeFault<'_>,
     effort: &mut Effort,
-) -> Result<SignatureNote, MessageFault>
+) -> Result<SignatureNote, AllocError>
     requires { «module».now.question.now.source.now ≡ «module».now.page.now.lines }
     ensures { IfOk result (λ note. (note.text.items ≡ []) ⊎ IsSignatureNote «module».now.paint «module».now.page.now.file.now «module».now.page.now.lines
         «module».now.question.now.name.now (map arc_value «module».now.question.now.imports.now) found.now.fault.now note.leads note.text.items) }
@@ -288,7 +286,7 @@ fn notes_of(
     module: &FaultyModule<'_, '_>,
     found: &TypeFault<'_>,
     effort: &mut Effort,
-) -> Result<Vec<u8>, MessageFault>
+) -> Result<Vec<u8>, AllocError>
     requires { «module».now.question.now.source.now ≡ «module».now.page.now.lines }
     ensures { IfOk result (λ text. AreNotes «module».now.paint «module».now.page.now.file.now «module».now.page.now.lines
         «module».now.question.now.name.now (map arc_value «module».now.question.now.imports.now) found.now.fault.now text.items) }
@@ -305,7 +303,7 @@ fn notes_for(
     reading: Option<&Reading>,
     fault: &Fault,
     effort: &mut Effort,
-) -> Result<Vec<u8>, MessageFault>
+) -> Result<Vec<u8>, AllocError>
     requires { «module».now.question.now.source.now ≡ «module».now.page.now.lines }
     ensures { IfOk result (λ text. (text.items ≡ []) ⊎ AreNotes «module».now.paint «module».now.page.now.file.now «module».now.page.now.lines
         «module».now.question.now.name.now (map arc_value «module».now.question.now.imports.now) fault.now text.items) }
@@ -327,7 +325,7 @@ fn limit_note(
     module: &FaultyModule<'_, '_>,
     fault: &Fault,
     effort: &mut Effort,
-) -> Result<Vec<u8>, MessageFault>
+) -> Result<Vec<u8>, AllocError>
     ensures { IfOk result (λ text. (text.items ≡ []) ⊎ IsMessage «module».now.paint «module».now.page.now.file.now «module».now.page.now.lines
         fault.now.place limit text.items) }
 {
@@ -345,7 +343,7 @@ fn fault_text(
     reading: Option<&Reading>,
     fault: &Fault,
     effort: &mut Effort,
-) -> Result<Vec<u8>, MessageFault>
+) -> Result<Vec<u8>, AllocError>
     requires { «module».now.question.now.source.now ≡ «module».now.page.now.lines }
     ensures { IfOk result (λ text. IsNoted «module».now.paint «module».now.page.now.file.now «module».now.page.now.lines
         «module».now.question.now.name.now (map arc_value «module».now.question.now.imports.now) fault.now text.items) }
@@ -363,7 +361,7 @@ pub(crate) fn noted_messages(
     alloc: Global,
     module: &FaultyModule<'_, '_>,
     effort: &mut Effort,
-) -> Result<Vec<u8>, MessageFault>
+) -> Result<Vec<u8>, AllocError>
     requires { «module».now.question.now.source.now ≡ «module».now.page.now.lines }
     ensures { IfOk result (λ text. AreEach (IsNoted «module».now.paint «module».now.page.now.file.now «module».now.page.now.lines
         «module».now.question.now.name.now (map arc_value «module».now.question.now.imports.now)) «module».now.faults.now text.items) }

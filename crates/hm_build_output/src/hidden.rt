@@ -14,7 +14,7 @@ use crate::detailing::{Faulty, faulty_messages, published};
 use crate::explaining::Told;
 use crate::faulty::FaultyModule;
 use hm_explain::{Effort, Question, hidden_of};
-use hm_messages::{MessageFault, Page, Paint, Topic, message};
+use hm_messages::{Page, Paint, Topic, message};
 use hm_names::Fault;
 use hm_verdicts::{Outcome, Verdict};
 use std::alloc::{AllocError, Global};
@@ -139,7 +139,7 @@ pub(crate) fn all_messages(
     told: &Told<'_, '_, '_>,
     faulty: Faulty<'_>,
     effort: &mut Effort,
-) -> Result<Vec<u8>, MessageFault>
+) -> Result<Vec<u8>, AllocError>
     requires lawful { IsLawfulSet (module_set told.now.modules.now told.now.plan.now) }
     requires number { faulty.number < length told.now.modules.now }
     requires source { faulty.source < length told.now.pages.now.items.items }

@@ -10,6 +10,7 @@ mod faulty;
 mod hidden;
 mod options;
 mod refused;
+mod starts;
 
 pub use exhausted::exhausted_message;
 pub use explained::{Explained, finished_explained, refused_explained};

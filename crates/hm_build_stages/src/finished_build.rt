@@ -17,6 +17,8 @@ pub struct Finished {
     pub store: Store,
     /// The record of each worker's calls.
     pub records: Vec<Record>,
+    /// The number of modules of each source.
+    pub counts: Vec<usize>,
     pub ghost settled: { IsAllSettled store },
     pub ghost running: { (state_of store).stopped ≡ false },
     pub ghost agreeing: { ∥ Agree store records.items ∥₁ },

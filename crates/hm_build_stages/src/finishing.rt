@@ -1,6 +1,7 @@
 //! Ends a build after its workers.
 ghost use Rattle.std.specs.Prelude.{◌≡◌, ◌⊎◌, ℕ, List, IfErr, IfOk};
 ghost use Rattle.hm_build_reports.specs.FinishedBuilds.{IsFinished};
+ghost use Rattle.hm_run_sources.specs.ModuleCounts.{AreCountedModules};
 ghost use Rattle.hm_run_sources.specs.SourceModules.{AreModulesOf};
 
 use crate::{BuildFault, Finished};
@@ -9,7 +10,7 @@ use hm_store::{Record, Store};
 use std::alloc::Global;
 
 // Why: docs/DECISIONS.md, "No comparison of modules".
-/// Returns the finished build.
+/// Returns the finished build of sources with these numbers of modules.
 ///
 /// # Errors
 ///
@@ -18,15 +19,22 @@ pub fn finished(
     alloc: Global,
     store: Store,
     records: Vec<Record>,
+    counts: Vec<usize>,
     workers: usize,
 ) -> Result<Finished, BuildFault>
     ensures finished { IfOk result (λ f. (sources : List (List ℕ)) → AreModulesOf sources store.modules → IsFinished sources workers f.store f.records.items) }
-    ensures given { IfOk result (λ f. (f.store ≡ store) × (f.records ≡ records)) }
+    ensures counted { IfOk result (λ f. (sources : List (List ℕ)) → AreCountedModules sources store.modules counts.items
+        → AreCountedModules sources f.store.modules f.counts.items) }
+    ensures given { IfOk result (λ f. (f.store ≡ store) × (f.records ≡ records) × (f.counts ≡ counts)) }
     ensures err { IfErr result (λ e. (e ≡ BuildFault.Memory) ⊎ (e ≡ BuildFault.Mixed)) }
 {
     store.legal();
     if !has_ended(alloc, &store, records.as_slice(), workers)? {
         return Err(BuildFault::Mixed);
     }
-    Ok(Finished { store, records })
+    Ok(Finished {
+        store,
+        records,
+        counts,
+    })
 }

@@ -2,6 +2,7 @@
 ghost use Rattle.std.specs.Prelude.{◌≡◌, ◌^◌, [], IfErr, IfOk, map, min};
 ghost use Rattle.std.specs.Arc.{arc_value};
 ghost use Rattle.hm_graph.specs.Imports.{IsImportPlan, IsLawful};
+ghost use Rattle.hm_run_sources.specs.ModuleCounts.{AreCountedModules};
 ghost use Rattle.hm_run_sources.specs.Names.{module_outlines};
 ghost use Rattle.hm_run_sources.specs.SourceModules.{AreModulesOf};
 ghost use Rattle.hm_build_stages.specs.Errors.{IsBuildError};
@@ -10,7 +11,7 @@ ghost use Rattle.hm_build_stages.specs.Rooms.{room_of};
 use crate::BuildFault;
 use hm_graph::Plan;
 use hm_run_parallel_parse::{Pool, set_modules_by};
-use hm_run_sources::SetError;
+use hm_run_sources::{PlannedModules, SetError};
 use hm_store::Store;
 use hm_syntax::Module;
 use hm_types_prelude::SharedPrelude;
@@ -24,6 +25,8 @@ pub struct Fresh {
     pub modules: Vec<Arc<Module>>,
     /// For each module, the numbers of the modules that it imports, in order of first import.
     pub imports: Vec<Vec<usize>>,
+    /// The number of modules of each source.
+    pub counts: Vec<usize>,
     pub store: Store,
     pub prelude: SharedPrelude,
 }
@@ -65,14 +68,20 @@ fn import_rows(alloc: Global, plan: &Plan) -> Result<Vec<Vec<usize>>, AllocError
 }
 
 /// Returns a store for the modules of a lawful set.
-fn set_up(alloc: Global, modules: Vec<Module>, plan: Plan) -> Result<Fresh, AllocError>
-    requires lawful { IsLawful (module_outlines modules.items) }
-    requires planned { IsImportPlan (module_outlines modules.items) plan }
-    ensures modules { IfOk result (λ f. map arc_value f.modules.items ≡ modules.items) }
+fn set_up(alloc: Global, set: PlannedModules) -> Result<Fresh, AllocError>
+    requires lawful { IsLawful (module_outlines set.modules.items) }
+    requires planned { IsImportPlan (module_outlines set.modules.items) set.plan }
+    ensures modules { IfOk result (λ f. map arc_value f.modules.items ≡ set.modules.items) }
+    ensures counts { IfOk result (λ f. f.counts.items ≡ set.counts.items) }
     ensures same { IfOk result (λ f. map arc_value f.modules.items ≡ f.store.modules) }
     ensures imports { IfOk result (λ f. map (λ row. row.items) f.imports.items ≡ f.store.given.imports) }
     ensures empty { IfOk result (λ f. f.store.journal ≡ []) }
 {
+    let PlannedModules {
+        modules,
+        plan,
+        counts,
+    } = set;
     let prelude = SharedPrelude::new(alloc)?;
     let modules = shared_modules(alloc, modules)?;
     let imports = import_rows(alloc, &plan)?;
@@ -80,6 +89,7 @@ fn set_up(alloc: Global, modules: Vec<Module>, plan: Plan) -> Result<Fresh, Allo
     Ok(Fresh {
         modules,
         imports,
+        counts,
         store,
         prelude,
     })
@@ -97,13 +107,14 @@ pub fn read<T: Threads + Wait + Sync>(
     pool: Pool,
 ) -> Result<Fresh, BuildFault>
     ensures read { IfOk result (λ f. AreModulesOf (map (λ s. s.items) sources.now) (map arc_value f.modules.items)) }
+    ensures counted { IfOk result (λ f. AreCountedModules (map (λ s. s.items) sources.now) (map arc_value f.modules.items) f.counts.items) }
     ensures same { IfOk result (λ f. map arc_value f.modules.items ≡ f.store.modules) }
     ensures imports { IfOk result (λ f. map (λ row. row.items) f.imports.items ≡ f.store.given.imports) }
     ensures empty { IfOk result (λ f. f.store.journal ≡ []) }
     ensures err { IfErr result (IsBuildError (map (λ s. s.items) sources.now)) }
 {
     match set_modules_by(rt, alloc, sources, pool) {
-        Ok((modules, plan)) => Ok(set_up(alloc, modules, plan)?),
+        Ok(set) => Ok(set_up(alloc, set)?),
         Err(SetError::Refused(fault)) => Err(BuildFault::Refused(fault)),
         Err(SetError::Memory) => Err(BuildFault::Memory),
     }

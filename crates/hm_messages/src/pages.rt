@@ -5,12 +5,12 @@ ghost use Rattle.hm_messages.specs.Pages.{AreFilesOf, file_at, files_in, texts_i
 use crate::heading::Paint;
 use hm_lex::Place;
 use hm_messages_excerpts::SourceLines;
-use hm_run_sources::Located;
 use std::alloc::{AllocError, Global};
 
-/// The name of a module, and the place of the name.
+/// The name of a module, the place of the name, and the number of its source, counted from 0.
 #[derive(Clone, Copy, Debug)]
 pub struct ModuleStart<'a> {
+    pub source: usize,
     pub place: Place,
     pub name: &'a str,
 }
@@ -50,20 +50,17 @@ impl<'a> Page<'a> {
 /// Returns the modules of a source. `from` is the number of its first one among all modules.
 fn modules_from<'a>(
     alloc: Global,
-    located: &'a [Located],
+    starts: &[ModuleStart<'a>],
     from: usize,
     source: usize,
 ) -> Result<Vec<ModuleStart<'a>>, AllocError> {
     let mut modules = Vec::new(alloc);
-    for number in from..located.len() {
-        if located[number].source != source {
+    for number in from..starts.len() {
+        let start = starts[number];
+        if start.source != source {
             break;
         }
-        let name = &located[number].header.name;
-        modules.push(ModuleStart {
-            place: name.place,
-            name: name.as_str(),
-        })?;
+        modules.push(start)?;
     }
     Ok(modules)
 }
@@ -85,14 +82,14 @@ pub struct Pages<'a> {
     pub items: Vec<Page<'a>>,
 }
 
-/// Returns the sources with these names, as messages show them. `located` has the modules of all sources in order, or is empty if they
-/// aren't known.
+/// Returns the sources with these names, as messages show them. `starts` has the modules of all sources in order, or is empty if they aren't
+/// known.
 pub fn pages_of<'a>(
     alloc: Global,
     paint: Paint,
     sources: &'a [Vec<u8>],
     names: &'a [Vec<u8>],
-    located: &'a [Located],
+    starts: &[ModuleStart<'a>],
 ) -> Result<Pages<'a>, AllocError>
     ensures paint { IfOk result (λ pages. pages.paint ≡ paint) }
     ensures texts { IfOk result (λ pages. texts_in pages.items.items ≡ map (λ s. s.items) sources.entry.now) }
@@ -103,7 +100,7 @@ pub fn pages_of<'a>(
     for number in 0..sources.len() {
         let lines = SourceLines::of(alloc, sources[number].as_slice())?;
         let file = file_at(names, number);
-        let modules = modules_from(alloc, located, from, number)?;
+        let modules = modules_from(alloc, starts, from, number)?;
         from = from.saturating_add(modules.len());
         items.push(Page {
             file,

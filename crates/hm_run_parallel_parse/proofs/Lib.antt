@@ -1,3 +1,4 @@
 pub mod Crossing
 mod SpelledBefore
 mod RunLemmas
+mod PartLemmas

@@ -1,6 +1,6 @@
 -- Runs of tokens, one behind the other; and a source that is alone in its set.
-use Rattle.std.proofs.Common.{◌≡◌, ◌<◌, ◌≤◌, ℕ, suc, List, [], ◌∷◌, ◌++◌, length, take, drop, map, get_or, Option, Some, None, Result, Ok, Err, IfOk, IfSome, refl, sym, subst, arith}
-use Rattle.std.proofs.lemmas.List.{append-nil, map-append, take-append-drop}
+use Rattle.std.proofs.Common.{◌≡◌, ℕ, List, [], ◌∷◌, ◌++◌, length, take, drop, map, get_or, Option, Some, None, Result, Ok, Err, IfOk, IfSome, refl, sym, subst, arith}
+use Rattle.std.proofs.lemmas.List.{map-append}
 use Rattle.std.specs.List.{All}
 use Rattle.std.proofs.lemmas.List.Elements.{All-take, All-drop}
 use Rattle.hm_lex.specs.declared.token.Token.{Token}
@@ -9,7 +9,6 @@ use Rattle.hm_syntax.specs.declared.ast.Module.{Module}
 use Rattle.hm_parse_grammar.specs.Tokens.{terminal_of}
 use Rattle.hm_parse_grammar.specs.Grammar.Modules.{Source, Spells}
 use Rattle.hm_run_sources.specs.Errors.{IsSetError, IsSourceError}
-use Rattle.hm_run_sources.specs.SourceModules.{AreModulesOf, HasModules}
 use Rattle.hm_run_sources.specs.declared.sets.SetError.{SetError}
 use Rattle.hm_run_sources.proofs.Reading.{first_fault}
 use Rattle.hm_run_parallel_parse.proofs.SpelledBefore.{sources_join}
@@ -37,11 +36,6 @@ pub behind_lies : (source : List ℕ) (ts bs : List Token) (n : ℕ) → All (Li
 behind_lies source ts bs n h q = subst (All (LiesIn source)) (sym q) (All-drop (LiesIn source) n ts h)
 
 -- the only source of a set
-pub alone : {X : Type 0} (view : X → List ℕ) (xs : List X) (d : X) (ms : List Module) → length xs ≡ 1 → HasModules (view (get_or xs 0 d)) ms → AreModulesOf (map view xs) ms
-alone view [] d ms q h = absurd (omega arith)
-alone view (x ∷ []) d ms q h = (ms, [], h, refl, sym (append-nil ms))
-alone view (x ∷ y ∷ xs) d ms q h = absurd (omega arith)
-
 pub alone_fails : {X : Type 0} (view : X → List ℕ) (xs : List X) (d : X) (e : SetError) → length xs ≡ 1 → IsSourceError 1 (view (get_or xs 0 d)) e → IsSetError (map view xs) e
 alone_fails view [] d e q h = absurd (omega arith)
 alone_fails view (x ∷ []) d e q h = first_fault (view x ∷ []) [] (view x) [] [] 1 e refl refl refl h

@@ -1,8 +1,7 @@
 //! Parts of a set of sources.
 ghost use Rattle.std.specs.Prelude.{◌<◌, ◌≤◌, length};
 
-use hm_run_sources::SetError;
-use hm_syntax::Module;
+use hm_run_sources::{CountedModules, SetError};
 use std::thread::Promise;
 
 /// The sources `from..to` of a set, numbered from 0.
@@ -16,11 +15,11 @@ pub(crate) struct Part<'a> {
 }
 
 /// What a thread promises about the modules of a part.
-impl<'a> Promise<Result<Vec<Module>, SetError>> for Part<'a> {
+impl<'a> Promise<Result<CountedModules, SetError>> for Part<'a> {
     ghost use Rattle.std.specs.Prelude.{IfErr, IfOk, map, take};
     ghost use Rattle.hm_run_sources.specs.Parts.{FailsBehind, Follow};
 
-    ghost kept_by = { λ p r. IfOk r (λ modules. Follow (map (λ s. s.items) (take p.from p.sources.now)) (map (λ s. s.items) (take p.to p.sources.now)) modules.items) × IfErr r (FailsBehind (map (λ s. s.items) p.sources.now) (map (λ s. s.items) (take p.from p.sources.now))) };
+    ghost kept_by = { λ p r. IfOk r (λ read. Follow (map (λ s. s.items) (take p.from p.sources.now)) (map (λ s. s.items) (take p.to p.sources.now)) read.modules.items read.counts.items) × IfErr r (FailsBehind (map (λ s. s.items) p.sources.now) (map (λ s. s.items) (take p.from p.sources.now))) };
 }
 
 // Why: docs/DECISIONS.md, "Parts of sources".

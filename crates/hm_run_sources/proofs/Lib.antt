@@ -6,3 +6,4 @@ pub mod Telling
 pub mod OneOrder
 pub mod OneText
 pub mod OneRefusal
+pub mod ModuleCounts

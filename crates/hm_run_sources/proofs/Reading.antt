@@ -10,6 +10,7 @@ use Rattle.hm_run_sources.specs.Plans.{IsPlanText}
 use Rattle.hm_run_sources.specs.Refusals.{Refusal, IsLasting}
 use Rattle.hm_run_sources.specs.Runs.{AreOutlinesOf, IsSourceFault, IsSetPlanFault, IsPlanned, IsRefusalOf}
 use Rattle.hm_run_sources.specs.SourceModules.{AreModulesOf, HasModules}
+use Rattle.hm_run_sources.specs.ModuleCounts.{AreCountedModules}
 use Rattle.hm_run_sources.specs.Errors.{IsSourceError, IsSetError}
 use Rattle.hm_run_sources.specs.Parts.{FailsBehind, Follow}
 use Rattle.hm_run_sources.specs.declared.sets.SetError.{SetError}
@@ -21,21 +22,50 @@ modules_more [] s modules first e sp = (first, [], sp, refl, ap (λ l. l ++ firs
 modules_more (b ∷ bs) s modules first h sp =
     (h.0, h.1 ++ first, h.2, modules_more bs s h.1 first h.3 sp, ap (λ l. l ++ first) h.4 ∙ append_assoc h.0 h.1 first)
 
+-- one more source, with the number of its modules
+pub counted_more : (before : List (List ℕ)) (s : List ℕ) (modules first : List Module) (counts : List ℕ) → AreCountedModules before modules counts → HasModules s first
+    → AreCountedModules (before ++ s ∷ []) (modules ++ first) (counts ++ length first ∷ [])
+counted_more [] s modules first counts h sp =
+    (first, [], [], sp, (refl, refl), ap (λ l. l ++ first) h.0 ∙ sym (append-nil first), ap (λ l. l ++ length first ∷ []) h.1)
+counted_more (b ∷ bs) s modules first counts h sp = (
+  h.0,
+  h.1 ++ first,
+  h.2 ++ length first ∷ [],
+  h.3,
+  counted_more bs s h.1 first h.2 h.4 sp,
+  ap (λ l. l ++ first) h.5 ∙ append_assoc h.0 h.1 first,
+  ap (λ l. l ++ length first ∷ []) h.6,
+)
+
+-- counted modules are the modules of the sources
+pub counted_modules : (sources : List (List ℕ)) (modules : List Module) (counts : List ℕ) → AreCountedModules sources modules counts → AreModulesOf sources modules
+counted_modules [] modules counts h = h.0
+counted_modules (s ∷ ss) modules counts h = (h.0, h.1, h.3, counted_modules ss h.1 h.2 h.4, h.5)
+
 -- one more source behind a part
-pub follow_more : (before through : List (List ℕ)) (s : List ℕ) (modules first : List Module) → Follow before through modules → HasModules s first → Follow before (through ++ s ∷ []) (modules ++ first)
-follow_more before through s modules first h sp = λ earlier are. subst (AreModulesOf (through ++ s ∷ [])) (append_assoc earlier modules first) (modules_more through s (earlier ++ modules) first (h earlier are) sp)
+pub follow_more : (before through : List (List ℕ)) (s : List ℕ) (modules first : List Module) (counts : List ℕ) → Follow before through modules counts → HasModules s first
+    → Follow before (through ++ s ∷ []) (modules ++ first) (counts ++ length first ∷ [])
+follow_more before through s modules first counts h sp = λ earlier numbers are.
+    subst (λ l. AreCountedModules (through ++ s ∷ []) l (numbers ++ (counts ++ length first ∷ []))) (append_assoc earlier modules first)
+    (subst (AreCountedModules (through ++ s ∷ []) ((earlier ++ modules) ++ first)) (append_assoc numbers counts (length first ∷ []))
+    (counted_more through s (earlier ++ modules) first (numbers ++ counts) (h earlier numbers are) sp))
 
 -- no source behind others
-pub none_follow : (before : List (List ℕ)) → Follow before before []
-none_follow before = λ earlier are. subst (AreModulesOf before) (sym (append-nil earlier)) are
+pub none_follow : (before : List (List ℕ)) → Follow before before [] []
+none_follow before = λ earlier numbers are. subst (λ l. AreCountedModules before l (numbers ++ [])) (sym (append-nil earlier)) (subst (AreCountedModules before earlier) (sym (append-nil numbers)) are)
 
 -- a part that is all
-pub all_follow : {X : Type 0} (view : X → List ℕ) (xs : List X) (modules : List Module) → Follow (map view (take 0 xs)) (map view (take (length xs) xs)) modules → AreModulesOf (map view xs) modules
-all_follow view xs modules h = subst (λ l. AreModulesOf (map view l) modules) (take_all (length xs) xs (omega arith)) (h [] refl)
+pub all_follow : {X : Type 0} (view : X → List ℕ) (xs : List X) (modules : List Module) (counts : List ℕ) → Follow (map view (take 0 xs)) (map view (take (length xs) xs)) modules counts
+    → AreCountedModules (map view xs) modules counts
+all_follow view xs modules counts h = subst (λ l. AreCountedModules (map view l) modules counts) (take_all (length xs) xs (omega arith)) (h [] [] (refl, refl))
+
+pub all_read : {X : Type 0} (view : X → List ℕ) (xs : List X) (modules : List Module) (counts : List ℕ) → Follow (map view (take 0 xs)) (map view (take (length xs) xs)) modules counts
+    → AreModulesOf (map view xs) modules
+all_read view xs modules counts h = counted_modules (map view xs) modules counts (all_follow view xs modules counts h)
 
 -- a fault behind no source
 pub all_fail : {X : Type 0} (view : X → List ℕ) (xs : List X) (e : SetError) → FailsBehind (map view xs) (map view (take 0 xs)) e → IsSetError (map view xs) e
-all_fail view xs e h = h [] refl
+all_fail view xs e h = h [] [] (refl, refl)
 
 -- the outlines of the modules are those that the plan is made of
 pub outlines_there : (sources : List (List ℕ)) (modules : List Module) → AreModulesOf sources modules → AreOutlinesOf sources (module_outlines modules)

@@ -1,7 +1,10 @@
 -- The laws of runs of the plan, as statements.
-use Rattle.std.specs.Prelude.{◌≡◌, ℕ, List, ◌⊎◌}
+use Rattle.std.specs.Prelude.{◌≡◌, ℕ, List, ◌⊎◌, length}
 use Rattle.hm_lex.specs.declared.token.Place.{Place}
 use Rattle.hm_parse_grammar.specs.declared.fault.ParseFault.TheVariants.{Syntax}
+use Rattle.hm_syntax.specs.declared.ast.Module.{Module}
+use Rattle.hm_run_sources.specs.ModuleCounts.{AreCountedModules, AreOrigins, IsCountedTo}
+use Rattle.hm_run_sources.specs.Origins.{HaveOrigins, IsSpelledBy}
 use Rattle.hm_run_sources.specs.declared.status.Status.{Status}
 use Rattle.hm_run_sources.specs.Refusals.{Refusal, parse}
 use Rattle.hm_run_sources.specs.Runs.{IsPlanned, IsPlanRun, IsRefusalOf}
@@ -21,3 +24,12 @@ AreSameButPlace r s = (r ≡ s) ⊎ ((n : ℕ) × ((p : Place) × ((q : Place) �
 -- refused sources have one reason
 abbrev pub HasOneRefusal : Type 0
 HasOneRefusal = (sources : List (List ℕ)) (r s : Refusal) → IsRefusalOf sources r → IsRefusalOf sources s → AreSameButPlace r s
+
+-- the source to which the counts give a module spells it
+abbrev pub CountsGiveSources : Type 0
+CountsGiveSources =
+    (sources : List (List ℕ)) (modules : List Module) (counts : List ℕ) (m source : ℕ) → AreCountedModules sources modules counts → IsCountedTo counts m source → IsSpelledBy sources m source
+
+-- so each module has its source
+abbrev pub CountsGiveOrigins : Type 0
+CountsGiveOrigins = (sources : List (List ℕ)) (modules : List Module) (counts origins : List ℕ) → AreCountedModules sources modules counts → AreOrigins counts origins → HaveOrigins sources (length modules) origins

@@ -1,5 +1,6 @@
 pub mod Errors
 pub mod Laws
+pub mod ModuleCounts
 pub mod Names
 pub mod Origins
 pub mod Parts
@@ -8,3 +9,4 @@ pub mod Refusals
 pub mod Runs
 pub mod SourceModules
 pub mod Views
+pub mod Worked

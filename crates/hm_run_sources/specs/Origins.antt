@@ -21,3 +21,8 @@ pub record AreLocated (sources : List (List ℕ)) (located : List Located) : Typ
   pub as_many : length located ≡ length modules
   pub headers : map (λ l. l.header) located ≡ map (λ m. m.header) modules
   pub each : (m : ℕ) (d : Located) → m < length located → IsSpelledBy sources m (slice_index_or located m d).source
+
+-- each of so many modules has the number of its source
+pub record HaveOrigins (sources : List (List ℕ)) (modules : ℕ) (origins : List ℕ) : Type 0 where
+  pub as_many : length origins ≡ modules
+  pub each : (m d : ℕ) → m < length origins → IsSpelledBy sources m (slice_index_or origins m d)

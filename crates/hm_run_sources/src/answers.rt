@@ -5,7 +5,7 @@ ghost use Rattle.hm_run_sources.specs.Runs.{IsPlanRun};
 
 use crate::plans::plan_text;
 use crate::refusals::refusal_text;
-use crate::sets::{SetError, headers_of, set_modules};
+use crate::sets::{PlannedModules, SetError, headers_of, set_modules};
 use crate::{SetFault, Status, Trees};
 use hm_run_io::RunFault;
 use std::alloc::{AllocError, Global};
@@ -39,7 +39,8 @@ pub(crate) fn plan_answer(
     ensures err { IfErr result (λ e. e ≡ RunFault.Memory) }
 {
     match set_modules(alloc, sources) {
-        Ok((modules, plan)) => {
+        Ok(set) => {
+            let PlannedModules { modules, plan, .. } = set;
             let headers = headers_of(alloc, modules, trees)?;
             let text = plan_text(alloc, headers.as_slice(), &plan)?;
             let status = Status::Good;

@@ -1,9 +1,11 @@
 //! Turns sources into the modules of a lawful set with their import plan, or refuses them; and writes plans and refusals as texts.
 //!
-//! [`set_modules`] returns modules and plan. [`run_plan`] reads sources from readers, and writes the text of their plan to a writer.
+//! [`set_modules`] returns modules, plan, and the number of modules of each source. [`run_plan`] reads sources from readers, and writes the text of
+//! their plan to a writer.
 #![tactic(auto)]
 
 mod answers;
+mod counting;
 mod faults;
 pub mod laws;
 mod located;
@@ -18,12 +20,16 @@ mod status;
 mod trees;
 
 pub use answers::{Answer, refusal_answer};
+pub use counting::origins_of;
 pub use faults::{SetFault, SetFaultKind};
 pub use located::{Located, located_headers};
 pub use plans::plan_text;
 pub use refusals::refusal_text;
 pub use running::run_plan;
-pub use sets::{SetError, modules_between, planned, set_modules, source_tokens, spelled_modules};
+pub use sets::{
+    CountedModules, PlannedModules, SetError, modules_between, planned, set_modules, source_tokens,
+    spelled_modules,
+};
 pub use stacks::Nesting;
 pub use status::Status;
 pub use trees::Trees;

@@ -7,6 +7,7 @@ ghost use Rattle.hm_graph.specs.Imports.{IsImportPlan, IsLawful, imports_at, nam
 ghost use Rattle.hm_graph.specs.Refusal.{IsRefusal as IsPlanRefusal};
 ghost use Rattle.hm_syntax.specs.declared.ast.Module.{Module as ModuleTree};
 ghost use Rattle.hm_run_sources.specs.Errors.{IsSourceError, IsSetError, IsPlanError};
+ghost use Rattle.hm_run_sources.specs.ModuleCounts.{AreCountedModules};
 ghost use Rattle.hm_run_sources.specs.Names.{import_at, module_outlines};
 ghost use Rattle.hm_run_sources.specs.Parts.{FailsBehind, Follow};
 ghost use Rattle.hm_run_sources.specs.Refusals.{IsLasting, plan, refusal_of};
@@ -20,6 +21,21 @@ use hm_parse::ParseFault;
 use hm_syntax::{Header, Module};
 use std::alloc::{AllocError, Global};
 use std::mem;
+
+/// The modules of sources, in order of appearance, and the number of modules of each source.
+#[derive(Drop)]
+pub struct CountedModules {
+    pub modules: Vec<Module>,
+    pub counts: Vec<usize>,
+}
+
+/// The modules of a lawful set of sources, their import plan, and the number of modules of each source.
+#[derive(Drop)]
+pub struct PlannedModules {
+    pub modules: Vec<Module>,
+    pub plan: Plan,
+    pub counts: Vec<usize>,
+}
 
 /// Why a set of sources has no plan.
 #[derive(Debug, Drop)]
@@ -74,15 +90,15 @@ pub fn spelled_modules(
     }
 }
 
-/// Appends one source's modules.
+/// Appends one source's modules, and returns their number.
 pub(crate) fn add_modules(
     alloc: Global,
     source: usize,
     text: &[u8],
     modules: &mut Vec<Module>,
-) -> Result<(), SetError>
-    ensures ok { OnOk result ((first : List ModuleTree) × HasModules text.now first
-        × (modules.new.items ≡ modules.old.items ++ first)) }
+) -> Result<usize, SetError>
+    ensures ok { IfOk result (λ count. (first : List ModuleTree) × HasModules text.now first
+        × (modules.new.items ≡ modules.old.items ++ first) × (count ≡ length first)) }
     ensures err { IfErr result (λ e. IsSourceError source text.now e) }
 {
     let tokens = match source_tokens(alloc, source, text) {
@@ -93,13 +109,14 @@ pub(crate) fn add_modules(
         Ok(parsed) => parsed,
         Err(fault) => return Err(fault),
     };
+    let count = parsed.len();
     for module in parsed {
         modules.push(module).map_err(|_| SetError::Memory)?;
     }
-    Ok(())
+    Ok(count)
 }
 
-/// Returns the modules of the sources `from..to`, in order of appearance. Sources are numbered from 0.
+/// Returns the modules of the sources `from..to`, in order of appearance, with the number of modules of each. Sources are numbered from 0.
 ///
 /// # Errors
 ///
@@ -109,23 +126,30 @@ pub fn modules_between(
     sources: &[Vec<u8>],
     from: usize,
     to: usize,
-) -> Result<Vec<Module>, SetError>
+) -> Result<CountedModules, SetError>
     requires from { from ≤ to }
     requires to { to ≤ length sources.now }
-    ensures ok { IfOk result (λ modules. Follow (map (λ s. s.items) (take from sources.now)) (map (λ s. s.items) (take to sources.now)) modules.items) }
+    ensures ok { IfOk result (λ read. Follow (map (λ s. s.items) (take from sources.now)) (map (λ s. s.items) (take to sources.now))
+        read.modules.items read.counts.items) }
     ensures err { IfErr result (FailsBehind (map (λ s. s.items) sources.now) (map (λ s. s.items) (take from sources.now))) }
 {
     let mut modules = Vec::new(alloc);
+    let mut counts = Vec::new(alloc);
     for index in from..to {
-        add_modules(alloc, index + 1, sources[index].as_slice(), &mut modules)?;
+        let count = add_modules(alloc, index + 1, sources[index].as_slice(), &mut modules)?;
+        match counts.push(count) {
+            Ok(()) => {}
+            Err(_) => return Err(SetError::Memory),
+        }
     }
-    Ok(modules)
+    Ok(CountedModules { modules, counts })
 }
 
-/// Returns all modules of the sources, in order of appearance.
+/// Returns all modules of the sources, in order of appearance, with the number of modules of each.
 #[tactic(auto, using(crate::proofs::Reading::all_follow, crate::proofs::Reading::all_fail))]
-fn source_modules(alloc: Global, sources: &[Vec<u8>]) -> Result<Vec<Module>, SetError>
-    ensures ok { IfOk result (λ modules. AreModulesOf (map (λ s. s.items) sources.now) modules.items) }
+fn source_modules(alloc: Global, sources: &[Vec<u8>]) -> Result<CountedModules, SetError>
+    ensures read { IfOk result (λ read. AreModulesOf (map (λ s. s.items) sources.now) read.modules.items) }
+    ensures counted { IfOk result (λ read. AreCountedModules (map (λ s. s.items) sources.now) read.modules.items read.counts.items) }
     ensures err { IfErr result (λ e. IsSetError (map (λ s. s.items) sources.now) e) }
 {
     Ok(modules_between(alloc, sources, 0, sources.len())?)
@@ -195,22 +219,37 @@ fn plan_of(alloc: Global, modules: &[Module]) -> Result<Plan, PlanFault>
     hm_graph::import_plan(alloc, &headers)
 }
 
+/// Adds a plan to modules.
+fn with_plan(read: CountedModules, plan: Plan) -> PlannedModules
+    ensures modules { result.modules.items ≡ read.modules.items }
+    ensures counts { result.counts.items ≡ read.counts.items }
+    ensures plan { result.plan ≡ plan }
+{
+    let CountedModules { modules, counts } = read;
+    PlannedModules {
+        modules,
+        plan,
+        counts,
+    }
+}
+
 /// Returns the modules with their plan.
 ///
 /// # Errors
 ///
 /// `Refused` with the first fault of the plan, and `Memory` if memory ran out.
 #[tactic(auto, using(crate::proofs::Reading::refused_by_plan))]
-pub fn planned(alloc: Global, modules: Vec<Module>) -> Result<(Vec<Module>, Plan), SetError>
-    ensures same { IfOk result (λ set. set.0.items ≡ modules.items) }
-    ensures lawful { IfOk result (λ set. IsLawful (module_outlines set.0.items)) }
-    ensures planned { IfOk result (λ set. IsImportPlan (module_outlines set.0.items) set.1) }
-    ensures err { IfErr result (λ e. (sources : List (List ℕ)) → AreModulesOf sources modules.items → IsPlanError sources e) }
+pub fn planned(alloc: Global, read: CountedModules) -> Result<PlannedModules, SetError>
+    ensures same { IfOk result (λ set. set.modules.items ≡ read.modules.items) }
+    ensures counts { IfOk result (λ set. set.counts.items ≡ read.counts.items) }
+    ensures lawful { IfOk result (λ set. IsLawful (module_outlines set.modules.items)) }
+    ensures planned { IfOk result (λ set. IsImportPlan (module_outlines set.modules.items) set.plan) }
+    ensures err { IfErr result (λ e. (sources : List (List ℕ)) → AreModulesOf sources read.modules.items → IsPlanError sources e) }
 {
-    match plan_of(alloc, modules.as_slice()) {
-        Ok(plan) => Ok((modules, plan)),
+    match plan_of(alloc, read.modules.as_slice()) {
+        Ok(plan) => Ok(with_plan(read, plan)),
         Err(PlanFault::Memory) => Err(SetError::Memory),
-        Err(fault) => match plan_fault(alloc, modules.as_slice(), fault) {
+        Err(fault) => match plan_fault(alloc, read.modules.as_slice(), fault) {
             Ok(fault) => Err(SetError::Refused(fault)),
             Err(AllocError) => Err(SetError::Memory),
         },
@@ -218,20 +257,21 @@ pub fn planned(alloc: Global, modules: Vec<Module>) -> Result<(Vec<Module>, Plan
 }
 
 // Why: docs/DECISIONS.md, "Order of faults".
-/// Returns the modules and the plan of a set of sources.
+/// Returns the modules of a set of sources, their plan, and the number of modules of each source.
 ///
 /// # Errors
 ///
 /// `Refused` with the first fault: that of a source, or else that of the plan. `Memory` may come at any time.
 #[tactic(auto, using(crate::proofs::Reading::refused_by_plan))]
-pub fn set_modules(alloc: Global, sources: &[Vec<u8>]) -> Result<(Vec<Module>, Plan), SetError>
-    ensures read { IfOk result (λ set. AreModulesOf (map (λ s. s.items) sources.now) set.0.items) }
-    ensures lawful { IfOk result (λ set. IsLawful (module_outlines set.0.items)) }
-    ensures planned { IfOk result (λ set. IsImportPlan (module_outlines set.0.items) set.1) }
+pub fn set_modules(alloc: Global, sources: &[Vec<u8>]) -> Result<PlannedModules, SetError>
+    ensures read { IfOk result (λ set. AreModulesOf (map (λ s. s.items) sources.now) set.modules.items) }
+    ensures counted { IfOk result (λ set. AreCountedModules (map (λ s. s.items) sources.now) set.modules.items set.counts.items) }
+    ensures lawful { IfOk result (λ set. IsLawful (module_outlines set.modules.items)) }
+    ensures planned { IfOk result (λ set. IsImportPlan (module_outlines set.modules.items) set.plan) }
     ensures err { IfErr result (λ e. IsPlanError (map (λ s. s.items) sources.now) e) }
 {
-    let modules = source_modules(alloc, sources)?;
-    Ok(planned(alloc, modules)?)
+    let read = source_modules(alloc, sources)?;
+    Ok(planned(alloc, read)?)
 }
 
 /// Returns the headers of modules. Drops the rest of the modules, or leaves it in memory.

@@ -15,6 +15,7 @@ use Rattle.std.proofs.lemmas.List.Sorted.{All-permutation}
 use Rattle.hm_syntax.specs.declared.ast.Module.{Module}
 use Rattle.hm_verdicts.specs.Sets.{imports_of, module_at, no_module}
 use Rattle.hm_build_output.proofs.Blamed.{named_through}
+use Rattle.hm_build_output.proofs.Called.{imported_in_row}
 use Rattle.hm_build_reports.specs.ReportBlocks.{all_blamed}
 use Rattle.hm_build_reports.specs.Settling.{module_set, statuses_of}
 use Rattle.hm_build_reports.proofs.Blame.{are_blamed}
@@ -32,6 +33,14 @@ pub blames_of-requires-clause-settled : goal.blames_of-requires-clause-settled
 blames_of-requires-clause-settled c k d h =
     let told = c.args.told.now in
     subst (λ n. get_or c.imports-row.result.now k d < n) (sym c.requires.len) (row_inside told.modules.now told.plan.now c.args.number c.imports-row.result.now c.requires.lawful c.requires.number c.imports-row.ensures k d h)
+
+pub blames_of-requires-clause-imported : goal.blames_of-requires-clause-imported
+blames_of-requires-clause-imported c k d h =
+    let told = c.args.told.now in
+    let p = module_set told.modules.now told.plan.now in
+    let program : c.deref.result.now ≡ module_at p c.args.number = c.deref.ensures ∙ sym (get_or-map arc_value told.modules.now c.args.number c.index-told-number.result no_module c.requires.number) in
+    let imports : c.as_slice-imports.result.now ≡ (module_at p c.args.number).header.imports = c.as_slice-imports.ensures ∙ ap (λ (m : Module). m.header.imports) program in
+    imported_in_row told.modules.now told.plan.now c.args.number c.imports-row.result.now c.as_slice-imports.result.now c.requires.lawful c.requires.number c.imports-row.ensures imports k d h
 
 pub returns : goal.returns
 returns c =

@@ -6,13 +6,13 @@ use Rattle.hm_messages.specs.Subjects.{exhausted}
 use Rattle.hm_messages.specs.declared.heading.Paint.{Paint}
 use Rattle.hm_messages.specs.declared.pages.Page.{Page}
 use Rattle.hm_messages.proofs.AtPage.{file_is, text_is}
-use Rattle.hm_build_output.proofs.exhausted.message_of.Goals as goal
+use Rattle.hm_build_output.proofs.exhausted.module_message.Goals as goal
 
 pub returns : goal.returns
 returns c =
     let sources = map (λ s. s.items) c.args.sources.now in
     let pages = c.in_ok-pages.pages.items.items in
-    let here = c.index-here.result.now in
+    let here = c.index-located-number.result in
     let source = here.source in
     let page : Page = c.index-page.result.now in
     let is : page ≡ get_or pages source page = search rules in
@@ -22,8 +22,8 @@ returns c =
     let text : List ℕ = c.in_ok-message.field-0.items in
     let told : IsMessage c.in_ok-pages.pages.paint page.file.now page.lines place (exhausted name) text = c.in_ok-message.ensures in
     record {
-      modules = c.in_ok-located.ensures.ok.modules;
-      read = c.in_ok-located.ensures.ok.read;
+      modules = c.requires.modules;
+      read = c.requires.read;
       number = c.args.number;
       within = search rules;
       source = source;
