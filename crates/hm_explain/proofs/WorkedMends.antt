@@ -10,4 +10,6 @@ worked_mends_row = record {
   outside = λ i. absurd (omega (arith, i.2));
   exchanged = refl;
   stays = λ e. let other : 121 ≡ 120 = ap (λ (l : List ℕ). get_or l 3 0) e in absurd (omega (arith, other));
+  left = refl;
+  other = λ e. let apart : 32 ≡ 120 = ap (λ (l : List ℕ). get_or l 2 0) e in absurd (omega (arith, apart));
 }

@@ -20,7 +20,7 @@ use Rattle.hm_explain.specs.Holes.{hole}
 use Rattle.hm_explain.specs.InfiniteTypes.{NeedInfinite}
 use Rattle.hm_explain.specs.PartTypes.{AreTextsOf, ExportsIn, hollowed}
 use Rattle.hm_explain.specs.Signatures.{IsGood, IsGoodIn}
-use Rattle.hm_explain.specs.WorkedPartTypes.{ExportsRow, GoodRow, OthersRow, ProbesRow, InfiniteRow, SignaturesRow, TextsRow, a, applied_to_itself, b, equal_types, function, two_variables}
+use Rattle.hm_explain.specs.WorkedPartTypes.{ExportsRow, GoodRow, OthersRow, ProbesRow, InfiniteRow, SignaturesRow, TextsRow, a, applied_to_itself, b, equal_types, function, tuple, two_variables}
 use Rattle.hm_explain.specs.declared.layout.Other.{Other}
 use Rattle.hm_explain.proofs.WorkedHoles.{only_module}
 
@@ -28,6 +28,7 @@ pub worked_probes : ProbesRow
 worked_probes = record {
   argument = refl;
   listed = refl;
+  named = refl;
   unlisted = λ e. let other : 102 ≡ 112 = ap (λ (l : List ℕ). get_or l 10 0) e in absurd (omega (arith, other));
 }
 
@@ -49,7 +50,7 @@ worked_signatures = record {
   own = refl;
 }
 
--- the arguments of a type, and the first and the second one of some
+-- the arguments of a type, and the first one and the rest of some
 abbrev arguments : Mono → Monos
 arguments (leaf v) = none
 arguments (app h ts) = ts
@@ -62,35 +63,40 @@ abbrev rest_of : Monos → Monos
 rest_of none = none
 rest_of (more t ts) = ts
 
-abbrev pair_in : Mono → Monos
-pair_in t = arguments (first_of t (arguments t))
+-- the second and the third of three types, and the third one, which a function takes
+abbrev last_two : Mono → Monos
+last_two t = rest_of (arguments (first_of t (arguments t)))
 
 abbrev expected_in : Mono → Mono
-expected_in t = first_of t (pair_in t)
+expected_in t = first_of t (last_two t)
 
 abbrev actual_in : Mono → Mono
-actual_in t = first_of t (rest_of (pair_in t))
+actual_in t = first_of t (rest_of (last_two t))
 
 not_exchanged : (infinite : Bool) → ¬ (AreTextsOf applied_to_itself (codes "a -> b") (codes "a") infinite)
 not_exchanged infinite h =
-    let first : a ≡ h.expected_type = ap expected_in h.pair in
+    let first : a ≡ h.expected_type = ap expected_in h.three in
     let text : codes "a -> b" ≡ codes "a" = subst (λ (t : Mono). codes "a -> b" ≡ scheme_text_of (record { vars = 2; body = t })) (sym first) h.expected_is in
     absurd (omega (arith, ap length text))
 
 not_equal : (t u : List ℕ) (infinite : Bool) → ¬ (AreTextsOf equal_types t u infinite)
-not_equal t u infinite h = h.apart (sym (ap expected_in h.pair) ∙ ap actual_in h.pair)
+not_equal t u infinite h = h.apart (sym (ap expected_in h.three) ∙ ap actual_in h.three)
 
 -- two variables need no infinite type
 not_infinite : (t u : List ℕ) → ¬ (AreTextsOf two_variables t u true)
 not_infinite t u h =
-    subst (λ (x : Mono). NeedInfinite a x) (sym (ap actual_in h.pair)) (subst (λ (x : Mono). NeedInfinite x h.actual_type) (sym (ap expected_in h.pair)) (h.contained refl))
+    subst (λ (x : Mono). NeedInfinite a x) (sym (ap actual_in h.three)) (subst (λ (x : Mono). NeedInfinite x h.actual_type) (sym (ap expected_in h.three)) (h.contained refl))
 
 a_function : ¬ (a ≡ function a b)
 a_function e = cc
 
+swapped_tuples : ¬ (tuple b a ≡ tuple a b)
+swapped_tuples e = cc
+
 pub worked_texts : TextsRow
 worked_texts = record {
-  itself = record { expected_type = a; actual_type = function a b; pair = refl; apart = a_function; expected_is = refl; actual_is = refl; contained = λ e. refl };
+  itself = record { own_type = function a b; expected_type = a; actual_type = function a b; three = refl; apart = a_function; expected_is = refl; actual_is = refl; contained = λ e. refl };
+  lettered = record { own_type = function (tuple a b) (tuple b a); expected_type = tuple b a; actual_type = tuple a b; three = refl; apart = swapped_tuples; expected_is = refl; actual_is = refl; contained = λ e. cc };
   exchanged = not_exchanged;
   equal = not_equal;
   finite = not_infinite;

@@ -19,6 +19,10 @@ hole = codes "(let { h = h } in h)"
 abbrev pub with_hole : List ℕ → ℕ → ℕ → List ℕ
 with_hole source from to = take from source ++ (hole ++ drop to source)
 
+-- the source without its bytes from the first number up to the second
+abbrev pub without : List ℕ → ℕ → ℕ → List ℕ
+without source from to = take from source ++ drop to source
+
 -- a type fault of a definition that isn't among these
 abbrev pub IsElsewhere : List (List ℕ) → Fault → Type 0
 IsElsewhere names f = (f.kind ≡ Untyped) × ¬ (Contains names f.name)

@@ -1,3 +1,4 @@
+pub mod Aliases
 pub mod Hidden
 pub mod Holes
 pub mod InfiniteTypes
@@ -5,7 +6,10 @@ pub mod Layouts
 pub mod Limits
 pub mod Mends
 pub mod PartTypes
+pub mod Shown
 pub mod Signatures
 pub mod Worked
 pub mod WorkedHidden
+pub mod WorkedLimits
 pub mod WorkedPartTypes
+pub mod WorkedShown

@@ -1,11 +1,11 @@
--- What gives a definition a type: another expression, another pattern, or two expressions exchanged.
+-- What gives a definition a type: another expression, another pattern, two expressions exchanged, or one left out.
 use Rattle.std.specs.Prelude.{◌≤◌, ℕ, List, [], ◌∷◌, ◌++◌, All, codes, length, take, drop, flat_map, slice_range}
 use Rattle.hm_types.specs.Interfaces.{Exports as Interface}
-use Rattle.hm_explain.specs.Holes.{HasTypesIn, IsCulprit, IsPartOf, hole}
+use Rattle.hm_explain.specs.Holes.{HasTypesIn, IsCulprit, IsPartOf, hole, without}
 use Rattle.hm_explain.specs.declared.mends.Frame.{Frame}
 use Rattle.hm_explain.specs.declared.mends.Frame.TheVariants.{Where, Front, Let}
 use Rattle.hm_explain.specs.declared.mends.Mend.{Mend}
-use Rattle.hm_explain.specs.declared.mends.Mend.TheVariants.{Expression, Pattern, Exchange}
+use Rattle.hm_explain.specs.declared.mends.Mend.TheVariants.{Expression, Pattern, Exchange, Removal}
 use Rattle.hm_explain.specs.declared.mends.Span.{Span}
 use Rattle.hm_explain.specs.declared.search.Culprit.{Culprit}
 
@@ -68,8 +68,15 @@ pub record IsExchange (source name : List ℕ) (fs : List Interface) (definition
   pub others : List (List ℕ)
   pub types : HasTypesIn (with_exchanged source first second) name fs (definition ∷ others)
 
--- the definition has a type with another expression or another pattern there, or with the two parts exchanged
+-- the definition has a type if the part is left out
+pub record IsRemoval (source name : List ℕ) (fs : List Interface) (definition : List ℕ) (part : Culprit) : Type 0 where
+  pub part_of : IsPartOf source part
+  pub others : List (List ℕ)
+  pub types : HasTypesIn (without source part.from part.to) name fs (definition ∷ others)
+
+-- the definition has a type with another expression or another pattern there, with the two parts exchanged, or if the part is left out
 abbrev pub IsMend : List ℕ → List ℕ → List Interface → List ℕ → Mend → Type 0
 IsMend source name fs definition (Expression part) = IsCulprit source name fs definition part
 IsMend source name fs definition (Pattern part) = IsPatternPart source name fs definition part
 IsMend source name fs definition (Exchange first second) = IsExchange source name fs definition first second
+IsMend source name fs definition (Removal part) = IsRemoval source name fs definition part

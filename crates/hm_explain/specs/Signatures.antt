@@ -1,5 +1,5 @@
 -- The type that a definition has without its signature, where that is to blame for a type fault.
-use Rattle.std.specs.Prelude.{◌≡◌, ◌≤◌, ℕ, List, ◌∷◌, ◌++◌, codes, length, take, drop, slice_range}
+use Rattle.std.specs.Prelude.{◌≡◌, ◌≤◌, ℕ, List, ◌∷◌, ◌++◌, codes, length, slice_range}
 use Rattle.hm_types.specs.Interfaces.{Exports as Interface}
 use Rattle.hm_types.specs.Schemes.{TypeScheme}
 use Rattle.hm_types.specs.StandardPrelude.{prelude_interface}
@@ -7,13 +7,10 @@ use Rattle.hm_types_display.specs.Texts.{scheme_text_of}
 use Rattle.hm_syntax.specs.declared.ast.Module.{Module}
 use Rattle.hm_names.specs.Imports.{AreImportsOf}
 use Rattle.hm_verdicts.specs.ModuleVerdicts.{Verdict, Good, Faulty, IsVerdict}
-use Rattle.hm_explain.specs.Holes.{HasTypesIn, IsModuleIn, IsPartOf}
+use Rattle.hm_explain.specs.Holes.{HasTypesIn, IsModuleIn, IsPartOf, without}
 use Rattle.hm_explain.specs.PartTypes.{ExportsIn, Surroundings, around, hollow}
+use Rattle.hm_explain.specs.Shown.{IsShown}
 use Rattle.hm_explain.specs.declared.search.Culprit.{Culprit}
-
--- the source without its bytes from the first number up to the second
-abbrev pub without : List ℕ → ℕ → ℕ → List ℕ
-without source from to = take from source ++ drop to source
 
 -- a variable that is what a definition is without a signature, which is local (Report 3.12, 4.5.1)
 abbrev pub alone : List ℕ → List ℕ → List ℕ
@@ -32,12 +29,18 @@ pub record HasTypeAlone (source name : List ℕ) (fs : List Interface) (definiti
   pub typed : ExportsIn (with_alone source definition place) name fs (codes "part'types") scheme
   pub text_is : text ≡ scheme_text_of scheme
 
+-- the same, as it is shown
+pub record HasShownTypeAlone (source name : List ℕ) (fs : List Interface) (definition text : List ℕ) : Type 0 where
+  pub whole : List ℕ
+  pub alone : HasTypeAlone source name fs definition whole
+  pub shown : IsShown (λ s. with_alone source definition s) name fs whole text
+
 -- The definition has a type without this part of the source, and this is the text of the type that it has alone
 pub record IsUnsigned (source name : List ℕ) (fs : List Interface) (definition : List ℕ) (part : Culprit) (text : List ℕ) : Type 0 where
   pub part_of : IsPartOf source part
   pub others : List (List ℕ)
   pub types : HasTypesIn (without source part.from part.to) name fs (definition ∷ others)
-  pub own : HasTypeAlone source name fs definition text
+  pub own : HasShownTypeAlone source name fs definition text
 
 abbrev pub IsGood : Verdict → Type 0
 IsGood (Good f) = Unit {0}

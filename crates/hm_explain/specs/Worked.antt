@@ -10,7 +10,7 @@ use Rattle.hm_names.specs.declared.faults.Kind.{Kind}
 use Rattle.hm_names.specs.declared.faults.Kind.TheVariants.{Arity, Untyped}
 use Rattle.hm_verdicts.specs.ModuleVerdicts.{Good, Faulty, IsVerdict}
 use Rattle.hm_verdicts.specs.Worked.{module_A, module_B}
-use Rattle.hm_explain.specs.Holes.{AreTyped, HasTypesIn, IsPartOf, with_hole}
+use Rattle.hm_explain.specs.Holes.{AreTyped, HasTypesIn, IsPartOf, with_hole, without}
 use Rattle.hm_explain.specs.Mends.{IsInside, bindings, with_exchanged, with_wildcard}
 use Rattle.hm_explain.specs.declared.mends.Frame.TheVariants.{Where, Front}
 use Rattle.hm_explain.specs.declared.mends.Span.{Span}
@@ -56,7 +56,8 @@ span from to = record { from = from; to = to }
 abbrev pub part : ℕ → ℕ → Culprit
 part from to = record { from = from; to = to; start = at_column (from + 1); end = at_column to }
 
--- Without its pattern [x], f has x in a where of its own; where it has one, x is the first of it. With x and y exchanged, each is in brackets
+-- Without its pattern [x], f has x in a where of its own; where it has one, x is the first of it. With x and y exchanged, each is in brackets. With y left
+-- out, x stays
 pub record MendsRow : Type 0 where
   pub own : with_wildcard (codes "f [x] = x") 2 5 9 (bindings (codes "f [x] = x") Where (span 3 4 ∷ [])) ≡ codes "f _ = x where { x = (let { h = h } in h) ; }"
   pub there : with_wildcard (codes "f [x] = y where {y = x}") 2 5 17 (bindings (codes "f [x] = y where {y = x}") Front (span 3 4 ∷ [])) ≡ codes "f _ = y where { x = (let { h = h } in h) ; y = x}"
@@ -64,3 +65,5 @@ pub record MendsRow : Type 0 where
   pub outside : ¬ (IsInside (part 2 5) (span 8 9))
   pub exchanged : with_exchanged (codes "f x y") (part 2 3) (part 4 5) ≡ codes "f (y) (x)"
   pub stays : ¬ (with_exchanged (codes "f x y") (part 2 3) (part 4 5) ≡ codes "f (x) (y)")
+  pub left : without (codes "f x y") 4 5 ≡ codes "f x "
+  pub other : ¬ (without (codes "f x y") 2 3 ≡ codes "f x ")

@@ -74,7 +74,7 @@ fn add_exchanges(
     Ok(())
 }
 
-/// Adds the changes that leave an argument out, the last one first. That argument and the one before it are reported.
+/// Adds the changes that leave an argument out, the last one first.
 fn add_without_one(
     found: &mut Vec<Change>,
     lexed: &Lexed<'_>,
@@ -88,12 +88,12 @@ fn add_without_one(
         } else {
             whole.start
         };
-        let told = Run {
+        let around = Run {
             start,
             end: atoms[number].end,
         };
         found.push(Change {
-            told: Told::Expression(told),
+            told: Told::Removal(atoms[number], around),
             first: in_place(lexed, atoms[number], NOTHING),
             second: behind(lexed, whole, NOTHING),
         })?;

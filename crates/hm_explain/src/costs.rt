@@ -1,6 +1,6 @@
 //! The costs of explanations, and their limits.
 ghost use Rattle.std.specs.Prelude.{◌≡◌, false, true};
-ghost use Rattle.hm_explain.specs.Limits.{IsLimitTold, IsUsedUp};
+ghost use Rattle.hm_explain.specs.Limits.{IsUsedUp};
 
 use crate::tokens::Outline;
 use hm_parse_grammar::Symbol;
@@ -36,28 +36,32 @@ pub struct Effort {
     left: usize,
     /// The number of trials that are left for the current fault.
     trials: usize,
-    /// Whether `tells_limit` returned true.
-    is_limit_told: bool,
 }
 
 impl Effort {
     /// Returns the effort for all explanations of a run.
-    pub fn of_run() -> Effort {
+    pub fn of_run() -> Effort
+        ensures { ¬ (IsUsedUp result) }
+    {
         Effort {
             left: MOST_COST,
             trials: 0,
-            is_limit_told: false,
         }
     }
 
     /// Starts with another fault.
-    pub(crate) fn begin(&mut self) {
+    pub(crate) fn begin(&mut self)
+        ensures { IsUsedUp self.old → IsUsedUp self.new }
+    {
         self.trials = MOST_TRIALS;
     }
 
     /// Takes off a trial of this cost, and returns whether the effort was enough for it. If it wasn't, nothing is left for the run.
-    pub(crate) fn pays(&mut self, cost: usize) -> bool {
-        if self.trials == 0 {
+    pub(crate) fn pays(&mut self, cost: usize) -> bool
+        ensures refused { IsUsedUp self.old → result ≡ false }
+        ensures stays { IsUsedUp self.old → IsUsedUp self.new }
+    {
+        if self.left == 0 || self.trials == 0 {
             return false;
         }
         match self.left.checked_sub(cost) {
@@ -76,7 +80,10 @@ impl Effort {
 
     /// Takes off what walks over the tokens of a source cost, and returns whether the effort was enough for it. So the walks of all faults of a module end
     /// in time.
-    pub(crate) fn pays_for_walks(&mut self, source: &[u8]) -> bool {
+    pub(crate) fn pays_for_walks(&mut self, source: &[u8]) -> bool
+        ensures refused { IsUsedUp self.old → result ≡ false }
+        ensures stays { IsUsedUp self.old → IsUsedUp self.new }
+    {
         self.pays(source.len())
     }
 
@@ -85,16 +92,11 @@ impl Effort {
         self.trials == 0
     }
 
-    /// Returns whether to report that nothing is left for the run: once, after a trial for which the effort wasn't enough.
-    pub fn tells_limit(&mut self) -> bool
-        ensures told { result ≡ true → IsUsedUp self.new × IsLimitTold self.new }
-        ensures silent { result ≡ false → IsUsedUp self.new → IsLimitTold self.new }
-        ensures once { IsLimitTold self.old → result ≡ false }
+    /// Returns whether nothing is left for the run.
+    pub fn is_used_up(&self) -> bool
+        ensures yes { result ≡ true → IsUsedUp self.now }
+        ensures no { result ≡ false → ¬ (IsUsedUp self.now) }
     {
-        if self.left > 0 || self.is_limit_told {
-            return false;
-        }
-        self.is_limit_told = true;
-        true
+        self.left == 0
     }
 }

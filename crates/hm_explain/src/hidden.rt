@@ -1,9 +1,10 @@
 //! The faults that the report leaves out because names of the module aren't in scope.
-ghost use Rattle.std.specs.Prelude.{◌≡◌, ◌≤◌, IfOk, IfSome, All, flat_map, length, map, true};
+ghost use Rattle.std.specs.Prelude.{◌≡◌, ◌≤◌, IfOk, IfSome, None, All, flat_map, length, map, true};
 ghost use Rattle.std.specs.Arc.{arc_value};
 ghost use Rattle.hm_names.specs.declared.faults.Kind.TheVariants.{Unbound};
 ghost use Rattle.hm_verdicts.specs.Outcomes.{verdict_of};
 ghost use Rattle.hm_explain.specs.Hidden.{AreLater, IsInFrontOf, IsLater, IsLaterKind, IsOutOfScope, IsVerdictBeyond, defined, with_definitions as defined_text};
+ghost use Rattle.hm_explain.specs.Limits.{IsUsedUp};
 
 use crate::costs::{Effort, cost_of};
 use crate::places::place_behind;
@@ -225,8 +226,10 @@ pub fn hidden_of(
     faults: &[Fault],
     effort: &mut Effort,
 ) -> Result<Option<Outcome>, AllocError>
-    ensures { IfOk result (λ found. IfSome found (λ o. IsVerdictBeyond question.now.source.now question.now.name.now (map arc_value question.now.imports.now)
+    ensures beyond { IfOk result (λ found. IfSome found (λ o. IsVerdictBeyond question.now.source.now question.now.name.now (map arc_value question.now.imports.now)
         faults.now o.verdict)) }
+    ensures none { IsUsedUp effort.old → IfOk result (λ found. found ≡ None) }
+    ensures stays { IsUsedUp effort.old → IsUsedUp effort.new }
 {
     let Some(names) = unbound_in(alloc, faults)? else {
         return Ok(None);

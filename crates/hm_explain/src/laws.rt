@@ -2,7 +2,9 @@
 ghost use Rattle.hm_explain.specs.InfiniteTypes.{NoCommonInstance};
 ghost use Rattle.hm_explain.specs.Worked.{HolesRow, MendsRow, PartsRow, TypesRow, VerdictsRow};
 ghost use Rattle.hm_explain.specs.WorkedHidden.{BeyondRow, DefinitionsRow, LaterRow};
+ghost use Rattle.hm_explain.specs.WorkedLimits.{LimitsRow};
 ghost use Rattle.hm_explain.specs.WorkedPartTypes.{ExportsRow, GoodRow, InfiniteRow, OthersRow, ProbesRow, SignaturesRow, TextsRow};
+ghost use Rattle.hm_explain.specs.WorkedShown.{AliasRow, FoldedRow};
 
 /// Sources with a hole, parts of a source, verdicts with which a definition has a type, and sources in which it has one.
 #[tactic(auto, using(crate::proofs::WorkedHoles::worked_holes, crate::proofs::WorkedHoles::worked_parts, crate::proofs::WorkedHoles::worked_verdicts, crate::proofs::WorkedHoles::worked_types))]
@@ -43,4 +45,17 @@ pub fn worked_hidden()
     ensures definitions { DefinitionsRow }
     ensures later { LaterRow }
     ensures beyond { BeyondRow }
+{}
+
+/// An effort that is used up, and one that isn't.
+#[tactic(auto, using(crate::proofs::WorkedLimits::worked_limits_row))]
+pub fn worked_limits()
+    ensures { LimitsRow }
+{}
+
+/// Texts of types with a name for a part of them, and synonyms that are names for types.
+#[tactic(auto, using(crate::proofs::WorkedShown::worked_folded, crate::proofs::WorkedShown::worked_aliases))]
+pub fn worked_names()
+    ensures folded { FoldedRow }
+    ensures aliases { AliasRow }
 {}

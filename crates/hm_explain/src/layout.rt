@@ -1,8 +1,8 @@
 //! The sources in which a function takes a value of each of the two types of a part, or a variable has the type of a definition.
-ghost use Rattle.std.specs.Prelude.{◌≡◌, ◌≤◌, ◌++◌, IfOk, IfSome, codes, length};
+ghost use Rattle.std.specs.Prelude.{◌≡◌, ◌≤◌, ◌++◌, IfOk, IfSome, codes, flat_map, length};
 ghost use Rattle.hm_explain.specs.Holes.{hole};
 ghost use Rattle.hm_explain.specs.Layouts.{surroundings_of};
-ghost use Rattle.hm_explain.specs.PartTypes.{around as around_text, before as before_text, hollow as hollow_text, hollowed as hollowed_text, listed_before as listed_text, probe as probe_text, probed_definition as definition_text, probed_part as part_text, with_probe as probed_text};
+ghost use Rattle.hm_explain.specs.PartTypes.{around as around_text, before as before_text, hollow as hollow_text, hollowed as hollowed_text, listed as listed_name, listed_before as listed_text, probe as probe_text, probed_definition as definition_text, probed_part as part_text, with_probe as probed_text};
 ghost use Rattle.hm_explain.specs.Signatures.{alone as alone_text, with_alone as with_alone_text};
 
 use crate::mends::Span;
@@ -26,6 +26,8 @@ pub(crate) struct Layout<'a> {
     pub name: &'a str,
     /// Where the export list of the module begins, if it has one.
     pub exported: Option<usize>,
+    /// The names of types that are added to the export list.
+    pub names: &'a [Span],
     /// The bytes of the definition.
     pub whole: Span,
     /// The definitions before it that are holes, in order.
@@ -77,16 +79,16 @@ fn hollow(alloc: Global, name: &[u8]) -> Result<Vec<u8>, AllocError>
 }
 
 // Why: docs/DECISIONS.md, "Signatures in a note".
-/// Returns the function of the two values, in which the definition is local.
+/// Returns the function of the two values and of one with the type of the definition, which is local in it.
 fn probe(alloc: Global, name: &[u8], definition: &[u8]) -> Result<Vec<u8>, AllocError>
     ensures { IfOk result (λ made. made.items ≡ probe_text name.now definition.now) }
 {
     let mut made = hollow(alloc, name)?;
-    made.extend_from_slice(b" ; part'types (part'expected, part'actual) = case let { ")?;
+    made.extend_from_slice(b" ; part'types (part'own, part'expected, part'actual) = case let { ")?;
     made.extend_from_slice(definition)?;
     made.extend_from_slice(b" } in ")?;
     made.extend_from_slice(name)?;
-    made.extend_from_slice(b" : part'declared : [] of { _ -> () }")?;
+    made.extend_from_slice(b" : part'own : part'declared : [] of { _ -> () }")?;
     Ok(made)
 }
 
@@ -145,38 +147,68 @@ fn hollowed(
     Ok(Some(with_hollow(alloc, front, first.name, behind.as_slice())?))
 }
 
-/// Returns the source before the definition, with the function at the beginning of the export list.
+/// Returns a name of the source for an export list.
+fn listed(alloc: Global, source: &[u8], name: Span) -> Result<Vec<u8>, AllocError>
+    requires ordered { name.from ≤ name.to }
+    requires within { name.to ≤ length source.now }
+    ensures { IfOk result (λ made. made.items ≡ listed_name source.now name) }
+{
+    let mut made = Vec::from_slice(alloc, &source[name.from..name.to])?;
+    made.extend_from_slice(b" , ")?;
+    Ok(made)
+}
+
+/// Returns names of the source for an export list. Returns `None` if they aren't in the source.
+fn all_listed(alloc: Global, source: &[u8], names: &[Span]) -> Result<Option<Vec<u8>>, AllocError>
+    ensures { IfOk result (λ found. IfSome found (λ made. made.items ≡ flat_map (listed_name source.now) names.now)) }
+{
+    let mut made = Vec::new(alloc);
+    for name in names {
+        if name.from > name.to || name.to > source.len() {
+            return Ok(None);
+        }
+        let item = listed(alloc, source, *name)?;
+        made.extend_from_slice(item.as_slice())?;
+    }
+    Ok(Some(made))
+}
+
+/// Returns the source before the definition, with the function and the names at the beginning of the export list.
 fn listed_before(
     alloc: Global,
-    source: &[u8],
+    layout: &Layout<'_>,
     at: usize,
-    from: usize,
-    others: &[Other<'_>],
 ) -> Result<Option<Vec<u8>>, AllocError>
-    ensures { IfOk result (λ found. IfSome found (λ made. made.items ≡ listed_text source.now at from others.now)) }
+    ensures { IfOk result (λ found. IfSome found (λ made. made.items
+        ≡ listed_text layout.now.source.now at layout.now.names.now layout.now.whole.from layout.now.before.now)) }
 {
+    let source = layout.source;
     if at > source.len() {
         return Ok(None);
     }
-    let Some(behind) = hollowed(alloc, source, at, from, others)? else {
+    let Some(behind) = hollowed(alloc, source, at, layout.whole.from, layout.before)? else {
+        return Ok(None);
+    };
+    let Some(names) = all_listed(alloc, source, layout.names)? else {
         return Ok(None);
     };
     let mut made = Vec::from_slice(alloc, &source[..at])?;
     made.extend_from_slice(b"part'types , ")?;
+    made.extend_from_slice(names.as_slice())?;
     made.extend_from_slice(behind.as_slice())?;
     Ok(Some(made))
 }
 
-/// Returns the source before the definition, with the function among the exports.
+/// Returns the source before the definition, with the function and the names among the exports.
 fn before(alloc: Global, layout: &Layout<'_>) -> Result<Option<Vec<u8>>, AllocError>
     ensures { IfOk result (λ found. IfSome found (λ made. made.items
-        ≡ before_text layout.now.source.now layout.now.exported layout.now.whole.from layout.now.before.now)) }
+        ≡ before_text layout.now.source.now layout.now.exported layout.now.names.now layout.now.whole.from layout.now.before.now)) }
 {
     let source = layout.source;
     let from = layout.whole.from;
     match layout.exported {
         None => Ok(hollowed(alloc, source, 0, from, layout.before)?),
-        Some(at) => Ok(listed_before(alloc, source, at, from, layout.before)?),
+        Some(at) => Ok(listed_before(alloc, layout, at)?),
     }
 }
 

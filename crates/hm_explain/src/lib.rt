@@ -23,6 +23,7 @@ mod places;
 mod ranking;
 mod reading;
 mod search;
+mod shown;
 mod signatures;
 mod tokens;
 mod told;

@@ -2,10 +2,11 @@
 ghost use Rattle.std.specs.Prelude.{◌≡◌, ◌≤◌, IfOk, All, flat_map, length, map, true};
 ghost use Rattle.std.specs.Arc.{arc_value};
 ghost use Rattle.hm_explain.specs.Holes.{IsPartOf};
-ghost use Rattle.hm_explain.specs.Mends.{HasTypesWithPattern, IsExchange, IsInside, bindings as bindings_text, bracketed as bracketed_text, closing as closing_text, hole_for as hole_text, opening as opening_text, with_exchanged as exchanged_text, with_wildcard as wildcard_text};
+ghost use Rattle.hm_explain.specs.Mends.{HasTypesWithPattern, IsExchange, IsInside, IsRemoval, bindings as bindings_text, bracketed as bracketed_text, closing as closing_text, hole_for as hole_text, opening as opening_text, with_exchanged as exchanged_text, with_wildcard as wildcard_text};
 
 use crate::culprits::Searched;
 use crate::search::Culprit;
+use crate::signatures::without;
 use crate::trial::{HOLE, has_types_in};
 use std::alloc::{AllocError, Global};
 
@@ -18,6 +19,8 @@ pub enum Mend {
     Pattern(Culprit),
     /// These expressions, exchanged.
     Exchange(Culprit, Culprit),
+    /// Nothing in place of this expression.
+    Removal(Culprit),
 }
 
 /// Bytes of a source, from one number up to another.
@@ -219,6 +222,26 @@ pub(crate) fn types_exchanged(
         return Ok(false);
     }
     let changed = with_exchanged(alloc, searched.question.source, first, second)?;
+    Ok(has_types_in(
+        alloc,
+        searched.question,
+        changed.as_slice(),
+        searched.definition,
+        searched.others,
+    )?)
+}
+
+/// Returns whether the definition has a type if a part is left out.
+pub(crate) fn types_if_left_out(
+    alloc: Global,
+    searched: &Searched<'_, '_>,
+    part: Culprit,
+) -> Result<bool, AllocError>
+    requires { IsPartOf searched.now.question.now.source.now part }
+    ensures { IfOk result (λ yes. yes ≡ true → IsRemoval searched.now.question.now.source.now searched.now.question.now.name.now
+        (map arc_value searched.now.question.now.imports.now) searched.now.definition.now part) }
+{
+    let changed = without(alloc, searched.question.source, part.from, part.to)?;
     Ok(has_types_in(
         alloc,
         searched.question,

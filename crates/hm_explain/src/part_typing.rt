@@ -1,8 +1,13 @@
 //! The two types of a part of a definition.
-ghost use Rattle.std.specs.Prelude.{◌≡◌, ◌≤◌, ◌++◌, IfOk, IfSome, length, map, string_bytes};
+ghost use Rattle.std.specs.Prelude.{◌≡◌, ◌≤◌, ◌++◌, All, IfOk, IfSome, None, length, map, string_bytes};
 ghost use Rattle.std.specs.Arc.{arc_value};
+ghost use Rattle.hm_types.specs.Schemes.{HasArities, HasNoRigid};
 ghost use Rattle.hm_types.specs.Shape.{type_of};
-ghost use Rattle.hm_explain.specs.PartTypes.{AreTextsOf, ExportsIn, HasPartTypes, IsExported, from_pair};
+ghost use Rattle.hm_explain.specs.Aliases.{alias_of as named_type};
+ghost use Rattle.hm_explain.specs.Layouts.{from_pair};
+ghost use Rattle.hm_explain.specs.Limits.{IsUsedUp};
+ghost use Rattle.hm_explain.specs.PartTypes.{AreTextsOf, ExportsIn, IsExported, from_three, text_in};
+ghost use Rattle.hm_explain.specs.Shown.{ExportsNames, HasShownTypes, IsFolded, IsName};
 
 use crate::binding::binding_at;
 use crate::costs::{Effort, cost_of};
@@ -12,6 +17,7 @@ use crate::layout::{Layout, Other, with_probe};
 use crate::mends::Span;
 use crate::reading::TypeFault;
 use crate::search::{Culprit, bytes_of};
+use crate::shown::{Alias, aliases_in, folded, names_in};
 use crate::tokens::{Lexed, Run, one};
 use crate::trial::{Question, judged};
 use hm_names::Fault;
@@ -25,7 +31,7 @@ use std::alloc::{AllocError, Global};
 /// The name of the function that takes a value of each type.
 pub(crate) const FUNCTION: &str = "part'types";
 
-/// The texts of the two types of a part of a definition, with the same names for the same variables.
+/// The texts of the two types of a part of a definition, with the same names for the same variables, and with names of synonyms.
 #[derive(Drop)]
 pub struct PartTypes {
     /// The type that is expected in its place.
@@ -52,27 +58,55 @@ fn exported_scheme(
     Ok(None)
 }
 
-/// Returns the scheme with which the module of a question exports a variable in a changed source, if it is good there.
-pub(crate) fn scheme_in(
+/// A scheme that a module exports, and its names for types.
+#[derive(Drop)]
+pub(crate) struct Typed {
+    pub scheme: Scheme,
+    pub aliases: Vec<Alias>,
+}
+
+/// Returns the scheme with which an interface exports a variable, and the names for types.
+fn typed_by(
     alloc: Global,
     question: &Question<'_>,
+    lexed: &Lexed<'_>,
+    interface: &Interface,
+    variable: &str,
+) -> Result<Option<Typed>, AllocError>
+    ensures scheme { IfOk result (λ found. IfSome found (λ typed. IsExported interface.now variable.now typed.scheme)) }
+    ensures names { IfOk result (λ found. IfSome found (λ typed. All (λ a. IsName question.now.name.now interface.now (named_type a)) typed.aliases.items)) }
+{
+    let Some(scheme) = exported_scheme(alloc, interface, variable)? else {
+        return Ok(None);
+    };
+    let aliases = aliases_in(alloc, question, lexed, interface)?;
+    Ok(Some(Typed { scheme, aliases }))
+}
+
+/// Returns the scheme with which the module of a question exports a variable in a changed source, and its names for types, if it is good there.
+pub(crate) fn typed_in(
+    alloc: Global,
+    question: &Question<'_>,
+    lexed: &Lexed<'_>,
     changed: &[u8],
     variable: &str,
-) -> Result<Option<Scheme>, AllocError>
-    ensures { IfOk result (λ found. IfSome found (λ scheme. ExportsIn changed.now question.now.name.now (map arc_value question.now.imports.now)
-        variable.now scheme)) }
+) -> Result<Option<Typed>, AllocError>
+    ensures scheme { IfOk result (λ found. IfSome found (λ typed. ExportsIn changed.now question.now.name.now (map arc_value question.now.imports.now)
+        variable.now typed.scheme)) }
+    ensures names { IfOk result (λ found. IfSome found (λ typed. ExportsNames changed.now question.now.name.now (map arc_value question.now.imports.now)
+        (map named_type typed.aliases.items))) }
 {
     let Some(outcome) = judged(alloc, question, changed)? else {
         return Ok(None);
     };
     match outcome.verdict() {
-        Verdict::Good(interface) => Ok(exported_scheme(alloc, interface, variable)?),
+        Verdict::Good(interface) => Ok(typed_by(alloc, question, lexed, interface, variable)?),
         Verdict::Faulty(_) => Ok(None),
     }
 }
 
 /// Returns the type of a function from a pair to `()`.
-fn function_from(alloc: Global, first: &Ty, second: &Ty) -> Result<Ty, AllocError>
+fn function_from_pair(alloc: Global, first: &Ty, second: &Ty) -> Result<Ty, AllocError>
     ensures { IfOk result (λ t. type_of t ≡ from_pair (type_of first.now) (type_of second.now)) }
 {
     let mut parts = Vec::new(alloc);
@@ -83,30 +117,56 @@ fn function_from(alloc: Global, first: &Ty, second: &Ty) -> Result<Ty, AllocErro
     Ok(Ty::function(alloc, pair, unit)?)
 }
 
-/// Returns the two arguments of the first argument of a type.
-fn inner_arguments(body: &Ty) -> Option<(&Ty, &Ty)> {
+/// The types that the function takes.
+#[derive(Clone, Copy)]
+struct Taken<'a> {
+    /// The type of the definition.
+    own: &'a Ty,
+    expected: &'a Ty,
+    actual: &'a Ty,
+}
+
+/// Returns the type of the function that takes these.
+fn function_of(alloc: Global, taken: &Taken<'_>) -> Result<Ty, AllocError>
+    ensures { IfOk result (λ t. type_of t ≡ from_three (type_of taken.now.own.now) (type_of taken.now.expected.now) (type_of taken.now.actual.now)) }
+{
+    let mut parts = Vec::new(alloc);
+    parts.push(taken.own.copy(alloc)?)?;
+    parts.push(taken.expected.copy(alloc)?)?;
+    parts.push(taken.actual.copy(alloc)?)?;
+    let three = Ty::App(Head::Tuple(3), Types::new(parts));
+    let unit = Ty::App(Head::Unit, Types::new(Vec::new(alloc)));
+    Ok(Ty::function(alloc, three, unit)?)
+}
+
+/// Returns the three arguments of the first argument of a type.
+fn inner_arguments(body: &Ty) -> Option<Taken<'_>> {
     let Ty::App(_, sides) = body else {
         return None;
     };
     let Some(Ty::App(_, parts)) = sides.as_slice().first() else {
         return None;
     };
-    match parts.as_slice() {
-        [first, second] => Some((first, second)),
-        _ => None,
-    }
+    let [own, expected, actual] = parts.as_slice() else {
+        return None;
+    };
+    Some(Taken {
+        own,
+        expected,
+        actual,
+    })
 }
 
-/// Returns the types of the pair that a function to `()` takes.
-fn pair_of(alloc: Global, body: &Ty) -> Result<Option<(&Ty, &Ty)>, AllocError>
-    ensures { IfOk result (λ found. IfSome found (λ r. type_of body.now ≡ from_pair (type_of r.0.now) (type_of r.1.now))) }
+/// Returns what a function with this type takes, if it is one of three values to `()`.
+fn taken_by(alloc: Global, body: &Ty) -> Result<Option<Taken<'_>>, AllocError>
+    ensures { IfOk result (λ found. IfSome found (λ r. type_of body.now ≡ from_three (type_of r.own.now) (type_of r.expected.now) (type_of r.actual.now))) }
 {
-    let Some((first, second)) = inner_arguments(body) else {
+    let Some(taken) = inner_arguments(body) else {
         return Ok(None);
     };
-    let function = function_from(alloc, first, second)?;
+    let function = function_of(alloc, &taken)?;
     if body.is_same(&function) {
-        return Ok(Some((first, second)));
+        return Ok(Some(taken));
     }
     Ok(None)
 }
@@ -132,26 +192,53 @@ fn between(
     }
 }
 
+/// The texts of a definition's type and of the expected type.
+#[derive(Drop)]
+struct Front {
+    own: String,
+    expected: String,
+}
+
+/// Returns the texts of the first two types that a function with this scheme takes, if their letters are in order.
+fn front_of(alloc: Global, scheme: &Scheme, taken: &Taken<'_>) -> Result<Option<Front>, AllocError>
+    requires not_rigid { HasNoRigid (type_of taken.now.own.now) × HasNoRigid (type_of taken.now.expected.now) }
+    requires arities { HasArities (type_of taken.now.own.now) × HasArities (type_of taken.now.expected.now) }
+    ensures own { IfOk result (λ found. IfSome found (λ f. string_bytes f.own ≡ text_in scheme.now (type_of taken.now.own.now))) }
+    ensures expected { IfOk result (λ found. IfSome found (λ f. string_bytes f.expected ≡ text_in scheme.now (type_of taken.now.expected.now))) }
+{
+    let pair = function_from_pair(alloc, taken.own, taken.expected)?;
+    let first = canonical(alloc, taken.own)?;
+    let both = canonical(alloc, &pair)?;
+    if !first.body().is_same(taken.own) || !both.body().is_same(&pair) {
+        return Ok(None);
+    }
+    let own = scheme_text(alloc, &first)?;
+    let whole = scheme_text(alloc, &both)?;
+    let front = format!(in alloc; "({own}, ")?;
+    match between(alloc, whole.as_bytes(), front.as_bytes(), b") -> ()")? {
+        Some(expected) => Ok(Some(Front { own, expected })),
+        None => Ok(None),
+    }
+}
+
 // Why: docs/DECISIONS.md, "The text of two types".
-/// Returns the texts of the types of the pair that a function with this scheme takes, if they differ.
+/// Returns the texts of the two types that a function with this scheme takes after a definition's, if they differ.
 fn texts_of(alloc: Global, scheme: &Scheme) -> Result<Option<PartTypes>, AllocError>
     ensures { IfOk result (λ found. IfSome found (λ types. AreTextsOf scheme.now (string_bytes types.expected) (string_bytes types.actual)
         types.infinite)) }
 {
-    let Some((expected, actual)) = pair_of(alloc, scheme.body())? else {
+    let Some(taken) = taken_by(alloc, scheme.body())? else {
         return Ok(None);
     };
-    if expected.is_same(actual) {
+    if taken.expected.is_same(taken.actual) {
         return Ok(None);
     }
-    let infinite = need_infinite(expected, actual);
-    let first = canonical(alloc, expected)?;
-    if !first.body().is_same(expected) {
+    let infinite = need_infinite(taken.expected, taken.actual);
+    let Some(Front { own, expected }) = front_of(alloc, scheme, &taken)? else {
         return Ok(None);
-    }
-    let expected = scheme_text(alloc, &first)?;
+    };
     let whole = scheme_text(alloc, scheme)?;
-    let front = format!(in alloc; "({expected}, ")?;
+    let front = format!(in alloc; "({own}, {expected}, ")?;
     match between(alloc, whole.as_bytes(), front.as_bytes(), b") -> ()")? {
         Some(actual) => Ok(Some(PartTypes {
             expected,
@@ -202,26 +289,50 @@ fn count_before(others: &[Other<'_>], byte: usize) -> usize
     others.iter().take_while(|other| other.from < byte).count()
 }
 
-/// Returns where the definition of a fault is in a source, whose tokens these are. The other definitions are holes there.
+/// What else is changed where a definition is replaced: the other definitions that are holes, and the names that are added to the export list.
+#[derive(Clone, Copy)]
+pub(crate) struct Setting<'a> {
+    pub others: &'a [Other<'a>],
+    pub names: &'a [Span],
+}
+
+/// Returns where the definition of a fault is in a source, whose tokens these are, with what is changed beside it.
 pub(crate) fn layout_of<'a>(
     source: &'a [u8],
     lexed: &Lexed<'_>,
     fault: &'a Fault,
     binding: Run,
-    others: &'a [Other<'a>],
+    setting: Setting<'a>,
 ) -> Option<Layout<'a>>
     ensures source { IfSome result (λ layout. layout.source.now ≡ source.entry.now) }
     ensures name { IfSome result (λ layout. layout.name.now ≡ fault.entry.now.name) }
 {
     let (from, to) = bytes_of(lexed.tokens, binding, source)?;
+    let others = setting.others;
     let count = count_before(others, from);
     Some(Layout {
         source,
         name: fault.name.as_str(),
         exported: export_list(lexed, binding.start),
+        names: setting.names,
         whole: Span { from, to },
         before: &others[..count],
         behind: &others[count..],
+    })
+}
+
+/// Returns the texts of types with names for some of them.
+fn shown_types(alloc: Global, types: &PartTypes, aliases: &[Alias]) -> Result<PartTypes, AllocError>
+    ensures expected { IfOk result (λ shown. IsFolded (map named_type aliases.now) (string_bytes types.now.expected) (string_bytes shown.expected)) }
+    ensures actual { IfOk result (λ shown. IsFolded (map named_type aliases.now) (string_bytes types.now.actual) (string_bytes shown.actual)) }
+    ensures infinite { IfOk result (λ shown. shown.infinite ≡ types.now.infinite) }
+{
+    let expected = folded(alloc, aliases, types.expected.as_str())?;
+    let actual = folded(alloc, aliases, types.actual.as_str())?;
+    Ok(PartTypes {
+        expected,
+        actual,
+        infinite: types.infinite,
     })
 }
 
@@ -229,19 +340,23 @@ pub(crate) fn layout_of<'a>(
 fn types_for(
     alloc: Global,
     question: &Question<'_>,
+    lexed: &Lexed<'_>,
     layout: &Layout<'_>,
     part: Culprit,
 ) -> Result<Option<PartTypes>, AllocError>
-    ensures { IfOk result (λ found. IfSome found (λ types. HasPartTypes layout.now.source.now question.now.name.now (map arc_value question.now.imports.now)
+    ensures { IfOk result (λ found. IfSome found (λ types. HasShownTypes layout.now.source.now question.now.name.now (map arc_value question.now.imports.now)
         layout.now.name.now part (string_bytes types.expected) (string_bytes types.actual) types.infinite)) }
 {
     let Some(changed) = with_probe(alloc, layout, part)? else {
         return Ok(None);
     };
-    match scheme_in(alloc, question, changed.as_slice(), FUNCTION)? {
-        Some(scheme) => Ok(texts_of(alloc, &scheme)?),
-        None => Ok(None),
-    }
+    let Some(typed) = typed_in(alloc, question, lexed, changed.as_slice(), FUNCTION)? else {
+        return Ok(None);
+    };
+    let Some(types) = texts_of(alloc, &typed.scheme)? else {
+        return Ok(None);
+    };
+    Ok(Some(shown_types(alloc, &types, typed.aliases.as_slice())?))
 }
 
 // Why: docs/DECISIONS.md, "Both types".
@@ -260,8 +375,10 @@ pub fn part_types_of(
     part: Culprit,
     effort: &mut Effort,
 ) -> Result<Option<PartTypes>, AllocError>
-    ensures { IfOk result (λ both. IfSome both (λ types. HasPartTypes question.now.source.now question.now.name.now (map arc_value question.now.imports.now)
+    ensures types { IfOk result (λ both. IfSome both (λ types. HasShownTypes question.now.source.now question.now.name.now (map arc_value question.now.imports.now)
         found.now.fault.now.name part (string_bytes types.expected) (string_bytes types.actual) types.infinite)) }
+    ensures none { IsUsedUp effort.old → IfOk result (λ both. both ≡ None) }
+    ensures stays { IsUsedUp effort.old → IsUsedUp effort.new }
 {
     if !effort.pays_for_walks(question.source) {
         return Ok(None);
@@ -272,17 +389,16 @@ pub fn part_types_of(
         return Ok(None);
     };
     let others = others_of(alloc, &lexed, found)?;
-    let Some(layout) = layout_of(
-        question.source,
-        &lexed,
-        found.fault,
-        binding,
-        others.as_slice(),
-    ) else {
+    let names = names_in(alloc, &lexed, question.name)?;
+    let setting = Setting {
+        others: others.as_slice(),
+        names: names.as_slice(),
+    };
+    let Some(layout) = layout_of(question.source, &lexed, found.fault, binding, setting) else {
         return Ok(None);
     };
     if !effort.pays(cost_of(question.source, lexed.outline)) {
         return Ok(None);
     }
-    Ok(types_for(alloc, question, &layout, part)?)
+    Ok(types_for(alloc, question, &lexed, &layout, part)?)
 }

@@ -49,7 +49,7 @@ fn points_of_change(change: &Change) -> usize {
     match change.told {
         Told::Exchange(_, _) => 8,
         Told::Pattern(_, _) => 5,
-        Told::Expression(_) => 4,
+        Told::Expression(_) | Told::Removal(_, _) => 4,
     }
 }
 

@@ -1,5 +1,6 @@
 //! The source of a module with its tokens. One reading serves all notes of the module.
-ghost use Rattle.std.specs.Prelude.{◌≡◌};
+ghost use Rattle.std.specs.Prelude.{◌≡◌, None, IfOk};
+ghost use Rattle.hm_explain.specs.Limits.{IsUsedUp};
 
 use crate::costs::Effort;
 use crate::tokens::{Lexed, Outline};
@@ -60,9 +61,15 @@ pub fn reading_of(
     alloc: Global,
     source: &[u8],
     effort: &mut Effort,
-) -> Result<Option<Reading>, AllocError> {
+) -> Result<Option<Reading>, AllocError>
+    ensures none { IsUsedUp effort.old → IfOk result (λ found. found ≡ None) }
+    ensures stays { IsUsedUp effort.old → IsUsedUp effort.new }
+{
     effort.begin();
-    if source.len() > LONGEST || !effort.pays(source.len()) {
+    if source.len() > LONGEST {
+        return Ok(None);
+    }
+    if !effort.pays(source.len()) {
         return Ok(None);
     }
     Ok(read(alloc, source)?)

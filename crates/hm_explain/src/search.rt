@@ -1,14 +1,15 @@
 //! The search for a change that gives a definition a type.
-ghost use Rattle.std.specs.Prelude.{◌≤◌, ◌<◌, ◌^◌, IfOk, IfSome, length, map};
+ghost use Rattle.std.specs.Prelude.{◌≡◌, ◌≤◌, ◌<◌, ◌^◌, IfOk, IfSome, None, length, map};
 ghost use Rattle.std.specs.Arc.{arc_value};
 ghost use Rattle.hm_explain.specs.Holes.{IsPartOf};
+ghost use Rattle.hm_explain.specs.Limits.{IsUsedUp};
 ghost use Rattle.hm_explain.specs.Mends.{IsMend};
 
 use crate::binding::{binding_at, names_in};
 use crate::costs::{Effort, cost_of};
 use crate::culprits::{Searched, culprits};
 use crate::cutting::{Cut, cut_of};
-use crate::mends::{Mend, Rebound, Span, types_exchanged, types_with_pattern};
+use crate::mends::{Mend, Rebound, Span, types_exchanged, types_if_left_out, types_with_pattern};
 use crate::parts::right_sides;
 use crate::patterns::spot_in;
 use crate::places::place_behind;
@@ -228,6 +229,26 @@ fn exchange_mend(
     Ok(Some(Mend::Exchange(first, second)))
 }
 
+/// Returns an argument, if the definition has a type without it. Otherwise returns an expression around it, if the definition has a type with the hole in
+/// place of that.
+fn removal_mend(
+    alloc: Global,
+    searched: &Searched<'_, '_>,
+    argument: Run,
+    around: Run,
+) -> Result<Option<Mend>, AllocError>
+    ensures { IfOk result (λ found. IfSome found (IsMend searched.now.question.now.source.now searched.now.question.now.name.now
+        (map arc_value searched.now.question.now.imports.now) searched.now.definition.now)) }
+{
+    let Some(part) = part_of(searched.lexed.tokens, argument, searched.question.source) else {
+        return Ok(None);
+    };
+    if types_if_left_out(alloc, searched, part)? {
+        return Ok(Some(Mend::Removal(part)));
+    }
+    Ok(expression_mend(alloc, searched, around)?)
+}
+
 /// Returns what is reported, if it gives the definition a type.
 fn confirmed(
     alloc: Global,
@@ -241,6 +262,7 @@ fn confirmed(
         Told::Expression(run) => Ok(expression_mend(alloc, searched, run)?),
         Told::Pattern(run, around) => Ok(pattern_mend(alloc, searched, run, around)?),
         Told::Exchange(first, second) => Ok(exchange_mend(alloc, searched, first, second)?),
+        Told::Removal(argument, around) => Ok(removal_mend(alloc, searched, argument, around)?),
     }
 }
 
@@ -258,8 +280,10 @@ pub fn mend_of(
     found: &TypeFault<'_>,
     effort: &mut Effort,
 ) -> Result<Option<Mend>, AllocError>
-    ensures { IfOk result (λ mend. IfSome mend (IsMend question.now.source.now question.now.name.now (map arc_value question.now.imports.now)
+    ensures mend { IfOk result (λ mend. IfSome mend (IsMend question.now.source.now question.now.name.now (map arc_value question.now.imports.now)
         found.now.fault.now.name)) }
+    ensures none { IsUsedUp effort.old → IfOk result (λ mend. mend ≡ None) }
+    ensures stays { IsUsedUp effort.old → IsUsedUp effort.new }
 {
     effort.begin();
     if !effort.pays_for_walks(question.source) {

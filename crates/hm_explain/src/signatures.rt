@@ -1,16 +1,18 @@
 //! The type that a definition has without its signature.
-ghost use Rattle.std.specs.Prelude.{◌≡◌, ◌≤◌, IfOk, IfSome, length, map, string_bytes, true};
+ghost use Rattle.std.specs.Prelude.{◌≡◌, ◌≤◌, IfOk, IfSome, None, length, map, string_bytes, true};
 ghost use Rattle.std.specs.Arc.{arc_value};
-ghost use Rattle.hm_explain.specs.Holes.{IsPartOf};
-ghost use Rattle.hm_explain.specs.Signatures.{HasTypeAlone, IsUnsigned, Leads, without as without_text};
+ghost use Rattle.hm_explain.specs.Holes.{IsPartOf, without as without_text};
+ghost use Rattle.hm_explain.specs.Limits.{IsUsedUp};
+ghost use Rattle.hm_explain.specs.Signatures.{HasShownTypeAlone, IsUnsigned, Leads};
 
 use crate::binding::binding_at;
 use crate::costs::{Effort, cost_of};
 use crate::cutting::{header_of, signature_of};
 use crate::layout::{Layout, with_alone};
-use crate::part_typing::{FUNCTION, layout_of, others_of, scheme_in};
+use crate::part_typing::{FUNCTION, Setting, layout_of, others_of, typed_in};
 use crate::reading::TypeFault;
 use crate::search::{Culprit, part_of};
+use crate::shown::{folded, names_in};
 use crate::tokens::{Lexed, Run};
 use crate::trial::{Question, has_types_in, is_good_in};
 use hm_parse_grammar::Symbol;
@@ -21,7 +23,7 @@ use std::alloc::{AllocError, Global};
 #[derive(Drop)]
 pub struct Unsigned {
     pub signature: Culprit,
-    /// The text of the type.
+    /// The text of the type, with names of synonyms.
     pub own: String,
     /// Whether the signature is likelier to be wrong than the definition: other definitions mention this one, and without the signature the module
     /// is good.
@@ -29,7 +31,7 @@ pub struct Unsigned {
 }
 
 /// Returns a source without a range of its bytes.
-fn without(alloc: Global, source: &[u8], from: usize, to: usize) -> Result<Vec<u8>, AllocError>
+pub(crate) fn without(alloc: Global, source: &[u8], from: usize, to: usize) -> Result<Vec<u8>, AllocError>
     requires ordered { from ≤ to }
     requires within { to ≤ length source.now }
     ensures { IfOk result (λ made. made.items ≡ without_text source.now from to) }
@@ -43,42 +45,52 @@ fn without(alloc: Global, source: &[u8], from: usize, to: usize) -> Result<Vec<u
 fn type_alone(
     alloc: Global,
     question: &Question<'_>,
+    lexed: &Lexed<'_>,
     layout: &Layout<'_>,
 ) -> Result<Option<String>, AllocError>
-    ensures { IfOk result (λ found. IfSome found (λ text. HasTypeAlone layout.now.source.now question.now.name.now (map arc_value question.now.imports.now)
+    ensures { IfOk result (λ found. IfSome found (λ text. HasShownTypeAlone layout.now.source.now question.now.name.now (map arc_value question.now.imports.now)
         layout.now.name.now (string_bytes text))) }
 {
     let Some(changed) = with_alone(alloc, layout)? else {
         return Ok(None);
     };
-    match scheme_in(alloc, question, changed.as_slice(), FUNCTION)? {
-        Some(scheme) => Ok(Some(scheme_text(alloc, &scheme)?)),
-        None => Ok(None),
-    }
+    let Some(typed) = typed_in(alloc, question, lexed, changed.as_slice(), FUNCTION)? else {
+        return Ok(None);
+    };
+    let whole = scheme_text(alloc, &typed.scheme)?;
+    Ok(Some(folded(alloc, typed.aliases.as_slice(), whole.as_str())?))
+}
+
+/// A signature of a definition, and whether other definitions mention this one.
+#[derive(Clone, Copy)]
+struct Signed {
+    signature: Culprit,
+    is_used: bool,
 }
 
 /// Returns the signature of a definition and the type that the definition has without it, if it has one.
 fn unsigned_in(
     alloc: Global,
     question: &Question<'_>,
+    lexed: &Lexed<'_>,
     layout: &Layout<'_>,
-    signature: Culprit,
-    is_used: bool,
+    signed: Signed,
 ) -> Result<Option<Unsigned>, AllocError>
-    requires { IsPartOf layout.now.source.now signature }
+    requires { IsPartOf layout.now.source.now signed.signature }
     ensures own { IfOk result (λ found. IfSome found (λ u. IsUnsigned layout.now.source.now question.now.name.now (map arc_value question.now.imports.now)
         layout.now.name.now u.signature (string_bytes u.own))) }
     ensures leads { IfOk result (λ found. IfSome found (λ u. u.leads ≡ true → Leads layout.now.source.now question.now.name.now
         (map arc_value question.now.imports.now) u.signature)) }
 {
-    let Some(own) = type_alone(alloc, question, layout)? else {
+    let Some(own) = type_alone(alloc, question, lexed, layout)? else {
         return Ok(None);
     };
+    let signature = signed.signature;
     let changed = without(alloc, layout.source, signature.from, signature.to)?;
     if !has_types_in(alloc, question, changed.as_slice(), layout.name, &[])? {
         return Ok(None);
     }
-    if !is_used {
+    if !signed.is_used {
         return Ok(Some(Unsigned {
             signature,
             own,
@@ -127,6 +139,8 @@ pub fn unsigned_of(
         (map arc_value question.now.imports.now) found.now.fault.now.name u.signature (string_bytes u.own))) }
     ensures leads { IfOk result (λ found_type. IfSome found_type (λ u. u.leads ≡ true → Leads question.now.source.now question.now.name.now
         (map arc_value question.now.imports.now) u.signature)) }
+    ensures none { IsUsedUp effort.old → IfOk result (λ found_type. found_type ≡ None) }
+    ensures stays { IsUsedUp effort.old → IsUsedUp effort.new }
 {
     if !effort.pays_for_walks(question.source) {
         return Ok(None);
@@ -143,19 +157,21 @@ pub fn unsigned_of(
         return Ok(None);
     };
     let others = others_of(alloc, &lexed, found)?;
-    let Some(layout) = layout_of(
-        question.source,
-        &lexed,
-        found.fault,
-        binding,
-        others.as_slice(),
-    ) else {
+    let names = names_in(alloc, &lexed, question.name)?;
+    let setting = Setting {
+        others: others.as_slice(),
+        names: names.as_slice(),
+    };
+    let Some(layout) = layout_of(question.source, &lexed, found.fault, binding, setting) else {
         return Ok(None);
     };
     let cost = cost_of(question.source, lexed.outline);
     if !effort.pays(cost) || !effort.pays(cost) || !effort.pays(cost) {
         return Ok(None);
     }
-    let is_used = is_used_outside(&lexed, binding, run);
-    Ok(unsigned_in(alloc, question, &layout, signature, is_used)?)
+    let signed = Signed {
+        signature,
+        is_used: is_used_outside(&lexed, binding, run),
+    };
+    Ok(unsigned_in(alloc, question, &lexed, &layout, signed)?)
 }

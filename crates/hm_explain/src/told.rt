@@ -9,6 +9,8 @@ pub(crate) enum Told {
     Pattern(Run, Run),
     /// Two expressions that are exchanged.
     Exchange(Run, Run),
+    /// An argument that is left out, and the expression that is reported if the definition has no type without it in the whole source.
+    Removal(Run, Run),
 }
 
 /// Returns the run, as if its token with the first number had the second one.
@@ -29,6 +31,9 @@ impl Told {
             }
             Told::Exchange(first, second) => {
                 Told::Exchange(moved(first, from, to), moved(second, from, to))
+            }
+            Told::Removal(argument, around) => {
+                Told::Removal(moved(argument, from, to), moved(around, from, to))
             }
         }
     }
