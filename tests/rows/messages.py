@@ -384,9 +384,9 @@ KINDS = [
         "This definition has no type, though everything that it refers to has one.\n"
         "module M where { f :: Bool -> Bool ; f x = not x x }\n"
         "                                     ^\n"
-        "M.hs:1:48: note: 'f' has a type with another expression here (up to 1:50)\n"
+        "M.hs:1:50: note: 'f' has a type if this is left out (up to 1:50)\n"
         "module M where { f :: Bool -> Bool ; f x = not x x }\n"
-        "                                               ^\n"
+        "                                                 ^\n"
         "errors: 1, skipped modules: 0\n",
     ),
     # an argument that is missing
@@ -509,17 +509,148 @@ KINDS = [
         "                                                                ^\n"
         "errors: 2, skipped modules: 0\n",
     ),
-    # the part has no type with what stands around it, so neither type is told
+    # a synonym of a signature is shown in place of its type
     (
-        "module M where { f = let { g y = y 1 } in g True }",
+        "module M where { type Pos = (Int, Int) ; f :: Pos -> Pos ; f p = 'c' }",
         1,
-        "M.hs:1:18: error: type error in 'f' [type]\n"
+        "M.hs:1:60: error: type error in 'f' [type]\n"
         "This definition has no type, though everything that it refers to has one.\n"
-        "module M where { f = let { g y = y 1 } in g True }\n"
+        "module M where { type Pos = (Int, Int) ; f :: Pos -> Pos ; f p = 'c' }\n"
+        "                                                           ^\n"
+        "M.hs:1:66: note: this has type 'Char', but 'Pos' is expected (up to 1:68)\n"
+        "module M where { type Pos = (Int, Int) ; f :: Pos -> Pos ; f p = 'c' }\n"
+        "                                                                 ^^^\n"
+        "M.hs:1:42: note: 'f' has type 'a -> Char' without this signature (up to 1:56)\n"
+        "module M where { type Pos = (Int, Int) ; f :: Pos -> Pos ; f p = 'c' }\n"
+        "                                         ^\n"
+        "errors: 1, skipped modules: 0\n",
+    ),
+    # each time that the type stands there
+    (
+        "module M where { type Pos = (Int, Int) ; f :: Pos -> Bool ; f = g ; g :: Pos -> Pos ; g p = p }",
+        1,
+        "M.hs:1:61: error: type error in 'f' [type]\n"
+        "This definition has no type, though everything that it refers to has one.\n"
+        "module M where { type Pos = (Int, Int) ; f :: Pos -> Bool ; f = g ; g :: Pos -> Pos ; g p = p }\n"
+        "                                                            ^\n"
+        "M.hs:1:65: note: this has type 'Pos -> Pos', but 'Pos -> Bool' is expected (up to 1:65)\n"
+        "module M where { type Pos = (Int, Int) ; f :: Pos -> Bool ; f = g ; g :: Pos -> Pos ; g p = p }\n"
+        "                                                                ^\n"
+        "M.hs:1:42: note: 'f' has type 'Pos -> Pos' without this signature (up to 1:57)\n"
+        "module M where { type Pos = (Int, Int) ; f :: Pos -> Bool ; f = g ; g :: Pos -> Pos ; g p = p }\n"
+        "                                         ^\n"
+        "errors: 1, skipped modules: 0\n",
+    ),
+    # the longest type first
+    (
+        "module M where { type P = (Int, Int) ; type Q = [P] ; f :: Q -> P ; f p = p }",
+        1,
+        "M.hs:1:69: error: type error in 'f' [type]\n"
+        "This definition has no type, though everything that it refers to has one.\n"
+        "module M where { type P = (Int, Int) ; type Q = [P] ; f :: Q -> P ; f p = p }\n"
+        "                                                                    ^\n"
+        "M.hs:1:75: note: this has type 'Q', but 'P' is expected (up to 1:75)\n"
+        "module M where { type P = (Int, Int) ; type Q = [P] ; f :: Q -> P ; f p = p }\n"
+        "                                                                          ^\n"
+        "M.hs:1:55: note: 'f' has type 'a -> a' without this signature (up to 1:65)\n"
+        "module M where { type P = (Int, Int) ; type Q = [P] ; f :: Q -> P ; f p = p }\n"
+        "                                                      ^\n"
+        "errors: 1, skipped modules: 0\n",
+    ),
+    # two synonyms of signatures stand for the type
+    (
+        "module M where { type P = [Int] ; type Q = [Int] ; f :: P -> Q ; f p = 'c' }",
+        1,
+        "M.hs:1:66: error: type error in 'f' [type]\n"
+        "This definition has no type, though everything that it refers to has one.\n"
+        "module M where { type P = [Int] ; type Q = [Int] ; f :: P -> Q ; f p = 'c' }\n"
+        "                                                                 ^\n"
+        "M.hs:1:72: note: this has type 'Char', but '[Int]' is expected (up to 1:74)\n"
+        "module M where { type P = [Int] ; type Q = [Int] ; f :: P -> Q ; f p = 'c' }\n"
+        "                                                                       ^^^\n"
+        "M.hs:1:52: note: 'f' has type 'a -> Char' without this signature (up to 1:62)\n"
+        "module M where { type P = [Int] ; type Q = [Int] ; f :: P -> Q ; f p = 'c' }\n"
+        "                                                   ^\n"
+        "errors: 1, skipped modules: 0\n",
+    ),
+    # no signature names one synonym, and the other one has a parameter
+    (
+        "module M where { type P = [Int] ; type L a = [a] ; f :: [Int] -> L Int ; f p = 'c' }",
+        1,
+        "M.hs:1:74: error: type error in 'f' [type]\n"
+        "This definition has no type, though everything that it refers to has one.\n"
+        "module M where { type P = [Int] ; type L a = [a] ; f :: [Int] -> L Int ; f p = 'c' }\n"
+        "                                                                         ^\n"
+        "M.hs:1:80: note: this has type 'Char', but '[Int]' is expected (up to 1:82)\n"
+        "module M where { type P = [Int] ; type L a = [a] ; f :: [Int] -> L Int ; f p = 'c' }\n"
+        "                                                                               ^^^\n"
+        "M.hs:1:52: note: 'f' has type 'a -> Char' without this signature (up to 1:70)\n"
+        "module M where { type P = [Int] ; type L a = [a] ; f :: [Int] -> L Int ; f p = 'c' }\n"
+        "                                                   ^\n"
+        "errors: 1, skipped modules: 0\n",
+    ),
+    # the module doesn't export the synonym
+    (
+        "module M (f) where { type P = [Int] ; f :: P -> Bool ; f p = p }",
+        1,
+        "M.hs:1:56: error: type error in 'f' [type]\n"
+        "This definition has no type, though everything that it refers to has one.\n"
+        "module M (f) where { type P = [Int] ; f :: P -> Bool ; f p = p }\n"
+        "                                                       ^\n"
+        "M.hs:1:62: note: this has type 'P', but 'Bool' is expected (up to 1:62)\n"
+        "module M (f) where { type P = [Int] ; f :: P -> Bool ; f p = p }\n"
+        "                                                             ^\n"
+        "M.hs:1:39: note: 'f' has type 'a -> a' without this signature (up to 1:52)\n"
+        "module M (f) where { type P = [Int] ; f :: P -> Bool ; f p = p }\n"
+        "                                      ^\n"
+        "errors: 1, skipped modules: 0\n",
+    ),
+    # String of Prelude
+    (
+        "module M where { f :: String -> Bool ; f s = s }",
+        1,
+        "M.hs:1:40: error: type error in 'f' [type]\n"
+        "This definition has no type, though everything that it refers to has one.\n"
+        "module M where { f :: String -> Bool ; f s = s }\n"
+        "                                       ^\n"
+        "M.hs:1:46: note: this has type 'String', but 'Bool' is expected (up to 1:46)\n"
+        "module M where { f :: String -> Bool ; f s = s }\n"
+        "                                             ^\n"
+        "M.hs:1:18: note: 'f' has type 'a -> a' without this signature (up to 1:36)\n"
+        "module M where { f :: String -> Bool ; f s = s }\n"
         "                 ^\n"
-        "M.hs:1:34: note: 'f' has a type with another expression here (up to 1:36)\n"
-        "module M where { f = let { g y = y 1 } in g True }\n"
-        "                                 ^\n"
+        "errors: 1, skipped modules: 0\n",
+    ),
+    # no signature names String
+    (
+        "module M where { f :: [Char] -> Bool ; f s = s }",
+        1,
+        "M.hs:1:40: error: type error in 'f' [type]\n"
+        "This definition has no type, though everything that it refers to has one.\n"
+        "module M where { f :: [Char] -> Bool ; f s = s }\n"
+        "                                       ^\n"
+        "M.hs:1:46: note: this has type '[Char]', but 'Bool' is expected (up to 1:46)\n"
+        "module M where { f :: [Char] -> Bool ; f s = s }\n"
+        "                                             ^\n"
+        "M.hs:1:18: note: 'f' has type 'a -> a' without this signature (up to 1:36)\n"
+        "module M where { f :: [Char] -> Bool ; f s = s }\n"
+        "                 ^\n"
+        "errors: 1, skipped modules: 0\n",
+    ),
+    # the part has no type by itself, so neither type is told
+    (
+        "module M where { data S a = S [a] ; f :: a -> S a -> S a ; f x (S xs) = S x : xs }",
+        1,
+        "M.hs:1:60: error: type error in 'f' [type]\n"
+        "This definition has no type, though everything that it refers to has one.\n"
+        "module M where { data S a = S [a] ; f :: a -> S a -> S a ; f x (S xs) = S x : xs }\n"
+        "                                                           ^\n"
+        "M.hs:1:73: note: 'f' has a type with another expression here (up to 1:80)\n"
+        "module M where { data S a = S [a] ; f :: a -> S a -> S a ; f x (S xs) = S x : xs }\n"
+        "                                                                        ^\n"
+        "M.hs:1:37: note: 'f' has type '[a] -> M.S (M.S a) -> [M.S a]' without this signature (up to 1:56)\n"
+        "module M where { data S a = S [a] ; f :: a -> S a -> S a ; f x (S xs) = S x : xs }\n"
+        "                                    ^\n"
         "errors: 1, skipped modules: 0\n",
     ),
     # one of many elements

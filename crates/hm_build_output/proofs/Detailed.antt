@@ -1,5 +1,5 @@
 -- Messages of faults with what is known of each, and the interfaces for which it is known.
-use Rattle.std.proofs.Common.{◌≡◌, ℕ, ◌+◌, ◌<◌, List, [], ◌∷◌, ◌++◌, length, take, get_or, Option, Some, None, sym, ap, subst}
+use Rattle.std.proofs.Common.{◌≡◌, Bool, ℕ, ◌+◌, ◌<◌, List, [], ◌∷◌, ◌++◌, length, take, get_or, Option, Some, None, sym, ap, subst}
 use Rattle.std.proofs.lemmas.List.{take_more}
 use Rattle.hm_types.specs.Interfaces.{Exports as Interface}
 use Rattle.hm_verdicts.specs.Outcomes.{Checked}
@@ -9,17 +9,11 @@ use Rattle.hm_verdicts.specs.ModuleVerdicts.{Verdict, Good, Faulty}
 use Rattle.hm_verdicts.specs.Verdicts.{ArePublished, Status, Published}
 use Rattle.hm_verdicts.specs.Sets.{ModuleSet}
 use Rattle.hm_names.specs.declared.faults.Fault.{Fault}
-use Rattle.hm_messages.specs.Messages.{AreEach}
 use Rattle.hm_messages.specs.Pages.{files_in, texts_in}
 use Rattle.hm_messages.specs.declared.heading.Paint.{Paint}
 use Rattle.hm_messages.specs.declared.pages.Page.{Page}
 use Rattle.hm_messages.proofs.AtPage.{file_is, text_is}
-use Rattle.hm_build_output.specs.Explanations.{AreFaultsTold, IsFaultTold}
-
--- what is so of each part for one reason is so for another
-pub each_so : {X : Type 0} (P Q : X → List ℕ → Type 0) → ((x : X) (t : List ℕ) → P x t → Q x t) → (xs : List X) (text : List ℕ) → AreEach P xs text → AreEach Q xs text
-each_so P Q f [] text h = h
-each_so P Q f (x ∷ xs) text h = (h.0, h.1, f x h.0 h.2, each_so P Q f xs h.1 h.3, h.4)
+use Rattle.hm_build_output.specs.Explanations.{AreFaultsTold, AreInTurn, IsFaultTold}
 
 published_more : (status : ℕ → Status) (js : List ℕ) (fs : List Interface) (j : ℕ) (f : Interface) → ArePublished status js fs → status j ≡ Published f → ArePublished status (js ++ j ∷ []) (fs ++ f ∷ [])
 published_more status [] [] j f h e = (e, tt)
@@ -53,8 +47,8 @@ pub looked_up : (b : Build) (j : ℕ) (f : Interface) → interface_at b.kept j 
 looked_up b j f e = settled_with (kept_at b.kept j) f e
 
 -- what is told of faults by a page is told by the pages that it stands among
-pub at_page : (paint : Paint) (pages : List Page) (source : ℕ) (page : Page) (p : ModuleSet) (status : ℕ → Status) (i : ℕ) (faults : List Fault) (text : List ℕ) → source < length pages → page ≡ get_or pages source page
-    → AreEach (IsFaultTold paint page.file.now page.lines p status i) faults text → AreFaultsTold paint (files_in pages) (texts_in pages) source p status i faults text
-at_page paint pages source page p status i faults text inside is each =
-    subst (λ (s : List ℕ). AreEach (IsFaultTold paint (get_or (files_in pages) source []) s p status i) faults text) (text_is pages source page inside is)
-    (subst (λ (f : List ℕ). AreEach (IsFaultTold paint f page.lines p status i) faults text) (file_is pages source page inside is) each)
+pub at_page : (paint : Paint) (pages : List Page) (source : ℕ) (page : Page) (p : ModuleSet) (status : ℕ → Status) (i : ℕ) (faults : List Fault) (before after : Bool) (text : List ℕ) → source < length pages → page ≡ get_or pages source page
+    → AreInTurn (IsFaultTold paint page.file.now page.lines p status i) faults before after text → AreFaultsTold paint (files_in pages) (texts_in pages) source p status i faults before after text
+at_page paint pages source page p status i faults before after text inside is told =
+    subst (λ (s : List ℕ). AreInTurn (IsFaultTold paint (get_or (files_in pages) source []) s p status i) faults before after text) (text_is pages source page inside is)
+    (subst (λ (f : List ℕ). AreInTurn (IsFaultTold paint f page.lines p status i) faults before after text) (file_is pages source page inside is) told)

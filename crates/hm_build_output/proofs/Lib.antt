@@ -8,3 +8,4 @@ pub mod Detailed
 pub mod Blamed
 pub mod Called
 pub mod Further
+pub mod Turns

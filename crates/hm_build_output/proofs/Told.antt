@@ -1,5 +1,5 @@
 -- Messages of modules, in order.
-use Rattle.std.proofs.Common.{◌≡◌, ℕ, ◌+◌, ◌-◌, ◌^◌, ◌<◌, List, [], ◌∷◌, ◌++◌, length, map, take, get_or, min, sym, ap, subst, ◌∙◌, arith}
+use Rattle.std.proofs.Common.{◌≡◌, Bool, false, ℕ, ◌+◌, ◌-◌, ◌^◌, ◌<◌, List, ◌++◌, length, map, take, get_or, min, sym, ap, subst, ◌∙◌, arith}
 use Rattle.std.specs.List.Sorted.{IsPermutation, IsSortedBy}
 use Rattle.std.proofs.lemmas.List.{map_more, length-map, get_or-map}
 use Rattle.std.proofs.lemmas.List.Elements.{Contains-get_or}
@@ -18,9 +18,10 @@ use Rattle.hm_store.specs.Settlements.{settlement}
 use Rattle.hm_syntax.specs.declared.ast.Module.{Module}
 use Rattle.hm_verdicts.specs.Reports.{is_skipped, tally}
 use Rattle.hm_verdicts.specs.Verdicts.{Status}
-use Rattle.hm_build_output.specs.Explanations.{AreNumbered, IsModuleTold, IsTold, Numbered, fault_count, named_of}
+use Rattle.hm_build_output.specs.Explanations.{AreInTurn, AreNumbered, IsModuleTold, IsTold, Numbered, fault_count, named_of}
 use Rattle.hm_build_reports.specs.Settling.{module_set}
 use Rattle.hm_build_output.specs.declared.explaining.Named.{Named}
+use Rattle.hm_build_output.proofs.Turns.{viewed_turn}
 use Rattle.hm_build_reports.proofs.Reporting.{same_set}
 
 -- the step of a loop whose elements are seen through a view
@@ -28,11 +29,6 @@ pub viewed_more : {X Y : Type 0} (view : X → Y) (tells : Y → List ℕ → Ty
     → AreEach tells (map view (take i xs)) text → tells (view (get_or xs i d)) message → next ≡ text ++ message → AreEach tells (map view (take (i + 1) xs)) next
 viewed_more view tells xs i d text next message within each h e =
     subst (AreEach tells (map view (take (i + 1) xs))) (sym e) (subst (λ l. AreEach tells l (text ++ message)) (sym (map_more view xs i d within)) (each_more tells (map view (take i xs)) (view (get_or xs i d)) text message each h))
-
--- the same messages, seen through a view
-pub viewed : {X Y : Type 0} (view : X → Y) (tells : Y → List ℕ → Type 0) (xs : List X) (text : List ℕ) → AreEach (λ x t. tells (view x) t) xs text → AreEach tells (map view xs) text
-viewed view tells [] text h = h
-viewed view tells (x ∷ xs) text h = (h.0, h.1, h.2, viewed view tells xs h.1 h.3, h.4)
 
 -- each row of a sorted list has the number of a module
 pub number_inside : (modules : List Module) (rows sorted : List Named) → AreNumbered modules (map named_of rows) → IsPermutation rows sorted → (i : ℕ) (d : Named) → i < length sorted → (get_or sorted i d).number < length modules
@@ -52,11 +48,11 @@ number_here modules rows sorted items numbered same is i d within =
     (subst (λ l. (get_or l i d).number < length (map arc_value modules)) (sym is) (number_inside (map arc_value modules) rows sorted numbered same i d (subst (λ l. i < length l) is within)))
 
 -- what is told of modules is told of the set that they are
-pub told_set : (paint : Paint) (files texts : List (List ℕ)) (modules : List (Arc Module Global)) (plan : List (List ℕ)) (status : ℕ → Status) (rows sorted : List Named) (count : ℕ) (messages text : List ℕ)
+pub told_set : (paint : Paint) (files texts : List (List ℕ)) (modules : List (Arc Module Global)) (plan : List (List ℕ)) (status : ℕ → Status) (rows sorted : List Named) (count : ℕ) (limited : Bool) (messages text : List ℕ)
     → AreNumbered (map arc_value modules) (map named_of rows) → IsPermutation rows sorted → IsSortedBy (λ x y. name_below x.name.now y.name.now) sorted
-    → AreEach (λ r m. IsModuleTold paint files texts (module_set modules plan) status r.number m) sorted messages → count ≡ length modules
+    → AreInTurn (λ r before after m. IsModuleTold paint files texts (module_set modules plan) status r.number before after m) sorted false limited messages → count ≡ length modules
     → text ≡ messages ++ count_text paint (min (fault_count status count) (2 ^ 64 - 1)) (tally is_skipped status count) → IsTold paint files texts (module_set modules plan) status text
-told_set paint files texts modules plan status rows sorted count messages text numbered same ordered told long whole =
+told_set paint files texts modules plan status rows sorted count limited messages text numbered same ordered told long whole =
     let size : count ≡ length (map arc_value modules) = long ∙ sym (length-map modules arc_value) in
     record {
       rows = map named_of rows;
@@ -65,7 +61,8 @@ told_set paint files texts modules plan status rows sorted count messages text n
       same = IsPermutation-map named_of rows sorted same;
       ordered = sorted_map named_of (λ x y. name_below x.name y.name) sorted ordered;
       messages = messages;
-      told = viewed named_of (λ r m. IsModuleTold paint files texts (module_set modules plan) status r.number m) sorted messages told;
+      limited = limited;
+      told = viewed_turn named_of (λ r before after m. IsModuleTold paint files texts (module_set modules plan) status r.number before after m) sorted false limited messages told;
       whole = whole ∙ ap (λ n. messages ++ count_text paint (min (fault_count status n) (2 ^ 64 - 1)) (tally is_skipped status n)) size;
     }
 

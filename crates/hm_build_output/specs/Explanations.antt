@@ -1,5 +1,5 @@
 -- The messages of a build: what is told of each module, in the order of the report.
-use Rattle.std.specs.Prelude.{◌≡◌, ◌⊎◌, Bool, true, ℕ, zero, suc, ◌+◌, ◌-◌, ◌^◌, ◌<◌, All, Contains, List, [], ◌∷◌, ◌++◌, cond, length, map, min, slice_index_or}
+use Rattle.std.specs.Prelude.{◌≡◌, ◌⊎◌, Bool, false, true, ℕ, zero, suc, ◌+◌, ◌-◌, ◌^◌, ◌<◌, All, Contains, List, [], ◌∷◌, ◌++◌, cond, length, map, min, slice_index_or}
 use Rattle.std.specs.List.Sorted.{IsPermutation, IsSortedBy}
 use Rattle.hm_messages_details.specs.Details.{IsKnown, Known, nothing}
 use Rattle.hm_lex.specs.declared.token.Place.{Place}
@@ -23,10 +23,10 @@ use Rattle.hm_messages.specs.declared.topic.Way.{Way}
 use Rattle.hm_messages.specs.declared.topic.Way.TheVariants as way
 use Rattle.hm_explain.specs.Hidden.{IsVerdictBeyond}
 use Rattle.hm_explain.specs.Mends.{IsMend}
-use Rattle.hm_explain.specs.PartTypes.{HasPartTypes}
+use Rattle.hm_explain.specs.Shown.{HasShownTypes}
 use Rattle.hm_explain.specs.Signatures.{IsUnsigned, Leads}
 use Rattle.hm_explain.specs.declared.mends.Mend.{Mend}
-use Rattle.hm_explain.specs.declared.mends.Mend.TheVariants.{Expression, Pattern, Exchange}
+use Rattle.hm_explain.specs.declared.mends.Mend.TheVariants.{Expression, Pattern, Exchange, Removal}
 use Rattle.hm_explain.specs.declared.search.Culprit.{Culprit}
 use Rattle.hm_run_sources.specs.Names.{name_below}
 use Rattle.hm_run_sources.specs.Origins.{IsSpelledBy}
@@ -48,24 +48,28 @@ abbrev pub first_of : Mend → Place
 first_of (Expression part) = part.start
 first_of (Pattern part) = part.start
 first_of (Exchange first second) = first.start
+first_of (Removal part) = part.start
 
 -- the other place that is told: where it ends, or where the second expression begins
 abbrev pub other_of : Mend → Place
 other_of (Expression part) = part.end
 other_of (Pattern part) = part.end
 other_of (Exchange first second) = second.start
+other_of (Removal part) = part.end
 
 -- how it is told, with this as the other place
 abbrev pub way_of : Mend → Place → Way
 way_of (Expression part) p = way.Expression p
 way_of (Pattern part) p = way.Pattern p
 way_of (Exchange first second) p = way.Exchange p
+way_of (Removal part) p = way.Removal p
 
 -- these are the two types of the part that is to blame, and whether they are told as infinite
 abbrev pub ArePartTypes : List ℕ → List ℕ → List Interface → List ℕ → Mend → List ℕ → List ℕ → Bool → Type 0
-ArePartTypes source name fs definition (Expression part) expected actual infinite = HasPartTypes source name fs definition part expected actual infinite
+ArePartTypes source name fs definition (Expression part) expected actual infinite = HasShownTypes source name fs definition part expected actual infinite
 ArePartTypes source name fs definition (Pattern part) expected actual infinite = ⊥
 ArePartTypes source name fs definition (Exchange first second) expected actual infinite = ⊥
+ArePartTypes source name fs definition (Removal part) expected actual infinite = ⊥
 
 -- the text tells what gives the definition a type, or the two types of the part, with this as the other place
 pub data IsToldOf (paint : Paint) (file source name : List ℕ) (fs : List Interface) (definition : List ℕ) (mend : Mend) (other : Place) (text : List ℕ) : Type 0 where
@@ -102,27 +106,47 @@ pub record AreNotes (paint : Paint) (file source name : List ℕ) (fs : List Int
   pub signature : (signed ≡ []) ⊎ IsSignatureNote paint file source name fs f leads signed
   pub whole : text ≡ cond leads (signed ++ note) (note ++ signed)
 
--- the message of a fault of which nothing else is known, and behind it its notes, or nothing. A last note may tell that no trial is left for the run
-pub record IsNoted (paint : Paint) (file source name : List ℕ) (fs : List Interface) (f : Fault) (text : List ℕ) : Type 0 where
+-- the last note of a fault tells that the limit on trials is reached, or it is no text. The first truth value says whether a note told it before the fault,
+-- the second whether one has told it behind the fault. So it is told once
+abbrev pub IsLimitNote : Paint → List ℕ → List ℕ → Fault → Bool → Bool → List ℕ → Type 0
+IsLimitNote paint file source f false true text = IsMessage paint file source f.place limit text
+IsLimitNote paint file source f false false text = text ≡ []
+IsLimitNote paint file source f true true text = text ≡ []
+IsLimitNote paint file source f true false text = ⊥
+
+-- the message of a fault of which nothing else is known, and behind it its notes, or nothing. A last note may tell that the limit on trials is reached.
+-- Behind such a note no fault has notes
+pub record IsNoted (paint : Paint) (file source name : List ℕ) (fs : List Interface) (f : Fault) (before after : Bool) (text : List ℕ) : Type 0 where
   pub message : List ℕ
   pub notes : List ℕ
   pub says : IsFaultMessage paint file source f nothing message
   pub noted : (notes ≡ []) ⊎ AreNotes paint file source name fs f notes
+  pub silent : before ≡ true → notes ≡ []
   pub last : List ℕ
-  pub limited : (last ≡ []) ⊎ IsMessage paint file source f.place limit last
+  pub limited : IsLimitNote paint file source f before after last
   pub whole : text ≡ (message ++ notes) ++ last
 
 -- the same of module number i: the note speaks of it for the interfaces of what it imports
-abbrev pub IsNotedIn : Paint → List ℕ → List ℕ → ModuleSet → (ℕ → Status) → ℕ → Fault → List ℕ → Type 0
-IsNotedIn paint file source p status i f text = (fs : List Interface) × ArePublished status (imports_of p i) fs × IsNoted paint file source (module_at p i).header.name.text fs f text
+abbrev pub IsNotedIn : Paint → List ℕ → List ℕ → ModuleSet → (ℕ → Status) → ℕ → Fault → Bool → Bool → List ℕ → Type 0
+IsNotedIn paint file source p status i f before after text =
+    (fs : List Interface) × ArePublished status (imports_of p i) fs × IsNoted paint file source (module_at p i).header.name.text fs f before after text
 
--- what is told of a fault of module number i: a message with what is known, or a message with a note
-abbrev pub IsFaultTold : Paint → List ℕ → List ℕ → ModuleSet → (ℕ → Status) → ℕ → Fault → List ℕ → Type 0
-IsFaultTold paint file source p status i f text = IsDetailed paint file source (IsKnownIn p status i) f text ⊎ IsNotedIn paint file source p status i f text
+-- what is told of a fault of module number i: a message with what is known, or a message with a note. The truth values say whether the limit was told
+-- before the fault, and whether it was told behind it
+abbrev pub IsFaultTold : Paint → List ℕ → List ℕ → ModuleSet → (ℕ → Status) → ℕ → Fault → Bool → Bool → List ℕ → Type 0
+IsFaultTold paint file source p status i f before after text =
+    ((after ≡ before) × IsDetailed paint file source (IsKnownIn p status i) f text) ⊎ IsNotedIn paint file source p status i f before after text
+
+-- the text has a part for each element, in order, and no more. The truth value between two parts is the second of the one and the first of the other
+abbrev pub AreInTurn : {X : Type 0} → (X → Bool → Bool → List ℕ → Type 0) → List X → Bool → Bool → List ℕ → Type 0
+AreInTurn tells [] before after text = (after ≡ before) × (text ≡ [])
+AreInTurn tells (x ∷ xs) before after text =
+    (first : List ℕ) × (later : List ℕ) × (between : Bool) × tells x before between first × AreInTurn tells xs between after later × (text ≡ first ++ later)
 
 -- of each fault, in order, at its place of this source
-abbrev pub AreFaultsTold : Paint → List (List ℕ) → List (List ℕ) → ℕ → ModuleSet → (ℕ → Status) → ℕ → List Fault → List ℕ → Type 0
-AreFaultsTold paint files texts source p status i found text = AreEach (IsFaultTold paint (slice_index_or files source []) (slice_index_or texts source []) p status i) found text
+abbrev pub AreFaultsTold : Paint → List (List ℕ) → List (List ℕ) → ℕ → ModuleSet → (ℕ → Status) → ℕ → List Fault → Bool → Bool → List ℕ → Type 0
+AreFaultsTold paint files texts source p status i found before after text =
+    AreInTurn (IsFaultTold paint (slice_index_or files source []) (slice_index_or texts source []) p status i) found before after text
 
 -- the note of a fault that the report leaves out, at its place
 abbrev pub IsHiddenNote : Paint → List ℕ → List ℕ → Fault → List ℕ → Type 0
@@ -144,12 +168,14 @@ abbrev pub AreHiddenToldIn : Paint → List ℕ → List ℕ → ModuleSet → (
 AreHiddenToldIn paint file source p status i faults text =
     (fs : List Interface) × ArePublished status (imports_of p i) fs × AreHiddenTold paint file source (module_at p i).header.name.text fs faults text
 
--- what is told of a faulty module: a message for each of its faults, and behind them the notes of those that the report leaves out, or nothing
-pub record IsFaultyTold (paint : Paint) (files texts : List (List ℕ)) (source : ℕ) (p : ModuleSet) (status : ℕ → Status) (i : ℕ) (faults : List Fault) (text : List ℕ) : Type 0 where
+-- what is told of a faulty module: a message for each of its faults, and behind them the notes of those that the report leaves out, or nothing. Where the
+-- limit was told there are no such notes
+pub record IsFaultyTold (paint : Paint) (files texts : List (List ℕ)) (source : ℕ) (p : ModuleSet) (status : ℕ → Status) (i : ℕ) (faults : List Fault) (before after : Bool) (text : List ℕ) : Type 0 where
   pub messages : List ℕ
   pub notes : List ℕ
-  pub told : AreFaultsTold paint files texts source p status i faults messages
+  pub told : AreFaultsTold paint files texts source p status i faults before after messages
   pub beyond : (notes ≡ []) ⊎ AreHiddenToldIn paint (slice_index_or files source []) (slice_index_or texts source []) p status i faults notes
+  pub silent : after ≡ true → notes ≡ []
   pub whole : text ≡ messages ++ notes
 
 -- an import that a module is skipped for: what it names, the place of the name, and what is told of it
@@ -192,14 +218,17 @@ pub record AreBlamesTold (paint : Paint) (files texts : List (List ℕ)) (source
 abbrev pub blamed_of : Blame → Blamed
 blamed_of b = record { name = b.name.now; place = b.place; subject = cond b.is_faulty (faulty b.name.now) (skipped b.name.now) }
 
--- nothing is told of a good module; of another one a message for each of its lines in the report, from the source that spells it
-abbrev pub IsToldAs : Paint → List (List ℕ) → List (List ℕ) → ModuleSet → (ℕ → Status) → ℕ → List ℕ → Status → Type 0
-IsToldAs paint files texts p status i text (Published f) = text ≡ []
-IsToldAs paint files texts p status i text (Failed found) = (source : ℕ) × IsSpelledBy texts i source × IsFaultyTold paint files texts source p status i found text
-IsToldAs paint files texts p status i text Skipped = (source : ℕ) × IsSpelledBy texts i source × AreBlamesTold paint files texts source p status i text
+-- nothing is told of a good module; of another one a message for each of its lines in the report, from the source that spells it. The truth values say
+-- whether the limit was told before the module, and whether it was told behind it
+abbrev pub IsToldAs : Paint → List (List ℕ) → List (List ℕ) → ModuleSet → (ℕ → Status) → ℕ → Bool → Bool → List ℕ → Status → Type 0
+IsToldAs paint files texts p status i before after text (Published f) = (after ≡ before) × (text ≡ [])
+IsToldAs paint files texts p status i before after text (Failed found) =
+    (source : ℕ) × IsSpelledBy texts i source × IsFaultyTold paint files texts source p status i found before after text
+IsToldAs paint files texts p status i before after text Skipped =
+    (after ≡ before) × (source : ℕ) × IsSpelledBy texts i source × AreBlamesTold paint files texts source p status i text
 
-abbrev pub IsModuleTold : Paint → List (List ℕ) → List (List ℕ) → ModuleSet → (ℕ → Status) → ℕ → List ℕ → Type 0
-IsModuleTold paint files texts p status i text = IsToldAs paint files texts p status i text (status i)
+abbrev pub IsModuleTold : Paint → List (List ℕ) → List (List ℕ) → ModuleSet → (ℕ → Status) → ℕ → Bool → Bool → List ℕ → Type 0
+IsModuleTold paint files texts p status i before after text = IsToldAs paint files texts p status i before after text (status i)
 
 -- a module's name and its number
 pub record Numbered : Type 0 where
@@ -228,7 +257,8 @@ abbrev pub fault_count : (ℕ → Status) → ℕ → ℕ
 fault_count status zero = 0
 fault_count status (suc n) = fault_count status n + faults_in (status n)
 
--- what is told of a set: each module once, in the order of the names, as the report's blocks stand; and behind it the counts
+-- what is told of a set: each module once, in the order of the names, as the report's blocks stand; and behind it the counts. `limited` says whether the
+-- limit on trials was told, which it wasn't before the first module
 pub record IsTold (paint : Paint) (files texts : List (List ℕ)) (p : ModuleSet) (status : ℕ → Status) (text : List ℕ) : Type 0 where
   pub rows : List Numbered
   pub all : AreNumbered p.modules rows
@@ -236,5 +266,6 @@ pub record IsTold (paint : Paint) (files texts : List (List ℕ)) (p : ModuleSet
   pub same : IsPermutation rows order
   pub ordered : IsSortedBy (λ x y. name_below x.name y.name) order
   pub messages : List ℕ
-  pub told : AreEach (λ r m. IsModuleTold paint files texts p status r.number m) order messages
+  pub limited : Bool
+  pub told : AreInTurn (λ r before after m. IsModuleTold paint files texts p status r.number before after m) order false limited messages
   pub whole : text ≡ messages ++ count_text paint (min (fault_count status (length p.modules)) (2 ^ 64 - 1)) (tally is_skipped status (length p.modules))

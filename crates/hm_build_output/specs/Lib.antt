@@ -4,3 +4,4 @@ pub mod Explained
 pub mod Explanations
 pub mod FurtherTold
 pub mod JournalledRuns
+pub mod WorkedLimits

@@ -15,8 +15,8 @@ ghost use Rattle.hm_verdicts.specs.Sets.{IsLawfulSet, module_at};
 ghost use Rattle.hm_verdicts.specs.Verdicts.{ArePublished};
 
 use crate::explaining::Told;
-use crate::faulty::{FaultyModule, noted_messages};
-use hm_explain::{Effort, Question};
+use crate::faulty::{Allowance, FaultyModule, noted_messages};
+use hm_explain::Question;
 use hm_messages::{Page, Paint, fault_message};
 use hm_messages_details::{Detail, Site, detail_of};
 use hm_names::{Fault, Kind, NO_SYNONYMS};
@@ -188,7 +188,7 @@ pub(crate) fn faulty_messages(
     alloc: Global,
     told: &Told<'_, '_, '_>,
     faulty: Faulty<'_>,
-    effort: &mut Effort,
+    allowance: &mut Allowance,
 ) -> Result<Vec<u8>, AllocError>
     requires lawful { IsLawfulSet (module_set told.now.modules.now told.now.plan.now) }
     requires number { faulty.number < length told.now.modules.now }
@@ -196,7 +196,7 @@ pub(crate) fn faulty_messages(
     requires settled { statuses_of told.now.settled.now ≡ settlement told.now.store.now }
     ensures { IfOk result (λ text. AreFaultsTold told.now.pages.now.paint (files_in told.now.pages.now.items.items) (texts_in told.now.pages.now.items.items)
         faulty.entry.source (module_set told.now.modules.now told.now.plan.now) (statuses_of told.now.settled.now) faulty.entry.number faulty.entry.faults.now
-        text.items) }
+        allowance.old.is_limit_told allowance.new.is_limit_told text.items) }
 {
     let page = &told.pages.items[faulty.source];
     let paint = told.pages.paint;
@@ -219,5 +219,5 @@ pub(crate) fn faulty_messages(
         question: &question,
         faults: faulty.faults,
     };
-    Ok(noted_messages(alloc, &module, effort)?)
+    Ok(noted_messages(alloc, &module, allowance)?)
 }

@@ -14,9 +14,9 @@ ghost use Rattle.hm_build_reports.specs.ReportBlocks.{all_blamed, blamed};
 ghost use Rattle.hm_build_reports.specs.Settling.{module_set, status_of as settlement, statuses_of};
 
 use crate::detailing::Faulty;
+use crate::faulty::Allowance;
 use crate::hidden::all_messages;
 use hm_build_reports::Settled;
-use hm_explain::Effort;
 use hm_graph::Plan;
 use hm_lex::Place;
 use hm_messages::{Page, Pages, Topic, count_text, message};
@@ -228,7 +228,7 @@ fn module_messages(
     alloc: Global,
     told: &Told<'_, '_, '_>,
     number: usize,
-    effort: &mut Effort,
+    allowance: &mut Allowance,
 ) -> Result<Vec<u8>, AllocError>
     requires lawful { IsLawfulSet (module_set told.now.modules.now told.now.plan.now) }
     requires len { length told.now.settled.now ≡ length told.now.modules.now }
@@ -236,7 +236,8 @@ fn module_messages(
     requires origins { HaveOrigins (texts_in told.now.pages.now.items.items) (length told.now.modules.now) told.now.origins.now }
     requires settled { statuses_of told.now.settled.now ≡ build_settlement told.now.store.now }
     ensures { IfOk result (λ text. IsModuleTold told.now.pages.now.paint (files_in told.now.pages.now.items.items) (texts_in told.now.pages.now.items.items)
-        (module_set told.now.modules.now told.now.plan.now) (statuses_of told.now.settled.now) number text.items) }
+        (module_set told.now.modules.now told.now.plan.now) (statuses_of told.now.settled.now) number allowance.old.is_limit_told
+        allowance.new.is_limit_told text.items) }
 {
     match &told.settled[number] {
         Settled::Published(_) => Ok(Vec::new(alloc)),
@@ -248,7 +249,7 @@ fn module_messages(
                 source,
                 faults,
             };
-            Ok(all_messages(alloc, told, faulty, effort)?)
+            Ok(all_messages(alloc, told, faulty, allowance)?)
         }
         Settled::Skipped => {
             let source = source_of(told, number);
@@ -305,10 +306,10 @@ pub(crate) fn explanation(
 {
     let mut rows = numbered(alloc, told.modules)?;
     rows.sort_by_key(|row| row.name)?;
-    let mut effort = Effort::of_run();
+    let mut allowance = Allowance::of_run();
     let mut text = Vec::new(alloc);
     for row in &rows {
-        let messages = module_messages(alloc, told, row.number, &mut effort)?;
+        let messages = module_messages(alloc, told, row.number, &mut allowance)?;
         text.extend_from_slice(messages.as_slice())?;
     }
     let counts = count_text(alloc, told.pages.paint, errors_in(told.settled), skipped)?;

@@ -1,12 +1,13 @@
 //! The messages of a module with type faults: one for each fault, and after it a note of the change that gives the definition a type.
-ghost use Rattle.std.specs.Prelude.{◌≡◌, ◌⊎◌, ◌++◌, IfOk, IfSome, [], cond, map, string_bytes, true};
+ghost use Rattle.std.specs.Prelude.{◌≡◌, ◌⊎◌, ◌++◌, IfOk, IfSome, OnOk, [], cond, false, map, string_bytes, true};
 ghost use Rattle.std.specs.Arc.{arc_value};
-ghost use Rattle.hm_messages.specs.Messages.{AreEach, IsMessage};
+ghost use Rattle.hm_messages.specs.Messages.{IsMessage};
 ghost use Rattle.hm_messages.specs.Subjects.{limit, unsigned as unsigned_subject};
+ghost use Rattle.hm_explain.specs.Limits.{IsUsedUp};
 ghost use Rattle.hm_explain.specs.Mends.{IsMend};
 ghost use Rattle.hm_explain.specs.Signatures.{IsUnsigned, Leads};
 ghost use Rattle.hm_names.specs.declared.faults.Kind.TheVariants.{Untyped};
-ghost use Rattle.hm_build_output.specs.Explanations.{ArePartTypes, AreNotes, IsNote, IsNoted, IsSignatureNote, IsToldOf, first_of as first_place, other_of as other_place, way_of as told_way};
+ghost use Rattle.hm_build_output.specs.Explanations.{AreInTurn, ArePartTypes, AreNotes, IsNote, IsNoted, IsSignatureNote, IsToldOf, first_of as first_place, other_of as other_place, way_of as told_way};
 
 use hm_explain::{
     Effort, Mend, PartTypes, Question, Reading, TypeFault, Unsigned, mend_of, part_types_of,
@@ -25,6 +26,26 @@ pub(crate) struct FaultyModule<'f, 'p> {
     pub page: &'f Page<'p>,
     pub question: &'f Question<'f>,
     pub faults: &'f [Fault],
+}
+
+/// What is left for the notes of a run, and whether one of them said that nothing is.
+#[derive(Clone, Copy)]
+pub(crate) struct Allowance {
+    pub effort: Effort,
+    pub is_limit_told: bool,
+}
+
+impl Allowance {
+    /// Returns the allowance for all notes of a run.
+    pub fn of_run() -> Allowance
+        ensures left { ¬ (IsUsedUp result.effort) }
+        ensures untold { result.is_limit_told ≡ false }
+    {
+        Allowance {
+            effort: Effort::of_run(),
+            is_limit_told: false,
+        }
+    }
 }
 
 /// Returns the change that gives the definition of a type fault a type, if one is found. Returns `None` if memory or the effort doesn't suffice for the search.
@@ -54,6 +75,7 @@ fn first_of(mend: &Mend) -> Place
         Mend::Expression(part) => part.start,
         Mend::Pattern(part) => part.start,
         Mend::Exchange(first, _) => first.start,
+        Mend::Removal(part) => part.start,
     }
 }
 
@@ -65,6 +87,7 @@ fn other_of(mend: &Mend) -> Place
         Mend::Expression(part) => part.end,
         Mend::Pattern(part) => part.end,
         Mend::Exchange(_, second) => second.start,
+        Mend::Removal(part) => part.end,
     }
 }
 
@@ -76,6 +99,7 @@ fn way_of(mend: &Mend, other: Place) -> Way
         Mend::Expression(_) => Way::Expression(other),
         Mend::Pattern(_) => Way::Pattern(other),
         Mend::Exchange(_, _) => Way::Exchange(other),
+        Mend::Removal(_) => Way::Removal(other),
     }
 }
 
@@ -104,6 +128,7 @@ fn types_for(
         },
         Mend::Pattern(_) => None,
         Mend::Exchange(_, _) => None,
+        Mend::Removal(_) => None,
     }
 }
 
@@ -319,40 +344,46 @@ fn notes_for(
     Ok(notes_of(alloc, module, &found, effort)?)
 }
 
-/// Returns the note that no trial is left for the run, or no text.
+/// Returns the note that the limit on trials is reached.
 fn limit_note(
     alloc: Global,
     module: &FaultyModule<'_, '_>,
     fault: &Fault,
-    effort: &mut Effort,
 ) -> Result<Vec<u8>, AllocError>
-    ensures { IfOk result (λ text. (text.items ≡ []) ⊎ IsMessage «module».now.paint «module».now.page.now.file.now «module».now.page.now.lines
-        fault.now.place limit text.items) }
+    ensures { IfOk result (λ text. IsMessage «module».now.paint «module».now.page.now.file.now «module».now.page.now.lines fault.now.place limit text.items) }
 {
-    if !effort.tells_limit() {
-        return Ok(Vec::new(alloc));
-    }
     let topic = Topic::Limit;
     Ok(message(alloc, module.paint, module.page, fault.place, &topic)?)
 }
 
-/// Returns the message of a fault with its notes, which need the reading of the module's source.
+// Why: docs/DECISIONS.md, "The limit's note".
+/// Returns the message of a fault with its notes, which need the reading of the module's source. There are none if an earlier note said that the limit is reached.
 fn fault_text(
     alloc: Global,
     module: &FaultyModule<'_, '_>,
     reading: Option<&Reading>,
     fault: &Fault,
-    effort: &mut Effort,
+    allowance: &mut Allowance,
 ) -> Result<Vec<u8>, AllocError>
     requires { «module».now.question.now.source.now ≡ «module».now.page.now.lines }
-    ensures { IfOk result (λ text. IsNoted «module».now.paint «module».now.page.now.file.now «module».now.page.now.lines
-        «module».now.question.now.name.now (map arc_value «module».now.question.now.imports.now) fault.now text.items) }
+    ensures told { IfOk result (λ text. IsNoted «module».now.paint «module».now.page.now.file.now «module».now.page.now.lines
+        «module».now.question.now.name.now (map arc_value «module».now.question.now.imports.now) fault.now allowance.old.is_limit_told
+        allowance.new.is_limit_told text.items) }
+    ensures reached { allowance.old.is_limit_told ≡ false → allowance.new.is_limit_told ≡ true → IsUsedUp allowance.new.effort }
+    ensures silent { OnOk result (allowance.old.is_limit_told ≡ false → allowance.new.is_limit_told ≡ false → ¬ (IsUsedUp allowance.new.effort)) }
 {
     let mut text = fault_message(alloc, module.paint, module.page, fault, Detail::Nothing)?;
-    let notes = notes_for(alloc, module, reading, fault, effort)?;
+    if allowance.is_limit_told {
+        return Ok(text);
+    }
+    let notes = notes_for(alloc, module, reading, fault, &mut allowance.effort)?;
     text.extend_from_slice(notes.as_slice())?;
-    let last = limit_note(alloc, module, fault, effort)?;
+    if !allowance.effort.is_used_up() {
+        return Ok(text);
+    }
+    let last = limit_note(alloc, module, fault)?;
     text.extend_from_slice(last.as_slice())?;
+    allowance.is_limit_told = true;
     Ok(text)
 }
 
@@ -360,16 +391,17 @@ fn fault_text(
 pub(crate) fn noted_messages(
     alloc: Global,
     module: &FaultyModule<'_, '_>,
-    effort: &mut Effort,
+    allowance: &mut Allowance,
 ) -> Result<Vec<u8>, AllocError>
     requires { «module».now.question.now.source.now ≡ «module».now.page.now.lines }
-    ensures { IfOk result (λ text. AreEach (IsNoted «module».now.paint «module».now.page.now.file.now «module».now.page.now.lines
-        «module».now.question.now.name.now (map arc_value «module».now.question.now.imports.now)) «module».now.faults.now text.items) }
+    ensures { IfOk result (λ text. AreInTurn (IsNoted «module».now.paint «module».now.page.now.file.now «module».now.page.now.lines
+        «module».now.question.now.name.now (map arc_value «module».now.question.now.imports.now)) «module».now.faults.now allowance.old.is_limit_told
+        allowance.new.is_limit_told text.items) }
 {
-    let reading = reading_for(alloc, module, effort);
+    let reading = reading_for(alloc, module, &mut allowance.effort);
     let mut text = Vec::new(alloc);
     for fault in module.faults {
-        let message = fault_text(alloc, module, reading.as_ref(), fault, effort)?;
+        let message = fault_text(alloc, module, reading.as_ref(), fault, allowance)?;
         text.extend_from_slice(message.as_slice())?;
     }
     Ok(text)

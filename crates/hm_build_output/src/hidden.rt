@@ -12,56 +12,54 @@ ghost use Rattle.hm_verdicts.specs.Sets.{IsLawfulSet};
 
 use crate::detailing::{Faulty, faulty_messages, published};
 use crate::explaining::Told;
-use crate::faulty::FaultyModule;
+use crate::faulty::{Allowance, FaultyModule};
 use hm_explain::{Effort, Question, hidden_of};
 use hm_messages::{Page, Paint, Topic, message};
 use hm_names::Fault;
 use hm_verdicts::{Outcome, Verdict};
 use std::alloc::{AllocError, Global};
 
-/// Returns the note of a fault that the report leaves out, or `None` if it has no place in the source.
+/// Returns the note of a fault that the report leaves out.
 fn note_of(
     alloc: Global,
     paint: Paint,
     page: &Page<'_>,
     fault: &Fault,
-) -> Result<Option<Vec<u8>>, AllocError>
-    ensures { IfOk result (λ found. IfSome found (λ text. IsHiddenNote paint page.now.file.now page.now.lines fault.now text.items)) }
+) -> Result<Vec<u8>, AllocError>
+    ensures { IfOk result (λ text. IsHiddenNote paint page.now.file.now page.now.lines fault.now text.items) }
 {
     let topic = Topic::Hidden(fault.kind, fault.name.as_str());
-    Ok(Some(message(alloc, paint, page, fault.place, &topic)?))
+    Ok(message(alloc, paint, page, fault.place, &topic)?)
 }
 
-/// Returns the notes of faults that the report leaves out, in order, or `None` if one of them has no place in the source.
+/// Returns the notes of faults that the report leaves out, in order.
 fn notes_of(
     alloc: Global,
     paint: Paint,
     page: &Page<'_>,
     faults: &[Fault],
-) -> Result<Option<Vec<u8>>, AllocError>
-    ensures { IfOk result (λ found. IfSome found (λ text. AreEach (IsHiddenNote paint page.now.file.now page.now.lines) faults.now text.items)) }
+) -> Result<Vec<u8>, AllocError>
+    ensures { IfOk result (λ text. AreEach (IsHiddenNote paint page.now.file.now page.now.lines) faults.now text.items) }
 {
     let mut text = Vec::new(alloc);
     for fault in faults {
-        let Some(note) = note_of(alloc, paint, page, fault)? else {
-            return Ok(None);
-        };
+        let note = note_of(alloc, paint, page, fault)?;
         text.extend_from_slice(note.as_slice())?;
     }
-    Ok(Some(text))
+    Ok(text)
 }
 
-/// Returns the notes of all faults of a verdict, or `None` if one of them has no place in the source.
+/// Returns the notes of all faults of a verdict.
 fn verdict_notes(
     alloc: Global,
     paint: Paint,
     page: &Page<'_>,
     verdict: &Verdict,
-) -> Result<Option<Vec<u8>>, AllocError>
-    ensures { IfOk result (λ found. IfSome found (λ text. AreHiddenNotes paint page.now.file.now page.now.lines (verdict_of verdict.now) text.items)) }
+) -> Result<Vec<u8>, AllocError>
+    ensures { IfOk result (λ text. AreHiddenNotes paint page.now.file.now page.now.lines (verdict_of verdict.now) text.items) }
 {
     match verdict {
-        Verdict::Good(_) => Ok(Some(Vec::new(alloc))),
+        Verdict::Good(_) => Ok(Vec::new(alloc)),
         Verdict::Faulty(found) => Ok(notes_of(alloc, paint, page, found.as_slice())?),
     }
 }
@@ -92,10 +90,7 @@ fn module_notes(
     let Some(outcome) = outcome_of(alloc, module, effort) else {
         return Ok(Vec::new(alloc));
     };
-    let Some(text) = verdict_notes(alloc, module.paint, module.page, outcome.verdict())? else {
-        return Ok(Vec::new(alloc));
-    };
-    Ok(text)
+    Ok(verdict_notes(alloc, module.paint, module.page, outcome.verdict())?)
 }
 
 /// Returns the notes of the faults that the report leaves out of a module with this number, or no text.
@@ -134,11 +129,12 @@ fn notes_behind(
 }
 
 /// Returns the messages of a faulty module: those of its faults, and after them the notes of the faults that the report leaves out.
+/// There are no such notes if one said that the limit on trials is reached.
 pub(crate) fn all_messages(
     alloc: Global,
     told: &Told<'_, '_, '_>,
     faulty: Faulty<'_>,
-    effort: &mut Effort,
+    allowance: &mut Allowance,
 ) -> Result<Vec<u8>, AllocError>
     requires lawful { IsLawfulSet (module_set told.now.modules.now told.now.plan.now) }
     requires number { faulty.number < length told.now.modules.now }
@@ -146,10 +142,13 @@ pub(crate) fn all_messages(
     requires settled { statuses_of told.now.settled.now ≡ settlement told.now.store.now }
     ensures { IfOk result (λ text. IsFaultyTold told.now.pages.now.paint (files_in told.now.pages.now.items.items) (texts_in told.now.pages.now.items.items)
         faulty.entry.source (module_set told.now.modules.now told.now.plan.now) (statuses_of told.now.settled.now) faulty.entry.number faulty.entry.faults.now
-        text.items) }
+        allowance.old.is_limit_told allowance.new.is_limit_told text.items) }
 {
-    let mut text = faulty_messages(alloc, told, faulty, effort)?;
-    let notes = notes_behind(alloc, told, faulty, effort)?;
+    let mut text = faulty_messages(alloc, told, faulty, allowance)?;
+    if allowance.is_limit_told {
+        return Ok(text);
+    }
+    let notes = notes_behind(alloc, told, faulty, &mut allowance.effort)?;
     text.extend_from_slice(notes.as_slice())?;
     Ok(text)
 }

@@ -8,6 +8,7 @@ mod explained;
 mod explaining;
 mod faulty;
 mod hidden;
+pub mod laws;
 mod options;
 mod refused;
 mod starts;

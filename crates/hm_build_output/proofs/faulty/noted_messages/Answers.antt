@@ -1,8 +1,8 @@
 use Rattle.std.proofs.Common.{rules, ◌≡◌, ◌++◌, get_or, map, subst}
 use Rattle.std.specs.Arc.{arc_value}
 use Rattle.hm_names.specs.declared.faults.Fault.{Fault}
-use Rattle.hm_messages.proofs.InOrder.{taken_more}
 use Rattle.hm_build_output.specs.Explanations.{IsNoted}
+use Rattle.hm_build_output.proofs.Turns.{taken_turn}
 use Rattle.hm_build_output.proofs.faulty.noted_messages.Goals as goal
 
 pub loop-fault-preserved : goal.loop-fault-preserved
@@ -13,6 +13,9 @@ loop-fault-preserved c =
     let item : Fault = c.fault-item.result in
     let is : item ≡ get_or faults i item = search rules in
     let message = c.in_ok-message.message.items in
+    let before = c.args.allowance.now.is_limit_told in
+    let between = c.loop-fault.allowance.is_limit_told in
+    let after = c.fault_text.new.allowance.is_limit_told in
     let pushed : c.extend_from_slice.new.self.items ≡ c.loop-fault.text.items ++ message = search rules in
-    taken_more told faults i item c.loop-fault.text.items c.extend_from_slice.new.self.items message (search rules) c.loop-fault.invariant
-    (subst (λ (f : Fault). told f message) is c.in_ok-message.ensures) pushed
+    taken_turn told faults i item before between after c.loop-fault.text.items c.extend_from_slice.new.self.items message (search rules) c.loop-fault.invariant
+    (subst (λ (f : Fault). told f between after message) is c.in_ok-message.ensures.told) pushed

@@ -1,5 +1,15 @@
-use Rattle.std.proofs.Common.{rules}
+use Rattle.std.proofs.Common.{rules, [], append-nil, inl, refl, sym}
 use Rattle.hm_build_output.proofs.hidden.all_messages.Goals as goal
+
+pub returns-then-allowance : goal.returns-then-allowance
+returns-then-allowance c = record {
+  messages = c.in_ok-text.text.items;
+  notes = [];
+  told = c.in_ok-text.ensures;
+  beyond = inl refl;
+  silent = λ e. refl;
+  whole = sym (append-nil c.in_ok-text.text.items);
+}
 
 pub returns : goal.returns
 returns c = record {
@@ -7,5 +17,6 @@ returns c = record {
   notes = c.in_ok-notes.notes.items;
   told = c.in_ok-text.ensures;
   beyond = c.in_ok-notes.ensures;
+  silent = λ e. search rules;
   whole = search rules;
 }

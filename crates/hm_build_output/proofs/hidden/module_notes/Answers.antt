@@ -12,7 +12,7 @@ returns c =
     let page = c.args.«module».now.page.now in
     let question = c.args.«module».now.question.now in
     let verdict = c.in-Some.outcome.verdict in
-    let text = c.in-Some-2.text.items in
+    let text = c.in_ok-verdict_notes.field-0.items in
     let same : verdict_of c.verdict.result.now ≡ verdict = search rules in
     let told : AreHiddenNotes paint page.file.now page.lines (verdict_of c.verdict.result.now) text = search rules in
     inr (record {

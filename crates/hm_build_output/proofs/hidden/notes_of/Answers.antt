@@ -12,7 +12,7 @@ loop-fault-preserved c =
     let i = c.loop-fault.fault-index in
     let item : Fault = c.fault-item.result in
     let is : item ≡ get_or faults i item = search rules in
-    let note = c.in-Some.note.items in
+    let note = c.in_ok-note.note.items in
     let so : told item note = search rules in
     let pushed : c.extend_from_slice.new.self.items ≡ c.loop-fault.text.items ++ note = search rules in
     taken_more told faults i item c.loop-fault.text.items c.extend_from_slice.new.self.items note (search rules) c.loop-fault.invariant
