@@ -9,7 +9,6 @@ use hm_build_output::{
     Explained, Wanted, exhausted_message, finished_explained, refused_explained,
 };
 use hm_build_stages::drop_by_threads;
-use hm_messages::MessageFault;
 use hm_run_io::RunFault;
 use hm_run_sources::{Nesting, Trees};
 use std::alloc::{AllocError, Global};
@@ -33,17 +32,6 @@ impl From<AllocError> for Unanswered {
 
     fn from(_error: AllocError) -> Unanswered {
         Unanswered::of(RunFault::Memory)
-    }
-}
-
-impl From<MessageFault> for Unanswered {
-    ghost use Rattle.std.specs.Prelude.{◌≡◌, ◌⊎◌, None};
-    ghost use Rattle.hm_run_io.specs.declared.faults.RunFault.TheVariants.{Memory, Mixed};
-
-    ghost from_gives = { λ _ unanswered. ((unanswered.fault ≡ Memory) ⊎ (unanswered.fault ≡ Mixed)) × (unanswered.message ≡ None) };
-
-    fn from(fault: MessageFault) -> Unanswered {
-        Unanswered::of(RunFault::from(fault))
     }
 }
 

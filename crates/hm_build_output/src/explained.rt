@@ -1,6 +1,5 @@
 //! The text, the status and the messages of a run of the checker.
-ghost use Rattle.std.specs.Prelude.{ℕ, List, IfOk, IfSome, IsErrOf, map, string_bytes};
-ghost use Rattle.hm_messages.specs.Foreign.{IsForeign};
+ghost use Rattle.std.specs.Prelude.{ℕ, List, IfOk, IfSome, map, string_bytes};
 ghost use Rattle.hm_store.specs.declared.record.Record.{Record};
 ghost use Rattle.hm_build_reports.specs.FinishedBuilds.{IsFinished};
 ghost use Rattle.hm_build_output.specs.Explained.{AreMessagesOf, IsExplained};
@@ -14,7 +13,7 @@ use crate::refused::refused_messages;
 use crate::starts::starts_of;
 use crate::{Explain, Wanted};
 use hm_build_reports::{settled_in, skipped_in};
-use hm_messages::{MessageFault, pages_of};
+use hm_messages::pages_of;
 use hm_run_sources::{Answer, SetFault, origins_of, refusal_answer};
 use hm_store::Store;
 use hm_types_prelude::SharedPrelude;
@@ -104,22 +103,17 @@ pub fn finished_explained<'a>(
 }
 
 /// Returns the text, the status and the messages of a refused set.
-///
-/// # Errors
-///
-/// `Foreign` if the fault isn't one of these sources, and `Memory` if memory ran out.
 pub fn refused_explained<'a>(
     alloc: Global,
     sources: &'a [Vec<u8>],
     fault: &SetFault,
     wanted: &'a Wanted,
-) -> Result<Explained, MessageFault>
-    ensures run { IfOk result (λ a. (workers : ℕ) → IsRefusalOf (map (λ s. s.items) sources.now) fault.now
-        → IsRun workers wanted.now.options.journal (map (λ s. s.items) sources.now) a.answer.status (string_bytes a.answer.text)) }
-    ensures told { IfOk result (λ a. IsRefusalOf (map (λ s. s.items) sources.now) fault.now
-        → IfSome wanted.now.explain (λ e. IsExplained e.paint (map (λ s. s.items) e.names.items) (map (λ s.
+) -> Result<Explained, AllocError>
+    requires { IsRefusalOf (map (λ s. s.items) sources.now) fault.now }
+    ensures run { IfOk result (λ a. (workers : ℕ) → IsRun workers wanted.now.options.journal (map (λ s.
+        s.items) sources.now) a.answer.status (string_bytes a.answer.text)) }
+    ensures told { IfOk result (λ a. IfSome wanted.now.explain (λ e. IsExplained e.paint (map (λ s. s.items) e.names.items) (map (λ s.
         s.items) sources.now) a.answer.status (string_bytes a.answer.text) a.messages.items)) }
-    ensures foreign { IsErrOf result MessageFault.Foreign → IsForeign (map (λ s. s.items) sources.now) fault.now }
 {
     let answer = refusal_answer(alloc, fault)?;
     let messages = refused_messages(alloc, sources, fault, wanted)?;

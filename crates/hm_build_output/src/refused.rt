@@ -1,5 +1,5 @@
 //! The messages of a refused set: of the fault for which it is refused, and of the first fault of each further source.
-ghost use Rattle.std.specs.Prelude.{◌≡◌, ◌+◌, ◌<◌, ◌≤◌, ℕ, List, Option, IfNone, IfOk, IfSome, IsErrOf, drop, length, map, option_map};
+ghost use Rattle.std.specs.Prelude.{◌≡◌, ◌+◌, ◌<◌, ◌≤◌, ℕ, List, Option, IfNone, IfOk, IfSome, drop, length, map, option_map};
 ghost use Rattle.hm_messages.specs.Foreign.{IsForeign, IsNumbered};
 ghost use Rattle.hm_messages.specs.FurtherFaults.{AreFirstFaults, AreFurtherFaults, IsFirstFault};
 ghost use Rattle.hm_messages.specs.Messages.{AreEach};
@@ -148,26 +148,46 @@ fn behind(fault: &SetFault, sources: usize) -> Option<usize>
     }
 }
 
+/// Returns the messages of the fault for which a set is refused.
+fn own_messages(
+    alloc: Global,
+    pages: &Pages<'_>,
+    sources: &[Vec<u8>],
+    fault: &SetFault,
+    advice: Advice<'_>,
+) -> Result<Messages, AllocError>
+    requires because { IsRefusalOf (map (λ s. s.items) sources.now) fault.now }
+    requires advised { IsAdvised (texts_in pages.now.items.items) fault.now advice.hint advice.text.now }
+    requires texts { texts_in pages.now.items.items ≡ map (λ s. s.items) sources.now }
+    ensures { IfOk result (λ told. AreRefusalMessages pages.now.paint (files_in pages.now.items.items) (texts_in pages.now.items.items)
+        fault.now told.errors told.text.items) }
+{
+    match refusal_messages(alloc, pages, sources, fault, advice) {
+        Ok(messages) => Ok(messages),
+        Err(MessageFault::Memory) => Err(AllocError),
+        Err(MessageFault::Foreign) => unreachable!(),
+    }
+}
+
 /// Returns the messages of a refused set.
 fn told_refusal<'a>(
     alloc: Global,
     sources: &'a [Vec<u8>],
     fault: &SetFault,
     explain: &'a Explain,
-) -> Result<Vec<u8>, MessageFault>
-    ensures ok { IfOk result (λ m. IsRefusalOf (map (λ s. s.items) sources.now) fault.now
-        → TellsRefusal explain.now.paint (map (λ s. s.items) explain.now.names.items) (map (λ s. s.items) sources.now) m.items) }
-    ensures foreign { IsErrOf result MessageFault.Foreign → IsForeign (map (λ s. s.items) sources.now) fault.now }
+) -> Result<Vec<u8>, AllocError>
+    requires { IsRefusalOf (map (λ s. s.items) sources.now) fault.now }
+    ensures { IfOk result (λ m. TellsRefusal explain.now.paint (map (λ s. s.items) explain.now.names.items) (map (λ s. s.items) sources.now) m.items) }
 {
     let Some(from) = behind(fault, sources.len()) else {
-        return Err(MessageFault::Foreign);
+        unreachable!()
     };
     let pages = pages_of(alloc, explain.paint, sources, &explain.names, &[])?;
     let advice = advice_on(alloc, sources, fault, Search::Changes)?;
-    let Messages { mut text, errors } = refusal_messages(alloc, &pages, sources, fault, advice)?;
+    let Messages { mut text, errors } = own_messages(alloc, &pages, sources, fault, advice)?;
     let further = further_messages(alloc, &pages, sources, from)?;
     let Some(all) = errors.checked_add(further.errors) else {
-        return Err(MessageFault::Memory);
+        return Err(AllocError);
     };
     text.extend_from_slice(further.text.as_slice())?;
     let counts = count_text(alloc, explain.paint, all, 0)?;
@@ -181,10 +201,10 @@ pub(crate) fn refused_messages<'a>(
     sources: &'a [Vec<u8>],
     fault: &SetFault,
     wanted: &'a Wanted,
-) -> Result<Vec<u8>, MessageFault>
-    ensures ok { IfOk result (λ m. IsRefusalOf (map (λ s. s.items) sources.now) fault.now
-        → IfSome wanted.now.explain (λ e. TellsRefusal e.paint (map (λ s. s.items) e.names.items) (map (λ s. s.items) sources.now) m.items)) }
-    ensures foreign { IsErrOf result MessageFault.Foreign → IsForeign (map (λ s. s.items) sources.now) fault.now }
+) -> Result<Vec<u8>, AllocError>
+    requires { IsRefusalOf (map (λ s. s.items) sources.now) fault.now }
+    ensures { IfOk result (λ m. IfSome wanted.now.explain (λ e.
+        TellsRefusal e.paint (map (λ s. s.items) e.names.items) (map (λ s. s.items) sources.now) m.items)) }
 {
     match &wanted.explain {
         Some(explain) => Ok(told_refusal(alloc, sources, fault, explain)?),

@@ -31,7 +31,12 @@ pub struct Unsigned {
 }
 
 /// Returns a source without a range of its bytes.
-pub(crate) fn without(alloc: Global, source: &[u8], from: usize, to: usize) -> Result<Vec<u8>, AllocError>
+pub(crate) fn without(
+    alloc: Global,
+    source: &[u8],
+    from: usize,
+    to: usize,
+) -> Result<Vec<u8>, AllocError>
     requires ordered { from ≤ to }
     requires within { to ≤ length source.now }
     ensures { IfOk result (λ made. made.items ≡ without_text source.now from to) }

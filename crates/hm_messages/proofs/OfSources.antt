@@ -117,10 +117,10 @@ module _ (ls : List Located) (m i : ℕ) where
   other_is_among within other = elim (cases_Bool (is_text_among name (known_in ls))) [
     | inl there ↦ ap not there
     | inr gone ↦ absurd (other (record {
-        place = within;
-        not_prelude = λ e. isnt gone (subst (Contains (known_in ls)) (sym e) (first prelude_name (module_names ls)));
-        no_module = λ k low e. isnt gone (rest prelude_name (module_names ls) name (k, omega (arith, low, as_many_names ls), name_of ls k name (omega (arith, low, as_many_names ls)) ∙ e));
-      }))
+      place = within;
+      not_prelude = λ e. isnt gone (subst (Contains (known_in ls)) (sym e) (first prelude_name (module_names ls)));
+      no_module = λ k low e. isnt gone (rest prelude_name (module_names ls) name (k, omega (arith, low, as_many_names ls), name_of ls k name (omega (arith, low, as_many_names ls)) ∙ e));
+    }))
   ]
     where
       isnt : is_text_among name (known_in ls) ≡ false → ¬ (Contains (known_in ls) name)

@@ -14,7 +14,6 @@ use crate::sentences::sentence;
 use crate::topic::Topic;
 use hm_lex::Place;
 use hm_messages_excerpts::{add_excerpt, shown};
-use hm_run_io::RunFault;
 use std::alloc::{AllocError, Global};
 
 // Why: docs/DECISIONS.md, "Foreign faults".
@@ -34,20 +33,6 @@ impl From<AllocError> for MessageFault {
 
     fn from(_error: AllocError) -> MessageFault {
         MessageFault::Memory
-    }
-}
-
-impl From<MessageFault> for RunFault {
-    ghost use Rattle.std.specs.Prelude.{◌≡◌, ◌⊎◌};
-    ghost use Rattle.hm_run_io.specs.declared.faults.RunFault.TheVariants.{Memory, Mixed};
-
-    ghost from_gives = { λ _ fault. (fault ≡ Memory) ⊎ (fault ≡ Mixed) };
-
-    fn from(fault: MessageFault) -> RunFault {
-        match fault {
-            MessageFault::Memory => RunFault::Memory,
-            MessageFault::Foreign => RunFault::Mixed,
-        }
     }
 }
 

@@ -1,7 +1,6 @@
 use Rattle.std.proofs.Common.{rules, ◌≡◌, ◌+◌, ◌++◌, ◌∙◌, List, ℕ, ap, append_assoc, drop, map, subst}
 use Rattle.std.proofs.lemmas.List.{length-map}
-use Rattle.std.proofs.lemmas.Result.{err_from_is_err_and}
-use Rattle.hm_messages.specs.Foreign.{IsForeign}
+use Rattle.hm_messages.proofs.OfSources.{refusals_are_theirs}
 use Rattle.hm_messages.specs.FurtherFaults.{AreFirstFaults}
 use Rattle.hm_messages.specs.Headings.{count_text}
 use Rattle.hm_messages.specs.Messages.{AreEach}
@@ -10,8 +9,8 @@ use Rattle.hm_messages.specs.Refused.{AreRefusalMessages}
 use Rattle.hm_run_sources.specs.Refusals.{Refusal}
 use Rattle.hm_build_output.proofs.refused.told_refusal.Goals as goal
 
-pub returns-clause-ok : goal.returns-clause-ok
-returns-clause-ok c because =
+pub returns : goal.returns
+returns c =
     let sources : List (List ℕ) = map (λ s. s.items) c.args.sources.now in
     let fault : Refusal = c.args.fault.now in
     let paint = c.args.explain.now.paint in
@@ -21,7 +20,7 @@ returns-clause-ok c because =
     let paints : pages.paint ≡ paint = c.in_ok-pages.ensures.paint in
     let messages = c.in_ok-text.field-0.text.items in
     let errors = c.in_ok-text.field-0.errors in
-    let first : AreRefusalMessages pages.paint files (texts_in pages.items.items) fault errors messages = c.in_ok-text.ensures.ok in
+    let first : AreRefusalMessages pages.paint files (texts_in pages.items.items) fault errors messages = c.in_ok-text.ensures in
     let more = c.in_ok-further.ensures in
     let behind = c.in_ok-further.further.text.items in
     let from = c.in-Some.from in
@@ -31,7 +30,7 @@ returns-clause-ok c because =
     let counted : c.extend_from_slice-2.new.self.items ≡ c.extend_from_slice.new.self.items ++ count_text paint c.in-Some-checked_add.all 0 = search rules in
     record {
       refusal = fault;
-      because = because;
+      because = c.requires;
       files = files;
       named = subst (λ l. AreFilesOf (map (λ s. s.items) l) sources files) c.deref.ensures.value c.in_ok-pages.ensures.files;
       told = record {
@@ -52,8 +51,7 @@ returns-clause-ok c because =
 pub advice_on-requires : goal.advice_on-requires
 advice_on-requires c = c.in-Some.ensures.numbered (map (λ s. s.items) c.args.sources.now) (length-map c.args.sources.now (λ s. s.items))
 
--- the error of the messages is passed on
-pub returns-in_err-text-clause-foreign : goal.returns-in_err-text-clause-foreign
-returns-in_err-text-clause-foreign c e =
-    let p = err_from_is_err_and c.from_residual-in_err-text.result c.from_residual-in_err-text.ensures.1 in
-    subst (λ (l : List (List ℕ)). IsForeign l c.args.fault.now) c.in_ok-pages.ensures.texts (c.in_err-text.ensures.foreign (let made = p.1 in let same = p.2 in cc))
+pub unreachable-requires : goal.unreachable-requires
+unreachable-requires c =
+    let sources : List (List ℕ) = map (λ s. s.items) c.args.sources.now in
+    refusals_are_theirs sources c.args.fault.now c.requires (c.in_default.ensures.foreign sources (length-map c.args.sources.now (λ s. s.items)))
