@@ -1,5 +1,5 @@
 -- The messages of a refused set.
-use Rattle.std.specs.Prelude.{◌≡◌, ℕ, ◌+◌, ◌-◌, ◌<◌, ⊤, List, [], ◌∷◌, ◌++◌, Option, Some, None, length, slice_index_or, take}
+use Rattle.std.specs.Prelude.{◌≡◌, ◌⊎◌, Contains, ℕ, ◌+◌, ◌-◌, ◌<◌, ⊤, List, [], ◌∷◌, ◌++◌, Option, Some, None, length, slice_index_or, take}
 use Rattle.hm_messages_excerpts.specs.Excerpts.{IsExcerptAt, IsPlaceIn}
 use Rattle.hm_messages_excerpts.specs.declared.excerpt.Excerpt.{Excerpt}
 use Rattle.hm_messages_hints.specs.Advice.{IsAdviceAt}
@@ -7,6 +7,8 @@ use Rattle.hm_messages_hints.specs.LexemeHints.{IsLexemeHint, operator_in}
 use Rattle.hm_messages_hints.specs.declared.lexeme_hints.LexemeHint.{LexemeHint}
 use Rattle.hm_messages_hints.specs.declared.syntax_hints.SyntaxHint.{SyntaxHint}
 use Rattle.hm_lex.specs.declared.token.Place.{Place}
+use Rattle.hm_syntax.specs.Names.{Identifier}
+use Rattle.hm_syntax.specs.declared.ast.Import.{Import}
 use Rattle.hm_lex.specs.declared.token.LexFault.TheVariants as lexing
 use Rattle.hm_parse_grammar.specs.declared.fault.ParseFault.TheVariants as parsing
 use Rattle.hm_graph.specs.declared.faults.PlanFault.TheVariants as planning
@@ -54,16 +56,38 @@ IsAdvised sources (parse n (parsing.Syntax p)) hint text = IsAdviceAt (slice_ind
 IsAdvised sources (parse n parsing.Memory) hint text = ⊤
 IsAdvised sources (plan fault m i) hint text = ⊤
 
--- the source, counted from 0, and the place of the refusal. A source that is too long is refused at its first place, and a plan at any
-abbrev pub IsRefusedAt : Refusal → ℕ → Place → Type 0
-IsRefusedAt (lex n lexing.TooLong) number place = (number ≡ n - 1) × (place ≡ record { line = 1; column = 1 })
-IsRefusedAt (lex n (lexing.Lexeme p)) number place = (number ≡ n - 1) × (place ≡ p)
-IsRefusedAt (lex n (lexing.OpenComment p)) number place = (number ≡ n - 1) × (place ≡ p)
-IsRefusedAt (lex n (lexing.TooDeep p)) number place = (number ≡ n - 1) × (place ≡ p)
-IsRefusedAt (lex n lexing.Memory) number place = ⊥
-IsRefusedAt (parse n (parsing.Syntax p)) number place = (number ≡ n - 1) × (place ≡ p)
-IsRefusedAt (parse n parsing.Memory) number place = ⊥
-IsRefusedAt (plan fault m i) number place = ⊤
+-- the place of an identifier
+abbrev pub place_of : Identifier → Place
+place_of x = record { line = x.line; column = x.column }
+
+-- a module has its name, or that of one of its imports, at this place
+abbrev pub HasNameAt : Located → Place → Type 0
+HasNameAt l place = (place ≡ place_of l.header.name) ⊎ ((i : Import) × Contains l.header.imports i × (place ≡ place_of i.name))
+
+-- a module of these sources, in the source with this number, counted from 0, has its name or that of an import at this place
+pub record IsNamedAt (sources : List (List ℕ)) (number : ℕ) (place : Place) : Type 0 where
+  pub located : List Located
+  pub of_sources : AreLocated sources located
+  pub here : Located
+  pub among : Contains located here
+  pub within : here.source ≡ number
+  pub at : HasNameAt here place
+
+-- the source, counted from 0, and the place of the refusal. A source that is too long is refused at its first place, and a plan at the name of a module or
+-- of an import. That of an import that names no module is in what follows
+abbrev pub IsRefusedAt : List (List ℕ) → Refusal → ℕ → Place → Type 0
+IsRefusedAt sources (lex n lexing.TooLong) number place = (number ≡ n - 1) × (place ≡ record { line = 1; column = 1 })
+IsRefusedAt sources (lex n (lexing.Lexeme p)) number place = (number ≡ n - 1) × (place ≡ p)
+IsRefusedAt sources (lex n (lexing.OpenComment p)) number place = (number ≡ n - 1) × (place ≡ p)
+IsRefusedAt sources (lex n (lexing.TooDeep p)) number place = (number ≡ n - 1) × (place ≡ p)
+IsRefusedAt sources (lex n lexing.Memory) number place = ⊥
+IsRefusedAt sources (parse n (parsing.Syntax p)) number place = (number ≡ n - 1) × (place ≡ p)
+IsRefusedAt sources (parse n parsing.Memory) number place = ⊥
+IsRefusedAt sources (plan planning.TooMany m i) number place = IsNamedAt sources number place
+IsRefusedAt sources (plan (planning.Duplicate k) m i) number place = IsNamedAt sources number place
+IsRefusedAt sources (plan (planning.Missing k j) m i) number place = ⊤
+IsRefusedAt sources (plan (planning.Cycle k) m i) number place = IsNamedAt sources number place
+IsRefusedAt sources (plan planning.Memory m i) number place = ⊤
 
 -- a message at a place of the source with this number, counted from 0
 pub record IsMessageAt (paint : Paint) (files sources : List (List ℕ)) (number : ℕ) (place : Place) (subject : Subject) (text : List ℕ) : Type 0 where
@@ -133,7 +157,7 @@ pub record AreRefusalMessages (paint : Paint) (files sources : List (List ℕ)) 
   pub subject_is : IsRefusedSubject sources refusal subject
   pub number : ℕ
   pub place : Place
-  pub placed : IsRefusedAt refusal number place
+  pub placed : IsRefusedAt sources refusal number place
   pub first : List ℕ
   pub told : IsMessageAt paint files sources number place subject first
   pub behind : List ℕ

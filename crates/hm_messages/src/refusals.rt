@@ -8,7 +8,7 @@ ghost use Rattle.hm_messages.specs.Foreign.{HasNoMissing, HasSource, HasSourceFa
 ghost use Rattle.hm_messages.specs.Pages.{files_in, texts_in};
 ghost use Rattle.hm_messages.specs.Messages.{AreEach};
 ghost use Rattle.hm_messages.specs.Missing.{import_of};
-ghost use Rattle.hm_messages.specs.Refused.{Way, AreFurtherTold, AreMessagesOf, AreRefusalMessages, HasTwinTold, IsAdvised, IsMessageAt, IsMissingTold, IsTwinTold, IsWayTold, MayHint};
+ghost use Rattle.hm_messages.specs.Refused.{Way, AreFurtherTold, AreMessagesOf, AreRefusalMessages, HasTwinTold, IsAdvised, IsMessageAt, IsNamedAt, IsMissingTold, IsTwinTold, IsWayTold, MayHint};
 ghost use Rattle.hm_messages.specs.Subjects.{cycle, missing, subject_of, twice};
 ghost use Rattle.hm_messages.specs.Twins.{IsTwinOf};
 
@@ -37,7 +37,8 @@ struct Spot {
 /// Returns the spot of a module's name.
 fn module_spot(located: &[Located], number: usize) -> Spot
     requires { number < length located.now }
-    ensures { (sources : List (List ℕ)) → AreLocated sources located.now → result.source < length sources }
+    ensures inside { (sources : List (List ℕ)) → AreLocated sources located.now → result.source < length sources }
+    ensures named { (sources : List (List ℕ)) → AreLocated sources located.now → IsNamedAt sources result.source result.place }
 {
     let here = &located[number];
     Spot {
@@ -48,7 +49,8 @@ fn module_spot(located: &[Located], number: usize) -> Spot
 
 /// Returns the spot of the name in an import of a module.
 fn import_spot(located: &[Located], step: Step) -> Option<Spot>
-    ensures { IfSome result (λ spot. (sources : List (List ℕ)) → AreLocated sources located.now → spot.source < length sources) }
+    ensures inside { IfSome result (λ spot. (sources : List (List ℕ)) → AreLocated sources located.now → spot.source < length sources) }
+    ensures named { IfSome result (λ spot. (sources : List (List ℕ)) → AreLocated sources located.now → IsNamedAt sources spot.source spot.place) }
 {
     if step.module >= located.len() {
         return None;
@@ -242,7 +244,8 @@ fn step_lines(
 /// Returns the spot of the first import of a cycle. Without one it is that of the module's name.
 fn cycle_spot(located: &[Located], steps: &[Step], start: usize) -> Spot
     requires { start < length located.now }
-    ensures { (sources : List (List ℕ)) → AreLocated sources located.now → result.source < length sources }
+    ensures inside { (sources : List (List ℕ)) → AreLocated sources located.now → result.source < length sources }
+    ensures named { (sources : List (List ℕ)) → AreLocated sources located.now → IsNamedAt sources result.source result.place }
 {
     let Some(first) = steps.first() else {
         return module_spot(located, start);
@@ -264,7 +267,7 @@ fn cycle_messages(
     requires located { AreLocated (texts_in pages.now.items.items) located.now }
     requires inside { start < length located.now }
     ensures { IfOk result (λ text. (number : ℕ) × (place : Place) × AreMessagesOf pages.now.paint (files_in pages.now.items.items) (texts_in pages.now.items.items)
-        number place (cycle name.now) text.items) }
+        number place (cycle name.now) text.items × IsNamedAt (texts_in pages.now.items.items) number place) }
 {
     let steps = cycle_of(alloc, located, start)?;
     let spot = cycle_spot(located, steps.as_slice(), start);
@@ -327,6 +330,7 @@ fn twice_messages(
     requires inside { number < length located.now }
     ensures { IfOk result (λ text. (at : ℕ) × (place : Place) × (first : List ℕ) × (behind : List ℕ)
         × IsMessageAt pages.now.paint (files_in pages.now.items.items) (texts_in pages.now.items.items) at place (twice name.now) first
+        × IsNamedAt (texts_in pages.now.items.items) at place
         × HasTwinTold pages.now.paint (files_in pages.now.items.items) (texts_in pages.now.items.items) number name.now behind
         × (text.items ≡ first ++ behind)) }
 {

@@ -3,7 +3,7 @@ use Rattle.hm_messages.specs.Pages.{texts_in}
 use Rattle.hm_messages.proofs.refusals.cycle_messages.Goals as goal
 
 pub message_at-requires : goal.message_at-requires
-message_at-requires c = c.cycle_spot-spot.ensures (texts_in c.args.pages.now.items.items) c.requires.located
+message_at-requires c = c.cycle_spot-spot.ensures.inside (texts_in c.args.pages.now.items.items) c.requires.located
 
 pub returns : goal.returns
 returns c =
@@ -22,4 +22,5 @@ returns c =
         steps = ways.1;
         whole = whole;
       },
+      c.cycle_spot-spot.ensures.named (texts_in c.args.pages.now.items.items) c.requires.located,
     )

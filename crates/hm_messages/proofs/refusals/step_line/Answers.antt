@@ -13,7 +13,7 @@ returns c =
     let pages = c.args.pages.now.items.items in
     let paint = c.args.pages.now.paint in
     let page : Page = c.index-page.result.now in
-    let low : spot.source < length pages = omega (arith, c.in-Some.ensures (texts_in pages) c.requires, as_many pages) in
+    let low : spot.source < length pages = omega (arith, c.in-Some.ensures.inside (texts_in pages) c.requires, as_many pages) in
     let is : page ≡ get_or pages spot.source page = search rules in
     let way : Way = record { number = spot.source; place = spot.place; name = c.as_str.result.now; import = c.as_str-2.result.now } in
     let text = c.in_ok-heading_at.field-0.items in
