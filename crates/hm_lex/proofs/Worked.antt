@@ -1,4 +1,4 @@
-use Rattle.std.proofs.Common.{◌≡◌, ℕ, ◌<◌, ◌≤◌, List, [], ◌∷◌, ◌++◌, length, length-append, get_or, drop, subst, true, false, Option, None, refl, sym, ap, ◌∙◌, inl, inr, arith}
+use Rattle.std.proofs.Common.{◌≡◌, ℕ, ◌<◌, ◌≤◌, List, [], ◌∷◌, ◌++◌, length, length-append, get_or, drop, subst, true, false, Option, None, refl, sym, ap, ◌∙◌, inl, inr, ⊎_elim, arith}
 use Rattle.std.specs.Prelude.{codes, encode_utf8}
 use Rattle.std.specs.Char.{IsScalar}
 use Rattle.hm_lex.specs.Bytes.{class_of, is_digit, is_one_of}
@@ -106,5 +106,7 @@ worked = record {
   wide = (195 ∷ 188 ∷ [], inl (252, refl, omega arith, (λ e. omega arith), (λ e. omega arith), refl), refl);
   no_two = λ c. two_here c;
   half_wide = λ s. half_here s;
+  next_line = inl (omega arith);
+  same_place = λ b. ⊎_elim (λ l. omega (arith, l)) (λ e. omega (arith, e.1)) b;
   no_ampersand = λ c. no_ampersand_item c.0 c.1 (no_ampersand_parts c.0 c.2);
 }

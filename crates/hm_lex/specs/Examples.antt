@@ -5,6 +5,11 @@ use Rattle.hm_lex.specs.Comments.{IsNestedComment, IsLineComment}
 use Rattle.hm_lex.specs.Quotes.{IsString, IsCharacter}
 use Rattle.hm_lex.specs.Shapes.{HasShape, lexeme, malformed}
 use Rattle.hm_lex.specs.Cut.{Begins}
+use Rattle.hm_lex.specs.Places.{IsBefore}
+use Rattle.hm_lex.specs.declared.token.Place.{Place}
+
+abbrev pub place : ℕ → ℕ → Place
+place line column = record { line = line; column = column }
 
 pub record Worked : Type 0 where
   pub qualified_variable : HasShape (lexeme QVarId) (codes "A.B.x")
@@ -25,4 +30,6 @@ pub record Worked : Type 0 where
   pub wide : IsCharacter (39 ∷ 195 ∷ 188 ∷ 39 ∷ [])
   pub no_two : IsCharacter (codes "'ab'") → ⊥
   pub half_wide : IsString (34 ∷ 195 ∷ 34 ∷ []) → ⊥
+  pub next_line : IsBefore (place 1 9) (place 2 1)
+  pub same_place : IsBefore (place 2 1) (place 2 1) → ⊥
   pub no_ampersand : IsCharacter (codes "'\\&'") → ⊥

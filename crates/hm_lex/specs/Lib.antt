@@ -6,6 +6,7 @@ pub mod Integers
 pub mod Comments
 pub mod Quotes
 pub mod Shapes
+pub mod Places
 pub mod Cut
 pub mod Texts
 pub mod Faults

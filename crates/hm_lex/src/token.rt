@@ -1,3 +1,6 @@
+ghost use Rattle.std.specs.Prelude.{◌≡◌, false, true};
+ghost use Rattle.hm_lex.specs.Places.{IsBefore};
+
 use thiserror::Error;
 
 // Why: docs/DECISIONS.md, "Places in 32 bits".
@@ -6,6 +9,16 @@ use thiserror::Error;
 pub struct Place {
     pub line: u32,
     pub column: u32,
+}
+
+impl Place {
+    /// Returns whether this place comes before another one.
+    pub fn is_before(self, other: Place) -> bool
+        ensures before { result ≡ true → IsBefore self other }
+        ensures behind { result ≡ false → ¬ (IsBefore self other) }
+    {
+        self.line < other.line || (self.line == other.line && self.column < other.column)
+    }
 }
 
 /// The kind of a lexeme (Haskell 98 Report, sections 2.2 to 2.6).

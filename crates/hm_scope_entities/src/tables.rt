@@ -364,6 +364,7 @@ impl<'a> Tables<'a> {
     pub fn without_synonyms(self, alloc: Global) -> Tables<'a>
         ensures types { result.types ≡ self.entry.types }
         ensures constructors { result.constructors ≡ self.entry.constructors }
+        ensures synonyms { result.synonyms ≡ [] }
     {
         let Tables {
             types,

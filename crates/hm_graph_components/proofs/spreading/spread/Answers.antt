@@ -1,5 +1,5 @@
-use Rattle.std.proofs.Common.{◌<◌, ◌≡◌, ◌∷◌, get_or, length, sym, ◌∙◌, rules, [], vec_len, arith}
-use Rattle.std.proofs.lemmas.List.{nil_from_length, length-map}
+use Rattle.std.proofs.Common.{◌<◌, ◌≡◌, get_or, length, sym, ◌∙◌, rules, [], vec_len}
+use Rattle.std.proofs.lemmas.List.{nil_from_length}
 use Rattle.hm_graph_components.specs.Digraph.{lists}
 use Rattle.hm_graph_components.specs.Marks.{MarksRow}
 use Rattle.hm_graph_components.proofs.Rows.{row_at, All-row_at}
