@@ -93,6 +93,7 @@ pub mod build {
     pub use hm_messages::Paint;
     pub use hm_run_io::{RunFault, Watched};
     pub use hm_run_sources::{
-        SetFault, SetFaultKind, Status, Trees, plan_text, refusal_text, run_plan,
+        Located, RefusedSet, SetFault, SetFaultKind, SourceModule, Status, Trees, plan_text,
+        refusal_text, run_plan,
     };
 }

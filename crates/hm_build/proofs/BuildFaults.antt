@@ -1,37 +1,45 @@
 -- Why there is no build, where its workers ended early, its store can't be shared, or its records don't agree.
-use Rattle.std.proofs.Common.{◌≡◌, ◌⊎◌, ◌<◌, ◌≤◌, ℕ, Bool, true, false, nat_lt, inl, inr, refl, sym, subst, ⊎_elim, arith}
-use Rattle.std.proofs.lemmas.Bool.Decides.{nat_tests}
+use Rattle.std.proofs.Common.{◌≡◌, ◌⊎◌, ◌<◌, ◌∙◌, ℕ, List, length, map, get_or, sym, ap, subst, ⊎_elim}
+use Rattle.std.proofs.lemmas.List.{length-map}
 use Rattle.hm_store_shared.specs.declared.dealing.SharedFault.{SharedFault}
 use Rattle.hm_store_shared.specs.declared.dealing.SharedFault.TheVariants as shared
+use Rattle.hm_syntax.specs.declared.ast.Module.{Module}
+use Rattle.hm_run_sources.proofs.Origins.{module_by_counts}
+use Rattle.hm_run_sources.specs.ModuleCounts.{AreCountedModules, IsCountedTo}
+use Rattle.hm_run_sources.specs.declared.located.SourceModule.{SourceModule}
 use Rattle.hm_build_stages.specs.declared.faults.BuildFault.{BuildFault}
-use Rattle.hm_build_stages.specs.declared.faults.BuildFault.TheVariants.{Memory, Mixed, NoWorker, Exhausted}
+use Rattle.hm_build_stages.specs.declared.faults.BuildFault.TheVariants.{Refused, Workers, Memory, Mixed, NoWorker, Exhausted}
 use Rattle.hm_build_stages.specs.Errors as stages
-use Rattle.hm_build.specs.Workers.{Becomes, IsWorkError}
-use Rattle.hm_build.specs.declared.workers.WorkFault.{WorkFault}
-use Rattle.hm_build.specs.declared.workers.WorkFault.TheVariants as work
+use Rattle.hm_build.proofs.JobRows.{taken_at}
+use Rattle.hm_build.specs.Workers.{IsWorkError, IsWorkModule}
 
-as_work : (count : ℕ) (e fault : BuildFault) → fault ≡ e → IsWorkError count e → IsWorkError count fault
-as_work count e fault is at = subst (IsWorkError count) (sym is) at
+as_work : (modules : List Module) (counts : List ℕ) (e fault : BuildFault) → fault ≡ e → IsWorkError modules counts e → IsWorkError modules counts fault
+as_work modules counts e fault is at = subst (IsWorkError modules counts) (sym is) at
 
-pub from_shared : (count : ℕ) (given : SharedFault) (fault : BuildFault) → fault ≡ stages.build_fault_of given → IsWorkError count fault
-from_shared count shared.Memory fault is = as_work count Memory fault is tt
-from_shared count shared.NoReader fault is = as_work count NoWorker fault is tt
+pub from_shared : (modules : List Module) (counts : List ℕ) (given : SharedFault) (fault : BuildFault) → fault ≡ stages.build_fault_of given → IsWorkError modules counts fault
+from_shared modules counts shared.Memory fault is = as_work modules counts Memory fault is tt
+from_shared modules counts shared.NoReader fault is = as_work modules counts NoWorker fault is tt
 
-pub from_memory : (count : ℕ) (fault : BuildFault) → fault ≡ Memory → IsWorkError count fault
-from_memory count fault is = as_work count Memory fault is tt
+pub from_memory : (modules : List Module) (counts : List ℕ) (fault : BuildFault) → fault ≡ Memory → IsWorkError modules counts fault
+from_memory modules counts fault is = as_work modules counts Memory fault is tt
 
-pub from_end : (count : ℕ) (fault : BuildFault) → (fault ≡ Memory) ⊎ (fault ≡ Mixed) → IsWorkError count fault
-from_end count fault either = ⊎_elim (λ is. as_work count Memory fault is tt) (λ is. as_work count Mixed fault is tt) either
+pub from_end : (modules : List Module) (counts : List ℕ) (fault : BuildFault) → (fault ≡ Memory) ⊎ (fault ≡ Mixed) → IsWorkError modules counts fault
+from_end modules counts fault either = ⊎_elim (λ is. as_work modules counts Memory fault is tt) (λ is. as_work modules counts Mixed fault is tt) either
 
-below_at : (m count : ℕ) (b : Bool) → nat_lt m count ≡ b → (m < count) ⊎ (count ≤ m)
-below_at m count true e = inl (grind (arith, nat_tests))
-below_at m count false e = inr (grind (arith, nat_tests))
+-- a module of which there is a shared copy, with its source and its name
+pub is_work_module : {A : Type 0} (value : A → Module) (shared : List A) (counts : List ℕ) (m : SourceModule) (d : A) → m.number < length shared → IsCountedTo counts m.number m.source
+    → m.name ≡ (value (get_or shared m.number d)).header.name → IsWorkModule (map value shared) counts m
+is_work_module value shared counts m d within counted named = record {
+  within = subst (λ n. m.number < n) (sym (length-map shared value)) within;
+  counted = counted;
+  named = λ e. named ∙ ap (λ (h : Module). h.header.name) (taken_at value shared m.number d e within);
+}
 
-below : (m count : ℕ) → (m < count) ⊎ (count ≤ m)
-below m count = below_at m count (nat_lt m count) refl
-
-pub from_work : (count : ℕ) (given : WorkFault) (fault : BuildFault) → Becomes count given fault → IsWorkError count fault
-from_work count work.NoWorker fault is = as_work count NoWorker fault is tt
-from_work count work.Memory fault is = as_work count Memory fault is tt
-from_work count (work.Exhausted m) fault is = ⊎_elim (λ l. as_work count (Exhausted m) fault (is.0 l) l) (λ g. as_work count Memory fault (is.1 g) tt) (below m count)
-from_work count work.Mixed fault is = as_work count Mixed fault is tt
+-- the workers' fault is that of the build of the sources
+pub build_error : (sources : List (List ℕ)) (modules : List Module) (counts : List ℕ) (fault : BuildFault) → AreCountedModules sources modules counts → IsWorkError modules counts fault → stages.IsBuildError sources fault
+build_error sources modules counts (Refused r) counted h = absurd h
+build_error sources modules counts Workers counted h = h
+build_error sources modules counts NoWorker counted h = tt
+build_error sources modules counts Memory counted h = tt
+build_error sources modules counts (Exhausted m) counted h = module_by_counts sources modules counts m h.within h.counted h.named counted
+build_error sources modules counts Mixed counted h = tt

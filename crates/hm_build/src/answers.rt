@@ -96,10 +96,12 @@ pub(crate) fn build_answer<'a, T: Threads + Wait + Sync>(
             let_go(rt, alloc, finished, wanted.options, nesting);
             Ok(explained)
         }
-        Err(BuildFault::Refused(fault)) => Ok(refused_explained(alloc, sources, &fault, wanted)?),
-        Err(BuildFault::Exhausted(number)) => Err(Unanswered {
+        Err(BuildFault::Refused(refused)) => {
+            Ok(refused_explained(alloc, sources, &refused, wanted)?)
+        }
+        Err(BuildFault::Exhausted(module)) => Err(Unanswered {
             fault: RunFault::Memory,
-            message: exhausted_message(alloc, sources, wanted, number),
+            message: exhausted_message(alloc, sources, wanted, &module),
         }),
         Err(BuildFault::Workers) => unreachable!(),
         Err(BuildFault::NoWorker) => Err(Unanswered::of(RunFault::NoWorker)),

@@ -52,7 +52,7 @@ fn records_of<L: Ledger + Naming>(
 }
 
 /// Runs the workers on a new store, and checks that the build is complete.
-#[tactic(auto, using(crate::proofs::JobRows::work_is, crate::proofs::BuildFaults::from_shared, crate::proofs::BuildFaults::from_work, crate::proofs::BuildFaults::from_memory, crate::proofs::BuildFaults::from_end))]
+#[tactic(auto, using(crate::proofs::JobRows::work_is, crate::proofs::BuildFaults::from_shared, crate::proofs::BuildFaults::from_memory, crate::proofs::BuildFaults::from_end))]
 fn worked<L: Ledger + Naming + Send + Sync, G: Gate + Sync, R: Threads + Wait + Sync>(
     rt: &R,
     alloc: Global,
@@ -72,7 +72,7 @@ fn worked<L: Ledger + Naming + Send + Sync, G: Gate + Sync, R: Threads + Wait + 
         → IsFinished sources task.now.workers f.store f.records.items) }
     ensures counted { IfOk result (λ f. (sources : List (List ℕ)) → AreCountedModules sources (map arc_value fresh.modules.items) fresh.counts.items
         → AreCountedModules sources f.store.modules f.counts.items) }
-    ensures err { IfErr result (IsWorkError (length fresh.modules.items)) }
+    ensures err { IfErr result (IsWorkError (map arc_value fresh.modules.items) fresh.counts.items) }
 {
     let Fresh {
         modules,
@@ -99,7 +99,7 @@ fn worked<L: Ledger + Naming + Send + Sync, G: Gate + Sync, R: Threads + Wait + 
     let stack = task.nesting.worker_stack_size();
     match run_workers(rt, &work, passes.as_mut_slice(), stack) {
         Ok(()) => {}
-        Err(fault) => return Err(build_fault(fault, modules.len())),
+        Err(fault) => return Err(build_fault(fault, modules.as_slice(), counts.as_slice())),
     }
     let (store, _book) = shared.into_store();
     let records = records_of(alloc, passes)?;

@@ -6,11 +6,12 @@ ghost use Rattle.hm_store.specs.declared.object.Refusal.TheVariants.{Stranger};
 ghost use Rattle.hm_store.specs.declared.object.Turn.TheVariants.{Job};
 ghost use Rattle.hm_store_shared.specs.Listings.{HasImports, IsOfSeen, IsWithin};
 ghost use Rattle.hm_store_shared.specs.Passes.{room_of, seen_of};
-ghost use Rattle.hm_build.specs.Workers.{Becomes, IsWorkOf};
+ghost use Rattle.hm_build.specs.Workers.{IsWorkError, IsWorkOf};
 
 use crate::{BuildFault, Gate};
 use hm_check::{CheckFault, check_module_within};
 use hm_names::TypeLimits;
+use hm_run_sources::{SourceModule, source_of};
 use hm_store::{Refusal, Turn};
 use hm_store_published::{LookFault, Naming, Published, Step};
 use hm_store_shared::laws::seen_imports_are_asked_for;
@@ -19,7 +20,7 @@ use hm_syntax::Module;
 use hm_types_prelude::SharedPrelude;
 use hm_verdicts::Outcome;
 use left_right::Absorb;
-use std::alloc::Global;
+use std::alloc::{AllocError, Global};
 use std::sync::ledger::Ledger;
 use std::sync::{Arc, Wait};
 use std::thread;
@@ -52,13 +53,36 @@ impl WorkFault {
     }
 }
 
-/// Returns the fault of a build of this many modules.
-pub(crate) fn build_fault(fault: WorkFault, modules: usize) -> BuildFault
-    ensures { Becomes modules fault result }
+// Why: docs/DECISIONS.md, "The module without memory".
+/// Returns the fault of a build that has no memory to check the module with this number. `counts` has the number of modules of each source.
+fn exhausted(modules: &[Arc<Module>], counts: &[usize], number: usize) -> BuildFault
+    requires { number < length modules.now }
+    ensures { IsWorkError (map arc_value modules.now) counts.now result }
+{
+    let Some(source) = source_of(counts, number) else {
+        return BuildFault::Memory;
+    };
+    match modules[number].header.name.copy() {
+        Ok(name) => BuildFault::Exhausted(SourceModule {
+            number,
+            source,
+            name,
+        }),
+        Err(AllocError) => BuildFault::Memory,
+    }
+}
+
+/// Returns the fault of a build of these modules. `counts` has the number of modules of each source.
+pub(crate) fn build_fault(fault: WorkFault, modules: &[Arc<Module>], counts: &[usize]) -> BuildFault
+    ensures error { IsWorkError (map arc_value modules.now) counts.now result }
+    ensures no_worker { fault ≡ WorkFault.NoWorker → result ≡ BuildFault.NoWorker }
+    ensures mixed { fault ≡ WorkFault.Mixed → result ≡ BuildFault.Mixed }
 {
     match fault {
         WorkFault::NoWorker => BuildFault::NoWorker,
-        WorkFault::Exhausted(number) if number < modules => BuildFault::Exhausted(number),
+        WorkFault::Exhausted(number) if number < modules.len() => {
+            exhausted(modules, counts, number)
+        }
         WorkFault::Memory | WorkFault::Exhausted(_) => BuildFault::Memory,
         WorkFault::Mixed => BuildFault::Mixed,
     }

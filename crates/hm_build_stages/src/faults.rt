@@ -1,5 +1,5 @@
 //! Why a build fails.
-use hm_run_sources::SetFault;
+use hm_run_sources::{RefusedSet, SourceModule};
 use hm_store_shared::SharedFault;
 use std::alloc::AllocError;
 use thiserror::Error;
@@ -10,7 +10,7 @@ use thiserror::Error;
 pub enum BuildFault {
     /// The sources spell no lawful set of modules.
     #[error("the sources are refused")]
-    Refused(SetFault),
+    Refused(RefusedSet),
     #[error("workers not 1 to 16")]
     Workers,
     /// No thread could start, or a worker got no reader of the published interfaces.
@@ -18,9 +18,9 @@ pub enum BuildFault {
     NoWorker,
     #[error("no memory")]
     Memory,
-    /// Memory ran out in the check of the module with this number. Modules are numbered from 0, in order of appearance.
+    /// Memory ran out in the check of this module.
     #[error("no memory for a module")]
-    Exhausted(usize),
+    Exhausted(SourceModule),
     /// The workers contradict the store or each other.
     #[error("mixed")]
     Mixed,

@@ -11,7 +11,7 @@ ghost use Rattle.hm_build_stages.specs.Rooms.{room_of};
 use crate::BuildFault;
 use hm_graph::Plan;
 use hm_run_parallel_parse::{Pool, set_modules_by};
-use hm_run_sources::{PlannedModules, SetError};
+use hm_run_sources::{PlanError, PlannedModules};
 use hm_store::Store;
 use hm_syntax::Module;
 use hm_types_prelude::SharedPrelude;
@@ -115,8 +115,8 @@ pub fn read<T: Threads + Wait + Sync>(
 {
     match set_modules_by(rt, alloc, sources, pool) {
         Ok(set) => Ok(set_up(alloc, set)?),
-        Err(SetError::Refused(fault)) => Err(BuildFault::Refused(fault)),
-        Err(SetError::Memory) => Err(BuildFault::Memory),
+        Err(PlanError::Refused(refused)) => Err(BuildFault::Refused(refused)),
+        Err(PlanError::Memory) => Err(BuildFault::Memory),
     }
 }
 

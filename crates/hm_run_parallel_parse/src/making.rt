@@ -1,7 +1,7 @@
 //! Makes modules in parallel.
 ghost use Rattle.std.specs.Prelude.{◌≡◌, ◌<◌, ◌≤◌, ◌∷◌, [], IfErr, IfOk, length, map, take};
 ghost use Rattle.hm_graph.specs.Imports.{IsImportPlan, IsLawful};
-ghost use Rattle.hm_run_sources.specs.Errors.{IsPlanError, IsSetError, IsSourceError};
+ghost use Rattle.hm_run_sources.specs.Errors.{HaveHeaders, IsPlanError, IsSetError, IsSourceError};
 ghost use Rattle.hm_run_sources.specs.ModuleCounts.{AreCountedModules};
 ghost use Rattle.hm_run_sources.specs.Names.{module_outlines};
 ghost use Rattle.hm_run_sources.specs.Parts.{FailsBehind, Follow};
@@ -12,7 +12,9 @@ use crate::joining::joined;
 use crate::parsing::modules_of;
 use crate::parts::{Part, bytes_of_part, part_end};
 use core::thread::Stack;
-use hm_run_sources::{CountedModules, PlannedModules, SetError, modules_between, planned};
+use hm_run_sources::{
+    CountedModules, PlanError, PlannedModules, SetError, modules_between, planned, source_error,
+};
 use std::alloc::Global;
 use std::sync::Wait;
 use std::thread;
@@ -164,18 +166,23 @@ fn source_modules<T: Threads + Wait + Sync>(
 /// # Errors
 ///
 /// `Refused` with the first fault of the sources, or else that of their plan. `Memory` if memory ran out.
+#[tactic(auto, using(hm_run_sources::proofs::ModuleCounts::counts_sum))]
 pub fn set_modules_by<T: Threads + Wait + Sync>(
     rt: &T,
     alloc: Global,
     sources: &[Vec<u8>],
     pool: Pool,
-) -> Result<PlannedModules, SetError>
+) -> Result<PlannedModules, PlanError>
     ensures read { IfOk result (λ set. AreModulesOf (map (λ s. s.items) sources.now) set.modules.items) }
     ensures counted { IfOk result (λ set. AreCountedModules (map (λ s. s.items) sources.now) set.modules.items set.counts.items) }
     ensures lawful { IfOk result (λ set. IsLawful (module_outlines set.modules.items)) }
     ensures planned { IfOk result (λ set. IsImportPlan (module_outlines set.modules.items) set.plan) }
     ensures err { IfErr result (λ e. IsPlanError (map (λ s. s.items) sources.now) e) }
+    ensures headers { IfErr result (λ e. HaveHeaders (map (λ s. s.items) sources.now) e) }
 {
-    let read = source_modules(rt, alloc, sources, pool)?;
+    let read = match source_modules(rt, alloc, sources, pool) {
+        Ok(read) => read,
+        Err(error) => return Err(source_error(alloc, error)),
+    };
     Ok(planned(alloc, read)?)
 }

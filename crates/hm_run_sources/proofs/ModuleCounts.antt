@@ -106,6 +106,18 @@ have_origins sources modules counts origins counted o = record {
   each = λ m d h. spelled_by_counts sources modules counts m (get_or origins m d) counted (o.each m d h);
 }
 
+-- ---- the source of one module
+
+-- the modules that are left after one more source
+pub left_more : (counts : List ℕ) (n left rest number : ℕ) → n < length counts → left + sum (take n counts) ≡ number → left ≡ rest + get_or counts n 0 → rest + sum (take (n + 1) counts) ≡ number
+left_more counts n left rest number inside before less = omega (arith, before, less, sum_by_more (λ (k : ℕ). k) counts n 0 inside)
+
+pub counted_here : (counts : List ℕ) (n left number : ℕ) → n < length counts → left + sum (take n counts) ≡ number → left < get_or counts n 0 → IsCountedTo counts number n
+counted_here counts n left number inside before less = record { inside = inside; low = omega (arith, before); high = omega (arith, before, less) }
+
+pub counted_out : (counts : List ℕ) (n left number : ℕ) → length counts ≤ n → left + sum (take n counts) ≡ number → sum counts ≤ number
+counted_out counts n left number past before = let all : sum (take n counts) ≡ sum counts = ap (λ (l : List ℕ). sum l) (take_all n counts past) in omega (arith, before, all)
+
 -- ---- the worked examples
 
 -- a source spells one list of modules

@@ -1,5 +1,5 @@
 -- The modules of a set of sources, one source after the other.
-use Rattle.std.proofs.Common.{◌≡◌, ℕ, suc, ◌+◌, ◌<◌, List, [], ◌∷◌, ◌++◌, length, take, drop, map, get_or, refl, sym, ap, subst, ◌∙◌, arith, inr, append-nil, append_assoc}
+use Rattle.std.proofs.Common.{◌≡◌, ℕ, suc, ◌+◌, ◌<◌, List, [], ◌∷◌, ◌++◌, length, take, drop, map, get_or, refl, sym, ap, subst, ◌∙◌, arith, inl, inr, append-nil, append_assoc}
 use Rattle.std.proofs.Math.Seq.{drop-cons}
 use Rattle.std.proofs.lemmas.List.{take_all, take_more, map-append, take-append-drop, length-map, length-take-le}
 use Rattle.hm_syntax.specs.declared.ast.Module.{Module}
@@ -7,12 +7,14 @@ use Rattle.hm_run_sources.specs.Names.{module_outline, module_outlines}
 use Rattle.hm_graph.specs.Imports.{IsImportPlan, IsLawful}
 use Rattle.hm_graph.specs.Outline.{Outline}
 use Rattle.hm_run_sources.specs.Plans.{IsPlanText}
-use Rattle.hm_run_sources.specs.Refusals.{Refusal, IsLasting}
-use Rattle.hm_run_sources.specs.Runs.{AreOutlinesOf, IsSourceFault, IsSetPlanFault, IsPlanned, IsRefusalOf}
+use Rattle.hm_run_sources.specs.Origins.{AreHeadersFor, AreLocated}
+use Rattle.hm_run_sources.specs.Refusals.{Refusal, lex, parse, plan, IsLasting}
+use Rattle.hm_run_sources.specs.Runs.{AreOutlinesOf, FailsAtSource, IsSourceFault, IsSetPlanFault, IsPlanned, IsRefusalOf}
 use Rattle.hm_run_sources.specs.SourceModules.{AreModulesOf, HasModules}
 use Rattle.hm_run_sources.specs.ModuleCounts.{AreCountedModules}
 use Rattle.hm_run_sources.specs.Errors.{IsSourceError, IsSetError}
 use Rattle.hm_run_sources.specs.Parts.{FailsBehind, Follow}
+use Rattle.hm_run_sources.specs.declared.located.Located.{Located}
 use Rattle.hm_run_sources.specs.declared.sets.SetError.{SetError}
 use Rattle.hm_run_sources.specs.declared.sets.SetError.TheVariants.{Refused, Memory}
 
@@ -111,6 +113,21 @@ refused_by_plan sources modules r read fault lasting = record {
   lasting = lasting;
   first = inr (record { modules = module_outlines modules; read = outlines_there sources modules read; fault = fault });
 }
+
+-- where a source has a fault, the sources are refused
+pub refused_by_source : (sources : List (List ℕ)) (r : Refusal) → FailsAtSource sources r → IsLasting r → IsRefusalOf sources r
+refused_by_source sources r fault lasting = record { lasting = lasting; first = inl fault }
+
+-- a source's fault has no headers, and a fault of the plan has all
+pub no_headers : (sources : List (List ℕ)) (r : Refusal) (located : List Located) → FailsAtSource sources r → located ≡ [] → AreHeadersFor sources r located
+no_headers sources (lex n f) located fault none = none
+no_headers sources (parse n f) located fault none = none
+no_headers sources (plan f m i) located fault none = absurd fault.fault
+
+pub plan_headers : (sources : List (List ℕ)) (outlines : List Outline) (r : Refusal) (located : List Located) → IsSetPlanFault outlines r → AreLocated sources located → AreHeadersFor sources r located
+plan_headers sources outlines (lex n f) located fault are = absurd fault
+plan_headers sources outlines (parse n f) located fault are = absurd fault
+plan_headers sources outlines (plan f m i) located fault are = are
 
 -- the plan of the modules is that of the sources
 pub planned_sources : (sources : List (List ℕ)) (modules : List Module) (outlines : List Outline) (rows : List (List ℕ)) (text : List ℕ) → AreModulesOf sources modules → outlines ≡ module_outlines modules

@@ -5,8 +5,8 @@ ghost use Rattle.hm_run_sources.specs.Runs.{IsPlanRun};
 
 use crate::plans::plan_text;
 use crate::refusals::refusal_text;
-use crate::sets::{PlannedModules, SetError, headers_of, set_modules};
-use crate::{SetFault, Status, Trees};
+use crate::sets::{PlannedModules, headers_of, set_modules};
+use crate::{PlanError, SetFault, Status, Trees};
 use hm_run_io::RunFault;
 use std::alloc::{AllocError, Global};
 
@@ -46,7 +46,7 @@ pub(crate) fn plan_answer(
             let status = Status::Good;
             Ok(Answer { status, text })
         }
-        Err(SetError::Refused(fault)) => Ok(refusal_answer(alloc, &fault)?),
-        Err(SetError::Memory) => Err(RunFault::Memory),
+        Err(PlanError::Refused(refused)) => Ok(refusal_answer(alloc, &refused.fault)?),
+        Err(PlanError::Memory) => Err(RunFault::Memory),
     }
 }

@@ -1,7 +1,7 @@
 //! Laws of what a run of the plan prints and of the modules of sources, and worked examples. Each is a function with an empty body, whose contract
 //! is the law.
 ghost use Rattle.hm_run_sources.specs.Laws.{CountsGiveOrigins, CountsGiveSources, HasOnePlanText, HasOnePlanStatus, HasOneRefusal};
-ghost use Rattle.hm_run_sources.specs.Worked.{CountsRow, SourceRow};
+ghost use Rattle.hm_run_sources.specs.Worked.{CountsRow, HeadersRow, ModuleRow, SourceRow};
 
 /// Sources have one status, one text of their plan, and one refusal. Only the place of a syntax fault
 /// isn't determined.
@@ -27,4 +27,16 @@ pub fn worked_counts()
 #[tactic(auto, using(crate::proofs::ModuleCounts::worked_sources))]
 pub fn worked_sources()
     ensures { SourceRow }
+{}
+
+/// The headers of a set that is refused for its plan, and of one with a lexical fault.
+#[tactic(auto, using(crate::proofs::Origins::worked_headers))]
+pub fn worked_headers()
+    ensures { HeadersRow }
+{}
+
+/// The only module of a source, and one that isn't there.
+#[tactic(auto, using(crate::proofs::Origins::worked_module))]
+pub fn worked_module()
+    ensures { ModuleRow }
 {}

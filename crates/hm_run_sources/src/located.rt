@@ -1,13 +1,12 @@
-//! The source of each module.
-ghost use Rattle.std.specs.Prelude.{◌≡◌, ◌<◌, ◌++◌, ℕ, List, All, IfErr, IfOk, OnOk, length, map, slice_index_or};
-ghost use Rattle.hm_run_sources.specs.Errors.{IsSetError};
+//! The headers of modules with their sources.
+ghost use Rattle.std.specs.Prelude.{◌≡◌, ℕ, List, IfOk, length, map, sum};
+ghost use Rattle.hm_run_sources.specs.ModuleCounts.{AreCountedModules};
 ghost use Rattle.hm_run_sources.specs.Origins.{AreLocated};
-ghost use Rattle.hm_run_sources.specs.declared.located.Located.{Located as Row};
 
-use crate::SetError;
-use crate::sets::add_modules;
-use hm_syntax::{Header, Module};
+use crate::{CountedModules, origins_of};
+use hm_syntax::{Header, Module, Name};
 use std::alloc::{AllocError, Global};
+use std::fmt;
 
 /// The header of a module, with the number of its source, counted from 0.
 #[derive(Drop)]
@@ -16,39 +15,62 @@ pub struct Located {
     pub source: usize,
 }
 
-/// Appends the headers of one source's modules.
-fn add_headers(
-    located: &mut Vec<Located>,
-    modules: Vec<Module>,
-    source: usize,
-) -> Result<(), AllocError>
-    ensures { OnOk result ((tail : List Row) × (located.new.items ≡ located.old.items ++ tail) × (map (λ l. l.header) tail ≡ map (λ m. m.header) modules.items)
-        × All (λ l. l.source ≡ source) tail) }
-{
-    for module in modules {
-        let Module { header, .. } = module;
-        located.push(Located { header, source })?;
-    }
-    Ok(())
+// Why: docs/DECISIONS.md, "The module without memory".
+/// A module of sources: its number and that of its source, both counted from 0, and its name.
+pub struct SourceModule {
+    pub number: usize,
+    pub source: usize,
+    pub name: Name,
 }
 
-/// Returns the headers of the modules of all sources, in order of appearance, each with the number of its source.
-///
-/// # Errors
-///
-/// `Refused` with the first fault of the sources, and `Memory` if memory ran out.
-pub fn located_headers(alloc: Global, sources: &[Vec<u8>]) -> Result<Vec<Located>, SetError>
-    ensures located { IfOk result (λ located. AreLocated (map (λ s. s.items) sources.now) located.items) }
-    ensures err { IfErr result (λ e. IsSetError (map (λ s. s.items) sources.now) e) }
+impl Drop for SourceModule {
+    // Why: docs/DECISIONS.md, "Drops".
+    fn drop(self) {
+        let SourceModule {
+            number: _,
+            source: _,
+            name: _name,
+        } = self;
+    }
+}
+
+impl fmt::Debug for SourceModule {
+    /// Writes the number of the module.
+    fn fmt<W: fmt::Write>(&self, f: &mut fmt::Formatter<W>) -> fmt::Result {
+        fmt::Debug::fmt(&self.number, f)
+    }
+}
+
+/// Returns the headers of modules. `origins` has the number of each module's source.
+fn with_origins(
+    alloc: Global,
+    modules: Vec<Module>,
+    origins: &[usize],
+) -> Result<Vec<Located>, AllocError>
+    requires { length origins.now ≡ length modules.items }
+    ensures headers { IfOk result (λ located. map (λ l. l.header) located.items ≡ map (λ m. m.header) modules.items) }
+    ensures sources { IfOk result (λ located. map (λ l. l.source) located.items ≡ origins.now) }
 {
     let mut located = Vec::new(alloc);
-    for (source, text) in sources.iter().enumerate() {
-        let mut modules = Vec::new(alloc);
-        add_modules(alloc, source + 1, text.as_slice(), &mut modules)?;
-        match add_headers(&mut located, modules, source) {
-            Ok(()) => {}
-            Err(AllocError) => return Err(SetError::Memory),
-        }
+    for module in modules {
+        let Module { header, .. } = module;
+        let source = origins[located.len()];
+        located.push(Located { header, source })?;
     }
     Ok(located)
+}
+
+/// Returns the headers of counted modules, each with the number of its source.
+#[tactic(auto, using(crate::proofs::Origins::located_by_counts))]
+pub(crate) fn located_headers(
+    alloc: Global,
+    read: CountedModules,
+) -> Result<Vec<Located>, AllocError>
+    requires { length read.modules.items ≡ sum read.counts.items }
+    ensures { IfOk result (λ located. (sources : List (List ℕ)) → AreCountedModules sources read.modules.items read.counts.items
+        → AreLocated sources located.items) }
+{
+    let CountedModules { modules, counts } = read;
+    let origins = origins_of(alloc, counts.as_slice())?;
+    with_origins(alloc, modules, origins.as_slice())
 }

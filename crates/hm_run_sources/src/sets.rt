@@ -1,20 +1,23 @@
 //! The modules of a set of sources, and their plan.
-ghost use Rattle.std.specs.Prelude.{◌≡◌, [], ◌++◌, ◌+◌, ◌<◌, ◌≤◌, ℕ, List, IfOk, IfErr, OnOk, length, map, string_bytes, take};
+ghost use Rattle.std.specs.Prelude.{◌≡◌, [], ◌++◌, ◌+◌, ◌<◌, ◌≤◌, ℕ, List, IfOk, IfErr, OnOk, length, map, string_bytes, sum, take};
 ghost use Rattle.hm_lex.specs.Faults.{AreTokensOf};
 ghost use Rattle.hm_parse_grammar.specs.Grammar.Modules.{Spells};
 ghost use Rattle.hm_graph.specs.Outline.{outlines};
 ghost use Rattle.hm_graph.specs.Imports.{IsImportPlan, IsLawful, imports_at, name_at};
 ghost use Rattle.hm_graph.specs.Refusal.{IsRefusal as IsPlanRefusal};
 ghost use Rattle.hm_syntax.specs.declared.ast.Module.{Module as ModuleTree};
-ghost use Rattle.hm_run_sources.specs.Errors.{IsSourceError, IsSetError, IsPlanError};
+ghost use Rattle.hm_run_sources.specs.Errors.{HaveHeaders, IsSourceError, IsSetError, IsPlanError};
 ghost use Rattle.hm_run_sources.specs.ModuleCounts.{AreCountedModules};
 ghost use Rattle.hm_run_sources.specs.Names.{import_at, module_outlines};
+ghost use Rattle.hm_run_sources.specs.Origins.{AreLocated};
 ghost use Rattle.hm_run_sources.specs.Parts.{FailsBehind, Follow};
 ghost use Rattle.hm_run_sources.specs.Refusals.{IsLasting, plan, refusal_of};
 ghost use Rattle.hm_run_sources.specs.Runs.{IsSetPlanFault};
 ghost use Rattle.hm_run_sources.specs.SourceModules.{AreModulesOf, HasModules};
 
-use crate::{SetFault, SetFaultKind, Trees};
+use crate::located::located_headers;
+use crate::plan_errors::source_error;
+use crate::{PlanError, RefusedSet, SetFault, SetFaultKind, Trees};
 use hm_graph::{Plan, PlanFault};
 use hm_lex::{LexFault, Token};
 use hm_parse::ParseFault;
@@ -37,14 +40,14 @@ pub struct PlannedModules {
     pub counts: Vec<usize>,
 }
 
-/// Why a set of sources has no plan.
+/// Why sources spell no modules.
 #[derive(Debug, Drop)]
 pub enum SetError {
     Refused(SetFault),
     Memory,
 }
 
-/// Returns the error of a refused set.
+/// Returns the error of a refused source.
 fn refused(kind: SetFaultKind) -> SetError
     requires { IsLasting (refusal_of kind) }
     ensures { result ≡ SetError.Refused (refusal_of kind) }
@@ -233,25 +236,45 @@ fn with_plan(read: CountedModules, plan: Plan) -> PlannedModules
     }
 }
 
+/// Returns the fault of a plan, with the headers of its modules.
+fn refused_set(
+    alloc: Global,
+    read: CountedModules,
+    fault: PlanFault,
+) -> Result<RefusedSet, AllocError>
+    requires counted { length read.modules.items ≡ sum read.counts.items }
+    requires fault { IsPlanRefusal (module_outlines read.modules.items) fault }
+    requires lasting { IsLasting (plan fault [] []) }
+    ensures fault { IfOk result (λ r. IsSetPlanFault (module_outlines read.modules.items) r.fault × IsLasting r.fault) }
+    ensures located { IfOk result (λ r. (sources : List (List ℕ)) → AreCountedModules sources read.modules.items read.counts.items
+        → AreLocated sources r.located.items) }
+{
+    let fault = plan_fault(alloc, read.modules.as_slice(), fault)?;
+    let located = located_headers(alloc, read)?;
+    Ok(RefusedSet { fault, located })
+}
+
 /// Returns the modules with their plan.
 ///
 /// # Errors
 ///
-/// `Refused` with the first fault of the plan, and `Memory` if memory ran out.
-#[tactic(auto, using(crate::proofs::Reading::refused_by_plan))]
-pub fn planned(alloc: Global, read: CountedModules) -> Result<PlannedModules, SetError>
+/// `Refused` with the first fault of the plan and the headers of all modules, and `Memory` if memory ran out.
+#[tactic(auto, using(crate::proofs::Reading::refused_by_plan, crate::proofs::Reading::plan_headers))]
+pub fn planned(alloc: Global, read: CountedModules) -> Result<PlannedModules, PlanError>
+    requires counted { length read.modules.items ≡ sum read.counts.items }
     ensures same { IfOk result (λ set. set.modules.items ≡ read.modules.items) }
     ensures counts { IfOk result (λ set. set.counts.items ≡ read.counts.items) }
     ensures lawful { IfOk result (λ set. IsLawful (module_outlines set.modules.items)) }
     ensures planned { IfOk result (λ set. IsImportPlan (module_outlines set.modules.items) set.plan) }
     ensures err { IfErr result (λ e. (sources : List (List ℕ)) → AreModulesOf sources read.modules.items → IsPlanError sources e) }
+    ensures headers { IfErr result (λ e. (sources : List (List ℕ)) → AreCountedModules sources read.modules.items read.counts.items → HaveHeaders sources e) }
 {
     match plan_of(alloc, read.modules.as_slice()) {
         Ok(plan) => Ok(with_plan(read, plan)),
-        Err(PlanFault::Memory) => Err(SetError::Memory),
-        Err(fault) => match plan_fault(alloc, read.modules.as_slice(), fault) {
-            Ok(fault) => Err(SetError::Refused(fault)),
-            Err(AllocError) => Err(SetError::Memory),
+        Err(PlanFault::Memory) => Err(PlanError::Memory),
+        Err(fault) => match refused_set(alloc, read, fault) {
+            Ok(refused) => Err(PlanError::Refused(refused)),
+            Err(AllocError) => Err(PlanError::Memory),
         },
     }
 }
@@ -262,15 +285,19 @@ pub fn planned(alloc: Global, read: CountedModules) -> Result<PlannedModules, Se
 /// # Errors
 ///
 /// `Refused` with the first fault: that of a source, or else that of the plan. `Memory` may come at any time.
-#[tactic(auto, using(crate::proofs::Reading::refused_by_plan))]
-pub fn set_modules(alloc: Global, sources: &[Vec<u8>]) -> Result<PlannedModules, SetError>
+#[tactic(auto, using(crate::proofs::ModuleCounts::counts_sum))]
+pub fn set_modules(alloc: Global, sources: &[Vec<u8>]) -> Result<PlannedModules, PlanError>
     ensures read { IfOk result (λ set. AreModulesOf (map (λ s. s.items) sources.now) set.modules.items) }
     ensures counted { IfOk result (λ set. AreCountedModules (map (λ s. s.items) sources.now) set.modules.items set.counts.items) }
     ensures lawful { IfOk result (λ set. IsLawful (module_outlines set.modules.items)) }
     ensures planned { IfOk result (λ set. IsImportPlan (module_outlines set.modules.items) set.plan) }
     ensures err { IfErr result (λ e. IsPlanError (map (λ s. s.items) sources.now) e) }
+    ensures headers { IfErr result (λ e. HaveHeaders (map (λ s. s.items) sources.now) e) }
 {
-    let read = source_modules(alloc, sources)?;
+    let read = match source_modules(alloc, sources) {
+        Ok(read) => read,
+        Err(error) => return Err(source_error(alloc, error)),
+    };
     Ok(planned(alloc, read)?)
 }
 

@@ -146,14 +146,19 @@ fn each_module_is_checked_once(rt: HostRuntime) -> Result<(), Fail> {
     Ok(())
 }
 
+/// Returns the number of the module for whose check a build had no memory.
+fn exhausted_in(ended: &Result<Finished, BuildFault>) -> Option<usize> {
+    match ended {
+        Err(BuildFault::Exhausted(module)) => Some(module.number),
+        _ => None,
+    }
+}
+
 #[test]
 fn a_module_that_there_is_no_memory_to_check_is_told(rt: HostRuntime) -> Result<(), Fail> {
     for workers in 1..4 {
         let sources = source_of(rt.alloc(), TOO_LARGE)?;
-        let told = match build(&rt, rt.alloc(), sources, workers, &Open) {
-            Err(BuildFault::Exhausted(number)) => Some(number),
-            _ => None,
-        };
+        let told = exhausted_in(&build(&rt, rt.alloc(), sources, workers, &Open));
         assert_eq!(rt; told, Some(1));
     }
     Ok(())

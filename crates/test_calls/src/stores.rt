@@ -7,7 +7,7 @@ ghost use Rattle.hm_run_sources.specs.Names.{module_outlines};
 use crate::sources::{NO_MEMORY, module_of};
 use hm_check::{CheckFault, check_module};
 use hm_graph::Plan;
-use hm_run_sources::{PlannedModules, SetError, set_modules};
+use hm_run_sources::{PlanError, PlannedModules, set_modules};
 use hm_store::Store;
 use hm_syntax::Module;
 use hm_verdicts::Outcome;
@@ -35,8 +35,8 @@ pub(crate) fn set_of(alloc: Global, texts: &[&[u8]]) -> Result<(Vec<Module>, Pla
     }
     match set_modules(alloc, &sources) {
         Ok(PlannedModules { modules, plan, .. }) => Ok((modules, plan)),
-        Err(SetError::Memory) => Err(Fail::from(NO_MEMORY)),
-        Err(SetError::Refused(_)) => Err(Fail::from("the sources are refused")),
+        Err(PlanError::Memory) => Err(Fail::from(NO_MEMORY)),
+        Err(PlanError::Refused(_)) => Err(Fail::from("the sources are refused")),
     }
 }
 
