@@ -9,3 +9,4 @@ pub mod Blamed
 pub mod Called
 pub mod Further
 pub mod Turns
+pub mod Starting

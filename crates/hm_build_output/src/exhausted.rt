@@ -1,71 +1,44 @@
 //! The message of a module that can't be checked because memory ran out.
 ghost use Rattle.std.specs.Prelude.{IfOk, IfSome, map};
 ghost use Rattle.hm_build_output.specs.Explained.{TellsExhaustion};
-ghost use Rattle.hm_run_sources.specs.Origins.{AreLocated};
+ghost use Rattle.hm_run_sources.specs.Origins.{IsModuleOf};
 
-use crate::starts::starts_in;
 use crate::{Explain, Wanted};
-use hm_messages::{MessageFault, Topic, headers_in, message, pages_of};
-use hm_run_sources::Located;
-use std::alloc::Global;
+use hm_messages::{Topic, message, pages_of};
+use hm_run_sources::SourceModule;
+use std::alloc::{AllocError, Global};
 
-/// Returns the message of the module with this number, at its name.
+/// Returns the message of a module, at its name.
 fn module_message<'a>(
     alloc: Global,
     sources: &'a [Vec<u8>],
     explain: &'a Explain,
-    located: &'a [Located],
-    number: usize,
-) -> Result<Vec<u8>, MessageFault>
-    requires { AreLocated (map (λ s. s.items) sources.now) located.now }
+    here: &'a SourceModule,
+) -> Result<Vec<u8>, AllocError>
+    requires { IsModuleOf (map (λ s. s.items) sources.now) here.now }
     ensures { IfOk result (λ m. TellsExhaustion explain.now.paint (map (λ s. s.items) explain.now.names.items) (map (λ s. s.items) sources.now) m.items) }
 {
-    let starts = starts_in(alloc, located)?;
-    let pages = pages_of(
-        alloc,
-        explain.paint,
-        sources,
-        &explain.names,
-        starts.as_slice(),
-    )?;
-    if number >= located.len() {
-        return Err(MessageFault::Foreign);
-    }
-    let here = &located[number];
-    if here.source >= pages.items.len() {
-        return Err(MessageFault::Foreign);
-    }
+    let name = &here.name;
+    let pages = pages_of(alloc, explain.paint, sources, &explain.names, &[])?;
     let page = &pages.items[here.source];
-    let topic = Topic::Exhausted(here.header.name.as_str());
-    Ok(message(alloc, pages.paint, page, here.header.name.place, &topic)?)
+    let topic = Topic::Exhausted(name.as_str());
+    Ok(message(alloc, pages.paint, page, name.place, &topic)?)
 }
 
-/// Returns the message of the module with this number in these sources.
-fn message_of<'a>(
-    alloc: Global,
-    sources: &'a [Vec<u8>],
-    explain: &'a Explain,
-    number: usize,
-) -> Result<Vec<u8>, MessageFault>
-    ensures { IfOk result (λ m. TellsExhaustion explain.now.paint (map (λ s. s.items) explain.now.names.items) (map (λ s. s.items) sources.now) m.items) }
-{
-    let located = headers_in(alloc, sources)?;
-    Ok(module_message(alloc, sources, explain, located.as_slice(), number)?)
-}
-
-/// Returns the message that there is no memory to check the module with this number. Returns `None` if faults aren't explained, if there is
-/// no memory for the message either, or if there is no such module.
+/// Returns the message that there is no memory to check this module. Returns `None` if faults aren't explained, or if there is no memory for
+/// the message either.
 pub fn exhausted_message<'a>(
     alloc: Global,
     sources: &'a [Vec<u8>],
     wanted: &'a Wanted,
-    number: usize,
+    here: &'a SourceModule,
 ) -> Option<Vec<u8>>
+    requires { IsModuleOf (map (λ s. s.items) sources.now) here.now }
     ensures { IfSome result (λ m. IfSome wanted.now.explain (λ e.
         TellsExhaustion e.paint (map (λ s. s.items) e.names.items) (map (λ s. s.items) sources.now) m.items)) }
 {
     match &wanted.explain {
-        Some(explain) => message_of(alloc, sources, explain, number).ok(),
+        Some(explain) => module_message(alloc, sources, explain, here).ok(),
         None => None,
     }
 }

@@ -5,6 +5,7 @@ ghost use Rattle.hm_build_reports.specs.FinishedBuilds.{IsFinished};
 ghost use Rattle.hm_build_output.specs.Explained.{AreMessagesOf, IsExplained};
 ghost use Rattle.hm_build_output.specs.JournalledRuns.{IsRun};
 ghost use Rattle.hm_run_sources.specs.ModuleCounts.{AreCountedModules};
+ghost use Rattle.hm_run_sources.specs.Origins.{AreHeadersFor};
 ghost use Rattle.hm_run_sources.specs.Runs.{IsRefusalOf};
 
 use crate::answers::finished_answer;
@@ -14,7 +15,7 @@ use crate::starts::starts_of;
 use crate::{Explain, Wanted};
 use hm_build_reports::{settled_in, skipped_in};
 use hm_messages::pages_of;
-use hm_run_sources::{Answer, SetFault, origins_of, refusal_answer};
+use hm_run_sources::{Answer, RefusedSet, origins_of, refusal_answer};
 use hm_store::Store;
 use hm_types_prelude::SharedPrelude;
 use std::alloc::{AllocError, Global};
@@ -106,16 +107,17 @@ pub fn finished_explained<'a>(
 pub fn refused_explained<'a>(
     alloc: Global,
     sources: &'a [Vec<u8>],
-    fault: &SetFault,
+    refused: &RefusedSet,
     wanted: &'a Wanted,
 ) -> Result<Explained, AllocError>
-    requires { IsRefusalOf (map (λ s. s.items) sources.now) fault.now }
+    requires because { IsRefusalOf (map (λ s. s.items) sources.now) refused.now.fault }
+    requires headers { AreHeadersFor (map (λ s. s.items) sources.now) refused.now.fault refused.now.located.items }
     ensures run { IfOk result (λ a. (workers : ℕ) → IsRun workers wanted.now.options.journal (map (λ s.
         s.items) sources.now) a.answer.status (string_bytes a.answer.text)) }
     ensures told { IfOk result (λ a. IfSome wanted.now.explain (λ e. IsExplained e.paint (map (λ s. s.items) e.names.items) (map (λ s.
         s.items) sources.now) a.answer.status (string_bytes a.answer.text) a.messages.items)) }
 {
-    let answer = refusal_answer(alloc, fault)?;
-    let messages = refused_messages(alloc, sources, fault, wanted)?;
+    let answer = refusal_answer(alloc, &refused.fault)?;
+    let messages = refused_messages(alloc, sources, refused, wanted)?;
     Ok(Explained { answer, messages })
 }

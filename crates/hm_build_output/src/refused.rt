@@ -7,6 +7,7 @@ ghost use Rattle.hm_messages.specs.Pages.{files_in, texts_in};
 ghost use Rattle.hm_messages.specs.Refused.{AreRefusalMessages, IsAdvised};
 ghost use Rattle.hm_build_output.specs.FurtherTold.{IsFirstTold};
 ghost use Rattle.hm_build_output.specs.Explained.{TellsRefusal};
+ghost use Rattle.hm_run_sources.specs.Origins.{AreHeadersFor};
 ghost use Rattle.hm_run_sources.specs.Refusals.{Refusal};
 ghost use Rattle.hm_run_sources.specs.Runs.{IsRefusalOf};
 
@@ -17,7 +18,9 @@ use hm_messages::{
 use hm_messages_hints::{Advice, SyntaxHint};
 use hm_messages_repairs::{Search, advice_at};
 use hm_parse_grammar::ParseFault;
-use hm_run_sources::{SetError, SetFault, SetFaultKind, source_tokens, spelled_modules};
+use hm_run_sources::{
+    RefusedSet, SetError, SetFault, SetFaultKind, source_tokens, spelled_modules,
+};
 use std::alloc::{AllocError, Global};
 
 /// The advice for faults that aren't of syntax.
@@ -152,17 +155,17 @@ fn behind(fault: &SetFault, sources: usize) -> Option<usize>
 fn own_messages(
     alloc: Global,
     pages: &Pages<'_>,
-    sources: &[Vec<u8>],
-    fault: &SetFault,
+    refused: &RefusedSet,
     advice: Advice<'_>,
 ) -> Result<Messages, AllocError>
-    requires because { IsRefusalOf (map (λ s. s.items) sources.now) fault.now }
-    requires advised { IsAdvised (texts_in pages.now.items.items) fault.now advice.hint advice.text.now }
-    requires texts { texts_in pages.now.items.items ≡ map (λ s. s.items) sources.now }
+    requires because { IsRefusalOf (texts_in pages.now.items.items) refused.now.fault }
+    requires headers { AreHeadersFor (texts_in pages.now.items.items) refused.now.fault refused.now.located.items }
+    requires advised { IsAdvised (texts_in pages.now.items.items) refused.now.fault advice.hint advice.text.now }
     ensures { IfOk result (λ told. AreRefusalMessages pages.now.paint (files_in pages.now.items.items) (texts_in pages.now.items.items)
-        fault.now told.errors told.text.items) }
+        refused.now.fault told.errors told.text.items) }
 {
-    match refusal_messages(alloc, pages, sources, fault, advice) {
+    let located = refused.located.as_slice();
+    match refusal_messages(alloc, pages, located, &refused.fault, advice) {
         Ok(messages) => Ok(messages),
         Err(MessageFault::Memory) => Err(AllocError),
         Err(MessageFault::Foreign) => unreachable!(),
@@ -173,18 +176,19 @@ fn own_messages(
 fn told_refusal<'a>(
     alloc: Global,
     sources: &'a [Vec<u8>],
-    fault: &SetFault,
+    refused: &RefusedSet,
     explain: &'a Explain,
 ) -> Result<Vec<u8>, AllocError>
-    requires { IsRefusalOf (map (λ s. s.items) sources.now) fault.now }
+    requires because { IsRefusalOf (map (λ s. s.items) sources.now) refused.now.fault }
+    requires headers { AreHeadersFor (map (λ s. s.items) sources.now) refused.now.fault refused.now.located.items }
     ensures { IfOk result (λ m. TellsRefusal explain.now.paint (map (λ s. s.items) explain.now.names.items) (map (λ s. s.items) sources.now) m.items) }
 {
-    let Some(from) = behind(fault, sources.len()) else {
+    let Some(from) = behind(&refused.fault, sources.len()) else {
         unreachable!()
     };
     let pages = pages_of(alloc, explain.paint, sources, &explain.names, &[])?;
-    let advice = advice_on(alloc, sources, fault, Search::Changes)?;
-    let Messages { mut text, errors } = own_messages(alloc, &pages, sources, fault, advice)?;
+    let advice = advice_on(alloc, sources, &refused.fault, Search::Changes)?;
+    let Messages { mut text, errors } = own_messages(alloc, &pages, refused, advice)?;
     let further = further_messages(alloc, &pages, sources, from)?;
     let Some(all) = errors.checked_add(further.errors) else {
         return Err(AllocError);
@@ -199,15 +203,16 @@ fn told_refusal<'a>(
 pub(crate) fn refused_messages<'a>(
     alloc: Global,
     sources: &'a [Vec<u8>],
-    fault: &SetFault,
+    refused: &RefusedSet,
     wanted: &'a Wanted,
 ) -> Result<Vec<u8>, AllocError>
-    requires { IsRefusalOf (map (λ s. s.items) sources.now) fault.now }
+    requires because { IsRefusalOf (map (λ s. s.items) sources.now) refused.now.fault }
+    requires headers { AreHeadersFor (map (λ s. s.items) sources.now) refused.now.fault refused.now.located.items }
     ensures { IfOk result (λ m. IfSome wanted.now.explain (λ e.
         TellsRefusal e.paint (map (λ s. s.items) e.names.items) (map (λ s. s.items) sources.now) m.items)) }
 {
     match &wanted.explain {
-        Some(explain) => Ok(told_refusal(alloc, sources, fault, explain)?),
+        Some(explain) => Ok(told_refusal(alloc, sources, refused, explain)?),
         None => Ok(Vec::new(alloc)),
     }
 }

@@ -43,7 +43,7 @@ inserted set new ts t x e h = elim (cases_Bool (is_text_among t set)) [
       | inr isnt ↦ sym (ap (λ b. is_text_among x ts || b) isnt ∙ or_false (is_text_among x ts))
     ]
 
-take_last : {X : Type 0} (xs : List X) (i : ℕ) (x : X) → i < length xs → x ≡ get_or xs i x → take (i + 1) xs ≡ take i xs ++ x ∷ []
+pub take_last : {X : Type 0} (xs : List X) (i : ℕ) (x : X) → i < length xs → x ≡ get_or xs i x → take (i + 1) xs ≡ take i xs ++ x ∷ []
 take_last xs i x within is = take_more xs i x within ∙ ap (λ z. take i xs ++ z ∷ []) (sym is)
 
 -- the step of a loop that puts names into a set

@@ -5,5 +5,8 @@ mod Naming
 pub mod OfSources
 mod Sourced
 mod Gathering
+pub mod Grouping
+mod InModules
 pub mod WorkedFaults
 pub mod WorkedMessages
+pub mod WorkedPlaces

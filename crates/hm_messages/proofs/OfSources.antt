@@ -12,7 +12,6 @@ use Rattle.hm_names.proofs.Members.{cases, first, rest}
 use Rattle.hm_names.proofs.Standing.{among_decides}
 use Rattle.hm_names.specs.Scope.{prelude_name}
 use Rattle.hm_names.specs.Texts.{is_text_among}
-use Rattle.hm_run_sources.proofs.OneRefusal.{source_or_plan}
 use Rattle.hm_run_sources.proofs.OneText.{outlines_once}
 use Rattle.hm_run_sources.proofs.Reading.{outlines_there}
 use Rattle.hm_run_sources.specs.Names.{import_at, module_outlines}
@@ -160,7 +159,7 @@ at_source sources (plan fault m i) f h = f.fault
 at_plan : (sources : List (List ℕ)) (r : Refusal) → IsLasting r → FailsAtPlan sources r → ¬ (IsForeign sources r)
 at_plan sources (lex n fault) lasting f h = f.fault
 at_plan sources (parse n fault) lasting f h = f.fault
-at_plan sources (plan fault m i) lasting f h = ⊎_elim (λ s. source_or_plan sources s.0 (plan fault m i) s.2 s.1 f) (λ none. of_plan sources fault m i lasting f none) h
+at_plan sources (plan fault m i) lasting f h = of_plan sources fault m i lasting f h
 
 pub refusals_are_theirs : (sources : List (List ℕ)) (fault : Refusal) → IsRefusalOf sources fault → ¬ (IsForeign sources fault)
 refusals_are_theirs sources fault r h = ⊎_elim (λ f. at_source sources fault f h) (λ f. at_plan sources fault r.lasting f h) r.first

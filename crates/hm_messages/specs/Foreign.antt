@@ -1,10 +1,9 @@
 -- A fault that isn't one of these sources.
-use Rattle.std.specs.Prelude.{◌≡◌, ◌⊎◌, ◌<◌, ◌≤◌, ℕ, ⊤, List, [], ◌∷◌, length}
+use Rattle.std.specs.Prelude.{◌≡◌, ◌<◌, ◌≤◌, ℕ, ⊤, List, [], ◌∷◌, length}
 use Rattle.hm_graph.specs.declared.faults.PlanFault.{PlanFault}
 use Rattle.hm_graph.specs.declared.faults.PlanFault.TheVariants.{TooMany, Duplicate, Missing, Cycle, Memory}
 use Rattle.hm_run_sources.specs.Origins.{AreLocated}
-use Rattle.hm_run_sources.specs.Refusals.{Refusal, lex, parse, plan, IsLasting}
-use Rattle.hm_run_sources.specs.Runs.{FailsAtSource}
+use Rattle.hm_run_sources.specs.Refusals.{Refusal, lex, parse, plan}
 use Rattle.hm_run_sources.specs.declared.located.Located.{Located}
 use Rattle.hm_messages.specs.Missing.{SetImport, missing_imports}
 
@@ -23,10 +22,6 @@ abbrev pub IsOfNoSource : List (List ℕ) → Refusal → Type 0
 IsOfNoSource sources (lex n fault) = ¬ HasSource sources n
 IsOfNoSource sources (parse n fault) = ¬ HasSource sources n
 IsOfNoSource sources (plan fault m i) = ⊤
-
--- one of the sources spells no modules
-abbrev pub HasSourceFault : List (List ℕ) → Type 0
-HasSourceFault sources = (fault : Refusal) × FailsAtSource sources fault × IsLasting fault
 
 -- no module has this number, counted from 0
 abbrev pub HasNoModule : List (List ℕ) → ℕ → Type 0
@@ -53,4 +48,4 @@ IsForeignPlan sources Memory i = ⊥
 abbrev pub IsForeign : List (List ℕ) → Refusal → Type 0
 IsForeign sources (lex n fault) = ¬ HasSource sources n
 IsForeign sources (parse n fault) = ¬ HasSource sources n
-IsForeign sources (plan fault m i) = HasSourceFault sources ⊎ IsForeignPlan sources fault i
+IsForeign sources (plan fault m i) = IsForeignPlan sources fault i

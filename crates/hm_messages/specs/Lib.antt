@@ -4,6 +4,7 @@ pub mod Headings
 pub mod Laws
 pub mod Messages
 pub mod Missing
+pub mod ModuleStarts
 pub mod Pages
 pub mod Refused
 pub mod Sentences

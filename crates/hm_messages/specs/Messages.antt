@@ -14,6 +14,7 @@ use Rattle.hm_messages_json.specs.Objects.{message_text}
 use Rattle.hm_messages_json.specs.declared.message.Message.{Message}
 use Rattle.hm_messages_json.specs.declared.message.Position.{Position}
 use Rattle.hm_messages.specs.Headings.{actual_in, expected_in, heading, kind_of, level_of, name_in, other_in, title}
+use Rattle.hm_messages.specs.ModuleStarts.{IsModuleAt, IsModuleOf, Start}
 use Rattle.hm_messages.specs.Sentences.{sentence}
 use Rattle.hm_messages.specs.Subjects.{Subject, fault}
 use Rattle.hm_messages.specs.declared.heading.Paint.{Paint}
@@ -75,12 +76,20 @@ pub record IsRangeAt (source : List ℕ) (place : Place) (start end : Position) 
   pub marked : IsMarkEnd source place behind
   pub end_at : IsPositionAt source behind end
 
--- the text is the object of a message that tells the subject at a place: where it begins and ends in the source, which file that is, and what is wrong
+-- the text is the object of a message that tells the subject at a place: where it begins and ends in the source, which file that is, what is wrong, and
+-- perhaps in which module of the source
 pub record IsObject (file source : List ℕ) (place : Place) (subject : Subject) (text : List ℕ) : Type 0 where
   pub message : Message
   pub file_is : message.file.now ≡ utf8_lossy file
   pub range : IsRangeAt source place message.start message.end
   pub about : IsAbout subject message
+  pub module_is : IsModuleOf source place (option_map (λ name. name.now) message.«module»)
+  pub says : text ≡ message_text message
+
+-- the text is the object of a message that names the module which the place is in among these, or no module if it is in none
+pub record NamesModule (starts : List Start) (place : Place) (text : List ℕ) : Type 0 where
+  pub message : Message
+  pub module_is : IsModuleAt starts place (option_map (λ name. name.now) message.«module»)
   pub says : text ≡ message_text message
 
 -- the text tells the subject at a place, to a reader or to a program

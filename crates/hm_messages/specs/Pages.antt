@@ -1,5 +1,7 @@
 -- Sources with the names of their files.
 use Rattle.std.specs.Prelude.{◌≡◌, ℕ, ◌<◌, List, [], codes, length, map, slice_index_or}
+use Rattle.std.specs.List.{flat_map}
+use Rattle.hm_messages.specs.ModuleStarts.{Start}
 use Rattle.hm_messages.specs.declared.pages.Page.{Page}
 
 -- a source without a name is standard input
@@ -16,3 +18,7 @@ files_in pages = map (λ p. p.file.now) pages
 
 abbrev pub texts_in : List Page → List (List ℕ)
 texts_in pages = map (λ p. p.lines) pages
+
+-- the modules of all pages, in order
+abbrev pub starts_in : List Page → List Start
+starts_in pages = flat_map (λ p. p.modules.starts) pages

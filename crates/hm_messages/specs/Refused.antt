@@ -74,7 +74,7 @@ pub record IsNamedAt (sources : List (List ℕ)) (number : ℕ) (place : Place) 
   pub at : HasNameAt here place
 
 -- the source, counted from 0, and the place of the refusal. A source that is too long is refused at its first place, and a plan at the name of a module or
--- of an import. That of an import that names no module is in what follows
+-- of an import
 abbrev pub IsRefusedAt : List (List ℕ) → Refusal → ℕ → Place → Type 0
 IsRefusedAt sources (lex n lexing.TooLong) number place = (number ≡ n - 1) × (place ≡ record { line = 1; column = 1 })
 IsRefusedAt sources (lex n (lexing.Lexeme p)) number place = (number ≡ n - 1) × (place ≡ p)
@@ -85,7 +85,7 @@ IsRefusedAt sources (parse n (parsing.Syntax p)) number place = (number ≡ n - 
 IsRefusedAt sources (parse n parsing.Memory) number place = ⊥
 IsRefusedAt sources (plan planning.TooMany m i) number place = IsNamedAt sources number place
 IsRefusedAt sources (plan (planning.Duplicate k) m i) number place = IsNamedAt sources number place
-IsRefusedAt sources (plan (planning.Missing k j) m i) number place = ⊤
+IsRefusedAt sources (plan (planning.Missing k j) m i) number place = IsNamedAt sources number place
 IsRefusedAt sources (plan (planning.Cycle k) m i) number place = IsNamedAt sources number place
 IsRefusedAt sources (plan planning.Memory m i) number place = ⊤
 

@@ -1,4 +1,5 @@
--- Worked examples: messages that are left out, faults that aren't of these sources, the first faults of further sources, and modules of one name.
+-- Worked examples: messages that are left out, faults that aren't of these sources, the first faults of further sources, modules of one name, the module of a
+-- message, and the places of refusals.
 use Rattle.std.specs.Prelude.{◌≡◌, ℕ, List, [], ◌∷◌, Some, None, codes}
 use Rattle.hm_lex.specs.Faults.{IsRefusal}
 use Rattle.hm_lex.specs.declared.token.Place.{Place}
@@ -10,6 +11,8 @@ use Rattle.hm_run_sources.specs.declared.located.Located.{Located}
 use Rattle.hm_messages.specs.Foreign.{IsForeign}
 use Rattle.hm_messages.specs.FurtherFaults.{AreFirstFaults}
 use Rattle.hm_messages.specs.Messages.{IsMessage}
+use Rattle.hm_messages.specs.ModuleStarts.{IsModuleOf, module_start}
+use Rattle.hm_messages.specs.Refused.{IsNamedAt, IsRefusedAt, place_of}
 use Rattle.hm_messages.specs.Subjects.{Subject}
 use Rattle.hm_messages.specs.Twins.{IsTwinOf}
 use Rattle.hm_messages.specs.declared.heading.Paint.{Paint}
@@ -35,3 +38,20 @@ pub record TwinRow : Type 0 where
   pub second : (a b : Located) → b.header.name.text ≡ codes "B" → IsTwinOf (codes "B") (a ∷ b ∷ []) (Some b)
   pub other : (a b : Located) → a.header.name.text ≡ codes "A" → ¬ (IsTwinOf (codes "B") (a ∷ b ∷ []) (Some a))
   pub none_there : (a b : Located) → a.header.name.text ≡ codes "A" → b.header.name.text ≡ codes "B" → IsTwinOf (codes "C") (a ∷ b ∷ []) None
+
+-- a source spells a module A whose name is at 1:8, and then a module B whose name is at 9:8. The place 5:1 is in A, and not in B
+pub record ModuleRow : Type 0 where
+  pub first :
+      (s : List ℕ) (a b : Module) → module_start a ≡ record { place = record { line = 1; column = 8 }; name = codes "A" } → module_start b ≡ record { place = record { line = 9; column = 8 }; name = codes "B" }
+      → HasModules s (a ∷ b ∷ []) → IsModuleOf s (record { line = 5; column = 1 }) (Some (codes "A"))
+  pub not_second :
+      (s : List ℕ) (a b : Module) → module_start a ≡ record { place = record { line = 1; column = 8 }; name = codes "A" } → module_start b ≡ record { place = record { line = 9; column = 8 }; name = codes "B" }
+      → HasModules s (a ∷ b ∷ []) → ¬ (IsModuleOf s (record { line = 5; column = 1 }) (Some (codes "B")))
+
+-- a source spells one module without imports: its plan can be refused at the module's name, and at no other place. The lexical fault of the second of two
+-- sources is in that source, and not in the first one
+pub record PlaceRow : Type 0 where
+  pub at_name : (s : List ℕ) (m : Module) → HasModules s (m ∷ []) → IsNamedAt (s ∷ []) 0 (place_of m.header.name)
+  pub not_elsewhere : (s : List ℕ) (m : Module) (p : Place) → HasModules s (m ∷ []) → m.header.imports ≡ [] → ¬ (p ≡ place_of m.header.name) → ¬ (IsNamedAt (s ∷ []) 0 p)
+  pub in_second : (s t : List ℕ) (p : Place) → IsRefusedAt (s ∷ t ∷ []) (lex 2 (Lexeme p)) 1 p
+  pub not_in_first : (s t : List ℕ) (p : Place) → ¬ (IsRefusedAt (s ∷ t ∷ []) (lex 2 (Lexeme p)) 0 p)

@@ -1,6 +1,6 @@
 //! Laws and worked examples: functions with an empty body, whose contracts have the facts.
 ghost use Rattle.hm_messages.specs.Laws.{HasNoForeignRefusal};
-ghost use Rattle.hm_messages.specs.Worked.{ForeignRow, FurtherRow, MessageRow, TwinRow};
+ghost use Rattle.hm_messages.specs.Worked.{ForeignRow, FurtherRow, MessageRow, ModuleRow, PlaceRow, TwinRow};
 
 /// The refusal of sources isn't foreign to them.
 #[tactic(auto, using(crate::proofs::OfSources::refusals_are_theirs))]
@@ -30,4 +30,16 @@ pub fn worked_foreign()
 #[tactic(auto, using(crate::proofs::WorkedFaults::worked_twins))]
 pub fn worked_twins()
     ensures { TwinRow }
+{}
+
+/// The module that a place is in, and the module after it.
+#[tactic(auto, using(crate::proofs::WorkedPlaces::worked_modules))]
+pub fn worked_modules()
+    ensures { ModuleRow }
+{}
+
+/// Places at which sources are refused, and places at which they aren't.
+#[tactic(auto, using(crate::proofs::WorkedPlaces::worked_places))]
+pub fn worked_places()
+    ensures { PlaceRow }
 {}

@@ -1,7 +1,7 @@
 //! Messages for programs, as JSON.
 ghost use Rattle.std.specs.Prelude.{◌≡◌, ◌⊎◌, [], IfNone, IfOk, IfSome, option_map, string_bytes};
 ghost use Rattle.hm_messages_excerpts.specs.Excerpts.{IsPlaceIn};
-ghost use Rattle.hm_messages.specs.Messages.{IsHint, IsObject, IsPositionAt, IsRangeAt};
+ghost use Rattle.hm_messages.specs.Messages.{IsHint, IsObject, IsPositionAt, IsRangeAt, NamesModule};
 ghost use Rattle.hm_messages.specs.Subjects.{subject_of};
 
 use crate::heading::{actual_in, expected_in, kind_of, level_of, name_in, other_in, title};
@@ -63,8 +63,9 @@ pub(crate) fn object(
     place: Place,
     topic: &Topic<'_>,
 ) -> Result<Vec<u8>, AllocError>
-    ensures { IfOk result (λ text. IsObject page.now.file.now page.now.lines place (subject_of topic.now) text.items
+    ensures told { IfOk result (λ text. IsObject page.now.file.now page.now.lines place (subject_of topic.now) text.items
         ⊎ ((text.items ≡ []) × (¬ IsPlaceIn page.now.lines place))) }
+    ensures among { IfOk result (λ text. NamesModule page.now.modules.starts place text.items ⊎ (text.items ≡ [])) }
 {
     let Some(Range { start, end }) = range_at(page, place) else {
         return Ok(Vec::new(alloc));
@@ -82,7 +83,7 @@ pub(crate) fn object(
         end,
         level: level_of(topic),
         kind: kind_of(topic),
-        module: page.module_at(place),
+        module: page.modules.module_at(place),
         name: name_in(topic),
         other: other_in(topic),
         text: text.as_str(),

@@ -1,10 +1,10 @@
 //! The messages of a refused set.
 ghost use Rattle.std.specs.Prelude.{◌≡◌, ◌-◌, ◌<◌, ◌++◌, ℕ, List, [], All, IfOk, IfSome, IsErrOf, Option, false, length, map, option_map, slice_index_or, true};
 ghost use Rattle.hm_lex.specs.declared.token.Place.{Place};
-ghost use Rattle.hm_run_sources.specs.Origins.{AreLocated};
+ghost use Rattle.hm_run_sources.specs.Origins.{AreHeadersFor, AreLocated};
 ghost use Rattle.hm_run_sources.specs.Refusals.{lex, parse, plan};
 ghost use Rattle.hm_run_sources.specs.declared.located.Located.{Located as Row};
-ghost use Rattle.hm_messages.specs.Foreign.{HasNoMissing, HasSource, HasSourceFault, IsForeign, IsForeignPlan, IsOfNoSource};
+ghost use Rattle.hm_messages.specs.Foreign.{HasNoMissing, HasSource, IsForeign, IsForeignPlan, IsOfNoSource};
 ghost use Rattle.hm_messages.specs.Pages.{files_in, texts_in};
 ghost use Rattle.hm_messages.specs.Messages.{AreEach};
 ghost use Rattle.hm_messages.specs.Missing.{import_of};
@@ -21,7 +21,7 @@ use hm_graph::PlanFault;
 use hm_lex::{LexFault, Place};
 use hm_messages_hints::{Advice, LexemeHint, lexeme_hint, operator_in};
 use hm_parse_grammar::ParseFault;
-use hm_run_sources::{Located, SetError, SetFault, SetFaultKind, located_headers};
+use hm_run_sources::{Located, SetFault, SetFaultKind};
 use std::alloc::{AllocError, Global};
 
 /// The most modules of a set.
@@ -192,7 +192,7 @@ fn parse_messages(
 #[derive(Clone, Copy)]
 struct Refused<'a> {
     fault: PlanFault,
-    module: &'a str,
+    name: &'a str,
     import: &'a str,
 }
 
@@ -401,6 +401,7 @@ fn missing_messages(
     requires { AreLocated (texts_in pages.now.items.items) located.now }
     ensures ok { IfOk result (λ told. (number : ℕ) × (place : Place) × (first : List ℕ) × (behind : List ℕ)
         × IsMessageAt pages.now.paint (files_in pages.now.items.items) (texts_in pages.now.items.items) number place (missing name.now) first
+        × IsNamedAt (texts_in pages.now.items.items) number place
         × AreFurtherTold pages.now.paint (files_in pages.now.items.items) (texts_in pages.now.items.items) (record { number = number; place = place; name = name.now }) told.errors behind
         × (told.text.items ≡ first ++ behind)) }
     ensures foreign { IsErrOf result MessageFault.Foreign → HasNoMissing (texts_in pages.now.items.items) name.now }
@@ -428,10 +429,10 @@ fn plan_messages(
 ) -> Result<Messages, MessageFault>
     requires { AreLocated (texts_in pages.now.items.items) located.now }
     ensures ok { IfOk result (λ told. AreRefusalMessages pages.now.paint (files_in pages.now.items.items) (texts_in pages.now.items.items)
-        (plan refused.now.fault refused.now.module.now refused.now.import.now) told.errors told.text.items) }
+        (plan refused.now.fault refused.now.name.now refused.now.import.now) told.errors told.text.items) }
     ensures foreign { IsErrOf result MessageFault.Foreign → IsForeignPlan (texts_in pages.now.items.items) refused.now.fault refused.now.import.now }
 {
-    let name = refused.module;
+    let name = refused.name;
     let errors = 1;
     match refused.fault {
         PlanFault::TooMany => {
@@ -458,23 +459,6 @@ fn plan_messages(
             Ok(Messages { text, errors })
         }
         PlanFault::Memory => Err(MessageFault::Memory),
-    }
-}
-
-// Why: docs/DECISIONS.md, "The source of a module".
-/// Returns the headers of the modules of sources that were read before.
-///
-/// # Errors
-///
-/// `Foreign` if a source can't be read, and `Memory` if memory ran out.
-pub fn headers_in(alloc: Global, sources: &[Vec<u8>]) -> Result<Vec<Located>, MessageFault>
-    ensures ok { IfOk result (λ located. AreLocated (map (λ s. s.items) sources.now) located.items) }
-    ensures foreign { IsErrOf result MessageFault.Foreign → HasSourceFault (map (λ s. s.items) sources.now) }
-{
-    match located_headers(alloc, sources) {
-        Ok(located) => Ok(located),
-        Err(SetError::Memory) => Err(MessageFault::Memory),
-        Err(SetError::Refused(_)) => Err(MessageFault::Foreign),
     }
 }
 
@@ -513,28 +497,11 @@ pub fn source_message(
     }
 }
 
-/// Returns the messages of the fault of a plan.
-fn planned_messages(
-    alloc: Global,
-    pages: &Pages<'_>,
-    sources: &[Vec<u8>],
-    refused: &Refused<'_>,
-) -> Result<Messages, MessageFault>
-    requires { texts_in pages.now.items.items ≡ map (λ s. s.items) sources.now }
-    ensures ok { IfOk result (λ told. AreRefusalMessages pages.now.paint (files_in pages.now.items.items) (texts_in pages.now.items.items)
-        (plan refused.now.fault refused.now.module.now refused.now.import.now) told.errors told.text.items) }
-    ensures foreign { IsErrOf result MessageFault.Foreign → IsForeign (texts_in pages.now.items.items)
-        (plan refused.now.fault refused.now.module.now refused.now.import.now) }
-{
-    match headers_in(alloc, sources) {
-        Ok(located) => plan_messages(alloc, pages, located.as_slice(), refused),
-        Err(fault) => Err(fault),
-    }
-}
-
+// Why: docs/DECISIONS.md, "The source of a module".
 /// Returns the messages of the fault for which a set is refused: one at its place, and one for each further import that names no module.
 ///
-/// `advice` is that for a fault of syntax, and isn't used for other faults. The pages are those of the sources.
+/// `located` has the headers of all modules if the plan has the fault, and none if a source has it. `advice` is that for a fault of syntax, and
+/// isn't used for other faults. The pages are those of the sources.
 ///
 /// # Errors
 ///
@@ -542,12 +509,12 @@ fn planned_messages(
 pub fn refusal_messages(
     alloc: Global,
     pages: &Pages<'_>,
-    sources: &[Vec<u8>],
+    located: &[Located],
     fault: &SetFault,
     advice: Advice<'_>,
 ) -> Result<Messages, MessageFault>
     requires advised { IsAdvised (texts_in pages.now.items.items) fault.now advice.hint advice.text.now }
-    requires texts { texts_in pages.now.items.items ≡ map (λ s. s.items) sources.now }
+    requires headers { AreHeadersFor (texts_in pages.now.items.items) fault.now located.now }
     ensures ok { IfOk result (λ told. AreRefusalMessages pages.now.paint (files_in pages.now.items.items) (texts_in pages.now.items.items)
         fault.now told.errors told.text.items) }
     ensures foreign { IsErrOf result MessageFault.Foreign → IsForeign (texts_in pages.now.items.items) fault.now }
@@ -565,8 +532,8 @@ pub fn refusal_messages(
     };
     let refused = Refused {
         fault: *kind,
-        module: module.as_str(),
+        name: module.as_str(),
         import: import.as_str(),
     };
-    planned_messages(alloc, pages, sources, &refused)
+    plan_messages(alloc, pages, located, &refused)
 }

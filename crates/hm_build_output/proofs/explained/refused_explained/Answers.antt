@@ -5,7 +5,7 @@ use Rattle.hm_build_output.proofs.explained.refused_explained.Goals as goal
 pub returns-clause-run : goal.returns-clause-run
 returns-clause-run c workers =
     let a = c.in_ok-answer.answer in
-    refused_run workers c.args.wanted.now.options.journal (map (λ s. s.items) c.args.sources.now) c.args.fault.now a.status (string_bytes a.text) c.requires c.in_ok-answer.ensures.status c.in_ok-answer.ensures.text
+    refused_run workers c.args.wanted.now.options.journal (map (λ s. s.items) c.args.sources.now) c.args.refused.now.fault a.status (string_bytes a.text) c.requires.because c.in_ok-answer.ensures.status c.in_ok-answer.ensures.text
 
 pub returns-clause-told : goal.returns-clause-told
 returns-clause-told c =

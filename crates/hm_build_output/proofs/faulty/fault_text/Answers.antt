@@ -1,4 +1,4 @@
-use Rattle.std.proofs.Common.{rules, ◌≡◌, ◌⊎◌, ◌++◌, ◌∙◌, false, [], append-nil, map, sym}
+use Rattle.std.proofs.Common.{rules, ◌≡◌, ◌⊎◌, ◌++◌, ◌∙◌, false, [], append-nil, inl, map, refl, sym}
 use Rattle.std.specs.Arc.{arc_value}
 use Rattle.std.proofs.lemmas.Bool.{false≢true}
 use Rattle.hm_messages_details.specs.Details.{nothing}
@@ -6,6 +6,25 @@ use Rattle.hm_messages.specs.Messages.{IsFaultMessage}
 use Rattle.hm_build_output.specs.Explanations.{AreNotes}
 use Rattle.hm_build_output.proofs.Turns.{same_limit}
 use Rattle.hm_build_output.proofs.faulty.fault_text.Goals as goal
+
+-- an earlier note says that the limit is reached
+pub returns-then-allowance-clause-told : goal.returns-then-allowance-clause-told
+returns-then-allowance-clause-told c =
+    let paint = c.args.«module».now.paint in
+    let page = c.args.«module».now.page.now in
+    let fault = c.args.fault.now in
+    let message = c.in_ok-text.text.items in
+    let says : IsFaultMessage paint page.file.now page.lines fault nothing message = search rules in
+    record {
+      message = message;
+      notes = [];
+      says = says;
+      noted = inl refl;
+      silent = λ told. refl;
+      last = [];
+      limited = same_limit paint page.file.now page.lines fault c.args.allowance.now.is_limit_told;
+      whole = sym (append-nil message) ∙ sym (append-nil (message ++ []));
+    }
 
 -- something is left for the run
 pub returns-then-not-is_used_up-clause-told : goal.returns-then-not-is_used_up-clause-told

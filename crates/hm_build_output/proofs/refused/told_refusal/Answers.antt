@@ -12,7 +12,7 @@ use Rattle.hm_build_output.proofs.refused.told_refusal.Goals as goal
 pub returns : goal.returns
 returns c =
     let sources : List (List ℕ) = map (λ s. s.items) c.args.sources.now in
-    let fault : Refusal = c.args.fault.now in
+    let fault : Refusal = c.args.refused.now.fault in
     let paint = c.args.explain.now.paint in
     let pages = c.in_ok-pages.pages in
     let files : List (List ℕ) = files_in pages.items.items in
@@ -30,7 +30,7 @@ returns c =
     let counted : c.extend_from_slice-2.new.self.items ≡ c.extend_from_slice.new.self.items ++ count_text paint c.in-Some-checked_add.all 0 = search rules in
     record {
       refusal = fault;
-      because = c.requires;
+      because = c.requires.because;
       files = files;
       named = subst (λ l. AreFilesOf (map (λ s. s.items) l) sources files) c.deref.ensures.value c.in_ok-pages.ensures.files;
       told = record {
@@ -54,4 +54,4 @@ advice_on-requires c = c.in-Some.ensures.numbered (map (λ s. s.items) c.args.so
 pub unreachable-requires : goal.unreachable-requires
 unreachable-requires c =
     let sources : List (List ℕ) = map (λ s. s.items) c.args.sources.now in
-    refusals_are_theirs sources c.args.fault.now c.requires (c.in_default.ensures.foreign sources (length-map c.args.sources.now (λ s. s.items)))
+    refusals_are_theirs sources c.args.refused.now.fault c.requires.because (c.in_default.ensures.foreign sources (length-map c.args.sources.now (λ s. s.items)))

@@ -1,13 +1,14 @@
-use Rattle.std.proofs.Common.{rules, ◌≡◌, inl, option_map, string_bytes, subst}
+use Rattle.std.proofs.Common.{rules, ◌≡◌, ℕ, List, inl, option_map, string_bytes, subst}
 use Rattle.hm_messages_json.specs.declared.message.Message.{Message}
 use Rattle.hm_messages.specs.Messages.{IsHint}
+use Rattle.hm_messages.specs.ModuleStarts.{IsModuleOf}
 use Rattle.hm_messages.specs.Sentences.{sentence}
 use Rattle.hm_messages.specs.Subjects.{subject_of}
 use Rattle.hm_messages.proofs.objects.object.Goals as goal
 use Rattle.hm_messages.proofs.objects.object.Goals.{in-Some-hint, in-None}
 
-pub returns : goal.returns
-returns c =
+pub returns-clause-told : goal.returns-clause-told
+returns-clause-told c =
     let told : Message = record {
       file = c.as_str-2.result;
       start = c.in-Some.start;
@@ -40,5 +41,28 @@ returns c =
         actual_is = search rules;
         hint_is = subst (IsHint (sentence (subject_of c.args.topic.now))) hint_same (search rules);
       };
+      module_is = subst (λ (s : List ℕ). IsModuleOf s c.args.place (option_map (λ name. name.now) c.module_at.result)) c.args.page.now.same c.module_at.ensures.spelled;
+      says = search rules;
+    })
+
+pub returns-clause-among : goal.returns-clause-among
+returns-clause-among c =
+    let told : Message = record {
+      file = c.as_str-2.result;
+      start = c.in-Some.start;
+      end = c.in-Some.end;
+      level = c.level_of.result;
+      kind = c.kind_of.result;
+      «module» = c.module_at.result;
+      name = c.name_in.result;
+      other = c.other_in.result;
+      text = c.as_str-3.result;
+      hint = c.match-hint.hint;
+      expected = c.expected_in.result;
+      actual = c.actual_in.result;
+    } in
+    inl (record {
+      message = told;
+      module_is = c.module_at.ensures.among;
       says = search rules;
     })

@@ -1,13 +1,13 @@
 use Rattle.std.proofs.Common.{rules, ◌≡◌, ◌∷◌, ◌++◌, ◌∙◌, ◌<◌, ℕ, List, All, ap, arith, length, map, subst, sym}
 use Rattle.std.proofs.lemmas.List.{length-map}
 use Rattle.std.proofs.lemmas.List.Elements.{All-head, All-tail}
-use Rattle.hm_messages.specs.Missing.{import_of}
+use Rattle.hm_messages.specs.Missing.{import_of, missing_imports}
 use Rattle.hm_messages.specs.Pages.{files_in, texts_in}
 use Rattle.hm_messages.specs.Refused.{IsMessageAt, IsMissingTold}
 use Rattle.hm_messages.specs.Subjects.{missing}
 use Rattle.hm_messages.specs.declared.missing.MissingImport.{MissingImport}
 use Rattle.hm_messages.proofs.InOrder.{each_mapped}
-use Rattle.hm_messages.proofs.Sourced.{found_inside}
+use Rattle.hm_messages.proofs.Sourced.{first_named, found_inside}
 use Rattle.hm_messages.proofs.refusals.missing_messages.Goals as goal
 
 -- the import is in one of these sources
@@ -41,17 +41,19 @@ returns-clause-ok c =
     let parts : imports ≡ first ∷ more = search rules in
     let called : first.name.now ≡ name = search rules in
     let many : c.len-errors.result ≡ length imports = search rules in
+    let all_of : missing_imports c.args.located.now ≡ import_of first ∷ map import_of more = sym c.in_ok-imports.ensures ∙ ap (map import_of) parts in
     let pushed : c.extend_from_slice.new.self.items ≡ c.in_ok-text.text.items ++ c.in_ok-further.further.items = search rules in (
       first.source,
       first.place,
       c.in_ok-text.text.items,
       c.in_ok-further.further.items,
       subst (λ (n : List ℕ). IsMessageAt paint files texts first.source first.place (missing n) c.in_ok-text.text.items) called c.in_ok-text.ensures,
+      first_named texts c.args.located.now (import_of first) (map import_of more) c.requires all_of,
       record {
         located = c.args.located.now;
         of_sources = c.requires;
         more = map import_of more;
-        all = sym c.in_ok-imports.ensures ∙ (ap (map import_of) parts ∙ ap (λ (n : List ℕ). record { number = first.source; place = first.place; name = n } ∷ map import_of more) called);
+        all = all_of ∙ (ap (λ (n : List ℕ). record { number = first.source; place = first.place; name = n } ∷ map import_of more) called);
         told = each_mapped import_of (IsMissingTold paint files texts) more c.in_ok-further.further.items c.in_ok-further.ensures;
         count = many ∙ (ap (λ (l : List MissingImport). length l) parts ∙ omega (arith, length-map more import_of));
       },

@@ -1,9 +1,0 @@
-use Rattle.std.proofs.Common.{◌≡◌, ℕ, ◌<◌, [], length, get_or, map, take}
-use Rattle.hm_messages.specs.Pages.{file_at, files_in, texts_in}
-use Rattle.hm_messages.proofs.pages.pages_of.Given as goal
-
-abbrev pub invariant-loop-number : goal.invariant-loop-number
-invariant-loop-number l = record {
-  texts : texts_in l.items.items ≡ map (λ s. s.items) (take l.number l.sources);
-  files : (k : ℕ) → k < length (files_in l.items.items) → get_or (files_in l.items.items) k [] ≡ file_at (map (λ s. s.items) l.names) k;
-}
