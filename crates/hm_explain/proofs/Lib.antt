@@ -1,3 +1,4 @@
+pub mod Blanks
 pub mod Elsewhere
 pub mod Folding
 pub mod Found

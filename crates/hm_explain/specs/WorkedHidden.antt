@@ -7,13 +7,28 @@ use Rattle.hm_names.specs.declared.faults.Kind.TheVariants.{Unbound, Untyped}
 use Rattle.hm_verdicts.specs.ModuleVerdicts.{Good, Faulty}
 use Rattle.hm_verdicts.specs.Worked.{module_A}
 use Rattle.hm_verdicts.specs.WorkedVerdicts.{interface_A}
-use Rattle.hm_explain.specs.Hidden.{IsLater, IsOutOfScope, IsVerdictBeyond, with_definitions}
+use Rattle.hm_explain.specs.Hidden.{HaveUnbound, IsLater, IsOutOfScope, IsReplaced, IsVerdictBeyond, blank, replaced, with_definitions}
 use Rattle.hm_explain.specs.Worked.{at_column, told_by}
+use Rattle.hm_explain.specs.declared.layout.Other.{Other}
 
 -- y isn't in scope, and gets a definition before the bracket that ends the module
 pub record DefinitionsRow : Type 0 where
   pub defined : with_definitions (codes "f = y }") 6 (codes "y" ∷ []) ≡ codes "f = y  ; y = (let { h = h } in h)}"
   pub undefined : ¬ (with_definitions (codes "f = y }") 6 [] ≡ codes "f = y  ; y = (let { h = h } in h)}")
+
+-- Y isn't in scope. Spaces replace the definition of f, which is bytes 0 to 5, and f is the hole. A space replaces no end of a line
+pub record ReplacedRow : Type 0 where
+  pub replaced : (f : Other) → f.name.now ≡ codes "f" → f.from ≡ 0 → f.to ≡ 5 → replaced (codes "f = Y }") 6 [] (f ∷ []) ≡ codes "       ; f = (let { h = h } in h)}"
+  pub letter : blank 89 ≡ 32
+  pub line_end : blank 10 ≡ 10
+
+-- Only a fault of names from the first place up to the second is such a fault. So the definition of f that has one is replaced, but not as one of g
+pub record HeldRow : Type 0 where
+  pub here : HaveUnbound (told_by Unbound (codes "Y") ∷ []) (at_column 18) (at_column 19)
+  pub in_front : ¬ (HaveUnbound (told_by Unbound (codes "Y") ∷ []) (at_column 17) (at_column 18))
+  pub of_types : ¬ (HaveUnbound (told_by Untyped (codes "Y") ∷ []) (at_column 18) (at_column 19))
+  pub own : (f : Other) → f.name.now ≡ codes "f" → f.from ≡ 13 → f.to ≡ 18 → IsReplaced (codes "module M{x=1;f = Y}") (told_by Unbound (codes "Y") ∷ []) f
+  pub another : (g : Other) → g.name.now ≡ codes "g" → g.from ≡ 13 → g.to ≡ 18 → ¬ (IsReplaced (codes "module M{x=1;f = Y}") (told_by Unbound (codes "Y") ∷ []) g)
 
 -- a type fault at column 18 is in front of column 20, but not of column 18. A fault of names is of no later phase. Only a fault of names says that y isn't
 -- in scope

@@ -35,7 +35,7 @@ pub(crate) fn declaration_end(outline: &Outline, start: usize) -> usize {
 }
 
 /// Returns the number of the first token from this one on that isn't `;`.
-fn past_semicolons(outline: &Outline, start: usize) -> usize {
+pub(crate) fn past_semicolons(outline: &Outline, start: usize) -> usize {
     for at in start..outline.len() {
         if !outline.symbol(at).is(Symbol::Semicolon) {
             return at;
@@ -70,7 +70,28 @@ pub(crate) fn is_clause_of(
     token_bytes(source, &tokens[at]) == token_bytes(source, &tokens[variable])
 }
 
-/// Returns the tokens of the definition that begins at a place: all clauses that follow each other, or one pattern binding.
+/// Returns the tokens of the definition that begins here: all clauses that follow each other, or one pattern binding.
+pub(crate) fn binding_from(
+    source: &[u8],
+    tokens: &[Token],
+    outline: &Outline,
+    start: usize,
+) -> Run {
+    let mut end = declaration_end(outline, start);
+    if !is_clause_of(source, tokens, outline, start, start) {
+        return Run { start, end };
+    }
+    for _ in start..tokens.len() {
+        let next = past_semicolons(outline, end);
+        if !is_clause_of(source, tokens, outline, next, start) {
+            return Run { start, end };
+        }
+        end = declaration_end(outline, next);
+    }
+    Run { start, end }
+}
+
+/// Returns the tokens of the definition that begins at a place.
 pub(crate) fn binding_at(
     source: &[u8],
     tokens: &[Token],
@@ -78,18 +99,7 @@ pub(crate) fn binding_at(
     place: Place,
 ) -> Option<Run> {
     let start = number_at(tokens, place)?;
-    let mut end = declaration_end(outline, start);
-    if !is_clause_of(source, tokens, outline, start, start) {
-        return Some(Run { start, end });
-    }
-    for _ in start..tokens.len() {
-        let next = past_semicolons(outline, end);
-        if !is_clause_of(source, tokens, outline, next, start) {
-            return Some(Run { start, end });
-        }
-        end = declaration_end(outline, next);
-    }
-    Some(Run { start, end })
+    Some(binding_from(source, tokens, outline, start))
 }
 
 /// Returns whether a name is among others.
@@ -103,7 +113,7 @@ fn is_fault(faults: &[Fault], name: &str) -> bool {
 }
 
 /// Returns the text of a token, or no text if it isn't in the source.
-fn name_at<'a>(source: &'a [u8], token: &Token) -> &'a str {
+pub(crate) fn name_at<'a>(source: &'a [u8], token: &Token) -> &'a str {
     match std::str::from_utf8(token_bytes(source, token)) {
         Ok(text) => text,
         Err(_) => "",

@@ -12,7 +12,8 @@ pub(crate) const MOST_TRIALS: usize = 200;
 /// each `:`.
 const MOST_COST: usize = 1 << 21;
 
-const COST_OF_TRIAL: usize = 1 << 12;
+/// The cost of a trial of an empty source.
+pub(crate) const COST_OF_TRIAL: usize = 1 << 12;
 
 /// A row of `:` is a tree as deep as the row is long. It takes longer to check than other sources.
 const COST_OF_COLON: usize = 1 << 5;

@@ -1,15 +1,18 @@
 //! The faults that the report leaves out because names of the module aren't in scope.
-ghost use Rattle.std.specs.Prelude.{◌≡◌, ◌≤◌, IfOk, IfSome, None, All, flat_map, length, map, true};
+ghost use Rattle.std.specs.Prelude.{◌≡◌, ◌≤◌, ◌++◌, IfOk, IfSome, None, All, false, flat_map, length, map, true};
 ghost use Rattle.std.specs.Arc.{arc_value};
+ghost use Rattle.hm_lex.specs.Places.{IsBefore};
 ghost use Rattle.hm_names.specs.declared.faults.Kind.TheVariants.{Unbound};
 ghost use Rattle.hm_verdicts.specs.Outcomes.{verdict_of};
-ghost use Rattle.hm_explain.specs.Hidden.{AreLater, IsInFrontOf, IsLater, IsLaterKind, IsOutOfScope, IsVerdictBeyond, defined, with_definitions as defined_text};
+ghost use Rattle.hm_explain.specs.Hidden.{AreLater, BeginWith, HaveUnbound, IsLater, IsLaterKind, IsOutOfScope, IsReplaced, IsVerdictBeyond, all_blanked as blanked_text, blank as blank_byte, blanked as blanked_definition, defined, replaced as replaced_text, with_definitions as defined_text};
 ghost use Rattle.hm_explain.specs.Limits.{IsUsedUp};
 
 use crate::costs::{Effort, cost_of};
+use crate::layout::Other;
 use crate::places::place_behind;
 use crate::reading::reading_of;
-use crate::tokens::Lexed;
+use crate::replacing::replaced_of;
+use crate::tokens::{Lexed, Run};
 use crate::trial::{HOLE, Question, judged};
 use hm_lex::Place;
 use hm_names::{Fault, Kind};
@@ -23,6 +26,9 @@ const TOO_LONG: usize = 1 << 20;
 
 /// The cost of a definition, beside that of a trial.
 const COST_OF_DEFINITION: usize = 1 << 6;
+
+/// The number of bytes of the source that make one of the cost of a replaced definition.
+const BYTES_OF_REPLACED: usize = 1 << 4;
 
 /// Returns a definition of a variable as the hole, after a semicolon.
 fn definition_of(alloc: Global, name: &str) -> Result<Vec<u8>, AllocError>
@@ -64,8 +70,59 @@ fn with_definitions(
     Ok(made)
 }
 
+/// Returns a space, or the byte itself if it ends a line.
+fn blank(byte: u8) -> u8
+    ensures { result ≡ blank_byte byte }
+{
+    if byte == b'\n' { byte } else { b' ' }
+}
+
+/// Returns spaces in place of bytes. Ends of lines stay.
+fn blanks(alloc: Global, bytes: &[u8]) -> Result<Vec<u8>, AllocError>
+    ensures { IfOk result (λ made. made.items ≡ map blank_byte bytes.now) }
+{
+    let mut made = Vec::new(alloc);
+    for byte in bytes {
+        made.push(blank(*byte))?;
+    }
+    Ok(made)
+}
+
+/// Returns the source with spaces in place of a definition.
+fn blanked(alloc: Global, source: &[u8], definition: &Other<'_>) -> Result<Vec<u8>, AllocError>
+    requires ordered { definition.now.from ≤ definition.now.to }
+    requires within { definition.now.to ≤ length source.now }
+    ensures { IfOk result (λ made. made.items ≡ blanked_definition source.now definition.now) }
+{
+    let spaces = blanks(alloc, &source[definition.from..definition.to])?;
+    let mut made = Vec::from_slice(alloc, &source[..definition.from])?;
+    made.extend_from_slice(spaces.as_slice())?;
+    made.extend_from_slice(&source[definition.to..])?;
+    Ok(made)
+}
+
+/// Returns the source with spaces in place of definitions. Returns `None` if they aren't in the source.
+fn all_blanked(
+    alloc: Global,
+    source: &[u8],
+    definitions: &[Other<'_>],
+) -> Result<Option<Vec<u8>>, AllocError>
+    ensures { IfOk result (λ found. IfSome found (λ made. made.items ≡ blanked_text source.now definitions.now)) }
+{
+    let Some((first, rest)) = definitions.split_first() else {
+        return Ok(Some(Vec::from_slice(alloc, source)?));
+    };
+    let Some(text) = all_blanked(alloc, source, rest)? else {
+        return Ok(None);
+    };
+    if first.from > first.to || first.to > text.len() {
+        return Ok(None);
+    }
+    Ok(Some(blanked(alloc, text.as_slice(), first)?))
+}
+
 /// Returns whether a text is that of a variable without a qualifier.
-fn is_plain_variable(text: &[u8]) -> bool {
+pub(crate) fn is_plain_variable(text: &[u8]) -> bool {
     match text.first() {
         Some(first) => {
             (first.is_ascii_lowercase() || *first == b'_') && text.iter().all(|byte| *byte != b'.')
@@ -81,7 +138,7 @@ fn is_unbound(fault: &Fault) -> bool
     fault.kind == Kind::Unbound
 }
 
-/// Returns the variables of these faults, each once. Returns `None` if one of the faults isn't of a variable that isn't in scope.
+/// Returns the variables without a qualifier of these faults, each once. Returns `None` if one of the faults isn't of a name that isn't in scope.
 fn unbound_in<'a>(alloc: Global, faults: &'a [Fault]) -> Result<Option<Vec<&'a str>>, AllocError>
     ensures { IfOk result (λ found. IfSome found (λ names. All (λ n. IsOutOfScope faults.entry.now n.now) names.items)) }
 {
@@ -93,7 +150,7 @@ fn unbound_in<'a>(alloc: Global, faults: &'a [Fault]) -> Result<Option<Vec<&'a s
             return Ok(None);
         }
         if !is_plain_variable(name.as_bytes()) {
-            return Ok(None);
+            continue;
         }
         if !seen.insert(name)? {
             continue;
@@ -103,8 +160,8 @@ fn unbound_in<'a>(alloc: Global, faults: &'a [Fault]) -> Result<Option<Vec<&'a s
     Ok(Some(names))
 }
 
-/// Returns the number of the byte at which the module with this name ends: that of its last bracket.
-fn end_of(lexed: &Lexed<'_>, name: &str) -> Option<usize> {
+/// Returns the tokens of the declarations of the module with this name: those between its brackets.
+fn declarations_of(lexed: &Lexed<'_>, name: &str) -> Option<Run> {
     let mut next = 0usize;
     let mut is_named = false;
     for at in 0..lexed.outline.len() {
@@ -115,7 +172,10 @@ fn end_of(lexed: &Lexed<'_>, name: &str) -> Option<usize> {
                     is_named = lexed.text(at.saturating_add(1)) == name.as_bytes();
                 }
                 Symbol::LeftBrace if is_named => {
-                    return Some(lexed.start(lexed.outline.closing(at)));
+                    return Some(Run {
+                        start: at.saturating_add(1),
+                        end: lexed.outline.closing(at),
+                    });
                 }
                 _ => {}
             }
@@ -144,17 +204,6 @@ fn is_later_kind(kind: Kind) -> bool
     }
 }
 
-/// Returns whether a place is in front of another one.
-fn is_in_front_of(place: Place, other: Place) -> bool
-    ensures { result ≡ true → IsInFrontOf place other }
-{
-    if place.line == other.line {
-        place.column < other.column
-    } else {
-        place.line < other.line
-    }
-}
-
 /// Returns whether a fault is of a phase after that of names, and in front of a place.
 fn is_later(fault: &Fault, end: Place) -> bool
     ensures { result ≡ true → IsLater end fault.now }
@@ -162,7 +211,7 @@ fn is_later(fault: &Fault, end: Place) -> bool
     if !is_later_kind(fault.kind) {
         return false;
     }
-    is_in_front_of(fault.place, end)
+    fault.place.is_before(end)
 }
 
 /// Returns whether all faults are so.
@@ -182,25 +231,140 @@ fn are_later(verdict: &Verdict, end: Place) -> bool
     }
 }
 
-/// Returns the outcome of the module with definitions of these variables after the first bytes of its source, if all of its faults are of
-/// later phases and in front of the definitions.
+/// Returns whether a fault is a name that isn't in scope, from one place up to another.
+fn is_between(fault: &Fault, start: Place, end: Place) -> bool
+    ensures unbound { result ≡ true → fault.now.kind ≡ Unbound }
+    ensures behind { result ≡ true → ¬ (IsBefore fault.now.place start) }
+    ensures ahead { result ≡ true → IsBefore fault.now.place end }
+{
+    if !is_unbound(fault) {
+        return false;
+    }
+    if fault.place.is_before(start) {
+        return false;
+    }
+    fault.place.is_before(end)
+}
+
+/// Returns whether one of the faults is a name that isn't in scope, from one place up to another.
+fn have_unbound(faults: &[Fault], start: Place, end: Place) -> bool
+    ensures { result ≡ true → HaveUnbound faults.now start end }
+{
+    for fault in faults {
+        if is_between(fault, start, end) {
+            return true;
+        }
+    }
+    false
+}
+
+/// Returns whether bytes begin with a name, and go on after it.
+fn begin_with(bytes: &[u8], name: &[u8]) -> bool
+    ensures { result ≡ true → BeginWith bytes.now name.now }
+{
+    let Some(rest) = bytes.strip_prefix(name) else {
+        return false;
+    };
+    !rest.is_empty()
+}
+
+/// Returns whether a definition begins with its name, and has a name that isn't in scope.
+fn is_replaced(source: &[u8], definition: &Other<'_>, faults: &[Fault]) -> bool
+    ensures { result ≡ true → IsReplaced source.now faults.now definition.now }
+{
+    if definition.from > definition.to || definition.to > source.len() {
+        return false;
+    }
+    if definition.to >= TOO_LONG {
+        return false;
+    }
+    let bytes = &source[definition.from..definition.to];
+    if !begin_with(bytes, definition.name.as_bytes()) {
+        return false;
+    }
+    let start = place_behind(source, definition.from);
+    let end = place_behind(source, definition.to);
+    have_unbound(faults, start, end)
+}
+
+/// Returns whether this holds of all of these definitions.
+fn are_replaced(source: &[u8], definitions: &[Other<'_>], faults: &[Fault]) -> bool
+    ensures { result ≡ true → All (IsReplaced source.now faults.now) definitions.now }
+{
+    definitions
+        .iter()
+        .all(|definition| is_replaced(source, definition, faults))
+}
+
+/// Returns these names, and after them those of definitions.
+fn names_with<'a>(
+    alloc: Global,
+    names: &[&'a str],
+    definitions: &[Other<'a>],
+) -> Result<Vec<&'a str>, AllocError>
+    ensures { IfOk result (λ all. map (λ n. n.now) all.items ≡ map (λ n. n.now) names.now ++ map (λ d. d.name.now) definitions.now) }
+{
+    let mut all = Vec::from_slice(alloc, names)?;
+    for definition in definitions {
+        all.push(definition.name)?;
+    }
+    Ok(all)
+}
+
+/// How a source is changed so that its names are in scope.
+#[derive(Clone, Copy)]
+struct Change<'a> {
+    /// The variables that get a definition, except those of replaced definitions.
+    names: &'a [&'a str],
+    /// The definitions that spaces replace.
+    replaced: &'a [Other<'a>],
+    /// The byte at which the definitions as the hole are put in.
+    at: usize,
+}
+
+/// Returns the source with a change, or `None` if it can't be made.
+fn changed_by(
+    alloc: Global,
+    source: &[u8],
+    change: &Change<'_>,
+) -> Result<Option<Vec<u8>>, AllocError>
+    ensures { IfOk result (λ found. IfSome found (λ made. made.items
+        ≡ replaced_text source.now change.now.at (map (λ n. n.now) change.now.names.now) change.now.replaced.now)) }
+{
+    let Some(text) = all_blanked(alloc, source, change.replaced)? else {
+        return Ok(None);
+    };
+    let names = names_with(alloc, change.names, change.replaced)?;
+    if change.at > text.len() {
+        return Ok(None);
+    }
+    Ok(Some(with_definitions(alloc, text.as_slice(), change.at, names.as_slice())?))
+}
+
+/// Returns the outcome of the module in its source with a change, if all of its faults are of later phases and in front of the definitions that are put
+/// in.
 fn outcome_with(
     alloc: Global,
     question: &Question<'_>,
     faults: &[Fault],
-    names: &[&str],
-    at: usize,
+    change: &Change<'_>,
 ) -> Result<Option<Outcome>, AllocError>
-    requires { All (λ n. IsOutOfScope faults.now n.now) names.now }
+    requires { All (λ n. IsOutOfScope faults.now n.now) change.now.names.now }
     ensures { IfOk result (λ found. IfSome found (λ o. IsVerdictBeyond question.now.source.now question.now.name.now (map arc_value question.now.imports.now)
         faults.now o.verdict)) }
 {
     let source = question.source;
+    let at = change.at;
     if at > source.len() || at >= TOO_LONG {
         return Ok(None);
     }
+    if !are_replaced(source, change.replaced, faults) {
+        return Ok(None);
+    }
     let end = place_behind(source, at);
-    let changed = with_definitions(alloc, source, at, names)?;
+    let Some(changed) = changed_by(alloc, source, change)? else {
+        return Ok(None);
+    };
     let Some(outcome) = judged(alloc, question, changed.as_slice())? else {
         return Ok(None);
     };
@@ -210,12 +374,21 @@ fn outcome_with(
     Ok(Some(outcome))
 }
 
+/// Returns the cost of definitions of names and of replaced definitions, beside that of a trial.
+fn cost_beside(source: &[u8], names: usize, replaced: usize) -> usize {
+    let of_replaced = (source.len() / BYTES_OF_REPLACED).saturating_add(COST_OF_DEFINITION);
+    names
+        .saturating_mul(COST_OF_DEFINITION)
+        .saturating_add(replaced.saturating_mul(of_replaced))
+}
+
 // Why: docs/DECISIONS.md, "Hidden faults".
-/// Returns the outcome of a module in which variables aren't in scope, with a definition of each as an expression of every type. Its faults
-/// are those that the report leaves out, and have the same places in the source. `effort` is less by what that costs.
+/// Returns the outcome of a module in which names aren't in scope, with a definition as an expression of every type of each such variable, and in place of
+/// each definition that has another such name. Its faults are those that the report leaves out, and have the same places in the source. `effort` is less by
+/// what that costs.
 ///
-/// None if one of the faults isn't of a variable that isn't in scope, if such a definition isn't enough to read or to resolve the names, or if the
-/// effort doesn't pay for a trial.
+/// None if one of the faults isn't of a name that isn't in scope, if such definitions aren't enough to read or to resolve the names, or if the effort
+/// doesn't pay for a trial.
 ///
 /// # Errors
 ///
@@ -238,13 +411,24 @@ pub fn hidden_of(
         return Ok(None);
     };
     let lexed = reading.lexed(question.source);
-    let Some(at) = end_of(&lexed, question.name) else {
+    let Some(declarations) = declarations_of(&lexed, question.name) else {
+        return Ok(None);
+    };
+    let Some(replaced) = replaced_of(alloc, &lexed, declarations, faults)? else {
         return Ok(None);
     };
     let cost = cost_of(question.source, lexed.outline);
-    let further = names.len().saturating_mul(COST_OF_DEFINITION);
-    if !effort.pays(cost.saturating_add(further)) {
+    if !effort.pays(cost.saturating_add(cost_beside(
+        question.source,
+        names.len(),
+        replaced.len(),
+    ))) {
         return Ok(None);
     }
-    Ok(outcome_with(alloc, question, faults, names.as_slice(), at)?)
+    let change = Change {
+        names: names.as_slice(),
+        replaced: replaced.as_slice(),
+        at: lexed.start(declarations.end),
+    };
+    Ok(outcome_with(alloc, question, faults, &change)?)
 }

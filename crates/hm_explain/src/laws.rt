@@ -1,7 +1,8 @@
 //! Worked examples: functions with empty bodies, whose contracts have the facts.
+ghost use Rattle.hm_explain.specs.Hidden.{SpacesMoveNothing};
 ghost use Rattle.hm_explain.specs.InfiniteTypes.{NoCommonInstance};
 ghost use Rattle.hm_explain.specs.Worked.{HolesRow, MendsRow, PartsRow, TypesRow, VerdictsRow};
-ghost use Rattle.hm_explain.specs.WorkedHidden.{BeyondRow, DefinitionsRow, LaterRow};
+ghost use Rattle.hm_explain.specs.WorkedHidden.{BeyondRow, DefinitionsRow, HeldRow, LaterRow, ReplacedRow};
 ghost use Rattle.hm_explain.specs.WorkedLimits.{LimitsRow};
 ghost use Rattle.hm_explain.specs.WorkedPartTypes.{ExportsRow, GoodRow, InfiniteRow, OthersRow, ProbesRow, SignaturesRow, TextsRow};
 ghost use Rattle.hm_explain.specs.WorkedShown.{AliasRow, FoldedRow};
@@ -39,10 +40,18 @@ pub fn infinite_types()
     ensures { NoCommonInstance }
 {}
 
-/// A source with a definition of a name that isn't in scope, faults of later phases, and verdicts beyond a fault of names.
-#[tactic(auto, using(crate::proofs::WorkedHidden::worked_definitions, crate::proofs::WorkedHidden::worked_later, crate::proofs::WorkedHidden::worked_beyond))]
+/// Spaces in place of a definition move nothing in its source.
+#[tactic(auto, using(crate::proofs::Blanks::spaces_move_nothing))]
+pub fn spaces_move_nothing()
+    ensures { SpacesMoveNothing }
+{}
+
+/// A source with a definition of a name that isn't in scope, one with a replaced definition, faults of later phases, and verdicts beyond a fault of names.
+#[tactic(auto, using(crate::proofs::WorkedHidden::worked_definitions, crate::proofs::WorkedHidden::worked_replaced, crate::proofs::WorkedHidden::worked_held, crate::proofs::WorkedHidden::worked_later, crate::proofs::WorkedHidden::worked_beyond))]
 pub fn worked_hidden()
     ensures definitions { DefinitionsRow }
+    ensures replaced { ReplacedRow }
+    ensures held { HeldRow }
     ensures later { LaterRow }
     ensures beyond { BeyondRow }
 {}

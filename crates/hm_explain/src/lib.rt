@@ -22,6 +22,7 @@ mod patterns;
 mod places;
 mod ranking;
 mod reading;
+mod replacing;
 mod search;
 mod shown;
 mod signatures;

@@ -7,6 +7,7 @@ ghost use Rattle.hm_run_sources.specs.SourceModules.{HasModules};
 ghost use Rattle.hm_explain.specs.Holes.{AreTyped, HasTypesIn, IsElsewhere, IsModuleIn, with_hole};
 ghost use Rattle.hm_explain.specs.Signatures.{IsGood, IsGoodIn};
 
+use crate::costs::COST_OF_TRIAL;
 use hm_check::{CheckFault, check_module_within};
 use hm_lex::{LexFault, lex};
 use hm_names::{Fault, Kind, TypeLimits};
@@ -24,11 +25,8 @@ pub(crate) const HOLE: &str = "(let { h = h } in h)";
 /// The most levels of a type in a trial.
 const MOST_LEVELS: usize = 1 << 12;
 
-/// The number of nodes that types may have in a trial of any source.
-const LEAST_NODES: usize = 1 << 15;
-
-/// The number of further nodes that they may have for each byte of the source.
-const NODES_PER_BYTE: usize = 16;
+/// The number of nodes that types may have in a trial, for each unit of its cost.
+const NODES_PER_UNIT: usize = 2;
 
 /// The data that all trials of a module share.
 #[derive(Clone, Copy)]
@@ -42,14 +40,16 @@ pub struct Question<'a> {
     pub prelude: &'a SharedPrelude,
 }
 
-/// Returns how large types may grow in a trial. The levels are few, because a trial runs on a stack that is sized for trees.
+// Why: docs/DECISIONS.md, "Types in a trial".
+/// Returns how large types may grow in a trial. The levels are few, because a trial runs on a stack that is sized for trees. The nodes are as many as a trial
+/// pays for, so those of all trials of a run have a bound.
 fn limits_of(source: &[u8]) -> TypeLimits {
     TypeLimits {
         levels: MOST_LEVELS,
         nodes: source
             .len()
-            .saturating_mul(NODES_PER_BYTE)
-            .saturating_add(LEAST_NODES),
+            .saturating_add(COST_OF_TRIAL)
+            .saturating_mul(NODES_PER_UNIT),
     }
 }
 
