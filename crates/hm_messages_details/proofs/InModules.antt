@@ -13,9 +13,10 @@ use Rattle.hm_names.specs.Variables.{type_variables, constructor_variables, cons
 use Rattle.hm_names.proofs.Members.{none_in, cases}
 use Rattle.hm_messages_details.specs.Counts.{HasArguments, of_type, of_constructor, HasLengthsAt}
 use Rattle.hm_messages_details.specs.Firsts.{IsFirstOf}
+use Rattle.hm_messages_details.specs.LeftOut.{IsTypeUse, is_type_use}
 use Rattle.hm_messages_details.specs.NearBindings.{HasNearBinding, IsNearBindingAt}
 use Rattle.hm_messages_details.specs.PatternBindings.{HasPatternBound, IsPatternBoundAt}
-use Rattle.hm_messages_details.specs.Parts.{Part, a_list, a_head, a_row, a_pattern, a_type, IsPart, list_is, head_is, parameters_are, pattern_is, type_is, type_parts, types_parts, constructor_parts, constructors_parts, pattern_parts, patterns_parts, head_parts, expression_parts, expressions_parts, alternative_parts, alternatives_parts, right_side_parts, bodies_parts, declarations_parts, declaration_parts, module_parts, IsFirstIn, HasArgumentsIn, HasLengthsIn, IsNearBindingIn, IsPatternBoundIn}
+use Rattle.hm_messages_details.specs.Parts.{Part, a_list, a_head, a_row, a_pattern, a_type, IsPart, list_is, head_is, parameters_are, pattern_is, type_is, type_parts, types_parts, constructor_parts, constructors_parts, pattern_parts, patterns_parts, head_parts, expression_parts, expressions_parts, alternative_parts, alternatives_parts, right_side_parts, bodies_parts, declarations_parts, declaration_parts, module_parts, IsFirstIn, IsTypeUseIn, HasArgumentsIn, HasLengthsIn, IsNearBindingIn, IsPatternBoundIn}
 
 module _ (Q : Locals → Node → Type 0) (p : Part) (h : (xs : Locals) (k : Node) → IsPart k p → Q xs k) where
   -- the node of the part
@@ -132,6 +133,13 @@ arguments_of m fs f here takes parameters_are s = absurd s
 arguments_of m fs f here takes pattern_is s = of_constructor s.0 s.1 s.2
 arguments_of m fs f here takes type_is s = of_type s.0 s.1 s.2
 
+type_of : (f : Fault) {p : Part} {k : Node} → IsPart k p → IsTypeUseIn p f → IsTypeUse f k
+type_of f list_is s = absurd s
+type_of f head_is s = absurd s
+type_of f parameters_are s = absurd s
+type_of f pattern_is s = absurd s
+type_of f type_is s = is_type_use s
+
 lengths_of : (f : Fault) (here first : ℕ) {p : Part} {k : Node} → IsPart k p → HasLengthsIn f here first p → HasLengthsAt f here first k
 lengths_of f here first list_is s = s
 lengths_of f here first head_is s = absurd s
@@ -169,3 +177,6 @@ somewhere_near m f x p c s = in_top (λ xs k. IsNearBindingAt k f x) p (λ xs k 
 
 pub somewhere_bound : (m : Module) (f : Fault) (p : Part) → Contains (module_parts m.decls) p → IsPatternBoundIn p f → HasPatternBound m f
 somewhere_bound m f p c s = in_top (λ xs k. IsPatternBoundAt k f) p (λ xs k is. bound_of f is s) m.decls c
+
+pub somewhere_type : (m : Module) (f : Fault) (p : Part) → Contains (module_parts m.decls) p → IsTypeUseIn p f → Somewhere m (λ xs k. IsTypeUse f k)
+somewhere_type m f p c s = in_top (λ xs k. IsTypeUse f k) p (λ xs k is. type_of f is s) m.decls c

@@ -8,6 +8,7 @@ mod Listing
 mod Meant
 mod Signing
 mod PartLists
+mod TypeUses
 mod WorkedCandidates
 mod WorkedDetails
 mod WorkedNames

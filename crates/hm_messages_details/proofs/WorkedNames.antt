@@ -1,5 +1,5 @@
 -- The worked names of imports and signatures.
-use Rattle.std.proofs.Common.{◌≡◌, ◌∷◌, ◌∙◌, [], ℕ, List, All, None, ⊎_elim, ap, arith, inl, inr, refl, subst, sym}
+use Rattle.std.proofs.Common.{◌≡◌, ◌∷◌, ◌∙◌, ◌+◌, [], ℕ, List, All, None, ⊎_elim, ap, arith, inl, inr, refl, subst, sym}
 use Rattle.std.proofs.lemmas.List.Elements.{All-cons, All-nil}
 use Rattle.std.specs.Prelude.{Contains, codes}
 use Rattle.hm_syntax.specs.Names.{Identifier}
@@ -10,8 +10,9 @@ use Rattle.hm_names.specs.declared.namespace.Namespace.{Namespace}
 use Rattle.hm_names.specs.declared.namespace.Namespace.TheVariants.{Types, Constructors, Values}
 use Rattle.hm_names.proofs.Members.{cases, none_in}
 use Rattle.hm_messages_details.specs.Candidates.{IsInLine}
+use Rattle.hm_messages_details.specs.Nearness.{IsSmallForm}
 use Rattle.hm_messages_details.specs.Listed.{IsListedAs, a_constructor, a_type}
-use Rattle.hm_messages_details.specs.Worked.{ImportLineRow, ListedRow, NearBindingRow, PatternRow, SpaceRow, constructor_item, import_on, name_on}
+use Rattle.hm_messages_details.specs.Worked.{ImportLineRow, ListedRow, NearBindingRow, PatternRow, SmallFormRow, SpaceRow, constructor_item, import_on, name_on}
 use Rattle.hm_lex.specs.declared.token.Place.{Place}
 
 pub worked_listed : ListedRow
@@ -80,6 +81,19 @@ unfolding is_type
 worked_spaces = record {
   there = λ e. record { within = refl; written = refl };
   other = λ e h. let ones : 1 ≡ 0 = ap is_type h.within in omega (arith, ones);
+}
+
+not_capitals : ¬ (IsSmallForm (codes "TRUE") (codes "True"))
+unfolding first_letter
+not_capitals h =
+    let small : 84 ≡ h.capital + 32 = ap first_letter h.small_is in
+    let capital : 84 ≡ h.capital = ap first_letter h.capital_is in
+    omega (arith, small, capital)
+
+pub worked_small_forms : SmallFormRow
+worked_small_forms = record {
+  small = record { capital = 84; rest = codes "rue"; lowest = omega arith; highest = omega arith; small_is = refl; capital_is = refl };
+  capitals = not_capitals;
 }
 
 pub worked_patterns : PatternRow

@@ -1,5 +1,5 @@
 -- What is known of a fault beyond its kind and its name.
-use Rattle.std.specs.Prelude.{◌≡◌, ◌⊎◌, ℕ, ⊤, List, Option, option_map, Contains}
+use Rattle.std.specs.Prelude.{◌≡◌, ◌⊎◌, ℕ, ⊤, List, Option, option_map}
 use Rattle.hm_lex.specs.declared.token.Place.{Place}
 use Rattle.hm_types.specs.declared.Entity.{Entity}
 use Rattle.hm_types.specs.Interfaces.{Exports as Interface}
@@ -10,21 +10,22 @@ use Rattle.hm_names.specs.Scope.{InScope}
 use Rattle.hm_names.specs.declared.faults.Fault.{Fault}
 use Rattle.hm_names.specs.declared.faults.Kind.TheVariants.{Ambiguous, Arity, ClauseLength, Duplicate, NoBinding, NonLinear, NotExported, Unbound}
 use Rattle.hm_names.specs.declared.namespace.Namespace.{Namespace}
+use Rattle.hm_names.specs.declared.namespace.Namespace.TheVariants.{Constructors}
 use Rattle.hm_messages_details.specs.Candidates.{Candidate, IsCandidate}
 use Rattle.hm_messages_details.specs.Counts.{AreArguments, AreLengths}
 use Rattle.hm_messages_details.specs.Firsts.{IsFirst}
-use Rattle.hm_messages_details.specs.LeftOut.{left_out}
+use Rattle.hm_messages_details.specs.LeftOut.{IsOfReport}
 use Rattle.hm_messages_details.specs.Listed.{IsListedFrom}
 use Rattle.hm_messages_details.specs.NearBindings.{HasNearBinding}
 use Rattle.hm_messages_details.specs.NearLocals.{HasNearLocal}
-use Rattle.hm_messages_details.specs.Nearness.{begins_capital, edits}
+use Rattle.hm_messages_details.specs.Nearness.{AreNear, IsSmallForm}
 use Rattle.hm_messages_details.specs.PatternBindings.{HasPatternBound}
 use Rattle.hm_messages_details.specs.declared.detail.Candidate.{Candidate as LentCandidate}
 use Rattle.hm_messages_details.specs.declared.detail.Detail.{Detail}
 use Rattle.hm_messages_details.specs.declared.detail.Detail.TheVariants as detail
 use Rattle.hm_messages_details.specs.declared.detail.Origin.{Origin}
 
--- nothing; a name in scope that is near, by its qualifier and its text; a local variable that is near; the Report's Prelude has the name; two entities that it stands for; the place of
+-- nothing; a name in scope that is near, by its qualifier and its text; a local variable that is near; the Report's Prelude has the name, as what it stands for; two entities that it stands for; the place of
 -- the first name that is the same; its arguments and how many it takes; the patterns of the clause and of the first one; the module that doesn't export
 -- the name, or not as a constructor of a type; a near name that the list of the signature binds; the namespace in which the name is in scope; a pattern
 -- binds the variable of the signature
@@ -62,12 +63,11 @@ known_of (detail.NearBinding x) = near_binding x.now
 known_of (detail.Elsewhere s) = elsewhere s
 known_of detail.ByPattern = by_pattern
 
--- the name of the pair is one edit away from this one, behind the same qualifier, and both or none begin with a capital letter
+-- behind the same qualifier, the name of the pair is near to this one, or is a constructor whose small form this one is
 pub record IsNearPair (name : List ℕ) (p : Pair) : Type 0 where
   pub text : List ℕ
   pub written : name ≡ written_in p.qualifier text
-  pub apart : edits text p.text ≡ 1
-  pub capital : begins_capital text ≡ begins_capital p.text
+  pub near : AreNear text p.text ⊎ ((p.space ≡ Constructors) × IsSmallForm text p.text)
 
 -- the pair has this name in this namespace
 pub record IsEntityFor (name : List ℕ) (space : Namespace) (p : Pair) : Type 0 where
@@ -109,7 +109,7 @@ abbrev pub IsKnown : Module → List Interface → Fault → Known → Type 0
 IsKnown m fs f nothing = ⊤
 IsKnown m fs f (near q x) = (f.kind ≡ Unbound) × IsNear m fs f.name q x
 IsKnown m fs f (near_local x) = (f.kind ≡ Unbound) × HasNearLocal m f x
-IsKnown m fs f of_report = (f.kind ≡ Unbound) × Contains left_out f.name
+IsKnown m fs f of_report = (f.kind ≡ Unbound) × IsOfReport m f
 IsKnown m fs f (either c d) = (f.kind ≡ Ambiguous) × IsEither m fs f.name c d
 IsKnown m fs f (first p) = ((f.kind ≡ Duplicate) ⊎ (f.kind ≡ NonLinear)) × IsFirst m f p
 IsKnown m fs f (arguments here takes) = (f.kind ≡ Arity) × AreArguments m fs f here takes

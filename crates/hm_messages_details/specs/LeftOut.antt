@@ -1,20 +1,35 @@
--- The names of the Report's Prelude (chapter 8) that this Prelude leaves out: variables, including methods, and types. Classes aren't here,
--- because the name of a class is never looked up.
-use Rattle.std.specs.Prelude.{ℕ, List, [], ◌∷◌, codes}
+-- The names of the Report's Prelude (chapter 8) that this Prelude leaves out. Classes aren't here, because the name of a class is never looked up.
+-- No constructor is left out.
+use Rattle.std.specs.Prelude.{◌≡◌, ◌⊎◌, ℕ, List, [], ◌∷◌, Some, Contains, codes}
+use Rattle.hm_syntax.specs.Names.{Identifier}
+use Rattle.hm_syntax.specs.Trees.{TypeTrees, constructor_type}
+use Rattle.hm_syntax.specs.declared.ast.Export.{Export}
+use Rattle.hm_syntax.specs.declared.ast.Export.TheVariants as export
+use Rattle.hm_syntax.specs.declared.ast.Module.{Module}
+use Rattle.hm_syntax.specs.declared.ast.SubItems.{SubItems}
+use Rattle.hm_names.specs.Walk.{Node, Somewhere, at_type}
+use Rattle.hm_names.specs.declared.faults.Fault.{Fault}
+use Rattle.hm_messages_details.specs.Firsts.{IsAt}
 
-abbrev pub left_out : List (List ℕ)
-left_out =
+-- types
+abbrev pub left_out_types : List (List ℕ)
+left_out_types =
     codes "Double" ∷ codes "FilePath" ∷ codes "Float" ∷ codes "IO" ∷ codes "IOError" ∷ codes "Integer" ∷
-    codes "Rational" ∷ codes "ReadS" ∷ codes "ShowS" ∷ codes "abs" ∷ codes "acos" ∷ codes "acosh" ∷ codes "appendFile" ∷
-    codes "asin" ∷ codes "asinh" ∷ codes "atan" ∷ codes "atan2" ∷ codes "atanh" ∷ codes "ceiling" ∷ codes "compare" ∷
-    codes "cos" ∷ codes "cosh" ∷ codes "decodeFloat" ∷ codes "div" ∷ codes "divMod" ∷ codes "elem" ∷
-    codes "encodeFloat" ∷ codes "enumFrom" ∷ codes "enumFromThen" ∷ codes "enumFromThenTo" ∷ codes "enumFromTo" ∷
-    codes "even" ∷ codes "exp" ∷ codes "exponent" ∷ codes "fail" ∷ codes "floatDigits" ∷ codes "floatRadix" ∷
-    codes "floatRange" ∷ codes "floor" ∷ codes "fmap" ∷ codes "fromEnum" ∷ codes "fromInteger" ∷ codes "fromIntegral" ∷
-    codes "fromRational" ∷ codes "gcd" ∷ codes "getChar" ∷ codes "getContents" ∷ codes "getLine" ∷ codes "interact" ∷
-    codes "ioError" ∷ codes "isDenormalized" ∷ codes "isIEEE" ∷ codes "isInfinite" ∷ codes "isNaN" ∷
-    codes "isNegativeZero" ∷ codes "lcm" ∷ codes "lex" ∷ codes "log" ∷ codes "logBase" ∷ codes "lookup" ∷ codes "mapM" ∷
-    codes "mapM_" ∷ codes "max" ∷ codes "maxBound" ∷ codes "maximum" ∷ codes "min" ∷ codes "minBound" ∷ codes "minimum" ∷
+    codes "Rational" ∷ codes "ReadS" ∷ codes "ShowS" ∷ []
+
+-- variables, including methods
+abbrev pub left_out_variables : List (List ℕ)
+left_out_variables =
+    codes "abs" ∷ codes "acos" ∷ codes "acosh" ∷ codes "appendFile" ∷ codes "asin" ∷ codes "asinh" ∷ codes "atan" ∷
+    codes "atan2" ∷ codes "atanh" ∷ codes "ceiling" ∷ codes "compare" ∷ codes "cos" ∷ codes "cosh" ∷
+    codes "decodeFloat" ∷ codes "div" ∷ codes "divMod" ∷ codes "elem" ∷ codes "encodeFloat" ∷ codes "enumFrom" ∷
+    codes "enumFromThen" ∷ codes "enumFromThenTo" ∷ codes "enumFromTo" ∷ codes "even" ∷ codes "exp" ∷
+    codes "exponent" ∷ codes "fail" ∷ codes "floatDigits" ∷ codes "floatRadix" ∷ codes "floatRange" ∷ codes "floor" ∷
+    codes "fmap" ∷ codes "fromEnum" ∷ codes "fromInteger" ∷ codes "fromIntegral" ∷ codes "fromRational" ∷
+    codes "gcd" ∷ codes "getChar" ∷ codes "getContents" ∷ codes "getLine" ∷ codes "interact" ∷ codes "ioError" ∷
+    codes "isDenormalized" ∷ codes "isIEEE" ∷ codes "isInfinite" ∷ codes "isNaN" ∷ codes "isNegativeZero" ∷
+    codes "lcm" ∷ codes "lex" ∷ codes "log" ∷ codes "logBase" ∷ codes "lookup" ∷ codes "mapM" ∷ codes "mapM_" ∷
+    codes "max" ∷ codes "maxBound" ∷ codes "maximum" ∷ codes "min" ∷ codes "minBound" ∷ codes "minimum" ∷
     codes "mod" ∷ codes "negate" ∷ codes "notElem" ∷ codes "odd" ∷ codes "pi" ∷ codes "pred" ∷ codes "print" ∷
     codes "product" ∷ codes "properFraction" ∷ codes "putChar" ∷ codes "putStr" ∷ codes "putStrLn" ∷ codes "quot" ∷
     codes "quotRem" ∷ codes "read" ∷ codes "readFile" ∷ codes "readIO" ∷ codes "readList" ∷ codes "readLn" ∷
@@ -23,5 +38,26 @@ left_out =
     codes "sequence_" ∷ codes "show" ∷ codes "showChar" ∷ codes "showList" ∷ codes "showParen" ∷ codes "showString" ∷
     codes "shows" ∷ codes "showsPrec" ∷ codes "significand" ∷ codes "signum" ∷ codes "sin" ∷ codes "sinh" ∷
     codes "sqrt" ∷ codes "subtract" ∷ codes "succ" ∷ codes "sum" ∷ codes "tan" ∷ codes "tanh" ∷ codes "toEnum" ∷
-    codes "toInteger" ∷ codes "toRational" ∷ codes "truncate" ∷ codes "unzip3" ∷ codes "userError" ∷ codes "writeFile" ∷
-    codes "zip3" ∷ codes "zipWith3" ∷ []
+    codes "toInteger" ∷ codes "toRational" ∷ codes "truncate" ∷ codes "unzip3" ∷ codes "userError" ∷
+    codes "writeFile" ∷ codes "zip3" ∷ codes "zipWith3" ∷ []
+
+-- the fault is at a type constructor
+pub data IsTypeUse (f : Fault) : Node → Type 0 where
+  is_type_use : {n : Identifier} {ts : TypeTrees} → IsAt f n → IsTypeUse f (at_type (constructor_type n ts))
+
+-- the fault is at a type of the export list (Report, section 5.2)
+pub record IsExportedType (m : Module) (f : Fault) : Type 0 where
+  pub items : List Export
+  pub listed : m.header.exports ≡ Some items
+  pub name : Identifier
+  pub subs : SubItems
+  pub among : Contains items (export.Con name subs)
+  pub at_name : IsAt f name
+
+-- the name of the fault stands for a type there
+abbrev pub StandsForType : Module → Fault → Type 0
+StandsForType m f = Somewhere m (λ xs k. IsTypeUse f k) ⊎ IsExportedType m f
+
+-- the Report's Prelude has the name of the fault: as a variable, or as a type, and then the name stands for a type
+abbrev pub IsOfReport : Module → Fault → Type 0
+IsOfReport m f = Contains left_out_variables f.name ⊎ (Contains left_out_types f.name × StandsForType m f)

@@ -148,6 +148,13 @@ IsFirstIn (a_row ps) f p = IsFirstAt ps f p
 IsFirstIn (a_pattern n ps) f p = ⊥
 IsFirstIn (a_type n ts) f p = ⊥
 
+abbrev pub IsTypeUseIn : Part → Fault → Type 0
+IsTypeUseIn (a_list ds) f = ⊥
+IsTypeUseIn (a_head ps) f = ⊥
+IsTypeUseIn (a_row ps) f = ⊥
+IsTypeUseIn (a_pattern n ps) f = ⊥
+IsTypeUseIn (a_type n ts) f = IsAt f n
+
 abbrev pub HasArgumentsIn : Module → List Interface → Fault → ℕ → ℕ → Part → Type 0
 HasArgumentsIn m fs f here takes (a_list ds) = ⊥
 HasArgumentsIn m fs f here takes (a_head ps) = ⊥

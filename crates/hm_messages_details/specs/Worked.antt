@@ -3,7 +3,7 @@
 use Rattle.std.specs.Prelude.{◌≡◌, ℕ, true, false, List, [], ◌∷◌, None, Some, Contains, codes}
 use Rattle.hm_lex.specs.declared.token.Place.{Place}
 use Rattle.hm_syntax.specs.Names.{Identifier}
-use Rattle.hm_syntax.specs.Trees.{Patterns, no_patterns, more_patterns, variable_pattern, constructor_pattern, tuple_pattern, variable_expression, Declarations, no_declarations, more_declarations, clause, pattern_binding, signature, unit_type, RightSide, right_side, no_bodies}
+use Rattle.hm_syntax.specs.Trees.{constructor_type, no_types, Patterns, no_patterns, more_patterns, variable_pattern, constructor_pattern, tuple_pattern, variable_expression, Declarations, no_declarations, more_declarations, clause, pattern_binding, signature, unit_type, RightSide, right_side, no_bodies}
 use Rattle.hm_syntax.specs.declared.ast.Import.{Import}
 use Rattle.hm_syntax.specs.declared.ast.ImportItem.{ImportItem}
 use Rattle.hm_syntax.specs.declared.ast.ImportItem.TheVariants as item
@@ -15,7 +15,7 @@ use Rattle.hm_types.specs.declared.Entity.{Entity}
 use Rattle.hm_names.specs.Bindings.{Pair}
 use Rattle.hm_names.specs.Faults.Phases.{fault}
 use Rattle.hm_names.specs.Scope.{Means}
-use Rattle.hm_names.specs.Walk.{at_expression, at_pattern}
+use Rattle.hm_names.specs.Walk.{at_expression, at_pattern, at_type}
 use Rattle.hm_names.specs.declared.faults.Fault.{Fault}
 use Rattle.hm_names.specs.declared.faults.Kind.TheVariants.{Ambiguous, Arity, ClauseLength, Duplicate, NoBinding, NotExported, Unbound}
 use Rattle.hm_names.specs.declared.namespace.Namespace.TheVariants.{Types, Constructors, Values}
@@ -23,18 +23,12 @@ use Rattle.hm_messages_details.specs.Candidates.{Candidate, IsCandidate, IsImpor
 use Rattle.hm_messages_details.specs.Counts.{HasArguments, HasLengths}
 use Rattle.hm_messages_details.specs.Details.{IsEntityFor, IsKnown, of_report}
 use Rattle.hm_messages_details.specs.Firsts.{IsFirstAt}
-use Rattle.hm_messages_details.specs.LeftOut.{left_out}
+use Rattle.hm_messages_details.specs.LeftOut.{IsTypeUse, left_out_variables}
 use Rattle.hm_messages_details.specs.Listed.{IsListedAs}
 use Rattle.hm_messages_details.specs.NearBindings.{IsNearBinding}
 use Rattle.hm_messages_details.specs.NearLocals.{IsNearLocal}
-use Rattle.hm_messages_details.specs.Nearness.{AreNear}
+use Rattle.hm_messages_details.specs.Nearness.{AreNear, IsSmallForm}
 use Rattle.hm_messages_details.specs.PatternBindings.{IsPatternBound}
-
--- this Prelude leaves out `putStrLn` of the Report's Prelude, and has `map`. An ambiguous name isn't reported as left out
-pub record LeftOutRow : Type 0 where
-  pub missing : (m : Module) (fs : List Interface) (f : Fault) → f.kind ≡ Unbound → f.name ≡ codes "putStrLn" → IsKnown m fs f of_report
-  pub there : ¬ (Contains left_out (codes "map"))
-  pub ambiguous : (m : Module) (fs : List Interface) (f : Fault) → f.kind ≡ Ambiguous → ¬ (IsKnown m fs f of_report)
 
 abbrev pub name_on : List ℕ → ℕ → Identifier
 name_on x line = record { qualifier = None; text = x; line = line; column = 1 }
@@ -54,6 +48,16 @@ pub record FirstRow : Type 0 where
 
 abbrev pub one_pattern : Patterns
 one_pattern = more_patterns (variable_pattern (name_on (codes "x") 1)) no_patterns
+
+-- this Prelude leaves out the variable `putStrLn` of the Report's Prelude, and has `map`. It leaves out the type `Double`, and the Report has no
+-- constructor of this name: a pattern `Double x` isn't a use of the type. An ambiguous name isn't reported as left out
+pub record LeftOutRow : Type 0 where
+  pub missing : (m : Module) (fs : List Interface) (f : Fault) → f.kind ≡ Unbound → f.name ≡ codes "putStrLn" → IsKnown m fs f of_report
+  pub there : ¬ (Contains left_out_variables (codes "map"))
+  pub no_variable : ¬ (Contains left_out_variables (codes "Double"))
+  pub type_use : IsTypeUse (fault Unbound (name_on (codes "Double") 1)) (at_type (constructor_type (name_on (codes "Double") 1) no_types))
+  pub in_pattern : ¬ (IsTypeUse (fault Unbound (name_on (codes "Double") 1)) (at_pattern (constructor_pattern (name_on (codes "Double") 1) one_pattern)))
+  pub ambiguous : (m : Module) (fs : List Interface) (f : Fault) → f.kind ≡ Ambiguous → ¬ (IsKnown m fs f of_report)
 
 -- `(:) x` has one argument, and takes two
 pub record ArgumentsRow : Type 0 where
@@ -108,6 +112,11 @@ type_called x e = record { space = Types; qualifier = None; text = x; entity = e
 pub record SpaceRow : Type 0 where
   pub there : (e : Entity) → IsEntityFor (codes "Int") Types (type_called (codes "Int") e)
   pub other : (e : Entity) → ¬ (IsEntityFor (codes "Int") Constructors (type_called (codes "Int") e))
+
+-- `true` is the small form of `True`, and `TRUE` isn't
+pub record SmallFormRow : Type 0 where
+  pub small : IsSmallForm (codes "true") (codes "True")
+  pub capitals : ¬ (IsSmallForm (codes "TRUE") (codes "True"))
 
 -- `p :: ()` on line 1, and a pattern `(p)` on line 2, written as a list of one component
 abbrev pub signed_pattern : Declarations

@@ -30,7 +30,7 @@ pub enum Detail<'a> {
     Near(Option<&'a str>, &'a str),
     /// The name is unbound, and this local variable is in scope at its place, one edit away.
     NearLocal(&'a str),
-    /// The name is unbound, and one of the Report's Prelude that this Prelude leaves out.
+    /// The name is unbound, and the Report's Prelude has it as what it stands for here. This Prelude leaves it out.
     LeftOut,
     /// The name is ambiguous, and means both of these.
     Either(Candidate<'a>, Candidate<'a>),

@@ -33,15 +33,14 @@ fn unbound_detail<'a>(
     requires { fault.now.kind ≡ Unbound }
     ensures { IfOk result (λ detail. (fs : List Interface) → IsScopeOf program.now fs scope.now → IsKnown program.now fs fault.now (known_of detail)) }
 {
-    let name = fault.name.as_str();
-    if is_left_out(name) {
+    if is_left_out(alloc, program, fault)? {
         return Ok(Detail::LeftOut);
     }
     match near_local(alloc, program, fault)? {
         Some(near) => return Ok(Detail::NearLocal(near)),
         None => {}
     }
-    match nearest(alloc, name, scope.pairs())? {
+    match nearest(alloc, fault.name.as_str(), scope.pairs())? {
         Some(pair) => Ok(Detail::Near(pair.qualifier(), pair.text())),
         None => Ok(Detail::Nothing),
     }

@@ -1,5 +1,5 @@
 //! Worked examples: functions with an empty body, whose contracts have the facts.
-ghost use Rattle.hm_messages_details.specs.Worked.{ArgumentsRow, CandidateRow, FirstRow, ImportLineRow, LeftOutRow, LengthsRow, ListedRow, NearBindingRow, NearLocalRow, PatternRow, SpaceRow};
+ghost use Rattle.hm_messages_details.specs.Worked.{ArgumentsRow, CandidateRow, FirstRow, ImportLineRow, LeftOutRow, LengthsRow, ListedRow, NearBindingRow, NearLocalRow, PatternRow, SmallFormRow, SpaceRow};
 
 /// A name that only the Report's Prelude has, and one that both have.
 #[tactic(auto, using(crate::proofs::WorkedDetails::worked_left_out))]
@@ -28,10 +28,11 @@ pub fn worked_names()
     ensures bindings { NearBindingRow }
 {}
 
-/// A type that is no constructor, and a signature whose variable a pattern binds; and others that aren't so.
-#[tactic(auto, using(crate::proofs::WorkedNames::worked_spaces, crate::proofs::WorkedNames::worked_patterns))]
+/// A type that is no constructor, a name with a small letter, and a signature whose variable a pattern binds; and others that aren't so.
+#[tactic(auto, using(crate::proofs::WorkedNames::worked_spaces, crate::proofs::WorkedNames::worked_small_forms, crate::proofs::WorkedNames::worked_patterns))]
 pub fn worked_spaces()
     ensures spaces { SpaceRow }
+    ensures small_forms { SmallFormRow }
     ensures patterns { PatternRow }
 {}
 

@@ -2,7 +2,7 @@
 ghost use Rattle.std.specs.Prelude.{◌≡◌, Contains, IfOk, IfSome, true};
 ghost use Rattle.hm_names.specs.Bindings.{Pair};
 ghost use Rattle.hm_messages_details.specs.Details.{IsEntityFor, IsNearPair};
-ghost use Rattle.hm_messages_details.specs.Nearness.{AreNear, begins_capital};
+ghost use Rattle.hm_messages_details.specs.Nearness.{AreNear, IsSmallForm, begins_capital};
 
 use crate::written::behind;
 use hm_names::Namespace;
@@ -65,18 +65,41 @@ pub(crate) fn is_near(alloc: Global, text: &str, other: &str) -> Result<bool, Al
     Ok(osa_distance(alloc, text, other)? == 1)
 }
 
-/// Returns whether a pair's name is one edit away from this one, after the same qualifier.
+/// Returns whether the first name is the second one with a small letter in place of the capital.
+fn is_small_form(text: &[u8], name: &[u8]) -> bool
+    ensures { result ≡ true → IsSmallForm text.now name.now }
+{
+    let Some((small, rest)) = text.split_first() else {
+        return false;
+    };
+    let Some((capital, others)) = name.split_first() else {
+        return false;
+    };
+    if !matches!(*capital, b'A'..=b'Z') {
+        return false;
+    }
+    *small == *capital + 32 && rest == others
+}
+
+/// Returns whether a pair's name is one edit away from this one, after the same qualifier, or is a constructor of which this is the small form.
 fn is_near_pair(alloc: Global, name: &str, pair: &Binding<'_>) -> Result<bool, AllocError>
     ensures { IfOk result (λ is. is ≡ true → IsNearPair name.now pair.now) }
 {
     match behind(name, pair.qualifier()) {
-        Some(text) => is_near(alloc, text, pair.text()),
+        Some(text) => {
+            if pair.space() == Namespace::Constructors
+                && is_small_form(text.as_bytes(), pair.text().as_bytes())
+            {
+                return Ok(true);
+            }
+            is_near(alloc, text, pair.text())
+        }
         None => Ok(false),
     }
 }
 
 // Why: docs/DECISIONS.md, "Near names".
-/// Returns the first of these pairs whose name is one edit away from this one.
+/// Returns the first of these pairs whose name is near to this one.
 pub(crate) fn nearest<'r, 'a>(
     alloc: Global,
     name: &str,

@@ -1,3 +1,4 @@
 mod Rests
 mod SymbolRuns
 mod WorkedContexts
+mod WorkedPatterns

@@ -10,7 +10,7 @@ use Rattle.hm_parse_grammar.specs.declared.symbol.Symbol.TheVariants.{End}
 use Rattle.hm_messages_hints.specs.Repairs.{IsRepair}
 use Rattle.hm_messages_hints.specs.SyntaxHints.{IsSyntaxHint}
 use Rattle.hm_messages_hints.specs.declared.syntax_hints.SyntaxHint.{SyntaxHint}
-use Rattle.hm_messages_hints.specs.declared.syntax_hints.SyntaxHint.TheVariants.{NoHeader, ModuleEnded, NoBrace, LeftOut, Comprehension, Range, SmallName, AppliedVariable, Repaired, WherePart, NoElse, NotClosed, InPattern, Record, Update, NoAlternative, Unexpected}
+use Rattle.hm_messages_hints.specs.declared.syntax_hints.SyntaxHint.TheVariants.{NoHeader, ModuleEnded, NoBrace, LeftOut, Comprehension, Range, SmallName, AppliedVariable, Repaired, WherePart, NoElse, NotClosed, InPattern, Record, Update, NoAlternative, Unexpected, AppliedName, TypedPattern, ConsPattern, GuardAfterEquals, GuardArrow, ConstructorComma, NumberComma, WhereAfterSemicolon, NoThen, NewtypeArguments, LateQualified, AtSign}
 
 abbrev pub symbol_in : List ℕ → Token → Symbol
 symbol_in source t = symbol_of t.kind (token_text source t)
@@ -45,6 +45,18 @@ about Record k = k
 about Update k = k
 about NoAlternative k = k
 about Unexpected k = k
+about (AppliedName j) k = k
+about TypedPattern k = k
+about ConsPattern k = k
+about GuardAfterEquals k = k
+about GuardArrow k = k
+about (ConstructorComma j) k = k
+about NumberComma k = k
+about WhereAfterSemicolon k = k
+about (NoThen j) k = k
+about (NewtypeArguments j) k = k
+about LateQualified k = k
+about AtSign k = k
 
 -- the hint holds at the token with this number: a change repairs the tokens, any other hint is a fact about the tokens up to this one
 abbrev pub IsSo : List ℕ → List Token → ℕ → SyntaxHint → Type 0

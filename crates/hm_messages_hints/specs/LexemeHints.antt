@@ -2,7 +2,7 @@
 use Rattle.std.specs.Prelude.{◌≡◌, ◌≢◌, ℕ, ◌<◌, ◌≤◌, List, [], ◌∷◌, ⊤, All, length, slice_index, take, take_while}
 use Rattle.hm_lex.specs.Bytes.{is_symbol}
 use Rattle.hm_messages_hints.specs.declared.lexeme_hints.LexemeHint.{LexemeHint}
-use Rattle.hm_messages_hints.specs.declared.lexeme_hints.LexemeHint.TheVariants.{ByteOrderMark, Backquote, OpenString, StringItem, Character, Fraction, ReservedName, Comment, Dashes, Operator, NotAscii, NoText}
+use Rattle.hm_messages_hints.specs.declared.lexeme_hints.LexemeHint.TheVariants.{ByteOrderMark, Backquote, OpenString, StringItem, Character, Fraction, ReservedName, Comment, Dashes, Operator, NotAscii, NoText, CurlyQuote}
 
 -- the first byte is between these
 abbrev pub BeginsBetween : ℕ → ℕ → List ℕ → Type 0
@@ -13,6 +13,7 @@ pub record IsOpenLine (text : List ℕ) (n : ℕ) : Type 0 where
   pub quotes : All (λ b. b ≢ 34) (take n text)
   pub end : n < length text → slice_index text n ≡ 10
 
+-- what the hint says of the text. A curly quote is one of the characters from U+2018 to U+201D
 abbrev pub IsLexemeHint : List ℕ → LexemeHint → Type 0
 IsLexemeHint rest ByteOrderMark = (bs : List ℕ) × (rest ≡ 239 ∷ 187 ∷ 191 ∷ bs)
 IsLexemeHint rest Backquote = (bs : List ℕ) × (rest ≡ 96 ∷ bs)
@@ -26,6 +27,7 @@ IsLexemeHint rest Dashes = (bs : List ℕ) × (rest ≡ 45 ∷ 45 ∷ bs)
 IsLexemeHint rest Operator = (b : ℕ) × (bs : List ℕ) × (rest ≡ b ∷ bs)
 IsLexemeHint rest NotAscii = BeginsBetween 128 255 rest
 IsLexemeHint rest NoText = ⊤
+IsLexemeHint rest CurlyQuote = (b : ℕ) × (bs : List ℕ) × (rest ≡ 226 ∷ 128 ∷ b ∷ bs) × (152 ≤ b) × (b ≤ 157)
 
 -- the operator that a hint is about: all symbols at the front (Report, section 2.2). Other hints aren't about an operator
 abbrev pub operator_in : List ℕ → LexemeHint → List ℕ
@@ -41,3 +43,4 @@ operator_in rest Dashes = take_while is_symbol rest
 operator_in rest Operator = take_while is_symbol rest
 operator_in rest NotAscii = []
 operator_in rest NoText = []
+operator_in rest CurlyQuote = []

@@ -5,7 +5,7 @@ use Rattle.hm_lex.specs.declared.token.Kind.TheVariants.{Op, Special, Word}
 use Rattle.hm_lex.specs.declared.token.Token.{Token}
 use Rattle.hm_lex.specs.Texts.{LiesIn, token_text}
 use Rattle.hm_messages_hints.specs.declared.mark.Mark.{Mark}
-use Rattle.hm_messages_hints.specs.declared.mark.Mark.TheVariants.{Semicolon, Comma, Equals, Arrow, Open, Close, OpenSquare, CloseSquare, LeftBrace, RightBrace, Where, Let, In, If, Then, Else, Case, Of}
+use Rattle.hm_messages_hints.specs.declared.mark.Mark.TheVariants.{Semicolon, Comma, Equals, Arrow, Open, Close, OpenSquare, CloseSquare, LeftBrace, RightBrace, Where, Let, In, If, Then, Else, Case, Of, OfType, Backslash}
 
 abbrev pub mark_text : Mark → List ℕ
 mark_text Semicolon = codes ";"
@@ -26,6 +26,8 @@ mark_text Then = codes "then"
 mark_text Else = codes "else"
 mark_text Case = codes "case"
 mark_text Of = codes "of"
+mark_text OfType = codes "::"
+mark_text Backslash = codes "\\"
 
 -- the kind of a token with this text
 abbrev pub mark_kind : Mark → Kind
@@ -47,6 +49,8 @@ mark_kind Then = Word
 mark_kind Else = Word
 mark_kind Case = Word
 mark_kind Of = Word
+mark_kind OfType = Op
+mark_kind Backslash = Op
 
 -- the token is in the text, and is this mark
 pub record IsMarkIn (text : List ℕ) (mark : Mark) (token : Token) : Type 0 where

@@ -1,13 +1,16 @@
 -- The facts about a token after others, with which no source begins.
-use Rattle.std.specs.Prelude.{◌≡◌, ◌⊎◌, ℕ, ◌+◌, ◌-◌, ◌<◌, ◌≤◌, ⊤, Bool, true, false, ◌||◌, List, [], length, drop, slice_index_or, All, Some}
+use Rattle.std.specs.Prelude.{◌≡◌, ◌⊎◌, ℕ, ◌+◌, ◌-◌, ◌<◌, ◌≤◌, ⊤, Bool, true, false, ◌||◌, List, [], length, drop, take, slice_index_or, All, Some, codes}
+use Rattle.hm_parse_grammar.specs.Reading.Patterns.{begins_apat}
 use Rattle.hm_parse_grammar.specs.Reading.Types.{begins_atype}
 use Rattle.hm_parse_grammar.specs.Symbols.{same}
 use Rattle.hm_parse_grammar.specs.declared.symbol.Symbol.{Symbol}
-use Rattle.hm_parse_grammar.specs.declared.symbol.Symbol.TheVariants.{Module, Data, Newtype, TypeWord, OfType, Open, OpenSquare, LeftBrace, Close, CloseSquare, RightBrace, Semicolon, Comma, Where, Let, Of, If, Else, Equals, Bar, Arrow, Dots, Colon, At, Tilde, Wild, Var, Con, QCon, Integer, Character, Text, End}
+use Rattle.hm_parse_grammar.specs.declared.symbol.Symbol.TheVariants.{Module, Import, Data, Newtype, TypeWord, OfType, Open, OpenSquare, LeftBrace, Close, CloseSquare, RightBrace, Semicolon, Comma, Where, Let, Of, If, Then, Else, Equals, Backslash, Bar, Arrow, Dots, Colon, At, Tilde, Wild, Var, Con, QCon, Integer, Character, Text, End}
 use Rattle.hm_messages_hints.specs.Brackets.{IsInnermost, IsNoneOpen}
 use Rattle.hm_messages_hints.specs.Features.{feature_of}
+use Rattle.hm_messages_hints.specs.declared.features.Feature.{Feature}
+use Rattle.hm_messages_hints.specs.declared.features.Feature.TheVariants.{Class, Instance, Deriving, Default, Do, Fixity, Context, Generator}
 use Rattle.hm_messages_hints.specs.declared.syntax_hints.SyntaxHint.{SyntaxHint}
-use Rattle.hm_messages_hints.specs.declared.syntax_hints.SyntaxHint.TheVariants.{NoHeader, ModuleEnded, NoBrace, LeftOut, Comprehension, Range, SmallName, AppliedVariable, Repaired, WherePart, NoElse, NotClosed, InPattern, Record, Update, NoAlternative, Unexpected}
+use Rattle.hm_messages_hints.specs.declared.syntax_hints.SyntaxHint.TheVariants.{NoHeader, ModuleEnded, NoBrace, LeftOut, Comprehension, Range, SmallName, AppliedVariable, Repaired, WherePart, NoElse, NotClosed, InPattern, Record, Update, NoAlternative, Unexpected, AppliedName, TypedPattern, ConsPattern, GuardAfterEquals, GuardArrow, ConstructorComma, NumberComma, WhereAfterSemicolon, NoThen, NewtypeArguments, LateQualified, AtSign}
 
 abbrev pub wants_brace : Symbol → Bool
 wants_brace Where = true
@@ -17,6 +20,7 @@ wants_brace _ = false
 
 abbrev pub takes_capital : Symbol → Bool
 takes_capital Module = true
+takes_capital Import = true
 takes_capital Data = true
 takes_capital Newtype = true
 takes_capital TypeWord = true
@@ -55,6 +59,40 @@ abbrev pub begins_constructors : Symbol → Bool
 begins_constructors Data = true
 begins_constructors Newtype = true
 begins_constructors _ = false
+
+-- the constructor of a newtype follows this
+abbrev pub begins_newtype : Symbol → Bool
+begins_newtype Newtype = true
+begins_newtype _ = false
+
+-- patterns follow these: in a declaration, an alternative or a lambda
+abbrev pub begins_patterns : Symbol → Bool
+begins_patterns Semicolon = true
+begins_patterns LeftBrace = true
+begins_patterns Backslash = true
+begins_patterns _ = false
+
+-- a pattern may end with these
+abbrev pub ends_pattern : Symbol → Bool
+ends_pattern Var = true
+ends_pattern Con = true
+ends_pattern QCon = true
+ends_pattern Wild = true
+ends_pattern Integer = true
+ends_pattern Character = true
+ends_pattern Text = true
+ends_pattern Close = true
+ends_pattern CloseSquare = true
+ends_pattern _ = false
+
+-- these end a guard, or what it is in
+abbrev pub ends_guard : Symbol → Bool
+ends_guard Equals = true
+ends_guard Arrow = true
+ends_guard Semicolon = true
+ends_guard LeftBrace = true
+ends_guard RightBrace = true
+ends_guard _ = false
 
 -- the symbols that types and the constructors of a declaration can have in them
 abbrev pub is_of_type : Symbol → Bool
@@ -106,6 +144,26 @@ pub record IsInType (begins : Symbol → Bool) (symbols : List Symbol) : Type 0 
   pub begun : begins (at symbols start) ≡ true
   pub rest : All (λ s. is_of_type s ≡ true) (drop (start + 1) symbols)
 
+-- the symbols end with a part of patterns
+pub record IsInPatterns (symbols : List Symbol) : Type 0 where
+  pub start : ℕ
+  pub within : start < length symbols
+  pub begun : begins_patterns (at symbols start) ≡ true
+  pub rest : All (λ s. is_of_pattern s ≡ true) (drop (start + 1) symbols)
+
+-- the symbols end with a guard, or a part of one, after the patterns of a declaration
+pub record IsInGuard (symbols : List Symbol) : Type 0 where
+  pub bar : ℕ
+  pub within : bar < length symbols
+  pub begun : at symbols bar ≡ Bar
+  pub patterns : IsInPatterns (take bar symbols)
+  pub rest : All (λ s. ends_guard s ≡ false) (drop (bar + 1) symbols)
+
+-- the symbol with this number is `if`, and no `then` follows it
+pub record HasNoThen (symbols : List Symbol) (k : ℕ) : Type 0 where
+  pub begun : at symbols k ≡ If
+  pub rest : All (λ s. same s Then ≡ false) (drop (k + 1) symbols)
+
 -- the symbol with this number is `if`, and no `else` follows it
 pub record HasNoElse (symbols : List Symbol) (k : ℕ) : Type 0 where
   pub begun : at symbols k ≡ If
@@ -123,12 +181,23 @@ pub record IsInAlternative (symbols : List Symbol) (bracket : ℕ) : Type 0 wher
 abbrev pub last_of : List Symbol → Symbol
 last_of symbols = at symbols (length symbols - 1)
 
+-- the part of Haskell can begin after these symbols. A context can only be in a type (Report, section 4.1.4)
+abbrev pub IsPlaceOf : Feature → List Symbol → Type 0
+IsPlaceOf Class before = ⊤
+IsPlaceOf Instance before = ⊤
+IsPlaceOf Deriving before = ⊤
+IsPlaceOf Default before = ⊤
+IsPlaceOf Do before = ⊤
+IsPlaceOf Fixity before = ⊤
+IsPlaceOf Context before = IsInType begins_type before
+IsPlaceOf Generator before = ⊤
+
 -- the hint holds for the token with this symbol and text, and for the symbols before it. A change isn't a fact about these: IsRepair defines when one works
 abbrev pub IsSyntaxHint : List Symbol → Symbol → List ℕ → SyntaxHint → Type 0
 IsSyntaxHint before this text NoHeader = before ≡ []
 IsSyntaxHint before this text ModuleEnded = (last_of before ≡ RightBrace) × IsNoneOpen before
 IsSyntaxHint before this text NoBrace = (wants_brace (last_of before) ≡ true) × (same this LeftBrace ≡ false)
-IsSyntaxHint before this text (LeftOut f) = feature_of text ≡ Some f
+IsSyntaxHint before this text (LeftOut f) = (feature_of text ≡ Some f) × IsPlaceOf f before
 IsSyntaxHint before this text (Comprehension k) = IsInnermost before k × (at before k ≡ OpenSquare) × (this ≡ Bar)
 IsSyntaxHint before this text (Range k) = IsInnermost before k × (at before k ≡ OpenSquare) × (this ≡ Dots)
 IsSyntaxHint before this text SmallName = ((takes_capital (last_of before) ≡ true) ⊎ ((takes_constructor (last_of before) ≡ true) × IsInType begins_constructors before)) × (this ≡ Var)
@@ -142,3 +211,15 @@ IsSyntaxHint before this text Record = (last_of before ≡ Con) × (this ≡ Lef
 IsSyntaxHint before this text Update = (ends_operand (last_of before) ≡ true) × (this ≡ LeftBrace)
 IsSyntaxHint before this text NoAlternative = (last_of before ≡ LeftBrace) × (at before (length before - 2) ≡ Of) × (this ≡ RightBrace)
 IsSyntaxHint before this text Unexpected = ⊤
+IsSyntaxHint before this text (AppliedName k) = IsInnermost before k × ((at before k ≡ Open) ⊎ (at before k ≡ OpenSquare)) × IsInPatterns before × (last_of before ≡ Var) × (begins_apat this ≡ true)
+IsSyntaxHint before this text TypedPattern = IsInPatterns before × (ends_pattern (last_of before) ≡ true) × (this ≡ OfType)
+IsSyntaxHint before this text ConsPattern = IsInPatterns before × (ends_pattern (last_of before) ≡ true) × (this ≡ Colon)
+IsSyntaxHint before this text GuardAfterEquals = (last_of before ≡ Equals) × (this ≡ Bar)
+IsSyntaxHint before this text GuardArrow = IsInGuard before × (this ≡ Arrow)
+IsSyntaxHint before this text (ConstructorComma k) = IsInnermost before k × (at before k ≡ LeftBrace) × IsInType begins_constructors before × (this ≡ Comma)
+IsSyntaxHint before this text NumberComma = (last_of before ≡ Integer) × (this ≡ Comma)
+IsSyntaxHint before this text WhereAfterSemicolon = (last_of before ≡ Semicolon) × (this ≡ Where)
+IsSyntaxHint before this text (NoThen k) = HasNoThen before k × (ends_operand (last_of before) ≡ true) × (this ≡ LeftBrace)
+IsSyntaxHint before this text (NewtypeArguments k) = IsInnermost before k × (at before k ≡ LeftBrace) × IsInType begins_newtype before × ((begins_atype this ≡ true) ⊎ (this ≡ Bar))
+IsSyntaxHint before this text LateQualified = (at before (length before - 2) ≡ Import) × (text ≡ codes "qualified")
+IsSyntaxHint before this text AtSign = this ≡ At

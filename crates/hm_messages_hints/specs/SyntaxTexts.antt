@@ -5,7 +5,7 @@ use Rattle.hm_messages_hints.specs.Marks.{mark_text}
 use Rattle.hm_messages_hints.specs.declared.change.Change.{Change}
 use Rattle.hm_messages_hints.specs.declared.change.Change.TheVariants.{Insert, Replace, Remove}
 use Rattle.hm_messages_hints.specs.declared.syntax_hints.SyntaxHint.{SyntaxHint}
-use Rattle.hm_messages_hints.specs.declared.syntax_hints.SyntaxHint.TheVariants.{NoHeader, ModuleEnded, NoBrace, LeftOut, Comprehension, Range, SmallName, AppliedVariable, Repaired, WherePart, NoElse, NotClosed, InPattern, Record, Update, NoAlternative, Unexpected}
+use Rattle.hm_messages_hints.specs.declared.syntax_hints.SyntaxHint.TheVariants.{NoHeader, ModuleEnded, NoBrace, LeftOut, Comprehension, Range, SmallName, AppliedVariable, Repaired, WherePart, NoElse, NotClosed, InPattern, Record, Update, NoAlternative, Unexpected, AppliedName, TypedPattern, ConsPattern, GuardAfterEquals, GuardArrow, ConstructorComma, NumberComma, WhereAfterSemicolon, NoThen, NewtypeArguments, LateQualified, AtSign}
 
 -- the text of a token between quotes. The end of a source has no text
 abbrev pub quoted : List ℕ → List ℕ
@@ -36,6 +36,18 @@ syntax_text Record text = codes "fields with names aren't supported"
 syntax_text Update text = codes "record update isn't supported: is 'where' missing before '{'?"
 syntax_text NoAlternative text = codes "a 'case' needs at least one alternative"
 syntax_text Unexpected text = codes "unexpected " ++ quoted text
+syntax_text (AppliedName k) text = codes "a variable takes no arguments in a pattern: is ',' missing before " ++ quoted text ++ codes "?"
+syntax_text TypedPattern text = codes "'::' can't follow a pattern"
+syntax_text ConsPattern text = codes "unexpected ':' after a pattern"
+syntax_text GuardAfterEquals text = codes "a guard can't follow '='"
+syntax_text GuardArrow text = codes "expected '=' after the guard, found '->'"
+syntax_text (ConstructorComma k) text = codes "unexpected ',' between constructors"
+syntax_text NumberComma text = codes "unexpected ',' after a number"
+syntax_text WhereAfterSemicolon text = codes "unexpected ';' before 'where'"
+syntax_text (NoThen k) text = codes "an 'if' before " ++ quoted text ++ codes " has no 'then'"
+syntax_text (NewtypeArguments k) text = codes "a 'newtype' has one constructor with one argument"
+syntax_text LateQualified text = codes "'qualified' stands before the name of the module"
+syntax_text AtSign text = codes "'@' can only follow a variable in a pattern"
 
 abbrev pub change_help : Change → List ℕ
 change_help (Insert m) = codes "With it this can be read.\n"
@@ -56,8 +68,20 @@ syntax_help AppliedVariable = codes "Only a type with a name takes arguments, su
 syntax_help (WherePart k) = codes "It belongs to a whole definition or alternative. Within an expression, write `let { .. } in ..`.\n"
 syntax_help (NoElse k) = codes "Each `if` has one: `if c then x else y`.\n"
 syntax_help (NotClosed k) = codes "Each `(`, `[` and `{` is closed in the order in which they were opened, the last one first.\n"
-syntax_help (InPattern k) = codes "If a new definition begins here, the `}` of the `case` before it is missing.\n"
+syntax_help (InPattern k) = codes "An alternative is `pattern -> expression`. If a new definition begins here, the `}` of the `case` before it is missing.\n"
 syntax_help Record = codes "Write the types of a constructor's arguments alone, and take it apart by patterns.\n"
 syntax_help Update = codes "Build the value with its constructor. If local definitions follow, write `where` before `{`.\n"
 syntax_help NoAlternative = codes "Write an alternative, such as `_ -> x`.\n"
 syntax_help Unexpected = codes "No module can go on with this here.\n"
+syntax_help (AppliedName k) = codes "Only a constructor takes arguments, and its name begins with a capital letter.\n"
+syntax_help TypedPattern = codes "Write a signature of its own for a type, such as `f :: Int -> Int`. Between an element and a list, write `:`.\n"
+syntax_help ConsPattern = codes "Write parentheses around a pattern with `:`, such as `f (x : xs)`.\n"
+syntax_help GuardAfterEquals = codes "Write the guard before the `=`: `f x | c = y`.\n"
+syntax_help GuardArrow = codes "Only an alternative of a `case` has `->` after its guard.\n"
+syntax_help (ConstructorComma k) = codes "Write `|` between constructors, and spaces between their arguments: `data T = A Int Int | B`.\n"
+syntax_help NumberComma = codes "Write a number without commas, and a tuple between parentheses.\n"
+syntax_help WhereAfterSemicolon = codes "A `where` belongs to the definition before it, so no `;` is between them.\n"
+syntax_help (NoThen k) = codes "An `if` has no braces: `if c then x else y`.\n"
+syntax_help (NewtypeArguments k) = codes "Write `data` for a type with more constructors or arguments.\n"
+syntax_help LateQualified = codes "Write `import qualified M`.\n"
+syntax_help AtSign = codes "A pattern `x@(y : ys)` is left of the `=` or the `->`.\n"

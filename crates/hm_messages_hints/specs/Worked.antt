@@ -1,8 +1,9 @@
--- Worked examples: symbols that end within a type, after an `if` without `else`, and within an alternative.
+-- Worked examples: symbols that end within a type, after an `if` without `then` or `else`, and within patterns, guards and alternatives.
 use Rattle.std.specs.Prelude.{List, [], ◌∷◌}
 use Rattle.hm_parse_grammar.specs.declared.symbol.Symbol.{Symbol}
-use Rattle.hm_parse_grammar.specs.declared.symbol.Symbol.TheVariants.{Data, OfType, If, Then, Else, Of, LeftBrace, Semicolon, Equals, Arrow, Var, Con, Integer}
-use Rattle.hm_messages_hints.specs.SyntaxHints.{HasNoElse, IsInAlternative, IsInType, begins_type}
+use Rattle.hm_parse_grammar.specs.declared.symbol.Symbol.TheVariants.{Backslash, Bar, Data, OfType, If, Then, Else, Of, Open, LeftBrace, Semicolon, Equals, Arrow, Var, Con, Integer}
+use Rattle.hm_messages_hints.specs.SyntaxHints.{HasNoElse, HasNoThen, IsInAlternative, IsInGuard, IsInPatterns, IsInType, IsPlaceOf, begins_type}
+use Rattle.hm_messages_hints.specs.declared.features.Feature.TheVariants.{Context}
 
 -- `data T = C a`
 abbrev pub declared : List Symbol
@@ -26,3 +27,39 @@ pub record ElseRow : Type 0 where
 pub record AlternativeRow : Type 0 where
   pub within : IsInAlternative (Of ∷ LeftBrace ∷ Con ∷ Var ∷ []) 1
   pub behind : ¬ (IsInAlternative (Of ∷ LeftBrace ∷ Var ∷ Arrow ∷ Var ∷ []) 1)
+
+-- `if x`, and the same with `then`
+pub record ThenRow : Type 0 where
+  pub without : HasNoThen (If ∷ Var ∷ []) 0
+  pub with_then : ¬ (HasNoThen (If ∷ Var ∷ Then ∷ []) 0)
+
+-- `{ f (g`
+abbrev pub applied : List Symbol
+applied = LeftBrace ∷ Var ∷ Open ∷ Var ∷ []
+
+-- `{ f = g`
+abbrev pub defined : List Symbol
+defined = LeftBrace ∷ Var ∷ Equals ∷ Var ∷ []
+
+-- the arguments of a definition are patterns, and what is after its `=` isn't
+pub record PatternsRow : Type 0 where
+  pub within : IsInPatterns applied
+  pub behind : ¬ (IsInPatterns defined)
+
+-- `{ f | x`
+abbrev pub guarded : List Symbol
+guarded = LeftBrace ∷ Var ∷ Bar ∷ Var ∷ []
+
+-- `{ f | x =`
+abbrev pub guarded_before : List Symbol
+guarded_before = LeftBrace ∷ Var ∷ Bar ∷ Var ∷ Equals ∷ []
+
+-- a guard ends at its `=`
+pub record GuardRow : Type 0 where
+  pub within : IsInGuard guarded
+  pub behind : ¬ (IsInGuard guarded_before)
+
+-- a context can be after `x :: T a`, and not after a lambda's `\x`
+pub record PlaceRow : Type 0 where
+  pub signed : IsPlaceOf Context (Var ∷ OfType ∷ Con ∷ Var ∷ [])
+  pub bound : ¬ (IsPlaceOf Context (Backslash ∷ Var ∷ []))

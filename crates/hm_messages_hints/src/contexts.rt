@@ -1,8 +1,8 @@
 //! The form that a place is in, by the symbols before it.
 ghost use Rattle.std.specs.Prelude.{◌≡◌, ◌⊎◌, ◌-◌, ◌<◌, length, slice_index_or, All, IfSome, true, false};
 ghost use Rattle.hm_parse_grammar.specs.Symbols.{same};
-ghost use Rattle.hm_parse_grammar.specs.declared.symbol.Symbol.TheVariants.{Else, End, LeftBrace, Of, Semicolon};
-ghost use Rattle.hm_messages_hints.specs.SyntaxHints.{HasNoElse, IsInAlternative, IsInType, begins_constructors, begins_type, is_of_pattern, is_of_type};
+ghost use Rattle.hm_parse_grammar.specs.declared.symbol.Symbol.TheVariants.{Else, End, LeftBrace, Of, Semicolon, Then};
+ghost use Rattle.hm_messages_hints.specs.SyntaxHints.{HasNoElse, HasNoThen, IsInAlternative, IsInGuard, IsInPatterns, IsInType, begins_constructors, begins_newtype, begins_patterns, begins_type, ends_guard, is_of_pattern, is_of_type};
 
 use hm_parse_grammar::Symbol;
 
@@ -22,6 +22,40 @@ fn begins_constructors(symbol: Symbol) -> bool
 {
     match symbol {
         Symbol::Data | Symbol::Newtype => true,
+        _ => false,
+    }
+}
+
+/// Returns whether the constructor of a newtype follows this.
+fn begins_newtype(symbol: Symbol) -> bool
+    ensures { result ≡ begins_newtype symbol }
+{
+    match symbol {
+        Symbol::Newtype => true,
+        _ => false,
+    }
+}
+
+/// Returns whether patterns follow this, in a declaration, an alternative or a lambda.
+fn begins_patterns(symbol: Symbol) -> bool
+    ensures { result ≡ begins_patterns symbol }
+{
+    match symbol {
+        Symbol::Semicolon | Symbol::LeftBrace | Symbol::Backslash => true,
+        _ => false,
+    }
+}
+
+/// Returns whether this ends a guard, or what the guard is in.
+fn ends_guard(symbol: Symbol) -> bool
+    ensures { result ≡ ends_guard symbol }
+{
+    match symbol {
+        Symbol::Equals
+        | Symbol::Arrow
+        | Symbol::Semicolon
+        | Symbol::LeftBrace
+        | Symbol::RightBrace => true,
         _ => false,
     }
 }
@@ -84,6 +118,20 @@ fn are_of_pattern(symbols: &[Symbol]) -> bool
     symbols.iter().all(|symbol| is_of_pattern(*symbol))
 }
 
+/// Returns whether none of these ends a guard.
+fn are_of_guard(symbols: &[Symbol]) -> bool
+    ensures { result ≡ true → All (λ s. ends_guard s ≡ false) symbols.now }
+{
+    symbols.iter().all(|symbol| !ends_guard(*symbol))
+}
+
+/// Returns whether none of these is `then`.
+fn have_no_then(symbols: &[Symbol]) -> bool
+    ensures { result ≡ true → All (λ s. same s Then ≡ false) symbols.now }
+{
+    symbols.iter().all(|symbol| !symbol.is(Symbol::Then))
+}
+
 /// Returns whether none of these is `else`.
 fn have_no_else(symbols: &[Symbol]) -> bool
     ensures { result ≡ true → All (λ s. same s Else ≡ false) symbols.now }
@@ -115,6 +163,65 @@ pub(crate) fn constructors_begin(symbols: &[Symbol]) -> bool
         }
     }
     false
+}
+
+/// Returns whether these end with a part of the constructor of a newtype.
+pub(crate) fn newtype_begins(symbols: &[Symbol]) -> bool
+    ensures { result ≡ true → IsInType begins_newtype symbols.now }
+{
+    for behind in 0..symbols.len() {
+        let at = symbols.len() - 1 - behind;
+        if begins_newtype(symbols[at]) {
+            return are_of_type(&symbols[at + 1..]);
+        }
+    }
+    false
+}
+
+/// Returns whether these end with a part of patterns.
+pub(crate) fn patterns_begin(symbols: &[Symbol]) -> bool
+    ensures { result ≡ true → IsInPatterns symbols.now }
+{
+    for behind in 0..symbols.len() {
+        let at = symbols.len() - 1 - behind;
+        if begins_patterns(symbols[at]) {
+            return are_of_pattern(&symbols[at + 1..]);
+        }
+    }
+    false
+}
+
+/// Returns whether these end with a guard of a declaration, or a part of one.
+pub(crate) fn guard_begins(symbols: &[Symbol]) -> bool
+    ensures { result ≡ true → IsInGuard symbols.now }
+{
+    for behind in 0..symbols.len() {
+        let at = symbols.len() - 1 - behind;
+        if symbols[at].is(Symbol::Bar) {
+            if !patterns_begin(&symbols[..at]) {
+                return false;
+            }
+            return are_of_guard(&symbols[at + 1..]);
+        }
+    }
+    false
+}
+
+/// Returns the number of the last `if`, if no `then` follows it.
+pub(crate) fn without_then(symbols: &[Symbol]) -> Option<usize>
+    ensures { IfSome result (HasNoThen symbols.now) }
+{
+    for behind in 0..symbols.len() {
+        let at = symbols.len() - 1 - behind;
+        if symbols[at].is(Symbol::If) {
+            return if have_no_then(&symbols[at + 1..]) {
+                Some(at)
+            } else {
+                None
+            };
+        }
+    }
+    None
 }
 
 /// Returns the number of the last `if`, if it is after the bracket with this number and no `else` follows it.

@@ -53,7 +53,7 @@ impl Feature {
             Feature::Class => "classes aren't supported",
             Feature::Instance => "instances aren't supported, because there are no classes",
             Feature::Deriving => "'deriving' isn't supported, because there are no classes",
-            Feature::Default => "'default' isn't supported, because there are no classes",
+            Feature::Default => "'default' is a reserved word, and isn't supported",
             Feature::Do => "'do' isn't supported, because there is no IO and no monad",
             Feature::Fixity => "operators can't be defined",
             Feature::Context => "a type can't have a context, because there are no classes",
@@ -66,8 +66,9 @@ impl Feature {
         ensures { result.now ≡ feature_help self }
     {
         match self {
-            Feature::Class | Feature::Instance | Feature::Default =>
-                "Pass the functions of a class as arguments.\n",
+            Feature::Class | Feature::Instance => "Pass the functions of a class as arguments.\n",
+            Feature::Default =>
+                "The last alternative of a `case` is `_ -> x`. There are no classes, so no type has a default.\n",
             Feature::Deriving => "Leave out `deriving` and the list after it.\n",
             Feature::Do => "Write a `let` or a `case`, or apply functions to each other.\n",
             Feature::Fixity =>

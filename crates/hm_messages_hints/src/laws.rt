@@ -1,5 +1,5 @@
 //! Worked examples: a function with an empty body, whose contract has the facts.
-ghost use Rattle.hm_messages_hints.specs.Worked.{AlternativeRow, ElseRow, TypeRow};
+ghost use Rattle.hm_messages_hints.specs.Worked.{AlternativeRow, ElseRow, GuardRow, PatternsRow, PlaceRow, ThenRow, TypeRow};
 
 /// Symbols that end within a type, after an `if` without `else`, and within an alternative.
 #[tactic(auto, using(crate::proofs::WorkedContexts::worked_types, crate::proofs::WorkedContexts::worked_elses, crate::proofs::WorkedContexts::worked_alternatives))]
@@ -7,4 +7,13 @@ pub fn worked_contexts()
     ensures types { TypeRow }
     ensures elses { ElseRow }
     ensures alternatives { AlternativeRow }
+{}
+
+/// Symbols that end within patterns or a guard, after an `if` without `then`, and where a context can be.
+#[tactic(auto, using(crate::proofs::WorkedPatterns::worked_thens, crate::proofs::WorkedPatterns::worked_patterns, crate::proofs::WorkedPatterns::worked_guards, crate::proofs::WorkedPatterns::worked_places))]
+pub fn worked_patterns()
+    ensures thens { ThenRow }
+    ensures patterns { PatternsRow }
+    ensures guards { GuardRow }
+    ensures places { PlaceRow }
 {}

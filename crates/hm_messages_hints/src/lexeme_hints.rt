@@ -1,5 +1,5 @@
 //! The hint at a text with which no lexeme begins.
-ghost use Rattle.std.specs.Prelude.{◌≡◌, ◌<◌, ◌≤◌, ℕ, true, ◌∷◌, IfSome, length, slice_index, take_while};
+ghost use Rattle.std.specs.Prelude.{◌≡◌, ◌<◌, ◌≤◌, ℕ, List, true, ◌∷◌, IfSome, length, slice_index, take_while};
 ghost use Rattle.std.specs.List.{prefix_len};
 ghost use Rattle.hm_lex.specs.Bytes.{is_symbol};
 ghost use Rattle.hm_messages_hints.specs.LexemeHints.{IsLexemeHint, IsOpenLine, operator_in};
@@ -30,6 +30,8 @@ pub enum LexemeHint {
     NotAscii,
     /// A byte that is in no lexeme.
     NoText,
+    /// A quotation mark from U+2018 to U+201D.
+    CurlyQuote,
 }
 
 /// Returns whether operators can have this byte in them (Report, section 2.2).
@@ -80,6 +82,19 @@ fn string_hint(rest: &[u8], inner: &[u8]) -> LexemeHint
     }
 }
 
+/// Returns whether a quotation mark from U+2018 to U+201D begins a text.
+fn is_curly_quote(rest: &[u8]) -> bool
+    ensures { result ≡ true → (b : ℕ) × (bs : List ℕ) × (rest.now ≡ 226 ∷ 128 ∷ b ∷ bs) × (152 ≤ b) × (b ≤ 157) }
+{
+    if rest.len() < 3 {
+        return false;
+    }
+    if rest[0] != 0xE2 || rest[1] != 0x80 {
+        return false;
+    }
+    rest[2] >= 0x98 && rest[2] <= 0x9D
+}
+
 /// Returns the hint at a text up to the end of its line. No lexeme can be completed that begins there.
 pub fn lexeme_hint(rest: &[u8]) -> LexemeHint
     ensures { IsLexemeHint rest.now result }
@@ -89,6 +104,7 @@ pub fn lexeme_hint(rest: &[u8]) -> LexemeHint
     }
     match rest[0] {
         0xEF if rest.len() >= 3 && rest[1] == 0xBB && rest[2] == 0xBF => LexemeHint::ByteOrderMark,
+        0xE2 if is_curly_quote(rest) => LexemeHint::CurlyQuote,
         b'`' => LexemeHint::Backquote,
         b'"' => string_hint(rest, &rest[1..]),
         b'\'' => LexemeHint::Character,

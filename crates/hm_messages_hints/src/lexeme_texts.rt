@@ -1,6 +1,6 @@
 //! The texts of the hint at a lexical fault.
 ghost use Rattle.std.specs.Prelude.{◌≡◌, IfOk, string_bytes};
-ghost use Rattle.hm_messages_hints.specs.LexemeTexts.{lexeme_help, lexeme_text, operator_help};
+ghost use Rattle.hm_messages_hints.specs.LexemeTexts.{begins_comment, lexeme_help, lexeme_text, operator_help};
 
 use crate::lexeme_hints::LexemeHint;
 use std::alloc::{AllocError, Global};
@@ -45,7 +45,18 @@ pub fn lexeme_text(alloc: Global, hint: LexemeHint, name: &str) -> Result<String
             "a character that isn't ASCII isn't allowed here",
         ),
         LexemeHint::NoText => String::from_str(alloc, "this byte isn't allowed here"),
+        LexemeHint::CurlyQuote => String::from_str(
+            alloc,
+            "this curly quote isn't a quote of Haskell",
+        ),
     }
+}
+
+/// Returns whether a comment of another language begins with this.
+fn begins_comment(name: &[u8]) -> bool
+    ensures { result ≡ begins_comment name.now }
+{
+    name == b"//".as_slice() || name == b"/*".as_slice() || name == b"#".as_slice()
 }
 
 /// Returns what to write instead of an operator.
@@ -83,9 +94,11 @@ fn operator_help(name: &[u8]) -> &'static str
     } else if name == b"$!".as_slice() {
         "Write `seq x (f x)` for `f $! x`.\n"
     } else if name == b"!".as_slice() {
-        "Leave it out before an argument of a constructor: no argument is strict.\n"
+        "Write `not x` for `!x`. Leave it out before an argument of a constructor: no argument is strict.\n"
     } else if name == b">>=".as_slice() || name == b">>".as_slice() || name == b"=<<".as_slice() {
         "There is no IO and no monad.\n"
+    } else if begins_comment(name) {
+        "A comment begins with `--`.\n"
     } else {
         "Define a function with a name, and write it before its arguments.\n"
     }
@@ -100,7 +113,7 @@ pub fn lexeme_help(hint: LexemeHint, name: &str) -> &'static str
         LexemeHint::Backquote => "Write it before its arguments: `div x y`.\n",
         LexemeHint::OpenString => "Write `\"` at its end.\n",
         LexemeHint::StringItem =>
-            "Save the file as UTF-8, and write other characters by their numbers, such as `\\955`.\n",
+            "Write `\\\\` for a backslash, and other characters by their numbers, such as `\\955`. Save the file as UTF-8.\n",
         LexemeHint::Character => "A string is written between double quotes.\n",
         LexemeHint::Fraction => "All numbers are of type Int.\n",
         LexemeHint::ReservedName => "A name with a dot is one name; there is no operator `.`.\n",
@@ -109,5 +122,7 @@ pub fn lexeme_help(hint: LexemeHint, name: &str) -> &'static str
         LexemeHint::Operator => operator_help(name.as_bytes()),
         LexemeHint::NotAscii => "Outside comments, characters and strings a source is ASCII.\n",
         LexemeHint::NoText => "Outside comments, characters and strings a source is ASCII.\n",
+        LexemeHint::CurlyQuote =>
+            "Write straight quotes: `\"` around a string, and `'` around a character.\n",
     }
 }

@@ -25,6 +25,9 @@ pub enum Mark {
     Else,
     Case,
     Of,
+    /// `::`
+    OfType,
+    Backslash,
 }
 
 impl Mark {
@@ -51,6 +54,8 @@ impl Mark {
             Mark::Else => "else",
             Mark::Case => "case",
             Mark::Of => "of",
+            Mark::OfType => "::",
+            Mark::Backslash => "\\",
         }
     }
 
@@ -67,7 +72,7 @@ impl Mark {
             | Mark::CloseSquare
             | Mark::LeftBrace
             | Mark::RightBrace => Kind::Special,
-            Mark::Equals | Mark::Arrow => Kind::Op,
+            Mark::Equals | Mark::Arrow | Mark::OfType | Mark::Backslash => Kind::Op,
             Mark::Where
             | Mark::Let
             | Mark::In

@@ -1,12 +1,16 @@
 //! The hint at a fault of syntax.
-ghost use Rattle.std.specs.Prelude.{◌≡◌, ◌-◌, length, slice_index_or, true};
-ghost use Rattle.hm_parse_grammar.specs.declared.symbol.Symbol.TheVariants.{End, LeftBrace, Of};
+ghost use Rattle.std.specs.Prelude.{◌≡◌, ◌⊎◌, ◌-◌, IfSome, length, slice_index_or, true};
+ghost use Rattle.hm_parse_grammar.specs.declared.symbol.Symbol.TheVariants.{Bar, End, Import, LeftBrace, Of, Open, OpenSquare};
+ghost use Rattle.hm_parse_grammar.specs.Reading.Types.{begins_atype};
 ghost use Rattle.hm_messages_hints.specs.Brackets.{IsInnermost};
-ghost use Rattle.hm_messages_hints.specs.SyntaxHints.{IsSyntaxHint, ends, ends_operand, is_partner, takes_capital, takes_constructor, wants_brace};
+ghost use Rattle.hm_messages_hints.specs.SyntaxHints.{IsPlaceOf, IsSyntaxHint, ends, ends_operand, ends_pattern, is_partner, takes_capital, takes_constructor, wants_brace};
 
 use crate::brackets::open_bracket;
 use crate::change::Repair;
-use crate::contexts::{alternative_begins, constructors_begin, type_begins, without_else};
+use crate::contexts::{
+    alternative_begins, constructors_begin, guard_begins, newtype_begins, patterns_begin,
+    type_begins, without_else, without_then,
+};
 use crate::features::{Feature, feature_of};
 use hm_parse_grammar::Symbol;
 
@@ -46,6 +50,30 @@ pub enum SyntaxHint {
     /// It is a `}` right after `of {`.
     NoAlternative,
     Unexpected,
+    /// It begins a pattern right after a variable in patterns, directly within the `(` or `[` with this number.
+    AppliedName(usize),
+    /// It is `::` after a pattern.
+    TypedPattern,
+    /// It is `:` after a pattern.
+    ConsPattern,
+    /// It is `|` after `=`.
+    GuardAfterEquals,
+    /// It is `->` after a guard of a declaration.
+    GuardArrow,
+    /// It is `,` among the constructors of a declaration, directly within the `{` with this number.
+    ConstructorComma(usize),
+    /// It is `,` after a number.
+    NumberComma,
+    /// It is `where` after `;`.
+    WhereAfterSemicolon,
+    /// It is `{`, and no `then` follows the `if` with this number.
+    NoThen(usize),
+    /// It begins a type, or is `|`, in the declaration of a newtype, directly within the `{` with this number.
+    NewtypeArguments(usize),
+    /// It is `qualified` after the module of an import.
+    LateQualified,
+    /// It is `@`.
+    AtSign,
 }
 
 /// A hint at a fault of syntax, and the text of the token that it is about. The text is empty at the end of the source.
@@ -70,7 +98,7 @@ fn takes_capital(symbol: Symbol) -> bool
     ensures { result ≡ takes_capital symbol }
 {
     match symbol {
-        Symbol::Module | Symbol::Data | Symbol::Newtype | Symbol::TypeWord => true,
+        Symbol::Module | Symbol::Import | Symbol::Data | Symbol::Newtype | Symbol::TypeWord => true,
         _ => false,
     }
 }
@@ -109,6 +137,40 @@ fn ends_operand(symbol: Symbol) -> bool
     }
 }
 
+/// Returns whether a pattern may end with this.
+fn ends_pattern(symbol: Symbol) -> bool
+    ensures { result ≡ ends_pattern symbol }
+{
+    match symbol {
+        Symbol::Var
+        | Symbol::Con
+        | Symbol::QCon
+        | Symbol::Wild
+        | Symbol::Integer
+        | Symbol::Character
+        | Symbol::Text
+        | Symbol::Close
+        | Symbol::CloseSquare => true,
+        _ => false,
+    }
+}
+
+/// Returns whether the part of Haskell can begin after these.
+fn is_place_of(feature: Feature, before: &[Symbol]) -> bool
+    ensures { result ≡ true → IsPlaceOf feature before.now }
+{
+    match feature {
+        Feature::Context => type_begins(before),
+        Feature::Class => true,
+        Feature::Instance => true,
+        Feature::Deriving => true,
+        Feature::Default => true,
+        Feature::Do => true,
+        Feature::Fixity => true,
+        Feature::Generator => true,
+    }
+}
+
 /// Returns whether `symbol` closes the bracket. A `;` within braces counts too.
 fn is_partner(bracket: Symbol, symbol: Symbol) -> bool
     ensures { result ≡ is_partner bracket symbol }
@@ -133,6 +195,81 @@ fn ends_with_of(before: &[Symbol]) -> bool
         return false;
     }
     before[before.len() - 2].is(Symbol::Of)
+}
+
+/// Returns whether these end with `import` and one more token.
+fn ends_with_import(before: &[Symbol]) -> bool
+    ensures { result ≡ true → slice_index_or before.now (length before.now - 2) End ≡ Import }
+{
+    if before.len() < 2 {
+        return false;
+    }
+    before[before.len() - 2].is(Symbol::Import)
+}
+
+/// Returns whether the bracket is `(` or `[`.
+fn is_round_or_square(bracket: Symbol) -> bool
+    ensures { result ≡ true → (bracket ≡ Open) ⊎ (bracket ≡ OpenSquare) }
+{
+    match bracket {
+        Symbol::Open => true,
+        Symbol::OpenSquare => true,
+        _ => false,
+    }
+}
+
+/// Returns whether this begins a type, or is `|`.
+fn goes_on_with_types(here: Symbol) -> bool
+    ensures { result ≡ true → (begins_atype here ≡ true) ⊎ (here ≡ Bar) }
+{
+    if here.begins_atype() {
+        return true;
+    }
+    here.is(Symbol::Bar)
+}
+
+/// Returns a fact about a declaration of a type, directly within the `{` with this number.
+fn declaration_hint(before: &[Symbol], at: usize, here: Symbol, text: &[u8]) -> Option<SyntaxHint>
+    requires { IsInnermost before.now at }
+    ensures { IfSome result (IsSyntaxHint before.now here text.now) }
+{
+    if at >= before.len() {
+        return None;
+    }
+    if !before[at].is(Symbol::LeftBrace) {
+        return None;
+    }
+    if here.is(Symbol::Comma) && constructors_begin(before) {
+        return Some(SyntaxHint::ConstructorComma(at));
+    }
+    if goes_on_with_types(here) && newtype_begins(before) {
+        return Some(SyntaxHint::NewtypeArguments(at));
+    }
+    None
+}
+
+/// Returns a fact about an argument of a variable in patterns, within the open bracket with this number.
+fn argument_hint(
+    before: &[Symbol],
+    at: usize,
+    last: Symbol,
+    here: Symbol,
+    text: &[u8],
+) -> Option<SyntaxHint>
+    requires innermost { IsInnermost before.now at }
+    requires last { last ≡ slice_index_or before.now (length before.now - 1) End }
+    ensures { IfSome result (IsSyntaxHint before.now here text.now) }
+{
+    if at >= before.len() {
+        return None;
+    }
+    if !is_round_or_square(before[at]) {
+        return None;
+    }
+    if last.is(Symbol::Var) && here.begins_apat() && patterns_begin(before) {
+        return Some(SyntaxHint::AppliedName(at));
+    }
+    None
 }
 
 /// Returns the hint within an open bracket that doesn't need to be closed first.
@@ -192,6 +329,121 @@ fn open_hint(before: &[Symbol], last: Symbol, here: Symbol, text: &[u8]) -> Synt
     }
 }
 
+/// Returns a fact about a small name where a capital one is expected.
+fn name_hint(before: &[Symbol], last: Symbol, here: Symbol, text: &[u8]) -> Option<SyntaxHint>
+    requires { last ≡ slice_index_or before.now (length before.now - 1) End }
+    ensures { IfSome result (IsSyntaxHint before.now here text.now) }
+{
+    if takes_capital(last) && here.is(Symbol::Var) {
+        return Some(SyntaxHint::SmallName);
+    }
+    if takes_constructor(last) && here.is(Symbol::Var) && constructors_begin(before) {
+        return Some(SyntaxHint::SmallName);
+    }
+    None
+}
+
+/// Returns a fact about an argument of a type variable.
+fn variable_hint(before: &[Symbol], last: Symbol, here: Symbol, text: &[u8]) -> Option<SyntaxHint>
+    requires { last ≡ slice_index_or before.now (length before.now - 1) End }
+    ensures { IfSome result (IsSyntaxHint before.now here text.now) }
+{
+    if last.is(Symbol::Var) && here.begins_atype() && type_begins(before) {
+        return Some(SyntaxHint::AppliedVariable);
+    }
+    None
+}
+
+/// Returns a fact about a brace.
+fn brace_hint(before: &[Symbol], last: Symbol, here: Symbol, text: &[u8]) -> Option<SyntaxHint>
+    requires { last ≡ slice_index_or before.now (length before.now - 1) End }
+    ensures { IfSome result (IsSyntaxHint before.now here text.now) }
+{
+    if last.is(Symbol::Con) && here.is(Symbol::LeftBrace) {
+        return Some(SyntaxHint::Record);
+    }
+    if ends_operand(last) && here.is(Symbol::LeftBrace) {
+        if let Some(at) = without_then(before) {
+            return Some(SyntaxHint::NoThen(at));
+        }
+        return Some(SyntaxHint::Update);
+    }
+    if here.is(Symbol::RightBrace) && ends_with_of(before) {
+        return Some(SyntaxHint::NoAlternative);
+    }
+    None
+}
+
+/// Returns a fact about an operator or a word after patterns, a guard or a mark.
+fn mark_hint(before: &[Symbol], last: Symbol, here: Symbol, text: &[u8]) -> Option<SyntaxHint>
+    requires { last ≡ slice_index_or before.now (length before.now - 1) End }
+    ensures { IfSome result (IsSyntaxHint before.now here text.now) }
+{
+    if last.is(Symbol::Semicolon) && here.is(Symbol::Where) {
+        return Some(SyntaxHint::WhereAfterSemicolon);
+    }
+    if last.is(Symbol::Equals) && here.is(Symbol::Bar) && !constructors_begin(before) {
+        return Some(SyntaxHint::GuardAfterEquals);
+    }
+    if here.is(Symbol::Arrow) && guard_begins(before) {
+        return Some(SyntaxHint::GuardArrow);
+    }
+    if ends_pattern(last) && here.is(Symbol::OfType) && patterns_begin(before) {
+        return Some(SyntaxHint::TypedPattern);
+    }
+    if ends_pattern(last) && here.is(Symbol::Colon) && patterns_begin(before) {
+        return Some(SyntaxHint::ConsPattern);
+    }
+    if here.is(Symbol::At) {
+        return Some(SyntaxHint::AtSign);
+    }
+    None
+}
+
+/// Returns a fact about what is in the innermost open bracket.
+fn inner_hint(before: &[Symbol], last: Symbol, here: Symbol, text: &[u8]) -> Option<SyntaxHint>
+    requires { last ≡ slice_index_or before.now (length before.now - 1) End }
+    ensures { IfSome result (IsSyntaxHint before.now here text.now) }
+{
+    match open_bracket(before) {
+        Some(at) => {
+            match declaration_hint(before, at, here, text) {
+                Some(hint) => return Some(hint),
+                None => {}
+            }
+            argument_hint(before, at, last, here, text)
+        }
+        None => None,
+    }
+}
+
+/// Returns a fact about the token and the declaration, the pattern or the mark before it, if there is one.
+fn near_hint(before: &[Symbol], last: Symbol, here: Symbol, text: &[u8]) -> Option<SyntaxHint>
+    requires { last ≡ slice_index_or before.now (length before.now - 1) End }
+    ensures { IfSome result (IsSyntaxHint before.now here text.now) }
+{
+    if text == b"qualified".as_slice() && ends_with_import(before) {
+        return Some(SyntaxHint::LateQualified);
+    }
+    match name_hint(before, last, here, text) {
+        Some(hint) => return Some(hint),
+        None => {}
+    }
+    match inner_hint(before, last, here, text) {
+        Some(hint) => return Some(hint),
+        None => {}
+    }
+    match variable_hint(before, last, here, text) {
+        Some(hint) => return Some(hint),
+        None => {}
+    }
+    match brace_hint(before, last, here, text) {
+        Some(hint) => return Some(hint),
+        None => {}
+    }
+    mark_hint(before, last, here, text)
+}
+
 /// Returns a fact about the first token with which no source begins. `before` has the symbols of the tokens before it, and `here` is its
 /// symbol. The hint is never a change that repairs it.
 pub fn syntax_hint(before: &[Symbol], here: Symbol, text: &[u8]) -> SyntaxHint
@@ -205,25 +457,16 @@ pub fn syntax_hint(before: &[Symbol], here: Symbol, text: &[u8]) -> SyntaxHint
         return SyntaxHint::NoBrace;
     }
     if let Some(feature) = feature_of(text) {
-        return SyntaxHint::LeftOut(feature);
+        if is_place_of(feature, before) {
+            return SyntaxHint::LeftOut(feature);
+        }
     }
-    if takes_capital(last) && here.is(Symbol::Var) {
-        return SyntaxHint::SmallName;
+    match near_hint(before, last, here, text) {
+        Some(hint) => return hint,
+        None => {}
     }
-    if takes_constructor(last) && here.is(Symbol::Var) && constructors_begin(before) {
-        return SyntaxHint::SmallName;
-    }
-    if last.is(Symbol::Var) && here.begins_atype() && type_begins(before) {
-        return SyntaxHint::AppliedVariable;
-    }
-    if last.is(Symbol::Con) && here.is(Symbol::LeftBrace) {
-        return SyntaxHint::Record;
-    }
-    if ends_operand(last) && here.is(Symbol::LeftBrace) {
-        return SyntaxHint::Update;
-    }
-    if here.is(Symbol::RightBrace) && ends_with_of(before) {
-        return SyntaxHint::NoAlternative;
+    if last.is(Symbol::Integer) && here.is(Symbol::Comma) {
+        return SyntaxHint::NumberComma;
     }
     open_hint(before, last, here, text)
 }
@@ -240,6 +483,15 @@ impl SyntaxHint {
                 | SyntaxHint::Record
                 | SyntaxHint::Update
                 | SyntaxHint::Unexpected
+                | SyntaxHint::AppliedVariable
+                | SyntaxHint::AppliedName(_)
+                | SyntaxHint::TypedPattern
+                | SyntaxHint::ConsPattern
+                | SyntaxHint::ConstructorComma(_)
+                | SyntaxHint::NumberComma
+                | SyntaxHint::WhereAfterSemicolon
+                | SyntaxHint::NoThen(_)
+                | SyntaxHint::NewtypeArguments(_)
         )
     }
 }

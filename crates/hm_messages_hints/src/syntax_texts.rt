@@ -83,6 +83,35 @@ pub fn syntax_text(alloc: Global, hint: SyntaxHint, text: &str) -> Result<String
             "a 'case' needs at least one alternative",
         ),
         SyntaxHint::Unexpected => format!(in alloc; "unexpected {quote}"),
+        SyntaxHint::AppliedName(_) => format!(in alloc;
+            "a variable takes no arguments in a pattern: is ',' missing before {quote}?"
+        ),
+        SyntaxHint::TypedPattern => String::from_str(alloc, "'::' can't follow a pattern"),
+        SyntaxHint::ConsPattern => String::from_str(alloc, "unexpected ':' after a pattern"),
+        SyntaxHint::GuardAfterEquals => String::from_str(alloc, "a guard can't follow '='"),
+        SyntaxHint::GuardArrow => String::from_str(
+            alloc,
+            "expected '=' after the guard, found '->'",
+        ),
+        SyntaxHint::ConstructorComma(_) => String::from_str(
+            alloc,
+            "unexpected ',' between constructors",
+        ),
+        SyntaxHint::NumberComma => String::from_str(alloc, "unexpected ',' after a number"),
+        SyntaxHint::WhereAfterSemicolon => String::from_str(alloc, "unexpected ';' before 'where'"),
+        SyntaxHint::NoThen(_) => format!(in alloc; "an 'if' before {quote} has no 'then'"),
+        SyntaxHint::NewtypeArguments(_) => String::from_str(
+            alloc,
+            "a 'newtype' has one constructor with one argument",
+        ),
+        SyntaxHint::LateQualified => String::from_str(
+            alloc,
+            "'qualified' stands before the name of the module",
+        ),
+        SyntaxHint::AtSign => String::from_str(
+            alloc,
+            "'@' can only follow a variable in a pattern",
+        ),
     }
 }
 
@@ -118,12 +147,31 @@ pub fn syntax_help(hint: SyntaxHint) -> &'static str
         SyntaxHint::NotClosed(_) =>
             "Each `(`, `[` and `{` is closed in the order in which they were opened, the last one first.\n",
         SyntaxHint::InPattern(_) =>
-            "If a new definition begins here, the `}` of the `case` before it is missing.\n",
+            "An alternative is `pattern -> expression`. If a new definition begins here, the `}` of the `case` before it is missing.\n",
         SyntaxHint::Record =>
             "Write the types of a constructor's arguments alone, and take it apart by patterns.\n",
         SyntaxHint::Update =>
             "Build the value with its constructor. If local definitions follow, write `where` before `{`.\n",
         SyntaxHint::NoAlternative => "Write an alternative, such as `_ -> x`.\n",
         SyntaxHint::Unexpected => "No module can go on with this here.\n",
+        SyntaxHint::AppliedName(_) =>
+            "Only a constructor takes arguments, and its name begins with a capital letter.\n",
+        SyntaxHint::TypedPattern =>
+            "Write a signature of its own for a type, such as `f :: Int -> Int`. Between an element and a list, write `:`.\n",
+        SyntaxHint::ConsPattern =>
+            "Write parentheses around a pattern with `:`, such as `f (x : xs)`.\n",
+        SyntaxHint::GuardAfterEquals => "Write the guard before the `=`: `f x | c = y`.\n",
+        SyntaxHint::GuardArrow => "Only an alternative of a `case` has `->` after its guard.\n",
+        SyntaxHint::ConstructorComma(_) =>
+            "Write `|` between constructors, and spaces between their arguments: `data T = A Int Int | B`.\n",
+        SyntaxHint::NumberComma =>
+            "Write a number without commas, and a tuple between parentheses.\n",
+        SyntaxHint::WhereAfterSemicolon =>
+            "A `where` belongs to the definition before it, so no `;` is between them.\n",
+        SyntaxHint::NoThen(_) => "An `if` has no braces: `if c then x else y`.\n",
+        SyntaxHint::NewtypeArguments(_) =>
+            "Write `data` for a type with more constructors or arguments.\n",
+        SyntaxHint::LateQualified => "Write `import qualified M`.\n",
+        SyntaxHint::AtSign => "A pattern `x@(y : ys)` is left of the `=` or the `->`.\n",
     }
 }

@@ -4,7 +4,7 @@ use Rattle.hm_lex.specs.declared.token.Token.{Token}
 use Rattle.hm_messages_hints.specs.Advice.{IsSo, symbol_at, symbol_in, text_at}
 use Rattle.hm_messages_hints.specs.SyntaxHints.{IsSyntaxHint}
 use Rattle.hm_messages_hints.specs.declared.syntax_hints.SyntaxHint.{SyntaxHint}
-use Rattle.hm_messages_hints.specs.declared.syntax_hints.SyntaxHint.TheVariants.{NoHeader, ModuleEnded, NoBrace, LeftOut, Comprehension, Range, SmallName, AppliedVariable, Repaired, WherePart, NoElse, NotClosed, InPattern, Record, Update, NoAlternative, Unexpected}
+use Rattle.hm_messages_hints.specs.declared.syntax_hints.SyntaxHint.TheVariants.{NoHeader, ModuleEnded, NoBrace, LeftOut, Comprehension, Range, SmallName, AppliedVariable, Repaired, WherePart, NoElse, NotClosed, InPattern, Record, Update, NoAlternative, Unexpected, AppliedName, TypedPattern, ConsPattern, GuardAfterEquals, GuardArrow, ConstructorComma, NumberComma, WhereAfterSemicolon, NoThen, NewtypeArguments, LateQualified, AtSign}
 
 pub so_of_fact : (source : List ℕ) (ts : List Token) (k : ℕ) (hint : SyntaxHint) → IsSyntaxHint (map (symbol_in source) (take k ts)) (symbol_at source ts k) (text_at source ts k) hint → IsSo source ts k hint
 so_of_fact source ts k NoHeader h = h
@@ -23,4 +23,16 @@ so_of_fact source ts k Record h = h
 so_of_fact source ts k Update h = h
 so_of_fact source ts k NoAlternative h = h
 so_of_fact source ts k Unexpected h = h
+so_of_fact source ts k (AppliedName j) h = h
+so_of_fact source ts k TypedPattern h = h
+so_of_fact source ts k ConsPattern h = h
+so_of_fact source ts k GuardAfterEquals h = h
+so_of_fact source ts k GuardArrow h = h
+so_of_fact source ts k (ConstructorComma j) h = h
+so_of_fact source ts k NumberComma h = h
+so_of_fact source ts k WhereAfterSemicolon h = h
+so_of_fact source ts k (NoThen j) h = h
+so_of_fact source ts k (NewtypeArguments j) h = h
+so_of_fact source ts k LateQualified h = h
+so_of_fact source ts k AtSign h = h
 so_of_fact source ts k (Repaired r) h = absurd h

@@ -2,16 +2,17 @@
 use Rattle.std.specs.Prelude.{List, ℕ, [], ◌∷◌, codes}
 use Rattle.hm_lex.specs.declared.token.Token.{Token}
 use Rattle.hm_parse_grammar.specs.declared.symbol.Symbol.{Symbol}
-use Rattle.hm_parse_grammar.specs.declared.symbol.Symbol.TheVariants.{Close, CloseSquare, Con, LeftBrace, Module, Open, OpenSquare, Semicolon, Var, Where}
+use Rattle.hm_parse_grammar.specs.declared.symbol.Symbol.TheVariants.{Bar, Close, CloseSquare, Comma, Con, Equals, Import, Integer, LeftBrace, Module, Open, OpenSquare, Semicolon, Var, Where}
 use Rattle.hm_messages_hints.specs.Brackets.{IsInnermost, IsOpen}
 use Rattle.hm_messages_hints.specs.Marks.{IsMarkIn}
 use Rattle.hm_messages_hints.specs.Repairs.{IsRepair}
 use Rattle.hm_messages_hints.specs.SyntaxHints.{IsSyntaxHint}
+use Rattle.hm_messages_hints.specs.Worked.{applied}
 use Rattle.hm_messages_hints.specs.declared.change.Change.TheVariants.{Remove}
 use Rattle.hm_messages_hints.specs.declared.change.Repair.{Repair}
 use Rattle.hm_messages_hints.specs.declared.change.Scope.TheVariants.{Whole}
 use Rattle.hm_messages_hints.specs.declared.mark.Mark.TheVariants.{RightBrace}
-use Rattle.hm_messages_hints.specs.declared.syntax_hints.SyntaxHint.TheVariants.{NoBrace, NotClosed, Update}
+use Rattle.hm_messages_hints.specs.declared.syntax_hints.SyntaxHint.TheVariants.{AppliedName, GuardAfterEquals, NoBrace, NotClosed, NumberComma, Update, WhereAfterSemicolon, LateQualified}
 
 -- { ( ) [ x
 abbrev pub brackets : List Symbol
@@ -36,6 +37,20 @@ pub record FactsRow : Type 0 where
   pub no_update : ¬ (IsSyntaxHint head LeftBrace (codes "{") Update)
   pub left_open : IsSyntaxHint brackets Semicolon (codes ";") (NotClosed 3)
   pub shut : ¬ (IsSyntaxHint brackets CloseSquare (codes "]") (NotClosed 3))
+
+-- in `{ f (g`, a name after `g` is an argument of a variable in a pattern, and `=` isn't. A bar is after `=`, `where` after `;`, and `,` after a
+-- number; and the same after a name. `qualified` is after the name of an import, and after that of a module
+pub record NeighboursRow : Type 0 where
+  pub argument : IsSyntaxHint applied Var (codes "s") (AppliedName 2)
+  pub no_argument : ¬ (IsSyntaxHint applied Equals (codes "=") (AppliedName 2))
+  pub guard : IsSyntaxHint (Equals ∷ []) Bar (codes "|") GuardAfterEquals
+  pub no_guard : ¬ (IsSyntaxHint (Var ∷ []) Bar (codes "|") GuardAfterEquals)
+  pub apart : IsSyntaxHint (Semicolon ∷ []) Where (codes "where") WhereAfterSemicolon
+  pub joined : ¬ (IsSyntaxHint (Var ∷ []) Where (codes "where") WhereAfterSemicolon)
+  pub number : IsSyntaxHint (Integer ∷ []) Comma (codes ",") NumberComma
+  pub no_number : ¬ (IsSyntaxHint (Var ∷ []) Comma (codes ",") NumberComma)
+  pub late : IsSyntaxHint (Import ∷ Con ∷ []) Var (codes "qualified") LateQualified
+  pub no_import : ¬ (IsSyntaxHint (Module ∷ Con ∷ []) Var (codes "qualified") LateQualified)
 
 abbrev pub without_first : Repair
 without_first = record { at = 0; change = Remove; scope = Whole }

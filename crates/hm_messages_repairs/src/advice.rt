@@ -100,10 +100,40 @@ fn fact_at(
     Ok(syntax_hint(before.as_slice(), here, text.as_bytes()))
 }
 
-/// Returns whether a fact says more than a change. It does if the change puts `where` before the brace of a record update.
+/// Returns whether a change puts a mark in.
+fn puts_in(change: Change) -> bool {
+    match change {
+        Change::Insert(_) => true,
+        Change::Replace(_) => false,
+        Change::Remove => false,
+    }
+}
+
+/// Returns whether a change makes an argument a part of its own.
+fn parts_argument(change: Change) -> bool {
+    if !puts_in(change) {
+        return true;
+    }
+    change == Change::Insert(Mark::Comma) || change == Change::Insert(Mark::Arrow)
+}
+
+/// Returns whether a fact says more than a change of the token that it is about. The change makes this token readable, but often isn't the one
+/// that the author meant.
 fn says_more(fact: SyntaxHint, number: usize, repair: Repair) -> bool {
-    let puts_where = repair.at == number && repair.change == Change::Insert(Mark::Where);
-    puts_where && fact == SyntaxHint::Update
+    if repair.at != number {
+        return false;
+    }
+    let change = repair.change;
+    match fact {
+        SyntaxHint::Update => change == Change::Insert(Mark::Where),
+        SyntaxHint::AppliedVariable | SyntaxHint::AppliedName(_) => parts_argument(change),
+        SyntaxHint::ConsPattern
+        | SyntaxHint::InPattern(_)
+        | SyntaxHint::ConstructorComma(_)
+        | SyntaxHint::NumberComma => change == Change::Remove,
+        SyntaxHint::TypedPattern | SyntaxHint::NewtypeArguments(_) => !puts_in(change),
+        _ => false,
+    }
 }
 
 /// Returns the hint at the token with this number: a fact about it, or a change with which the source can be read.

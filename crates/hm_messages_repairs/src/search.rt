@@ -6,7 +6,7 @@ ghost use Rattle.hm_messages_hints.specs.Repairs.{IsRepair};
 use crate::enclosing::{declaration_at, symbols_of};
 use crate::trial::is_read;
 use hm_lex::Token;
-use hm_messages_hints::{Change, Mark, Repair, Scope};
+use hm_messages_hints::{Change, Mark, Repair, Scope, open_bracket};
 use hm_parse_grammar::Symbol;
 use std::alloc::{AllocError, Global};
 
@@ -194,12 +194,62 @@ fn add_before_fault(found: &mut Vec<Candidate>, fault: usize) -> Result<(), Allo
     Ok(())
 }
 
+/// Adds the change of a `:` after the first name of a declaration to `::`.
+fn add_signature(
+    found: &mut Vec<Candidate>,
+    symbols: &[Symbol],
+    part: Option<Scope>,
+) -> Result<(), AllocError> {
+    let Some(Scope::Declaration { body, .. }) = part else {
+        return Ok(());
+    };
+    let Some(first) = symbols.get(body.start) else {
+        return Ok(());
+    };
+    let at = body.start.saturating_add(1);
+    let Some(second) = symbols.get(at) else {
+        return Ok(());
+    };
+    if first.is(Symbol::Var) && second.is(Symbol::Colon) {
+        let change = Change::Replace(Mark::OfType);
+        found.push(Candidate { at, change })?;
+    }
+    Ok(())
+}
+
+/// Adds the change that puts `\` in after the `(` of a `->` at a fault.
+fn add_lambda(
+    found: &mut Vec<Candidate>,
+    symbols: &[Symbol],
+    fault: usize,
+) -> Result<(), AllocError> {
+    let Some(here) = symbols.get(fault) else {
+        return Ok(());
+    };
+    if !here.is(Symbol::Arrow) {
+        return Ok(());
+    }
+    let Some(bracket) = open_bracket(&symbols[..fault.min(symbols.len())]) else {
+        return Ok(());
+    };
+    let Some(opened) = symbols.get(bracket) else {
+        return Ok(());
+    };
+    if opened.is(Symbol::Open) {
+        let at = bracket.saturating_add(1);
+        let change = Change::Insert(Mark::Backslash);
+        found.push(Candidate { at, change })?;
+    }
+    Ok(())
+}
+
 /// Returns the changes to try at a fault, the likeliest first.
 fn candidates(
     alloc: Global,
     tokens: &[Token],
     symbols: &[Symbol],
     fault: usize,
+    part: Option<Scope>,
 ) -> Result<Vec<Candidate>, AllocError> {
     let open = open_brackets(alloc, symbols, fault)?;
     let mut found = Vec::new(alloc);
@@ -212,6 +262,8 @@ fn candidates(
         let change = Change::Insert(closing(*innermost));
         found.push(Candidate { at, change })?;
     }
+    add_signature(&mut found, symbols, part)?;
+    add_lambda(&mut found, symbols, fault)?;
     add_line_starts(&mut found, tokens, fault)?;
     add_at_fault(&mut found, fault)?;
     add_before_fault(&mut found, fault)?;
@@ -305,7 +357,7 @@ pub fn repair_at(
         return Ok(None);
     }
     let symbols = symbols_of(alloc, source, tokens)?;
-    let changes = candidates(alloc, tokens, symbols.as_slice(), fault)?;
     let part = declaration_at(symbols.as_slice(), fault);
+    let changes = candidates(alloc, tokens, symbols.as_slice(), fault, part)?;
     first_read(alloc, source, tokens, changes.as_slice(), part)
 }

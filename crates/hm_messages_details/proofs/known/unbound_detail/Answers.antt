@@ -11,8 +11,8 @@ returns-in-Some c = λ fs scope. (c.requires, subst (λ o. IfSome o (λ x. HasNe
 pub returns-in-Some-2 : goal.returns-in-Some-2
 returns-in-Some-2 c =
     let p : Pair = c.in-Some-2.pair.now in
-    let found : Contains c.pairs.result.now p × IsNearPair c.as_str-name.result.now p =
-    subst (λ o. IfSome o (λ pair. Contains c.pairs.result.now pair.now × IsNearPair c.as_str-name.result.now pair.now)) c.in-Some-2.is c.in_ok-pair.ensures in
+    let found : Contains c.pairs.result.now p × IsNearPair c.as_str.result.now p =
+    subst (λ o. IfSome o (λ pair. Contains c.pairs.result.now pair.now × IsNearPair c.as_str.result.now pair.now)) c.in-Some-2.is c.in_ok-pair.ensures in
     λ fs scope. (
       c.requires,
       record {
@@ -20,6 +20,6 @@ returns-in-Some-2 c =
         in_scope = (scope p).0 (subst (λ ps. Contains ps p) c.pairs.ensures found.0);
         qualifier_is = sym c.qualifier.ensures;
         text_is = sym c.text.ensures;
-        is_near = subst (λ x. IsNearPair x p) c.as_str-name.ensures found.1;
+        is_near = subst (λ x. IsNearPair x p) c.as_str.ensures found.1;
       },
     )
