@@ -66,64 +66,86 @@ Exit statuses:
   5  mixed: the workers' records contradict each other
   6  no worker: no thread could be started";
 
-fn command<'a>(alloc: Global) -> Result<Command<'a>, AllocError> {
+/// Returns an option without a value.
+fn flag<'a>(alloc: Global, name: &'a str, help: &'a str) -> Arg<'a> {
+    Arg::new(alloc, name)
+        .long(name)
+        .help(help)
+        .action(ArgAction::SetTrue)
+}
+
+/// Returns an option with a value.
+fn valued<'a>(alloc: Global, name: &'a str, value: &'a str, help: &'a str) -> Arg<'a> {
+    Arg::new(alloc, name)
+        .long(name)
+        .value_name(value)
+        .help(help)
+}
+
+/// Returns the option for the number of workers.
+fn jobs<'a>(alloc: Global) -> Arg<'a> {
+    valued(
+        alloc,
+        "jobs",
+        "N",
+        "How many workers check modules at the same time, 1 to 16; 4 if it isn't given",
+    )
+    .value_parser(ValueParser::Unsigned(1, MOST_WORKERS as u64))
+}
+
+/// Returns the option for the format of messages.
+fn message_format<'a>(alloc: Global) -> Arg<'a> {
+    valued(
+        alloc,
+        "message-format",
+        "FORMAT",
+        "How messages are written: human, or json, a JSON object on a line each; json implies --explain",
+    )
+    .value_parser(ValueParser::Names(&MESSAGE_FORMATS))
+}
+
+/// Returns the argument for the names of sources.
+fn sources<'a>(alloc: Global) -> Arg<'a> {
+    Arg::new(alloc, "FILE")
+        .help(
+            "A source each, of any number of modules and 1,048,576 bytes at most; - is standard input, and so are no files",
+        )
+        .action(ArgAction::Append)
+}
+
+/// Returns the program with its help, without arguments.
+fn program<'a>(alloc: Global) -> Command<'a> {
     Command::new(alloc, "hmc")
         .version(VERSION)
         .about(
             "Checks the names and types of modules of Haskell 98 with explicit braces, no classes",
         )
         .after_help(EXAMPLE)
-        .arg(
-            Arg::new(alloc, "jobs")
-                .long("jobs")
-                .value_name("N")
-                .value_parser(ValueParser::Unsigned(1, MOST_WORKERS as u64))
-                .help(
-                    "How many workers check modules at the same time, 1 to 16; 4 if it isn't given",
-                ),
-        )?
-        .arg(
-            Arg::new(alloc, "journal")
-                .long("journal")
-                .help("Print the journal of the build after the report")
-                .action(ArgAction::SetTrue),
-        )?
-        .arg(
-            Arg::new(alloc, "plan")
-                .long("plan")
-                .help("Print the import plan and check nothing")
-                .action(ArgAction::SetTrue),
-        )?
-        .arg(
-            Arg::new(alloc, "explain")
-                .long("explain")
-                .help(
-                    "Write to standard error, for each fault, FILE:LINE:COLUMN, what is wrong in plain words, and the line with a mark",
-                )
-                .action(ArgAction::SetTrue),
-        )?
-        .arg(
-            Arg::new(alloc, "message-format")
-                .long("message-format")
-                .value_name("FORMAT")
-                .value_parser(ValueParser::Names(&MESSAGE_FORMATS))
-                .help(
-                    "How messages are written: human, or json, a JSON object on a line each; json implies --explain",
-                ),
-        )?
-        .arg(
-            Arg::new(alloc, "stdin-name")
-                .long("stdin-name")
-                .value_name("NAME")
-                .help("What standard input is called in messages; <stdin> if it isn't given"),
-        )?
-        .arg(
-            Arg::new(alloc, "FILE")
-                .help(
-                    "A source each, of any number of modules and 1,048,576 bytes at most; - is standard input, and so are no files",
-                )
-                .action(ArgAction::Append),
-        )
+}
+
+/// Returns the program with its arguments.
+fn command<'a>(alloc: Global) -> Result<Command<'a>, AllocError> {
+    program(alloc)
+        .arg(jobs(alloc))?
+        .arg(flag(
+            alloc,
+            "journal",
+            "Print the journal of the build after the report",
+        ))?
+        .arg(flag(alloc, "plan", "Print the import plan and check nothing"))?
+        .arg(flag(
+            alloc,
+            "explain",
+            "Write to standard error, for each fault, FILE:LINE:COLUMN, what is wrong in plain words, and the line with a mark",
+        ))?
+        .arg(message_format(alloc))?
+        .arg(valued(
+            alloc,
+            "stdin-name",
+            "NAME",
+            "What standard input is called in messages; <stdin> if it isn't given",
+        ))?
+        .arg(sources(alloc))
 }
 
 /// Returns the names of the sources, or that of standard input if there are none.
