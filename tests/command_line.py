@@ -76,7 +76,7 @@ With it this can be read.
 module C where { = }
                  ^
 <stdin>:1:22: error: the operator '#' isn't supported: the only one is ':' [lexeme]
-Define a function with a name, and write it before its arguments.
+A comment begins with `--`.
 module D where { z = # }
                      ^
 errors: 2, skipped modules: 0

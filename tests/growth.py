@@ -4,7 +4,8 @@ and both ratios.
 
 `growth.py [PROGRAM]`: without PROGRAM, the script `hmc` at the top is run. Ends with 1 if a run fails or takes too long, if the time grows by more
 than 3 and what is printed doesn't, or if 10,000 faults with their messages take a second of processors. One kind grows by the square of its size,
-and may: each use of a name has its own copy of its type.
+and may: each use of a name has its own copy of its type. It ends with 1 too if a few type faults below synonyms of large types take more than some
+seconds with their notes.
 """
 import os
 import sys
@@ -24,6 +25,9 @@ LEAST_SECONDS = 0.02
 # So many faults take less than this with their messages.
 MANY_FAULTS = 10_000
 MOST_SECONDS = 1
+# So many type faults, in a module with as many synonyms of large types, take less than this with their notes.
+FAULTS_OF_SYNONYMS = 60
+MOST_SECONDS_OF_NOTES = 4
 
 
 def arrows(count):
@@ -66,6 +70,12 @@ def doubling_synonyms(count):
 
 def faults_of_types(count):
     return "module A where {\n" + " ;\n".join(f"f{at} :: Int -> Char ; f{at} x = x" for at in range(count)) + " }\n"
+
+
+def faults_of_synonyms(count):
+    """As many type faults, and as many synonyms, each of a type of 512 leaves or more."""
+    doubled = ["type A0 = (Int, Int)"] + [f"type A{n} = (A{n - 1}, A{n - 1})" for n in range(1, 9)]
+    return module(doubled + [f"type T{n} = (A8, [A8])" for n in range(count)] + [f"f{n} :: T{n} -> T{n} -> Int ; f{n} x y = not [x, y]" for n in range(count)])
 
 
 def faults(count):
@@ -134,6 +144,11 @@ def main(program=SCRIPT):
         seconds, _ = quickest([program, "--jobs", "1", "--explain", path], 1) or (MOST_SECONDS, 0)
         failed |= seconds >= MOST_SECONDS
         print(f"{MANY_FAULTS} faults with their messages: {seconds:.2f} s", flush=True)
+        with open(path, "w", encoding="utf-8") as file:
+            file.write(faults_of_synonyms(FAULTS_OF_SYNONYMS))
+        seconds, _ = quickest([program, "--jobs", "1", "--explain", path], 1) or (MOST_SECONDS_OF_NOTES, 0)
+        failed |= seconds >= MOST_SECONDS_OF_NOTES
+        print(f"{FAULTS_OF_SYNONYMS} type faults below as many synonyms of large types: {seconds:.2f} s", flush=True)
     return failed
 
 

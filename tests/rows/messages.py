@@ -795,7 +795,7 @@ KINDS = [
         "                                   ^\n"
         "errors: 1, skipped modules: 0\n",
     ),
-    # a constructor has no such definition
+    # a definition with a constructor that isn't in scope is replaced
     (
         "module M where { f = Y ; g = not 'c' }",
         1,
@@ -803,6 +803,143 @@ KINDS = [
         "No declaration, import or parameter gives this name a meaning here.\n"
         "module M where { f = Y ; g = not 'c' }\n"
         "                     ^\n"
+        "M.hs:1:26: note: type error in 'g', whatever the names that aren't in scope mean\n"
+        "module M where { f = Y ; g = not 'c' }\n"
+        "                         ^\n"
+        "errors: 1, skipped modules: 0\n",
+    ),
+    # all clauses are replaced, with what is local in them. So f and h have every type, and g and i have none or one as they stand
+    (
+        "module M where {\n"
+        "f True = N.y (not 'c') where {\n"
+        "  y = N.z } ;\n"
+        "f x = False ;\n"
+        "g = not (f 'c') ;\n"
+        "h y = f (N.z y) ;\n"
+        "i = not 'c' }",
+        1,
+        "M.hs:2:10: error: 'N.y' isn't in scope [unbound]\n"
+        "No declaration, import or parameter gives this name a meaning here.\n"
+        "f True = N.y (not 'c') where {\n"
+        "         ^^^\n"
+        "M.hs:3:7: error: 'N.z' isn't in scope [unbound]\n"
+        "No declaration, import or parameter gives this name a meaning here.\n"
+        "  y = N.z } ;\n"
+        "      ^^^\n"
+        "M.hs:6:10: error: 'N.z' isn't in scope [unbound]\n"
+        "No declaration, import or parameter gives this name a meaning here.\n"
+        "h y = f (N.z y) ;\n"
+        "         ^^^\n"
+        "M.hs:7:1: note: type error in 'i', whatever the names that aren't in scope mean\n"
+        "i = not 'c' }\n"
+        "^\n"
+        "errors: 3, skipped modules: 0\n",
+    ),
+    # the signature of f stays, so g has no type
+    (
+        "module M where {\n"
+        "f :: Bool -> Int ;\n"
+        "f True = Y ;\n"
+        "f x = 'c' ;\n"
+        "g = f 'c' }",
+        1,
+        "M.hs:3:10: error: 'Y' isn't in scope [unbound]\n"
+        "No declaration, import or parameter gives this name a meaning here.\n"
+        "f True = Y ;\n"
+        "         ^\n"
+        "M.hs:5:1: note: type error in 'g', whatever the names that aren't in scope mean\n"
+        "g = f 'c' }\n"
+        "^\n"
+        "errors: 1, skipped modules: 0\n",
+    ),
+    # a signature with a type that isn't in scope goes with its definition, so g has a type
+    (
+        "module M where {\n"
+        "f :: T -> Int ;\n"
+        "f x = not 'c' ;\n"
+        "g = f 'c' ;\n"
+        "h = not 'c' }",
+        1,
+        "M.hs:2:6: error: 'T' isn't in scope [unbound]\n"
+        "No declaration, import or parameter gives this name a meaning here.\n"
+        "f :: T -> Int ;\n"
+        "     ^\n"
+        "M.hs:5:1: note: type error in 'h', whatever the names that aren't in scope mean\n"
+        "h = not 'c' }\n"
+        "^\n"
+        "errors: 1, skipped modules: 0\n",
+    ),
+    # variables and a constructor, and a place behind a comment
+    (
+        "module M where {\n"
+        "f = Y x ;\n"
+        "{- a comment -} g = z (let { y = not 'c' } in y) }",
+        1,
+        "M.hs:2:5: error: 'Y' isn't in scope [unbound]\n"
+        "No declaration, import or parameter gives this name a meaning here.\n"
+        "f = Y x ;\n"
+        "    ^\n"
+        "M.hs:2:7: error: 'x' isn't in scope [unbound]\n"
+        "No declaration, import or parameter gives this name a meaning here.\n"
+        "f = Y x ;\n"
+        "      ^\n"
+        "M.hs:3:21: error: 'z' isn't in scope [unbound]\n"
+        "No declaration, import or parameter gives this name a meaning here.\n"
+        "{- a comment -} g = z (let { y = not 'c' } in y) }\n"
+        "                    ^\n"
+        "M.hs:3:17: note: type error in 'g', whatever the names that aren't in scope mean\n"
+        "{- a comment -} g = z (let { y = not 'c' } in y) }\n"
+        "                ^\n"
+        "errors: 3, skipped modules: 0\n",
+    ),
+    # a declaration of a type isn't replaced
+    (
+        "module M where { data D = D T ; g = not 'c' }",
+        1,
+        "M.hs:1:29: error: 'T' isn't in scope [unbound]\n"
+        "No declaration, import or parameter gives this name a meaning here.\n"
+        "module M where { data D = D T ; g = not 'c' }\n"
+        "                            ^\n"
+        "errors: 1, skipped modules: 0\n",
+    ),
+    # nor is a pattern binding
+    (
+        "module M where { (a, b) = Y ; g = not 'c' }",
+        1,
+        "M.hs:1:27: error: 'Y' isn't in scope [unbound]\n"
+        "No declaration, import or parameter gives this name a meaning here.\n"
+        "module M where { (a, b) = Y ; g = not 'c' }\n"
+        "                          ^\n"
+        "errors: 1, skipped modules: 0\n",
+    ),
+    # nor a signature of two variables
+    (
+        "module M where { a, b :: T ; a = 1 ; b = 1 ; g = not 'c' }",
+        1,
+        "M.hs:1:26: error: 'T' isn't in scope [unbound]\n"
+        "No declaration, import or parameter gives this name a meaning here.\n"
+        "module M where { a, b :: T ; a = 1 ; b = 1 ; g = not 'c' }\n"
+        "                         ^\n"
+        "errors: 1, skipped modules: 0\n",
+    ),
+    # nor one that isn't right before the clauses of its variable
+    (
+        "module M where { a :: T ; b = 1 ; a = 1 ; g = not 'c' }",
+        1,
+        "M.hs:1:23: error: 'T' isn't in scope [unbound]\n"
+        "No declaration, import or parameter gives this name a meaning here.\n"
+        "module M where { a :: T ; b = 1 ; a = 1 ; g = not 'c' }\n"
+        "                      ^\n"
+        "errors: 1, skipped modules: 0\n",
+    ),
+    # an export list has no definition
+    (
+        "module M (T, g) where { g = not 'c' }",
+        1,
+        "M.hs:1:11: error: 'T' isn't in scope [unbound]\n"
+        "No declaration, import or parameter gives this name a meaning here.\n"
+        "module M (T, g) where { g = not 'c' }\n"
+        "          ^\n"
         "errors: 1, skipped modules: 0\n",
     ),
     ("module M where { f = 1 }", 0, ""),
@@ -834,9 +971,18 @@ REASONS = [
         "module M where { f = # }",
         2,
         "M.hs:1:22: error: the operator '#' isn't supported: the only one is ':' [lexeme]\n"
-        "Define a function with a name, and write it before its arguments.\n"
+        "A comment begins with `--`.\n"
         "module M where { f = # }\n"
         "                     ^\n"
+        "errors: 1, skipped modules: 0\n",
+    ),
+    (
+        "module M where { f = g % 2 }",
+        2,
+        "M.hs:1:24: error: the operator '%' isn't supported: the only one is ':' [lexeme]\n"
+        "Define a function with a name, and write it before its arguments.\n"
+        "module M where { f = g % 2 }\n"
+        "                       ^\n"
         "errors: 1, skipped modules: 0\n",
     ),
     (
@@ -1013,6 +1159,9 @@ DETAILS = [
     ("f xs = lenght xs", "1:25", "'lenght' isn't in scope (did you mean 'length'?) [unbound]"),
     ("filtre = 1 ; f = filter1", "1:35", "'filter1' isn't in scope (did you mean 'filter'?) [unbound]"),
     ("f = Prelude.mpa", "1:22", "'Prelude.mpa' isn't in scope (did you mean 'Prelude.map'?) [unbound]"),
+    ("x = true", "1:22", "'true' isn't in scope (did you mean 'True'?) [unbound]"),
+    ("x = Prelude.nothing", "1:22", "'Prelude.nothing' isn't in scope (did you mean 'Prelude.Nothing'?) [unbound]"),
+    ("x = Filter", "1:22", "'Filter' isn't in scope [unbound]"),
     ("x :: Mabye Int ; x = Nothing", "1:23", "'Mabye' isn't in scope (did you mean 'Maybe'?) [unbound]"),
     ("x = Noting", "1:22", "'Noting' isn't in scope (did you mean 'Nothing'?) [unbound]"),
     # a name of two letters is near dozens
@@ -1040,6 +1189,9 @@ DETAILS = [
     ("import Prelude hiding (length) ; f = lenght", "1:55", "'lenght' isn't in scope [unbound]"),
     ("f = putStrLn", "1:22", "'putStrLn' isn't in scope: this Prelude leaves it out [unbound]"),
     ("x :: Integer ; x = 1", "1:23", "'Integer' isn't in scope: this Prelude leaves it out [unbound]"),
+    # the Report's Prelude has these as types alone
+    ("x = Integer 1", "1:22", "'Integer' isn't in scope [unbound]"),
+    ("f (Double n) = n", "1:21", "'Double' isn't in scope [unbound]"),
     # the namespace of the name
     ("x = Int", "1:22", "'Int' isn't in scope: a type has this name, but can't stand here [unbound]"),
     ("x :: Just ; x = x", "1:23", "'Just' isn't in scope: a constructor has this name, but can't stand here [unbound]"),
@@ -1074,6 +1226,7 @@ LEXEMES = [
     ("module M where { x = xs ++ ys }", "1:25", "the operator '++' isn't supported: the only one is ':'"),
     ("module M where { na\u00efve = 1 }", "1:20", "a character that isn't ASCII isn't allowed here"),
     ("module M where { \0 }", "1:18", "this byte isn't allowed here"),
+    ("module M where { s = \u201chi\u201d }", "1:22", "this curly quote isn't a quote of Haskell"),
 ]
 
 # what is read in no module, with the place and the first line of its message, less its word
@@ -1087,7 +1240,7 @@ HINTS = [
     ("module M where { class C a where { } }", "1:18", "classes aren't supported"),
     ("module M where { instance C Int where { } }", "1:18", "instances aren't supported, because there are no classes"),
     ("module M where { data T = A deriving Eq }", "1:29", "'deriving' isn't supported, because there are no classes"),
-    ("module M where { default (Int) }", "1:18", "'default' isn't supported, because there are no classes"),
+    ("module M where { default (Int) }", "1:18", "'default' is a reserved word, and isn't supported"),
     ("module M where { infixl 5 x }", "1:18", "operators can't be defined"),
     ("module M where { f :: C a => a ; f = f }", "1:27", "a type can't have a context, because there are no classes"),
     ("module M where { x = do { } }", "1:22", "'do' isn't supported, because there is no IO and no monad"),
@@ -1114,4 +1267,31 @@ HINTS = [
     ("module M where { x = if True then 1 2 }", "1:39", "expected 'else' before '2'"),
     ("module M where { x = case 1 { y -> y } }", "1:29", "expected 'of' before '{'"),
     ("module M where { x = let { y = 1 } y }", "1:36", "expected 'in' before 'y'"),
+    ("module M where { data S = S Int ; area (square s) = s }", "1:48", "a variable takes no arguments in a pattern: is ',' missing before 's'?"),
+    ("module M where { f = foldr (\\(just x) y -> y) 0 }", "1:36", "a variable takes no arguments in a pattern: is ',' missing before 'x'?"),
+    ("module M where { f [g 1] = 1 }", "1:23", "a variable takes no arguments in a pattern: is ',' missing before '1'?"),
+    ("module M where { import A (f g) }", "1:30", "expected ',' before 'g'"),
+    ("module M where { f :: a -> a\nf x = x }", "2:1", "expected ';' before 'f'"),
+    ("module M where { newtype P a P (a -> a) }", "1:30", "expected '=' before 'P'"),
+    ("module M where { newtype P = P Int Int }", "1:36", "a 'newtype' has one constructor with one argument"),
+    ("module M where { newtype P = P Int | Q Int }", "1:36", "a 'newtype' has one constructor with one argument"),
+    ("module M where { data C = Red, Green }", "1:30", "unexpected ',' between constructors"),
+    ("module M where { x = 1,000 }", "1:23", "unexpected ',' after a number"),
+    ("module M where { f x = y ; where { y = x } }", "1:28", "unexpected ';' before 'where'"),
+    ("module M where { import A qualified ; x = 1 }", "1:27", "'qualified' stands before the name of the module"),
+    ("module M where { f x = x @ (y : ys) }", "1:26", "'@' can only follow a variable in a pattern"),
+    ("module M where { f x = | x = 1 }", "1:24", "a guard can't follow '='"),
+    ("module M where { f x | x -> 1 | True -> 2 }", "1:26", "expected '=' after the guard, found '->'"),
+    ("module M where { f (x :: Int) = x }", "1:23", "'::' can't follow a pattern"),
+    ("module M where { f x = case x of { True = 1 } }", "1:41", "expected '->', found '='"),
+    ("module M where { f x : xs }", "1:22", "expected '=', found ':'"),
+    ("module M where { f x : xs = x }", "1:22", "unexpected ':' after a pattern"),
+    ("module M where { f x = if x { 1 } else { 2 } }", "1:29", "an 'if' before '{' has no 'then'"),
+    ("module M where { f : Int -> Int }", "1:26", "expected '::', found ':'"),
+    ("module M where { f = map (x -> x) [1] }", "1:29", "expected '\\' before 'x'"),
+    ("module M where { f = map (\\x => x) [1] }", "1:30", "expected '->', found '=>'"),
+    ("module M where { import prelude ; }", "1:25", "'prelude' must begin with a capital letter here"),
+    ("module M where { f x = case x of { square n -> n ; _ -> 0 } }", "1:43", "unexpected 'n' in a pattern of a 'case'"),
+    ("module M where { f x = case x of { True = 1 ; False = 0 } }", "1:41", "unexpected '=' in a pattern of a 'case'"),
+    ("module M where { f x = case x of { 0 -> 1 ; default -> 2 } }", "1:45", "'default' is a reserved word, and isn't supported"),
 ]
