@@ -1278,7 +1278,7 @@ HINTS = [
     ("module M where { data C = Red, Green }", "1:30", "unexpected ',' between constructors"),
     ("module M where { x = 1,000 }", "1:23", "unexpected ',' after a number"),
     ("module M where { f x = y ; where { y = x } }", "1:28", "unexpected ';' before 'where'"),
-    ("module M where { import A qualified ; x = 1 }", "1:27", "'qualified' stands before the name of the module"),
+    ("module M where { import A qualified ; x = 1 }", "1:27", "'qualified' comes before the name of the module"),
     ("module M where { f x = x @ (y : ys) }", "1:26", "'@' can only follow a variable in a pattern"),
     ("module M where { f x = | x = 1 }", "1:24", "a guard can't follow '='"),
     ("module M where { f x | x -> 1 | True -> 2 }", "1:26", "expected '=' after the guard, found '->'"),

@@ -46,7 +46,7 @@ syntax_text NumberComma text = codes "unexpected ',' after a number"
 syntax_text WhereAfterSemicolon text = codes "unexpected ';' before 'where'"
 syntax_text (NoThen k) text = codes "an 'if' before " ++ quoted text ++ codes " has no 'then'"
 syntax_text (NewtypeArguments k) text = codes "a 'newtype' has one constructor with one argument"
-syntax_text LateQualified text = codes "'qualified' stands before the name of the module"
+syntax_text LateQualified text = codes "'qualified' comes before the name of the module"
 syntax_text AtSign text = codes "'@' can only follow a variable in a pattern"
 
 abbrev pub change_help : Change → List ℕ

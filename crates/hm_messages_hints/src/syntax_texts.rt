@@ -106,7 +106,7 @@ pub fn syntax_text(alloc: Global, hint: SyntaxHint, text: &str) -> Result<String
         ),
         SyntaxHint::LateQualified => String::from_str(
             alloc,
-            "'qualified' stands before the name of the module",
+            "'qualified' comes before the name of the module",
         ),
         SyntaxHint::AtSign => String::from_str(
             alloc,
