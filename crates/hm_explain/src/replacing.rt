@@ -41,8 +41,7 @@ fn lies_in(lexed: &Lexed<'_>, run: Run, place: Place) -> bool {
     if run.start >= run.end || last >= lexed.tokens.len() {
         return false;
     }
-    !place.is_before(lexed.tokens[run.start].place)
-        && !lexed.tokens[last].place.is_before(place)
+    !place.is_before(lexed.tokens[run.start].place) && !lexed.tokens[last].place.is_before(place)
 }
 
 /// Returns how many of these places lie in a run.
