@@ -2,7 +2,8 @@
 """Measures what builds take, in a fresh clone of the last commit.
 
 `build_times.py [PART..]` measures the parts that are named, or all: `first` (the first answer of ./hmc), `start` (what the script ./hmc adds to a run if
-nothing is built), `proved` (./prove --anew), `words` and `reports` (./prove after a change in hmc_words and in hm_build_reports) and `gate` (rt ci --anew).
+nothing is built), `proved` (./prove --anew), `words` and `reports` (./prove after a change in hmc_words and in hm_build_reports) and `gate` (rt ci --anew, whose
+output goes to out/gate.txt).
 All take some two hours on four processors. The machine should do nothing else.
 """
 import pathlib
@@ -21,9 +22,12 @@ CHANGE = "\npub const MEASURED: usize = 1;\n"
 RUNS = 200
 
 
-def timed(words, cwd):
-    """Runs a command that must end well, and returns its seconds by the clock and of all processors."""
+def timed(words, cwd, kept=None):
+    """Runs a command that must end well, and returns its seconds by the clock and of all processors. What it prints is kept in a file, if one is given."""
     run = measured(words, cwd=cwd)
+    if kept:
+        kept.parent.mkdir(exist_ok=True)
+        kept.write_bytes(run.printed + run.told)
     if run.status:
         sys.exit(f"{' '.join(words)} ended with {run.status}:\n{(run.printed + run.told).decode(errors='replace')[-2000:]}")
     return run.clock, run.processor
@@ -64,7 +68,7 @@ PARTS = {
     "proved": ("`./prove --anew`, the proved program from nothing", proved),
     "words": ("`./prove` after a change in `hmc_words`", lambda clone: rebuilt(clone, "hmc_words")),
     "reports": ("`./prove` after a change in `hm_build_reports`", lambda clone: rebuilt(clone, "hm_build_reports")),
-    "gate": ("`rt ci --anew`, the gate from nothing", lambda clone: timed(["rt", "ci", "--anew"], clone)),
+    "gate": ("`rt ci --anew`, the gate from nothing", lambda clone: timed(["rt", "ci", "--anew"], clone, TOP / "out" / "gate.txt")),
 }
 
 
