@@ -136,14 +136,14 @@ are_walked m fs pairs start tables exported decls ds walked scope known types co
 
 -- the faults of a walk by phases, with those of synonyms
 pub are_tree_faults : (m : Module) (fs : List Interface) (trees : TreeFaults) (walked recursive : List Fault) → AreNoted m fs walked
-    → trees.lists.items ≡ filter is_of_lists walked → trees.names.items ≡ filter is_of_names walked → trees.numbers.items ≡ filter is_of_numbers walked ++ recursive
+    → trees.lists.items ≡ filter is_of_lists walked → trees.names.items ≡ filter is_of_names walked → trees.numbers.items ≡ recursive ++ filter is_of_numbers walked
     → ((f : Fault) → Contains recursive f ↔ HasSynonymFault m fs f) → AreTreeFaults m fs trees
 are_tree_faults m fs trees walked recursive noted lists names numbers cycles = record {
   lists = λ f. part is_of_lists trees.lists.items lists f (declaring m fs f);
   names = λ f. part is_of_names trees.names.items names f (naming m fs f);
   numbers = λ f. (
-    λ c. (counting m fs f).0 (⊎_elim (λ l. let k = (filtered is_of_numbers walked f).0 l in inl ((noted f).0 k.0, k.1)) (λ r. inr ((cycles f).0 r)) (Contains-append_cases (filter is_of_numbers walked) recursive f (subst (λ l. Contains l f) numbers c))),
-    λ h. subst (λ l. Contains l f) (sym numbers) (⊎_elim (λ l. Contains-append_left (filter is_of_numbers walked) recursive f ((filtered is_of_numbers walked f).1 ((noted f).1 l.0, l.1))) (λ r. Contains-append_right (filter is_of_numbers walked) recursive f ((cycles f).1 r)) ((counting m fs f).1 h)),
+    λ c. (counting m fs f).0 (⊎_elim (λ r. inr ((cycles f).0 r)) (λ l. let k = (filtered is_of_numbers walked f).0 l in inl ((noted f).0 k.0, k.1)) (Contains-append_cases recursive (filter is_of_numbers walked) f (subst (λ l. Contains l f) numbers c))),
+    λ h. subst (λ l. Contains l f) (sym numbers) (⊎_elim (λ l. Contains-append_right recursive (filter is_of_numbers walked) f ((filtered is_of_numbers walked f).1 ((noted f).1 l.0, l.1))) (λ r. Contains-append_left recursive (filter is_of_numbers walked) f ((cycles f).1 r)) ((counting m fs f).1 h)),
   );
 }
   where
@@ -154,7 +154,7 @@ are_tree_faults m fs trees walked recursive noted lists names numbers cycles = r
     )
 
 pub are_trees : (m : Module) (fs : List Interface) (trees : Trees) (walked recursive : List Fault) → AreWalked m fs trees.decls.items walked
-    → trees.lists.items ≡ filter is_of_lists walked → trees.names.items ≡ filter is_of_names walked → trees.numbers.items ≡ filter is_of_numbers walked ++ recursive
+    → trees.lists.items ≡ filter is_of_lists walked → trees.names.items ≡ filter is_of_names walked → trees.numbers.items ≡ recursive ++ filter is_of_numbers walked
     → ((f : Fault) → Contains recursive f ↔ HasSynonymFault m fs f) → AreTrees m fs trees
 are_trees m fs trees walked recursive are lists names numbers cycles =
     let parts = are_tree_faults m fs (record { lists = trees.lists; names = trees.names; numbers = trees.numbers }) walked recursive are.faults lists names numbers cycles in

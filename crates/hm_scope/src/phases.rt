@@ -37,16 +37,20 @@ fn add_fault(parts: &mut TreeFaults, fault: Fault) -> Result<(), AllocError>
     Ok(())
 }
 
-/// Sorts the faults of a walk over a module's trees by phase.
-pub fn by_phases(alloc: Global, faults: Vec<Fault>) -> Result<TreeFaults, AllocError>
+/// Sorts the faults of a walk over a module's trees by phase, and adds those of recursive synonyms.
+pub fn by_phases(
+    alloc: Global,
+    faults: Vec<Fault>,
+    recursive: Vec<Fault>,
+) -> Result<TreeFaults, AllocError>
     ensures lists { IfOk result (λ parts. parts.lists.items ≡ filter is_of_lists faults.items) }
     ensures names { IfOk result (λ parts. parts.names.items ≡ filter is_of_names faults.items) }
-    ensures numbers { IfOk result (λ parts. parts.numbers.items ≡ filter is_of_numbers faults.items) }
+    ensures numbers { IfOk result (λ parts. parts.numbers.items ≡ recursive.items ++ filter is_of_numbers faults.items) }
 {
     let mut parts = TreeFaults {
         lists: Vec::new(alloc),
         names: Vec::new(alloc),
-        numbers: Vec::new(alloc),
+        numbers: recursive,
     };
     for fault in faults {
         add_fault(&mut parts, fault)?;

@@ -1,6 +1,6 @@
 //! Resolves a module to its core, or finds its faults.
 
-ghost use Rattle.std.specs.Prelude.{◌≡◌, ◌↔◌, ◌++◌, ◌∷◌, List, length, map, filter, IfOk, IfErr, Contains};
+ghost use Rattle.std.specs.Prelude.{◌≡◌, ◌↔◌, ◌∷◌, List, length, map, IfOk, IfErr, Contains};
 ghost use Rattle.std.specs.Arc.{arc_value};
 ghost use Rattle.hm_syntax.specs.declared.ast.Module.{Module as ModuleTree};
 ghost use Rattle.hm_types.specs.Interfaces.{Exports as Interface};
@@ -11,7 +11,7 @@ ghost use Rattle.hm_scope.specs.Answers.{AreNoted, AreTreeFaults, AreTrees, AreW
 ghost use Rattle.hm_names.specs.Faults.Phases.{Exporting};
 ghost use Rattle.hm_scope_exports.specs.ModuleExports.{AreExportsOf};
 ghost use Rattle.hm_scope.specs.NeededSynonyms.{AreExportedTypes};
-ghost use Rattle.hm_scope.specs.PhaseAnswers.{AreExact, is_of_lists, is_of_names, is_of_numbers};
+ghost use Rattle.hm_scope.specs.PhaseAnswers.{AreExact};
 ghost use Rattle.hm_scope_tables.specs.KnownTables.{AreTablesOf};
 ghost use Rattle.hm_scope.specs.Synonyms.{AreOwnSynonyms, HasSynonymFault, IsReferenceGraph};
 ghost use Rattle.hm_names.specs.Bindings.{IsScopeOf};
@@ -55,17 +55,6 @@ pub(crate) struct Trees {
 pub(crate) enum Answer<'a> {
     Resolved(Vec<Decl>, Vec<Binding<'a>>),
     Faulty(Row<Fault>),
-}
-
-/// Returns the faults of both lists.
-fn joined(faults: Vec<Fault>, others: Vec<Fault>) -> Result<Vec<Fault>, AllocError>
-    ensures { IfOk result (λ all. all.items ≡ faults.items ++ others.items) }
-{
-    let mut all = faults;
-    for fault in others {
-        all.push(fault)?;
-    }
-    Ok(all)
 }
 
 /// A module with its scope, and the interfaces from which that is made.
@@ -120,32 +109,13 @@ fn walked_trees<'a>(
     walked_with(alloc, scoped.program, scoped.scope, &mut tables, synonyms)
 }
 
-/// Sorts the faults of a walk by phase, and adds those of recursive synonyms.
-fn phases_of(
-    alloc: Global,
-    walked: Vec<Fault>,
-    recursive: Vec<Fault>,
-) -> Result<TreeFaults, AllocError>
-    ensures lists { IfOk result (λ parts. parts.lists.items ≡ filter is_of_lists walked.items) }
-    ensures names { IfOk result (λ parts. parts.names.items ≡ filter is_of_names walked.items) }
-    ensures numbers { IfOk result (λ parts. parts.numbers.items ≡ filter is_of_numbers walked.items ++ recursive.items) }
-{
-    let parts = by_phases(alloc, walked)?;
-    let numbers = joined(parts.numbers, recursive)?;
-    Ok(TreeFaults {
-        lists: parts.lists,
-        names: parts.names,
-        numbers,
-    })
-}
-
 /// Returns the trees of a walk, with its faults by phase and those of recursive synonyms.
 fn trees_of(alloc: Global, walked: Walked, recursive: Vec<Fault>) -> Result<Trees, AllocError>
     ensures { IfOk result (λ trees. (m : ModuleTree) (fs : List Interface) → AreWalked m fs walked.decls.items walked.faults.items
         → ((f : Fault) → Contains recursive.items f ↔ HasSynonymFault m fs f) → AreTrees m fs trees) }
 {
     let Walked { decls, faults } = walked;
-    let parts = phases_of(alloc, faults, recursive)?;
+    let parts = by_phases(alloc, faults, recursive)?;
     Ok(Trees {
         decls,
         lists: parts.lists,
@@ -238,7 +208,7 @@ fn faults_over(
     let graph = reference_graph(alloc, scoped.scope, scoped.program, &own.names)?;
     let recursive = synonym_faults(alloc, scoped.program, &own.names, &graph)?;
     let noted = noted_faults(alloc, scoped)?;
-    Ok(phases_of(alloc, noted, recursive)?)
+    Ok(by_phases(alloc, noted, recursive)?)
 }
 
 /// Does what `faults_over` does, with the module's own synonyms.

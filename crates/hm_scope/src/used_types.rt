@@ -3,7 +3,7 @@
 ghost use Rattle.std.specs.Prelude.{◌≡◌, ◌++◌, OnOk};
 ghost use Rattle.hm_syntax.specs.Lists.{expressions, alternatives, body, bodies, declarations, constructors};
 ghost use Rattle.hm_syntax.specs.Trees.{no_bodies};
-ghost use Rattle.hm_scope.specs.UsedTypes.{expression_types, expressions_types, alternative_types, alternatives_types, right_side_types, bodies_types, declaration_types, declarations_types, constructor_types, constructors_types, types_outside, all_types_outside};
+ghost use Rattle.hm_scope.specs.UsedTypes.{expression_types, expressions_types, alternatives_types, right_side_types, bodies_types, declaration_types, declarations_types, constructor_types, constructors_types, types_outside, all_types_outside};
 
 use crate::type_names::{add_type, add_types};
 use hm_names::LentNames;
@@ -70,17 +70,9 @@ fn add_alts<'a>(out: &mut LentNames<'a>, row: &'a [Alt]) -> Result<(), AllocErro
     ensures { OnOk result (out.new ≡ out.old ++ alternatives_types (alternatives row.now)) }
 {
     'row: for alt in row {
-        add_alt(out, alt)?;
+        add_rhs(out, &alt.rhs)?;
     }
     Ok(())
-}
-
-/// Adds the type constructors in an alternative.
-#[cycle(exprs)]
-fn add_alt<'a>(out: &mut LentNames<'a>, alt: &'a Alt) -> Result<(), AllocError>
-    ensures { OnOk result (out.new ≡ out.old ++ alternative_types alt.now) }
-{
-    Ok(add_rhs(out, &alt.rhs)?)
 }
 
 /// Adds the type constructors in a right side with its `where`.

@@ -1,6 +1,6 @@
 use Rattle.std.proofs.Common.{◌≡◌, ◌+◌, ◌*◌, ◌++◌, drop}
 use Rattle.hm_syntax.specs.Lists.{expressions, alternatives, declarations, bodies}
-use Rattle.hm_syntax.specs.Sizes.{expression_size, expressions_size, alternative_size, alternatives_size, right_side_size, bodies_size, declaration_size, declarations_size}
+use Rattle.hm_syntax.specs.Sizes.{expression_size, expressions_size, alternatives_size, right_side_size, bodies_size, declaration_size, declarations_size}
 use Rattle.hm_names.specs.Found.{guard_size}
 use Rattle.hm_scope.specs.UsedTypes.{expressions_types, alternatives_types, bodies_types, declarations_types}
 use Rattle.hm_scope.proofs.used_types.+exprs.Given as goal
@@ -13,9 +13,6 @@ decreases-add_exprs l = 3 * expressions_size (expressions l.row.now)
 
 abbrev pub decreases-add_alts : goal.decreases-add_alts
 decreases-add_alts l = 3 * alternatives_size (alternatives l.row.now)
-
-abbrev pub decreases-add_alt : goal.decreases-add_alt
-decreases-add_alt l = 3 * alternative_size l.alt.now
 
 abbrev pub decreases-add_rhs : goal.decreases-add_rhs
 decreases-add_rhs l = 3 * right_side_size l.rhs.now
