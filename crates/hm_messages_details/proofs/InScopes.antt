@@ -168,8 +168,35 @@ first_assoc : (a b c : Option (List Identifier)) → first_of (first_of a b) c �
 first_assoc None b c = refl
 first_assoc (Some ns) b c = refl
 
+first_none : (a : Option (List Identifier)) → first_of a None ≡ a
+first_none None = refl
+first_none (Some ns) = refl
+
+-- the step of a loop over a row: what is found first in one element, and then in the rest
+pub row_more : (found next one rest all whole : Option (List Identifier)) → all ≡ first_of one rest → first_of found all ≡ whole → next ≡ first_of found one → first_of next rest ≡ whole
+row_more found next one rest all whole is before step =
+    ap (λ (o : Option (List Identifier)). first_of o rest) step ∙ (first_assoc found one rest ∙ (ap (first_of found) (sym is) ∙ before))
+
+-- its end: no element is left
+pub row_end : (found rest whole : Option (List Identifier)) → rest ≡ None → first_of found rest ≡ whole → found ≡ whole
+row_end found rest whole none before = sym (first_none found) ∙ (ap (first_of found) (sym none) ∙ before)
+
 -- expressions with their guards, by the rows of the tree
 pub parts_are : (f : Fault) (ps : List (Option Expression × Expression)) → around_parts f ps ≡ around_bodies f (bodies ps)
 parts_are f [] = refl
 parts_are f ((None, e) ∷ ps) = ap (λ o. first_of (around_expression f e) o) (parts_are f ps)
 parts_are f ((Some g, e) ∷ ps) = first_assoc (around_expression f g) (around_expression f e) (around_parts f ps) ∙ ap (λ o. first_of (around_expression f g) (first_of (around_expression f e) o)) (parts_are f ps)
+
+-- a guard and then its expression
+pub both_more : (found middle next one two : Option (List Identifier)) → middle ≡ first_of found one → next ≡ first_of middle two → next ≡ first_of found (first_of one two)
+both_more found middle next one two first second = second ∙ (ap (λ (o : Option (List Identifier)). first_of o two) first ∙ first_assoc found one two)
+
+-- a right side in which nothing was found before
+pub right_side_found : (f : Fault) (ps : List (Option Expression × Expression)) (ds : List Declaration) (old one two found : Option (List Identifier)) → old ≡ None → one ≡ first_of old (around_parts f ps)
+    → two ≡ first_of one (around_declarations f (declarations ds)) → found ≡ within two (bound_names (declarations ds)) → found ≡ first_of old (around_right_side f (right_side (bodies ps) (declarations ds)))
+right_side_found f ps ds old one two found none in_parts in_list around =
+    let parts : one ≡ around_bodies f (bodies ps) = in_parts ∙ (ap (λ (o : Option (List Identifier)). first_of o (around_parts f ps)) none ∙ parts_are f ps) in
+    let inner : two ≡ first_of (around_bodies f (bodies ps)) (around_declarations f (declarations ds)) =
+    in_list ∙ ap (λ (o : Option (List Identifier)). first_of o (around_declarations f (declarations ds))) parts in
+    around ∙ (ap (λ (o : Option (List Identifier)). within o (bound_names (declarations ds))) inner
+    ∙ sym (ap (λ (o : Option (List Identifier)). first_of o (around_right_side f (right_side (bodies ps) (declarations ds)))) none))

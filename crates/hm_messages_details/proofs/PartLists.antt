@@ -1,10 +1,28 @@
 -- The parts of expressions with their guards.
-use Rattle.std.proofs.Common.{◌≡◌, List, [], ◌∷◌, ◌++◌, Option, None, Some, refl, ap, ◌∙◌, append_assoc}
+use Rattle.std.proofs.Common.{◌≡◌, List, [], ◌∷◌, ◌++◌, Option, None, Some, refl, sym, ap, ◌∙◌, append_assoc, append-nil}
 use Rattle.hm_syntax.specs.Trees.{Expression}
 use Rattle.hm_syntax.specs.Lists.{bodies}
-use Rattle.hm_messages_details.specs.Parts.{expression_parts, bodies_parts, bodies_of_parts}
+use Rattle.hm_messages_details.specs.Parts.{Part, expression_parts, bodies_parts, bodies_of_parts}
 
 pub bodies_are : (ps : List (Option Expression × Expression)) → bodies_of_parts ps ≡ bodies_parts (bodies ps)
 bodies_are [] = refl
 bodies_are ((None, e) ∷ ps) = ap (λ z. expression_parts e ++ z) (bodies_are ps)
 bodies_are ((Some g, e) ∷ ps) = append_assoc (expression_parts g) (expression_parts e) (bodies_of_parts ps) ∙ ap (λ z. expression_parts g ++ (expression_parts e ++ z)) (bodies_are ps)
+
+-- two calls add their parts one after the other
+pub both_added : (old middle new one two : List Part) → middle ≡ old ++ one → new ≡ middle ++ two → new ≡ old ++ (one ++ two)
+both_added old middle new one two first second = second ∙ (ap (λ (l : List Part). l ++ two) first ∙ append_assoc old one two)
+
+-- the same, of what the calls got, which is what the tree has there
+pub both_of : {X Y : Type 0} (f : X → List Part) (g : Y → List Part) (old middle new : List Part) (x x' : X) (y y' : Y) → x ≡ x' → y ≡ y' → middle ≡ old ++ f x → new ≡ middle ++ g y → new ≡ old ++ (f x' ++ g y')
+both_of f g old middle new x x' y y' one two first second =
+    both_added old middle new (f x) (g y) first second ∙ (ap (λ z. old ++ (f z ++ g y)) one ∙ ap (λ z. old ++ (f x' ++ g z)) two)
+
+-- the step of a loop over a row
+pub row_more : (old new one rest all whole : List Part) → all ≡ one ++ rest → old ++ all ≡ whole → new ≡ old ++ one → new ++ rest ≡ whole
+row_more old new one rest all whole is before step =
+    ap (λ (l : List Part). l ++ rest) step ∙ (append_assoc old one rest ∙ (ap (λ (l : List Part). old ++ l) (sym is) ∙ before))
+
+-- its end: no element is left
+pub row_end : (new rest whole : List Part) → rest ≡ [] → new ++ rest ≡ whole → new ≡ whole
+row_end new rest whole none before = sym (append-nil new) ∙ (ap (λ (l : List Part). new ++ l) (sym none) ∙ before)

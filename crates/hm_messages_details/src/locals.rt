@@ -1,5 +1,5 @@
 //! Finds near names among the local variables at the place of a fault.
-ghost use Rattle.std.specs.Prelude.{◌≡◌, IfOk, IfSome};
+ghost use Rattle.std.specs.Prelude.{◌≡◌, IfOk, IfSome, OnOk};
 ghost use Rattle.hm_syntax.specs.Lists.{alternatives, declarations, expressions, patterns};
 ghost use Rattle.hm_names.specs.Variables.{bound_names, pattern_variables, patterns_variables};
 ghost use Rattle.hm_messages_details.specs.Enclosing.{around_alternative, around_alternatives, around_declaration, around_declarations, around_expression, around_expressions, around_guard, around_parts, around_right_side, first_of, is_use, within};
@@ -28,296 +28,241 @@ fn is_use(fault: &Fault, name: &Name) -> bool
 }
 
 /// Adds the variables of a clause or a lambda to those around a place in it.
-fn within_patterns<'a>(
-    found: Option<LentNames<'a>>,
-    pats: &'a [Pat],
-) -> Result<Option<LentNames<'a>>, AllocError>
-    ensures { IfOk result (λ names. names ≡ within found.entry (patterns_variables (patterns pats.now))) }
+fn within_patterns<'a>(found: &mut Option<LentNames<'a>>, pats: &'a [Pat]) -> Result<(), AllocError>
+    ensures { OnOk result (found.new ≡ within found.old (patterns_variables (patterns pats.now))) }
 {
-    let Some(mut names) = found else {
-        return Ok(None);
-    };
-    add_patterns(&mut names, pats)?;
-    Ok(Some(names))
+    match found {
+        Some(names) => Ok(add_patterns(names, pats)?),
+        None => Ok(()),
+    }
 }
 
 /// Adds the variables of an alternative to those around a place in it.
-fn within_pattern<'a>(
-    found: Option<LentNames<'a>>,
-    pat: &'a Pat,
-) -> Result<Option<LentNames<'a>>, AllocError>
-    ensures { IfOk result (λ names. names ≡ within found.entry (pattern_variables pat.now)) }
+fn within_pattern<'a>(found: &mut Option<LentNames<'a>>, pat: &'a Pat) -> Result<(), AllocError>
+    ensures { OnOk result (found.new ≡ within found.old (pattern_variables pat.now)) }
 {
-    let Some(mut names) = found else {
-        return Ok(None);
-    };
-    add_pattern(&mut names, pat)?;
-    Ok(Some(names))
+    match found {
+        Some(names) => Ok(add_pattern(names, pat)?),
+        None => Ok(()),
+    }
 }
 
 /// Adds the variables of a declaration list to those around a place in its scope.
-fn within_list<'a>(
-    found: Option<LentNames<'a>>,
-    decls: &'a [Decl],
-) -> Result<Option<LentNames<'a>>, AllocError>
-    ensures { IfOk result (λ names. names ≡ within found.entry (bound_names (declarations decls.now))) }
+fn within_list<'a>(found: &mut Option<LentNames<'a>>, decls: &'a [Decl]) -> Result<(), AllocError>
+    ensures { OnOk result (found.new ≡ within found.old (bound_names (declarations decls.now))) }
 {
-    let Some(mut names) = found else {
-        return Ok(None);
-    };
-    add_all_bound(&mut names, decls)?;
-    Ok(Some(names))
+    match found {
+        Some(names) => Ok(add_all_bound(names, decls)?),
+        None => Ok(()),
+    }
 }
 
-/// Returns the local variables around the place of a fault in an expression, the innermost first.
+/// Finds the local variables around the place of a fault in an expression, the innermost first, if none were found before.
 #[cycle(exprs)]
 fn around_expr<'a>(
     alloc: Global,
+    found: &mut Option<LentNames<'a>>,
     fault: &Fault,
     expr: &'a Expr,
-) -> Result<Option<LentNames<'a>>, AllocError>
-    ensures { IfOk result (λ names. names ≡ around_expression fault.now expr.now) }
+) -> Result<(), AllocError>
+    ensures { OnOk result (found.new ≡ first_of found.old (around_expression fault.now expr.now)) }
 {
+    match found {
+        Some(_) => return Ok(()),
+        None => {}
+    }
     match &expr.kind {
         ExprKind::Var(name) => {
-            if is_use(fault, name) {
-                return Ok(Some(LentNames::new(alloc)));
+            if !is_use(fault, name) {
+                return Ok(());
             }
-            Ok(None)
+            *found = Some(LentNames::new(alloc));
+            Ok(())
         }
-        ExprKind::Con(_) => Ok(None),
-        ExprKind::Literal(_) => Ok(None),
+        ExprKind::Con(_) => Ok(()),
+        ExprKind::Literal(_) => Ok(()),
         ExprKind::Apply(function, argument) => {
-            match around_expr(alloc, fault, function)? {
-                Some(names) => Ok(Some(names)),
-                None => Ok(around_expr(alloc, fault, argument)?),
-            }
+            around_expr(alloc, found, fault, function)?;
+            around_expr(alloc, found, fault, argument)?;
+            Ok(())
         }
         ExprKind::Lambda(pats, body) => {
-            let found = around_expr(alloc, fault, body)?;
-            Ok(within_patterns(found, pats)?)
+            around_expr(alloc, found, fault, body)?;
+            within_patterns(found, pats)?;
+            Ok(())
         }
         ExprKind::Let(decls, body) => {
-            let found = around_let(alloc, fault, decls, body)?;
-            Ok(within_list(found, decls)?)
+            around_decls(alloc, found, fault, decls)?;
+            around_expr(alloc, found, fault, body)?;
+            within_list(found, decls)?;
+            Ok(())
         }
         ExprKind::If(condition, yes, no) => {
-            match around_expr(alloc, fault, condition)? {
-                Some(names) => Ok(Some(names)),
-                None => Ok(around_branches(alloc, fault, yes, no)?),
-            }
+            around_expr(alloc, found, fault, condition)?;
+            around_expr(alloc, found, fault, yes)?;
+            around_expr(alloc, found, fault, no)?;
+            Ok(())
         }
         ExprKind::Case(scrutinee, alts) => {
-            match around_expr(alloc, fault, scrutinee)? {
-                Some(names) => Ok(Some(names)),
-                None => Ok(around_alts(alloc, fault, alts)?),
-            }
+            around_expr(alloc, found, fault, scrutinee)?;
+            around_alts(alloc, found, fault, alts)?;
+            Ok(())
         }
-        ExprKind::Tuple(items) => Ok(around_exprs(alloc, fault, items)?),
-        ExprKind::List(items) => Ok(around_exprs(alloc, fault, items)?),
-        ExprKind::Typed(inner, _) => Ok(around_expr(alloc, fault, inner)?),
+        ExprKind::Tuple(items) => Ok(around_exprs(alloc, found, fault, items)?),
+        ExprKind::List(items) => Ok(around_exprs(alloc, found, fault, items)?),
+        ExprKind::Typed(inner, _) => Ok(around_expr(alloc, found, fault, inner)?),
     }
 }
 
-/// Returns the local variables around the place of a fault in a `let`, without those of its own list.
-#[cycle(exprs)]
-fn around_let<'a>(
-    alloc: Global,
-    fault: &Fault,
-    decls: &'a [Decl],
-    body: &'a Expr,
-) -> Result<Option<LentNames<'a>>, AllocError>
-    ensures { IfOk result (λ names. names ≡ first_of (around_declarations fault.now (declarations decls.now)) (around_expression fault.now body.now)) }
-{
-    match around_decls(alloc, fault, decls)? {
-        Some(names) => Ok(Some(names)),
-        None => Ok(around_expr(alloc, fault, body)?),
-    }
-}
-
-/// Returns the local variables around the place of a fault in the two branches of a conditional.
-#[cycle(exprs)]
-fn around_branches<'a>(
-    alloc: Global,
-    fault: &Fault,
-    yes: &'a Expr,
-    no: &'a Expr,
-) -> Result<Option<LentNames<'a>>, AllocError>
-    ensures { IfOk result (λ names. names ≡ first_of (around_expression fault.now yes.now) (around_expression fault.now no.now)) }
-{
-    match around_expr(alloc, fault, yes)? {
-        Some(names) => Ok(Some(names)),
-        None => Ok(around_expr(alloc, fault, no)?),
-    }
-}
-
-/// Returns the local variables around the place of a fault in a row of expressions.
+/// Finds the local variables around the place of a fault in a row of expressions, if none were found before.
 #[cycle(exprs)]
 #[tactic(auto, using(hm_names::proofs::Rows::expression_falls))]
 fn around_exprs<'a>(
     alloc: Global,
+    found: &mut Option<LentNames<'a>>,
     fault: &Fault,
     row: &'a [Expr],
-) -> Result<Option<LentNames<'a>>, AllocError>
-    ensures { IfOk result (λ names. names ≡ around_expressions fault.now (expressions row.now)) }
+) -> Result<(), AllocError>
+    ensures { OnOk result (found.new ≡ first_of found.old (around_expressions fault.now (expressions row.now))) }
 {
     'row: for expr in row {
-        match around_expr(alloc, fault, expr)? {
-            Some(names) => return Ok(Some(names)),
-            None => {}
-        }
+        around_expr(alloc, found, fault, expr)?;
     }
-    Ok(None)
+    Ok(())
 }
 
-/// Returns the local variables around the place of a fault in a row of alternatives.
+/// Finds the local variables around the place of a fault in a row of alternatives, if none were found before.
 #[cycle(exprs)]
 #[tactic(auto, using(hm_names::proofs::Rows::alternative_falls))]
 fn around_alts<'a>(
     alloc: Global,
+    found: &mut Option<LentNames<'a>>,
     fault: &Fault,
     row: &'a [Alt],
-) -> Result<Option<LentNames<'a>>, AllocError>
-    ensures { IfOk result (λ names. names ≡ around_alternatives fault.now (alternatives row.now)) }
+) -> Result<(), AllocError>
+    ensures { OnOk result (found.new ≡ first_of found.old (around_alternatives fault.now (alternatives row.now))) }
 {
     'row: for alt in row {
-        match around_alt(alloc, fault, alt)? {
-            Some(names) => return Ok(Some(names)),
-            None => {}
-        }
+        around_alt(alloc, found, fault, alt)?;
     }
-    Ok(None)
+    Ok(())
 }
 
-/// Returns the local variables around the place of a fault in an alternative.
+/// Finds the local variables around the place of a fault in an alternative, if none were found before.
 #[cycle(exprs)]
 fn around_alt<'a>(
     alloc: Global,
+    found: &mut Option<LentNames<'a>>,
     fault: &Fault,
     alt: &'a Alt,
-) -> Result<Option<LentNames<'a>>, AllocError>
-    ensures { IfOk result (λ names. names ≡ around_alternative fault.now alt.now) }
+) -> Result<(), AllocError>
+    ensures { OnOk result (found.new ≡ first_of found.old (around_alternative fault.now alt.now)) }
 {
-    let found = around_rhs(alloc, fault, &alt.rhs)?;
-    Ok(within_pattern(found, &alt.pat)?)
+    match found {
+        Some(_) => return Ok(()),
+        None => {}
+    }
+    around_rhs(alloc, found, fault, &alt.rhs)?;
+    within_pattern(found, &alt.pat)?;
+    Ok(())
 }
 
-/// Returns the local variables around the place of a fault in a right side with its `where`.
+/// Finds the local variables around the place of a fault in a right side with its `where`, if none were found before.
 #[cycle(exprs)]
 fn around_rhs<'a>(
     alloc: Global,
+    found: &mut Option<LentNames<'a>>,
     fault: &Fault,
     rhs: &'a Rhs,
-) -> Result<Option<LentNames<'a>>, AllocError>
-    ensures { IfOk result (λ names. names ≡ around_right_side fault.now rhs.now) }
+) -> Result<(), AllocError>
+    ensures { OnOk result (found.new ≡ first_of found.old (around_right_side fault.now rhs.now)) }
 {
-    let found = around_where(alloc, fault, &rhs.parts, &rhs.local)?;
-    Ok(within_list(found, &rhs.local)?)
-}
-
-/// Returns the local variables around the place of a fault in a right side, without those of its `where`.
-#[cycle(exprs)]
-fn around_where<'a>(
-    alloc: Global,
-    fault: &Fault,
-    row: &'a [(Option<Expr>, Expr)],
-    decls: &'a [Decl],
-) -> Result<Option<LentNames<'a>>, AllocError>
-    ensures { IfOk result (λ names. names ≡ first_of (around_parts fault.now row.now) (around_declarations fault.now (declarations decls.now))) }
-{
-    match around_row(alloc, fault, row)? {
-        Some(names) => Ok(Some(names)),
-        None => Ok(around_decls(alloc, fault, decls)?),
+    match found {
+        Some(_) => return Ok(()),
+        None => {}
     }
+    around_row(alloc, found, fault, &rhs.parts)?;
+    around_decls(alloc, found, fault, &rhs.local)?;
+    within_list(found, &rhs.local)?;
+    Ok(())
 }
 
-/// Returns the local variables around the place of a fault in expressions with their guards.
+/// Finds the local variables around the place of a fault in expressions with their guards, if none were found before.
 #[cycle(exprs)]
 #[tactic(auto, using(hm_names::proofs::Rows::part_falls))]
 fn around_row<'a>(
     alloc: Global,
+    found: &mut Option<LentNames<'a>>,
     fault: &Fault,
     row: &'a [(Option<Expr>, Expr)],
-) -> Result<Option<LentNames<'a>>, AllocError>
-    ensures { IfOk result (λ names. names ≡ around_parts fault.now row.now) }
+) -> Result<(), AllocError>
+    ensures { OnOk result (found.new ≡ first_of found.old (around_parts fault.now row.now)) }
 {
     'row: for part in row {
-        match around_part(alloc, fault, part)? {
-            Some(names) => return Ok(Some(names)),
-            None => {}
-        }
+        around_guard(alloc, found, fault, &part.0)?;
+        around_expr(alloc, found, fault, &part.1)?;
     }
-    Ok(None)
+    Ok(())
 }
 
-/// Returns the local variables around the place of a fault in an expression with its guard.
-#[cycle(exprs)]
-fn around_part<'a>(
-    alloc: Global,
-    fault: &Fault,
-    part: &'a (Option<Expr>, Expr),
-) -> Result<Option<LentNames<'a>>, AllocError>
-    ensures { IfOk result (λ names. names ≡ first_of (around_guard fault.now part.now.0) (around_expression fault.now part.now.1)) }
-{
-    match around_guard(alloc, fault, &part.0)? {
-        Some(names) => Ok(Some(names)),
-        None => Ok(around_expr(alloc, fault, &part.1)?),
-    }
-}
-
-/// Returns the local variables around the place of a fault in a guard, if there is a guard.
+/// Finds the local variables around the place of a fault in a guard, if there is a guard and none were found before.
 #[cycle(exprs)]
 fn around_guard<'a>(
     alloc: Global,
+    found: &mut Option<LentNames<'a>>,
     fault: &Fault,
     guard: &'a Option<Expr>,
-) -> Result<Option<LentNames<'a>>, AllocError>
-    ensures { IfOk result (λ names. names ≡ around_guard fault.now guard.now) }
+) -> Result<(), AllocError>
+    ensures { OnOk result (found.new ≡ first_of found.old (around_guard fault.now guard.now)) }
 {
     match guard {
-        Some(guard) => Ok(around_expr(alloc, fault, guard)?),
-        None => Ok(None),
+        Some(guard) => Ok(around_expr(alloc, found, fault, guard)?),
+        None => Ok(()),
     }
 }
 
-/// Returns the local variables around the place of a fault in a declaration list, without those of the list.
+/// Finds the local variables around the place of a fault in a declaration list, without those of the list, if none were found before.
 #[cycle(exprs)]
 #[tactic(auto, using(hm_names::proofs::Rows::declaration_falls))]
 fn around_decls<'a>(
     alloc: Global,
+    found: &mut Option<LentNames<'a>>,
     fault: &Fault,
     row: &'a [Decl],
-) -> Result<Option<LentNames<'a>>, AllocError>
-    ensures { IfOk result (λ names. names ≡ around_declarations fault.now (declarations row.now)) }
+) -> Result<(), AllocError>
+    ensures { OnOk result (found.new ≡ first_of found.old (around_declarations fault.now (declarations row.now))) }
 {
     'row: for decl in row {
-        match around_decl(alloc, fault, decl)? {
-            Some(names) => return Ok(Some(names)),
-            None => {}
-        }
+        around_decl(alloc, found, fault, decl)?;
     }
-    Ok(None)
+    Ok(())
 }
 
-/// Returns the local variables around the place of a fault in a declaration.
+/// Finds the local variables around the place of a fault in a declaration, if none were found before.
 #[cycle(exprs)]
 fn around_decl<'a>(
     alloc: Global,
+    found: &mut Option<LentNames<'a>>,
     fault: &Fault,
     decl: &'a Decl,
-) -> Result<Option<LentNames<'a>>, AllocError>
-    ensures { IfOk result (λ names. names ≡ around_declaration fault.now decl.now) }
+) -> Result<(), AllocError>
+    ensures { OnOk result (found.new ≡ first_of found.old (around_declaration fault.now decl.now)) }
 {
+    match found {
+        Some(_) => return Ok(()),
+        None => {}
+    }
     match &decl.kind {
-        DeclKind::DataType { .. } => Ok(None),
-        DeclKind::Newtype { .. } => Ok(None),
-        DeclKind::Synonym { .. } => Ok(None),
-        DeclKind::Signature { .. } => Ok(None),
+        DeclKind::DataType { .. } => Ok(()),
+        DeclKind::Newtype { .. } => Ok(()),
+        DeclKind::Synonym { .. } => Ok(()),
+        DeclKind::Signature { .. } => Ok(()),
         DeclKind::Clause { pats, rhs, .. } => {
-            let found = around_rhs(alloc, fault, rhs)?;
-            Ok(within_patterns(found, pats)?)
+            around_rhs(alloc, found, fault, rhs)?;
+            within_patterns(found, pats)?;
+            Ok(())
         }
-        DeclKind::Pattern { rhs, .. } => Ok(around_rhs(alloc, fault, rhs)?),
+        DeclKind::Pattern { rhs, .. } => Ok(around_rhs(alloc, found, fault, rhs)?),
     }
 }
 
@@ -330,7 +275,9 @@ pub(crate) fn near_local<'a>(
 ) -> Result<Option<&'a str>, AllocError>
     ensures { IfOk result (λ found. IfSome found (λ x. HasNearLocal program.now fault.now x.now)) }
 {
-    let Some(names) = around_decls(alloc, fault, program.decls.as_slice())? else {
+    let mut found = None;
+    around_decls(alloc, &mut found, fault, program.decls.as_slice())?;
+    let Some(names) = found else {
         return Ok(None);
     };
     let others = TextSet::new(alloc);

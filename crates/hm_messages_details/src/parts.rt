@@ -1,8 +1,8 @@
 //! The parts of a module in which details of faults are found.
 ghost use Rattle.std.specs.Prelude.{◌≡◌, ◌++◌, ◌∷◌, [], IfOk, OnOk, map};
 ghost use Rattle.hm_syntax.specs.Trees.{more_patterns, no_patterns};
-ghost use Rattle.hm_syntax.specs.Lists.{patterns, types, constructors, expressions, alternatives, declarations};
-ghost use Rattle.hm_messages_details.specs.Parts.{part_of, type_parts, types_parts, constructor_parts, constructors_parts, pattern_parts, patterns_parts, head_parts, expression_parts, expressions_parts, alternative_parts, alternatives_parts, right_side_parts, bodies_of_parts, guard_parts, declarations_parts, declaration_parts, module_parts};
+ghost use Rattle.hm_syntax.specs.Lists.{patterns, types, constructors, expressions, alternatives};
+ghost use Rattle.hm_messages_details.specs.Parts.{part_of, type_parts, types_parts, constructor_parts, constructors_parts, pattern_parts, patterns_parts, head_parts, expression_parts, expressions_parts, alternatives_parts, right_side_parts, bodies_of_parts, guard_parts, declaration_parts, module_parts};
 
 use hm_syntax::{
     Alt, Constr, Decl, DeclKind, Expr, ExprKind, Module, Name, Pat, PatKind, Rhs, TypeExpr,
@@ -205,18 +205,9 @@ fn add_alts<'a>(out: &mut Vec<Part<'a>>, row: &'a [Alt]) -> Result<(), AllocErro
     ensures { OnOk result (map part_of out.new.items ≡ map part_of out.old.items ++ alternatives_parts (alternatives row.now)) }
 {
     'row: for alt in row {
-        add_alt(out, alt)?;
+        add_alone(out, &alt.pat)?;
+        add_rhs(out, &alt.rhs)?;
     }
-    Ok(())
-}
-
-/// Adds the parts of an alternative.
-#[cycle(exprs)]
-fn add_alt<'a>(out: &mut Vec<Part<'a>>, alt: &'a Alt) -> Result<(), AllocError>
-    ensures { OnOk result (map part_of out.new.items ≡ map part_of out.old.items ++ alternative_parts alt.now) }
-{
-    add_alone(out, &alt.pat)?;
-    add_rhs(out, &alt.rhs)?;
     Ok(())
 }
 
@@ -259,21 +250,12 @@ fn add_guard<'a>(out: &mut Vec<Part<'a>>, guard: &'a Option<Expr>) -> Result<(),
 
 /// Adds a declaration list and its parts.
 #[cycle(exprs)]
+#[tactic(auto, using(hm_names::proofs::Rows::declaration_falls))]
 fn add_list<'a>(out: &mut Vec<Part<'a>>, decls: &'a [Decl]) -> Result<(), AllocError>
     ensures { OnOk result (map part_of out.new.items ≡ map part_of out.old.items ++ module_parts decls.now) }
 {
     add_part(out, Part::List(decls))?;
-    add_decls(out, decls)?;
-    Ok(())
-}
-
-/// Adds the parts of declarations.
-#[cycle(exprs)]
-#[tactic(auto, using(hm_names::proofs::Rows::declaration_falls))]
-fn add_decls<'a>(out: &mut Vec<Part<'a>>, row: &'a [Decl]) -> Result<(), AllocError>
-    ensures { OnOk result (map part_of out.new.items ≡ map part_of out.old.items ++ declarations_parts (declarations row.now)) }
-{
-    'row: for decl in row {
+    'row: for decl in decls {
         add_decl(out, decl)?;
     }
     Ok(())

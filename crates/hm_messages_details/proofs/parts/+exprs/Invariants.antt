@@ -1,8 +1,8 @@
 use Rattle.std.proofs.Common.{◌≡◌, ◌++◌, ◌+◌, ◌*◌, drop, map}
 use Rattle.hm_syntax.specs.Lists.{expressions, alternatives, declarations, bodies}
-use Rattle.hm_syntax.specs.Sizes.{expression_size, expressions_size, alternative_size, alternatives_size, right_side_size, bodies_size, declaration_size, declarations_size}
+use Rattle.hm_syntax.specs.Sizes.{expression_size, expressions_size, alternatives_size, right_side_size, bodies_size, declaration_size, declarations_size}
 use Rattle.hm_names.specs.Found.{guard_size}
-use Rattle.hm_messages_details.specs.Parts.{part_of, expressions_parts, alternatives_parts, bodies_of_parts, declarations_parts}
+use Rattle.hm_messages_details.specs.Parts.{part_of, expressions_parts, alternatives_parts, bodies_of_parts, declarations_parts, module_parts}
 use Rattle.hm_messages_details.proofs.parts.+exprs.Given as goal
 
 abbrev pub decreases-add_expr : goal.decreases-add_expr
@@ -13,9 +13,6 @@ decreases-add_exprs l = 2 * expressions_size (expressions l.row.now)
 
 abbrev pub decreases-add_alts : goal.decreases-add_alts
 decreases-add_alts l = 2 * alternatives_size (alternatives l.row.now)
-
-abbrev pub decreases-add_alt : goal.decreases-add_alt
-decreases-add_alt l = 2 * alternative_size l.alt.now
 
 abbrev pub decreases-add_rhs : goal.decreases-add_rhs
 decreases-add_rhs l = 2 * right_side_size l.rhs.now
@@ -29,9 +26,6 @@ decreases-add_guard l = 2 * guard_size l.guard.now + 1
 abbrev pub decreases-add_list : goal.decreases-add_list
 decreases-add_list l = 2 * declarations_size (declarations l.decls.now) + 1
 
-abbrev pub decreases-add_decls : goal.decreases-add_decls
-decreases-add_decls l = 2 * declarations_size (declarations l.row.now)
-
 abbrev pub decreases-add_decl : goal.decreases-add_decl
 decreases-add_decl l = 2 * declaration_size l.decl.now
 
@@ -44,5 +38,5 @@ invariant-add_alts-row l = map part_of l.out.items ++ alternatives_parts (altern
 abbrev pub invariant-add_bodies-row : goal.invariant-add_bodies-row
 invariant-add_bodies-row l = map part_of l.out.items ++ bodies_of_parts (drop l.part-index l.row) ≡ map part_of l.fn.out.items ++ bodies_of_parts l.row
 
-abbrev pub invariant-add_decls-row : goal.invariant-add_decls-row
-invariant-add_decls-row l = map part_of l.out.items ++ declarations_parts (declarations (drop l.decl-index l.row)) ≡ map part_of l.fn.out.items ++ declarations_parts (declarations l.row)
+abbrev pub invariant-add_list-row : goal.invariant-add_list-row
+invariant-add_list-row l = map part_of l.out.items ++ declarations_parts (declarations (drop l.decl-index l.decls)) ≡ map part_of l.fn.out.items ++ module_parts l.decls
