@@ -1,5 +1,5 @@
 //! What is wrong with a module, in a few words.
-ghost use Rattle.std.specs.Prelude.{◌≡◌, IfOk, option_map, string_bytes};
+ghost use Rattle.std.specs.Prelude.{◌≡◌, ◌++◌, IfOk, option_map, string_bytes};
 ghost use Rattle.hm_messages_details.specs.Details.{candidate_of, elsewhere, known_of};
 ghost use Rattle.hm_messages.specs.Headings.{both_text as both_bytes, detail_text as detail_bytes, either_text as either_bytes, fault_title as fault_title_bytes, first_text, hidden_title as hidden_title_bytes, hiding_text as hiding_bytes, kind_title as kind_title_bytes, line_text as line_bytes, near_text, not_from_text as not_from_bytes, qualified_text as qualified_bytes, space_noun as noun_bytes, written_text as written_bytes};
 
@@ -9,25 +9,35 @@ use hm_messages_json::Position;
 use hm_names::{Kind, Namespace};
 use std::alloc::{AllocError, Global};
 
+/// Returns a text with a name in it.
+fn with_name(alloc: Global, front: &str, name: &str, back: &str) -> Result<String, AllocError>
+    ensures { IfOk result (λ text. string_bytes text ≡ front.now ++ name.now ++ back.now) }
+{
+    format!(in alloc; "{front}{name}{back}")
+}
+
 /// Returns what is wrong, by the kind and the name alone.
 fn kind_title(alloc: Global, kind: Kind, name: &str) -> Result<String, AllocError>
     ensures { IfOk result (λ text. string_bytes text ≡ kind_title_bytes kind name.now) }
 {
     match kind {
-        Kind::NotExported => format!(in alloc; "cannot import '{name}'"),
-        Kind::Duplicate => format!(in alloc; "a second declaration of '{name}'"),
-        Kind::NoBinding => format!(in alloc; "the signature of '{name}' has no clauses"),
-        Kind::Unbound => format!(in alloc; "'{name}' isn't in scope"),
-        Kind::Ambiguous => format!(in alloc; "'{name}' is ambiguous"),
-        Kind::ExportClash => format!(in alloc; "two different things are exported as '{name}'"),
-        Kind::NotImported => format!(in alloc; "no import is called '{name}'"),
-        Kind::NonLinear => format!(in alloc; "'{name}' occurs twice in these patterns"),
-        Kind::Arity => format!(in alloc; "wrong number of arguments for '{name}'"),
-        Kind::ClauseLength => format!(in alloc;
-            "the clauses of '{name}' have different numbers of patterns"
+        Kind::NotExported => with_name(alloc, "cannot import '", name, "'"),
+        Kind::Duplicate => with_name(alloc, "a second declaration of '", name, "'"),
+        Kind::NoBinding => with_name(alloc, "the signature of '", name, "' has no clauses"),
+        Kind::Unbound => with_name(alloc, "'", name, "' isn't in scope"),
+        Kind::Ambiguous => with_name(alloc, "'", name, "' is ambiguous"),
+        Kind::ExportClash => with_name(alloc, "two different things are exported as '", name, "'"),
+        Kind::NotImported => with_name(alloc, "no import is called '", name, "'"),
+        Kind::NonLinear => with_name(alloc, "'", name, "' occurs twice in these patterns"),
+        Kind::Arity => with_name(alloc, "wrong number of arguments for '", name, "'"),
+        Kind::ClauseLength => with_name(
+            alloc,
+            "the clauses of '",
+            name,
+            "' have different numbers of patterns",
         ),
-        Kind::Untyped => format!(in alloc; "type error in '{name}'"),
-        Kind::Recursive => format!(in alloc; "the type synonym '{name}' is defined by itself"),
+        Kind::Untyped => with_name(alloc, "type error in '", name, "'"),
+        Kind::Recursive => with_name(alloc, "the type synonym '", name, "' is defined by itself"),
     }
 }
 

@@ -1,9 +1,9 @@
-use Rattle.std.proofs.Common.{rules, ◌≡◌, ◌∙◌, ◌++◌, ◌+◌, ◌-◌, ◌≤◌, ◌<◌, List, ℕ, [], arith, drop, length, map, get_or, ap, sym, subst, take, take_while}
+use Rattle.std.proofs.Common.{rules, ◌≡◌, ◌∙◌, ◌++◌, ◌+◌, ◌-◌, ◌≤◌, ◌<◌, List, ℕ, [], drop, length, map, get_or, ap, sym, subst, take, take_while}
 use Rattle.std.proofs.lemmas.List.{length-drop, length-map, map-append, take_all}
 use Rattle.hm_messages.specs.ModuleStarts.{KnownModules, is_from, start_of}
 use Rattle.hm_messages.specs.Pages.{file_at, files_in, starts_in, texts_in}
 use Rattle.hm_messages.specs.declared.starts.ModuleStart.{ModuleStart}
-use Rattle.hm_messages.proofs.Grouping.{AreGrouped, all_grouped, mapped_at, next_grouped, next_start, next_taken, next_within, none_left, starts_more}
+use Rattle.hm_messages.proofs.Grouping.{AreGrouped, all_grouped, mapped_at, next_grouped, next_start, next_taken, next_within, none_least, none_left, not_longer, starts_more}
 use Rattle.hm_messages.proofs.Naming.{as_many_texts, files_more, texts_more}
 use Rattle.hm_messages.proofs.files.pages_of.Goals as goal
 
@@ -16,7 +16,7 @@ loop-number-init c =
     record {
       texts = texts;
       files = files;
-      from_within = omega arith;
+      from_within = none_least (length c.args.starts.now);
       starts = starts;
       grouped = all_grouped (map (λ s. s.items) c.args.sources.now) c.args.starts.now c.requires;
     }
@@ -30,8 +30,9 @@ new-modules-requires c =
     let from = c.loop-number.from in
     let text : c.as_slice-text.result.now ≡ get_or sources k [] =
     mapped_at c.args.sources.now (λ s. s.items) k c.index-sources-number.result c.as_slice-text.result.now c.loop-number-test.true c.index-sources-number.is c.as_slice-text.ensures.value in
-    let is : own ≡ take_while (is_from k) (drop from starts) = c.in_ok-own.ensures ∙ ap (take_while (is_from k)) (take_all (length starts - from) (drop from starts) (omega (arith, length-drop from starts))) in
-    next_start sources starts own k from (omega (arith, c.loop-number-test.true, length-map c.args.sources.now (λ s. s.items))) c.loop-number.invariant.grouped is c.as_slice-text.result.now text
+    let is : own ≡ take_while (is_from k) (drop from starts) = c.in_ok-own.ensures ∙ ap (take_while (is_from k)) (take_all (length starts - from) (drop from starts) (not_longer _ _ (length-drop from starts))) in
+    let low : k < length sources = subst (λ (n : ℕ). k < n) (sym (length-map c.args.sources.now (λ s. s.items))) c.loop-number-test.true in
+    next_start sources starts own k from low c.loop-number.invariant.grouped is c.as_slice-text.result.now text
 
 pub loop-number-preserved : goal.loop-number-preserved
 loop-number-preserved c =
@@ -43,8 +44,8 @@ loop-number-preserved c =
     let from = c.loop-number.from in
     let known = c.loop-number.invariant in
     let pages = c.push.new.self.items in
-    let low : k < length sources = omega (arith, c.loop-number-test.true, length-map c.args.sources.now (λ s. s.items)) in
-    let is : own ≡ take_while (is_from k) (drop from starts) = c.in_ok-own.ensures ∙ ap (take_while (is_from k)) (take_all (length starts - from) (drop from starts) (omega (arith, length-drop from starts))) in
+    let low : k < length sources = subst (λ (n : ℕ). k < n) (sym (length-map c.args.sources.now (λ s. s.items))) c.loop-number-test.true in
+    let is : own ≡ take_while (is_from k) (drop from starts) = c.in_ok-own.ensures ∙ ap (take_while (is_from k)) (take_all (length starts - from) (drop from starts) (not_longer _ _ (length-drop from starts))) in
     let many : c.len-from.result ≡ length own = search rules in
     let more : starts_in pages ≡ starts_in c.loop-number.items.items ++ map start_of own =
     starts_more c.loop-number.items.items pages _ (map start_of own) c.in_ok-push.ensures.items (ap (λ (v : KnownModules). v.starts) c.new-modules.ensures) in
@@ -66,5 +67,5 @@ loop-number-preserved c =
 pub returns-clause-starts : goal.returns-clause-starts
 returns-clause-starts c =
     let sources : List (List ℕ) = map (λ s. s.items) c.args.sources.now in
-    let past : length sources ≤ c.loop-number.number = omega (arith, c.loop-number-test.false, length-map c.args.sources.now (λ s. s.items)) in
+    let past : length sources ≤ c.loop-number.number = subst (λ (n : ℕ). n ≤ c.loop-number.number) (sym (length-map c.args.sources.now (λ s. s.items))) c.loop-number-test.false in
     c.loop-number.invariant.starts ∙ ap (map start_of) (none_left sources c.args.starts.now c.loop-number.number c.loop-number.from past c.loop-number.invariant.grouped)
