@@ -1,5 +1,5 @@
 //! The texts of the hint at a fault of syntax.
-ghost use Rattle.std.specs.Prelude.{◌≡◌, IfOk, string_bytes};
+ghost use Rattle.std.specs.Prelude.{◌≡◌, ◌++◌, IfOk, string_bytes};
 ghost use Rattle.hm_messages_hints.specs.SyntaxTexts.{change_help, change_text, quoted, syntax_help, syntax_text};
 
 use crate::change::Change;
@@ -14,6 +14,14 @@ fn quoted(alloc: Global, text: &str) -> Result<String, AllocError>
         return String::from_str(alloc, "the end of the source");
     }
     format!(in alloc; "'{text}'")
+}
+
+/// Returns the text of a token between quotes, with what is before and behind it.
+fn around(alloc: Global, front: &str, text: &str, back: &str) -> Result<String, AllocError>
+    ensures { IfOk result (λ line. string_bytes line ≡ front.now ++ quoted text.now ++ back.now) }
+{
+    let quote = quoted(alloc, text)?;
+    format!(in alloc; "{front}{quote}{back}")
 }
 
 /// Returns the first line of the text of a change of the token with this text.
@@ -42,16 +50,17 @@ fn change_text(alloc: Global, change: Change, text: &str) -> Result<String, Allo
 pub fn syntax_text(alloc: Global, hint: SyntaxHint, text: &str) -> Result<String, AllocError>
     ensures { IfOk result (λ line. string_bytes line ≡ syntax_text hint text.now) }
 {
-    let quote = quoted(alloc, text)?;
-    let quote = quote.as_str();
     match hint {
         SyntaxHint::NoHeader => String::from_str(alloc, "a file begins with 'module NAME where {'"),
         SyntaxHint::ModuleEnded => String::from_str(
             alloc,
             "the module ends at the '}' before this, and only another 'module' may follow",
         ),
-        SyntaxHint::NoBrace => format!(in alloc;
-            "expected '{{' before {quote}: layout isn't supported"
+        SyntaxHint::NoBrace => around(
+            alloc,
+            "expected '{' before ",
+            text,
+            ": layout isn't supported",
         ),
         SyntaxHint::LeftOut(feature) => String::from_str(alloc, feature.text()),
         SyntaxHint::Comprehension(_) => String::from_str(
@@ -59,20 +68,21 @@ pub fn syntax_text(alloc: Global, hint: SyntaxHint, text: &str) -> Result<String
             "list comprehensions aren't supported",
         ),
         SyntaxHint::Range(_) => String::from_str(alloc, "'[a .. b]' isn't supported"),
-        SyntaxHint::SmallName => format!(in alloc; "{quote} must begin with a capital letter here"),
-        SyntaxHint::AppliedVariable => format!(in alloc;
-            "a type variable takes no arguments: is '->' or ',' missing before {quote}?"
+        SyntaxHint::SmallName => around(alloc, "", text, " must begin with a capital letter here"),
+        SyntaxHint::AppliedVariable => around(
+            alloc,
+            "a type variable takes no arguments: is '->' or ',' missing before ",
+            text,
+            "?",
         ),
         SyntaxHint::Repaired(repair) => change_text(alloc, repair.change, text),
         SyntaxHint::WherePart(_) => String::from_str(
             alloc,
             "'where' can't be within parentheses or square brackets",
         ),
-        SyntaxHint::NoElse(_) => format!(in alloc; "an 'if' before {quote} has no 'else'"),
-        SyntaxHint::NotClosed(_) => format!(in alloc; "a bracket before {quote} isn't closed"),
-        SyntaxHint::InPattern(_) => format!(in alloc;
-            "unexpected {quote} in a pattern of a 'case'"
-        ),
+        SyntaxHint::NoElse(_) => around(alloc, "an 'if' before ", text, " has no 'else'"),
+        SyntaxHint::NotClosed(_) => around(alloc, "a bracket before ", text, " isn't closed"),
+        SyntaxHint::InPattern(_) => around(alloc, "unexpected ", text, " in a pattern of a 'case'"),
         SyntaxHint::Record => String::from_str(alloc, "fields with names aren't supported"),
         SyntaxHint::Update => String::from_str(
             alloc,
@@ -82,9 +92,12 @@ pub fn syntax_text(alloc: Global, hint: SyntaxHint, text: &str) -> Result<String
             alloc,
             "a 'case' needs at least one alternative",
         ),
-        SyntaxHint::Unexpected => format!(in alloc; "unexpected {quote}"),
-        SyntaxHint::AppliedName(_) => format!(in alloc;
-            "a variable takes no arguments in a pattern: is ',' missing before {quote}?"
+        SyntaxHint::Unexpected => change_text(alloc, Change::Remove, text),
+        SyntaxHint::AppliedName(_) => around(
+            alloc,
+            "a variable takes no arguments in a pattern: is ',' missing before ",
+            text,
+            "?",
         ),
         SyntaxHint::TypedPattern => String::from_str(alloc, "'::' can't follow a pattern"),
         SyntaxHint::ConsPattern => String::from_str(alloc, "unexpected ':' after a pattern"),
@@ -99,7 +112,7 @@ pub fn syntax_text(alloc: Global, hint: SyntaxHint, text: &str) -> Result<String
         ),
         SyntaxHint::NumberComma => String::from_str(alloc, "unexpected ',' after a number"),
         SyntaxHint::WhereAfterSemicolon => String::from_str(alloc, "unexpected ';' before 'where'"),
-        SyntaxHint::NoThen(_) => format!(in alloc; "an 'if' before {quote} has no 'then'"),
+        SyntaxHint::NoThen(_) => around(alloc, "an 'if' before ", text, " has no 'then'"),
         SyntaxHint::NewtypeArguments(_) => String::from_str(
             alloc,
             "a 'newtype' has one constructor with one argument",
