@@ -2,7 +2,7 @@
 use Rattle.std.proofs.Common.{◌≡◌, ℕ, zero, suc, ◌+◌, ◌<◌, List, [], ◌∷◌, ◌++◌, Some, length, length-append, map, get_or, refl, sym, ap, subst, arith, inl, inr}
 use Rattle.hm_lex.specs.Places.{IsBefore}
 use Rattle.hm_lex.specs.declared.token.Place.{Place}
-use Rattle.hm_messages.specs.ModuleStarts.{IsBeforeFirst, IsModuleOf, IsWithin, MayStart, Start, start_of}
+use Rattle.hm_messages.specs.ModuleStarts.{IsBeforeFirst, IsModuleAround, IsWithin, MayStart, Start, start_of}
 use Rattle.hm_messages.specs.declared.starts.ModuleStart.{ModuleStart}
 
 no_first : (n : ℕ) → n < 0 → ⊥
@@ -49,7 +49,7 @@ module _ (place : Place) where
         ends = rest.ends;
       }
 
-  pub spelled_within : (source : List ℕ) (starts : List Start) (name : List ℕ) → MayStart source starts → IsWithin starts place name → IsModuleOf source place (Some name)
+  pub spelled_within : (source : List ℕ) (starts : List Start) (name : List ℕ) → MayStart source starts → IsWithin starts place name → IsModuleAround source place (Some name)
   spelled_within source starts name (inl none) w =
       let long : length starts ≡ length (w.earlier ++ w.here ∷ w.later) = ap length w.all in
       absurd (isnt_none (length starts) (length (w.earlier ++ w.here ∷ w.later)) (length w.earlier) (length w.later) long (ap length none) (length-append w.earlier (w.here ∷ w.later)))

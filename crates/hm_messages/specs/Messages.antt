@@ -14,7 +14,7 @@ use Rattle.hm_messages_json.specs.Objects.{message_text}
 use Rattle.hm_messages_json.specs.declared.message.Message.{Message}
 use Rattle.hm_messages_json.specs.declared.message.Position.{Position}
 use Rattle.hm_messages.specs.Headings.{actual_in, expected_in, heading, kind_of, level_of, name_in, other_in, title}
-use Rattle.hm_messages.specs.ModuleStarts.{IsModuleAt, IsModuleOf, Start}
+use Rattle.hm_messages.specs.ModuleStarts.{IsModuleAt, IsModuleAround, Start}
 use Rattle.hm_messages.specs.Sentences.{sentence}
 use Rattle.hm_messages.specs.Subjects.{Subject, fault}
 use Rattle.hm_messages.specs.declared.heading.Paint.{Paint}
@@ -83,7 +83,7 @@ pub record IsObject (file source : List ℕ) (place : Place) (subject : Subject)
   pub file_is : message.file.now ≡ utf8_lossy file
   pub range : IsRangeAt source place message.start message.end
   pub about : IsAbout subject message
-  pub module_is : IsModuleOf source place (option_map (λ name. name.now) message.«module»)
+  pub module_is : IsModuleAround source place (option_map (λ name. name.now) message.«module»)
   pub says : text ≡ message_text message
 
 -- the text is the object of a message that names the module which the place is in among these, or no module if it is in none

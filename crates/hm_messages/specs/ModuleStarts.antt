@@ -47,9 +47,9 @@ IsModuleAt starts place None = IsBeforeFirst place starts
 IsModuleAt starts place (Some name) = IsWithin starts place name
 
 -- a module that is named is one of the source, and the place is in it
-abbrev pub IsModuleOf : List ℕ → Place → Option (List ℕ) → Type 0
-IsModuleOf source place None = ⊤
-IsModuleOf source place (Some name) = (modules : List Module) × HasModules source modules × IsWithin (map module_start modules) place name
+abbrev pub IsModuleAround : List ℕ → Place → Option (List ℕ) → Type 0
+IsModuleAround source place None = ⊤
+IsModuleAround source place (Some name) = (modules : List Module) × HasModules source modules × IsWithin (map module_start modules) place name
 
 -- the modules of a source, or none if they aren't known
 abbrev pub MayStart : List ℕ → List Start → Type 0

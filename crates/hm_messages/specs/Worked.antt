@@ -11,7 +11,7 @@ use Rattle.hm_run_sources.specs.declared.located.Located.{Located}
 use Rattle.hm_messages.specs.Foreign.{IsForeign}
 use Rattle.hm_messages.specs.FurtherFaults.{AreFirstFaults}
 use Rattle.hm_messages.specs.Messages.{IsMessage}
-use Rattle.hm_messages.specs.ModuleStarts.{IsModuleOf, module_start}
+use Rattle.hm_messages.specs.ModuleStarts.{IsModuleAround, module_start}
 use Rattle.hm_messages.specs.Refused.{IsNamedAt, IsRefusedAt, place_of}
 use Rattle.hm_messages.specs.Subjects.{Subject}
 use Rattle.hm_messages.specs.Twins.{IsTwinOf}
@@ -43,10 +43,10 @@ pub record TwinRow : Type 0 where
 pub record ModuleRow : Type 0 where
   pub first :
       (s : List ℕ) (a b : Module) → module_start a ≡ record { place = record { line = 1; column = 8 }; name = codes "A" } → module_start b ≡ record { place = record { line = 9; column = 8 }; name = codes "B" }
-      → HasModules s (a ∷ b ∷ []) → IsModuleOf s (record { line = 5; column = 1 }) (Some (codes "A"))
+      → HasModules s (a ∷ b ∷ []) → IsModuleAround s (record { line = 5; column = 1 }) (Some (codes "A"))
   pub not_second :
       (s : List ℕ) (a b : Module) → module_start a ≡ record { place = record { line = 1; column = 8 }; name = codes "A" } → module_start b ≡ record { place = record { line = 9; column = 8 }; name = codes "B" }
-      → HasModules s (a ∷ b ∷ []) → ¬ (IsModuleOf s (record { line = 5; column = 1 }) (Some (codes "B")))
+      → HasModules s (a ∷ b ∷ []) → ¬ (IsModuleAround s (record { line = 5; column = 1 }) (Some (codes "B")))
 
 -- a source spells one module without imports: its plan can be refused at the module's name, and at no other place. The lexical fault of the second of two
 -- sources is in that source, and not in the first one

@@ -1,6 +1,6 @@
 //! Where the modules of a source start.
 ghost use Rattle.std.specs.Prelude.{◌≡◌, false, map, option_map, true};
-ghost use Rattle.hm_messages.specs.ModuleStarts.{IsModuleAt, IsModuleOf, MayStart, start_of};
+ghost use Rattle.hm_messages.specs.ModuleStarts.{IsModuleAt, IsModuleAround, MayStart, start_of};
 
 use hm_lex::Place;
 use std::marker::Model;
@@ -43,7 +43,7 @@ impl<'a> SourceModules<'a> {
     /// Returns the name of the module that a place is in: the last one whose name doesn't come after it.
     pub(crate) fn module_at(&self, place: Place) -> Option<&'a str>
         ensures among { IsModuleAt self.now.starts place (option_map (λ name. name.now) result) }
-        ensures spelled { IsModuleOf self.now.source place (option_map (λ name. name.now) result) }
+        ensures spelled { IsModuleAround self.now.source place (option_map (λ name. name.now) result) }
     {
         let mut low = 0usize;
         let mut high = self.starts.len();

@@ -1,7 +1,7 @@
 use Rattle.std.proofs.Common.{rules, ◌≡◌, ℕ, List, inl, option_map, string_bytes, subst}
 use Rattle.hm_messages_json.specs.declared.message.Message.{Message}
 use Rattle.hm_messages.specs.Messages.{IsHint}
-use Rattle.hm_messages.specs.ModuleStarts.{IsModuleOf}
+use Rattle.hm_messages.specs.ModuleStarts.{IsModuleAround}
 use Rattle.hm_messages.specs.Sentences.{sentence}
 use Rattle.hm_messages.specs.Subjects.{subject_of}
 use Rattle.hm_messages.proofs.objects.object.Goals as goal
@@ -41,7 +41,7 @@ returns-clause-told c =
         actual_is = search rules;
         hint_is = subst (IsHint (sentence (subject_of c.args.topic.now))) hint_same (search rules);
       };
-      module_is = subst (λ (s : List ℕ). IsModuleOf s c.args.place (option_map (λ name. name.now) c.module_at.result)) c.args.page.now.same c.module_at.ensures.spelled;
+      module_is = subst (λ (s : List ℕ). IsModuleAround s c.args.place (option_map (λ name. name.now) c.module_at.result)) c.args.page.now.same c.module_at.ensures.spelled;
       says = search rules;
     })
 
