@@ -1,3 +1,4 @@
+pub mod CommaLoops
 pub mod Loops
 pub mod TypeLoops
 pub mod MarkLoops

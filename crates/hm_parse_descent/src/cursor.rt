@@ -1,6 +1,7 @@
 //! The rest of a source's tokens, and the steps on them that all parts of the parser take.
 ghost use Rattle.std.specs.Prelude.{◌≡◌, IfOk};
 ghost use Rattle.hm_parse_grammar.specs.Reading.Basics.{peek, is_at, is_done, is_at_word, tail, expect, name_at, module_name_at, modid_at, item_end, past_semicolons};
+ghost use Rattle.hm_parse_grammar.specs.declared.symbol.Symbol.TheVariants.{RightBrace};
 ghost use Rattle.hm_parse_grammar.specs.Reading.Constructors.{IsPlaceAt};
 ghost use Rattle.hm_parse_grammar.specs.Reading.Answers.{Gives};
 ghost use Rattle.hm_parse_grammar.specs.Places.{AllLieIn};
@@ -293,5 +294,14 @@ impl Parser<'_> {
         'semicolons: while self.at(Symbol::Semicolon) {
             self.skip();
         }
+    }
+
+    /// Skips semicolons. Returns whether the brace that ends the items is next.
+    pub(crate) fn reaches_brace(&mut self) -> bool
+        ensures past { self.new ≡ past_semicolons self.old }
+        ensures at_end { result ≡ is_at RightBrace (past_semicolons self.old) }
+    {
+        self.past_semicolons();
+        self.at(Symbol::RightBrace)
     }
 }

@@ -1,12 +1,12 @@
 //! Expressions and declarations (Haskell 98 Report, sections 3 and 4.4).
-ghost use Rattle.std.specs.Prelude.{◌≡◌, ◌≤◌, length, [], ◌∷◌, false, IfOk};
-ghost use Rattle.hm_syntax.specs.Lists.{bodies};
-ghost use Rattle.hm_parse_grammar.specs.Reading.Basics.{peek, tail, is_at, loop, behind, next_of, closing, tuple_behind, list_in};
-ghost use Rattle.hm_parse_grammar.specs.Reading.Expressions.{tuple_of_expressions, list_of_expressions, next_item_of, var_at, exp_with, aexp_step, args_from, guarded_in, next_guarded, bodies_with, where_with, rhs_with, alt_with, alts_with, case_with, opd_with, link, typed_behind, consed, cons_expression, open_by, lambda_with, let_with, if_with, signature_with, begins_binding, binding_of, binding_with, clause_with, decl_with, all_expressions};
+ghost use Rattle.std.specs.Prelude.{◌≡◌, [], ◌∷◌, false, IfOk};
+ghost use Rattle.hm_parse_grammar.specs.Reading.Basics.{peek, is_at, loop, behind, next_of, list_in};
+ghost use Rattle.hm_parse_grammar.specs.Reading.Expressions.{list_of_expressions, var_at, exp_with, aexp_by, aexp_step, guarded_in, bodies_with, rhs_with, alts_with, case_with, opd_with, link, typed_behind, consed, cons_expression, open_by, lambda_with, let_with, if_with, signature_with, begins_binding, binding_of, binding_with, decl_with, all_expressions};
 ghost use Rattle.hm_parse_grammar.specs.Reading.Answers.{Gives};
+ghost use Rattle.hm_parse_grammar.specs.declared.symbol.Symbol.TheVariants.{Open};
 
 use crate::cursor::{Context, Parser};
-use crate::owned::{both_boxed, boxed, only, put_first};
+use crate::owned::{both_boxed, boxed, only};
 use crate::types::MAX_COMPONENTS;
 use hm_lex::Place;
 use hm_parse_grammar::{ParseFault, Symbol};
@@ -126,15 +126,16 @@ impl Parser<'_> {
 
     /// Reads a lambda after its backslash.
     #[cycle(exprs)]
-    #[tactic(auto, using(crate::proofs::ExpressionLoops::apat_shorter, crate::proofs::ExpressionLoops::apats_shorter, crate::proofs::ExpressionLoops::expect_shorter), unfolding(hm_parse_grammar::specs::Reading::Expressions::lambda_with))]
+    #[tactic(auto, using(crate::proofs::ExpressionLoops::apats_shorter, crate::proofs::ExpressionLoops::expect_shorter, crate::proofs::ExpressionLoops::lambda_read, crate::proofs::ExpressionLoops::lambda_without, crate::proofs::ExpressionLoops::lambda_no_pattern, crate::proofs::ExpressionLoops::lambda_no_arrow, crate::proofs::ExpressionLoops::lambda_no_body))]
     fn lambda(&mut self, alloc: Global, context: Context) -> Result<Expr, ParseFault>
         ensures { Gives (λ e. (e, self.new)) result (lambda_with all_expressions self.old) }
     {
-        let first = self.apat(alloc)?;
-        let more = or_drop!(self.apats(alloc), first);
-        let params = put_first(first, more)?;
+        if !self.symbol().begins_apat() {
+            return Err(ParseFault::Syntax(self.place()));
+        }
+        let params = self.apats(alloc)?;
         let params = self.before(params, Symbol::Arrow)?;
-        let body = self.boxed_exp(alloc, context)?;
+        let body = or_drop!(self.boxed_exp(alloc, context), params);
         Ok(Expr {
             kind: ExprKind::Lambda(params, body),
         })
@@ -147,8 +148,8 @@ impl Parser<'_> {
         ensures { Gives (λ e. (e, self.new)) result (let_with all_expressions self.old) }
     {
         let local = self.decls(alloc)?;
-        self.expect(Symbol::In)?;
-        let body = self.boxed_exp(alloc, context)?;
+        let local = self.before(local, Symbol::In)?;
+        let body = or_drop!(self.boxed_exp(alloc, context), local);
         Ok(Expr {
             kind: ExprKind::Let(local, body),
         })
@@ -161,10 +162,10 @@ impl Parser<'_> {
         ensures { Gives (λ e. (e, self.new)) result (if_with all_expressions self.old) }
     {
         let test = self.boxed_exp(alloc, Context::Elsewhere)?;
-        self.expect(Symbol::Then)?;
-        let consequence = self.boxed_exp(alloc, Context::Elsewhere)?;
-        self.expect(Symbol::Else)?;
-        let alternative = self.boxed_exp(alloc, context)?;
+        let test = self.before(test, Symbol::Then)?;
+        let consequence = or_drop!(self.boxed_exp(alloc, Context::Elsewhere), test);
+        or_drop!(self.expect(Symbol::Else), test, consequence);
+        let alternative = or_drop!(self.boxed_exp(alloc, context), test, consequence);
         Ok(Expr {
             kind: ExprKind::If(test, consequence, alternative),
         })
@@ -200,9 +201,9 @@ impl Parser<'_> {
         ensures { Gives (λ e. (e, self.new)) result (case_with all_expressions self.old) }
     {
         let subject = self.boxed_exp(alloc, Context::Elsewhere)?;
-        self.expect(Symbol::Of)?;
-        self.expect(Symbol::LeftBrace)?;
-        let alts = self.alts(alloc)?;
+        let subject = self.before(subject, Symbol::Of)?;
+        let subject = self.before(subject, Symbol::LeftBrace)?;
+        let alts = or_drop!(self.alts(alloc), subject);
         Ok(Expr {
             kind: ExprKind::Case(subject, alts),
         })
@@ -210,68 +211,44 @@ impl Parser<'_> {
 
     /// Reads the alternatives of a `case`, at least one, and the brace that ends them.
     #[cycle(exprs)]
-    #[tactic(auto, using(crate::proofs::ExpressionLoops::past_shorter, crate::proofs::ExpressionLoops::alts_go_on, crate::proofs::ExpressionLoops::alts_end, crate::proofs::ExpressionLoops::alts_fail, crate::proofs::ExpressionLoops::alts_start, crate::proofs::ExpressionLoops::next_alts_shorter), unfolding(hm_parse_grammar::specs::Reading::Expressions::alts_with))]
+    #[tactic(auto, using(crate::proofs::ExpressionLoops::past_shorter, crate::proofs::ExpressionLoops::pattern_shorter, crate::proofs::ExpressionLoops::alts_none, crate::proofs::ExpressionLoops::alts_start, crate::proofs::ExpressionLoops::alts_go_on, crate::proofs::ExpressionLoops::alts_end, crate::proofs::ExpressionLoops::alts_no_pattern, crate::proofs::ExpressionLoops::alts_no_rhs, crate::proofs::ExpressionLoops::alts_open, crate::proofs::ExpressionLoops::next_alts_shorter))]
     fn alts(&mut self, alloc: Global) -> Result<Vec<Alt>, ParseFault>
         ensures { Gives (λ v. (v.items, self.new)) result (alts_with all_expressions self.old) }
     {
-        self.past_semicolons();
-        let is_empty = self.at(Symbol::RightBrace);
-        if is_empty {
+        if self.reaches_brace() {
             return Err(ParseFault::Syntax(self.place()));
         }
         let mut found = Vec::new(alloc);
-        'alts: while let Some(alt) = self.next_alt(alloc)? {
-            found.push(alt)?;
+        'alts: while !self.reaches_brace() {
+            let pat = self.pat(alloc)?;
+            let rhs = or_drop!(self.rhs(alloc, Symbol::Arrow), pat);
+            found.push(Alt { pat, rhs })?;
+            self.item_end(Symbol::Semicolon, Symbol::RightBrace)?;
         }
+        self.skip();
         Ok(found)
-    }
-
-    /// Reads an alternative, or returns `None` at the brace that ends them.
-    #[cycle(exprs)]
-    #[tactic(auto, using(crate::proofs::ExpressionLoops::past_shorter, crate::proofs::ExpressionLoops::pattern_shorter), unfolding(hm_parse_grammar::specs::Reading::Expressions::next_item_of, hm_parse_grammar::specs::Reading::Expressions::alt_with))]
-    fn next_alt(&mut self, alloc: Global) -> Result<Option<Alt>, ParseFault>
-        ensures { Gives (λ a. (a, self.new)) result (next_item_of (alt_with all_expressions) self.old) }
-    {
-        self.past_semicolons();
-        if self.at(Symbol::RightBrace) {
-            self.skip();
-            return Ok(None);
-        }
-        let pat = self.pat(alloc)?;
-        let rhs = or_drop!(self.rhs(alloc, Symbol::Arrow), pat);
-        let alt = Alt { pat, rhs };
-        Ok(Some(self.ended(alt, Symbol::Semicolon, Symbol::RightBrace)?))
     }
 
     /// Reads a right side with its local declarations. It begins with this mark, or with guards and this mark.
     #[cycle(exprs)]
-    #[tactic(auto, using(crate::proofs::ExpressionLoops::bodies_shorter), unfolding(hm_parse_grammar::specs::Reading::Expressions::rhs_with))]
+    #[tactic(auto, using(crate::proofs::ExpressionLoops::bodies_shorter, crate::proofs::ExpressionLoops::where_shorter), unfolding(hm_parse_grammar::specs::Reading::Expressions::rhs_with, hm_parse_grammar::specs::Reading::Expressions::where_with))]
     fn rhs(&mut self, alloc: Global, mark: Symbol) -> Result<Rhs, ParseFault>
         requires { is_at mark [] ≡ false }
         ensures { Gives (λ b. (b, self.new)) result (rhs_with all_expressions mark self.old) }
     {
         let parts = self.bodies(alloc, mark)?;
-        let local = self.local_decls(alloc)?;
-        Ok(Rhs { parts, local })
-    }
-
-    /// Reads the declarations after `where`, if that is the next word.
-    #[cycle(exprs)]
-    #[tactic(auto, using(crate::proofs::ExpressionLoops::where_shorter), unfolding(hm_parse_grammar::specs::Reading::Expressions::where_with))]
-    fn local_decls(&mut self, alloc: Global) -> Result<Vec<Decl>, ParseFault>
-        ensures { Gives (λ v. (v.items, self.new)) result (where_with all_expressions self.old) }
-    {
-        if self.at(Symbol::Where) {
-            self.skip();
-            self.decls(alloc)
-        } else {
-            Ok(Vec::new(alloc))
+        if !self.at(Symbol::Where) {
+            let local = Vec::new(alloc);
+            return Ok(Rhs { parts, local });
         }
+        self.skip();
+        let local = or_drop!(self.decls(alloc), parts);
+        Ok(Rhs { parts, local })
     }
 
     /// Reads the expressions of a right side, with their guards.
     #[cycle(exprs)]
-    #[tactic(auto, using(crate::proofs::ExpressionLoops::symbol_shorter, crate::proofs::ExpressionLoops::bar_shorter), unfolding(hm_parse_grammar::specs::Reading::Expressions::bodies_with))]
+    #[tactic(auto, using(crate::proofs::ExpressionLoops::symbol_shorter, crate::proofs::ExpressionLoops::bar_shorter, crate::proofs::ExpressionLoops::body_alone, crate::proofs::ExpressionLoops::body_none, crate::proofs::ExpressionLoops::bodies_none, crate::proofs::ExpressionLoops::guards_start, crate::proofs::ExpressionLoops::guards_go_on, crate::proofs::ExpressionLoops::guards_end, crate::proofs::ExpressionLoops::guards_fail, crate::proofs::ExpressionLoops::next_guarded_shorter))]
     fn bodies(
         &mut self,
         alloc: Global,
@@ -288,26 +265,10 @@ impl Parser<'_> {
         if !self.at(Symbol::Bar) {
             return Err(ParseFault::Syntax(self.place()));
         }
-        self.skip();
-        let first = self.guarded(alloc, mark)?;
-        self.guards(alloc, mark, first)
-    }
-
-    /// Reads the guards after the first one and its expression.
-    #[cycle(exprs)]
-    #[tactic(auto, using(crate::proofs::ExpressionLoops::guards_go_on, crate::proofs::ExpressionLoops::guards_end, crate::proofs::ExpressionLoops::guards_fail, crate::proofs::ExpressionLoops::next_guarded_shorter))]
-    fn guards(
-        &mut self,
-        alloc: Global,
-        mark: Symbol,
-        first: (Option<Expr>, Expr),
-    ) -> Result<Vec<(Option<Expr>, Expr)>, ParseFault>
-        ensures { Gives (λ v. (v.items, self.new)) result (behind (first ∷ []) (loop (next_guarded all_expressions mark) self.old)) }
-    {
         let mut found = Vec::new(alloc);
-        found.push(first)?;
-        'guards: while let Some(next) = self.next_guarded(alloc, mark)? {
-            found.push(next)?;
+        'guards: while self.at(Symbol::Bar) {
+            self.skip();
+            found.push(self.guarded(alloc, mark)?)?;
         }
         Ok(found)
     }
@@ -324,26 +285,9 @@ impl Parser<'_> {
         Ok((Some(guard), body))
     }
 
-    #[cycle(exprs)]
-    #[tactic(auto, using(crate::proofs::ExpressionLoops::bar_shorter), unfolding(hm_parse_grammar::specs::Reading::Expressions::next_guarded))]
-    fn next_guarded(
-        &mut self,
-        alloc: Global,
-        mark: Symbol,
-    ) -> Result<Option<(Option<Expr>, Expr)>, ParseFault>
-        ensures { Gives (λ x. (x, self.new)) result (next_guarded all_expressions mark self.old) }
-    {
-        if self.at(Symbol::Bar) {
-            self.skip();
-            Ok(Some(self.guarded(alloc, mark)?))
-        } else {
-            Ok(None)
-        }
-    }
-
     /// Reads an expression that needs no parentheses.
     #[cycle(exprs)]
-    #[tactic(auto, using(crate::proofs::Loops::open_shorter, crate::proofs::TypeLoops::square_shorter, crate::proofs::ExpressionLoops::exp_shorter), unfolding(hm_parse_grammar::specs::Reading::Expressions::aexp_step))]
+    #[tactic(auto, using(crate::proofs::TypeLoops::square_shorter), unfolding(hm_parse_grammar::specs::Reading::Expressions::aexp_step))]
     pub(crate) fn aexp(&mut self, alloc: Global) -> Result<Expr, ParseFault>
         ensures { Gives (λ e. (e, self.new)) result (aexp_step all_expressions self.old) }
     {
@@ -366,11 +310,7 @@ impl Parser<'_> {
                     kind: ExprKind::Literal(literal),
                 })
             }
-            Symbol::Open => {
-                self.skip();
-                let first = self.exp(alloc, Context::Elsewhere)?;
-                self.exp_closing(alloc, first)
-            }
+            Symbol::Open => self.exp_in(alloc),
             Symbol::OpenSquare => {
                 self.skip();
                 self.exp_list(alloc)
@@ -379,24 +319,18 @@ impl Parser<'_> {
         }
     }
 
-    /// Reads the rest after `(` and an expression.
+    /// Reads an expression or a tuple in parentheses. A comma after the last allowed component is a fault.
     #[cycle(exprs)]
-    #[tactic(auto, unfolding(hm_parse_grammar::specs::Reading::Basics::closing))]
-    fn exp_closing(&mut self, alloc: Global, first: Expr) -> Result<Expr, ParseFault>
-        ensures { Gives (λ e. (e, self.new)) result (closing (exp_with all_expressions) tuple_of_expressions first self.old) }
+    #[tactic(auto, using(crate::proofs::Loops::open_shorter, crate::proofs::TypeLoops::comma_shorter, crate::proofs::ExpressionLoops::exp_shorter, crate::proofs::ExpressionLoops::no_expression, crate::proofs::ExpressionLoops::alone, crate::proofs::ExpressionLoops::alone_open, crate::proofs::ExpressionLoops::components_start, crate::proofs::ExpressionLoops::components_go_on, crate::proofs::ExpressionLoops::components_end, crate::proofs::ExpressionLoops::components_open, crate::proofs::ExpressionLoops::components_fail, crate::proofs::ExpressionLoops::components_many))]
+    fn exp_in(&mut self, alloc: Global) -> Result<Expr, ParseFault>
+        requires { peek self.old ≡ Open }
+        ensures { Gives (λ e. (e, self.new)) result (aexp_by all_expressions Open self.old) }
     {
+        self.skip();
+        let first = self.exp(alloc, Context::Elsewhere)?;
         if !self.at(Symbol::Comma) {
             return Ok(self.before(first, Symbol::Close)?);
         }
-        self.exp_tuple(alloc, first)
-    }
-
-    /// Reads a tuple after its first component. A comma after the last allowed component is a fault.
-    #[cycle(exprs)]
-    #[tactic(auto, using(crate::proofs::TypeLoops::comma_shorter, crate::proofs::ExpressionLoops::exp_shorter, crate::proofs::ExpressionLoops::components_go_on, crate::proofs::ExpressionLoops::components_end, crate::proofs::ExpressionLoops::components_open, crate::proofs::ExpressionLoops::components_fail, crate::proofs::ExpressionLoops::components_many))]
-    fn exp_tuple(&mut self, alloc: Global, first: Expr) -> Result<Expr, ParseFault>
-        ensures { Gives (λ e. (e, self.new)) result (tuple_behind (exp_with all_expressions) tuple_of_expressions first self.old) }
-    {
         let mut found = only(alloc, first)?;
         'components: while self.at(Symbol::Comma) {
             if found.len() == MAX_COMPONENTS {
@@ -413,7 +347,7 @@ impl Parser<'_> {
 
     /// Reads a list after `[`.
     #[cycle(exprs)]
-    #[tactic(auto, using(crate::proofs::TypeLoops::comma_shorter, crate::proofs::ExpressionLoops::exp_shorter, crate::proofs::ExpressionLoops::components_go_on, crate::proofs::ExpressionLoops::elements_none, crate::proofs::ExpressionLoops::elements_open, crate::proofs::ExpressionLoops::elements_fail))]
+    #[tactic(auto, using(crate::proofs::TypeLoops::comma_shorter, crate::proofs::ExpressionLoops::exp_shorter, crate::proofs::ExpressionLoops::elements_none, crate::proofs::ExpressionLoops::elements_start, crate::proofs::ExpressionLoops::elements_go_on, crate::proofs::ExpressionLoops::elements_end, crate::proofs::ExpressionLoops::elements_open, crate::proofs::ExpressionLoops::elements_fail))]
     fn exp_list(&mut self, alloc: Global) -> Result<Expr, ParseFault>
         ensures { Gives (λ e. (e, self.new)) result (list_in (exp_with all_expressions) list_of_expressions self.old) }
     {
@@ -431,36 +365,23 @@ impl Parser<'_> {
 
     /// Reads declarations between braces.
     #[cycle(exprs)]
-    #[tactic(auto, using(crate::proofs::ExpressionLoops::decls_is, crate::proofs::ExpressionLoops::expect_shorter, crate::proofs::ExpressionLoops::decls_go_on, crate::proofs::ExpressionLoops::decls_end, crate::proofs::ExpressionLoops::decls_fail, crate::proofs::ExpressionLoops::decls_start, crate::proofs::ExpressionLoops::next_decls_shorter), unfolding(hm_parse_grammar::specs::Reading::Expressions::decls_step))]
+    #[tactic(auto, using(crate::proofs::ExpressionLoops::expect_shorter, crate::proofs::ExpressionLoops::past_shorter, crate::proofs::ExpressionLoops::decls_none, crate::proofs::ExpressionLoops::decls_start, crate::proofs::ExpressionLoops::decls_go_on, crate::proofs::ExpressionLoops::decls_end, crate::proofs::ExpressionLoops::decls_fail, crate::proofs::ExpressionLoops::decls_open, crate::proofs::ExpressionLoops::next_decls_shorter))]
     fn decls(&mut self, alloc: Global) -> Result<Vec<Decl>, ParseFault>
         ensures { Gives (λ v. (v.items, self.new)) result (all_expressions.decls self.old) }
     {
         self.expect(Symbol::LeftBrace)?;
         let mut found = Vec::new(alloc);
-        'decls: while let Some(decl) = self.next_decl(alloc)? {
-            found.push(decl)?;
+        'decls: while !self.reaches_brace() {
+            found.push(self.decl(alloc)?)?;
+            self.item_end(Symbol::Semicolon, Symbol::RightBrace)?;
         }
+        self.skip();
         Ok(found)
-    }
-
-    /// Reads a declaration, or returns `None` at the brace that ends them.
-    #[cycle(exprs)]
-    #[tactic(auto, using(crate::proofs::ExpressionLoops::past_shorter), unfolding(hm_parse_grammar::specs::Reading::Expressions::next_item_of))]
-    fn next_decl(&mut self, alloc: Global) -> Result<Option<Decl>, ParseFault>
-        ensures { Gives (λ d. (d, self.new)) result (next_item_of (decl_with all_expressions) self.old) }
-    {
-        self.past_semicolons();
-        if self.at(Symbol::RightBrace) {
-            self.skip();
-            return Ok(None);
-        }
-        let decl = self.decl(alloc)?;
-        Ok(Some(self.ended(decl, Symbol::Semicolon, Symbol::RightBrace)?))
     }
 
     /// Reads a signature, a clause or a pattern binding.
     #[cycle(exprs)]
-    #[tactic(auto, using(crate::proofs::ExpressionLoops::variable_shorter), unfolding(hm_parse_grammar::specs::Reading::Expressions::decl_with, hm_parse_grammar::specs::Reading::Expressions::named_with))]
+    #[tactic(auto, using(crate::proofs::ExpressionLoops::variable_shorter, crate::proofs::ExpressionLoops::apats_shorter), unfolding(hm_parse_grammar::specs::Reading::Expressions::decl_with, hm_parse_grammar::specs::Reading::Expressions::named_with, hm_parse_grammar::specs::Reading::Expressions::clause_with))]
     pub(crate) fn decl(&mut self, alloc: Global) -> Result<Decl, ParseFault>
         ensures { Gives (λ d. (d, self.new)) result (decl_with all_expressions self.old) }
     {
@@ -471,15 +392,6 @@ impl Parser<'_> {
         if self.symbol().begins_signature() {
             return self.signature(alloc, name);
         }
-        self.clause(alloc, name)
-    }
-
-    /// Reads a clause after its name.
-    #[cycle(exprs)]
-    #[tactic(auto, using(crate::proofs::ExpressionLoops::apats_shorter), unfolding(hm_parse_grammar::specs::Reading::Expressions::clause_with))]
-    fn clause(&mut self, alloc: Global, name: Name) -> Result<Decl, ParseFault>
-        ensures { Gives (λ d. (d, self.new)) result (clause_with all_expressions name self.old) }
-    {
         let pats = or_drop!(self.apats(alloc), name);
         let rhs = or_drop!(self.rhs(alloc, Symbol::Equals), name, pats);
         Ok(Decl {
@@ -524,27 +436,15 @@ impl Parser<'_> {
         }
     }
 
-    /// Reads a comma and a variable, if a comma is next.
-    #[tactic(auto, unfolding(hm_parse_grammar::specs::Reading::Basics::next_of))]
-    fn next_var(&mut self, alloc: Global) -> Result<Option<Name>, ParseFault>
-        ensures { Gives (λ n. (n, self.new)) result (next_of var_at self.old) }
-    {
-        if self.at(Symbol::Comma) {
-            self.skip();
-            Ok(Some(self.var(alloc)?))
-        } else {
-            Ok(None)
-        }
-    }
-
     /// Reads the variables after a first one.
-    #[tactic(auto, using(crate::proofs::ExpressionLoops::vars_go_on, crate::proofs::ExpressionLoops::vars_end, crate::proofs::ExpressionLoops::vars_fail, crate::proofs::ExpressionLoops::next_vars_shorter))]
+    #[tactic(auto, using(crate::proofs::TypeLoops::comma_shorter, crate::proofs::ExpressionLoops::vars_go_on, crate::proofs::ExpressionLoops::vars_end, crate::proofs::ExpressionLoops::vars_fail, crate::proofs::ExpressionLoops::next_vars_shorter))]
     fn vars(&mut self, alloc: Global, first: Name) -> Result<Vec<Name>, ParseFault>
         ensures { Gives (λ v. (v.items, self.new)) result (behind (first ∷ []) (loop (next_of var_at) self.old)) }
     {
         let mut found = only(alloc, first)?;
-        'vars: while let Some(var) = self.next_var(alloc)? {
-            found.push(var)?;
+        'vars: while self.at(Symbol::Comma) {
+            self.skip();
+            found.push(self.var(alloc)?)?;
         }
         Ok(found)
     }

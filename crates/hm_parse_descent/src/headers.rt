@@ -1,7 +1,7 @@
 //! The part of a module before its declarations: its export list and its imports (Haskell 98 Report, sections 5.2 and 5.3).
 ghost use Rattle.std.specs.Prelude.{◌≡◌, codes, option_map};
-ghost use Rattle.hm_parse_grammar.specs.Reading.Basics.{tail, is_at_word, loop};
-ghost use Rattle.hm_parse_grammar.specs.Reading.Headers.{con_at, next_con, con_row, subs_in, subs_at, export_at, item_at, next_export, next_item, exports_in, items_in, exports_at, qualified_at, alias_at, list_at, import_in, import_at, import_from, next_import};
+ghost use Rattle.hm_parse_grammar.specs.Reading.Basics.{tail, is_at_word};
+ghost use Rattle.hm_parse_grammar.specs.Reading.Headers.{con_at, con_row, subs_in, subs_at, export_at, item_at, exports_in, items_in, exports_at, qualified_at, alias_at, list_at, import_in, import_at, import_from, next_import};
 ghost use Rattle.hm_parse_grammar.specs.Reading.Answers.{Gives};
 
 use crate::cursor::Parser;
@@ -22,28 +22,16 @@ impl Parser<'_> {
         }
     }
 
-    /// Reads a comma and a constructor, if a comma is next.
-    #[tactic(auto, unfolding(hm_parse_grammar::specs::Reading::Headers::next_con))]
-    pub(crate) fn next_con(&mut self, alloc: Global) -> Result<Option<Name>, ParseFault>
-        ensures { Gives (λ n. (n, self.new)) result (next_con self.old) }
-    {
-        if self.at(Symbol::Comma) {
-            self.skip();
-            Ok(Some(self.con(alloc)?))
-        } else {
-            Ok(None)
-        }
-    }
-
     /// Reads constructors with commas between them, at least one.
-    #[tactic(auto, using(crate::proofs::Loops::cons_go_on, crate::proofs::Loops::cons_end, crate::proofs::Loops::cons_fail, crate::proofs::Loops::cons_shorter), unfolding(hm_parse_grammar::specs::Reading::Headers::con_row))]
+    #[tactic(auto, using(crate::proofs::TypeLoops::comma_shorter, crate::proofs::Loops::cons_go_on, crate::proofs::Loops::cons_end, crate::proofs::Loops::cons_fail, crate::proofs::Loops::cons_shorter), unfolding(hm_parse_grammar::specs::Reading::Headers::con_row))]
     pub(crate) fn con_row(&mut self, alloc: Global) -> Result<Row<Name>, ParseFault>
         ensures { Gives (λ s. (s, self.new)) result (con_row self.old) }
     {
         let first = self.con(alloc)?;
         let mut items = only(alloc, first)?;
-        'cons: while let Some(con) = self.next_con(alloc)? {
-            items.push(con)?;
+        'cons: while self.at(Symbol::Comma) {
+            self.skip();
+            items.push(self.con(alloc)?)?;
         }
         Ok(Row { items })
     }
@@ -113,34 +101,8 @@ impl Parser<'_> {
         }
     }
 
-    /// Reads an export and the comma after it, or returns `None` at the end of the list.
-    #[tactic(auto, unfolding(hm_parse_grammar::specs::Reading::Headers::next_export))]
-    pub(crate) fn next_export(&mut self, alloc: Global) -> Result<Option<Export>, ParseFault>
-        ensures { Gives (λ e. (e, self.new)) result (next_export self.old) }
-    {
-        if self.at(Symbol::Close) {
-            self.skip();
-            return Ok(None);
-        }
-        let export = self.export(alloc)?;
-        Ok(Some(self.ended(export, Symbol::Comma, Symbol::Close)?))
-    }
-
-    /// Reads an item and the comma after it, or returns `None` at the end of the list.
-    #[tactic(auto, unfolding(hm_parse_grammar::specs::Reading::Headers::next_item))]
-    pub(crate) fn next_item(&mut self, alloc: Global) -> Result<Option<ImportItem>, ParseFault>
-        ensures { Gives (λ e. (e, self.new)) result (next_item self.old) }
-    {
-        if self.at(Symbol::Close) {
-            self.skip();
-            return Ok(None);
-        }
-        let item = self.item(alloc)?;
-        Ok(Some(self.ended(item, Symbol::Comma, Symbol::Close)?))
-    }
-
     /// Reads an export list after its `(`.
-    #[tactic(auto, using(crate::proofs::Loops::exports_go_on, crate::proofs::Loops::exports_end, crate::proofs::Loops::exports_fail, crate::proofs::Loops::exports_start, crate::proofs::Loops::exports_shorter), unfolding(hm_parse_grammar::specs::Reading::Headers::exports_in))]
+    #[tactic(auto, using(crate::proofs::Loops::exports_go_on, crate::proofs::Loops::exports_end, crate::proofs::Loops::exports_fail, crate::proofs::Loops::exports_open, crate::proofs::Loops::exports_start, crate::proofs::Loops::exports_shorter), unfolding(hm_parse_grammar::specs::Reading::Headers::exports_in))]
     pub(crate) fn exports_in(&mut self, alloc: Global) -> Result<Row<Export>, ParseFault>
         ensures { Gives (λ e. (e, self.new)) result (exports_in self.old) }
     {
@@ -151,14 +113,16 @@ impl Parser<'_> {
             return Ok(Row { items });
         }
         let mut items = Vec::new(alloc);
-        'exports: while let Some(export) = self.next_export(alloc)? {
-            items.push(export)?;
+        'exports: while !self.at(Symbol::Close) {
+            items.push(self.export(alloc)?)?;
+            self.item_end(Symbol::Comma, Symbol::Close)?;
         }
+        self.skip();
         Ok(Row { items })
     }
 
     /// Reads an import list after its `(`.
-    #[tactic(auto, using(crate::proofs::Loops::items_go_on, crate::proofs::Loops::items_end, crate::proofs::Loops::items_fail, crate::proofs::Loops::items_start, crate::proofs::Loops::items_shorter), unfolding(hm_parse_grammar::specs::Reading::Headers::items_in))]
+    #[tactic(auto, using(crate::proofs::Loops::items_go_on, crate::proofs::Loops::items_end, crate::proofs::Loops::items_fail, crate::proofs::Loops::items_open, crate::proofs::Loops::items_start, crate::proofs::Loops::items_shorter), unfolding(hm_parse_grammar::specs::Reading::Headers::items_in))]
     pub(crate) fn items_in(&mut self, alloc: Global) -> Result<Row<ImportItem>, ParseFault>
         ensures { Gives (λ e. (e, self.new)) result (items_in self.old) }
     {
@@ -169,9 +133,11 @@ impl Parser<'_> {
             return Ok(Row { items });
         }
         let mut items = Vec::new(alloc);
-        'items: while let Some(item) = self.next_item(alloc)? {
-            items.push(item)?;
+        'items: while !self.at(Symbol::Close) {
+            items.push(self.item(alloc)?)?;
+            self.item_end(Symbol::Comma, Symbol::Close)?;
         }
+        self.skip();
         Ok(Row { items })
     }
 

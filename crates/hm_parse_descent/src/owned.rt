@@ -32,12 +32,3 @@ pub(crate) fn only<T: Drop>(alloc: Global, part: T) -> Result<Vec<T>, AllocError
     parts.push(part)?;
     Ok(parts)
 }
-
-/// Returns the list with this part before its first.
-pub(crate) fn put_first<T: Drop>(first: T, rest: Vec<T>) -> Result<Vec<T>, AllocError>
-    ensures { IfOk result (λ parts. parts.items ≡ first ∷ rest.items) }
-{
-    let mut parts = rest;
-    parts.insert(0, first)?;
-    Ok(parts)
-}

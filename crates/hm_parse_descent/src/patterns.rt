@@ -1,11 +1,11 @@
 //! Patterns (Haskell 98 Report, section 3.17), and the constructors and literals in them (section 3.2).
-ghost use Rattle.std.specs.Prelude.{◌≡◌, ◌≤◌, ◌+◌, length, [], ◌∷◌, IfOk, OnOk, true, codes};
-ghost use Rattle.hm_parse_grammar.specs.Reading.Basics.{peek, tail, is_at, loop, closing, tuple_behind, list_in};
+ghost use Rattle.std.specs.Prelude.{◌≡◌, IfOk, OnOk, true, codes};
+ghost use Rattle.hm_parse_grammar.specs.Reading.Basics.{peek, tail, is_at, list_in};
 ghost use Rattle.hm_parse_grammar.specs.Reading.Constructors.{begins_gcon, special_at, commas_at, mark_by, mark_at, gcon_at, literal_at};
 ghost use Rattle.hm_parse_grammar.specs.Grammar.Patterns.{tuple_text};
-ghost use Rattle.hm_parse_grammar.specs.Reading.Patterns.{tuple_of_patterns, list_of_patterns, apat_step, next_apat, apats_with, lpat_with, bound_with, all_patterns};
+ghost use Rattle.hm_parse_grammar.specs.Reading.Patterns.{list_of_patterns, apat_by, apat_step, apats_with, lpat_with, bound_with, all_patterns};
 ghost use Rattle.hm_parse_grammar.specs.Reading.Answers.{Gives};
-ghost use Rattle.hm_parse_grammar.specs.declared.symbol.Symbol.TheVariants.{Colon, Comma};
+ghost use Rattle.hm_parse_grammar.specs.declared.symbol.Symbol.TheVariants.{Colon, Comma, Open};
 
 use crate::cursor::Parser;
 use crate::owned::{boxed, only};
@@ -230,27 +230,15 @@ impl Parser<'_> {
         ensures { Gives (λ v. (v.items, self.new)) result (apats_with all_patterns self.old) }
     {
         let mut found = Vec::new(alloc);
-        'apats: while let Some(apat) = self.next_apat(alloc)? {
-            found.push(apat)?;
+        'apats: while self.symbol().begins_apat() {
+            found.push(self.apat(alloc)?)?;
         }
         Ok(found)
     }
 
-    #[cycle(pats)]
-    #[tactic(auto, unfolding(hm_parse_grammar::specs::Reading::Patterns::next_apat))]
-    fn next_apat(&mut self, alloc: Global) -> Result<Option<Pat>, ParseFault>
-        ensures { Gives (λ p. (p, self.new)) result (next_apat all_patterns self.old) }
-    {
-        if self.symbol().begins_apat() {
-            Ok(Some(self.apat(alloc)?))
-        } else {
-            Ok(None)
-        }
-    }
-
     /// Reads a pattern that needs no parentheses.
     #[cycle(pats)]
-    #[tactic(auto, using(crate::proofs::PatternLoops::apat_is, crate::proofs::PatternLoops::pattern_shorter, crate::proofs::Loops::open_shorter, crate::proofs::TypeLoops::square_shorter, crate::proofs::PatternLoops::tilde_shorter), unfolding(hm_parse_grammar::specs::Reading::Patterns::apat_step))]
+    #[tactic(auto, using(crate::proofs::PatternLoops::apat_is, crate::proofs::TypeLoops::square_shorter, crate::proofs::PatternLoops::tilde_shorter), unfolding(hm_parse_grammar::specs::Reading::Patterns::apat_step))]
     pub(crate) fn apat(&mut self, alloc: Global) -> Result<Pat, ParseFault>
         ensures { Gives (λ p. (p, self.new)) result (apat_step all_patterns self.old) }
     {
@@ -274,11 +262,7 @@ impl Parser<'_> {
                     kind: PatKind::Wild,
                 })
             }
-            Symbol::Open => {
-                self.skip();
-                let first = self.pat(alloc)?;
-                self.pat_closing(alloc, first)
-            }
+            Symbol::Open => self.pat_in(alloc),
             Symbol::OpenSquare => {
                 self.skip();
                 self.pat_list(alloc)
@@ -315,24 +299,18 @@ impl Parser<'_> {
         })
     }
 
-    /// Reads the rest after `(` and a pattern.
+    /// Reads a pattern or a tuple in parentheses. A comma after the last allowed component is a fault.
     #[cycle(pats)]
-    #[tactic(auto, unfolding(hm_parse_grammar::specs::Reading::Basics::closing))]
-    fn pat_closing(&mut self, alloc: Global, first: Pat) -> Result<Pat, ParseFault>
-        ensures { Gives (λ p. (p, self.new)) result (closing all_patterns.whole tuple_of_patterns first self.old) }
+    #[tactic(auto, using(crate::proofs::Loops::open_shorter, crate::proofs::TypeLoops::comma_shorter, crate::proofs::PatternLoops::pattern_shorter, crate::proofs::PatternLoops::no_pattern, crate::proofs::PatternLoops::alone, crate::proofs::PatternLoops::alone_open, crate::proofs::PatternLoops::components_start, crate::proofs::PatternLoops::components_go_on, crate::proofs::PatternLoops::components_end, crate::proofs::PatternLoops::components_open, crate::proofs::PatternLoops::components_fail, crate::proofs::PatternLoops::components_many))]
+    fn pat_in(&mut self, alloc: Global) -> Result<Pat, ParseFault>
+        requires { peek self.old ≡ Open }
+        ensures { Gives (λ p. (p, self.new)) result (apat_by all_patterns Open self.old) }
     {
+        self.skip();
+        let first = self.pat(alloc)?;
         if !self.at(Symbol::Comma) {
             return Ok(self.before(first, Symbol::Close)?);
         }
-        self.pat_tuple(alloc, first)
-    }
-
-    /// Reads a tuple after its first component. A comma after the last allowed component is a fault.
-    #[cycle(pats)]
-    #[tactic(auto, using(crate::proofs::TypeLoops::comma_shorter, crate::proofs::PatternLoops::pattern_shorter, crate::proofs::PatternLoops::components_go_on, crate::proofs::PatternLoops::components_open, crate::proofs::PatternLoops::components_fail, crate::proofs::PatternLoops::components_many))]
-    fn pat_tuple(&mut self, alloc: Global, first: Pat) -> Result<Pat, ParseFault>
-        ensures { Gives (λ p. (p, self.new)) result (tuple_behind all_patterns.whole tuple_of_patterns first self.old) }
-    {
         let mut found = only(alloc, first)?;
         'components: while self.at(Symbol::Comma) {
             if found.len() == MAX_COMPONENTS {
@@ -349,7 +327,7 @@ impl Parser<'_> {
 
     /// Reads a list after `[`.
     #[cycle(pats)]
-    #[tactic(auto, using(crate::proofs::TypeLoops::comma_shorter, crate::proofs::PatternLoops::pattern_shorter, crate::proofs::PatternLoops::components_go_on, crate::proofs::PatternLoops::elements_none, crate::proofs::PatternLoops::elements_end, crate::proofs::PatternLoops::elements_open, crate::proofs::PatternLoops::elements_fail))]
+    #[tactic(auto, using(crate::proofs::TypeLoops::comma_shorter, crate::proofs::PatternLoops::pattern_shorter, crate::proofs::PatternLoops::elements_none, crate::proofs::PatternLoops::elements_start, crate::proofs::PatternLoops::elements_go_on, crate::proofs::PatternLoops::elements_end, crate::proofs::PatternLoops::elements_open, crate::proofs::PatternLoops::elements_fail))]
     fn pat_list(&mut self, alloc: Global) -> Result<Pat, ParseFault>
         ensures { Gives (λ p. (p, self.new)) result (list_in all_patterns.whole list_of_patterns self.old) }
     {

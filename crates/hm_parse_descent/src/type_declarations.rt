@@ -1,7 +1,6 @@
 //! Declarations of types (Haskell 98 Report, section 4.2).
-ghost use Rattle.std.specs.Prelude.{◌≡◌, length, [], ◌∷◌};
-ghost use Rattle.hm_parse_grammar.specs.Reading.Basics.{tail, loop, behind};
-ghost use Rattle.hm_parse_grammar.specs.Reading.TypeDeclarations.{next_tyvar, constr_at, next_constr, constrs_at, data_in, newtype_in, synonym_in};
+ghost use Rattle.hm_parse_grammar.specs.Reading.Basics.{loop};
+ghost use Rattle.hm_parse_grammar.specs.Reading.TypeDeclarations.{next_tyvar, constr_at, constrs_at, data_in, newtype_in, synonym_in};
 ghost use Rattle.hm_parse_grammar.specs.Reading.Answers.{Gives};
 
 use crate::cursor::Parser;
@@ -11,25 +10,14 @@ use hm_syntax::{Constr, Decl, DeclKind, Name};
 use std::alloc::Global;
 
 impl Parser<'_> {
-    #[tactic(auto, unfolding(hm_parse_grammar::specs::Reading::TypeDeclarations::next_tyvar))]
-    fn next_tyvar(&mut self, alloc: Global) -> Result<Option<Name>, ParseFault>
-        ensures { Gives (λ n. (n, self.new)) result (next_tyvar self.old) }
-    {
-        if self.at(Symbol::Var) {
-            Ok(Some(self.name(alloc)?))
-        } else {
-            Ok(None)
-        }
-    }
-
     /// Reads the parameters of a type.
     #[tactic(auto, using(crate::proofs::TypeDeclarationLoops::tyvars_go_on, crate::proofs::TypeDeclarationLoops::tyvars_end, crate::proofs::TypeDeclarationLoops::tyvars_fail, crate::proofs::TypeDeclarationLoops::tyvars_start, crate::proofs::TypeDeclarationLoops::tyvars_shorter))]
     fn tyvars(&mut self, alloc: Global) -> Result<Vec<Name>, ParseFault>
         ensures { Gives (λ v. (v.items, self.new)) result (loop next_tyvar self.old) }
     {
         let mut found = Vec::new(alloc);
-        'tyvars: while let Some(tyvar) = self.next_tyvar(alloc)? {
-            found.push(tyvar)?;
+        'tyvars: while self.at(Symbol::Var) {
+            found.push(self.name(alloc)?)?;
         }
         Ok(found)
     }
@@ -44,18 +32,6 @@ impl Parser<'_> {
         Ok(Constr { name, args })
     }
 
-    #[tactic(auto, unfolding(hm_parse_grammar::specs::Reading::TypeDeclarations::next_constr))]
-    fn next_constr(&mut self, alloc: Global) -> Result<Option<Constr>, ParseFault>
-        ensures { Gives (λ c. (c, self.new)) result (next_constr self.old) }
-    {
-        if self.at(Symbol::Bar) {
-            self.skip();
-            Ok(Some(self.constr(alloc)?))
-        } else {
-            Ok(None)
-        }
-    }
-
     /// Reads constructors with bars between them, at least one.
     #[tactic(auto, using(crate::proofs::TypeDeclarationLoops::constrs_go_on, crate::proofs::TypeDeclarationLoops::constrs_end, crate::proofs::TypeDeclarationLoops::constrs_fail, crate::proofs::TypeDeclarationLoops::constrs_shorter), unfolding(hm_parse_grammar::specs::Reading::TypeDeclarations::constrs_at))]
     fn constrs(&mut self, alloc: Global) -> Result<Vec<Constr>, ParseFault>
@@ -63,8 +39,9 @@ impl Parser<'_> {
     {
         let first = self.constr(alloc)?;
         let mut found = only(alloc, first)?;
-        'constrs: while let Some(constr) = self.next_constr(alloc)? {
-            found.push(constr)?;
+        'constrs: while self.at(Symbol::Bar) {
+            self.skip();
+            found.push(self.constr(alloc)?)?;
         }
         Ok(found)
     }

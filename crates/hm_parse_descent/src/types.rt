@@ -1,7 +1,5 @@
 //! Types (Haskell 98 Report, section 4.1.2).
-ghost use Rattle.std.specs.Prelude.{◌≡◌, length, [], ◌∷◌};
-ghost use Rattle.hm_parse_grammar.specs.Reading.Basics.{tail, loop, closing, tuple_behind};
-ghost use Rattle.hm_parse_grammar.specs.Reading.Types.{tuple_of_types, type_in, atype_with, next_atype, atypes_with, btype_with, type_at};
+ghost use Rattle.hm_parse_grammar.specs.Reading.Types.{type_in, atype_with, atypes_with, btype_with, type_at};
 ghost use Rattle.hm_parse_grammar.specs.Reading.Answers.{Gives};
 
 use crate::cursor::Parser;
@@ -54,22 +52,10 @@ impl Parser<'_> {
         ensures { Gives (λ v. (v.items, self.new)) result (atypes_with type_at self.old) }
     {
         let mut found = Vec::new(alloc);
-        'atypes: while let Some(atype) = self.next_atype(alloc)? {
-            found.push(atype)?;
+        'atypes: while self.symbol().begins_atype() {
+            found.push(self.atype(alloc)?)?;
         }
         Ok(found)
-    }
-
-    #[cycle(type_exprs)]
-    #[tactic(auto, unfolding(hm_parse_grammar::specs::Reading::Types::next_atype))]
-    pub(crate) fn next_atype(&mut self, alloc: Global) -> Result<Option<TypeExpr>, ParseFault>
-        ensures { Gives (λ t. (t, self.new)) result (next_atype type_at self.old) }
-    {
-        if self.symbol().begins_atype() {
-            Ok(Some(self.atype(alloc)?))
-        } else {
-            Ok(None)
-        }
     }
 
     #[cycle(type_exprs)]
@@ -107,10 +93,10 @@ impl Parser<'_> {
         }
     }
 
-    /// Reads a type after `(`.
+    /// Reads a type, a tuple or nothing after `(`. A comma after the last allowed component is a fault.
     #[cycle(type_exprs)]
-    #[tactic(auto, using(crate::proofs::TypeLoops::type_shorter), unfolding(hm_parse_grammar::specs::Reading::Types::type_in))]
-    pub(crate) fn type_in(&mut self, alloc: Global) -> Result<TypeExpr, ParseFault>
+    #[tactic(auto, using(crate::proofs::TypeLoops::comma_shorter, crate::proofs::TypeLoops::type_shorter, crate::proofs::TypeLoops::unit_is, crate::proofs::TypeLoops::no_type, crate::proofs::TypeLoops::alone, crate::proofs::TypeLoops::alone_open, crate::proofs::TypeLoops::components_start, crate::proofs::TypeLoops::components_go_on, crate::proofs::TypeLoops::components_end, crate::proofs::TypeLoops::components_open, crate::proofs::TypeLoops::components_fail, crate::proofs::TypeLoops::components_many))]
+    fn type_in(&mut self, alloc: Global) -> Result<TypeExpr, ParseFault>
         ensures { Gives (λ t. (t, self.new)) result (type_in type_at self.old) }
     {
         if self.at(Symbol::Close) {
@@ -120,27 +106,9 @@ impl Parser<'_> {
             });
         }
         let first = self.type_expr(alloc)?;
-        self.type_closing(alloc, first)
-    }
-
-    /// Reads the rest after `(` and a type.
-    #[cycle(type_exprs)]
-    #[tactic(auto, unfolding(hm_parse_grammar::specs::Reading::Basics::closing))]
-    fn type_closing(&mut self, alloc: Global, first: TypeExpr) -> Result<TypeExpr, ParseFault>
-        ensures { Gives (λ t. (t, self.new)) result (closing type_at tuple_of_types first self.old) }
-    {
-        if self.at(Symbol::Comma) {
-            return self.type_tuple(alloc, first);
+        if !self.at(Symbol::Comma) {
+            return Ok(self.before(first, Symbol::Close)?);
         }
-        Ok(self.before(first, Symbol::Close)?)
-    }
-
-    /// Reads a tuple after its first component. A comma after the last allowed component is a fault.
-    #[cycle(type_exprs)]
-    #[tactic(auto, using(crate::proofs::TypeLoops::comma_shorter, crate::proofs::TypeLoops::type_shorter, crate::proofs::TypeLoops::components_go_on, crate::proofs::TypeLoops::components_end, crate::proofs::TypeLoops::components_open, crate::proofs::TypeLoops::components_fail, crate::proofs::TypeLoops::components_many))]
-    fn type_tuple(&mut self, alloc: Global, first: TypeExpr) -> Result<TypeExpr, ParseFault>
-        ensures { Gives (λ t. (t, self.new)) result (tuple_behind type_at tuple_of_types first self.old) }
-    {
         let mut found = only(alloc, first)?;
         'components: while self.at(Symbol::Comma) {
             if found.len() == MAX_COMPONENTS {

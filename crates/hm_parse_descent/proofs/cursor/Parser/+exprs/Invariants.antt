@@ -1,6 +1,8 @@
-use Rattle.std.proofs.Common.{◌≡◌, ◌+◌, ◌*◌, ◌<◌, ◌≤◌, length, [], ◌∷◌}
-use Rattle.hm_parse_grammar.specs.Reading.Basics.{loop, behind, next_of}
-use Rattle.hm_parse_grammar.specs.Reading.Expressions.{exp_with, args_from, opd_with, behind_operands, link, next_guarded, alt_with, decl_with, next_item_of, all_expressions}
+use Rattle.std.proofs.Common.{◌≡◌, ◌+◌, ◌*◌, ◌<◌, ◌≤◌, length}
+use Rattle.hm_parse_grammar.specs.declared.symbol.Symbol.TheVariants.{Open}
+use Rattle.hm_parse_grammar.specs.Reading.Basics.{loop, behind, list_in}
+use Rattle.hm_parse_grammar.specs.Reading.Expressions.{tuple_of_expressions, list_of_expressions, exp_with, aexp_by, args_from, opd_with, behind_operands, link, next_guarded, bodies_with, alt_with, alts_with, decl_with, next_item_of, all_expressions}
+use Rattle.hm_parse_descent.proofs.CommaLoops.{tuple_rest, list_rest}
 use Rattle.hm_parse_descent.proofs.cursor.Parser.+exprs.Given as goal
 
 abbrev pub decreases-exp : goal.decreases-exp
@@ -45,35 +47,20 @@ decreases-case_of l = 10 * length l.self.now + 11
 abbrev pub decreases-alts : goal.decreases-alts
 decreases-alts l = 10 * length l.self.now + 4
 
-abbrev pub decreases-next_alt : goal.decreases-next_alt
-decreases-next_alt l = 10 * length l.self.now + 3
-
 abbrev pub decreases-rhs : goal.decreases-rhs
 decreases-rhs l = 10 * length l.self.now + 4
-
-abbrev pub decreases-local_decls : goal.decreases-local_decls
-decreases-local_decls l = 10 * length l.self.now + 3
 
 abbrev pub decreases-bodies : goal.decreases-bodies
 decreases-bodies l = 10 * length l.self.now + 3
 
-abbrev pub decreases-guards : goal.decreases-guards
-decreases-guards l = 10 * length l.self.now + 3
-
 abbrev pub decreases-guarded : goal.decreases-guarded
 decreases-guarded l = 10 * length l.self.now + 10
-
-abbrev pub decreases-next_guarded : goal.decreases-next_guarded
-decreases-next_guarded l = 10 * length l.self.now + 2
 
 abbrev pub decreases-aexp : goal.decreases-aexp
 decreases-aexp l = 10 * length l.self.now + 5
 
-abbrev pub decreases-exp_closing : goal.decreases-exp_closing
-decreases-exp_closing l = 10 * length l.self.now + 1
-
-abbrev pub decreases-exp_tuple : goal.decreases-exp_tuple
-decreases-exp_tuple l = 10 * length l.self.now
+abbrev pub decreases-exp_in : goal.decreases-exp_in
+decreases-exp_in l = 10 * length l.self.now + 4
 
 abbrev pub decreases-exp_list : goal.decreases-exp_list
 decreases-exp_list l = 10 * length l.self.now + 10
@@ -81,14 +68,8 @@ decreases-exp_list l = 10 * length l.self.now + 10
 abbrev pub decreases-decls : goal.decreases-decls
 decreases-decls l = 10 * length l.self.now + 2
 
-abbrev pub decreases-next_decl : goal.decreases-next_decl
-decreases-next_decl l = 10 * length l.self.now + 4
-
 abbrev pub decreases-decl : goal.decreases-decl
 decreases-decl l = 10 * length l.self.now + 3
-
-abbrev pub decreases-clause : goal.decreases-clause
-decreases-clause l = 10 * length l.self.now + 5
 
 abbrev pub decreases-binding : goal.decreases-binding
 decreases-binding l = 10 * length l.self.now + 2
@@ -102,37 +83,37 @@ invariant-operand-apply l = record {
 abbrev pub decreases-operand-apply : goal.decreases-operand-apply
 decreases-operand-apply l = length l.self
 
-abbrev pub invariant-exp_tuple-components : goal.invariant-exp_tuple-components
-invariant-exp_tuple-components l = record {
-  read : behind l.found.items (loop (next_of (exp_with all_expressions)) l.self) ≡ behind (l.fn.first ∷ []) (loop (next_of (exp_with all_expressions)) l.fn.self);
+abbrev pub invariant-exp_in-components : goal.invariant-exp_in-components
+invariant-exp_in-components l = record {
+  read : tuple_rest (exp_with all_expressions) tuple_of_expressions l.found.items l.self ≡ aexp_by all_expressions Open l.fn.self;
   few : length l.found.items ≤ 15;
-  left : length l.self ≤ length l.fn.self;
+  left : length l.self < length l.fn.self;
 }
 
-abbrev pub decreases-exp_tuple-components : goal.decreases-exp_tuple-components
-decreases-exp_tuple-components l = length l.self
+abbrev pub decreases-exp_in-components : goal.decreases-exp_in-components
+decreases-exp_in-components l = length l.self
 
 abbrev pub invariant-exp_list-elements : goal.invariant-exp_list-elements
 invariant-exp_list-elements l = record {
-  read : behind l.found.items (loop (next_of (exp_with all_expressions)) l.self) ≡ behind l.initial.found.items (loop (next_of (exp_with all_expressions)) l.initial.self);
+  read : list_rest (exp_with all_expressions) list_of_expressions l.found.items l.self ≡ list_in (exp_with all_expressions) list_of_expressions l.fn.self;
   left : length l.self < length l.fn.self;
 }
 
 abbrev pub decreases-exp_list-elements : goal.decreases-exp_list-elements
 decreases-exp_list-elements l = length l.self
 
-abbrev pub invariant-guards-guards : goal.invariant-guards-guards
-invariant-guards-guards l = record {
-  read : behind l.found.items (loop (next_guarded all_expressions l.fn.mark) l.self) ≡ behind (l.fn.first ∷ []) (loop (next_guarded all_expressions l.fn.mark) l.fn.self);
+abbrev pub invariant-bodies-guards : goal.invariant-bodies-guards
+invariant-bodies-guards l = record {
+  read : behind l.found.items (loop (next_guarded all_expressions l.fn.mark) l.self) ≡ bodies_with all_expressions l.fn.mark l.fn.self;
   left : length l.self ≤ length l.fn.self;
 }
 
-abbrev pub decreases-guards-guards : goal.decreases-guards-guards
-decreases-guards-guards l = length l.self
+abbrev pub decreases-bodies-guards : goal.decreases-bodies-guards
+decreases-bodies-guards l = length l.self
 
 abbrev pub invariant-alts-alts : goal.invariant-alts-alts
 invariant-alts-alts l = record {
-  read : behind l.found.items (loop (next_item_of (alt_with all_expressions)) l.self) ≡ loop (next_item_of (alt_with all_expressions)) l.initial.self;
+  read : behind l.found.items (loop (next_item_of (alt_with all_expressions)) l.self) ≡ alts_with all_expressions l.fn.self;
   left : length l.self ≤ length l.fn.self;
 }
 
@@ -141,7 +122,7 @@ decreases-alts-alts l = length l.self
 
 abbrev pub invariant-decls-decls : goal.invariant-decls-decls
 invariant-decls-decls l = record {
-  read : behind l.found.items (loop (next_item_of (decl_with all_expressions)) l.self) ≡ loop (next_item_of (decl_with all_expressions)) l.initial.self;
+  read : behind l.found.items (loop (next_item_of (decl_with all_expressions)) l.self) ≡ all_expressions.decls l.fn.self;
   left : length l.self < length l.fn.self;
 }
 
