@@ -1,5 +1,5 @@
 -- Texts that are made of pieces.
-use Rattle.std.proofs.Common.{◌≡◌, ◌∙◌, ℕ, ◌+◌, ◌<◌, List, [], ◌++◌, Bor, length, map, take, get_or, append_assoc, sym, ap}
+use Rattle.std.proofs.Common.{◌≡◌, ◌∙◌, ℕ, ◌+◌, ◌<◌, List, [], ◌++◌, Bor, length, map, take, get_or, append_assoc, append-nil, refl, sym, ap}
 use Rattle.std.specs.Prelude.{flat_map}
 use Rattle.std.proofs.lemmas.List.{flat_map_more, map_more, take_more}
 
@@ -8,20 +8,31 @@ pub pieces_more : {X A : Type 0} (f : X → List A) (xs : List X) (i : ℕ) (d :
 pieces_more f xs i d text next piece within before of_one e =
     e ∙ (ap (λ t. t ++ piece) before ∙ (ap (λ p. flat_map f (take i xs) ++ p) of_one ∙ (flat_map_more f [] (take i xs) (get_or xs i d) ∙ sym (ap (flat_map f) (take_more xs i d within)))))
 
--- four pieces, one put in behind the other
-pub four_pieces : {A : Type 0} (a b c d t u v w : List A) → t ≡ a → u ≡ t ++ b → v ≡ u ++ c → w ≡ v ++ d → w ≡ a ++ (b ++ (c ++ d))
-four_pieces a b c d t u v w e f g h =
-    h ∙ (ap (λ x. x ++ d) (g ∙ ap (λ x. x ++ c) (f ∙ ap (λ x. x ++ b) e)) ∙ (append_assoc (a ++ b) c d ∙ append_assoc a b (c ++ d)))
+-- one more piece that is joined to others: the step of a loop
+pub joined_more : (xs : List (Bor (List ℕ))) (i : ℕ) (d : Bor (List ℕ)) (text next : List ℕ) → i < length xs → text ≡ flat_map (λ p. p.now) (take i xs) → next ≡ text ++ (get_or xs i d).now → next ≡ flat_map (λ p. p.now) (take (i + 1) xs)
+joined_more xs i d text next within before e =
+    pieces_more (λ (p : Bor (List ℕ)). p.now) xs i d text next (get_or xs i d).now within before refl e
 
--- five pieces, each put in behind the others
-pub five_in_row : {A : Type 0} (a b c d e t u v w x : List A) → t ≡ a → u ≡ t ++ b → v ≡ u ++ c → w ≡ v ++ d → x ≡ w ++ e → x ≡ a ++ b ++ c ++ d ++ e
-five_in_row a b c d e t u v w x h i j k l =
-    l ∙ ap (λ y. y ++ e) (k ∙ ap (λ y. y ++ d) (j ∙ ap (λ y. y ++ c) (i ∙ ap (λ y. y ++ b) h)))
+-- three pieces that are joined, the first two first
+pub three_joined : {A : Type 0} (a b c x : List A) → x ≡ a ++ (b ++ (c ++ [])) → x ≡ a ++ b ++ c
+three_joined a b c x e = e ∙ simp (append_assoc, append-nil)
+
+-- four pieces, the last two first
+pub four_joined : {A : Type 0} (a b c d x : List A) → x ≡ a ++ (b ++ (c ++ (d ++ []))) → x ≡ a ++ (b ++ (c ++ d))
+four_joined a b c d x e = e ∙ simp append-nil
+
+-- five, the last two first, three of which are known by equations
+pub five_in_row : {A : Type 0} (a b c d e u v w x : List A) → u ≡ b → v ≡ d → w ≡ e → x ≡ a ++ (u ++ (c ++ (v ++ (w ++ [])))) → x ≡ a ++ (b ++ (c ++ (d ++ e)))
+five_in_row a b c d e u v w x g h i f =
+    f ∙ (ap (λ y. a ++ (y ++ (c ++ (v ++ (w ++ []))))) g ∙ (ap (λ y. a ++ (b ++ (c ++ (y ++ (w ++ []))))) h ∙ (ap (λ y. a ++ (b ++ (c ++ (d ++ (y ++ []))))) i ∙ simp append-nil)))
+
+-- five, the first two first
+pub five_joined : {A : Type 0} (a b c d e x : List A) → x ≡ a ++ (b ++ (c ++ (d ++ (e ++ [])))) → x ≡ a ++ b ++ c ++ d ++ e
+five_joined a b c d e x f = f ∙ simp (append_assoc, append-nil)
 
 -- and six
-pub six_in_row : {A : Type 0} (a b c d e f t u v w x y : List A) → t ≡ a → u ≡ t ++ b → v ≡ u ++ c → w ≡ v ++ d → x ≡ w ++ e → y ≡ x ++ f → y ≡ a ++ b ++ c ++ d ++ e ++ f
-six_in_row a b c d e f t u v w x y h i j k l m =
-    m ∙ ap (λ z. z ++ f) (five_in_row a b c d e t u v w x h i j k l)
+pub six_joined : {A : Type 0} (a b c d e f x : List A) → x ≡ a ++ (b ++ (c ++ (d ++ (e ++ (f ++ []))))) → x ≡ a ++ b ++ c ++ d ++ e ++ f
+six_joined a b c d e f x g = g ∙ simp (append_assoc, append-nil)
 
 -- one piece for each name of a list: the step of a loop
 pub named_more : (f : List ℕ → List ℕ) (xs : List (Bor (List ℕ))) (i : ℕ) (d : Bor (List ℕ)) (text next piece : List ℕ) → i < length xs → text ≡ flat_map f (map (λ n. n.now) (take i xs))

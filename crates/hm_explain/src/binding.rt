@@ -19,6 +19,30 @@ fn number_at(tokens: &[Token], place: Place) -> Option<usize> {
     None
 }
 
+/// Returns the tokens of the declarations of the module with this name: those between its brackets.
+pub(crate) fn declarations_of(lexed: &Lexed<'_>, name: &str) -> Option<Run> {
+    let mut next = 0usize;
+    let mut is_named = false;
+    for at in 0..lexed.outline.len() {
+        if at == next {
+            next = lexed.outline.past(at);
+            match lexed.outline.symbol(at) {
+                Symbol::Module => {
+                    is_named = lexed.text(at.saturating_add(1)) == name.as_bytes();
+                }
+                Symbol::LeftBrace if is_named => {
+                    return Some(Run {
+                        start: at.saturating_add(1),
+                        end: lexed.outline.closing(at),
+                    });
+                }
+                _ => {}
+            }
+        }
+    }
+    None
+}
+
 /// Returns where the declaration that begins here ends: at its `;`, or at the `}` of its list.
 pub(crate) fn declaration_end(outline: &Outline, start: usize) -> usize {
     let mut next = start;

@@ -1,4 +1,6 @@
 //! Makes changed sources: puts texts in place of ranges of bytes.
+ghost use Rattle.std.specs.Prelude.{◌≡◌, IfOk, flat_map};
+
 use crate::tokens::{Lexed, Run};
 use std::alloc::{AllocError, Global};
 
@@ -56,6 +58,17 @@ pub(crate) fn bytes_in(source: &[u8], from: usize, to: usize) -> &[u8] {
     } else {
         &source[..0]
     }
+}
+
+/// Returns pieces of a text, joined.
+pub(crate) fn joined(alloc: Global, pieces: &[&[u8]]) -> Result<Vec<u8>, AllocError>
+    ensures { IfOk result (λ made. made.items ≡ flat_map (λ p. p.now) pieces.now) }
+{
+    let mut made = Vec::new(alloc);
+    for piece in pieces {
+        made.extend_from_slice(piece)?;
+    }
+    Ok(made)
 }
 
 /// Appends the text that an edit puts in.

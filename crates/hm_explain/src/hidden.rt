@@ -7,16 +7,16 @@ ghost use Rattle.hm_verdicts.specs.Outcomes.{verdict_of};
 ghost use Rattle.hm_explain.specs.Hidden.{AreLater, BeginWith, HaveUnbound, IsLater, IsLaterKind, IsOutOfScope, IsReplaced, IsVerdictBeyond, all_blanked as blanked_text, blank as blank_byte, blanked as blanked_definition, defined, replaced as replaced_text, with_definitions as defined_text};
 ghost use Rattle.hm_explain.specs.Limits.{IsUsedUp};
 
+use crate::binding::declarations_of;
 use crate::costs::{Effort, cost_of};
+use crate::edits::joined;
 use crate::layout::Other;
 use crate::places::place_behind;
-use crate::reading::reading_of;
+use crate::reading::{Reading, reading_of};
 use crate::replacing::replaced_of;
-use crate::tokens::{Lexed, Run};
 use crate::trial::{HOLE, Question, judged};
 use hm_lex::Place;
 use hm_names::{Fault, Kind};
-use hm_parse_grammar::Symbol;
 use hm_verdicts::{Outcome, Verdict};
 use std::alloc::{AllocError, Global};
 use std::collections::HashSet;
@@ -34,11 +34,7 @@ const BYTES_OF_REPLACED: usize = 1 << 4;
 fn definition_of(alloc: Global, name: &str) -> Result<Vec<u8>, AllocError>
     ensures { IfOk result (λ made. made.items ≡ defined name.now) }
 {
-    let mut made = Vec::from_slice(alloc, b" ; ")?;
-    made.extend_from_slice(name.as_bytes())?;
-    made.extend_from_slice(b" = ")?;
-    made.extend_from_slice(HOLE.as_bytes())?;
-    Ok(made)
+    Ok(joined(alloc, &[b" ; ", name.as_bytes(), b" = ", HOLE.as_bytes()])?)
 }
 
 /// Returns definitions of variables as the hole.
@@ -64,10 +60,9 @@ fn with_definitions(
     ensures { IfOk result (λ made. made.items ≡ defined_text source.now at (map (λ n. n.now) names.now)) }
 {
     let definitions = definitions_of(alloc, names)?;
-    let mut made = Vec::from_slice(alloc, &source[..at])?;
-    made.extend_from_slice(definitions.as_slice())?;
-    made.extend_from_slice(&source[at..])?;
-    Ok(made)
+    let front = &source[..at];
+    let behind = &source[at..];
+    Ok(joined(alloc, &[front, definitions.as_slice(), behind])?)
 }
 
 /// Returns a space, or the byte itself if it ends a line.
@@ -95,10 +90,9 @@ fn blanked(alloc: Global, source: &[u8], definition: &Other<'_>) -> Result<Vec<u
     ensures { IfOk result (λ made. made.items ≡ blanked_definition source.now definition.now) }
 {
     let spaces = blanks(alloc, &source[definition.from..definition.to])?;
-    let mut made = Vec::from_slice(alloc, &source[..definition.from])?;
-    made.extend_from_slice(spaces.as_slice())?;
-    made.extend_from_slice(&source[definition.to..])?;
-    Ok(made)
+    let front = &source[..definition.from];
+    let behind = &source[definition.to..];
+    Ok(joined(alloc, &[front, spaces.as_slice(), behind])?)
 }
 
 /// Returns the source with spaces in place of definitions. Returns `None` if they aren't in the source.
@@ -138,6 +132,14 @@ fn is_unbound(fault: &Fault) -> bool
     fault.kind == Kind::Unbound
 }
 
+/// Returns whether a name is a variable without a qualifier that isn't among those seen before, and adds it to them.
+fn is_first_variable<'a>(seen: &mut HashSet<&'a str>, name: &'a str) -> Result<bool, AllocError> {
+    if !is_plain_variable(name.as_bytes()) {
+        return Ok(false);
+    }
+    Ok(seen.insert(name)?)
+}
+
 /// Returns the variables without a qualifier of these faults, each once. Returns `None` if one of the faults isn't of a name that isn't in scope.
 fn unbound_in<'a>(alloc: Global, faults: &'a [Fault]) -> Result<Option<Vec<&'a str>>, AllocError>
     ensures { IfOk result (λ found. IfSome found (λ names. All (λ n. IsOutOfScope faults.entry.now n.now) names.items)) }
@@ -149,39 +151,12 @@ fn unbound_in<'a>(alloc: Global, faults: &'a [Fault]) -> Result<Option<Vec<&'a s
         if !is_unbound(fault) {
             return Ok(None);
         }
-        if !is_plain_variable(name.as_bytes()) {
-            continue;
-        }
-        if !seen.insert(name)? {
+        if !is_first_variable(&mut seen, name)? {
             continue;
         }
         names.push(name)?;
     }
     Ok(Some(names))
-}
-
-/// Returns the tokens of the declarations of the module with this name: those between its brackets.
-fn declarations_of(lexed: &Lexed<'_>, name: &str) -> Option<Run> {
-    let mut next = 0usize;
-    let mut is_named = false;
-    for at in 0..lexed.outline.len() {
-        if at == next {
-            next = lexed.outline.past(at);
-            match lexed.outline.symbol(at) {
-                Symbol::Module => {
-                    is_named = lexed.text(at.saturating_add(1)) == name.as_bytes();
-                }
-                Symbol::LeftBrace if is_named => {
-                    return Some(Run {
-                        start: at.saturating_add(1),
-                        end: lexed.outline.closing(at),
-                    });
-                }
-                _ => {}
-            }
-        }
-    }
-    None
 }
 
 /// Returns whether faults of this kind are of a phase after that of names.
@@ -382,6 +357,46 @@ fn cost_beside(source: &[u8], names: usize, replaced: usize) -> usize {
         .saturating_add(replaced.saturating_mul(of_replaced))
 }
 
+/// Faults, and variables that they say aren't in scope.
+#[derive(Clone, Copy)]
+struct OutOfScope<'a> {
+    faults: &'a [Fault],
+    names: &'a [&'a str],
+}
+
+/// Returns the outcome of a module with definitions in place of what isn't in scope. `effort` is less by what that costs.
+fn hidden_by(
+    alloc: Global,
+    question: &Question<'_>,
+    unbound: &OutOfScope<'_>,
+    reading: &Reading,
+    effort: &mut Effort,
+) -> Result<Option<Outcome>, AllocError>
+    requires { All (λ n. IsOutOfScope unbound.now.faults.now n.now) unbound.now.names.now }
+    ensures beyond { IfOk result (λ found. IfSome found (λ o. IsVerdictBeyond question.now.source.now question.now.name.now (map arc_value question.now.imports.now)
+        unbound.now.faults.now o.verdict)) }
+    ensures stays { IsUsedUp effort.old → IsUsedUp effort.new }
+{
+    let faults = unbound.faults;
+    let lexed = reading.lexed(question.source);
+    let Some(declarations) = declarations_of(&lexed, question.name) else {
+        return Ok(None);
+    };
+    let Some(replaced) = replaced_of(alloc, &lexed, declarations, faults)? else {
+        return Ok(None);
+    };
+    let beside = cost_beside(question.source, unbound.names.len(), replaced.len());
+    if !effort.pays(cost_of(question.source, lexed.outline).saturating_add(beside)) {
+        return Ok(None);
+    }
+    let change = Change {
+        names: unbound.names,
+        replaced: replaced.as_slice(),
+        at: lexed.start(declarations.end),
+    };
+    Ok(outcome_with(alloc, question, faults, &change)?)
+}
+
 // Why: docs/DECISIONS.md, "Hidden faults".
 /// Returns the outcome of a module in which names aren't in scope, with a definition as an expression of every type of each such variable, and in place of
 /// each definition that has another such name. Its faults are those that the report leaves out, and have the same places in the source. `effort` is less by
@@ -410,25 +425,9 @@ pub fn hidden_of(
     let Some(reading) = reading_of(alloc, question.source, effort)? else {
         return Ok(None);
     };
-    let lexed = reading.lexed(question.source);
-    let Some(declarations) = declarations_of(&lexed, question.name) else {
-        return Ok(None);
-    };
-    let Some(replaced) = replaced_of(alloc, &lexed, declarations, faults)? else {
-        return Ok(None);
-    };
-    let cost = cost_of(question.source, lexed.outline);
-    if !effort.pays(cost.saturating_add(cost_beside(
-        question.source,
-        names.len(),
-        replaced.len(),
-    ))) {
-        return Ok(None);
-    }
-    let change = Change {
+    let unbound = OutOfScope {
+        faults,
         names: names.as_slice(),
-        replaced: replaced.as_slice(),
-        at: lexed.start(declarations.end),
     };
-    Ok(outcome_with(alloc, question, faults, &change)?)
+    Ok(hidden_by(alloc, question, &unbound, &reading, effort)?)
 }

@@ -5,6 +5,7 @@ ghost use Rattle.hm_explain.specs.Layouts.{surroundings_of};
 ghost use Rattle.hm_explain.specs.PartTypes.{around as around_text, before as before_text, hollow as hollow_text, hollowed as hollowed_text, listed as listed_name, listed_before as listed_text, probe as probe_text, probed_definition as definition_text, probed_part as part_text, with_probe as probed_text};
 ghost use Rattle.hm_explain.specs.Signatures.{alone as alone_text, with_alone as with_alone_text};
 
+use crate::edits::joined;
 use crate::mends::Span;
 use crate::search::Culprit;
 use crate::trial::HOLE;
@@ -40,10 +41,14 @@ pub(crate) struct Layout<'a> {
 fn probed_part(alloc: Global, part: &[u8]) -> Result<Vec<u8>, AllocError>
     ensures { IfOk result (λ made. made.items ≡ part_text part.now) }
 {
-    let mut made = Vec::from_slice(alloc, b"(case part'actual : (")?;
-    made.extend_from_slice(part)?;
-    made.extend_from_slice(b") : [] of { _ -> part'expected })")?;
-    Ok(made)
+    Ok(joined(
+        alloc,
+        &[
+            b"(case part'actual : (",
+            part,
+            b") : [] of { _ -> part'expected })",
+        ],
+    )?)
 }
 
 /// Returns the definition with its part so.
@@ -60,22 +65,19 @@ fn probed_definition(
     ensures { IfOk result (λ made. made.items ≡ definition_text source.now whole part) }
 {
     let probed = probed_part(alloc, &source[part.from..part.to])?;
-    let mut made = Vec::from_slice(alloc, &source[whole.from..part.from])?;
-    made.extend_from_slice(probed.as_slice())?;
-    made.extend_from_slice(&source[part.to..whole.to])?;
-    Ok(made)
+    let front = &source[whole.from..part.from];
+    let behind = &source[part.to..whole.to];
+    Ok(joined(alloc, &[front, probed.as_slice(), behind])?)
 }
 
 /// Returns the hole in place of a definition, and a second name for it.
 fn hollow(alloc: Global, name: &[u8]) -> Result<Vec<u8>, AllocError>
     ensures { IfOk result (λ made. made.items ≡ hollow_text name.now) }
 {
-    let mut made = Vec::from_slice(alloc, name)?;
-    made.extend_from_slice(b" = ")?;
-    made.extend_from_slice(HOLE.as_bytes())?;
-    made.extend_from_slice(b" ; part'declared = ")?;
-    made.extend_from_slice(name)?;
-    Ok(made)
+    Ok(joined(
+        alloc,
+        &[name, b" = ", HOLE.as_bytes(), b" ; part'declared = ", name],
+    )?)
 }
 
 // Why: docs/DECISIONS.md, "Signatures in a note".
@@ -83,25 +85,35 @@ fn hollow(alloc: Global, name: &[u8]) -> Result<Vec<u8>, AllocError>
 fn probe(alloc: Global, name: &[u8], definition: &[u8]) -> Result<Vec<u8>, AllocError>
     ensures { IfOk result (λ made. made.items ≡ probe_text name.now definition.now) }
 {
-    let mut made = hollow(alloc, name)?;
-    made.extend_from_slice(b" ; part'types (part'own, part'expected, part'actual) = case let { ")?;
-    made.extend_from_slice(definition)?;
-    made.extend_from_slice(b" } in ")?;
-    made.extend_from_slice(name)?;
-    made.extend_from_slice(b" : part'own : part'declared : [] of { _ -> () }")?;
-    Ok(made)
+    let hole = hollow(alloc, name)?;
+    Ok(joined(
+        alloc,
+        &[
+            hole.as_slice(),
+            b" ; part'types (part'own, part'expected, part'actual) = case let { ",
+            definition,
+            b" } in ",
+            name,
+            b" : part'own : part'declared : [] of { _ -> () }",
+        ],
+    )?)
 }
 
 /// Returns a variable that is what the definition is without a signature.
 fn alone(alloc: Global, name: &[u8], definition: &[u8]) -> Result<Vec<u8>, AllocError>
     ensures { IfOk result (λ made. made.items ≡ alone_text name.now definition.now) }
 {
-    let mut made = hollow(alloc, name)?;
-    made.extend_from_slice(b" ; part'types = let { ")?;
-    made.extend_from_slice(definition)?;
-    made.extend_from_slice(b" } in ")?;
-    made.extend_from_slice(name)?;
-    Ok(made)
+    let hole = hollow(alloc, name)?;
+    Ok(joined(
+        alloc,
+        &[
+            hole.as_slice(),
+            b" ; part'types = let { ",
+            definition,
+            b" } in ",
+            name,
+        ],
+    )?)
 }
 
 /// Returns the hole in place of a definition, between two texts.
@@ -113,12 +125,10 @@ fn with_hollow(
 ) -> Result<Vec<u8>, AllocError>
     ensures { IfOk result (λ made. made.items ≡ front.now ++ name.now ++ codes " = " ++ hole ++ behind.now) }
 {
-    let mut made = Vec::from_slice(alloc, front)?;
-    made.extend_from_slice(name.as_bytes())?;
-    made.extend_from_slice(b" = ")?;
-    made.extend_from_slice(HOLE.as_bytes())?;
-    made.extend_from_slice(behind)?;
-    Ok(made)
+    Ok(joined(
+        alloc,
+        &[front, name.as_bytes(), b" = ", HOLE.as_bytes(), behind],
+    )?)
 }
 
 /// Returns the bytes from one number up to another, with the hole in place of definitions. Returns `None` if these aren't in order there.
@@ -153,9 +163,7 @@ fn listed(alloc: Global, source: &[u8], name: Span) -> Result<Vec<u8>, AllocErro
     requires within { name.to ≤ length source.now }
     ensures { IfOk result (λ made. made.items ≡ listed_name source.now name) }
 {
-    let mut made = Vec::from_slice(alloc, &source[name.from..name.to])?;
-    made.extend_from_slice(b" , ")?;
-    Ok(made)
+    Ok(joined(alloc, &[&source[name.from..name.to], b" , "])?)
 }
 
 /// Returns names of the source for an export list. Returns `None` if they aren't in the source.
@@ -192,11 +200,11 @@ fn listed_before(
     let Some(names) = all_listed(alloc, source, layout.names)? else {
         return Ok(None);
     };
-    let mut made = Vec::from_slice(alloc, &source[..at])?;
-    made.extend_from_slice(b"part'types , ")?;
-    made.extend_from_slice(names.as_slice())?;
-    made.extend_from_slice(behind.as_slice())?;
-    Ok(Some(made))
+    let front = &source[..at];
+    Ok(Some(joined(
+        alloc,
+        &[front, b"part'types , ", names.as_slice(), behind.as_slice()],
+    )?))
 }
 
 /// Returns the source before the definition, with the function and the names among the exports.
@@ -217,16 +225,14 @@ fn around(alloc: Global, layout: &Layout<'_>, text: &[u8]) -> Result<Option<Vec<
     ensures { IfOk result (λ found. IfSome found (λ made. made.items ≡ around_text layout.now.source.now (surroundings_of layout.now) text.now)) }
 {
     let source = layout.source;
-    let Some(mut made) = before(alloc, layout)? else {
+    let Some(front) = before(alloc, layout)? else {
         return Ok(None);
     };
     let to = layout.whole.to;
     let Some(behind) = hollowed(alloc, source, to, source.len(), layout.behind)? else {
         return Ok(None);
     };
-    made.extend_from_slice(text)?;
-    made.extend_from_slice(behind.as_slice())?;
-    Ok(Some(made))
+    Ok(Some(joined(alloc, &[front.as_slice(), text, behind.as_slice()])?))
 }
 
 /// Returns the source with the function in place of the definition, or `None` if the part doesn't lie in that.

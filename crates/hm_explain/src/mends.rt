@@ -5,6 +5,7 @@ ghost use Rattle.hm_explain.specs.Holes.{IsPartOf};
 ghost use Rattle.hm_explain.specs.Mends.{HasTypesWithPattern, IsExchange, IsInside, IsRemoval, bindings as bindings_text, bracketed as bracketed_text, closing as closing_text, hole_for as hole_text, opening as opening_text, with_exchanged as exchanged_text, with_wildcard as wildcard_text};
 
 use crate::culprits::Searched;
+use crate::edits::joined;
 use crate::search::Culprit;
 use crate::signatures::without;
 use crate::trial::{HOLE, has_types_in};
@@ -31,7 +32,7 @@ pub struct Span {
 }
 
 /// The text around the bindings for the variables of a removed pattern.
-#[derive(Clone, Copy, PartialEq, Eq)]
+#[derive(Clone, Copy)]
 pub enum Frame {
     /// A `where` of their own, after a clause or an alternative.
     Where,
@@ -69,11 +70,8 @@ fn hole_for(alloc: Global, source: &[u8], variable: Span) -> Result<Vec<u8>, All
     requires within { variable.to ≤ length source.now }
     ensures { IfOk result (λ made. made.items ≡ hole_text source.now variable) }
 {
-    let mut made = Vec::from_slice(alloc, &source[variable.from..variable.to])?;
-    made.extend_from_slice(b" = ")?;
-    made.extend_from_slice(HOLE.as_bytes())?;
-    made.extend_from_slice(b" ; ")?;
-    Ok(made)
+    let name = &source[variable.from..variable.to];
+    Ok(joined(alloc, &[name, b" = ", HOLE.as_bytes(), b" ; "])?)
 }
 
 /// Returns bindings of variables to the hole.
@@ -103,10 +101,9 @@ fn bindings(alloc: Global, source: &[u8], rebound: &Rebound<'_>) -> Result<Vec<u
     ensures { IfOk result (λ made. made.items ≡ bindings_text source.now rebound.now.frame rebound.now.variables.now) }
 {
     let holes = holes_for(alloc, source, rebound.variables)?;
-    let mut made = Vec::from_slice(alloc, opening(rebound.frame).as_bytes())?;
-    made.extend_from_slice(holes.as_slice())?;
-    made.extend_from_slice(closing(rebound.frame).as_bytes())?;
-    Ok(made)
+    let front = opening(rebound.frame).as_bytes();
+    let behind = closing(rebound.frame).as_bytes();
+    Ok(joined(alloc, &[front, holes.as_slice(), behind])?)
 }
 
 /// Returns the source with `_` in place of a part, and with a text after it.
@@ -178,10 +175,8 @@ fn bracketed(alloc: Global, source: &[u8], part: Culprit) -> Result<Vec<u8>, All
     requires { IsPartOf source.now part }
     ensures { IfOk result (λ made. made.items ≡ bracketed_text source.now part) }
 {
-    let mut made = Vec::from_slice(alloc, b"(")?;
-    made.extend_from_slice(&source[part.from..part.to])?;
-    made.extend_from_slice(b")")?;
-    Ok(made)
+    let inner = &source[part.from..part.to];
+    Ok(joined(alloc, &[b"(", inner, b")"])?)
 }
 
 /// Returns the source with two parts exchanged.
@@ -198,12 +193,13 @@ fn with_exchanged(
 {
     let in_front = bracketed(alloc, source, second)?;
     let behind = bracketed(alloc, source, first)?;
-    let mut made = Vec::from_slice(alloc, &source[..first.from])?;
-    made.extend_from_slice(in_front.as_slice())?;
-    made.extend_from_slice(&source[first.to..second.from])?;
-    made.extend_from_slice(behind.as_slice())?;
-    made.extend_from_slice(&source[second.to..])?;
-    Ok(made)
+    let start = &source[..first.from];
+    let middle = &source[first.to..second.from];
+    let end = &source[second.to..];
+    Ok(joined(
+        alloc,
+        &[start, in_front.as_slice(), middle, behind.as_slice(), end],
+    )?)
 }
 
 /// Returns whether the definition has a type with two parts exchanged.

@@ -1,8 +1,10 @@
 //! The two types of a part of a definition.
-ghost use Rattle.std.specs.Prelude.{◌≡◌, ◌≤◌, ◌++◌, All, IfOk, IfSome, None, length, map, string_bytes};
+ghost use Rattle.std.specs.Prelude.{◌≡◌, ◌≤◌, ◌++◌, ◌∷◌, [], All, IfOk, IfSome, None, codes, length, map, string_bytes};
 ghost use Rattle.std.specs.Arc.{arc_value};
 ghost use Rattle.hm_types.specs.Schemes.{HasArities, HasNoRigid};
 ghost use Rattle.hm_types.specs.Shape.{type_of};
+ghost use Rattle.hm_types.specs.declared.monotypes.Ty.{Ty as Tree};
+ghost use Rattle.hm_types_display.specs.Texts.{scheme_text_of};
 ghost use Rattle.hm_explain.specs.Aliases.{alias_of as named_type};
 ghost use Rattle.hm_explain.specs.Layouts.{from_pair};
 ghost use Rattle.hm_explain.specs.Limits.{IsUsedUp};
@@ -17,14 +19,13 @@ use crate::layout::{Layout, Other, with_probe};
 use crate::mends::Span;
 use crate::reading::TypeFault;
 use crate::search::{Culprit, bytes_of};
-use crate::shown::{Alias, aliases_in, folded, names_in};
+use crate::shown::{Alias, aliases_in, folded, names_in, text_of};
 use crate::tokens::{Lexed, Run, one};
 use crate::trial::{Question, judged};
 use hm_names::Fault;
 use hm_parse_grammar::Symbol;
 use hm_types::{Head, Interface, Scheme, Ty, Types};
 use hm_types_display::scheme_text;
-use hm_types_subsumption::canonical;
 use hm_verdicts::Verdict;
 use std::alloc::{AllocError, Global};
 
@@ -105,13 +106,22 @@ pub(crate) fn typed_in(
     }
 }
 
+/// Returns types, and after them a copy of one more.
+fn with_copy(alloc: Global, types: Vec<Ty>, ty: &Ty) -> Result<Vec<Ty>, AllocError>
+    ensures { IfOk result (λ all. (copy : Tree) × (all.items ≡ types.items ++ copy ∷ []) × (type_of copy ≡ type_of ty.now)) }
+{
+    let mut all = types;
+    let copy = ty.copy(alloc)?;
+    all.push(copy)?;
+    Ok(all)
+}
+
 /// Returns the type of a function from a pair to `()`.
 fn function_from_pair(alloc: Global, first: &Ty, second: &Ty) -> Result<Ty, AllocError>
     ensures { IfOk result (λ t. type_of t ≡ from_pair (type_of first.now) (type_of second.now)) }
 {
-    let mut parts = Vec::new(alloc);
-    parts.push(first.copy(alloc)?)?;
-    parts.push(second.copy(alloc)?)?;
+    let parts = with_copy(alloc, Vec::new(alloc), first)?;
+    let parts = with_copy(alloc, parts, second)?;
     let pair = Ty::App(Head::Tuple(2), Types::new(parts));
     let unit = Ty::App(Head::Unit, Types::new(Vec::new(alloc)));
     Ok(Ty::function(alloc, pair, unit)?)
@@ -130,10 +140,9 @@ struct Taken<'a> {
 fn function_of(alloc: Global, taken: &Taken<'_>) -> Result<Ty, AllocError>
     ensures { IfOk result (λ t. type_of t ≡ from_three (type_of taken.now.own.now) (type_of taken.now.expected.now) (type_of taken.now.actual.now)) }
 {
-    let mut parts = Vec::new(alloc);
-    parts.push(taken.own.copy(alloc)?)?;
-    parts.push(taken.expected.copy(alloc)?)?;
-    parts.push(taken.actual.copy(alloc)?)?;
+    let parts = with_copy(alloc, Vec::new(alloc), taken.own)?;
+    let parts = with_copy(alloc, parts, taken.expected)?;
+    let parts = with_copy(alloc, parts, taken.actual)?;
     let three = Ty::App(Head::Tuple(3), Types::new(parts));
     let unit = Ty::App(Head::Unit, Types::new(Vec::new(alloc)));
     Ok(Ty::function(alloc, three, unit)?)
@@ -199,6 +208,17 @@ struct Front {
     expected: String,
 }
 
+/// Returns the text of the type of a function from a pair to `()`, if its letters are in order.
+fn pair_text(alloc: Global, first: &Ty, second: &Ty) -> Result<Option<String>, AllocError>
+    requires not_rigid { HasNoRigid (type_of first.now) × HasNoRigid (type_of second.now) }
+    requires arities { HasArities (type_of first.now) × HasArities (type_of second.now) }
+    ensures { IfOk result (λ found. IfSome found (λ text. string_bytes text
+        ≡ scheme_text_of (record { vars = 0; body = from_pair (type_of first.now) (type_of second.now) }))) }
+{
+    let pair = function_from_pair(alloc, first, second)?;
+    Ok(text_of(alloc, &pair)?)
+}
+
 /// Returns the texts of the first two types that a function with this scheme takes, if their letters are in order.
 fn front_of(alloc: Global, scheme: &Scheme, taken: &Taken<'_>) -> Result<Option<Front>, AllocError>
     requires not_rigid { HasNoRigid (type_of taken.now.own.now) × HasNoRigid (type_of taken.now.expected.now) }
@@ -206,19 +226,32 @@ fn front_of(alloc: Global, scheme: &Scheme, taken: &Taken<'_>) -> Result<Option<
     ensures own { IfOk result (λ found. IfSome found (λ f. string_bytes f.own ≡ text_in scheme.now (type_of taken.now.own.now))) }
     ensures expected { IfOk result (λ found. IfSome found (λ f. string_bytes f.expected ≡ text_in scheme.now (type_of taken.now.expected.now))) }
 {
-    let pair = function_from_pair(alloc, taken.own, taken.expected)?;
-    let first = canonical(alloc, taken.own)?;
-    let both = canonical(alloc, &pair)?;
-    if !first.body().is_same(taken.own) || !both.body().is_same(&pair) {
+    let Some(own) = text_of(alloc, taken.own)? else {
         return Ok(None);
-    }
-    let own = scheme_text(alloc, &first)?;
-    let whole = scheme_text(alloc, &both)?;
+    };
+    let Some(whole) = pair_text(alloc, taken.own, taken.expected)? else {
+        return Ok(None);
+    };
     let front = format!(in alloc; "({own}, ")?;
     match between(alloc, whole.as_bytes(), front.as_bytes(), b") -> ()")? {
         Some(expected) => Ok(Some(Front { own, expected })),
         None => Ok(None),
     }
+}
+
+/// Returns the text of the last of the types that a function with this scheme takes, after the texts of the others.
+fn last_text(
+    alloc: Global,
+    scheme: &Scheme,
+    own: &str,
+    expected: &str,
+) -> Result<Option<String>, AllocError>
+    ensures { IfOk result (λ found. IfSome found (λ last. scheme_text_of scheme.now
+        ≡ (codes "(" ++ own.now ++ codes ", " ++ expected.now ++ codes ", ") ++ (string_bytes last ++ codes ") -> ()"))) }
+{
+    let whole = scheme_text(alloc, scheme)?;
+    let front = format!(in alloc; "({own}, {expected}, ")?;
+    Ok(between(alloc, whole.as_bytes(), front.as_bytes(), b") -> ()")?)
 }
 
 // Why: docs/DECISIONS.md, "The text of two types".
@@ -237,9 +270,7 @@ fn texts_of(alloc: Global, scheme: &Scheme) -> Result<Option<PartTypes>, AllocEr
     let Some(Front { own, expected }) = front_of(alloc, scheme, &taken)? else {
         return Ok(None);
     };
-    let whole = scheme_text(alloc, scheme)?;
-    let front = format!(in alloc; "({own}, {expected}, ")?;
-    match between(alloc, whole.as_bytes(), front.as_bytes(), b") -> ()")? {
+    match last_text(alloc, scheme, own.as_str(), expected.as_str())? {
         Some(actual) => Ok(Some(PartTypes {
             expected,
             actual,
@@ -359,6 +390,30 @@ fn types_for(
     Ok(Some(shown_types(alloc, &types, typed.aliases.as_slice())?))
 }
 
+/// Returns the types of a part of the definition of a fault, whose tokens are these.
+fn types_at(
+    alloc: Global,
+    question: &Question<'_>,
+    found: &TypeFault<'_>,
+    binding: Run,
+    part: Culprit,
+) -> Result<Option<PartTypes>, AllocError>
+    ensures { IfOk result (λ both. IfSome both (λ types. HasShownTypes question.now.source.now question.now.name.now (map arc_value question.now.imports.now)
+        found.now.fault.now.name part (string_bytes types.expected) (string_bytes types.actual) types.infinite)) }
+{
+    let lexed = found.reading.lexed(question.source);
+    let others = others_of(alloc, &lexed, found)?;
+    let names = names_in(alloc, &lexed, question.name)?;
+    let setting = Setting {
+        others: others.as_slice(),
+        names: names.as_slice(),
+    };
+    let Some(layout) = layout_of(question.source, &lexed, found.fault, binding, setting) else {
+        return Ok(None);
+    };
+    Ok(types_for(alloc, question, &lexed, &layout, part)?)
+}
+
 // Why: docs/DECISIONS.md, "Both types".
 /// Returns the two types of a part of a definition that is a type fault: the one that it has, and the one that is expected in its place. `effort`
 /// is less by what that costs.
@@ -388,17 +443,11 @@ pub fn part_types_of(
     else {
         return Ok(None);
     };
-    let others = others_of(alloc, &lexed, found)?;
-    let names = names_in(alloc, &lexed, question.name)?;
-    let setting = Setting {
-        others: others.as_slice(),
-        names: names.as_slice(),
-    };
-    let Some(layout) = layout_of(question.source, &lexed, found.fault, binding, setting) else {
+    if bytes_of(lexed.tokens, binding, question.source).is_none() {
         return Ok(None);
-    };
+    }
     if !effort.pays(cost_of(question.source, lexed.outline)) {
         return Ok(None);
     }
-    Ok(types_for(alloc, question, &lexed, &layout, part)?)
+    Ok(types_at(alloc, question, found, binding, part)?)
 }

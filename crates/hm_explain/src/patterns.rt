@@ -56,10 +56,13 @@ fn add_bindings(
 ) -> Result<(), AllocError> {
     for at in pattern.start..pattern.end {
         if lexed.outline.symbol(at).is(Symbol::Var) {
-            edits.push(put(spot, copied(lexed, one(at))))?;
-            edits.push(put(spot, Filling::Text(" = ")))?;
-            edits.push(put(spot, Filling::Text(HOLE)))?;
-            edits.push(put(spot, Filling::Text(" ; ")))?;
+            let binding = [
+                put(spot, copied(lexed, one(at))),
+                put(spot, Filling::Text(" = ")),
+                put(spot, Filling::Text(HOLE)),
+                put(spot, Filling::Text(" ; ")),
+            ];
+            edits.extend_from_slice(&binding)?;
         }
     }
     Ok(())

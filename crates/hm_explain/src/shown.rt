@@ -1,9 +1,13 @@
 //! Types as they are shown: names of synonyms stand for types, as in the signatures of the module.
 ghost use Rattle.std.specs.Prelude.{◌≡◌, ◌++◌, All, IfOk, IfSome, codes, map, string_bytes, true};
+ghost use Rattle.hm_types.specs.Schemes.{HasArities, HasNoRigid};
+ghost use Rattle.hm_types.specs.Shape.{type_of};
 ghost use Rattle.hm_types.specs.StandardPrelude.{prelude_interface};
+ghost use Rattle.hm_types_display.specs.Texts.{scheme_text_of};
 ghost use Rattle.hm_explain.specs.Aliases.{alias_of as named_type};
 ghost use Rattle.hm_explain.specs.Shown.{IsAlias, IsFolded, IsName, IsNameIn, IsPiece, NamedType};
 
+use crate::binding::declarations_of;
 use crate::mends::Span;
 use crate::tokens::{Lexed, Run, one};
 use crate::trial::Question;
@@ -26,26 +30,10 @@ pub(crate) struct Alias {
 
 /// Returns the declarations of the module with this name, or no tokens.
 fn body_of(lexed: &Lexed<'_>, name: &str) -> Run {
-    let mut next = 0usize;
-    let mut is_named = false;
-    for at in 0..lexed.outline.len() {
-        if at == next {
-            next = lexed.outline.past(at);
-            match lexed.outline.symbol(at) {
-                Symbol::Module => {
-                    is_named = lexed.text(at.saturating_add(1)) == name.as_bytes();
-                }
-                Symbol::LeftBrace if is_named => {
-                    return Run {
-                        start: at.saturating_add(1),
-                        end: lexed.outline.closing(at),
-                    };
-                }
-                _ => {}
-            }
-        }
+    match declarations_of(lexed, name) {
+        Some(body) => body,
+        None => Run { start: 0, end: 0 },
     }
-    Run { start: 0, end: 0 }
 }
 
 /// Returns whether a type signature among these tokens has this name of a type.
@@ -165,6 +153,19 @@ fn is_own(entry: &SynonymEntry, home: &str) -> bool
     entry.entity.name.as_str() == entry.name.as_str()
 }
 
+/// Returns the text of a type, if its variables are numbered by first occurrence.
+pub(crate) fn text_of(alloc: Global, ty: &Ty) -> Result<Option<String>, AllocError>
+    requires not_rigid { HasNoRigid (type_of ty.now) }
+    requires arities { HasArities (type_of ty.now) }
+    ensures { IfOk result (λ found. IfSome found (λ text. string_bytes text ≡ scheme_text_of (record { vars = 0; body = type_of ty.now }))) }
+{
+    let scheme = canonical(alloc, ty)?;
+    if !scheme.body().is_same(ty) {
+        return Ok(None);
+    }
+    Ok(Some(scheme_text(alloc, &scheme)?))
+}
+
 /// Returns the synonym as a name for a type, if it is of this module, has no parameters and stands for a list or a tuple.
 fn alias_of(alloc: Global, home: &str, entry: &SynonymEntry) -> Result<Option<Alias>, AllocError>
     ensures { IfOk result (λ found. IfSome found (λ a. IsAlias home.now entry.now (named_type a))) }
@@ -179,11 +180,9 @@ fn alias_of(alloc: Global, home: &str, entry: &SynonymEntry) -> Result<Option<Al
     if !is_bracketed(body) {
         return Ok(None);
     }
-    let scheme = canonical(alloc, body)?;
-    if !scheme.body().is_same(body) {
+    let Some(text) = text_of(alloc, body)? else {
         return Ok(None);
-    }
-    let text = scheme_text(alloc, &scheme)?;
+    };
     let name = String::from_str(alloc, entry.name.as_str())?;
     Ok(Some(Alias { name, text }))
 }

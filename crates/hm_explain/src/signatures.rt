@@ -11,7 +11,7 @@ use crate::cutting::{header_of, signature_of};
 use crate::layout::{Layout, with_alone};
 use crate::part_typing::{FUNCTION, Setting, layout_of, others_of, typed_in};
 use crate::reading::TypeFault;
-use crate::search::{Culprit, part_of};
+use crate::search::{Culprit, bytes_of, part_of};
 use crate::shown::{folded, names_in};
 use crate::tokens::{Lexed, Run};
 use crate::trial::{Question, has_types_in, is_good_in};
@@ -125,6 +125,33 @@ fn is_used_outside(lexed: &Lexed<'_>, definition: Run, signature: Run) -> bool {
     })
 }
 
+/// Returns the signature of the definition of a fault, whose tokens are these, and the type that the definition has without it, if it has one.
+fn unsigned_at(
+    alloc: Global,
+    question: &Question<'_>,
+    found: &TypeFault<'_>,
+    binding: Run,
+    signed: Signed,
+) -> Result<Option<Unsigned>, AllocError>
+    requires { IsPartOf question.now.source.now signed.signature }
+    ensures own { IfOk result (λ found_type. IfSome found_type (λ u. IsUnsigned question.now.source.now question.now.name.now
+        (map arc_value question.now.imports.now) found.now.fault.now.name u.signature (string_bytes u.own))) }
+    ensures leads { IfOk result (λ found_type. IfSome found_type (λ u. u.leads ≡ true → Leads question.now.source.now question.now.name.now
+        (map arc_value question.now.imports.now) u.signature)) }
+{
+    let lexed = found.reading.lexed(question.source);
+    let others = others_of(alloc, &lexed, found)?;
+    let names = names_in(alloc, &lexed, question.name)?;
+    let setting = Setting {
+        others: others.as_slice(),
+        names: names.as_slice(),
+    };
+    let Some(layout) = layout_of(question.source, &lexed, found.fault, binding, setting) else {
+        return Ok(None);
+    };
+    Ok(unsigned_in(alloc, question, &lexed, &layout, signed)?)
+}
+
 // Why: docs/DECISIONS.md, "Notes at signatures", "The order of notes".
 /// Returns the signature of a definition that is a type fault, and the type that the definition has without it. `effort` is less by what that
 /// costs.
@@ -161,15 +188,9 @@ pub fn unsigned_of(
     let Some(signature) = part_of(lexed.tokens, run, question.source) else {
         return Ok(None);
     };
-    let others = others_of(alloc, &lexed, found)?;
-    let names = names_in(alloc, &lexed, question.name)?;
-    let setting = Setting {
-        others: others.as_slice(),
-        names: names.as_slice(),
-    };
-    let Some(layout) = layout_of(question.source, &lexed, found.fault, binding, setting) else {
+    if bytes_of(lexed.tokens, binding, question.source).is_none() {
         return Ok(None);
-    };
+    }
     let cost = cost_of(question.source, lexed.outline);
     if !effort.pays(cost) || !effort.pays(cost) || !effort.pays(cost) {
         return Ok(None);
@@ -178,5 +199,5 @@ pub fn unsigned_of(
         signature,
         is_used: is_used_outside(&lexed, binding, run),
     };
-    Ok(unsigned_in(alloc, question, &lexed, &layout, signed)?)
+    Ok(unsigned_at(alloc, question, found, binding, signed)?)
 }

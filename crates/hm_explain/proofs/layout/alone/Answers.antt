@@ -1,12 +1,11 @@
-use Rattle.std.proofs.Common.{rules}
+use Rattle.std.proofs.Common.{◌∙◌}
 use Rattle.std.specs.Prelude.{codes}
 use Rattle.hm_explain.specs.PartTypes.{hollow}
-use Rattle.hm_explain.proofs.Pieces.{five_in_row}
+use Rattle.hm_explain.proofs.Pieces.{five_joined}
 use Rattle.hm_explain.proofs.layout.alone.Goals as goal
 
 pub returns : goal.returns
 returns c =
     let name = c.args.name.now in
-    five_in_row (hollow name) (codes " ; part'types = let { ") c.args.definition.now (codes " } in ") name
-    c.in_ok-made.made.items c.extend_from_slice.new.self.items c.extend_from_slice-2.new.self.items c.extend_from_slice-3.new.self.items c.extend_from_slice-4.new.self.items
-    (search rules) (search (rules, c.in_ok-extend_from_slice.ensures.items)) (search (rules, c.in_ok-extend_from_slice-2.ensures.items)) (search (rules, c.in_ok-extend_from_slice-3.ensures.items)) (search (rules, c.in_ok-extend_from_slice-4.ensures.items))
+    five_joined (hollow name) (codes " ; part'types = let { ") c.args.definition.now (codes " } in ") name
+    c.in_ok-joined.field-0.items (rw (c.as_slice.ensures.value ∙ c.in_ok-hole.ensures) at c.in_ok-joined.ensures)

@@ -1,12 +1,9 @@
-use Rattle.std.proofs.Common.{rules}
 use Rattle.std.specs.Prelude.{codes}
 use Rattle.hm_explain.specs.Holes.{hole}
-use Rattle.hm_explain.proofs.Pieces.{five_in_row}
+use Rattle.hm_explain.proofs.Pieces.{five_joined}
 use Rattle.hm_explain.proofs.layout.hollow.Goals as goal
 
 pub returns : goal.returns
 returns c =
     let name = c.args.name.now in
-    five_in_row name (codes " = ") hole (codes " ; part'declared = ") name
-    c.in_ok-made.made.items c.extend_from_slice.new.self.items c.extend_from_slice-2.new.self.items c.extend_from_slice-3.new.self.items c.extend_from_slice-4.new.self.items
-    (search rules) (search (rules, c.in_ok-extend_from_slice.ensures.items)) (search (rules, c.in_ok-extend_from_slice-2.ensures.items)) (search (rules, c.in_ok-extend_from_slice-3.ensures.items)) (search (rules, c.in_ok-extend_from_slice-4.ensures.items))
+    five_joined name (codes " = ") hole (codes " ; part'declared = ") name c.in_ok-joined.field-0.items (rw c.as_bytes.ensures.value at c.in_ok-joined.ensures)

@@ -1,7 +1,8 @@
-use Rattle.std.proofs.Common.{rules, ◌≡◌, ◌∙◌, ◌++◌, List, ℕ, string_bytes, append_assoc, sym, ap}
+use Rattle.std.proofs.Common.{rules, ◌≡◌, ◌∙◌, ◌++◌, List, ℕ, string_bytes, ap}
 use Rattle.std.specs.Prelude.{codes}
 use Rattle.hm_types.specs.Monotypes.{Mono}
 use Rattle.hm_types.specs.Shape.{type_of}
+use Rattle.hm_types_display.specs.Texts.{scheme_text_of}
 use Rattle.hm_explain.specs.PartTypes.{from_three, text_in}
 use Rattle.hm_explain.proofs.TextParts.{third_text}
 use Rattle.hm_explain.proofs.part_typing.texts_of.Goals as goal
@@ -12,19 +13,15 @@ returns-in-Some-3 c =
     let own : Mono = type_of c.in-Some.taken.own.now in
     let expected : Mono = type_of c.in-Some.taken.expected.now in
     let actual : Mono = type_of c.in-Some.taken.actual.now in
+    let first = c.as_str.result.now in
+    let second = c.as_str-2.result.now in
     let three : scheme.body ≡ from_three own expected actual = search rules in
-    let own_is : string_bytes c.in-Some-2.own ≡ text_in scheme own = search rules in
-    let expected_is : string_bytes c.in-Some-2.expected ≡ text_in scheme expected = search rules in
-    let whole : string_bytes c.in_ok-whole.whole ≡ text_in scheme (from_three own expected actual) = c.in_ok-whole.ensures ∙ ap (λ (t : Mono). text_in scheme t) three in
-    let first = string_bytes c.in-Some-2.own in
-    let second = string_bytes c.in-Some-2.expected in
-    let written : string_bytes c.in_ok-front.front ≡ codes "(" ++ (first ++ (codes ", " ++ (second ++ codes ", "))) = search rules in
-    let in_row : first ++ (codes ", " ++ (second ++ codes ", ")) ≡ first ++ codes ", " ++ second ++ codes ", "
-    = sym (append_assoc (first ++ codes ", ") second (codes ", ") ∙ append_assoc first (codes ", ") (second ++ codes ", ")) in
-    let front : string_bytes c.in_ok-front.front ≡ codes "(" ++ text_in scheme own ++ codes ", " ++ text_in scheme expected ++ codes ", "
-    = written ∙ (ap (λ (x : List ℕ). codes "(" ++ x) in_row ∙ (ap (λ (x : List ℕ). codes "(" ++ x ++ codes ", " ++ second ++ codes ", ") own_is
-    ∙ ap (λ (x : List ℕ). codes "(" ++ text_in scheme own ++ codes ", " ++ x ++ codes ", ") expected_is)) in
-    let parts : string_bytes c.in_ok-whole.whole ≡ string_bytes c.in_ok-front.front ++ (string_bytes c.in-Some-3.actual ++ codes ") -> ()") = search rules in
+    let own_is : first ≡ text_in scheme own = search rules in
+    let expected_is : second ≡ text_in scheme expected = search rules in
+    let front : codes "(" ++ first ++ codes ", " ++ second ++ codes ", " ≡ codes "(" ++ text_in scheme own ++ codes ", " ++ text_in scheme expected ++ codes ", "
+    = ap (λ (x : List ℕ). codes "(" ++ x ++ codes ", " ++ second ++ codes ", ") own_is
+    ∙ ap (λ (x : List ℕ). codes "(" ++ text_in scheme own ++ codes ", " ++ x ++ codes ", ") expected_is in
+    let parts : scheme_text_of scheme ≡ (codes "(" ++ first ++ codes ", " ++ second ++ codes ", ") ++ (string_bytes c.in-Some-3.actual ++ codes ") -> ()") = search rules in
     record {
       own_type = own;
       expected_type = expected;
@@ -32,6 +29,7 @@ returns-in-Some-3 c =
       three = three;
       apart = search rules;
       expected_is = search rules;
-      actual_is = third_text (text_in scheme own) (text_in scheme expected) (text_in scheme actual) (string_bytes c.in-Some-3.actual) (string_bytes c.in_ok-whole.whole) (string_bytes c.in_ok-front.front) whole parts front;
+      actual_is = third_text (text_in scheme own) (text_in scheme expected) (text_in scheme actual) (string_bytes c.in-Some-3.actual) (scheme_text_of scheme)
+          (codes "(" ++ first ++ codes ", " ++ second ++ codes ", ") (ap (λ (t : Mono). text_in scheme t) three) parts front;
       contained = c.need_infinite-infinite.ensures;
     }

@@ -1,5 +1,6 @@
 use Rattle.std.proofs.Common.{rules, ◌≡◌, ◌∙◌, string_bytes, ap, sym}
 use Rattle.hm_types.specs.Monotypes.{Mono}
+use Rattle.hm_types.specs.Shape.{type_of}
 use Rattle.hm_types_display.specs.Texts.{scheme_text_of}
 use Rattle.hm_explain.proofs.shown.alias_of.Goals as goal
 
@@ -7,8 +8,8 @@ pub returns : goal.returns
 returns c =
     let entry = c.args.entry.now in
     let name : string_bytes c.in_ok-name.name ≡ entry.name = search rules in
-    let body : c.in_ok-scheme.scheme.body ≡ entry.synonym.body = search rules in
-    let text : string_bytes c.in_ok-text.text ≡ scheme_text_of c.in_ok-scheme.scheme = search rules in
+    let body : type_of c.body-body.result.now ≡ entry.synonym.body = search rules in
+    let text : string_bytes c.in-Some.text ≡ scheme_text_of (record { vars = 0; body = type_of c.body-body.result.now }) = search rules in
     let home : entry.entity.«module» ≡ c.args.home.now = search rules in
     let own : entry.entity.name ≡ entry.name = search rules in
     let closed : entry.synonym.parameters ≡ 0 = search rules in
