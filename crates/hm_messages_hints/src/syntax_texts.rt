@@ -16,7 +16,7 @@ fn quoted(alloc: Global, text: &str) -> Result<String, AllocError>
     format!(in alloc; "'{text}'")
 }
 
-/// Returns the text of a token between quotes, with what is before and behind it.
+/// Returns the text of a token between quotes, with a text before and after it.
 fn around(alloc: Global, front: &str, text: &str, back: &str) -> Result<String, AllocError>
     ensures { IfOk result (λ line. string_bytes line ≡ front.now ++ quoted text.now ++ back.now) }
 {
