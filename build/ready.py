@@ -113,7 +113,7 @@ def program():
             return PROVED
         wanted = sources.checksum("hmc", OF_UNPROVED)
         if not is_of(UNPROVED, wanted, then):
-            say("building the program without a proof, which takes two to three minutes")
+            say("building the program without a proof, which takes one to two minutes")
             begun = time.monotonic()
             unproved.build(UNPROVED)
             note(UNPROVED, then, wanted)
