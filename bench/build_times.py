@@ -56,7 +56,7 @@ def rebuilt(clone, crate):
 def start(clone):
     """Measures runs of the script and of the program itself in turn, and returns the middle of what the script adds."""
     timed(["./hmc", "--version"], clone)
-    proved, unproved = (clone / it for it in ("crates/hmc/out/hmc", "out/hmc.unproved"))
+    proved, unproved = (clone / it for it in ("crates/hmc/out/hmc", "out/unproved/hmc"))
     program = str(proved if proved.exists() else unproved)
     pairs = [(timed(["./hmc", "--version"], clone), timed([program, "--version"], clone)) for _ in range(RUNS)]
     return tuple(statistics.median(script[it] - alone[it] for script, alone in pairs) for it in (0, 1))

@@ -16,6 +16,7 @@ import fcntl
 import os
 import signal
 import sys
+import threading
 import time
 
 sys.dont_write_bytecode = True
@@ -25,7 +26,7 @@ import unproved  # noqa: E402
 
 OUT = sources.TOP / "out"
 PROVED = sources.TOP / "crates" / "hmc" / "out" / "hmc"
-UNPROVED = OUT / "hmc.unproved"
+UNPROVED = OUT / "unproved" / "hmc"
 # The folders of a crate that decide what the proved program is and promises, and what the unproved one is: its compiler reads no file of specs/.
 OF_PROVED, OF_UNPROVED = ("src", "specs"), ("src",)
 # What a proof reads.
@@ -33,10 +34,37 @@ OF_PROOF = ("src", "specs", "proofs")
 # The files of the kit that decide what a proof is.
 OF_KIT = ("KIT-ID", "WHAT", "bin/rt", "bin/rtlib.py")
 NOT_PROVED = "this program is not proved yet: ./prove proves and builds it"
+# The same for programs: an object on a line, as the messages that follow it.
+NOT_PROVED_OBJECT = f'{{"level":"program","proved":false,"text":"{NOT_PROVED}"}}'
+# How many seconds pass between two lines that say that a build goes on.
+TICK = 10
 
 
 def say(text, who="hmc"):
     print(f"{who}: {text}", file=sys.stderr, flush=True)
+
+
+def are_objects(arguments):
+    """Returns whether messages are JSON objects by these arguments."""
+    return "--message-format=json" in arguments or ("--message-format", "json") in zip(arguments, arguments[1:])
+
+
+@contextlib.contextmanager
+def ticking(what):
+    """Says after each ten seconds of the block that it goes on."""
+    ended, begun = threading.Event(), time.monotonic()
+
+    def tick():
+        while not ended.wait(TICK):
+            say(f"{what}: {time.monotonic() - begun:.0f} seconds so far")
+
+    thread = threading.Thread(target=tick, daemon=True)
+    thread.start()
+    try:
+        yield
+    finally:
+        ended.set()
+        thread.join()
 
 
 @contextlib.contextmanager
@@ -115,7 +143,9 @@ def program():
         if not is_of(UNPROVED, wanted, then):
             say("building the program without a proof, which takes one to two minutes")
             begun = time.monotonic()
-            unproved.build(UNPROVED)
+            UNPROVED.parent.mkdir(exist_ok=True)
+            with ticking("building"):
+                unproved.build(UNPROVED)
             note(UNPROVED, then, wanted)
             say(f"built in {time.monotonic() - begun:.0f} seconds")
         return UNPROVED
@@ -130,7 +160,9 @@ def main(arguments):
     except (unproved.Failed, OSError) as error:
         say(f"the program was not built: {error}")
         return 127
-    if found == UNPROVED:
+    if found == UNPROVED and are_objects(arguments):
+        print(NOT_PROVED_OBJECT, file=sys.stderr, flush=True)
+    elif found == UNPROVED:
         say(NOT_PROVED)
     # Python ignores these signals, and the program would too.
     for it in (signal.SIGPIPE, signal.SIGXFSZ):
