@@ -3,10 +3,11 @@
 
 `command_line.py [PROGRAM]`: without a word, the script `hmc` beside this folder is run. Ends with 1 where a row differs.
 """
-# Why: docs/DECISIONS.md, "Types that are too large".
+# Why: docs/DECISIONS.md, "Types that are too large", "Version".
 import contextlib
 import os
 import pty
+import re
 import resource
 import subprocess
 import sys
@@ -15,7 +16,10 @@ import time
 
 TOP = os.path.dirname(os.path.dirname(os.path.abspath(__file__)))
 PROGRAM = os.path.abspath(sys.argv[1]) if len(sys.argv) > 1 else os.path.join(TOP, "hmc")
-VERSION = "hmc 0.1\n"
+# The program of the gate is proved, and any other isn't. README has the kit's line.
+IS_PROVED = os.path.realpath(PROGRAM) == os.path.join(TOP, "crates", "hmc", "out", "hmc")
+LOGIC = re.search(r"logic ([0-9a-f]{16})", open(os.path.join(TOP, "README.md"), encoding="utf-8").read())[1]
+VERSION = f"hmc 0.1 (proved, logic {LOGIC})\n" if IS_PROVED else "hmc 0.1 (NOT PROVED; ./prove proves hmc)\n"
 SMALL = 2_000_000 << 10
 LITTLE = 200_000_000
 TINY = 30_000 << 10
@@ -56,6 +60,20 @@ module B where {{ twice f = f f }}
 """
 
 
+def coloured(messages):
+    return messages.replace(" error: ", " \x1b[1;31merror\x1b[0m: ").replace(" note: ", " \x1b[1;36mnote\x1b[0m: ")
+
+
+DEEPER = """wrong/a/z.hs:1:18: error: expected ';', found '=' [syntax]
+With it this can be read.
+module C where { = }
+                 ^
+wrong/b.hs:1:18: error: expected ';', found '=' [syntax]
+With it this can be read.
+module C where { = }
+                 ^
+errors: 2, skipped modules: 0
+"""
 BLAMED = """user.hs:1:25: note: skipped, since 'B' has errors
 module C where { import B ; y = twice }
                         ^
@@ -94,11 +112,13 @@ OBJECTS = """{"end":{"byte":23,"character":23,"line":1,"utf16":23},"expected":nu
 {"errors":1,"level":"end","skipped":1}
 """
 
-FOLDER = "hmc: read fault\nhmc: folder: is a directory\n"
-
-
-def cannot_open(name, why="entity not found"):
+def cannot_open(name, why="no such file"):
     return f"hmc: cannot open {name}\nhmc: {name}: {why}\n"
+
+
+FOLDER = cannot_open("folder", "no file *.hs in this folder")
+DEEP = "folders more than 16 deep, or more than 65,536"
+NO_LIST = "a list of sources is text of at most 16 MiB"
 
 
 # name: words, standard input, status, standard output, standard error
@@ -178,6 +198,33 @@ ROWS = {
     ),
     "objects of a good set": (["--message-format", "json", "a.hs", "b.hs"], "", 0, REPORT, '{"errors":0,"level":"end","skipped":0}\n'),
     "messages for readers": (["--message-format", "human", "--explain", "twice.hs", "user.hs", "pair.hs"], "", 1, EXAMPLE, untyped("twice.hs") + BLAMED + "errors: 1, skipped modules: 1\n"),
+    "messages by a letter": (["-e", "-j2", "pair.hs", "twice.hs", "user.hs"], "", 1, EXAMPLE, untyped("twice.hs") + BLAMED + "errors: 1, skipped modules: 1\n"),
+    "messages with colours": (["--color", "always", "-e", "twice.hs", "pair.hs", "user.hs"], "", 1, EXAMPLE, coloured(untyped("twice.hs") + BLAMED) + "errors: 1, skipped modules: 1\n"),
+    "messages without colours": (["--color=never", "-e", "twice.hs", "pair.hs", "user.hs"], "", 1, EXAMPLE, untyped("twice.hs") + BLAMED + "errors: 1, skipped modules: 1\n"),
+    "objects have no colours": (["--color=always", "--message-format", "json", "a.hs", "b.hs"], "", 0, REPORT, '{"errors":0,"level":"end","skipped":0}\n'),
+    "colours at no such time": (["--color", "often", "a.hs"], "", 2, "", None),
+    "a quiet check": (["-q", "twice.hs"], "", 1, "", ""),
+    "a quiet check with messages": (["--quiet", "-e", "twice.hs"], "", 1, "", untyped("twice.hs") + "errors: 1, skipped modules: 0\n"),
+    "a quiet plan": (["-q", "--plan", "a.hs"], "", 2, "", ""),
+    "a quiet version": (["-q", "--version"], "", 0, VERSION, ""),
+    # folders and lists
+    "the files of a folder": (["set"], "", 0, REPORT, ""),
+    "the files of a folder with a slash": (["--plan", "set/"], "", 0, PLAN, ""),
+    "the files of a folder in the order of their paths": (["-e", "wrong"], "", 2, "refused: source 1 at 1:18: syntax\n", DEEPER),
+    "a folder and a file": (["--plan", "a.hs", "set/deep"], "", 0, PLAN, ""),
+    "a folder twice": (["--plan", "set", "set"], "", 2, "refused: module A twice\n", ""),
+    "a folder without sources": (["--plan", "b.hs", "empty"], "", 4, "", cannot_open("empty", "no file *.hs in this folder")),
+    "a folder of folders that are 17 deep": (["--plan", "levels"], "", 4, "", cannot_open("levels", DEEP)),
+    "a folder of folders that are 16 deep": (["--plan", "levels/0"], "", 0, "module B\n1 modules\n", ""),
+    "a list of sources": (["--plan", "@list"], "", 0, PLAN, ""),
+    "a list and a file": (["--plan", "a.hs", "@one"], "", 0, PLAN, ""),
+    "a list of nothing": (["--plan", "@empty.hs"], B, 0, "0 modules\n", ""),
+    "a list that isn't there": (["@none"], "", 4, "", cannot_open("none")),
+    "a list that is a folder": (["@folder"], "", 4, "", cannot_open("folder", "is a directory")),
+    "a list that isn't text": (["@bytes"], "", 4, "", cannot_open("bytes", NO_LIST)),
+    "a list without an end": (["@/dev/zero"], "", 4, "", cannot_open("/dev/zero", NO_LIST)),
+    "a list that names no such file": (["@listed"], "", 4, "", cannot_open("@nothing.hs")),
+    "a file whose name begins with @": (["--plan", "./@at.hs"], "", 0, "module B\n1 modules\n", ""),
     "a format alone": (["--message-format", "human", "pair.hs", "twice.hs", "user.hs"], "", 1, EXAMPLE, ""),
     "a format that isn't there": (["--message-format", "xml", "a.hs"], "", 2, "", None),
     "objects of a folder": (["--message-format", "json", "folder"], "", 4, "", FOLDER),
@@ -348,8 +395,7 @@ def many_messages(folder):
 def on_a_terminal(folder):
     """Where standard error is a terminal `error` and `note` have a colour, unless NO_COLOR is set and not empty."""
     plain = untyped("twice.hs") + BLAMED + "errors: 1, skipped modules: 1\n"
-    coloured = plain.replace(" error: ", " \x1b[1;31merror\x1b[0m: ").replace(" note: ", " \x1b[1;36mnote\x1b[0m: ")
-    for name, colour, wanted in (("without NO_COLOR", None, coloured), ("with an empty NO_COLOR", "", coloured), ("with NO_COLOR", "1", plain)):
+    for name, colour, wanted in (("without NO_COLOR", None, coloured(plain)), ("with an empty NO_COLOR", "", coloured(plain)), ("with NO_COLOR", "1", plain)):
         words = {word: value for word, value in os.environ.items() if word != "NO_COLOR"}
         if colour is not None:
             words["NO_COLOR"] = colour
@@ -416,6 +462,49 @@ def vanishing(folder):
     yield "a file that is removed once it is open", subprocess.CompletedProcess([], child.returncode, out, err), (0, PLAN, "")
 
 
+def make_folders(folder):
+    """Folders of sources, a set of them with links, and lists."""
+    levels = "/".join(str(n) for n in range(17))
+    for name in ("folder", "empty/none", "set/deep/.hidden", "wrong/a", f"levels/{levels}"):
+        os.makedirs(os.path.join(folder, name))
+    bad = "module C where { = }"
+    files = {
+        **{"set/deep/b.hs": B, "set/a.hs": A, "set/.c.hs": bad, "set/c.txt": bad, "set/deep/.hidden/d.hs": bad, "empty/a.txt": bad},
+        **{"wrong/b.hs": bad, "wrong/a/z.hs": bad, f"levels/{levels}/b.hs": B, "@at.hs": B},
+        **{"list": "a.hs\r\n\n./b.hs\n", "one": "b.hs", "listed": "@nothing.hs\n"},
+    }
+    for name, text in files.items():
+        with open(os.path.join(folder, name), "w", encoding="utf-8", newline="") as it:
+            it.write(text)
+    with open(os.path.join(folder, "bytes"), "wb") as it:
+        it.write(b"b.hs\n\xff\n")
+    # A link to a folder isn't followed, so this one is no loop.
+    os.symlink("..", os.path.join(folder, "set", "deep", "again"))
+
+
+def many_files(folder):
+    """More files than a process may have open."""
+    os.mkdir(os.path.join(folder, "many"))
+    for number in range(600):
+        with open(os.path.join(folder, "many", f"M{number}.hs"), "w", encoding="utf-8") as it:
+            it.write(f"module M{number} where {{ x = {number} }}")
+    few = lambda: resource.setrlimit(resource.RLIMIT_NOFILE, (300, 300))
+    ran = run(folder, ["many"], "", before=few)
+    ran.stdout = ran.stdout.splitlines(True)[-1]
+    yield "more files than a process may have open", ran, (0, "600 modules: 600 good, 0 faulty, 0 skipped\n", "")
+
+
+def input_of_a_terminal(folder):
+    """A terminal as standard input, at its end."""
+    for name, words, wanted in (("is read", [], "hmc: reading standard input, to its end (Ctrl-D); hmc --help has the options\n"), ("isn't read", ["b.hs"], "")):
+        writing, terminal = pty.openpty()
+        os.write(writing, b"\x04")
+        ran = subprocess.run([PROGRAM, "--plan", *words], cwd=folder, stdin=terminal, stdout=subprocess.PIPE, stderr=subprocess.PIPE)
+        os.close(terminal)
+        os.close(writing)
+        yield f"a terminal that {name}", ran, (0, "module B\n1 modules\n" if words else "0 modules\n", wanted)
+
+
 def told(output, wanted):
     """Whether this is the text, or, where none is wanted, help or a line of the parser of the words or of a file."""
     text = (output or b"").decode(errors="replace")
@@ -429,7 +518,7 @@ def main():
         for name, text in sources.items():
             with open(os.path.join(folder, name), "w", encoding="utf-8") as it:
                 it.write(text)
-        os.mkdir(os.path.join(folder, "folder"))
+        make_folders(folder)
         os.symlink("none.hs", os.path.join(folder, "nowhere.hs"))
         os.symlink("round.hs", os.path.join(folder, "round.hs"))
         os.symlink("b.hs", os.path.join(folder, "link.hs"))
@@ -470,9 +559,13 @@ def main():
         runs.extend(faulty_and_growing(folder))
         runs.extend(many_messages(folder))
         runs.extend(on_a_terminal(folder))
+        runs.extend(input_of_a_terminal(folder))
+        runs.extend(many_files(folder))
         runs.extend(refused_check(folder))
         runs.append(("no room for the stack", run(folder, ["--plan"], A + B, before=limit(TINY)), (3, "", "hmc: no memory\n")))
         runs.append(("no room for a worker", run(folder, [], A + B, before=limit(TINY)), (6, "", "hmc: no worker\n")))
+        made = subprocess.run([sys.executable, os.path.join(TOP, "tools", "completions.py"), "--check", PROGRAM], stdout=subprocess.PIPE, stderr=subprocess.PIPE)
+        runs.append(("the completions and the man page", made, (0, "", "")))
         for name, ran, (status, out, err) in runs:
             if ran.returncode == status and told(ran.stdout, out) and told(ran.stderr, err):
                 print(f"{name}: as wanted")

@@ -150,6 +150,9 @@ def run_examples(program):
                 for command, wanted in shell:
                     if command.startswith("cat "):
                         (pathlib.Path(room) / command[4:]).write_text(wanted)
+                        kept = TOP / "examples" / command[4:]
+                        if page.name == "README.md" and (not kept.is_file() or kept.read_text() != wanted):
+                            faults.append(f"README.md: examples/{command[4:]} isn't as the page shows it")
                         continue
                     ran = subprocess.run(command, shell=True, cwd=room, stdout=subprocess.PIPE, stderr=subprocess.STDOUT, text=True)
                     count += 1

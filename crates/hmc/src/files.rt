@@ -1,17 +1,20 @@
 //! Sources in files and on standard input.
 
+use crate::names::STDIN;
+use std::alloc::Global;
 use std::cell::Cell;
 use std::fs::File;
 use std::io;
 use std::io::{ErrorKind, Read, Stdin};
 
-/// The word for standard input.
-const STDIN: &str = "-";
+// Why: docs/DECISIONS.md, "Files that are open".
+/// How many files stay open from the start. A later one is opened once to see that it can be, and again when it is read.
+const MOST_OPEN: usize = 256;
 
 /// Why a source couldn't be read.
 #[derive(Clone, Copy)]
 pub(crate) struct Failure {
-    /// The number of the source among those of the command line, from 0.
+    /// The number of the source, from 0.
     pub source: usize,
     pub kind: ErrorKind,
 }
@@ -21,51 +24,75 @@ pub(crate) struct Failure {
 enum Input {
     File(File),
     Stdin(Stdin),
-}
-
-impl Read for Input {
-    fn read(&mut self, buf: &mut [u8]) -> io::Result<usize> {
-        match self {
-            Input::File(file) => file.read(buf),
-            Input::Stdin(stdin) => stdin.read(buf),
-        }
-    }
+    /// The name of a file that isn't open yet.
+    Later(String),
+    /// All was read.
+    Ended,
 }
 
 /// An open source that keeps the reason of the last failed read.
 #[derive(Drop)]
 pub(crate) struct Opened<'a> {
+    rt: &'a HostRuntime,
     input: Input,
-    /// Its number on the command line, from 0.
+    /// Its number, from 0.
     number: usize,
     /// Why the last read of any source failed, if it did.
     failure: &'a Cell<Option<Failure>>,
 }
 
+/// Opens the file with this name, or sees that it can be opened.
+fn open_file(rt: &HostRuntime, name: &str, number: usize) -> io::Result<Input> {
+    let file = File::open(rt, name)?;
+    if number < MOST_OPEN {
+        return Ok(Input::File(file));
+    }
+    let alloc: Global = rt.alloc();
+    Ok(Input::Later(String::from_str(alloc, name)?))
+}
+
 impl<'a> Opened<'a> {
     /// Opens the source with this name.
     pub(crate) fn open(
-        rt: &HostRuntime,
-        word: &str,
+        rt: &'a HostRuntime,
+        name: &str,
         number: usize,
         failure: &'a Cell<Option<Failure>>,
     ) -> io::Result<Opened<'a>> {
-        let input = if word == STDIN {
+        let input = if name == STDIN {
             Input::Stdin(rt.stdin())
         } else {
-            Input::File(File::open(rt, word)?)
+            open_file(rt, name, number)?
         };
         Ok(Opened {
+            rt,
             input,
             number,
             failure,
         })
     }
+
+    /// Reads from the device, and closes it at its end.
+    fn read_input(&mut self, buf: &mut [u8]) -> io::Result<usize> {
+        if let Input::Later(name) = &self.input {
+            let file = File::open(self.rt, name.as_str())?;
+            self.input = Input::File(file);
+        }
+        let count = match &mut self.input {
+            Input::File(file) => file.read(buf)?,
+            Input::Stdin(stdin) => stdin.read(buf)?,
+            Input::Later(_) | Input::Ended => 0,
+        };
+        if count == 0 && !buf.is_empty() {
+            self.input = Input::Ended;
+        }
+        Ok(count)
+    }
 }
 
 impl Read for Opened<'_> {
     fn read(&mut self, buf: &mut [u8]) -> io::Result<usize> {
-        let answer = self.input.read(buf);
+        let answer = self.read_input(buf);
         let failure = match &answer {
             Ok(_) => None,
             Err(error) => Some(Failure {
@@ -75,14 +102,5 @@ impl Read for Opened<'_> {
         };
         self.failure.set(failure);
         answer
-    }
-}
-
-/// Returns the name of a source in messages.
-pub(crate) fn name_of<'a>(word: &'a str, stdin_name: Option<&'a str>) -> &'a str {
-    if word == STDIN {
-        stdin_name.unwrap_or("<stdin>")
-    } else {
-        word
     }
 }

@@ -22,10 +22,25 @@ pub struct Asked {
     pub explain: bool,
     /// Whether these messages are JSON objects.
     pub json: bool,
+    /// Whether messages have colours.
+    pub colour: Colour,
+    /// Whether nothing is written to standard output.
+    pub quiet: bool,
     /// The name of standard input in messages, if it has one.
     pub stdin_name: Option<String>,
-    /// The names of the sources, in order, at least one. `-` is standard input, and is the only source if no file is named.
+    /// The words for the sources, in order, at least one. `-` is standard input, and is the only word if there is none.
     pub files: Vec<String>,
+    /// Whether a word names a source.
+    pub names_files: bool,
+}
+
+/// Whether messages have colours.
+#[derive(Debug, Clone, Copy, PartialEq, Eq)]
+pub enum Colour {
+    /// If standard error is a terminal, unless NO_COLOR is set and not empty.
+    Auto,
+    Always,
+    Never,
 }
 
 /// The largest number of workers.
@@ -37,8 +52,12 @@ const WORKERS: usize = 4;
 /// The formats of messages.
 const MESSAGE_FORMATS: [&str; 2] = ["human", "json"];
 
-/// The program's version.
-const VERSION: &str = "0.1";
+/// The words for `Colour`.
+const COLOURS: [&str; 3] = ["auto", "always", "never"];
+
+// Why: docs/DECISIONS.md, "Version".
+/// The program's version, whether it is proved, and by which logic.
+const VERSION: &str = "0.1 (proved, logic dac8208d650f15bf)";
 
 /// The end of the help: an example of three sources with its report, and the exit statuses.
 const EXAMPLE: &str = "\
@@ -62,7 +81,7 @@ Exit statuses:
   1  a module is faulty or skipped
   2  the sources or the words of the command line are refused
   3  no memory
-  4  a source can't be opened or read, or the output can't be written
+  4  a source can't be found or read, or the output can't be written
   5  mixed: the workers' records contradict each other
   6  no worker: no thread could be started";
 
@@ -72,6 +91,11 @@ fn flag<'a>(alloc: Global, name: &'a str, help: &'a str) -> Arg<'a> {
         .long(name)
         .help(help)
         .action(ArgAction::SetTrue)
+}
+
+/// Returns an option without a value that a letter names too.
+fn lettered<'a>(alloc: Global, letter: char, name: &'a str, help: &'a str) -> Arg<'a> {
+    flag(alloc, name, help).short(letter)
 }
 
 /// Returns an option with a value.
@@ -90,6 +114,7 @@ fn jobs<'a>(alloc: Global) -> Arg<'a> {
         "N",
         "How many workers check modules at the same time, 1 to 16; 4 if it isn't given",
     )
+    .short('j')
     .value_parser(ValueParser::Unsigned(1, MOST_WORKERS as u64))
 }
 
@@ -104,11 +129,22 @@ fn message_format<'a>(alloc: Global) -> Arg<'a> {
     .value_parser(ValueParser::Names(&MESSAGE_FORMATS))
 }
 
-/// Returns the argument for the names of sources.
+/// Returns the option for colours.
+fn colour<'a>(alloc: Global) -> Arg<'a> {
+    valued(
+        alloc,
+        "color",
+        "WHEN",
+        "When messages have colours: auto, always or never; auto is on a terminal, if NO_COLOR isn't set",
+    )
+    .value_parser(ValueParser::Names(&COLOURS))
+}
+
+/// Returns the argument for the words of sources.
 fn sources<'a>(alloc: Global) -> Arg<'a> {
     Arg::new(alloc, "FILE")
         .help(
-            "A source each, of any number of modules and 1,048,576 bytes at most; - is standard input, and so are no files",
+            "A source each, of any number of modules and 1,048,576 bytes at most; a folder means the files *.hs in it, @LIST the names in the file LIST, and - standard input, which is read if there is no FILE",
         )
         .action(ArgAction::Append)
 }
@@ -133,12 +169,20 @@ fn command<'a>(alloc: Global) -> Result<Command<'a>, AllocError> {
             "Print the journal of the build after the report",
         ))?
         .arg(flag(alloc, "plan", "Print the import plan and check nothing"))?
-        .arg(flag(
+        .arg(lettered(
             alloc,
+            'e',
             "explain",
             "Write to standard error, for each fault, FILE:LINE:COLUMN, what is wrong in plain words, and the line with a mark",
         ))?
         .arg(message_format(alloc))?
+        .arg(colour(alloc))?
+        .arg(lettered(
+            alloc,
+            'q',
+            "quiet",
+            "Write nothing to standard output; the exit status has the verdict",
+        ))?
         .arg(valued(
             alloc,
             "stdin-name",
@@ -148,7 +192,7 @@ fn command<'a>(alloc: Global) -> Result<Command<'a>, AllocError> {
         .arg(sources(alloc))
 }
 
-/// Returns the names of the sources, or that of standard input if there are none.
+/// Returns the words for the sources, or that for standard input if there are none.
 fn files(alloc: Global, matches: &ArgMatches<'_>) -> Result<Vec<String>, AllocError> {
     let mut files = Vec::new(alloc);
     if let Some(names) = matches.get_strs("FILE") {
@@ -166,6 +210,15 @@ fn stdin_name(alloc: Global, matches: &ArgMatches<'_>) -> Result<Option<String>,
     match matches.get_str("stdin-name") {
         Some(name) => Ok(Some(String::from_str(alloc, name)?)),
         None => Ok(None),
+    }
+}
+
+/// Returns when messages have colours.
+fn colour_of(matches: &ArgMatches<'_>) -> Colour {
+    match matches.get_str("color") {
+        Some("always") => Colour::Always,
+        Some("never") => Colour::Never,
+        _ => Colour::Auto,
     }
 }
 
@@ -198,7 +251,10 @@ pub fn command_line(alloc: Global, words: &[String]) -> Result<Asked, Error>
         plan: matches.get_flag("plan"),
         explain: json || matches.get_flag("explain"),
         json,
+        colour: colour_of(&matches),
+        quiet: matches.get_flag("quiet"),
         stdin_name: stdin_name(alloc, &matches)?,
         files: files(alloc, &matches)?,
+        names_files: matches.contains_id("FILE"),
     })
 }

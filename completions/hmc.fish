@@ -1,0 +1,11 @@
+# Completions of hmc for fish: copy this file to ~/.config/fish/completions.
+complete -c hmc -s j -l jobs -x -d 'How many workers check modules at the same time, 1 to 16; 4 if it isn'\''t given'
+complete -c hmc -l journal -d 'Print the journal of the build after the report'
+complete -c hmc -l plan -d 'Print the import plan and check nothing'
+complete -c hmc -s e -l explain -d 'Write to standard error, for each fault, FILE:LINE:COLUMN, what is wrong in plain words, and the line with a mark'
+complete -c hmc -l message-format -x -a 'human json' -d 'How messages are written: human, or json, a JSON object on a line each; json implies --explain'
+complete -c hmc -l color -x -a 'auto always never' -d 'When messages have colours: auto, always or never; auto is on a terminal, if NO_COLOR isn'\''t set'
+complete -c hmc -s q -l quiet -d 'Write nothing to standard output; the exit status has the verdict'
+complete -c hmc -l stdin-name -x -d 'What standard input is called in messages; <stdin> if it isn'\''t given'
+complete -c hmc -s h -l help -d 'Print help'
+complete -c hmc -s V -l version -d 'Print version'

@@ -1,0 +1,5 @@
+module Reverse where {
+  append xs x = foldr (:) x xs ;
+  backwards [] = [] ;
+  backwards (x : xs) = append (backwards xs) x
+}

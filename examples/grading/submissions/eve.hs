@@ -1,0 +1,3 @@
+module Reverse where {
+  append xs x = foldr (:) [x] xs
+}
