@@ -130,7 +130,7 @@ fn message_format<'a>(alloc: Global) -> Arg<'a> {
 }
 
 /// Returns the option for colours.
-fn colour<'a>(alloc: Global) -> Arg<'a> {
+fn colour_option<'a>(alloc: Global) -> Arg<'a> {
     valued(
         alloc,
         "color",
@@ -176,7 +176,7 @@ fn command<'a>(alloc: Global) -> Result<Command<'a>, AllocError> {
             "Write to standard error, for each fault, FILE:LINE:COLUMN, what is wrong in plain words, and the line with a mark",
         ))?
         .arg(message_format(alloc))?
-        .arg(colour(alloc))?
+        .arg(colour_option(alloc))?
         .arg(lettered(
             alloc,
             'q',
