@@ -52,6 +52,12 @@ def repeated_imports(count, names):
     return large_module(count) + "\nmodule B where { " + " ; ".join([f"import A {names}"] * count + ["x = True"]) + " }"
 
 
+def imports_of_modules(count):
+    """Modules of one name, and one module that imports all of them."""
+    modules = [f"module M{n} where {{ f{n} = True }}" for n in range(count)]
+    return "\n".join(modules + ["module Z where { " + " ; ".join([f"import M{n} (f{n})" for n in range(count)] + ["x = True"]) + " }"])
+
+
 def importers(count):
     return "\n".join([large_module(10_000)] + [f"module M{n} where {{ import A (f0) ; x = f0 }}" for n in range(count)])
 
@@ -94,6 +100,7 @@ KINDS = [
     (COPIES, uses_of_a_type, 400),
     ("lines `import A ()`, where A has as many names", lambda count: repeated_imports(count, "()"), 2_000),
     ("lines `import A (f0)`, where A has as many names", lambda count: repeated_imports(count, "(f0)"), 2_000),
+    ("imports of as many modules in one module", imports_of_modules, 2_000),
     ("importers of one name of a module of 10,000", importers, 32),
     ("names of one let below as many variables of a lambda", lets_below_lambdas, 2_000),
     ("declared types below as many variables of a lambda", declared_below_lambdas, 1_000),

@@ -34,6 +34,11 @@ pub turn_so : {X : Type 0} (P Q : X → Bool → Bool → List ℕ → Type 0) �
 turn_so P Q f [] before after text h = h
 turn_so P Q f (x ∷ xs) before after text h = (h.0, h.1, h.2, f x before h.2 h.0 h.3, turn_so P Q f xs h.2 after h.1 h.4, h.5)
 
+-- the same without the limit
+pub each_so : {X : Type 0} (P Q : X → List ℕ → Type 0) → ((x : X) (t : List ℕ) → P x t → Q x t) → (xs : List X) (text : List ℕ) → AreEach P xs text → AreEach Q xs text
+each_so P Q f [] text h = h
+each_so P Q f (x ∷ xs) text h = (h.0, h.1, f x h.0 h.2, each_so P Q f xs h.1 h.3, h.4)
+
 -- parts of which none tells the limit
 pub quiet_turn : {X : Type 0} (P : X → List ℕ → Type 0) (Q : X → Bool → Bool → List ℕ → Type 0) → ((x : X) (b : Bool) (t : List ℕ) → P x t → Q x b b t) → (xs : List X) (before : Bool) (text : List ℕ)
     → AreEach P xs text → AreInTurn Q xs before before text

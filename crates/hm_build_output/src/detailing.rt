@@ -21,7 +21,7 @@ use hm_messages::{Page, Paint, fault_message};
 use hm_messages_details::{Detail, Site, detail_of};
 use hm_names::{Fault, Kind, NO_SYNONYMS};
 use hm_scope_entities::Tables;
-use hm_scope_imports::{interfaces_of, scope_of};
+use hm_scope_imports::{are_imports_of, interfaces_of, scope_of};
 use hm_scope_tables::Scope;
 use hm_store::Store;
 use hm_syntax::Module;
@@ -164,6 +164,9 @@ fn searched_messages(
         faulty.entry.faults.now text.items) }
 {
     let module: &Module = &told.modules[faulty.number];
+    if !are_imports_of(alloc, module, imports)? {
+        return Ok(plain_messages(alloc, told.pages.paint, page, faulty.faults)?);
+    }
     let prelude: &ModuleInterface = told.prelude.interface();
     let scope = scope_of(alloc, module, prelude, imports)?;
     let interfaces = interfaces_of(alloc, prelude, imports)?;

@@ -18,6 +18,7 @@ ghost use Rattle.hm_names.specs.Bindings.{IsScopeOf};
 ghost use Rattle.hm_names.specs.Cores.{IsCore};
 ghost use Rattle.hm_scope_exports.specs.ExportedRows.{HaveOneEntity};
 ghost use Rattle.hm_names.specs.Imports.{AreImportsOf};
+ghost use Rattle.hm_scope_imports.specs.Apart.{AreNamedApart};
 ghost use Rattle.hm_scope.specs.Outcome.{IsFaulty, IsOutcome};
 
 use crate::answering::{first_faults, phase_answer};
@@ -301,6 +302,7 @@ fn phases_answer<'a>(
     imports: &'a [Arc<Interface>],
     limits: TypeLimits,
 ) -> Result<Answer<'a>, AllocError>
+    requires { AreNamedApart (prelude.now ∷ map arc_value imports.now) }
     ensures { IfOk result (IsAnswer program.now (prelude.now ∷ map arc_value imports.now)) }
 {
     let interfaces = interfaces_of(alloc, prelude, imports)?;
@@ -417,6 +419,7 @@ fn core_or_faults(
     imports: &[Arc<Interface>],
     limits: TypeLimits,
 ) -> Result<Result<Core, Row<Fault>>, AllocError>
+    requires { AreImportsOf «module».now (map arc_value imports.now) }
     ensures { IfOk result (IsOutcome «module».now (prelude_interface ∷ map arc_value imports.now)) }
 {
     let prelude = prelude.interface();

@@ -6,3 +6,4 @@ pub mod ImportedNames
 pub mod SameNames
 pub mod FaultyLemmas
 pub mod FaultyLists
+pub mod Apart

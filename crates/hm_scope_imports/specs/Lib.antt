@@ -1,3 +1,4 @@
 pub mod Gathered
 pub mod Selections
 pub mod FaultyItems
+pub mod Apart

@@ -8,12 +8,14 @@ ghost use Rattle.hm_syntax.specs.Names.{Identifier};
 ghost use Rattle.hm_syntax.specs.declared.ast.ImportItem.{ImportItem};
 ghost use Rattle.hm_names.specs.Bindings.{Adds};
 ghost use Rattle.hm_names.specs.Entities.{Exports, Belongs};
+ghost use Rattle.hm_scope_imports.specs.Apart.{AreNamedApart};
 ghost use Rattle.hm_scope_imports.specs.FaultyItems.{IsItemFault, IsListFault};
 ghost use Rattle.hm_names.specs.Faults.Phases.{HasFault, Importing, fault};
 ghost use Rattle.hm_names.specs.declared.faults.Fault.{Fault};
 ghost use Rattle.hm_names.specs.declared.faults.Kind.TheVariants.{NotExported};
 ghost use Rattle.hm_names.specs.declared.namespace.Namespace.TheVariants.{Types, Values};
 
+use crate::found::place_of;
 use hm_names::{Fault, Kind, fault_at};
 use hm_scope_tables::entry_named;
 use hm_syntax::{Import, ImportItem, ImportList, Module, Name, SubItems};
@@ -171,38 +173,26 @@ fn add_list_faults(
     }
 }
 
-/// Adds the faults of an import, if this is the interface of its module.
-fn add_named_faults(
-    alloc: Global,
-    faults: &mut Vec<Fault>,
-    import: &Import,
-    interface: &Interface,
-) -> Result<(), AllocError>
-    ensures { OnOk result (Adds faults.old.items faults.new.items (λ g. (interface.now.name ≡ import.now.name.text)
-        × ((k : Identifier) × (IsListFault interface.now k import.now.list × (fault NotExported k ≡ g))))) }
-{
-    if interface.name() != import.name.as_str() {
-        return Ok(());
-    }
-    add_list_faults(alloc, faults, interface, &import.list)?;
-    Ok(())
-}
-
-/// Adds the faults of an import.
+/// Adds the faults of an import, whose interface is looked for from a place on. Returns the place from which to look for the next one.
 fn add_import_faults(
     alloc: Global,
     faults: &mut Vec<Fault>,
     import: &Import,
     interfaces: &[&Interface],
-) -> Result<(), AllocError>
+    from: usize,
+) -> Result<usize, AllocError>
+    requires { AreNamedApart (map (λ f. f.now) interfaces.now) }
     ensures { OnOk result (Adds faults.old.items faults.new.items (λ g. (f : Bor Interface)
         × (Contains interfaces.now f × ((f.now.name ≡ import.now.name.text)
         × ((k : Identifier) × (IsListFault f.now k import.now.list × (fault NotExported k ≡ g))))))) }
 {
-    for interface in interfaces {
-        add_named_faults(alloc, faults, import, interface)?;
+    match place_of(interfaces, from, import.name.as_str()) {
+        None => Ok(from),
+        Some(place) => {
+            add_list_faults(alloc, faults, interfaces[place], &import.list)?;
+            Ok(place + 1)
+        }
     }
-    Ok(())
 }
 
 /// Returns the faults of the imports of a module, for the interfaces of the imported modules.
@@ -211,11 +201,13 @@ pub fn import_faults(
     program: &Module,
     interfaces: &[&Interface],
 ) -> Result<Vec<Fault>, AllocError>
+    requires { AreNamedApart (map (λ i. i.now) interfaces.now) }
     ensures { IfOk result (λ faults. (f : Fault) → Contains faults.items f ↔ HasFault program.now (map (λ i. i.now) interfaces.now) Importing f) }
 {
     let mut faults = Vec::new(alloc);
+    let mut from = 0;
     for import in program.header.imports.as_slice() {
-        add_import_faults(alloc, &mut faults, import, interfaces)?;
+        from = add_import_faults(alloc, &mut faults, import, interfaces, from)?;
     }
     Ok(faults)
 }

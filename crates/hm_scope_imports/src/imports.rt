@@ -8,8 +8,10 @@ ghost use Rattle.hm_syntax.specs.declared.ast.Module.{Module};
 ghost use Rattle.hm_names.specs.Bindings.{Pair, Adds, IsPairOf, IsBroughtPair, IsScopeOf};
 ghost use Rattle.hm_names.specs.Scope.{Imports, known_as, prelude_name, import_prelude};
 ghost use Rattle.hm_scope_imports.specs.Selections.{Selects, IsSelectedPair, IsSelectedAs, IsNamedPair, IsImportedPair, IsBroughtFrom};
+ghost use Rattle.hm_scope_imports.specs.Apart.{AreNamedApart};
 ghost use Rattle.hm_scope_tables.specs.declared.keys.Key.{Key};
 
+use crate::found::place_of;
 use crate::in_scope::{add_both, add_declared, add_qualified};
 use crate::selections::Selection;
 use hm_names::Namespace;
@@ -204,35 +206,24 @@ fn add_brought<'a>(
     Ok(())
 }
 
-/// Adds the entities that an import brings in from an interface, if this is the one of the imported module.
-fn add_named<'a>(
-    alloc: Global,
-    pairs: &mut Vec<Binding<'a>>,
-    import: &'a Import,
-    interface: &'a Interface,
-) -> Result<(), AllocError>
-    ensures { OnOk result (Adds pairs.old.items pairs.new.items (λ p. (interface.now.name ≡ import.now.name.text) × IsBroughtPair interface.now import.now p)) }
-{
-    if interface.name() != import.name.as_str() {
-        return Ok(());
-    }
-    add_brought(alloc, pairs, import, interface)?;
-    Ok(())
-}
-
-/// Adds the entities that an import brings in.
+/// Adds the entities that an import brings in, whose interface is looked for from a place on. Returns the place from which to look for the next one.
 fn add_import<'a>(
     alloc: Global,
     pairs: &mut Vec<Binding<'a>>,
     import: &'a Import,
     interfaces: &[&'a Interface],
-) -> Result<(), AllocError>
+    from: usize,
+) -> Result<usize, AllocError>
+    requires { AreNamedApart (map (λ f. f.now) interfaces.now) }
     ensures { OnOk result (Adds pairs.old.items pairs.new.items (IsBroughtFrom (map (λ f. f.now) interfaces.now) import.now)) }
 {
-    for interface in interfaces {
-        add_named(alloc, pairs, import, interface)?;
+    match place_of(interfaces, from, import.name.as_str()) {
+        None => Ok(from),
+        Some(place) => {
+            add_brought(alloc, pairs, import, interfaces[place])?;
+            Ok(place + 1)
+        }
     }
-    Ok(())
 }
 
 /// Adds all entities that an interface exports, if it is Prelude's.
@@ -284,11 +275,13 @@ fn add_written<'a>(
     imports: &'a [Import],
     interfaces: &[&'a Interface],
 ) -> Result<(), AllocError>
+    requires { AreNamedApart (map (λ f. f.now) interfaces.now) }
     ensures { OnOk result (Adds pairs.old.items pairs.new.items (λ p. (i : Import)
         × (Contains imports.now i × IsBroughtFrom (map (λ f. f.now) interfaces.now) i p))) }
 {
+    let mut from = 0;
     for import in imports {
-        add_import(alloc, pairs, import, interfaces)?;
+        from = add_import(alloc, pairs, import, interfaces, from)?;
     }
     Ok(())
 }
@@ -300,6 +293,7 @@ fn add_imports<'a>(
     program: &'a Module,
     interfaces: &[&'a Interface],
 ) -> Result<(), AllocError>
+    requires { AreNamedApart (map (λ f. f.now) interfaces.now) }
     ensures { OnOk result (Adds pairs.old.items pairs.new.items (IsImportedPair program.now (map (λ f. f.now) interfaces.now))) }
 {
     let imports = program.header.imports.as_slice();
@@ -334,6 +328,7 @@ pub fn scope_of<'a>(
     prelude: &'a Interface,
     imports: &'a [Arc<Interface>],
 ) -> Result<Scope<'a>, AllocError>
+    requires { AreNamedApart (prelude.now ∷ map arc_value imports.now) }
     ensures { IfOk result (λ scope. IsScopeOf program.now (prelude.now ∷ map arc_value imports.now) scope) }
 {
     let interfaces = interfaces_of(alloc, prelude, imports)?;

@@ -2,6 +2,7 @@
 #![tactic(auto)]
 
 mod faulty_imports;
+mod found;
 mod imported;
 mod imports;
 mod in_scope;

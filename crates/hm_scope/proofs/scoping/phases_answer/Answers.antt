@@ -5,10 +5,16 @@ use Rattle.hm_types.specs.Interfaces.{Exports as Interface}
 use Rattle.hm_names.specs.declared.faults.Fault.{Fault}
 use Rattle.hm_names.specs.Bindings.{IsScopeOf}
 use Rattle.hm_names.specs.Faults.Phases.{Importing}
+use Rattle.hm_scope_imports.specs.Apart.{AreNamedApart}
 use Rattle.hm_scope.specs.PhaseAnswers.{AreExact, IsPhaseAnswer}
 use Rattle.hm_scope.specs.Answers.{IsAnswerBehind}
 use Rattle.hm_scope.proofs.PhasesInOrder.{before_importing}
 use Rattle.hm_scope.proofs.scoping.phases_answer.Goals as goal
+
+pub import_faults-requires : goal.import_faults-requires
+import_faults-requires c =
+    let lent = ap (λ (l : List (Bor Interface)). map (λ f. f.now) l) c.deref.ensures.value ∙ c.in_ok-interfaces.ensures in
+    subst AreNamedApart (sym lent) c.requires
 
 pub returns-in-Some : goal.returns-in-Some
 returns-in-Some c =

@@ -1,15 +1,12 @@
-use Rattle.std.proofs.Common.{◌≡◌, Bor}
-use Rattle.hm_types.specs.Interfaces.{Exports as Interface}
-use Rattle.hm_syntax.specs.Names.{Identifier}
-use Rattle.hm_names.specs.declared.faults.Fault.{Fault}
-use Rattle.hm_names.specs.declared.faults.Kind.TheVariants.{NotExported}
-use Rattle.hm_scope_imports.specs.FaultyItems.{IsListFault}
-use Rattle.hm_names.specs.Faults.Phases.{fault}
-use Rattle.hm_names.proofs.AddedPairs.{for_more, for_all}
+use Rattle.std.proofs.Common.{◌∙◌, sym}
+use Rattle.hm_scope_imports.proofs.Apart.{faults_none, faults_one}
 use Rattle.hm_scope_imports.proofs.faulty_imports.add_import_faults.Goals as goal
 
-pub loop-interface-preserved : goal.loop-interface-preserved
-loop-interface-preserved c = for_more (λ (f : Bor Interface) (g : Fault). (f.now.name ≡ c.args.import.now.name.text) × ((k : Identifier) × (IsListFault f.now k c.args.import.now.list × (fault NotExported k ≡ g)))) c.args.faults.now.items c.loop-interface.faults.items c.add_named_faults.new.faults.items c.args.interfaces.now c.loop-interface.interface-index c.interface-item.result c.loop-interface-test.true c.interface-item.is c.loop-interface.invariant c.in_ok-add_named_faults.ensures
+pub returns-in-None : goal.returns-in-None
+returns-in-None c = faults_none c.args.interfaces.now c.args.import.now (λ f k n. c.in-None.ensures.none f k (n ∙ sym c.as_str.ensures)) c.args.faults.now.items
 
-pub returns : goal.returns
-returns c = for_all (λ (f : Bor Interface) (g : Fault). (f.now.name ≡ c.args.import.now.name.text) × ((k : Identifier) × (IsListFault f.now k c.args.import.now.list × (fault NotExported k ≡ g)))) c.args.faults.now.items c.loop-interface.faults.items c.args.interfaces.now c.loop-interface.interface-index c.loop-interface-test.false c.loop-interface.invariant
+pub returns-in_ok-add_list_faults-in-Some : goal.returns-in_ok-add_list_faults-in-Some
+returns-in_ok-add_list_faults-in-Some c =
+    let f = c.index-interfaces-place.result in
+    faults_one c.args.interfaces.now c.args.import.now c.requires f (c.in-Some.place, c.in-Some.ensures.within, sym c.index-interfaces-place.is) (c.in-Some.ensures.named f c.index-interfaces-place.is ∙ c.as_str.ensures)
+    c.args.faults.now.items c.add_list_faults.new.faults.items c.in_ok-add_list_faults-in-Some.ensures

@@ -10,7 +10,7 @@ pub loop-import-preserved : goal.loop-import-preserved
 loop-import-preserved c =
     let is = c.as_slice-import-items.ensures in
     for_more (λ (i : Import). FaultOf c.args.interfaces.now i) c.new-faults.result.items c.loop-import.faults.items c.add_import_faults.new.faults.items c.args.program.now.header.imports c.loop-import.import-index c.import-item.result
-    (rw is at c.loop-import-test.true) (rw is at c.import-item.is) c.loop-import.invariant c.in_ok-add_import_faults.ensures
+    (rw is at c.loop-import-test.true) (rw is at c.import-item.is) c.loop-import.invariant c.in_ok-from.ensures
 
 pub returns : goal.returns
 returns c =

@@ -1,14 +1,12 @@
-use Rattle.std.proofs.Common.{◌≡◌, Bor, refl}
-use Rattle.hm_types.specs.Interfaces.{Exports as Interface}
-use Rattle.hm_names.specs.Bindings.{IsBroughtPair}
-use Rattle.hm_names.proofs.AddedPairs.{for_more, for_all}
-use Rattle.hm_scope_imports.proofs.SelectedPairs.{from_adds}
+use Rattle.std.proofs.Common.{◌∙◌, sym}
+use Rattle.hm_scope_imports.proofs.Apart.{brought_none, brought_one}
 use Rattle.hm_scope_imports.proofs.imports.add_import.Goals as goal
 
-pub loop-interface-preserved : goal.loop-interface-preserved
-loop-interface-preserved c =
-    for_more (λ (f : Bor Interface) p. (f.now.name ≡ c.args.import.now.name.text) × IsBroughtPair f.now c.args.import.now p) c.args.pairs.now.items c.loop-interface.pairs.items c.add_named.new.pairs.items c.args.interfaces.now c.loop-interface.interface-index c.interface-item.result c.loop-interface-test.true c.interface-item.is c.loop-interface.invariant c.in_ok-add_named.ensures
+pub returns-in-None : goal.returns-in-None
+returns-in-None c = brought_none c.args.interfaces.now c.args.import.now (λ f k n. c.in-None.ensures.none f k (n ∙ sym c.as_str.ensures)) c.args.pairs.now.items
 
-pub returns : goal.returns
-returns c = from_adds c.args.pairs.now.items c.loop-interface.pairs.items c.args.interfaces.now c.args.import.now c.args.import.now.name.text refl
-    (for_all (λ (f : Bor Interface) p. (f.now.name ≡ c.args.import.now.name.text) × IsBroughtPair f.now c.args.import.now p) c.args.pairs.now.items c.loop-interface.pairs.items c.args.interfaces.now c.loop-interface.interface-index c.loop-interface-test.false c.loop-interface.invariant)
+pub returns-in_ok-add_brought-in-Some : goal.returns-in_ok-add_brought-in-Some
+returns-in_ok-add_brought-in-Some c =
+    let f = c.index-interfaces-place.result in
+    brought_one c.args.interfaces.now c.args.import.now c.requires f (c.in-Some.place, c.in-Some.ensures.within, sym c.index-interfaces-place.is) (c.in-Some.ensures.named f c.index-interfaces-place.is ∙ c.as_str.ensures)
+    c.args.pairs.now.items c.add_brought.new.pairs.items c.in_ok-add_brought-in-Some.ensures
