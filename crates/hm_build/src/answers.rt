@@ -1,6 +1,6 @@
 //! The result of a run before it is written: a text, a status and messages.
 ghost use Rattle.std.specs.Prelude.{◌≡◌, ◌⊎◌, ◌<◌, ◌≤◌, None, IfOk, IfErr, IfSome, map, string_bytes};
-ghost use Rattle.hm_build_output.specs.Explained.{IsExplained, TellsExhaustion};
+ghost use Rattle.hm_build_messages.specs.Explained.{IsExplained, TellsExhaustion};
 ghost use Rattle.hm_build_output.specs.JournalledRuns.{IsRun};
 
 use crate::building::{Task, build_here};

@@ -1,7 +1,7 @@
 //! Runs with two writers: one for the report, one for the messages that explain it.
 ghost use Rattle.std.specs.Prelude.{◌≡◌, ◌<◌, ◌⊎◌, ◌↔◌, ℕ, List, All, Any, IfOk, IfErr, IsErrOf, OnErr, OnOk, map};
 ghost use Rattle.std.specs.Io.KnownBytes.{Appends};
-ghost use Rattle.hm_build_output.specs.Explained.{IsExplained, IsToldTo, TellsExhaustion};
+ghost use Rattle.hm_build_messages.specs.Explained.{IsExplained, IsToldTo, TellsExhaustion};
 ghost use Rattle.hm_build_output.specs.JournalledRuns.{IsRun};
 ghost use Rattle.hm_run_io.specs.Sources.{AreReadUp, Stops, StopsAtFault, Tell, WritesPrefix, held_of};
 ghost use Rattle.hm_run_sources.specs.declared.status.Status.{Status};

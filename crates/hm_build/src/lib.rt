@@ -18,6 +18,7 @@ mod workers;
 pub use building::build;
 pub use explained_runs::{Outputs, run_explained};
 pub use gate::{Gate, Open};
-pub use hm_build_output::{Explain, Explaining, Options};
+pub use hm_build_messages::Explain;
+pub use hm_build_output::{Explaining, Options};
 pub use hm_build_stages::{BuildFault, Finished, journal_text, report};
 pub use running::run;

@@ -1,6 +1,6 @@
 //! Reads sources and checks them. Writing the result is left to the callers.
 ghost use Rattle.std.specs.Prelude.{◌≡◌, ◌<◌, ◌⊎◌, ◌↔◌, ℕ, List, None, All, Any, IfOk, IfErr, IfSome, IsErrOf, OnOk, map, string_bytes};
-ghost use Rattle.hm_build_output.specs.Explained.{IsExplained, TellsExhaustion};
+ghost use Rattle.hm_build_messages.specs.Explained.{IsExplained, TellsExhaustion};
 ghost use Rattle.hm_build_output.specs.JournalledRuns.{IsRun};
 ghost use Rattle.hm_run_io.specs.Sources.{AreReadUp, Stops, StopsAtFault, Tell, held_of};
 ghost use Rattle.hm_run_io.specs.Watching.{device_of, failures_of, HasReadFault, IsFresh, IsReadWithin};

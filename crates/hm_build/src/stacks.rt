@@ -1,6 +1,6 @@
 //! Runs a build on a thread whose stack is large enough for the source that nests deepest.
 ghost use Rattle.std.specs.Prelude.{◌≡◌, ◌⊎◌, ◌<◌, ◌≤◌, None, IfErr, IfOk, IfSome, map, string_bytes};
-ghost use Rattle.hm_build_output.specs.Explained.{IsExplained, TellsExhaustion};
+ghost use Rattle.hm_build_messages.specs.Explained.{IsExplained, TellsExhaustion};
 ghost use Rattle.hm_build_output.specs.JournalledRuns.{IsRun};
 
 use crate::answers::{Unanswered, build_answer};
@@ -23,7 +23,7 @@ struct RunOf {
 
 impl Promise<Result<Explained, Unanswered>> for RunOf {
     ghost use Rattle.std.specs.Prelude.{◌≡◌, ◌⊎◌, None, IfErr, IfOk, IfSome, map, string_bytes};
-    ghost use Rattle.hm_build_output.specs.Explained.{IsExplained, TellsExhaustion};
+    ghost use Rattle.hm_build_messages.specs.Explained.{IsExplained, TellsExhaustion};
     ghost use Rattle.hm_build_output.specs.JournalledRuns.{IsRun};
     ghost use Rattle.hm_run_io.specs.declared.faults.RunFault.TheVariants.{Memory, NoWorker, Mixed};
 

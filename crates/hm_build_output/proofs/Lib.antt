@@ -1,12 +1,4 @@
-pub mod OneRun
-pub mod HeldRuns
-pub mod Beyond
-pub mod Told
-pub mod Telling
 pub mod FinishedRuns
-pub mod Detailed
-pub mod Blamed
-pub mod Called
-pub mod Further
-pub mod Turns
-pub mod Starting
+pub mod HeldRuns
+pub mod OneRun
+pub mod Telling

@@ -14,10 +14,10 @@ use Rattle.hm_verdicts.proofs.Composition.{settled_verdict}
 use Rattle.hm_store.specs.Settlements.{settlement}
 use Rattle.hm_store.specs.declared.record.Record.{Record}
 use Rattle.hm_build_output.specs.BuildTexts.{HasReport, IsBehind}
-use Rattle.hm_build_output.specs.Explained.{AreMessagesOf, IsExplained, IsToldTo, TellsRefusal, TellsReport}
+use Rattle.hm_build_messages.specs.Explained.{AreMessagesOf, IsExplained, IsToldTo, TellsRefusal, TellsReport}
 use Rattle.hm_build_reports.specs.FinishedBuilds.{IsFinished}
 use Rattle.hm_build_output.specs.JournalledRuns.{IsRun}
-use Rattle.hm_build_output.specs.declared.options.Explain.{Explain}
+use Rattle.hm_build_messages.specs.declared.options.Explain.{Explain}
 use Rattle.hm_build_reports.specs.Journals.{journal_text}
 
 pub told_to : {X E : Type 0} (answer : Result X E) (old new : Option (List ℕ)) (messages : List ℕ) (failed : Type 0) → OnOk answer (Appends old new messages) → OnErr answer (WritesPrefix old new messages) → OnErr answer failed → IsToldTo old new messages failed

@@ -1,18 +1,16 @@
-//! The text, the status and the messages of a run of the checker.
+//! The messages of a refused set: of the fault for which it is refused, and of the first fault of each further source.
 ghost use Rattle.std.specs.Prelude.{ℕ, List, IfOk, IfSome, map, string_bytes};
-ghost use Rattle.hm_store.specs.declared.record.Record.{Record};
-ghost use Rattle.hm_build_reports.specs.FinishedBuilds.{IsFinished};
-ghost use Rattle.hm_build_output.specs.Explained.{AreMessagesOf, IsExplained};
-ghost use Rattle.hm_build_output.specs.JournalledRuns.{IsRun};
-ghost use Rattle.hm_run_sources.specs.ModuleCounts.{AreCountedModules};
+ghost use Rattle.hm_build_messages.specs.Explained.{TellsRefusal, AreMessagesOf, IsExplained};
 ghost use Rattle.hm_run_sources.specs.Origins.{AreHeadersFor};
 ghost use Rattle.hm_run_sources.specs.Runs.{IsRefusalOf};
+ghost use Rattle.hm_store.specs.declared.record.Record.{Record};
+ghost use Rattle.hm_build_reports.specs.FinishedBuilds.{IsFinished};
+ghost use Rattle.hm_build_output.specs.JournalledRuns.{IsRun};
+ghost use Rattle.hm_run_sources.specs.ModuleCounts.{AreCountedModules};
 
 use crate::answers::finished_answer;
-use crate::explaining::{Told, explanation};
-use crate::refused::refused_messages;
-use crate::starts::starts_of;
-use crate::{Explain, Wanted};
+use crate::options::Wanted;
+use hm_build_messages::{BuildView, Explain, explanation, starts_of, told_refusal};
 use hm_build_reports::{settled_in, skipped_in};
 use hm_messages::pages_of;
 use hm_run_sources::{Answer, RefusedSet, origins_of, refusal_answer};
@@ -53,7 +51,7 @@ fn build_messages<'a>(
         starts.as_slice(),
     )?;
     let prelude = SharedPrelude::new(alloc)?;
-    let told = Told {
+    let told = BuildView {
         pages: &pages,
         origins: origins.as_slice(),
         modules,
@@ -63,24 +61,6 @@ fn build_messages<'a>(
         prelude: &prelude,
     };
     Ok(explanation(alloc, &told, skipped_in(settled.as_slice()))?)
-}
-
-/// Returns the messages of a finished build if its faults are explained.
-fn finished_messages<'a>(
-    alloc: Global,
-    store: &'a Store,
-    counts: &[usize],
-    sources: &'a [Vec<u8>],
-    wanted: &'a Wanted,
-) -> Result<Vec<u8>, AllocError>
-    requires { AreCountedModules (map (λ s. s.items) sources.now) store.now.modules counts.now }
-    ensures { IfOk result (λ m. IfSome wanted.now.explain (λ e.
-        AreMessagesOf e.paint (map (λ s. s.items) e.names.items) (map (λ s. s.items) sources.now) store.now m.items)) }
-{
-    match &wanted.explain {
-        Some(explain) => Ok(build_messages(alloc, store, counts, sources, explain)?),
-        None => Ok(Vec::new(alloc)),
-    }
 }
 
 /// Returns the text, the status and the messages of a finished build. `counts` has the number of modules of each source.
@@ -103,6 +83,24 @@ pub fn finished_explained<'a>(
     Ok(Explained { answer, messages })
 }
 
+/// Returns the messages of a refused set if its faults are explained.
+pub(crate) fn refused_messages<'a>(
+    alloc: Global,
+    sources: &'a [Vec<u8>],
+    refused: &RefusedSet,
+    wanted: &'a Wanted,
+) -> Result<Vec<u8>, AllocError>
+    requires because { IsRefusalOf (map (λ s. s.items) sources.now) refused.now.fault }
+    requires headers { AreHeadersFor (map (λ s. s.items) sources.now) refused.now.fault refused.now.located.items }
+    ensures { IfOk result (λ m. IfSome wanted.now.explain (λ e.
+        TellsRefusal e.paint (map (λ s. s.items) e.names.items) (map (λ s. s.items) sources.now) m.items)) }
+{
+    match &wanted.explain {
+        Some(explain) => Ok(told_refusal(alloc, sources, refused, explain)?),
+        None => Ok(Vec::new(alloc)),
+    }
+}
+
 /// Returns the text, the status and the messages of a refused set.
 pub fn refused_explained<'a>(
     alloc: Global,
@@ -120,4 +118,22 @@ pub fn refused_explained<'a>(
     let answer = refusal_answer(alloc, &refused.fault)?;
     let messages = refused_messages(alloc, sources, refused, wanted)?;
     Ok(Explained { answer, messages })
+}
+
+/// Returns the messages of a finished build if its faults are explained.
+fn finished_messages<'a>(
+    alloc: Global,
+    store: &'a Store,
+    counts: &[usize],
+    sources: &'a [Vec<u8>],
+    wanted: &'a Wanted,
+) -> Result<Vec<u8>, AllocError>
+    requires { AreCountedModules (map (λ s. s.items) sources.now) store.now.modules counts.now }
+    ensures { IfOk result (λ m. IfSome wanted.now.explain (λ e.
+        AreMessagesOf e.paint (map (λ s. s.items) e.names.items) (map (λ s. s.items) sources.now) store.now m.items)) }
+{
+    match &wanted.explain {
+        Some(explain) => Ok(build_messages(alloc, store, counts, sources, explain)?),
+        None => Ok(Vec::new(alloc)),
+    }
 }

@@ -1,5 +1,6 @@
 //! The options of a run.
-use hm_messages::Paint;
+
+use hm_build_messages::Explain;
 use hm_run_sources::Trees;
 
 /// The options of a run without messages.
@@ -11,14 +12,6 @@ pub struct Options {
     pub journal: bool,
     /// Whether the modules' trees are dropped after the text is made.
     pub trees: Trees,
-}
-
-/// How faults are explained: the names of the sources' files, in order, and the form of the messages. A source without a name is standard
-/// input.
-#[derive(Drop)]
-pub struct Explain {
-    pub names: Vec<Vec<u8>>,
-    pub paint: Paint,
 }
 
 /// The options of a run with messages.

@@ -1,19 +1,16 @@
 -- The advice for a fault of syntax at a place of a source.
-use Rattle.std.specs.Prelude.{◌≡◌, ℕ, ◌<◌, ◌≤◌, zero, suc, List, [], ◌∷◌, length, map, take, get_or}
+use Rattle.std.specs.Prelude.{◌≡◌, ℕ, zero, suc, List, [], ◌∷◌, map, take}
 use Rattle.hm_lex.specs.declared.token.Place.{Place}
 use Rattle.hm_lex.specs.declared.token.Token.{Token}
 use Rattle.hm_lex.specs.Faults.{AreTokensOf}
 use Rattle.hm_lex.specs.Texts.{token_text}
-use Rattle.hm_parse_grammar.specs.Symbols.{symbol_of}
 use Rattle.hm_parse_grammar.specs.declared.symbol.Symbol.{Symbol}
 use Rattle.hm_parse_grammar.specs.declared.symbol.Symbol.TheVariants.{End}
 use Rattle.hm_messages_hints.specs.Repairs.{IsRepair}
 use Rattle.hm_messages_hints.specs.SyntaxHints.{IsSyntaxHint}
 use Rattle.hm_messages_hints.specs.declared.syntax_hints.SyntaxHint.{SyntaxHint}
 use Rattle.hm_messages_hints.specs.declared.syntax_hints.SyntaxHint.TheVariants.{NoHeader, ModuleEnded, NoBrace, LeftOut, Comprehension, Range, SmallName, AppliedVariable, Repaired, WherePart, NoElse, NotClosed, InPattern, Record, Update, NoAlternative, Unexpected, AppliedName, TypedPattern, ConsPattern, GuardAfterEquals, GuardArrow, ConstructorComma, NumberComma, WhereAfterSemicolon, NoThen, NewtypeArguments, LateQualified, AtSign}
-
-abbrev pub symbol_in : List ℕ → Token → Symbol
-symbol_in source t = symbol_of t.kind (token_text source t)
+use Rattle.hm_messages_outline.specs.Tokens.{symbol_in, IsAt}
 
 -- the text of the token with this number, and its symbol. The end of the source comes after the last token
 unfoldable pub text_at : List ℕ → List Token → ℕ → List ℕ
@@ -62,11 +59,6 @@ about AtSign k = k
 abbrev pub IsSo : List ℕ → List Token → ℕ → SyntaxHint → Type 0
 IsSo source ts k (Repaired r) = IsRepair source ts r
 IsSo source ts k hint = IsSyntaxHint (map (symbol_in source) (take k ts)) (symbol_at source ts k) (text_at source ts k) hint
-
--- the token with this number is at the place, or there is none
-pub record IsAt (ts : List Token) (place : Place) (number : ℕ) : Type 0 where
-  pub within : number ≤ length ts
-  pub stands : (d : Token) → number < length ts → (get_or ts number d).place ≡ place
 
 -- the hint holds at the source's token at the place, and the text is that of the token that it is about
 pub record IsAdviceAt (source : List ℕ) (place : Place) (hint : SyntaxHint) (text : List ℕ) : Type 0 where

@@ -1,5 +1,4 @@
 pub mod Advice
-pub mod Brackets
 pub mod Features
 pub mod LexemeHints
 pub mod LexemeTexts

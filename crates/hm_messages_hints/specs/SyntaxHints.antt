@@ -5,7 +5,7 @@ use Rattle.hm_parse_grammar.specs.Reading.Types.{begins_atype}
 use Rattle.hm_parse_grammar.specs.Symbols.{same}
 use Rattle.hm_parse_grammar.specs.declared.symbol.Symbol.{Symbol}
 use Rattle.hm_parse_grammar.specs.declared.symbol.Symbol.TheVariants.{Module, Import, Data, Newtype, TypeWord, OfType, Open, OpenSquare, LeftBrace, Close, CloseSquare, RightBrace, Semicolon, Comma, Where, Let, Of, If, Then, Else, Equals, Backslash, Bar, Arrow, Dots, Colon, At, Tilde, Wild, Var, Con, QCon, Integer, Character, Text, End}
-use Rattle.hm_messages_hints.specs.Brackets.{IsInnermost, IsNoneOpen}
+use Rattle.hm_messages_outline.specs.Brackets.{IsInnermost, IsNoneOpen}
 use Rattle.hm_messages_hints.specs.Features.{feature_of}
 use Rattle.hm_messages_hints.specs.declared.features.Feature.{Feature}
 use Rattle.hm_messages_hints.specs.declared.features.Feature.TheVariants.{Class, Instance, Deriving, Default, Do, Fixity, Context, Generator}

@@ -1,5 +1,7 @@
 //! A change of a token, and the tokens that are read with it.
+
 use crate::mark::Mark;
+use hm_messages_outline::Run;
 
 /// A change of one token.
 #[derive(Clone, Copy, Debug, PartialEq, Eq)]
@@ -12,20 +14,13 @@ pub enum Change {
     Remove,
 }
 
-/// The tokens with the numbers from `start` up to `end`, without `end`.
-#[derive(Clone, Copy, Debug, PartialEq, Eq)]
-pub struct Range {
-    pub start: usize,
-    pub end: usize,
-}
-
 /// The tokens of a source that spell modules after a change.
 #[derive(Clone, Copy, Debug, PartialEq, Eq)]
 pub enum Scope {
     /// All of them.
     Whole,
     /// Those of one declaration, after the header of its module up to the `{`, and before a `}`.
-    Declaration { header: Range, body: Range },
+    Declaration { header: Run, body: Run },
 }
 
 /// A change of the token with the number `at`, counted from 0, and the tokens that can be read with it. The number after that of

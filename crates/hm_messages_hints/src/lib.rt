@@ -3,7 +3,6 @@
 //! A hint states only facts about the bytes or tokens at the place of the fault and before it.
 #![tactic(auto)]
 
-mod brackets;
 mod change;
 mod contexts;
 mod features;
@@ -14,8 +13,7 @@ mod mark;
 mod syntax_hints;
 mod syntax_texts;
 
-pub use crate::brackets::open_bracket;
-pub use crate::change::{Change, Range, Repair, Scope};
+pub use crate::change::{Change, Repair, Scope};
 pub use crate::features::{Feature, feature_of};
 pub use crate::lexeme_hints::{LexemeHint, lexeme_hint, operator_in};
 pub use crate::lexeme_texts::{lexeme_help, lexeme_text};

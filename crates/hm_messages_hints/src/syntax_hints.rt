@@ -2,16 +2,16 @@
 ghost use Rattle.std.specs.Prelude.{◌≡◌, ◌⊎◌, ◌-◌, IfSome, length, slice_index_or, true};
 ghost use Rattle.hm_parse_grammar.specs.declared.symbol.Symbol.TheVariants.{Bar, End, Import, LeftBrace, Of, Open, OpenSquare};
 ghost use Rattle.hm_parse_grammar.specs.Reading.Types.{begins_atype};
-ghost use Rattle.hm_messages_hints.specs.Brackets.{IsInnermost};
+ghost use Rattle.hm_messages_outline.specs.Brackets.{IsInnermost};
 ghost use Rattle.hm_messages_hints.specs.SyntaxHints.{IsPlaceOf, IsSyntaxHint, ends, ends_operand, ends_pattern, is_partner, takes_capital, takes_constructor, wants_brace};
 
-use crate::brackets::open_bracket;
 use crate::change::Repair;
 use crate::contexts::{
     alternative_begins, constructors_begin, guard_begins, newtype_begins, patterns_begin,
     type_begins, without_else, without_then,
 };
 use crate::features::{Feature, feature_of};
+use hm_messages_outline::open_bracket;
 use hm_parse_grammar::Symbol;
 
 /// A fact about the first token with which no source begins. Other tokens are given by their numbers, from 0.

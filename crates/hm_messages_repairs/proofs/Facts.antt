@@ -1,7 +1,8 @@
 -- What is so of the tokens at a fault is so as a hint.
 use Rattle.std.proofs.Common.{ℕ, List, map, take}
 use Rattle.hm_lex.specs.declared.token.Token.{Token}
-use Rattle.hm_messages_hints.specs.Advice.{IsSo, symbol_at, symbol_in, text_at}
+use Rattle.hm_messages_hints.specs.Advice.{IsSo, symbol_at, text_at}
+use Rattle.hm_messages_outline.specs.Tokens.{symbol_in}
 use Rattle.hm_messages_hints.specs.SyntaxHints.{IsSyntaxHint}
 use Rattle.hm_messages_hints.specs.declared.syntax_hints.SyntaxHint.{SyntaxHint}
 use Rattle.hm_messages_hints.specs.declared.syntax_hints.SyntaxHint.TheVariants.{NoHeader, ModuleEnded, NoBrace, LeftOut, Comprehension, Range, SmallName, AppliedVariable, Repaired, WherePart, NoElse, NotClosed, InPattern, Record, Update, NoAlternative, Unexpected, AppliedName, TypedPattern, ConsPattern, GuardAfterEquals, GuardArrow, ConstructorComma, NumberComma, WhereAfterSemicolon, NoThen, NewtypeArguments, LateQualified, AtSign}

@@ -5,7 +5,8 @@ use Rattle.hm_lex.specs.declared.token.Token.{Token}
 use Rattle.hm_parse_grammar.specs.Symbols.{symbol_of}
 use Rattle.hm_parse_grammar.specs.declared.symbol.Symbol.{Symbol}
 use Rattle.hm_parse_grammar.specs.declared.symbol.Symbol.TheVariants.{End}
-use Rattle.hm_messages_hints.specs.Advice.{symbol_at, symbol_in, text_at}
+use Rattle.hm_messages_hints.specs.Advice.{symbol_at, text_at}
+use Rattle.hm_messages_outline.specs.Tokens.{symbol_in}
 
 pub symbol_behind : (source : List ℕ) (ts : List Token) (k : ℕ) → length ts ≤ k → symbol_at source ts k ≡ End
 unfolding symbol_at

@@ -8,7 +8,7 @@ use Rattle.hm_parse_grammar.specs.Tokens.{Terminal}
 use Rattle.hm_parse_grammar.specs.Symbols.{same}
 use Rattle.hm_parse_grammar.specs.declared.symbol.Symbol.{Symbol}
 use Rattle.hm_parse_grammar.specs.declared.symbol.Symbol.TheVariants.{Equals, Import, Integer, Open, Semicolon, Var}
-use Rattle.hm_messages_hints.specs.Brackets.{IsInnermost, IsOpen}
+use Rattle.hm_messages_outline.specs.Brackets.{IsInnermost, IsOpen}
 use Rattle.hm_messages_hints.specs.SyntaxHints.{IsInPatterns, is_of_pattern}
 use Rattle.hm_messages_hints.specs.Worked.{applied}
 use Rattle.hm_messages_repairs.specs.Worked.{BracketsRow, ChangesRow, FactsRow, NeighboursRow, brackets}

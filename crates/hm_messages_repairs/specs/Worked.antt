@@ -3,7 +3,7 @@ use Rattle.std.specs.Prelude.{List, ℕ, [], ◌∷◌, codes}
 use Rattle.hm_lex.specs.declared.token.Token.{Token}
 use Rattle.hm_parse_grammar.specs.declared.symbol.Symbol.{Symbol}
 use Rattle.hm_parse_grammar.specs.declared.symbol.Symbol.TheVariants.{Bar, Close, CloseSquare, Comma, Con, Equals, Import, Integer, LeftBrace, Module, Open, OpenSquare, Semicolon, Var, Where}
-use Rattle.hm_messages_hints.specs.Brackets.{IsInnermost, IsOpen}
+use Rattle.hm_messages_outline.specs.Brackets.{IsInnermost, IsOpen}
 use Rattle.hm_messages_hints.specs.Marks.{IsMarkIn}
 use Rattle.hm_messages_hints.specs.Repairs.{IsRepair}
 use Rattle.hm_messages_hints.specs.SyntaxHints.{IsSyntaxHint}

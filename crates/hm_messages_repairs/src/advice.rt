@@ -2,11 +2,13 @@
 ghost use Rattle.std.specs.Prelude.{◌≡◌, ◌≤◌, All, IfOk, length, map, take};
 ghost use Rattle.hm_lex.specs.Texts.{LiesIn};
 ghost use Rattle.hm_messages_hints.specs.SyntaxHints.{IsSyntaxHint};
-ghost use Rattle.hm_messages_hints.specs.Advice.{IsAdviceAt, IsAt, IsSo, about, symbol_at, symbol_in, text_at};
+ghost use Rattle.hm_messages_hints.specs.Advice.{IsAdviceAt, IsSo, about, symbol_at, text_at};
+ghost use Rattle.hm_messages_outline.specs.Tokens.{symbol_in};
 
 use crate::search::repair_at;
 use hm_lex::{Place, Token, lex};
 use hm_messages_hints::{Advice, Change, Mark, Repair, SyntaxHint, syntax_hint};
+use hm_messages_outline::{number_at, symbols_of};
 use hm_parse_grammar::{Symbol, symbol_of, text_of};
 use std::alloc::{AllocError, Global};
 
@@ -17,30 +19,6 @@ pub enum Search {
     Changes,
     /// A fact about the token.
     Facts,
-}
-
-/// Returns the number of the token at a place, or the number of tokens if there is none.
-fn number_at(tokens: &[Token], place: Place) -> usize
-    ensures { IsAt tokens.now place result }
-{
-    for number in 0..tokens.len() {
-        if tokens[number].place == place {
-            return number;
-        }
-    }
-    tokens.len()
-}
-
-/// Returns the symbols of the tokens of a source.
-fn symbols_before(alloc: Global, source: &[u8], tokens: &[Token]) -> Result<Vec<Symbol>, AllocError>
-    requires { All (LiesIn source.now) tokens.now }
-    ensures { IfOk result (λ symbols. symbols.items ≡ map (symbol_in source.now) tokens.now) }
-{
-    let mut symbols = Vec::new(alloc);
-    for token in tokens {
-        symbols.push(symbol_of(token.kind, text_of(source, token)))?;
-    }
-    Ok(symbols)
 }
 
 /// Returns the symbol of the token with this number, or `End` if there is none.
@@ -94,7 +72,7 @@ fn fact_at(
     ensures { IfOk result (IsSyntaxHint (map (symbol_in source.now) (take number tokens.now)) (symbol_at source.now tokens.now number) (text_at source.now
         tokens.now number)) }
 {
-    let before = symbols_before(alloc, source, &tokens[..number])?;
+    let before = symbols_of(alloc, source, &tokens[..number])?;
     let here = symbol_at(source, tokens, number);
     let text = text_at(source, tokens, number);
     Ok(syntax_hint(before.as_slice(), here, text.as_bytes()))

@@ -5,7 +5,6 @@
 #![tactic(auto)]
 
 mod advice;
-mod enclosing;
 pub mod laws;
 mod search;
 mod trial;

@@ -3,10 +3,10 @@ ghost use Rattle.std.specs.Prelude.{All, IfOk, IfSome};
 ghost use Rattle.hm_lex.specs.Texts.{LiesIn};
 ghost use Rattle.hm_messages_hints.specs.Repairs.{IsRepair};
 
-use crate::enclosing::{declaration_at, symbols_of};
 use crate::trial::is_read;
 use hm_lex::Token;
-use hm_messages_hints::{Change, Mark, Repair, Scope, open_bracket};
+use hm_messages_hints::{Change, Mark, Repair, Scope};
+use hm_messages_outline::{Enclosing, declaration_at, open_bracket, symbols_of};
 use hm_parse_grammar::Symbol;
 use std::alloc::{AllocError, Global};
 
@@ -91,23 +91,13 @@ struct Candidate {
     change: Change,
 }
 
-/// Returns the brackets that are open before a fault, the innermost last.
-fn open_brackets(
-    alloc: Global,
-    symbols: &[Symbol],
-    fault: usize,
-) -> Result<Vec<Symbol>, AllocError> {
-    let mut open = Vec::new(alloc);
-    for at in 0..fault.min(symbols.len()) {
-        match symbols[at] {
-            Symbol::Open | Symbol::OpenSquare | Symbol::LeftBrace => open.push(symbols[at])?,
-            Symbol::Close | Symbol::CloseSquare | Symbol::RightBrace => {
-                open.pop();
-            }
-            _ => {}
-        }
+/// Returns the innermost bracket that is open before a fault, if one is.
+fn innermost(symbols: &[Symbol], fault: usize) -> Option<Symbol> {
+    let bracket = open_bracket(&symbols[..fault.min(symbols.len())])?;
+    if bracket < symbols.len() {
+        return Some(symbols[bracket]);
     }
-    Ok(open)
+    None
 }
 
 /// Returns the mark that closes a bracket.
@@ -130,17 +120,25 @@ fn opening(symbol: Symbol) -> Option<Symbol> {
 }
 
 /// Returns whether the symbol at a fault closes a bracket, and none of its kind is open.
-fn is_unopened(open: &[Symbol], symbols: &[Symbol], fault: usize) -> bool {
+fn is_unopened(symbols: &[Symbol], fault: usize) -> bool {
     let Some(here) = symbols.get(fault) else {
         return false;
     };
     let Some(bracket) = opening(*here) else {
         return false;
     };
-    for symbol in open {
-        if symbol.is(bracket) {
+    let mut end = fault;
+    for _ in 0..fault {
+        let Some(at) = open_bracket(&symbols[..end.min(symbols.len())]) else {
+            return true;
+        };
+        let Some(opened) = symbols.get(at) else {
+            return true;
+        };
+        if opened.is(bracket) {
             return false;
         }
+        end = at;
     }
     true
 }
@@ -243,6 +241,12 @@ fn add_lambda(
     Ok(())
 }
 
+/// Returns the declaration that a fault is in.
+fn part_at(symbols: &[Symbol], fault: usize) -> Option<Scope> {
+    let Enclosing { header, body } = declaration_at(symbols, fault)?;
+    Some(Scope::Declaration { header, body })
+}
+
 /// Returns the changes to try at a fault, the likeliest first.
 fn candidates(
     alloc: Global,
@@ -251,15 +255,14 @@ fn candidates(
     fault: usize,
     part: Option<Scope>,
 ) -> Result<Vec<Candidate>, AllocError> {
-    let open = open_brackets(alloc, symbols, fault)?;
     let mut found = Vec::new(alloc);
     let at = fault;
-    if is_unopened(open.as_slice(), symbols, fault) {
+    if is_unopened(symbols, fault) {
         let change = Change::Remove;
         found.push(Candidate { at, change })?;
     }
-    if let Some(innermost) = open.as_slice().last() {
-        let change = Change::Insert(closing(*innermost));
+    if let Some(bracket) = innermost(symbols, fault) {
+        let change = Change::Insert(closing(bracket));
         found.push(Candidate { at, change })?;
     }
     add_signature(&mut found, symbols, part)?;
@@ -357,7 +360,7 @@ pub fn repair_at(
         return Ok(None);
     }
     let symbols = symbols_of(alloc, source, tokens)?;
-    let part = declaration_at(symbols.as_slice(), fault);
+    let part = part_at(symbols.as_slice(), fault);
     let changes = candidates(alloc, tokens, symbols.as_slice(), fault, part)?;
     first_read(alloc, source, tokens, changes.as_slice(), part)
 }

@@ -6,7 +6,8 @@ ghost use Rattle.hm_messages_hints.specs.Marks.{IsMarkIn};
 ghost use Rattle.hm_messages_hints.specs.Repairs.{IsRepair, changed, repaired};
 
 use hm_lex::{Place, Token};
-use hm_messages_hints::{Change, Mark, Range, Repair, Scope};
+use hm_messages_hints::{Change, Mark, Repair, Scope};
+use hm_messages_outline::Run;
 use hm_parse::parse_run;
 use std::alloc::{AllocError, Global};
 
@@ -76,7 +77,7 @@ fn add_changed(
 }
 
 /// Returns whether a range is within `len` tokens.
-fn lies_within(range: Range, len: usize) -> bool
+fn lies_within(range: Run, len: usize) -> bool
     ensures { result ≡ true → (range.start ≤ range.end) × (range.end ≤ len) }
 {
     range.start <= range.end && range.end <= len

@@ -1,9 +1,9 @@
 //! Hints of lexical and syntax faults, as tables.
 
 use hm_messages_hints::{
-    Feature, LexemeHint, SyntaxHint, feature_of, lexeme_hint, open_bracket, operator_in,
-    syntax_hint,
+    Feature, LexemeHint, SyntaxHint, feature_of, lexeme_hint, operator_in, syntax_hint,
 };
+use hm_messages_outline::open_bracket;
 use hm_parse_grammar::Symbol;
 
 #[test]

@@ -1,5 +1,5 @@
 use Rattle.std.proofs.Common.{rules, ◌≡◌, ◌<◌, ◌≤◌, IsErrOf, IfSome, Err, inl, inr, ⊎_elim, map, string_bytes, subst}
-use Rattle.hm_build_output.specs.Explained.{IsExplained, TellsExhaustion}
+use Rattle.hm_build_messages.specs.Explained.{IsExplained, TellsExhaustion}
 use Rattle.hm_build_output.specs.JournalledRuns.{IsRun}
 use Rattle.hm_build_output.proofs.HeldRuns.{build_held}
 use Rattle.hm_build.proofs.RunFaults.{no_failure, not_of_reading, only_read_faults, some_more}

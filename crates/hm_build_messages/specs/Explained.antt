@@ -1,0 +1,75 @@
+-- A run with messages: how its messages relate to its text.
+use Rattle.std.specs.Prelude.{◌≡◌, ◌<◌, ◌⊎◌, ℕ, List, [], ◌++◌, Option, length, slice_index_or}
+use Rattle.std.specs.Io.KnownBytes.{Appends}
+use Rattle.hm_lex.specs.declared.token.Place.{Place}
+use Rattle.hm_syntax.specs.declared.ast.Module.{Module}
+use Rattle.hm_verdicts.specs.Reports.{IsReport}
+use Rattle.hm_verdicts.specs.Sets.{ModuleSet}
+use Rattle.hm_verdicts.specs.Verdicts.{Status as Settlement, IsVerdictIn}
+use Rattle.hm_messages.specs.Messages.{IsMessage}
+use Rattle.hm_messages.specs.Pages.{AreFilesOf}
+use Rattle.hm_messages.specs.Refused.{IsRefusalTold}
+use Rattle.hm_messages.specs.Subjects.{exhausted}
+use Rattle.hm_messages.specs.declared.heading.Paint.{Paint}
+use Rattle.hm_run_sources.specs.Origins.{IsSpelledBy}
+use Rattle.hm_run_sources.specs.Refusals.{Refusal}
+use Rattle.hm_run_sources.specs.Runs.{IsRefusalOf}
+use Rattle.hm_run_io.specs.Sources.{WritesPrefix}
+use Rattle.hm_run_sources.specs.SourceModules.{AreModulesOf}
+use Rattle.hm_run_sources.specs.declared.status.Status.{Status}
+use Rattle.hm_run_sources.specs.declared.status.Status.TheVariants.{Good, Faulty, Refused}
+use Rattle.hm_store.specs.Builds.{Build, set_of}
+use Rattle.hm_store.specs.Settlements.{settlement}
+use Rattle.hm_build_messages.specs.Explanations.{IsTold}
+
+-- the messages of a build of these sources with these names
+pub record AreMessagesOf (paint : Paint) (names sources : List (List ℕ)) (b : Build) (messages : List ℕ) : Type 0 where
+  pub files : List (List ℕ)
+  pub named : AreFilesOf names sources files
+  pub told : IsTold paint files sources (set_of b) (settlement b) messages
+
+-- the messages report the verdicts of the modules of the sources, and the text begins with the report of these verdicts
+pub record TellsReport (paint : Paint) (names sources : List (List ℕ)) (text messages : List ℕ) : Type 0 where
+  pub set : ModuleSet
+  pub settled : ℕ → Settlement
+  pub read : AreModulesOf sources set.modules
+  pub report : List ℕ
+  pub behind : List ℕ
+  pub verdicts : (i : ℕ) → i < length set.modules → IsVerdictIn set i (settled i)
+  pub reported : IsReport set settled report
+  pub whole : text ≡ report ++ behind
+  pub files : List (List ℕ)
+  pub named : AreFilesOf names sources files
+  pub told : IsTold paint files sources set settled messages
+
+-- the messages say why the sources are refused
+pub record TellsRefusal (paint : Paint) (names sources : List (List ℕ)) (messages : List ℕ) : Type 0 where
+  pub refusal : Refusal
+  pub because : IsRefusalOf sources refusal
+  pub files : List (List ℕ)
+  pub named : AreFilesOf names sources files
+  pub told : IsRefusalTold paint files sources refusal messages
+
+-- the message says that there is no memory to check one of the modules of the sources, at a place in the source that spells it
+pub record TellsExhaustion (paint : Paint) (names sources : List (List ℕ)) (message : List ℕ) : Type 0 where
+  pub modules : List Module
+  pub read : AreModulesOf sources modules
+  pub number : ℕ
+  pub within : number < length modules
+  pub source : ℕ
+  pub spelled : IsSpelledBy sources number source
+  pub files : List (List ℕ)
+  pub named : AreFilesOf names sources files
+  pub name : List ℕ
+  pub place : Place
+  pub told : IsMessage paint (slice_index_or files source []) (slice_index_or sources source []) place (exhausted name) message
+
+-- the messages of a run with this status and this text. The names are those of the sources' files
+abbrev pub IsExplained : Paint → List (List ℕ) → List (List ℕ) → Status → List ℕ → List ℕ → Type 0
+IsExplained paint names sources Good text messages = TellsReport paint names sources text messages
+IsExplained paint names sources Faulty text messages = TellsReport paint names sources text messages
+IsExplained paint names sources Refused text messages = TellsRefusal paint names sources messages
+
+-- these messages were written, or a prefix of them if their writer failed
+abbrev pub IsToldTo : Option (List ℕ) → Option (List ℕ) → List ℕ → Type 0 → Type 0
+IsToldTo old new messages failed = Appends old new messages ⊎ (WritesPrefix old new messages × failed)

@@ -1,0 +1,271 @@
+-- The messages of a build: what is told of each module, in the order of the report.
+use Rattle.std.specs.Prelude.{◌≡◌, ◌⊎◌, Bool, false, true, ℕ, zero, suc, ◌+◌, ◌-◌, ◌^◌, ◌<◌, All, Contains, List, [], ◌∷◌, ◌++◌, cond, length, map, min, slice_index_or}
+use Rattle.std.specs.List.Sorted.{IsPermutation, IsSortedBy}
+use Rattle.hm_messages_details.specs.Details.{IsKnown, Known, nothing}
+use Rattle.hm_lex.specs.declared.token.Place.{Place}
+use Rattle.hm_syntax.specs.declared.ast.Import.{Import}
+use Rattle.hm_syntax.specs.declared.ast.Module.{Module}
+use Rattle.hm_types.specs.Interfaces.{Exports as Interface}
+use Rattle.hm_types.specs.StandardPrelude.{prelude_interface}
+use Rattle.hm_names.specs.declared.faults.Fault.{Fault}
+use Rattle.hm_names.specs.declared.faults.Kind.TheVariants.{Untyped}
+use Rattle.hm_verdicts.specs.ModuleVerdicts.{Verdict}
+use Rattle.hm_verdicts.specs.Reports.{AreBlamed, is_skipped, tally}
+use Rattle.hm_verdicts.specs.Sets.{ModuleSet, imports_of, module_at, no_module}
+use Rattle.hm_verdicts.specs.Verdicts.{ArePublished, Status, Published, Failed, Skipped}
+use Rattle.hm_messages_excerpts.specs.Columns.{AreColumnsAt}
+use Rattle.hm_messages_excerpts.specs.declared.columns.Columns.{Columns}
+use Rattle.hm_messages.specs.Headings.{count_text}
+use Rattle.hm_messages.specs.Messages.{AreEach, IsFaultMessage, IsMessage, reader_place}
+use Rattle.hm_messages.specs.Subjects.{Subject, faulty, hidden, limit, mistyped, replaceable, skipped, unsigned}
+use Rattle.hm_messages.specs.declared.heading.Paint.{Paint}
+use Rattle.hm_messages.specs.declared.topic.Way.{Way}
+use Rattle.hm_messages.specs.declared.topic.Way.TheVariants as way
+use Rattle.hm_messages_trials.specs.Hidden.{IsVerdictBeyond}
+use Rattle.hm_messages_trials.specs.Mends.{IsMend}
+use Rattle.hm_messages_trials.specs.Shown.{HasShownTypes}
+use Rattle.hm_messages_trials.specs.Signatures.{IsUnsigned, Leads}
+use Rattle.hm_messages_trials.specs.declared.mends.Mend.{Mend}
+use Rattle.hm_messages_trials.specs.declared.mends.Mend.TheVariants.{Expression, Pattern, Exchange, Removal}
+use Rattle.hm_messages_changes.specs.declared.data.SourceRange.{SourceRange}
+use Rattle.hm_run_sources.specs.Names.{name_below}
+use Rattle.hm_run_sources.specs.Origins.{IsSpelledBy}
+use Rattle.hm_build_messages.specs.declared.explaining.Blame.{Blame}
+use Rattle.hm_build_messages.specs.declared.explaining.Named.{Named}
+
+-- the message of a fault, with what is known of it, which is so
+pub record IsDetailed (paint : Paint) (file source : List ℕ) (IsSo : Fault → Known → Type 0) (f : Fault) (text : List ℕ) : Type 0 where
+  pub known : Known
+  pub so : IsSo f known
+  pub told : IsFaultMessage paint file source f known text
+
+-- what is known of a fault of module number i, if anything is, is so for Prelude and the interfaces of what the module imports
+abbrev pub IsKnownIn : ModuleSet → (ℕ → Status) → ℕ → Fault → Known → Type 0
+IsKnownIn p status i f known = (known ≡ nothing) ⊎ ((fs : List Interface) × ArePublished status (imports_of p i) fs × IsKnown (module_at p i) (prelude_interface ∷ fs) f known)
+
+-- where what is told begins
+abbrev pub first_of : Mend → Place
+first_of (Expression part) = part.start
+first_of (Pattern part) = part.start
+first_of (Exchange first second) = first.start
+first_of (Removal part) = part.start
+
+-- the other place that is told: where it ends, or where the second expression begins
+abbrev pub other_of : Mend → Place
+other_of (Expression part) = part.end
+other_of (Pattern part) = part.end
+other_of (Exchange first second) = second.start
+other_of (Removal part) = part.end
+
+-- how it is told, with this as the other place
+abbrev pub way_of : Mend → Place → Way
+way_of (Expression part) p = way.Expression p
+way_of (Pattern part) p = way.Pattern p
+way_of (Exchange first second) p = way.Exchange p
+way_of (Removal part) p = way.Removal p
+
+-- these are the two types of the part that is to blame, and whether they are told as infinite
+abbrev pub ArePartTypes : List ℕ → List ℕ → List Interface → List ℕ → Mend → List ℕ → List ℕ → Bool → Type 0
+ArePartTypes source name fs definition (Expression part) expected actual infinite = HasShownTypes source name fs definition part expected actual infinite
+ArePartTypes source name fs definition (Pattern part) expected actual infinite = ⊥
+ArePartTypes source name fs definition (Exchange first second) expected actual infinite = ⊥
+ArePartTypes source name fs definition (Removal part) expected actual infinite = ⊥
+
+-- the text tells what gives the definition a type, or the two types of the part, with this as the other place
+pub data IsToldOf (paint : Paint) (file source name : List ℕ) (fs : List Interface) (definition : List ℕ) (mend : Mend) (other : Place) (text : List ℕ) : Type 0 where
+  by_mend : IsMessage paint file source (first_of mend) (replaceable definition (way_of mend other)) text → IsToldOf paint file source name fs definition mend other text
+  by_types : (expected actual : List ℕ) (infinite : Bool) → ArePartTypes source name fs definition mend expected actual infinite
+      → IsMessage paint file source (first_of mend) (mistyped definition other expected actual infinite) text → IsToldOf paint file source name fs definition mend other text
+
+-- the note of a type fault tells what gives its definition a type, or the two types of the part, with places as readers count
+pub record IsNote (paint : Paint) (file source name : List ℕ) (fs : List Interface) (f : Fault) (text : List ℕ) : Type 0 where
+  pub untyped : f.kind ≡ Untyped
+  pub mend : Mend
+  pub mended : IsMend source name fs f.name mend
+  pub columns : Columns
+  pub columns_at : AreColumnsAt source (other_of mend) columns
+  pub told : IsToldOf paint file source name fs f.name mend (reader_place (other_of mend) columns) text
+
+-- the note of a signature tells the type that the definition of a type fault has without it. If the note leads, the module is good without the signature
+pub record IsSignatureNote (paint : Paint) (file source name : List ℕ) (fs : List Interface) (f : Fault) (leads : Bool) (text : List ℕ) : Type 0 where
+  pub untyped : f.kind ≡ Untyped
+  pub signature : SourceRange
+  pub own : List ℕ
+  pub alone : IsUnsigned source name fs f.name signature own
+  pub led : leads ≡ true → Leads source name fs signature
+  pub columns : Columns
+  pub columns_at : AreColumnsAt source signature.end columns
+  pub told : IsMessage paint file source signature.start (unsigned f.name (reader_place signature.end columns) own) text
+
+-- the notes of a type fault: that of its part and that of its signature, or one of them, or none. That of the signature is first if it leads
+pub record AreNotes (paint : Paint) (file source name : List ℕ) (fs : List Interface) (f : Fault) (text : List ℕ) : Type 0 where
+  pub note : List ℕ
+  pub signed : List ℕ
+  pub leads : Bool
+  pub noted : (note ≡ []) ⊎ IsNote paint file source name fs f note
+  pub signature : (signed ≡ []) ⊎ IsSignatureNote paint file source name fs f leads signed
+  pub whole : text ≡ cond leads (signed ++ note) (note ++ signed)
+
+-- the last note of a fault tells that the limit on trials is reached, or it is no text. The first truth value says whether a note told it before the fault,
+-- the second whether one has told it behind the fault. So it is told once
+abbrev pub IsLimitNote : Paint → List ℕ → List ℕ → Fault → Bool → Bool → List ℕ → Type 0
+IsLimitNote paint file source f false true text = IsMessage paint file source f.place limit text
+IsLimitNote paint file source f false false text = text ≡ []
+IsLimitNote paint file source f true true text = text ≡ []
+IsLimitNote paint file source f true false text = ⊥
+
+-- the message of a fault of which nothing else is known, and behind it its notes, or nothing. A last note may tell that the limit on trials is reached.
+-- Behind such a note no fault has notes
+pub record IsNoted (paint : Paint) (file source name : List ℕ) (fs : List Interface) (f : Fault) (before after : Bool) (text : List ℕ) : Type 0 where
+  pub message : List ℕ
+  pub notes : List ℕ
+  pub says : IsFaultMessage paint file source f nothing message
+  pub noted : (notes ≡ []) ⊎ AreNotes paint file source name fs f notes
+  pub silent : before ≡ true → notes ≡ []
+  pub last : List ℕ
+  pub limited : IsLimitNote paint file source f before after last
+  pub whole : text ≡ (message ++ notes) ++ last
+
+-- the same of module number i: the note speaks of it for the interfaces of what it imports
+abbrev pub IsNotedIn : Paint → List ℕ → List ℕ → ModuleSet → (ℕ → Status) → ℕ → Fault → Bool → Bool → List ℕ → Type 0
+IsNotedIn paint file source p status i f before after text =
+    (fs : List Interface) × ArePublished status (imports_of p i) fs × IsNoted paint file source (module_at p i).header.name.text fs f before after text
+
+-- what is told of a fault of module number i: a message with what is known, or a message with a note. The truth values say whether the limit was told
+-- before the fault, and whether it was told behind it
+abbrev pub IsFaultTold : Paint → List ℕ → List ℕ → ModuleSet → (ℕ → Status) → ℕ → Fault → Bool → Bool → List ℕ → Type 0
+IsFaultTold paint file source p status i f before after text =
+    ((after ≡ before) × IsDetailed paint file source (IsKnownIn p status i) f text) ⊎ IsNotedIn paint file source p status i f before after text
+
+-- the text has a part for each element, in order, and no more. The truth value between two parts is the second of the one and the first of the other
+abbrev pub AreInTurn : {X : Type 0} → (X → Bool → Bool → List ℕ → Type 0) → List X → Bool → Bool → List ℕ → Type 0
+AreInTurn tells [] before after text = (after ≡ before) × (text ≡ [])
+AreInTurn tells (x ∷ xs) before after text =
+    (first : List ℕ) × (later : List ℕ) × (between : Bool) × tells x before between first × AreInTurn tells xs between after later × (text ≡ first ++ later)
+
+-- of each fault, in order, at its place of this source
+abbrev pub AreFaultsTold : Paint → List (List ℕ) → List (List ℕ) → ℕ → ModuleSet → (ℕ → Status) → ℕ → List Fault → Bool → Bool → List ℕ → Type 0
+AreFaultsTold paint files texts source p status i found before after text =
+    AreInTurn (IsFaultTold paint (slice_index_or files source []) (slice_index_or texts source []) p status i) found before after text
+
+-- the note of a fault that the report leaves out, at its place
+abbrev pub IsHiddenNote : Paint → List ℕ → List ℕ → Fault → List ℕ → Type 0
+IsHiddenNote paint file source f text = IsMessage paint file source f.place (hidden f.kind f.name) text
+
+-- a note for each fault of a verdict, in order
+abbrev pub AreHiddenNotes : Paint → List ℕ → List ℕ → Verdict → List ℕ → Type 0
+AreHiddenNotes paint file source (Verdict.Good f) text = text ≡ []
+AreHiddenNotes paint file source (Verdict.Faulty found) text = AreEach (IsHiddenNote paint file source) found text
+
+-- the notes of all faults that the module has with definitions of names that aren't in scope
+pub record AreHiddenTold (paint : Paint) (file source name : List ℕ) (fs : List Interface) (faults : List Fault) (text : List ℕ) : Type 0 where
+  pub verdict : Verdict
+  pub beyond : IsVerdictBeyond source name fs faults verdict
+  pub told : AreHiddenNotes paint file source verdict text
+
+-- the same of module number i: the notes speak of it for the interfaces of what it imports
+abbrev pub AreHiddenToldIn : Paint → List ℕ → List ℕ → ModuleSet → (ℕ → Status) → ℕ → List Fault → List ℕ → Type 0
+AreHiddenToldIn paint file source p status i faults text =
+    (fs : List Interface) × ArePublished status (imports_of p i) fs × AreHiddenTold paint file source (module_at p i).header.name.text fs faults text
+
+-- what is told of a faulty module: a message for each of its faults, and behind them the notes of those that the report leaves out, or nothing. Where the
+-- limit was told there are no such notes
+pub record IsFaultyTold (paint : Paint) (files texts : List (List ℕ)) (source : ℕ) (p : ModuleSet) (status : ℕ → Status) (i : ℕ) (faults : List Fault) (before after : Bool) (text : List ℕ) : Type 0 where
+  pub messages : List ℕ
+  pub notes : List ℕ
+  pub told : AreFaultsTold paint files texts source p status i faults before after messages
+  pub beyond : (notes ≡ []) ⊎ AreHiddenToldIn paint (slice_index_or files source []) (slice_index_or texts source []) p status i faults notes
+  pub silent : after ≡ true → notes ≡ []
+  pub whole : text ≡ messages ++ notes
+
+-- an import that a module is skipped for: what it names, the place of the name, and what is told of it
+pub record Blamed : Type 0 where
+  pub name : List ℕ
+  pub place : Place
+  pub subject : Subject
+
+-- what is told of an import by the status of the module that it names
+abbrev pub IsToldBy : Status → List ℕ → Subject → Type 0
+IsToldBy (Published f) x s = ⊥
+IsToldBy (Failed found) x s = s ≡ faulty x
+IsToldBy Skipped x s = s ≡ skipped x
+
+-- one of the imports has this name and this place, and one of the modules in the row has this name and is told so
+pub record IsBlamedBy (modules : List Module) (status : ℕ → Status) (row : List ℕ) (imports : List Import) (b : Blamed) : Type 0 where
+  pub import : Import
+  pub written : Contains imports import
+  pub called : import.name.text ≡ b.name
+  pub placed : b.place ≡ record { line = import.name.line; column = import.name.column }
+  pub number : ℕ
+  pub imported : Contains row number
+  pub named : (slice_index_or modules number no_module).header.name.text ≡ b.name
+  pub told : IsToldBy (status number) b.name b.subject
+
+abbrev pub IsBlamed : ModuleSet → (ℕ → Status) → ℕ → Blamed → Type 0
+IsBlamed p status i b = IsBlamedBy p.modules status (imports_of p i) (module_at p i).header.imports b
+
+-- the message of an import that isn't good
+abbrev pub IsBlameMessage : Paint → List ℕ → List ℕ → Blamed → List ℕ → Type 0
+IsBlameMessage paint file source b text = IsMessage paint file source b.place b.subject text
+
+-- a message for each name that the report blames, in order, at an import of the module that has it
+pub record AreBlamesTold (paint : Paint) (files texts : List (List ℕ)) (source : ℕ) (p : ModuleSet) (status : ℕ → Status) (i : ℕ) (text : List ℕ) : Type 0 where
+  pub blames : List Blamed
+  pub blamed : AreBlamed p status i (map (λ b. b.name) blames)
+  pub right : All (IsBlamed p status i) blames
+  pub told : AreEach (IsBlameMessage paint (slice_index_or files source []) (slice_index_or texts source [])) blames text
+
+abbrev pub blamed_of : Blame → Blamed
+blamed_of b = record { name = b.name.now; place = b.place; subject = cond b.is_faulty (faulty b.name.now) (skipped b.name.now) }
+
+-- nothing is told of a good module; of another one a message for each of its lines in the report, from the source that spells it. The truth values say
+-- whether the limit was told before the module, and whether it was told behind it
+abbrev pub IsToldAs : Paint → List (List ℕ) → List (List ℕ) → ModuleSet → (ℕ → Status) → ℕ → Bool → Bool → List ℕ → Status → Type 0
+IsToldAs paint files texts p status i before after text (Published f) = (after ≡ before) × (text ≡ [])
+IsToldAs paint files texts p status i before after text (Failed found) =
+    (source : ℕ) × IsSpelledBy texts i source × IsFaultyTold paint files texts source p status i found before after text
+IsToldAs paint files texts p status i before after text Skipped =
+    (after ≡ before) × (source : ℕ) × IsSpelledBy texts i source × AreBlamesTold paint files texts source p status i text
+
+abbrev pub IsModuleTold : Paint → List (List ℕ) → List (List ℕ) → ModuleSet → (ℕ → Status) → ℕ → Bool → Bool → List ℕ → Type 0
+IsModuleTold paint files texts p status i before after text = IsToldAs paint files texts p status i before after text (status i)
+
+-- a module's name and its number
+pub record Numbered : Type 0 where
+  pub name : List ℕ
+  pub number : ℕ
+
+abbrev pub named_of : Named → Numbered
+named_of r = record { name = r.name.now; number = r.number }
+
+pub record IsRowOf (modules : List Module) (k : ℕ) (r : Numbered) : Type 0 where
+  pub number : r.number ≡ k
+  pub name : r.name ≡ (slice_index_or modules k no_module).header.name.text
+
+-- the modules, in order
+pub record AreNumbered (modules : List Module) (rows : List Numbered) : Type 0 where
+  pub many : length rows ≡ length modules
+  pub each : (k : ℕ) (d : Numbered) → k < length rows → IsRowOf modules k (slice_index_or rows k d)
+
+-- how many faults the first n modules have
+abbrev pub faults_in : Status → ℕ
+faults_in (Published f) = 0
+faults_in (Failed found) = length found
+faults_in Skipped = 0
+
+abbrev pub fault_count : (ℕ → Status) → ℕ → ℕ
+fault_count status zero = 0
+fault_count status (suc n) = fault_count status n + faults_in (status n)
+
+-- what is told of a set: each module once, in the order of the names, as the report's blocks stand; and behind it the counts. `limited` says whether the
+-- limit on trials was told, which it wasn't before the first module
+pub record IsTold (paint : Paint) (files texts : List (List ℕ)) (p : ModuleSet) (status : ℕ → Status) (text : List ℕ) : Type 0 where
+  pub rows : List Numbered
+  pub all : AreNumbered p.modules rows
+  pub order : List Numbered
+  pub same : IsPermutation rows order
+  pub ordered : IsSortedBy (λ x y. name_below x.name y.name) order
+  pub messages : List ℕ
+  pub limited : Bool
+  pub told : AreInTurn (λ r before after m. IsModuleTold paint files texts p status r.number before after m) order false limited messages
+  pub whole : text ≡ messages ++ count_text paint (min (fault_count status (length p.modules)) (2 ^ 64 - 1)) (tally is_skipped status (length p.modules))

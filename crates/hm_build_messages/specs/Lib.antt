@@ -1,0 +1,4 @@
+pub mod Explained
+pub mod Explanations
+pub mod FurtherTold
+pub mod WorkedLimits

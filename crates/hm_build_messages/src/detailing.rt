@@ -1,0 +1,218 @@
+//! The messages of a faulty module, with details from its scope or notes by the checker.
+ghost use Rattle.std.specs.Prelude.{◌≡◌, ◌<◌, ◌∷◌, List, IfOk, IfSome, length, map};
+ghost use Rattle.std.specs.Arc.{arc_value};
+ghost use Rattle.hm_messages_details.specs.Details.{IsKnown, known_of, nothing};
+ghost use Rattle.hm_types.specs.Interfaces.{Exports as Interface};
+ghost use Rattle.hm_types.specs.StandardPrelude.{prelude_interface};
+ghost use Rattle.hm_names.specs.Bindings.{IsScopeOf};
+ghost use Rattle.hm_scope_tables.specs.KnownTables.{AreTablesOf};
+ghost use Rattle.hm_messages.specs.Messages.{AreEach};
+ghost use Rattle.hm_messages.specs.Pages.{files_in, texts_in};
+ghost use Rattle.hm_build_reports.specs.Settling.{module_set, statuses_of};
+ghost use Rattle.hm_store.specs.Settlements.{settlement};
+ghost use Rattle.hm_build_messages.specs.Explanations.{AreFaultsTold, IsDetailed};
+ghost use Rattle.hm_verdicts.specs.Sets.{IsLawfulSet, module_at};
+ghost use Rattle.hm_verdicts.specs.Verdicts.{ArePublished};
+
+use crate::faulty::{Allowance, FaultyModule, noted_messages};
+use crate::view::{BuildView, Faulty};
+use hm_messages::{Page, Paint, fault_message};
+use hm_messages_details::{Detail, Site, detail_of};
+use hm_messages_trials::Question;
+use hm_names::{Fault, Kind, NO_SYNONYMS};
+use hm_scope_entities::Tables;
+use hm_scope_imports::{are_imports_of, interfaces_of, scope_of};
+use hm_scope_tables::Scope;
+use hm_store::Store;
+use hm_syntax::Module;
+use hm_types::Interface as ModuleInterface;
+use std::alloc::{AllocError, Global};
+use std::sync::Arc;
+
+/// For how many faults of a module its scope and its trees are searched.
+const MOST_SEARCHES: usize = 16;
+
+/// Returns the interfaces of the modules with these numbers, if all are published.
+pub(crate) fn published(
+    alloc: Global,
+    store: &Store,
+    numbers: &[usize],
+) -> Result<Option<Vec<Arc<ModuleInterface>>>, AllocError>
+    ensures { IfOk result (λ found. IfSome found (λ interfaces. ArePublished (settlement store.now) numbers.now (map arc_value interfaces.items))) }
+{
+    let mut interfaces = Vec::new(alloc);
+    for number in numbers {
+        match store.look(*number) {
+            Some(interface) => interfaces.push(interface.clone()?)?,
+            None => return Ok(None),
+        }
+    }
+    Ok(Some(interfaces))
+}
+
+/// Returns whether a module's scope and its trees may have a detail of one of these faults.
+fn have_details(faults: &[Fault]) -> bool {
+    faults.iter().any(|fault| {
+        matches!(
+            fault.kind,
+            Kind::Unbound
+                | Kind::Ambiguous
+                | Kind::Duplicate
+                | Kind::NonLinear
+                | Kind::Arity
+                | Kind::ClauseLength
+                | Kind::NotExported
+                | Kind::NoBinding
+        )
+    })
+}
+
+/// Returns the messages of faults without details.
+fn plain_messages(
+    alloc: Global,
+    paint: Paint,
+    page: &Page<'_>,
+    faults: &[Fault],
+) -> Result<Vec<u8>, AllocError>
+    ensures { IfOk result (λ text. AreEach (IsDetailed paint page.now.file.now page.now.lines (λ f known. known ≡ nothing)) faults.now text.items) }
+{
+    let mut text = Vec::new(alloc);
+    for fault in faults {
+        let message = fault_message(alloc, paint, page, fault, Detail::Nothing)?;
+        text.extend_from_slice(message.as_slice())?;
+    }
+    Ok(text)
+}
+
+/// Returns the detail of a fault of a module, or no detail if enough faults were looked up before.
+fn detail_at<'s>(
+    alloc: Global,
+    site: &Site<'_, 's, '_>,
+    index: usize,
+    fault: &Fault,
+) -> Result<Detail<'s>, AllocError>
+    ensures { IfOk result (λ detail. (fs : List Interface) → IsScopeOf site.now.program.now fs site.now.scope.now → AreTablesOf site.now.program.now fs site.now.tables.now
+        → IsKnown site.now.program.now fs fault.now (known_of detail)) }
+{
+    if index >= MOST_SEARCHES {
+        return Ok(Detail::Nothing);
+    }
+    Ok(detail_of(alloc, site, fault)?)
+}
+
+/// Returns the messages of the faults of a module with this scope and these tables.
+fn detailed_messages(
+    alloc: Global,
+    paint: Paint,
+    page: &Page<'_>,
+    site: &Site<'_, '_, '_>,
+    faults: &[Fault],
+) -> Result<Vec<u8>, AllocError>
+    ensures { IfOk result (λ text. (fs : List Interface) → IsScopeOf site.now.program.now fs site.now.scope.now → AreTablesOf site.now.program.now fs site.now.tables.now
+        → AreEach (IsDetailed paint page.now.file.now page.now.lines (IsKnown site.now.program.now fs)) faults.now text.items) }
+{
+    let mut text = Vec::new(alloc);
+    for index in 0..faults.len() {
+        let fault = &faults[index];
+        let detail = detail_at(alloc, site, index, fault)?;
+        let message = fault_message(alloc, paint, page, fault, detail)?;
+        text.extend_from_slice(message.as_slice())?;
+    }
+    Ok(text)
+}
+
+/// A module with its scope, and the interfaces from which that is made.
+#[derive(Clone, Copy)]
+struct ScopedModule<'r, 'a> {
+    program: &'a Module,
+    interfaces: &'r [&'a ModuleInterface],
+    scope: &'r Scope<'a>,
+}
+
+/// Returns the messages of the faults of a module with this scope.
+fn scoped_messages(
+    alloc: Global,
+    paint: Paint,
+    page: &Page<'_>,
+    scoped: &ScopedModule<'_, '_>,
+    faults: &[Fault],
+) -> Result<Vec<u8>, AllocError>
+    requires { IsScopeOf scoped.now.program.now (map (λ f. f.now) scoped.now.interfaces.now) scoped.now.scope.now }
+    ensures { IfOk result (λ text. AreEach (IsDetailed paint page.now.file.now page.now.lines (IsKnown scoped.now.program.now (map (λ f. f.now) scoped.now.interfaces.now)))
+        faults.now text.items) }
+{
+    let tables = Tables::of(alloc, scoped.program, scoped.interfaces, NO_SYNONYMS)?;
+    let site = Site {
+        program: scoped.program,
+        scope: scoped.scope,
+        tables: &tables,
+    };
+    Ok(detailed_messages(alloc, paint, page, &site, faults)?)
+}
+
+/// Returns the messages of the faults of a module with these imports.
+fn searched_messages(
+    alloc: Global,
+    told: &BuildView<'_, '_, '_>,
+    page: &Page<'_>,
+    faulty: Faulty<'_>,
+    imports: &[Arc<ModuleInterface>],
+) -> Result<Vec<u8>, AllocError>
+    requires { faulty.number < length told.now.modules.now }
+    ensures { IfOk result (λ text. AreEach (IsDetailed told.now.pages.now.paint page.now.file.now page.now.lines
+        (IsKnown (module_at (module_set told.now.modules.now told.now.plan.now) faulty.entry.number) (prelude_interface ∷ map arc_value imports.now)))
+        faulty.entry.faults.now text.items) }
+{
+    let module: &Module = &told.modules[faulty.number];
+    if !are_imports_of(alloc, module, imports)? {
+        return Ok(plain_messages(alloc, told.pages.paint, page, faulty.faults)?);
+    }
+    let prelude: &ModuleInterface = told.prelude.interface();
+    let scope = scope_of(alloc, module, prelude, imports)?;
+    let interfaces = interfaces_of(alloc, prelude, imports)?;
+    let scoped = ScopedModule {
+        program: module,
+        interfaces: interfaces.as_slice(),
+        scope: &scope,
+    };
+    Ok(scoped_messages(alloc, told.pages.paint, page, &scoped, faulty.faults)?)
+}
+
+/// Returns the messages of the faults of a module: with details of names from its scope, or with notes.
+pub(crate) fn faulty_messages(
+    alloc: Global,
+    told: &BuildView<'_, '_, '_>,
+    faulty: Faulty<'_>,
+    allowance: &mut Allowance,
+) -> Result<Vec<u8>, AllocError>
+    requires lawful { IsLawfulSet (module_set told.now.modules.now told.now.plan.now) }
+    requires number { faulty.number < length told.now.modules.now }
+    requires source { faulty.source < length told.now.pages.now.items.items }
+    requires settled { statuses_of told.now.settled.now ≡ settlement told.now.store.now }
+    ensures { IfOk result (λ text. AreFaultsTold told.now.pages.now.paint (files_in told.now.pages.now.items.items) (texts_in told.now.pages.now.items.items)
+        faulty.entry.source (module_set told.now.modules.now told.now.plan.now) (statuses_of told.now.settled.now) faulty.entry.number faulty.entry.faults.now
+        allowance.old.is_limit_told allowance.new.is_limit_told text.items) }
+{
+    let page = &told.pages.items[faulty.source];
+    let paint = told.pages.paint;
+    let module = &told.modules[faulty.number];
+    let Some(imports) = published(alloc, told.store, told.plan.imports(faulty.number))? else {
+        return Ok(plain_messages(alloc, paint, page, faulty.faults)?);
+    };
+    if have_details(faulty.faults) {
+        return Ok(searched_messages(alloc, told, page, faulty, imports.as_slice())?);
+    }
+    let question = Question {
+        source: page.lines.source(),
+        name: module.header.name.as_str(),
+        imports: imports.as_slice(),
+        prelude: told.prelude,
+    };
+    let module = FaultyModule {
+        paint,
+        page,
+        question: &question,
+        faults: faulty.faults,
+    };
+    Ok(noted_messages(alloc, &module, allowance)?)
+}

@@ -1,0 +1,408 @@
+//! The messages of a module with type faults: one for each fault, and after it a note of the change that gives the definition a type.
+ghost use Rattle.std.specs.Prelude.{◌≡◌, ◌⊎◌, ◌++◌, IfOk, IfSome, OnOk, [], cond, false, map, string_bytes, true};
+ghost use Rattle.std.specs.Arc.{arc_value};
+ghost use Rattle.hm_messages.specs.Messages.{IsMessage};
+ghost use Rattle.hm_messages.specs.Subjects.{limit, unsigned as unsigned_subject};
+ghost use Rattle.hm_messages_trials.specs.Limits.{IsUsedUp};
+ghost use Rattle.hm_messages_trials.specs.Mends.{IsMend};
+ghost use Rattle.hm_messages_trials.specs.Signatures.{IsUnsigned, Leads};
+ghost use Rattle.hm_names.specs.declared.faults.Kind.TheVariants.{Untyped};
+ghost use Rattle.hm_build_messages.specs.Explanations.{AreInTurn, ArePartTypes, AreNotes, IsNote, IsNoted, IsSignatureNote, IsToldOf, first_of as first_place, other_of as other_place, way_of as told_way};
+
+use hm_lex::Place;
+use hm_messages::{BothTypes, Page, Paint, Topic, Way, fault_message, message, reader_place};
+use hm_messages_details::Detail;
+use hm_messages_trials::{
+    Effort, Mend, PartTypes, Question, Reading, TypeFault, Unsigned, mend_of, part_types_of,
+    reading_of, unsigned_of,
+};
+use hm_names::{Fault, Kind};
+use std::alloc::{AllocError, Global};
+
+/// A module whose faults are reported: the page of its source, the data of its trials, and its faults.
+#[derive(Clone, Copy)]
+pub(crate) struct FaultyModule<'f, 'p> {
+    pub paint: Paint,
+    pub page: &'f Page<'p>,
+    pub question: &'f Question<'f>,
+    pub faults: &'f [Fault],
+}
+
+/// What is left for the notes of a run, and whether one of them said that nothing is.
+#[derive(Clone, Copy)]
+pub(crate) struct Allowance {
+    pub effort: Effort,
+    pub is_limit_told: bool,
+}
+
+impl Allowance {
+    /// Returns the allowance for all notes of a run.
+    pub fn of_run() -> Allowance
+        ensures left { ¬ (IsUsedUp result.effort) }
+        ensures untold { result.is_limit_told ≡ false }
+    {
+        Allowance {
+            effort: Effort::of_run(),
+            is_limit_told: false,
+        }
+    }
+}
+
+/// Returns the change that gives the definition of a type fault a type, if one is found. Returns `None` if memory or the effort doesn't suffice for the search.
+fn mend_for(
+    alloc: Global,
+    module: &FaultyModule<'_, '_>,
+    found: &TypeFault<'_>,
+    effort: &mut Effort,
+) -> Option<Mend>
+    ensures { IfSome result (λ mend. (found.now.fault.now.kind ≡ Untyped) × IsMend «module».now.question.now.source.now «module».now.question.now.name.now
+        (map arc_value «module».now.question.now.imports.now) found.now.fault.now.name mend) }
+{
+    if found.fault.kind != Kind::Untyped {
+        return None;
+    }
+    match mend_of(alloc, module.question, found, effort) {
+        Ok(mend) => mend,
+        Err(AllocError) => None,
+    }
+}
+
+/// Returns where the part begins.
+fn first_of(mend: &Mend) -> Place
+    ensures { result ≡ first_place mend.now }
+{
+    match mend {
+        Mend::Expression(part) => part.start,
+        Mend::Pattern(part) => part.start,
+        Mend::Exchange(first, _) => first.start,
+        Mend::Removal(part) => part.start,
+    }
+}
+
+/// Returns the other place of the note: where the part ends, or where the second expression begins.
+fn other_of(mend: &Mend) -> Place
+    ensures { result ≡ other_place mend.now }
+{
+    match mend {
+        Mend::Expression(part) => part.end,
+        Mend::Pattern(part) => part.end,
+        Mend::Exchange(_, second) => second.start,
+        Mend::Removal(part) => part.end,
+    }
+}
+
+/// Returns the topic of the note, with this as the other place.
+fn way_of(mend: &Mend, other: Place) -> Way
+    ensures { result ≡ told_way mend.now other }
+{
+    match mend {
+        Mend::Expression(_) => Way::Expression(other),
+        Mend::Pattern(_) => Way::Pattern(other),
+        Mend::Exchange(_, _) => Way::Exchange(other),
+        Mend::Removal(_) => Way::Removal(other),
+    }
+}
+
+/// Returns the two types of the part that is to blame, if it is an expression and they are found.
+fn types_for(
+    alloc: Global,
+    module: &FaultyModule<'_, '_>,
+    found: &TypeFault<'_>,
+    mend: &Mend,
+    effort: &mut Effort,
+) -> Option<PartTypes>
+    ensures { IfSome result (λ types. ArePartTypes «module».now.question.now.source.now «module».now.question.now.name.now
+        (map arc_value «module».now.question.now.imports.now) found.now.fault.now.name mend.now (string_bytes types.expected) (string_bytes types.actual)
+        types.infinite) }
+{
+    match mend {
+        Mend::Expression(part) => match part_types_of(
+            alloc,
+            module.question,
+            found,
+            *part,
+            effort,
+        ) {
+            Ok(types) => types,
+            Err(AllocError) => None,
+        },
+        Mend::Pattern(_) => None,
+        Mend::Exchange(_, _) => None,
+        Mend::Removal(_) => None,
+    }
+}
+
+/// The change that gives a definition a type, and the two types of the part, if they are found.
+#[derive(Drop)]
+struct FaultyPart {
+    mend: Mend,
+    types: Option<PartTypes>,
+}
+
+/// Returns the note of the change that gives the definition a type, or of the two types, with this as the other place.
+fn note_text(
+    alloc: Global,
+    module: &FaultyModule<'_, '_>,
+    definition: &str,
+    part: &FaultyPart,
+    other: Place,
+) -> Result<Vec<u8>, AllocError>
+    requires { IfSome part.now.types (λ types. ArePartTypes «module».now.page.now.lines «module».now.question.now.name.now
+        (map arc_value «module».now.question.now.imports.now) definition.now part.now.mend (string_bytes types.expected) (string_bytes types.actual)
+        types.infinite) }
+    ensures { IfOk result (λ text. IsToldOf «module».now.paint «module».now.page.now.file.now «module».now.page.now.lines
+        «module».now.question.now.name.now (map arc_value «module».now.question.now.imports.now) definition.now part.now.mend other text.items) }
+{
+    let mend = &part.mend;
+    match &part.types {
+        Some(types) => {
+            let both = BothTypes {
+                end: other,
+                expected: types.expected.as_str(),
+                actual: types.actual.as_str(),
+                infinite: types.infinite,
+            };
+            let topic = Topic::Mistyped(definition, both);
+            Ok(message(alloc, module.paint, module.page, first_of(mend), &topic)?)
+        }
+        None => {
+            let topic = Topic::Replaceable(definition, way_of(mend, other));
+            Ok(message(alloc, module.paint, module.page, first_of(mend), &topic)?)
+        }
+    }
+}
+
+// Why: docs/DECISIONS.md, "Memory in a trial".
+/// Returns the note of a fault, or no text.
+fn note_for(
+    alloc: Global,
+    module: &FaultyModule<'_, '_>,
+    found: &TypeFault<'_>,
+    effort: &mut Effort,
+) -> Result<Vec<u8>, AllocError>
+    requires { «module».now.question.now.source.now ≡ «module».now.page.now.lines }
+    ensures { IfOk result (λ text. (text.items ≡ []) ⊎ IsNote «module».now.paint «module».now.page.now.file.now «module».now.page.now.lines
+        «module».now.question.now.name.now (map arc_value «module».now.question.now.imports.now) found.now.fault.now text.items) }
+{
+    let Some(mend) = mend_for(alloc, module, found, effort) else {
+        return Ok(Vec::new(alloc));
+    };
+    let Some(place) = reader_place(module.page, other_of(&mend)) else {
+        return Ok(Vec::new(alloc));
+    };
+    let types = types_for(alloc, module, found, &mend, effort);
+    let part = FaultyPart { mend, types };
+    Ok(note_text(alloc, module, found.fault.name.as_str(), &part, place)?)
+}
+
+/// Returns the type that the definition of a type fault has without its signature, if it is found.
+fn unsigned_for(
+    alloc: Global,
+    module: &FaultyModule<'_, '_>,
+    found: &TypeFault<'_>,
+    effort: &mut Effort,
+) -> Option<Unsigned>
+    ensures own { IfSome result (λ own. (found.now.fault.now.kind ≡ Untyped) × IsUnsigned «module».now.question.now.source.now «module».now.question.now.name.now
+        (map arc_value «module».now.question.now.imports.now) found.now.fault.now.name own.signature (string_bytes own.own)) }
+    ensures leads { IfSome result (λ own. own.leads ≡ true → Leads «module».now.question.now.source.now «module».now.question.now.name.now
+        (map arc_value «module».now.question.now.imports.now) own.signature) }
+{
+    if found.fault.kind != Kind::Untyped {
+        return None;
+    }
+    match unsigned_of(alloc, module.question, found, effort) {
+        Ok(unsigned) => unsigned,
+        Err(AllocError) => None,
+    }
+}
+
+/// The note of a signature, or no text, and whether it is before the other note.
+#[derive(Drop)]
+struct SignatureNote {
+    text: Vec<u8>,
+    leads: bool,
+}
+
+/// Returns no note of a signature.
+fn no_note(alloc: Global) -> SignatureNote
+    ensures { result.text.items ≡ [] }
+{
+    SignatureNote {
+        text: Vec::new(alloc),
+        leads: false,
+    }
+}
+
+/// Returns the note of the signature of a fault, with this as the place of the signature's end.
+fn signature_text(
+    alloc: Global,
+    module: &FaultyModule<'_, '_>,
+    definition: &str,
+    unsigned: &Unsigned,
+    end: Place,
+) -> Result<Vec<u8>, AllocError>
+    ensures { IfOk result (λ text. IsMessage «module».now.paint «module».now.page.now.file.now «module».now.page.now.lines unsigned.now.signature.start
+        (unsigned_subject definition.now end (string_bytes unsigned.now.own)) text.items) }
+{
+    let topic = Topic::Unsigned(definition, end, unsigned.own.as_str());
+    Ok(message(
+        alloc,
+        module.paint,
+        module.page,
+        unsigned.signature.start,
+        &topic,
+    )?)
+}
+
+/// Returns the note of the signature of a fault, or no text.
+fn signature_note(
+    alloc: Global,
+    module: &FaultyModule<'_, '_>,
+    found: &TypeFault<'_>,
+    effort: &mut Effort,
+) -> Result<SignatureNote, AllocError>
+    requires { «module».now.question.now.source.now ≡ «module».now.page.now.lines }
+    ensures { IfOk result (λ note. (note.text.items ≡ []) ⊎ IsSignatureNote «module».now.paint «module».now.page.now.file.now «module».now.page.now.lines
+        «module».now.question.now.name.now (map arc_value «module».now.question.now.imports.now) found.now.fault.now note.leads note.text.items) }
+{
+    let Some(unsigned) = unsigned_for(alloc, module, found, effort) else {
+        return Ok(no_note(alloc));
+    };
+    let Some(end) = reader_place(module.page, unsigned.signature.end) else {
+        return Ok(no_note(alloc));
+    };
+    let text = signature_text(alloc, module, found.fault.name.as_str(), &unsigned, end)?;
+    Ok(SignatureNote {
+        text,
+        leads: unsigned.leads,
+    })
+}
+
+/// Returns two texts, one after the other. The second one is first if it leads.
+fn in_order(alloc: Global, first: &[u8], second: &[u8], leads: bool) -> Result<Vec<u8>, AllocError>
+    ensures { IfOk result (λ text. text.items ≡ cond leads (second.now ++ first.now) (first.now ++ second.now)) }
+{
+    if leads {
+        let mut text = Vec::from_slice(alloc, second)?;
+        text.extend_from_slice(first)?;
+        return Ok(text);
+    }
+    let mut text = Vec::from_slice(alloc, first)?;
+    text.extend_from_slice(second)?;
+    Ok(text)
+}
+
+/// Returns the reading of a module's source for its notes. Returns `None` if memory or the effort doesn't suffice.
+fn reading_for(
+    alloc: Global,
+    module: &FaultyModule<'_, '_>,
+    effort: &mut Effort,
+) -> Option<Reading> {
+    match reading_of(alloc, module.question.source, effort) {
+        Ok(reading) => reading,
+        Err(AllocError) => None,
+    }
+}
+
+// Why: docs/DECISIONS.md, "The order of notes".
+/// Returns the notes of a fault, one after the other.
+fn notes_of(
+    alloc: Global,
+    module: &FaultyModule<'_, '_>,
+    found: &TypeFault<'_>,
+    effort: &mut Effort,
+) -> Result<Vec<u8>, AllocError>
+    requires { «module».now.question.now.source.now ≡ «module».now.page.now.lines }
+    ensures { IfOk result (λ text. AreNotes «module».now.paint «module».now.page.now.file.now «module».now.page.now.lines
+        «module».now.question.now.name.now (map arc_value «module».now.question.now.imports.now) found.now.fault.now text.items) }
+{
+    let note = note_for(alloc, module, found, effort)?;
+    let signed = signature_note(alloc, module, found, effort)?;
+    Ok(in_order(alloc, note.as_slice(), signed.text.as_slice(), signed.leads)?)
+}
+
+/// Returns the notes of a fault, or no text without a reading of the module's source.
+fn notes_for(
+    alloc: Global,
+    module: &FaultyModule<'_, '_>,
+    reading: Option<&Reading>,
+    fault: &Fault,
+    effort: &mut Effort,
+) -> Result<Vec<u8>, AllocError>
+    requires { «module».now.question.now.source.now ≡ «module».now.page.now.lines }
+    ensures { IfOk result (λ text. (text.items ≡ []) ⊎ AreNotes «module».now.paint «module».now.page.now.file.now «module».now.page.now.lines
+        «module».now.question.now.name.now (map arc_value «module».now.question.now.imports.now) fault.now text.items) }
+{
+    let Some(reading) = reading else {
+        return Ok(Vec::new(alloc));
+    };
+    let found = TypeFault {
+        fault,
+        faults: module.faults,
+        reading,
+    };
+    Ok(notes_of(alloc, module, &found, effort)?)
+}
+
+/// Returns the note that the limit on trials is reached.
+fn limit_note(
+    alloc: Global,
+    module: &FaultyModule<'_, '_>,
+    fault: &Fault,
+) -> Result<Vec<u8>, AllocError>
+    ensures { IfOk result (λ text. IsMessage «module».now.paint «module».now.page.now.file.now «module».now.page.now.lines fault.now.place limit text.items) }
+{
+    let topic = Topic::Limit;
+    Ok(message(alloc, module.paint, module.page, fault.place, &topic)?)
+}
+
+// Why: docs/DECISIONS.md, "The limit's note".
+/// Returns the message of a fault with its notes, which need the reading of the module's source. There are none if an earlier note said that the limit is reached.
+fn fault_text(
+    alloc: Global,
+    module: &FaultyModule<'_, '_>,
+    reading: Option<&Reading>,
+    fault: &Fault,
+    allowance: &mut Allowance,
+) -> Result<Vec<u8>, AllocError>
+    requires { «module».now.question.now.source.now ≡ «module».now.page.now.lines }
+    ensures told { IfOk result (λ text. IsNoted «module».now.paint «module».now.page.now.file.now «module».now.page.now.lines
+        «module».now.question.now.name.now (map arc_value «module».now.question.now.imports.now) fault.now allowance.old.is_limit_told
+        allowance.new.is_limit_told text.items) }
+    ensures reached { allowance.old.is_limit_told ≡ false → allowance.new.is_limit_told ≡ true → IsUsedUp allowance.new.effort }
+    ensures silent { OnOk result (allowance.old.is_limit_told ≡ false → allowance.new.is_limit_told ≡ false → ¬ (IsUsedUp allowance.new.effort)) }
+{
+    let mut text = fault_message(alloc, module.paint, module.page, fault, Detail::Nothing)?;
+    if allowance.is_limit_told {
+        return Ok(text);
+    }
+    let notes = notes_for(alloc, module, reading, fault, &mut allowance.effort)?;
+    text.extend_from_slice(notes.as_slice())?;
+    if !allowance.effort.is_used_up() {
+        return Ok(text);
+    }
+    let last = limit_note(alloc, module, fault)?;
+    text.extend_from_slice(last.as_slice())?;
+    allowance.is_limit_told = true;
+    Ok(text)
+}
+
+/// Returns the messages of the faults of a module, in order.
+pub(crate) fn noted_messages(
+    alloc: Global,
+    module: &FaultyModule<'_, '_>,
+    allowance: &mut Allowance,
+) -> Result<Vec<u8>, AllocError>
+    requires { «module».now.question.now.source.now ≡ «module».now.page.now.lines }
+    ensures { IfOk result (λ text. AreInTurn (IsNoted «module».now.paint «module».now.page.now.file.now «module».now.page.now.lines
+        «module».now.question.now.name.now (map arc_value «module».now.question.now.imports.now)) «module».now.faults.now allowance.old.is_limit_told
+        allowance.new.is_limit_told text.items) }
+{
+    let reading = reading_for(alloc, module, &mut allowance.effort);
+    let mut text = Vec::new(alloc);
+    for fault in module.faults {
+        let message = fault_text(alloc, module, reading.as_ref(), fault, allowance)?;
+        text.extend_from_slice(message.as_slice())?;
+    }
+    Ok(text)
+}

@@ -1,0 +1,20 @@
+//! Makes the messages of a build or of a refused set, with details and notes of its faults.
+#![tactic(auto)]
+
+mod detailing;
+mod exhausted;
+mod explaining;
+mod faulty;
+mod hidden;
+pub mod laws;
+mod options;
+mod refused;
+mod starts;
+mod view;
+
+pub use crate::exhausted::module_message;
+pub use crate::explaining::explanation;
+pub use crate::options::Explain;
+pub use crate::refused::told_refusal;
+pub use crate::starts::starts_of;
+pub use crate::view::BuildView;

@@ -1,0 +1,31 @@
+//! What the messages of a build are made from.
+
+use hm_build_reports::Settled;
+use hm_graph::Plan;
+use hm_messages::Pages;
+use hm_names::Fault;
+use hm_store::Store;
+use hm_syntax::Module;
+use hm_types_prelude::SharedPrelude;
+use std::sync::Arc;
+
+/// The data for messages: the sources as they are shown, the modules with their sources, and the status of each module.
+#[derive(Clone, Copy)]
+pub struct BuildView<'t, 'p, 'm> {
+    pub pages: &'t Pages<'p>,
+    /// For each module the number of its source.
+    pub origins: &'t [usize],
+    pub modules: &'m [Arc<Module>],
+    pub plan: &'m Plan,
+    pub settled: &'t [Settled<'m>],
+    pub store: &'m Store,
+    pub prelude: &'t SharedPrelude,
+}
+
+/// A faulty module: its number, that of the source that spells it, and its faults.
+#[derive(Clone, Copy)]
+pub(crate) struct Faulty<'f> {
+    pub number: usize,
+    pub source: usize,
+    pub faults: &'f [Fault],
+}

@@ -1,7 +1,0 @@
-use Rattle.std.proofs.Common.{◌≡◌, ◌-◌, ◌^◌, min}
-use Rattle.hm_build_output.specs.Explanations.{fault_count}
-use Rattle.hm_build_reports.specs.Settling.{statuses_of}
-use Rattle.hm_build_output.proofs.explaining.errors_in.Given as goal
-
-abbrev pub invariant-loop-status : goal.invariant-loop-status
-invariant-loop-status l = l.errors ≡ min (fault_count (statuses_of l.settled) l.status-index) (2 ^ 64 - 1)

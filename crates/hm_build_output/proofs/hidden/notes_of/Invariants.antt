@@ -1,7 +1,0 @@
-use Rattle.std.proofs.Common.{take}
-use Rattle.hm_messages.specs.Messages.{AreEach}
-use Rattle.hm_build_output.specs.Explanations.{IsHiddenNote}
-use Rattle.hm_build_output.proofs.hidden.notes_of.Given as goal
-
-abbrev pub invariant-loop-fault : goal.invariant-loop-fault
-invariant-loop-fault l = AreEach (IsHiddenNote l.paint l.page.file.now l.page.lines) (take l.fault-index l.faults) l.text.items

@@ -1,8 +1,0 @@
-//! What follows from the definitions: functions with empty bodies, whose contracts have the facts.
-ghost use Rattle.hm_build_output.specs.WorkedLimits.{LimitsRow};
-
-/// After the note that the limit on trials is reached, no fault of a module has notes, and no note says it again.
-#[tactic(auto, using(crate::proofs::Turns::worked_limits))]
-pub fn limit_is_told_once()
-    ensures { LimitsRow }
-{}

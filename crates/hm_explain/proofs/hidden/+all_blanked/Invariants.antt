@@ -1,5 +1,0 @@
-use Rattle.std.proofs.Common.{length}
-use Rattle.hm_explain.proofs.hidden.+all_blanked.Given as goal
-
-abbrev pub decreases-all_blanked : goal.decreases-all_blanked
-decreases-all_blanked l = length l.definitions.now

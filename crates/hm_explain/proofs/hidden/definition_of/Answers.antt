@@ -1,4 +1,0 @@
-use Rattle.hm_explain.proofs.hidden.definition_of.Goals as goal
-
-pub returns : goal.returns
-returns c = rw (c.as_bytes.ensures.value, c.as_bytes-2.ensures.value) at c.in_ok-joined.ensures

@@ -1,9 +1,0 @@
-use Rattle.std.proofs.Common.{rules}
-use Rattle.hm_explain.specs.Hidden.{defined}
-use Rattle.hm_explain.proofs.Pieces.{named_more}
-use Rattle.hm_explain.proofs.hidden.definitions_of.Goals as goal
-
-pub loop-name-preserved : goal.loop-name-preserved
-loop-name-preserved c =
-    named_more defined c.args.names.now c.loop-name.name-index _ c.loop-name.made.items c.extend_from_slice.new.self.items c.in_ok-definition.definition.items c.loop-name-test.true
-    c.loop-name.invariant c.in_ok-definition.ensures (search rules)

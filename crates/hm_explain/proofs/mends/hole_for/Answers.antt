@@ -1,4 +1,0 @@
-use Rattle.hm_explain.proofs.mends.hole_for.Goals as goal
-
-pub returns : goal.returns
-returns c = rw c.as_bytes.ensures.value at c.in_ok-joined.ensures

@@ -1,0 +1,6 @@
+pub mod Blanks
+pub mod Exchanges
+pub mod Holes
+pub mod Layouts
+pub mod Probes
+pub mod Wildcards

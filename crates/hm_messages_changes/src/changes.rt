@@ -1,0 +1,321 @@
+//! Small changes of an expression, which show what may be wrong with it.
+ghost use Rattle.std.specs.Prelude.{◌≡◌, ◌≤◌, length, true};
+
+use crate::data::HOLE;
+use crate::edits::{Edit, Filling, before, behind, bracketed, in_place};
+use crate::reported::Reported;
+use hm_messages_outline::{Lexed, Outline, Part, Role, Run};
+use hm_parse_grammar::Symbol;
+use std::alloc::{AllocError, Global};
+
+/// The most arguments of an application in which they are changed.
+const MOST_ARGUMENTS: usize = 6;
+
+const NOTHING: Filling = Filling::Text(" ");
+
+/// A hole as the last argument in brackets.
+const LAST_ARGUMENT: &str = " (let { h = h } in h))";
+
+/// A hole as the last component of a tuple.
+const LAST_COMPONENT: &str = ", let { h = h } in h";
+
+/// A change of an expression: edits in two places.
+#[derive(Clone, Copy)]
+pub struct SmallChange {
+    /// What is reported if the change gives a definition a type. With a hole in place of a reported expression, the definition has one too.
+    pub told: Reported,
+    pub first: Edit,
+    pub second: Edit,
+}
+
+/// Returns the function and the arguments of an application.
+fn atoms_of(alloc: Global, outline: &Outline, run: Run) -> Result<Vec<Run>, AllocError> {
+    let mut atoms = Vec::new(alloc);
+    let mut next = run.start;
+    for at in run.start..run.end {
+        if at == next {
+            next = outline.past(at);
+            atoms.push(Run {
+                start: at,
+                end: next,
+            })?;
+        }
+    }
+    Ok(atoms)
+}
+
+/// Adds the exchange of two runs, which are in order.
+fn add_exchange(
+    found: &mut Vec<SmallChange>,
+    lexed: &Lexed<'_>,
+    first: Run,
+    second: Run,
+) -> Result<(), AllocError> {
+    found.push(SmallChange {
+        told: Reported::Exchange(first, second),
+        first: in_place(lexed, first, bracketed(lexed, second)),
+        second: in_place(lexed, second, bracketed(lexed, first)),
+    })?;
+    Ok(())
+}
+
+/// Adds each exchange of two of these.
+fn add_exchanges(
+    found: &mut Vec<SmallChange>,
+    lexed: &Lexed<'_>,
+    items: &[Run],
+) -> Result<(), AllocError> {
+    for second in 1..items.len() {
+        for first in 0..second {
+            add_exchange(found, lexed, items[first], items[second])?;
+        }
+    }
+    Ok(())
+}
+
+/// Adds the changes that leave an argument out, the last one first.
+fn add_without_one(
+    found: &mut Vec<SmallChange>,
+    lexed: &Lexed<'_>,
+    whole: Run,
+    atoms: &[Run],
+) -> Result<(), AllocError> {
+    for back in 1..atoms.len() {
+        let number = atoms.len() - back;
+        let start = if number > 1 {
+            atoms[number - 1].start
+        } else {
+            whole.start
+        };
+        let around = Run {
+            start,
+            end: atoms[number].end,
+        };
+        found.push(SmallChange {
+            told: Reported::Removal(atoms[number], around),
+            first: in_place(lexed, atoms[number], NOTHING),
+            second: behind(lexed, whole, NOTHING),
+        })?;
+    }
+    Ok(())
+}
+
+/// Adds the changes that put one more argument into an application, at the last place first. The part before it is reported.
+fn add_with_one_more(
+    found: &mut Vec<SmallChange>,
+    lexed: &Lexed<'_>,
+    whole: Run,
+    atoms: &[Run],
+) -> Result<(), AllocError> {
+    for back in 0..atoms.len() {
+        let atom = atoms[atoms.len() - 1 - back];
+        let told = Run {
+            start: whole.start,
+            end: atom.end,
+        };
+        found.push(SmallChange {
+            told: Reported::Expression(told),
+            first: behind(lexed, atom, Filling::Text(HOLE)),
+            second: behind(lexed, whole, NOTHING),
+        })?;
+    }
+    Ok(())
+}
+
+/// Returns whether the arguments of an application of a function and arguments are changed.
+fn is_changed(atoms: &[Run]) -> bool
+    ensures { result ≡ true → 2 ≤ length atoms.now }
+{
+    atoms.len() >= 2 && atoms.len() <= MOST_ARGUMENTS
+}
+
+/// Returns the exchanges of two arguments of an application.
+pub fn exchanges_at(
+    alloc: Global,
+    lexed: &Lexed<'_>,
+    whole: Run,
+) -> Result<Vec<SmallChange>, AllocError> {
+    let mut found = Vec::new(alloc);
+    let atoms = atoms_of(alloc, lexed.outline, whole)?;
+    let atoms = atoms.as_slice();
+    if is_changed(atoms) {
+        add_exchanges(&mut found, lexed, &atoms[1..])?;
+    }
+    Ok(found)
+}
+
+/// Adds the changes of the arguments of an application.
+fn add_of_application(
+    alloc: Global,
+    found: &mut Vec<SmallChange>,
+    lexed: &Lexed<'_>,
+    whole: Run,
+) -> Result<(), AllocError> {
+    let atoms = atoms_of(alloc, lexed.outline, whole)?;
+    let atoms = atoms.as_slice();
+    if !is_changed(atoms) {
+        return Ok(());
+    }
+    add_exchanges(found, lexed, &atoms[1..])?;
+    add_without_one(found, lexed, whole, atoms)?;
+    add_with_one_more(found, lexed, whole, atoms)
+}
+
+/// Adds the changes that put arguments after a name.
+fn add_of_name(
+    found: &mut Vec<SmallChange>,
+    lexed: &Lexed<'_>,
+    name: Run,
+) -> Result<(), AllocError> {
+    match lexed.outline.symbol(name.start) {
+        Symbol::Var | Symbol::QVar | Symbol::Con | Symbol::QCon => {}
+        _ => return Ok(()),
+    }
+    if name.end.saturating_sub(name.start) == 1 {
+        found.push(SmallChange {
+            told: Reported::Expression(name),
+            first: before(lexed, name, Filling::Text("(")),
+            second: behind(lexed, name, Filling::Text(LAST_ARGUMENT)),
+        })?;
+    }
+    Ok(())
+}
+
+/// Returns whether a run is a list of one element.
+fn is_list_of_one(outline: &Outline, run: Run) -> bool {
+    let last = run.end.saturating_sub(1);
+    let inner = run.start.saturating_add(1);
+    outline.symbol(run.start).is(Symbol::OpenSquare)
+        && outline.closing(run.start) == last
+        && inner < last
+        && outline.find(inner, last, Symbol::Comma).is_none()
+}
+
+/// Adds the change of a list of one element into that element.
+fn add_unlisted(
+    found: &mut Vec<SmallChange>,
+    lexed: &Lexed<'_>,
+    list: Run,
+) -> Result<(), AllocError> {
+    if is_list_of_one(lexed.outline, list) {
+        let inner = Run {
+            start: list.start.saturating_add(1),
+            end: list.end.saturating_sub(1),
+        };
+        found.push(SmallChange {
+            told: Reported::Expression(list),
+            first: in_place(lexed, list, bracketed(lexed, inner)),
+            second: behind(lexed, list, NOTHING),
+        })?;
+    }
+    Ok(())
+}
+
+/// Adds, for each list of one element in a pattern, the change into that element.
+fn add_unlisted_inside(
+    found: &mut Vec<SmallChange>,
+    lexed: &Lexed<'_>,
+    part: Part,
+) -> Result<(), AllocError> {
+    for at in part.run.start..part.run.end {
+        let list = Run {
+            start: at,
+            end: lexed.outline.past(at),
+        };
+        if is_list_of_one(lexed.outline, list) {
+            let inner = Run {
+                start: at.saturating_add(1),
+                end: list.end.saturating_sub(1),
+            };
+            found.push(SmallChange {
+                told: Reported::Pattern(part.run, part.around),
+                first: in_place(lexed, list, bracketed(lexed, inner)),
+                second: behind(lexed, list, NOTHING),
+            })?;
+        }
+    }
+    Ok(())
+}
+
+/// Adds the change that puts one more component into brackets, if these are around the whole of an expression.
+fn add_with_component(
+    found: &mut Vec<SmallChange>,
+    lexed: &Lexed<'_>,
+    run: Run,
+) -> Result<(), AllocError> {
+    let last = run.end.saturating_sub(1);
+    if lexed.outline.symbol(run.start).is(Symbol::Open)
+        && lexed.outline.closing(run.start) == last
+    {
+        let inner = Run {
+            start: run.start,
+            end: last,
+        };
+        found.push(SmallChange {
+            told: Reported::Expression(run),
+            first: behind(lexed, inner, Filling::Text(LAST_COMPONENT)),
+            second: behind(lexed, run, NOTHING),
+        })?;
+    }
+    Ok(())
+}
+
+/// Adds the exchange of the two sides of a form of two parts with a separator between them.
+fn add_of_pair(
+    found: &mut Vec<SmallChange>,
+    lexed: &Lexed<'_>,
+    inner: Run,
+    separator: Symbol,
+) -> Result<(), AllocError> {
+    let Some(middle) = lexed.outline.find(inner.start, inner.end, separator) else {
+        return Ok(());
+    };
+    let first = Run {
+        start: inner.start,
+        end: middle,
+    };
+    let second = Run {
+        start: middle.saturating_add(1),
+        end: inner.end,
+    };
+    match lexed.outline.find(second.start, second.end, separator) {
+        Some(_) => Ok(()),
+        None => add_exchange(found, lexed, first, second),
+    }
+}
+
+// Why: docs/DECISIONS.md, "Small changes".
+/// Returns the changes that are tried at a part, the most likely ones first.
+pub fn changes_at(
+    alloc: Global,
+    lexed: &Lexed<'_>,
+    part: Part,
+) -> Result<Vec<SmallChange>, AllocError> {
+    let mut found = Vec::new(alloc);
+    let around = part.around;
+    if part.role != Role::Pattern {
+        add_unlisted(&mut found, lexed, part.run)?;
+    }
+    match part.role {
+        Role::Function => add_of_application(alloc, &mut found, lexed, around)?,
+        Role::Element => add_unlisted(&mut found, lexed, around)?,
+        Role::Component => {
+            let inner = Run {
+                start: around.start.saturating_add(1),
+                end: around.end.saturating_sub(1),
+            };
+            add_of_pair(&mut found, lexed, inner, Symbol::Comma)?;
+        }
+        Role::Operand => add_of_pair(&mut found, lexed, around, Symbol::Colon)?,
+        Role::Pattern => {
+            add_unlisted_inside(&mut found, lexed, part)?;
+            return Ok(found);
+        }
+        _ => {}
+    }
+    if part.role != Role::Function {
+        add_of_name(&mut found, lexed, part.run)?;
+        add_with_component(&mut found, lexed, part.run)?;
+    }
+    Ok(found)
+}

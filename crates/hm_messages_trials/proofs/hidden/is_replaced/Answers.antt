@@ -1,0 +1,20 @@
+use Rattle.std.proofs.Common.{rules, take, subst}
+use Rattle.std.specs.Prelude.{slice_range}
+use Rattle.hm_lex.specs.Cut.{place_after}
+use Rattle.hm_lex.specs.declared.token.Place.{Place}
+use Rattle.hm_messages_trials.specs.Hidden.{BeginWith, HaveUnbound}
+use Rattle.hm_messages_trials.proofs.hidden.is_replaced.Goals as goal
+
+pub returns : goal.returns
+returns c so =
+    let source = c.args.source.now in
+    let d = c.args.definition.now in
+    let faults = c.args.faults.now in
+    let begins : BeginWith (slice_range source d.from d.to) d.name.now = search rules in
+    let between : HaveUnbound faults c.place_behind-start.result c.place_behind-end.result = c.have_unbound.ensures so in
+    record {
+      ordered = search rules;
+      named = begins;
+      unbound = subst (λ (p : Place). HaveUnbound faults p (place_after (take d.to source))) c.place_behind-start.ensures
+          (subst (λ (p : Place). HaveUnbound faults c.place_behind-start.result p) c.place_behind-end.ensures between);
+    }

@@ -1,0 +1,69 @@
+-- Types as they are shown: names of synonyms stand for types, as in the signatures of the module (Report 4.2.2).
+use Rattle.std.specs.Prelude.{◌≡◌, ◌⊎◌, Bool, List, ◌∷◌, ℕ, All, Contains, codes, flat_map}
+use Rattle.hm_types.specs.Interfaces.{Exports as Interface}
+use Rattle.hm_types.specs.StandardPrelude.{prelude_interface}
+use Rattle.hm_types.specs.declared.entries.SynonymEntry.{SynonymEntry}
+use Rattle.hm_types_display.specs.Texts.{scheme_text_of}
+use Rattle.hm_syntax.specs.declared.ast.Module.{Module}
+use Rattle.hm_names.specs.Imports.{AreImportsOf}
+use Rattle.hm_verdicts.specs.ModuleVerdicts.{Good, IsVerdict}
+use Rattle.hm_messages_trials.specs.TypedSources.{IsModuleIn}
+use Rattle.hm_messages_trials.specs.PartTypes.{HasPartTypes}
+use Rattle.hm_messages_changes.specs.Probes.{Surroundings, with_probe}
+use Rattle.hm_messages_changes.specs.declared.data.SourceRange.{SourceRange}
+
+-- a name, and the text of the type that it stands for
+pub record NamedType : Type 0 where
+  pub name : List ℕ
+  pub text : List ℕ
+
+-- a piece of a text that is shown as it is, or by one of these names
+abbrev pub IsPiece : List NamedType → NamedType → Type 0
+IsPiece names p = (p.name ≡ p.text) ⊎ Contains names p
+
+-- what is shown is the text, with names in place of some pieces. With the type of each name put back it is the text again
+pub record IsFolded (names : List NamedType) (text shown : List ℕ) : Type 0 where
+  pub pieces : List NamedType
+  pub each : All (IsPiece names) pieces
+  pub text_is : text ≡ flat_map (λ p. p.text) pieces
+  pub shown_is : shown ≡ flat_map (λ p. p.name) pieces
+
+-- the synonym has no parameters, is declared in the module of this name, and stands for a type with this text
+pub record IsAlias (home : List ℕ) (entry : SynonymEntry) (n : NamedType) : Type 0 where
+  pub named : entry.name ≡ n.name
+  pub declared : entry.entity.«module» ≡ home
+  pub own : entry.entity.name ≡ n.name
+  pub closed : entry.synonym.parameters ≡ 0
+  pub text_is : n.text ≡ scheme_text_of (record { vars = 0; body = entry.synonym.body })
+
+-- an interface exports such a synonym
+abbrev pub IsNameIn : List ℕ → Interface → NamedType → Type 0
+IsNameIn home exports n = (entry : SynonymEntry) × Contains exports.synonyms entry × IsAlias home entry n
+
+-- the module's interface exports the name as a synonym of its own, or Prelude's does
+abbrev pub IsName : List ℕ → Interface → NamedType → Type 0
+IsName name exports n = IsNameIn name exports n ⊎ IsNameIn (codes "Prelude") prelude_interface n
+
+-- The source spells a module with this name that needs these interfaces. It is good for them and Prelude's, and with its interface these are names
+pub record ExportsNames (source name : List ℕ) (fs : List Interface) (names : List NamedType) : Type 0 where
+  pub «module» : Module
+  pub spelled : IsModuleIn source name «module»
+  pub asked : AreImportsOf «module» fs
+  pub exports : Interface
+  pub right : IsVerdict «module» (prelude_interface ∷ fs) (Good exports)
+  pub each : All (IsName name exports) names
+
+-- the text of a type is shown so, by names that the module has in a source with a definition replaced
+pub record IsShown (changed : Surroundings → List ℕ) (name : List ℕ) (fs : List Interface) (text shown : List ℕ) : Type 0 where
+  pub place : Surroundings
+  pub names : List NamedType
+  pub exported : ExportsNames (changed place) name fs names
+  pub folded : IsFolded names text shown
+
+-- the two types of a part, as they are shown
+pub record HasShownTypes (source name : List ℕ) (fs : List Interface) (definition : List ℕ) (part : SourceRange) (expected actual : List ℕ) (infinite : Bool) : Type 0 where
+  pub whole_expected : List ℕ
+  pub whole_actual : List ℕ
+  pub types : HasPartTypes source name fs definition part whole_expected whole_actual infinite
+  pub expected_shown : IsShown (λ s. with_probe source definition s part) name fs whole_expected expected
+  pub actual_shown : IsShown (λ s. with_probe source definition s part) name fs whole_actual actual

@@ -1,0 +1,136 @@
+//! Decides which of several parts is reported.
+
+use crate::costs::Effort;
+use crate::culprits::{Searched, is_mended_by};
+use hm_messages_changes::{Reported, SmallChange, changes_at, exchanges_at};
+use hm_messages_outline::{Outline, Part, Role, Run, without_brackets};
+use hm_parse_grammar::Symbol;
+use std::alloc::{AllocError, Global};
+
+/// A part without which a definition has a type.
+#[derive(Clone, Copy)]
+struct Suspect {
+    /// Where the part begins.
+    start: usize,
+    /// What is reported: the part, or the expression around a change of it.
+    told: Reported,
+    points: usize,
+}
+
+/// Returns whether a part is one literal or constructor.
+fn is_constant(outline: &Outline, run: Run) -> bool {
+    if run.end.saturating_sub(run.start) != 1 {
+        return false;
+    }
+    match outline.symbol(run.start) {
+        Symbol::Con | Symbol::QCon | Symbol::Integer | Symbol::Character | Symbol::Text => true,
+        _ => false,
+    }
+}
+
+// Why: docs/DECISIONS.md, "Points".
+/// Returns how likely a part is to be the slip if no change of it gives the definition a type. A function gets less than its arguments, because another
+/// function hides any fault of these. The numbers were found on slips in good modules; docs/DECISIONS.md says how.
+fn points_of(outline: &Outline, part: Part) -> usize {
+    let points = match part.role {
+        Role::Function | Role::Pattern => 2usize,
+        _ => 4,
+    };
+    if is_constant(outline, part.run) {
+        return points.saturating_add(1);
+    }
+    points
+}
+
+/// Returns how much more likely a part is if this change of it gives the definition a type. An exchange outweighs all else. Of a pattern only lists of one
+/// element are changed, which is a rarer slip than those that other changes mend.
+fn points_of_change(change: &SmallChange) -> usize {
+    match change.told {
+        Reported::Exchange(_, _) => 8,
+        Reported::Pattern(_, _) => 5,
+        Reported::Expression(_) | Reported::Removal(_, _) => 4,
+    }
+}
+
+/// Returns whether a part is a function, and one of these parts lies in its arguments.
+fn has_faulty_argument(parts: &[Part], part: Part) -> bool {
+    if part.role != Role::Function {
+        return false;
+    }
+    parts.iter().any(|other| other.run.start >= part.run.end && other.run.end <= part.around.end)
+}
+
+/// Returns the changes that are tried at a part. At a function these are exchanges alone if one of these parts lies in its arguments: that one is more
+/// likely than the function.
+fn changes_for(
+    alloc: Global,
+    searched: &Searched<'_, '_>,
+    parts: &[Part],
+    part: Part,
+) -> Result<Vec<SmallChange>, AllocError> {
+    if has_faulty_argument(parts, part) {
+        return exchanges_at(alloc, searched.lexed, part.around);
+    }
+    changes_at(alloc, searched.lexed, part)
+}
+
+/// Returns a part of these, and what is reported of it: the expression around the first change that gives the definition a type, or else the part without
+/// its brackets.
+fn judged_part(
+    alloc: Global,
+    searched: &Searched<'_, '_>,
+    parts: &[Part],
+    part: Part,
+    effort: &mut Effort,
+) -> Result<Suspect, AllocError> {
+    let start = part.run.start;
+    let points = points_of(searched.lexed.outline, part);
+    let changes = changes_for(alloc, searched, parts, part)?;
+    for change in &changes {
+        let edits = [change.first, change.second];
+        if is_mended_by(alloc, searched, &edits, effort)? {
+            return Ok(Suspect {
+                start,
+                told: change.told,
+                points: points.saturating_add(points_of_change(change)),
+            });
+        }
+    }
+    let run = without_brackets(searched.lexed.outline, part.run);
+    let told = match part.role {
+        Role::Pattern => Reported::Pattern(run, part.around),
+        _ => Reported::Expression(run),
+    };
+    Ok(Suspect {
+        start,
+        told,
+        points,
+    })
+}
+
+/// Returns what is reported of these parts: of the one with the most points, and of the last of several with as many.
+pub(crate) fn likeliest(
+    alloc: Global,
+    searched: &Searched<'_, '_>,
+    parts: &[Part],
+    effort: &mut Effort,
+) -> Result<Option<Reported>, AllocError> {
+    let mut best: Option<Suspect> = None;
+    for part in parts {
+        let suspect = judged_part(alloc, searched, parts, *part, effort)?;
+        let is_better = match best {
+            Some(other) => {
+                suspect.points > other.points
+                    || suspect.points == other.points && suspect.start > other.start
+            }
+            None => true,
+        };
+        if is_better {
+            best = Some(suspect);
+        }
+    }
+    match best {
+        Some(suspect) => Ok(Some(suspect.told)),
+        None => Ok(None),
+    }
+}

@@ -1,0 +1,262 @@
+//! The search for a change that gives a definition a type.
+ghost use Rattle.std.specs.Prelude.{◌≡◌, IfOk, IfSome, None, map};
+ghost use Rattle.std.specs.Arc.{arc_value};
+ghost use Rattle.hm_messages_trials.specs.Limits.{IsUsedUp};
+ghost use Rattle.hm_messages_trials.specs.Mends.{IsMend};
+
+use crate::costs::{Effort, cost_of};
+use crate::culprits::{Searched, culprits};
+use crate::mends::{Mend, types_exchanged, types_if_left_out, types_with_pattern};
+use crate::ranking::likeliest;
+use crate::reading::{TypeFault, read};
+use crate::trial::{Question, types_without};
+use hm_lex::Token;
+use hm_messages_changes::{Cut, Rebound, Reported, Span, cut_of, part_of, spot_in};
+use hm_messages_outline::{Lexed, Run, binding_at, names_in, one, right_sides};
+use hm_names::Fault;
+use hm_parse_grammar::Symbol;
+use std::alloc::{AllocError, Global};
+
+/// Returns the number of the token that begins at a byte, or of the first one after it.
+fn token_at(tokens: &[Token], byte: usize) -> usize {
+    tokens
+        .iter()
+        .take_while(|token| (token.start as usize) < byte)
+        .count()
+}
+
+/// Returns what is reported of a definition.
+fn likeliest_in(
+    alloc: Global,
+    searched: &Searched<'_, '_>,
+    definition: Run,
+    effort: &mut Effort,
+) -> Result<Option<Reported>, AllocError> {
+    let top = right_sides(alloc, searched.lexed.outline, definition)?;
+    let found = culprits(alloc, searched, top.as_slice(), effort)?;
+    likeliest(alloc, searched, found.as_slice(), effort)
+}
+
+/// Returns what is reported of a definition, by a search in this smaller source.
+fn told_in_cut(
+    alloc: Global,
+    searched: &Searched<'_, '_>,
+    cut: &Cut,
+    definition: Run,
+    effort: &mut Effort,
+) -> Result<Option<Reported>, AllocError> {
+    let source = cut.text.as_slice();
+    let Some(reading) = read(alloc, source)? else {
+        return Ok(None);
+    };
+    let lexed = reading.lexed(source);
+    let smaller = Searched {
+        question: searched.question,
+        lexed: &lexed,
+        definition: searched.definition,
+        others: searched.others,
+        cost: cost_of(source, lexed.outline),
+    };
+    let start = token_at(lexed.tokens, cut.definition);
+    let size = definition.end.saturating_sub(definition.start);
+    let end = start.saturating_add(size);
+    let Some(told) = likeliest_in(alloc, &smaller, Run { start, end }, effort)? else {
+        return Ok(None);
+    };
+    Ok(Some(told.moved(start, definition.start)))
+}
+
+/// Returns what is reported of a definition, by a search in a smaller source.
+fn told_in(
+    alloc: Global,
+    searched: &Searched<'_, '_>,
+    definition: Run,
+    effort: &mut Effort,
+) -> Result<Option<Reported>, AllocError> {
+    match cut_of(alloc, searched.lexed, definition)? {
+        Some(cut) => told_in_cut(alloc, searched, &cut, definition, effort),
+        None => Ok(None),
+    }
+}
+
+/// Returns an expression, if the definition has a type with the hole in place of it.
+fn expression_mend(
+    alloc: Global,
+    searched: &Searched<'_, '_>,
+    run: Run,
+) -> Result<Option<Mend>, AllocError>
+    ensures { IfOk result (λ found. IfSome found (IsMend searched.now.question.now.source.now searched.now.question.now.name.now
+        (map arc_value searched.now.question.now.imports.now) searched.now.definition.now)) }
+{
+    let question = searched.question;
+    let Some(part) = part_of(searched.lexed.tokens, run, question.source) else {
+        return Ok(None);
+    };
+    let bytes = (part.from, part.to);
+    if !types_without(alloc, question, bytes, searched.definition, searched.others)? {
+        return Ok(None);
+    }
+    Ok(Some(Mend::Expression(part)))
+}
+
+/// Returns the variables of a pattern.
+fn variables_in(alloc: Global, lexed: &Lexed<'_>, pattern: Run) -> Result<Vec<Span>, AllocError> {
+    let mut found = Vec::new(alloc);
+    for at in pattern.start..pattern.end {
+        if lexed.outline.symbol(at).is(Symbol::Var) {
+            let run = one(at);
+            found.push(Span {
+                from: lexed.start(at),
+                to: lexed.end(run),
+            })?;
+        }
+    }
+    Ok(found)
+}
+
+// Why: docs/DECISIONS.md, "Patterns".
+/// Returns a pattern of a clause, alternative or lambda, if the definition has a type without it.
+fn pattern_mend(
+    alloc: Global,
+    searched: &Searched<'_, '_>,
+    pattern: Run,
+    around: Run,
+) -> Result<Option<Mend>, AllocError>
+    ensures { IfOk result (λ found. IfSome found (IsMend searched.now.question.now.source.now searched.now.question.now.name.now
+        (map arc_value searched.now.question.now.imports.now) searched.now.definition.now)) }
+{
+    let lexed = searched.lexed;
+    let Some(part) = part_of(lexed.tokens, pattern, searched.question.source) else {
+        return Ok(None);
+    };
+    let Some(spot) = spot_in(lexed, around) else {
+        return Ok(None);
+    };
+    let variables = variables_in(alloc, lexed, pattern)?;
+    let rebound = Rebound {
+        at: spot.at,
+        frame: spot.frame,
+        variables: variables.as_slice(),
+    };
+    if !types_with_pattern(alloc, searched, part, &rebound)? {
+        return Ok(None);
+    }
+    Ok(Some(Mend::Pattern(part)))
+}
+
+/// Returns two expressions, if the definition has a type with them exchanged.
+fn exchange_mend(
+    alloc: Global,
+    searched: &Searched<'_, '_>,
+    first: Run,
+    second: Run,
+) -> Result<Option<Mend>, AllocError>
+    ensures { IfOk result (λ found. IfSome found (IsMend searched.now.question.now.source.now searched.now.question.now.name.now
+        (map arc_value searched.now.question.now.imports.now) searched.now.definition.now)) }
+{
+    let source = searched.question.source;
+    let Some(first) = part_of(searched.lexed.tokens, first, source) else {
+        return Ok(None);
+    };
+    let Some(second) = part_of(searched.lexed.tokens, second, source) else {
+        return Ok(None);
+    };
+    if !types_exchanged(alloc, searched, first, second)? {
+        return Ok(None);
+    }
+    Ok(Some(Mend::Exchange(first, second)))
+}
+
+/// Returns an argument, if the definition has a type without it. Otherwise returns an expression around it, if the definition has a type with the hole in
+/// place of that.
+fn removal_mend(
+    alloc: Global,
+    searched: &Searched<'_, '_>,
+    argument: Run,
+    around: Run,
+) -> Result<Option<Mend>, AllocError>
+    ensures { IfOk result (λ found. IfSome found (IsMend searched.now.question.now.source.now searched.now.question.now.name.now
+        (map arc_value searched.now.question.now.imports.now) searched.now.definition.now)) }
+{
+    let Some(part) = part_of(searched.lexed.tokens, argument, searched.question.source) else {
+        return Ok(None);
+    };
+    if types_if_left_out(alloc, searched, part)? {
+        return Ok(Some(Mend::Removal(part)));
+    }
+    Ok(expression_mend(alloc, searched, around)?)
+}
+
+/// Returns what is reported, if it gives the definition a type.
+fn confirmed(
+    alloc: Global,
+    searched: &Searched<'_, '_>,
+    told: Reported,
+) -> Result<Option<Mend>, AllocError>
+    ensures { IfOk result (λ found. IfSome found (IsMend searched.now.question.now.source.now searched.now.question.now.name.now
+        (map arc_value searched.now.question.now.imports.now) searched.now.definition.now)) }
+{
+    match told {
+        Reported::Expression(run) => Ok(expression_mend(alloc, searched, run)?),
+        Reported::Pattern(run, around) => Ok(pattern_mend(alloc, searched, run, around)?),
+        Reported::Exchange(first, second) => Ok(exchange_mend(alloc, searched, first, second)?),
+        Reported::Removal(argument, around) => Ok(removal_mend(alloc, searched, argument, around)?),
+    }
+}
+
+/// Returns the names of faults.
+fn names_of<'a>(alloc: Global, faults: &'a [Fault]) -> Result<Vec<&'a str>, AllocError> {
+    let mut names = Vec::with_capacity(alloc, faults.len())?;
+    for fault in faults {
+        names.push(fault.name.as_str())?;
+    }
+    Ok(names)
+}
+
+// Why: docs/DECISIONS.md, "Notes at type faults".
+/// Returns the change that gives the definition of a type fault a type: the most likely one that is found. `effort` is less by what the search costs.
+///
+/// Returns `None` if nothing is found or the effort doesn't pay for a trial, and for a definition that mentions more than 256 names.
+///
+/// # Errors
+///
+/// Memory ran out, or a type would have grown past the limits of the question.
+pub fn mend_of(
+    alloc: Global,
+    question: &Question<'_>,
+    found: &TypeFault<'_>,
+    effort: &mut Effort,
+) -> Result<Option<Mend>, AllocError>
+    ensures mend { IfOk result (λ mend. IfSome mend (IsMend question.now.source.now question.now.name.now (map arc_value question.now.imports.now)
+        found.now.fault.now.name)) }
+    ensures none { IsUsedUp effort.old → IfOk result (λ mend. mend ≡ None) }
+    ensures stays { IsUsedUp effort.old → IsUsedUp effort.new }
+{
+    effort.begin();
+    if !effort.pays_for_walks(question.source) {
+        return Ok(None);
+    }
+    let fault = found.fault;
+    let lexed = found.reading.lexed(question.source);
+    let Some(binding) = binding_at(lexed.source, lexed.tokens, lexed.outline, fault.place) else {
+        return Ok(None);
+    };
+    let faulty = names_of(alloc, found.faults)?;
+    let Some(others) = names_in(alloc, &lexed, binding, faulty.as_slice())? else {
+        return Ok(None);
+    };
+    let searched = Searched {
+        question,
+        lexed: &lexed,
+        definition: fault.name.as_str(),
+        others: others.as_slice(),
+        cost: cost_of(question.source, lexed.outline),
+    };
+    if !effort.pays(searched.cost) {
+        return Ok(None);
+    }
+    let Some(told) = told_in(alloc, &searched, binding, effort)? else {
+        return Ok(None);
+    };
+    confirmed(alloc, &searched, told)
+}
