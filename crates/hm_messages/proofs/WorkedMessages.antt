@@ -9,7 +9,7 @@ use Rattle.hm_messages_excerpts.specs.Excerpts.{IsPlaceIn}
 use Rattle.hm_messages_excerpts.specs.declared.columns.Columns.{Columns}
 use Rattle.hm_messages.specs.Headings.{heading}
 use Rattle.hm_messages.specs.Messages.{HasNoMessage, HasNoReaderPlace, IsMessage, TellsAt, message_left_out, message_told, reader_place}
-use Rattle.hm_messages.specs.Sentences.{sentence}
+use Rattle.hm_messages.specs.Notices.{notice_of}
 use Rattle.hm_messages.specs.Subjects.{Subject}
 use Rattle.hm_messages.specs.Worked.{ForeignRow, MessageRow}
 use Rattle.hm_messages.specs.declared.heading.Paint.{Paint}
@@ -78,10 +78,10 @@ isnt_told Json = isnt_second
 isnt_empty : (paint : Paint) (file : List ℕ) (s : Subject) → ¬ (TellsAt paint file [] first_place s [])
 unfolding first_byte
 isnt_empty Plain file s h =
-    let colon : 0 ≡ 58 = ap first_byte (no_line (shown file) (heading Plain (reader_place first_place h.columns) s) (sentence s) (excerpt_text h.excerpt) h.says) in
+    let colon : 0 ≡ 58 = ap first_byte (no_line (shown file) (heading Plain (reader_place first_place h.columns) s) (notice_of s).sentence (excerpt_text h.excerpt) h.says) in
     omega (arith, colon)
 isnt_empty Coloured file s h =
-    let colon : 0 ≡ 58 = ap first_byte (no_line (shown file) (heading Coloured (reader_place first_place h.columns) s) (sentence s) (excerpt_text h.excerpt) h.says) in
+    let colon : 0 ≡ 58 = ap first_byte (no_line (shown file) (heading Coloured (reader_place first_place h.columns) s) (notice_of s).sentence (excerpt_text h.excerpt) h.says) in
     omega (arith, colon)
 isnt_empty Json file s h = let says = h.says in search (rules, some_bytes)
 

@@ -16,113 +16,12 @@ use Rattle.hm_names.specs.declared.namespace.Namespace.{Namespace}
 use Rattle.hm_names.specs.declared.namespace.Namespace.TheVariants.{Types, Constructors, Values}
 use Rattle.hm_names.specs.declared.faults.Kind.TheVariants.{NotExported, Duplicate, NoBinding, Unbound, Ambiguous, ExportClash, NotImported, NonLinear, Arity, ClauseLength, Untyped, Recursive}
 use Rattle.hm_names.specs.Faults.Phases.{written_in}
-use Rattle.hm_verdicts.specs.Reports.{kind_word}
+use Rattle.hm_messages.specs.Notices.{notice_of}
 use Rattle.hm_messages.specs.Subjects.{Subject, fault, replaceable, mistyped, unsigned, faulty, skipped, too_long, lexeme, open_comment, too_deep, syntax_fault, too_many, twice, twin, missing, cycle, exhausted, limit, step, hidden}
 use Rattle.hm_messages.specs.declared.topic.Way.{Way}
 use Rattle.hm_messages.specs.declared.topic.Way.TheVariants.{Expression, Pattern, Exchange, Removal}
 use Rattle.hm_messages.specs.declared.heading.Paint.{Paint}
 use Rattle.hm_messages.specs.declared.heading.Paint.TheVariants.{Plain, Coloured, Json}
-
-abbrev pub level_of : Subject → Level
-level_of (replaceable x p) = Note
-level_of (mistyped x p t u infinite) = Note
-level_of (unsigned x p t) = Note
-level_of (faulty x) = Note
-level_of (skipped x) = Note
-level_of limit = Note
-level_of (step x y) = Note
-level_of (hidden k x) = Note
-level_of (fault k x known other) = Error
-level_of too_long = Error
-level_of (lexeme h x) = Error
-level_of open_comment = Error
-level_of too_deep = Error
-level_of (syntax_fault h x) = Error
-level_of too_many = Error
-level_of (twice x) = Error
-level_of (twin x) = Note
-level_of (missing x) = Error
-level_of (cycle x) = Error
-level_of (exhausted x) = Error
-
--- the report's word for what is wrong, or the word for a sort of note
-abbrev pub kind_of : Subject → List ℕ
-kind_of (fault k x known other) = kind_word k
-kind_of (replaceable x p) = codes "replaceable"
-kind_of (mistyped x p t u infinite) = codes "mistyped"
-kind_of (unsigned x p t) = codes "signature"
-kind_of (faulty x) = codes "skipped"
-kind_of (skipped x) = codes "skipped"
-kind_of too_long = codes "too-long"
-kind_of (lexeme h x) = codes "lexeme"
-kind_of open_comment = codes "open-comment"
-kind_of too_deep = codes "too-deep"
-kind_of (syntax_fault h x) = codes "syntax"
-kind_of too_many = codes "too-many-modules"
-kind_of (twice x) = codes "twice"
-kind_of (twin x) = codes "twice"
-kind_of (missing x) = codes "missing"
-kind_of (cycle x) = codes "cycle"
-kind_of (exhausted x) = codes "no-memory"
-kind_of limit = codes "limit"
-kind_of (step x y) = codes "import"
-kind_of (hidden k x) = codes "hidden"
-
--- the name that it is about, if it is about one
-abbrev pub name_in : Subject → Option (List ℕ)
-name_in (fault k x known other) = Some x
-name_in (replaceable x p) = Some x
-name_in (mistyped x p t u infinite) = Some x
-name_in (unsigned x p t) = Some x
-name_in (faulty x) = Some x
-name_in (skipped x) = Some x
-name_in too_long = None
-name_in (lexeme h x) = None
-name_in open_comment = None
-name_in too_deep = None
-name_in (syntax_fault h x) = None
-name_in too_many = None
-name_in (twice x) = Some x
-name_in (twin x) = Some x
-name_in (missing x) = Some x
-name_in (cycle x) = Some x
-name_in (exhausted x) = Some x
-name_in limit = None
-name_in (step x y) = Some y
-name_in (hidden k x) = Some x
-
--- the type that is expected at a part, and the type that it or a definition has, if it tells them
-abbrev pub expected_in : Subject → Option (List ℕ)
-expected_in (mistyped x p expected actual infinite) = Some expected
-expected_in s = None
-
-abbrev pub actual_in : Subject → Option (List ℕ)
-actual_in (mistyped x p expected actual infinite) = Some actual
-actual_in (unsigned x p own) = Some own
-actual_in s = None
-
--- the other place that it names, if it names one
-abbrev pub other_in : Subject → Option Position
-other_in (fault k x known other) = other
-other_in (replaceable x p) = None
-other_in (mistyped x p t u infinite) = None
-other_in (unsigned x p t) = None
-other_in (faulty x) = None
-other_in (skipped x) = None
-other_in too_long = None
-other_in (lexeme h x) = None
-other_in open_comment = None
-other_in too_deep = None
-other_in (syntax_fault h x) = None
-other_in too_many = None
-other_in (twice x) = None
-other_in (twin x) = None
-other_in (missing x) = None
-other_in (cycle x) = None
-other_in (exhausted x) = None
-other_in limit = None
-other_in (step x y) = None
-other_in (hidden k x) = None
 
 -- a coloured word stands between two escapes, which begin with byte 27
 abbrev pub begin : Paint → Level → List ℕ
@@ -283,8 +182,8 @@ tag Note kind = []
 
 abbrev pub heading : Paint → Place → Subject → List ℕ
 heading paint p subject =
-    codes ":" ++ decimal p.line ++ codes ":" ++ decimal p.column ++ codes ": " ++ begin paint (level_of subject) ++ end paint ++ codes ": "
-    ++ shown (title subject) ++ tag (level_of subject) (kind_of subject) ++ codes "\n"
+    codes ":" ++ decimal p.line ++ codes ":" ++ decimal p.column ++ codes ": " ++ begin paint (notice_of subject).level ++ end paint ++ codes ": "
+    ++ shown (title subject) ++ tag (notice_of subject).level (notice_of subject).kind ++ codes "\n"
 
 abbrev pub some_counts : ℕ → ℕ → List ℕ
 some_counts errors skips = codes "errors: " ++ decimal errors ++ codes ", skipped modules: " ++ decimal skips ++ codes "\n"

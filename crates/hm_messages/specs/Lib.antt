@@ -5,6 +5,7 @@ pub mod Laws
 pub mod Messages
 pub mod Missing
 pub mod ModuleStarts
+pub mod Notices
 pub mod Pages
 pub mod Refused
 pub mod Sentences

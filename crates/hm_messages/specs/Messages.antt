@@ -13,9 +13,9 @@ use Rattle.hm_messages_excerpts.specs.declared.excerpt.Excerpt.{Excerpt}
 use Rattle.hm_messages_json.specs.Objects.{message_text}
 use Rattle.hm_messages_json.specs.declared.message.Message.{Message}
 use Rattle.hm_messages_json.specs.declared.message.Position.{Position}
-use Rattle.hm_messages.specs.Headings.{actual_in, expected_in, heading, kind_of, level_of, name_in, other_in, title}
+use Rattle.hm_messages.specs.Headings.{heading, title}
 use Rattle.hm_messages.specs.ModuleStarts.{IsModuleAt, IsModuleAround, Start}
-use Rattle.hm_messages.specs.Sentences.{sentence}
+use Rattle.hm_messages.specs.Notices.{notice_of}
 use Rattle.hm_messages.specs.Subjects.{Subject, fault}
 use Rattle.hm_messages.specs.declared.heading.Paint.{Paint}
 use Rattle.hm_messages.specs.declared.heading.Paint.TheVariants.{Plain, Coloured, Json}
@@ -40,7 +40,7 @@ pub record IsProse (paint : Paint) (file source : List ℕ) (place : Place) (sub
   pub columns_at : AreColumnsAt source place columns
   pub excerpt : Excerpt
   pub excerpt_at : IsExcerptAt source place excerpt
-  pub says : text ≡ shown file ++ heading paint (reader_place place columns) subject ++ sentence subject ++ excerpt_text excerpt
+  pub says : text ≡ shown file ++ heading paint (reader_place place columns) subject ++ (notice_of subject).sentence ++ excerpt_text excerpt
 
 -- the same, of the first line alone
 pub record IsProseHeading (paint : Paint) (file source : List ℕ) (place : Place) (subject : Subject) (text : List ℕ) : Type 0 where
@@ -55,14 +55,14 @@ IsHint sentence (Some hint) = (last : ℕ) × (sentence ≡ hint ++ encode_utf8 
 
 -- the object's members are about the subject
 pub record IsAbout (subject : Subject) (m : Message) : Type 0 where
-  pub level_is : m.level ≡ level_of subject
-  pub kind_is : m.kind.now ≡ kind_of subject
-  pub name_is : option_map (λ name. name.now) m.name ≡ name_in subject
-  pub other_is : m.other ≡ other_in subject
+  pub level_is : m.level ≡ (notice_of subject).level
+  pub kind_is : m.kind.now ≡ (notice_of subject).kind
+  pub name_is : option_map (λ name. name.now) m.name ≡ (notice_of subject).name
+  pub other_is : m.other ≡ (notice_of subject).other
   pub text_is : m.text.now ≡ title subject
-  pub expected_is : option_map (λ text. text.now) m.expected ≡ expected_in subject
-  pub actual_is : option_map (λ text. text.now) m.actual ≡ actual_in subject
-  pub hint_is : IsHint (sentence subject) (option_map (λ hint. hint.now) m.hint)
+  pub expected_is : option_map (λ text. text.now) m.expected ≡ (notice_of subject).expected
+  pub actual_is : option_map (λ text. text.now) m.actual ≡ (notice_of subject).actual
+  pub hint_is : IsHint (notice_of subject).sentence (option_map (λ hint. hint.now) m.hint)
 
 -- the position is the place's
 pub record IsPositionAt (source : List ℕ) (place : Place) (position : Position) : Type 0 where

@@ -1,15 +1,15 @@
 //! The first line of a message, after the name of its file.
-ghost use Rattle.std.specs.Prelude.{◌≡◌, IfOk, option_map, string_bytes};
-ghost use Rattle.hm_messages.specs.Headings.{actual_in, begin, end, exchange_title as exchange_title_bytes, expected_in, expression_title as expression_title_bytes, heading as heading_bytes, kind_of as kind_bytes, level_of as level_is, mistyped_title as mistyped_title_bytes, name_in, other_in, pattern_title as pattern_title_bytes, removal_title as removal_title_bytes, replaceable_title as replaceable_title_bytes, tag as tag_bytes, title as title_bytes, unsigned_title as unsigned_title_bytes};
+ghost use Rattle.std.specs.Prelude.{◌≡◌, IfOk, string_bytes};
+ghost use Rattle.hm_messages.specs.Headings.{begin, end, exchange_title as exchange_title_bytes, expression_title as expression_title_bytes, heading as heading_bytes, mistyped_title as mistyped_title_bytes, pattern_title as pattern_title_bytes, removal_title as removal_title_bytes, replaceable_title as replaceable_title_bytes, tag as tag_bytes, title as title_bytes, unsigned_title as unsigned_title_bytes};
 ghost use Rattle.hm_messages.specs.Subjects.{subject_of};
 
 use crate::fault_titles::{fault_title, hidden_title};
+use crate::notices::notice_of;
 use crate::topic::{BothTypes, Topic, Way};
 use hm_lex::Place;
 use hm_messages_excerpts::shown;
 use hm_messages_hints::{lexeme_text, syntax_text};
-use hm_messages_json::{Level, Position};
-use hm_verdicts::kind_word;
+use hm_messages_json::Level;
 use std::alloc::{AllocError, Global};
 
 /// How messages are written.
@@ -20,140 +20,6 @@ pub enum Paint {
     Coloured,
     /// As a JSON object each, on a line of its own.
     Json,
-}
-
-/// Returns the level of a topic's message.
-pub(crate) fn level_of(topic: &Topic<'_>) -> Level
-    ensures { result ≡ level_is (subject_of topic.now) }
-{
-    match topic {
-        Topic::Replaceable(_, _) => Level::Note,
-        Topic::Mistyped(_, _) => Level::Note,
-        Topic::Unsigned(_, _, _) => Level::Note,
-        Topic::Faulty(_) => Level::Note,
-        Topic::Skipped(_) => Level::Note,
-        Topic::Limit => Level::Note,
-        Topic::Step(_, _) => Level::Note,
-        Topic::Fault(_, _) => Level::Error,
-        Topic::TooLong => Level::Error,
-        Topic::Lexeme(_, _) => Level::Error,
-        Topic::OpenComment => Level::Error,
-        Topic::TooDeep => Level::Error,
-        Topic::Syntax(_) => Level::Error,
-        Topic::TooMany => Level::Error,
-        Topic::Twice(_) => Level::Error,
-        Topic::Twin(_) => Level::Note,
-        Topic::Missing(_) => Level::Error,
-        Topic::Cycle(_) => Level::Error,
-        Topic::Exhausted(_) => Level::Error,
-        Topic::Hidden(_, _) => Level::Note,
-    }
-}
-
-/// Returns the report's word for what is wrong, or the word for a kind of note.
-pub(crate) fn kind_of(topic: &Topic<'_>) -> &'static str
-    ensures { result.now ≡ kind_bytes (subject_of topic.now) }
-{
-    match topic {
-        Topic::Fault(kind, _) => kind_word(*kind),
-        Topic::Replaceable(_, _) => "replaceable",
-        Topic::Mistyped(_, _) => "mistyped",
-        Topic::Unsigned(_, _, _) => "signature",
-        Topic::Faulty(_) => "skipped",
-        Topic::Skipped(_) => "skipped",
-        Topic::TooLong => "too-long",
-        Topic::Lexeme(_, _) => "lexeme",
-        Topic::OpenComment => "open-comment",
-        Topic::TooDeep => "too-deep",
-        Topic::Syntax(_) => "syntax",
-        Topic::TooMany => "too-many-modules",
-        Topic::Twice(_) => "twice",
-        Topic::Twin(_) => "twice",
-        Topic::Missing(_) => "missing",
-        Topic::Cycle(_) => "cycle",
-        Topic::Exhausted(_) => "no-memory",
-        Topic::Limit => "limit",
-        Topic::Step(_, _) => "import",
-        Topic::Hidden(_, _) => "hidden",
-    }
-}
-
-// Why: docs/DECISIONS.md, "Names of files".
-/// Returns the name that a topic is about, if it is about one.
-pub(crate) fn name_in<'a>(topic: &Topic<'a>) -> Option<&'a str>
-    ensures { option_map (λ name. name.now) result ≡ name_in (subject_of topic.now) }
-{
-    match topic {
-        Topic::Fault(_, named) => Some(named.name),
-        Topic::Replaceable(name, _) => Some(name),
-        Topic::Mistyped(name, _) => Some(name),
-        Topic::Unsigned(name, _, _) => Some(name),
-        Topic::Faulty(name) => Some(name),
-        Topic::Skipped(name) => Some(name),
-        Topic::TooLong => None,
-        Topic::Lexeme(_, _) => None,
-        Topic::OpenComment => None,
-        Topic::TooDeep => None,
-        Topic::Syntax(_) => None,
-        Topic::TooMany => None,
-        Topic::Twice(name) => Some(name),
-        Topic::Twin(name) => Some(name),
-        Topic::Missing(name) => Some(name),
-        Topic::Cycle(name) => Some(name),
-        Topic::Exhausted(name) => Some(name),
-        Topic::Limit => None,
-        Topic::Step(_, import) => Some(import),
-        Topic::Hidden(_, name) => Some(name),
-    }
-}
-
-/// Returns the type that is expected at a part, if a topic has two types.
-pub(crate) fn expected_in<'a>(topic: &Topic<'a>) -> Option<&'a str>
-    ensures { option_map (λ text. text.now) result ≡ expected_in (subject_of topic.now) }
-{
-    match topic {
-        Topic::Mistyped(_, types) => Some(types.expected),
-        _ => None,
-    }
-}
-
-/// Returns the type that a part or a definition has, if a topic has it.
-pub(crate) fn actual_in<'a>(topic: &Topic<'a>) -> Option<&'a str>
-    ensures { option_map (λ text. text.now) result ≡ actual_in (subject_of topic.now) }
-{
-    match topic {
-        Topic::Mistyped(_, types) => Some(types.actual),
-        Topic::Unsigned(_, _, own) => Some(own),
-        _ => None,
-    }
-}
-
-/// Returns the other place that a topic names, if it names one.
-pub(crate) fn other_in(topic: &Topic<'_>) -> Option<Position>
-    ensures { result ≡ other_in (subject_of topic.now) }
-{
-    match topic {
-        Topic::Fault(_, named) => named.other,
-        Topic::Replaceable(_, _) => None,
-        Topic::Mistyped(_, _) => None,
-        Topic::Unsigned(_, _, _) => None,
-        Topic::Faulty(_) => None,
-        Topic::Skipped(_) => None,
-        Topic::TooLong => None,
-        Topic::Lexeme(_, _) => None,
-        Topic::OpenComment => None,
-        Topic::TooDeep => None,
-        Topic::Syntax(_) => None,
-        Topic::TooMany => None,
-        Topic::Twice(_) => None,
-        Topic::Twin(_) => None,
-        Topic::Missing(_) => None,
-        Topic::Cycle(_) => None,
-        Topic::Exhausted(_) => None,
-        Topic::Limit => None,
-        Topic::Step(_, _) => None,
-        Topic::Hidden(_, _) => None,
-    }
 }
 
 /// Returns the word of a level, after the escape that begins its colour.
@@ -305,10 +171,10 @@ pub(crate) fn heading(
     let title = title(alloc, topic)?;
     let says = shown(alloc, title.as_bytes())?;
     let says = says.as_str();
-    let level = level_of(topic);
-    let tag = tag(alloc, level, kind_of(topic))?;
+    let notice = notice_of(topic);
+    let tag = tag(alloc, notice.level, notice.kind)?;
     let tag = tag.as_str();
-    let begin = begin(paint, level);
+    let begin = begin(paint, notice.level);
     let end = end(paint);
     let Place { line, column } = place;
     format!(in alloc; ":{line}:{column}: {begin}{end}: {says}{tag}\n")

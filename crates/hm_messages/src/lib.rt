@@ -10,6 +10,7 @@ mod heading;
 pub mod laws;
 mod messages;
 mod missing;
+mod notices;
 mod objects;
 mod pages;
 mod refusals;

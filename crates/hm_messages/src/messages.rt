@@ -8,9 +8,9 @@ ghost use Rattle.hm_messages.specs.Messages.{HasNoReaderPlace, IsHeadingAt, IsMe
 ghost use Rattle.hm_messages.specs.Subjects.{subject_of};
 
 use crate::heading::{Paint, heading};
+use crate::notices::notice_of;
 use crate::objects::object;
 use crate::pages::Page;
-use crate::sentences::sentence;
 use crate::topic::Topic;
 use hm_lex::Place;
 use hm_messages_excerpts::{add_excerpt, shown};
@@ -101,7 +101,7 @@ fn prose(
         return Ok(Vec::new(alloc));
     };
     let mut text = first_line(alloc, paint, page, told, topic)?;
-    text.extend_from_slice(sentence(topic).as_bytes())?;
+    text.extend_from_slice(notice_of(topic).sentence.as_bytes())?;
     add_excerpt(alloc, &mut text, &excerpt)?;
     Ok(text)
 }

@@ -4,9 +4,9 @@ ghost use Rattle.hm_messages_excerpts.specs.Excerpts.{IsPlaceIn};
 ghost use Rattle.hm_messages.specs.Messages.{IsHint, IsObject, IsPositionAt, IsRangeAt, NamesModule};
 ghost use Rattle.hm_messages.specs.Subjects.{subject_of};
 
-use crate::heading::{actual_in, expected_in, kind_of, level_of, name_in, other_in, title};
+use crate::heading::title;
+use crate::notices::notice_of;
 use crate::pages::Page;
-use crate::sentences::sentence;
 use crate::topic::Topic;
 use hm_lex::Place;
 use hm_messages_json::{Message, Position, message_line};
@@ -72,7 +72,8 @@ pub(crate) fn object(
     };
     let file = String::from_utf8_lossy(alloc, page.file)?;
     let text = title(alloc, topic)?;
-    let hint = hint_in(alloc, sentence(topic))?;
+    let notice = notice_of(topic);
+    let hint = hint_in(alloc, notice.sentence)?;
     let hint = match &hint {
         Some(hint) => Some(hint.as_str()),
         None => None,
@@ -81,15 +82,15 @@ pub(crate) fn object(
         file: file.as_str(),
         start,
         end,
-        level: level_of(topic),
-        kind: kind_of(topic),
+        level: notice.level,
+        kind: notice.kind,
         module: page.modules.module_at(place),
-        name: name_in(topic),
-        other: other_in(topic),
+        name: notice.name,
+        other: notice.other,
         text: text.as_str(),
         hint,
-        expected: expected_in(topic),
-        actual: actual_in(topic),
+        expected: notice.expected,
+        actual: notice.actual,
     };
     let line = message_line(alloc, &message)?;
     Ok(Vec::from_slice(alloc, line.as_bytes())?)

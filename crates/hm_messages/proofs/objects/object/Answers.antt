@@ -2,7 +2,7 @@ use Rattle.std.proofs.Common.{rules, ◌≡◌, ℕ, List, inl, option_map, stri
 use Rattle.hm_messages_json.specs.declared.message.Message.{Message}
 use Rattle.hm_messages.specs.Messages.{IsHint}
 use Rattle.hm_messages.specs.ModuleStarts.{IsModuleAround}
-use Rattle.hm_messages.specs.Sentences.{sentence}
+use Rattle.hm_messages.specs.Notices.{notice_of}
 use Rattle.hm_messages.specs.Subjects.{subject_of}
 use Rattle.hm_messages.proofs.objects.object.Goals as goal
 use Rattle.hm_messages.proofs.objects.object.Goals.{in-Some-hint, in-None}
@@ -13,15 +13,15 @@ returns-clause-told c =
       file = c.as_str-2.result;
       start = c.in-Some.start;
       end = c.in-Some.end;
-      level = c.level_of.result;
-      kind = c.kind_of.result;
+      level = c.notice_of.result.level;
+      kind = c.notice_of.result.kind;
       «module» = c.module_at.result;
-      name = c.name_in.result;
-      other = c.other_in.result;
+      name = c.notice_of.result.name;
+      other = c.notice_of.result.other;
       text = c.as_str-3.result;
       hint = c.match-hint.hint;
-      expected = c.expected_in.result;
-      actual = c.actual_in.result;
+      expected = c.notice_of.result.expected;
+      actual = c.notice_of.result.actual;
     } in
     let hint_same : option_map string_bytes c.in_ok-hint.hint ≡ option_map (λ hint. hint.now) c.match-hint.hint = elim c.match-hint.branch [
       | in-Some-hint w ↦ search rules
@@ -39,7 +39,7 @@ returns-clause-told c =
         text_is = search rules;
         expected_is = search rules;
         actual_is = search rules;
-        hint_is = subst (IsHint (sentence (subject_of c.args.topic.now))) hint_same (search rules);
+        hint_is = subst (IsHint (notice_of (subject_of c.args.topic.now)).sentence) hint_same (search rules);
       };
       module_is = subst (λ (s : List ℕ). IsModuleAround s c.args.place (option_map (λ name. name.now) c.module_at.result)) c.args.page.now.same c.module_at.ensures.spelled;
       says = search rules;
@@ -51,15 +51,15 @@ returns-clause-among c =
       file = c.as_str-2.result;
       start = c.in-Some.start;
       end = c.in-Some.end;
-      level = c.level_of.result;
-      kind = c.kind_of.result;
+      level = c.notice_of.result.level;
+      kind = c.notice_of.result.kind;
       «module» = c.module_at.result;
-      name = c.name_in.result;
-      other = c.other_in.result;
+      name = c.notice_of.result.name;
+      other = c.notice_of.result.other;
       text = c.as_str-3.result;
       hint = c.match-hint.hint;
-      expected = c.expected_in.result;
-      actual = c.actual_in.result;
+      expected = c.notice_of.result.expected;
+      actual = c.notice_of.result.actual;
     } in
     inl (record {
       message = told;
