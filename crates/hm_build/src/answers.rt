@@ -1,12 +1,12 @@
 //! The result of a run before it is written: a text, a status and messages.
 ghost use Rattle.std.specs.Prelude.{◌≡◌, ◌⊎◌, ◌<◌, ◌≤◌, None, IfOk, IfErr, IfSome, map, string_bytes};
-ghost use Rattle.hm_build_messages.specs.Explained.{IsExplained, TellsExhaustion};
+ghost use Rattle.hm_build_messages.specs.Explained.{IsExplained, StatesExhaustion};
 ghost use Rattle.hm_build_output.specs.JournalledRuns.{IsRun};
 
 use crate::building::{Task, build_here};
 use crate::{BuildFault, Finished, Open, Options};
 use hm_build_output::{
-    Explained, Wanted, exhausted_message, finished_explained, refused_explained,
+    Explained, RunOptions, exhausted_message, finished_explained, refused_explained,
 };
 use hm_build_stages::drop_by_threads;
 use hm_run_io::RunFault;
@@ -69,21 +69,21 @@ pub(crate) fn build_answer<'a, T: Threads + Wait + Sync>(
     rt: &T,
     alloc: Global,
     sources: &'a [Vec<u8>],
-    wanted: &'a Wanted,
+    run_options: &'a RunOptions,
     nesting: Nesting,
 ) -> Result<Explained, Unanswered>
-    requires { (0 < wanted.now.options.workers) × (wanted.now.options.workers ≤ 16) }
-    ensures ok { IfOk result (λ a. IsRun wanted.now.options.workers wanted.now.options.journal (map (λ s.
+    requires { (0 < run_options.now.options.workers) × (run_options.now.options.workers ≤ 16) }
+    ensures ok { IfOk result (λ a. IsRun run_options.now.options.workers run_options.now.options.journal (map (λ s.
         s.items) sources.now) a.answer.status (string_bytes a.answer.text)) }
-    ensures told { IfOk result (λ a. IfSome wanted.now.explain (λ e.
+    ensures told { IfOk result (λ a. IfSome run_options.now.explain (λ e.
         IsExplained e.paint (map (λ s. s.items) e.names.items) (map (λ s.
         s.items) sources.now) a.answer.status (string_bytes a.answer.text) a.messages.items)) }
     ensures err { IfErr result (λ e. (e.fault ≡ RunFault.Memory) ⊎ ((e.fault ≡ RunFault.NoWorker) ⊎ (e.fault ≡ RunFault.Mixed))) }
-    ensures exhausted { IfErr result (λ e. IfSome e.message (λ m. IfSome wanted.now.explain (λ x.
-        TellsExhaustion x.paint (map (λ s. s.items) x.names.items) (map (λ s. s.items) sources.now) m.items))) }
+    ensures exhausted { IfErr result (λ e. IfSome e.message (λ m. IfSome run_options.now.explain (λ x.
+        StatesExhaustion x.paint (map (λ s. s.items) x.names.items) (map (λ s. s.items) sources.now) m.items))) }
     ensures silent { IfErr result (λ e. (e.fault ≡ RunFault.Memory) ⊎ (e.message ≡ None)) }
 {
-    let workers = wanted.options.workers;
+    let workers = run_options.options.workers;
     let task = Task {
         workers,
         gate: &Open,
@@ -92,16 +92,22 @@ pub(crate) fn build_answer<'a, T: Threads + Wait + Sync>(
     match build_here(rt, alloc, sources, task) {
         Ok(finished) => {
             let counts = finished.counts.as_slice();
-            let explained = finished_explained(alloc, &finished.store, counts, sources, wanted)?;
-            let_go(rt, alloc, finished, wanted.options, nesting);
+            let explained = finished_explained(
+                alloc,
+                &finished.store,
+                counts,
+                sources,
+                run_options,
+            )?;
+            let_go(rt, alloc, finished, run_options.options, nesting);
             Ok(explained)
         }
         Err(BuildFault::Refused(refused)) => {
-            Ok(refused_explained(alloc, sources, &refused, wanted)?)
+            Ok(refused_explained(alloc, sources, &refused, run_options)?)
         }
         Err(BuildFault::Exhausted(module)) => Err(Unanswered {
             fault: RunFault::Memory,
-            message: exhausted_message(alloc, sources, wanted, &module),
+            message: exhausted_message(alloc, sources, run_options, &module),
         }),
         Err(BuildFault::Workers) => unreachable!(),
         Err(BuildFault::NoWorker) => Err(Unanswered::of(RunFault::NoWorker)),

@@ -1,7 +1,7 @@
 //! Runs with two writers: one for the report, one for the messages that explain it.
 ghost use Rattle.std.specs.Prelude.{◌≡◌, ◌<◌, ◌⊎◌, ◌↔◌, ℕ, List, All, Any, IfOk, IfErr, IsErrOf, OnErr, OnOk, map};
 ghost use Rattle.std.specs.Io.KnownBytes.{Appends};
-ghost use Rattle.hm_build_messages.specs.Explained.{IsExplained, IsToldTo, TellsExhaustion};
+ghost use Rattle.hm_build_messages.specs.Explained.{IsExplained, IsStatedTo, StatesExhaustion};
 ghost use Rattle.hm_build_output.specs.JournalledRuns.{IsRun};
 ghost use Rattle.hm_run_io.specs.Sources.{AreReadUp, Stops, StopsAtFault, Tell, WritesPrefix, held_of};
 ghost use Rattle.hm_run_sources.specs.declared.status.Status.{Status};
@@ -9,7 +9,7 @@ ghost use Rattle.hm_run_io.specs.Watching.{device_of, failures_of, HasReadFault,
 
 use crate::Explaining;
 use crate::reading::read_and_check;
-use hm_build_output::Wanted;
+use hm_build_output::RunOptions;
 use hm_run_io::{RunFault, Watched, write_text};
 use hm_run_sources::Status;
 use std::alloc::Global;
@@ -40,7 +40,7 @@ pub fn run_explained<T: Threads + Wait + Sync, R: Read, W: Write, E: Write>(
     alloc: Global,
     readers: &mut [Watched<R>],
     outputs: &mut Outputs<W, E>,
-    wanted: Explaining,
+    run_options: Explaining,
 ) -> Result<Status, RunFault>
     requires readers { All IsFresh readers.old }
     requires writer { IsFresh outputs.old.writer }
@@ -48,29 +48,29 @@ pub fn run_explained<T: Threads + Wait + Sync, R: Read, W: Write, E: Write>(
 
     // The second writer got messages that explain what was printed: all of them, or a prefix if it failed.
     ensures told { IfOk result (λ status. (sources : List (List ℕ)) → Tell (λ r. R.remaining (device_of r)) readers.old sources
-        → (text : List ℕ) × (messages : List ℕ) × IsExplained wanted.explain.paint (map (λ s.
-        s.items) wanted.explain.names.items) (map held_of sources) status text messages
+        → (text : List ℕ) × (messages : List ℕ) × IsExplained run_options.explain.paint (map (λ s.
+        s.items) run_options.explain.names.items) (map held_of sources) status text messages
         × Appends (W.contents (device_of outputs.old.writer)) (W.contents (device_of outputs.new.writer)) text
-        × IsToldTo (E.contents (device_of outputs.old.errors)) (E.contents (device_of outputs.new.errors)) messages (HasWriteFault outputs.new.errors)) }
+        × IsStatedTo (E.contents (device_of outputs.old.errors)) (E.contents (device_of outputs.new.errors)) messages (HasWriteFault outputs.new.errors)) }
     // Without a report there are no messages, except one if memory ran out.
-    ensures untold { OnErr result ((outputs.new.errors ≡ outputs.old.errors) ⊎ IsErrOf result RunFault.Memory) }
+    ensures unstated { OnErr result ((outputs.new.errors ≡ outputs.old.errors) ⊎ IsErrOf result RunFault.Memory) }
     // That message names a module of the sources whose check ran out of memory. The writer got all of it, or a prefix if it failed.
     ensures exhausted { IsErrOf result RunFault.Memory → (sources : List (List ℕ)) → Tell (λ r. R.remaining (device_of r)) readers.old sources
-        → (outputs.new.errors ≡ outputs.old.errors) ⊎ ((message : List ℕ) × TellsExhaustion wanted.explain.paint (map (λ s.
-        s.items) wanted.explain.names.items) (map held_of sources) message
-        × IsToldTo (E.contents (device_of outputs.old.errors)) (E.contents (device_of outputs.new.errors)) message (HasWriteFault outputs.new.errors)) }
+        → (outputs.new.errors ≡ outputs.old.errors) ⊎ ((message : List ℕ) × StatesExhaustion run_options.explain.paint (map (λ s.
+        s.items) run_options.explain.names.items) (map held_of sources) message
+        × IsStatedTo (E.contents (device_of outputs.old.errors)) (E.contents (device_of outputs.new.errors)) message (HasWriteFault outputs.new.errors)) }
 
     // The other clauses are those of `run`.
 
     // If readers and writer report their bytes exactly, the report or the refusal is written, and nothing else.
     ensures ok { IfOk result (λ status. (sources : List (List ℕ)) → Tell (λ r. R.remaining (device_of r)) readers.old sources
-        → (text : List ℕ) × IsRun wanted.options.workers wanted.options.journal sources status text
+        → (text : List ℕ) × IsRun run_options.options.workers run_options.options.journal sources status text
         × Appends (W.contents (device_of outputs.old.writer)) (W.contents (device_of outputs.new.writer)) text) }
     // The writer was flushed once, after that text.
     ensures flushed { OnOk result (IsFlushedBehind outputs.new.writer) }
     // If the writer failed, it got a prefix of that text.
     ensures prefix { IsErrOf result RunFault.Write → (sources : List (List ℕ)) → Tell (λ r. R.remaining (device_of r)) readers.old sources
-        → (status : Status) × (text : List ℕ) × IsRun wanted.options.workers wanted.options.journal sources status text
+        → (status : Status) × (text : List ℕ) × IsRun run_options.options.workers run_options.options.journal sources status text
         × WritesPrefix (W.contents (device_of outputs.old.writer)) (W.contents (device_of outputs.new.writer)) text }
     // After any other fault nothing was written.
     ensures nothing { OnErr result ((outputs.new.writer ≡ outputs.old.writer) ⊎ IsErrOf result RunFault.Write) }
@@ -98,17 +98,17 @@ pub fn run_explained<T: Threads + Wait + Sync, R: Read, W: Write, E: Write>(
     ensures written { IsErrOf result RunFault.Write ⊎ IsWritten outputs.new.writer }
 
     // Each fault has its cause.
-    ensures workers { IsErrOf result RunFault.Workers ↔ ((wanted.options.workers ≡ 0) ⊎ (16 < wanted.options.workers)) }
+    ensures workers { IsErrOf result RunFault.Workers ↔ ((run_options.options.workers ≡ 0) ⊎ (16 < run_options.options.workers)) }
     ensures read { IsErrOf result RunFault.Read → Any HasReadFault readers.new }
     ensures write { IsErrOf result RunFault.Write → HasWriteFault outputs.new.writer }
     ensures others { IfErr result (λ e. (e ≡ RunFault.Workers)
         ⊎ ((e ≡ RunFault.Read) ⊎ ((e ≡ RunFault.Write) ⊎ ((e ≡ RunFault.Memory) ⊎ ((e ≡ RunFault.NoWorker) ⊎ (e ≡ RunFault.Mixed)))))) }
 {
-    let Explaining { options, explain } = wanted;
+    let Explaining { options, explain } = run_options;
     let explain = Some(explain);
     let mut note = None;
-    let wanted = Wanted { options, explain };
-    let explained = match read_and_check(rt, alloc, readers, wanted, &mut note) {
+    let run_options = RunOptions { options, explain };
+    let explained = match read_and_check(rt, alloc, readers, run_options, &mut note) {
         Ok(explained) => explained,
         Err(fault) => {
             if let Some(message) = note {

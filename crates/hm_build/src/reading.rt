@@ -1,12 +1,12 @@
 //! Reads sources and checks them. Writing the result is left to the callers.
 ghost use Rattle.std.specs.Prelude.{◌≡◌, ◌<◌, ◌⊎◌, ◌↔◌, ℕ, List, None, All, Any, IfOk, IfErr, IfSome, IsErrOf, OnOk, map, string_bytes};
-ghost use Rattle.hm_build_messages.specs.Explained.{IsExplained, TellsExhaustion};
+ghost use Rattle.hm_build_messages.specs.Explained.{IsExplained, StatesExhaustion};
 ghost use Rattle.hm_build_output.specs.JournalledRuns.{IsRun};
 ghost use Rattle.hm_run_io.specs.Sources.{AreReadUp, Stops, StopsAtFault, Tell, held_of};
 ghost use Rattle.hm_run_io.specs.Watching.{device_of, failures_of, HasReadFault, IsFresh, IsReadWithin};
 
 use crate::stacks::build_answer_on_thread;
-use hm_build_output::{Explained, Wanted};
+use hm_build_output::{Explained, RunOptions};
 use hm_build_reports::may_work;
 use hm_run_io::{RunFault, Watched, read_all};
 use std::alloc::Global;
@@ -24,18 +24,18 @@ pub(crate) fn read_and_check<T: Threads + Wait + Sync, R: Read>(
     rt: &T,
     alloc: Global,
     readers: &mut [Watched<R>],
-    wanted: Wanted,
+    run_options: RunOptions,
     note: &mut Option<Vec<u8>>,
 ) -> Result<Explained, RunFault>
     requires readers { All IsFresh readers.old }
     requires note { note.old ≡ None }
     ensures ok { IfOk result (λ a. (sources : List (List ℕ)) → Tell (λ r. R.remaining (device_of r)) readers.old sources
-        → IsRun wanted.options.workers wanted.options.journal sources a.answer.status (string_bytes a.answer.text)) }
+        → IsRun run_options.options.workers run_options.options.journal sources a.answer.status (string_bytes a.answer.text)) }
     ensures told { IfOk result (λ a. (sources : List (List ℕ)) → Tell (λ r. R.remaining (device_of r)) readers.old sources
-        → IfSome wanted.explain (λ e. IsExplained e.paint (map (λ s.
+        → IfSome run_options.explain (λ e. IsExplained e.paint (map (λ s.
         s.items) e.names.items) (map held_of sources) a.answer.status (string_bytes a.answer.text) a.messages.items)) }
     ensures exhausted { IfSome note.new (λ m. (sources : List (List ℕ)) → Tell (λ r. R.remaining (device_of r)) readers.old sources
-        → IfSome wanted.explain (λ e. TellsExhaustion e.paint (map (λ s. s.items) e.names.items) (map held_of sources) m.items)) }
+        → IfSome run_options.explain (λ e. StatesExhaustion e.paint (map (λ s. s.items) e.names.items) (map held_of sources) m.items)) }
     ensures silent { IsErrOf result RunFault.Memory ⊎ (note.new ≡ None) }
     ensures unread { IsErrOf result RunFault.Workers → readers.new ≡ readers.old }
     ensures read_up { OnOk result (AreReadUp (λ r. R.remaining (device_of r)) readers.old readers.new) }
@@ -46,16 +46,16 @@ pub(crate) fn read_and_check<T: Threads + Wait + Sync, R: Read>(
         R.remaining (device_of r)) readers.old readers.new }
     ensures within { All IsReadWithin readers.new }
     ensures failed { IsErrOf result RunFault.Read ⊎ All (λ r. failures_of r ≡ 0) readers.new }
-    ensures workers { IsErrOf result RunFault.Workers ↔ ((wanted.options.workers ≡ 0) ⊎ (16 < wanted.options.workers)) }
+    ensures workers { IsErrOf result RunFault.Workers ↔ ((run_options.options.workers ≡ 0) ⊎ (16 < run_options.options.workers)) }
     ensures read { IsErrOf result RunFault.Read → Any HasReadFault readers.new }
     ensures others { IfErr result (λ e. (e ≡ RunFault.Workers)
         ⊎ ((e ≡ RunFault.Read) ⊎ ((e ≡ RunFault.Memory) ⊎ ((e ≡ RunFault.NoWorker) ⊎ (e ≡ RunFault.Mixed))))) }
 {
-    if !may_work(wanted.options.workers) {
+    if !may_work(run_options.options.workers) {
         return Err(RunFault::Workers);
     }
     let sources = read_all(alloc, readers)?;
-    match build_answer_on_thread(rt, alloc, sources, wanted) {
+    match build_answer_on_thread(rt, alloc, sources, run_options) {
         Ok(explained) => Ok(explained),
         Err(unanswered) => {
             *note = unanswered.message;

@@ -8,7 +8,7 @@ ghost use Rattle.hm_run_io.specs.Watching.{device_of, failures_of, HasReadFault,
 
 use crate::Options;
 use crate::reading::read_and_check;
-use hm_build_output::Wanted;
+use hm_build_output::RunOptions;
 use hm_run_io::{RunFault, Watched, write_text};
 use hm_run_sources::Status;
 use std::alloc::Global;
@@ -81,7 +81,13 @@ pub fn run<T: Threads + Wait + Sync, R: Read, W: Write>(
 {
     let explain = None;
     let mut note = None;
-    let explained = read_and_check(rt, alloc, readers, Wanted { options, explain }, &mut note)?;
+    let explained = read_and_check(
+        rt,
+        alloc,
+        readers,
+        RunOptions { options, explain },
+        &mut note,
+    )?;
     write_text(writer, explained.answer.text.as_bytes())?;
     Ok(explained.answer.status)
 }

@@ -10,7 +10,7 @@ use Rattle.hm_syntax.specs.declared.ast.Import.{Import}
 use Rattle.hm_syntax.specs.declared.ast.Module.{Module}
 use Rattle.hm_verdicts.specs.Sets.{no_module}
 use Rattle.hm_verdicts.specs.Verdicts.{Status}
-use Rattle.hm_build_messages.specs.Explanations.{IsBlamedBy, IsToldBy, blamed_of}
+use Rattle.hm_build_messages.specs.Explanations.{IsBlamedBy, IsStatedBy, blamed_of}
 use Rattle.hm_build_messages.specs.declared.explaining.Blame.{Blame}
 
 pub named_through : (bs : List Blame) → map (λ b. b.name) (map blamed_of bs) ≡ map (λ (b : Blame). b.name.now) bs
@@ -31,7 +31,7 @@ all_more P xs o h s = All-append P xs (option_to_list o) h (of_option P o s)
 -- an import of which one of the modules in the row has the name
 pub blamed_here : (modules : List Module) (status : ℕ → Status) (row : List ℕ) (imports : List Import) (o : Option Blame) (import : Import) (j : ℕ) (name : List ℕ) (place : Place)
     → Contains imports import → import.name.text ≡ name → place ≡ record { line = import.name.line; column = import.name.column } → Contains row j → (get_or modules j no_module).header.name.text ≡ name
-    → IfSome o (λ b. b.name.now ≡ name) → IfSome o (λ b. b.place ≡ place) → IfSome o (λ b. IsToldBy (status j) name (blamed_of b).subject) → IfSome o (λ b. IsBlamedBy modules status row imports (blamed_of b))
+    → IfSome o (λ b. b.name.now ≡ name) → IfSome o (λ b. b.place ≡ place) → IfSome o (λ b. IsStatedBy (status j) name (blamed_of b).subject) → IfSome o (λ b. IsBlamedBy modules status row imports (blamed_of b))
 blamed_here modules status row imports None import j name place written called placed imported named n p t = n
 blamed_here modules status row imports (Some b) import j name place written called placed imported named n p t = record {
   import = import;
@@ -41,7 +41,7 @@ blamed_here modules status row imports (Some b) import j name place written call
   number = j;
   imported = imported;
   named = named ∙ sym n;
-  told = subst (λ (x : List ℕ). IsToldBy (status j) x (blamed_of b).subject) (sym n) t;
+  told = subst (λ (x : List ℕ). IsStatedBy (status j) x (blamed_of b).subject) (sym n) t;
 }
 
 -- an element of a list doesn't go by what a longer list would have

@@ -13,7 +13,7 @@ use Rattle.hm_messages.specs.Pages.{files_in, texts_in}
 use Rattle.hm_messages.specs.declared.heading.Paint.{Paint}
 use Rattle.hm_messages.specs.declared.pages.Page.{Page}
 use Rattle.hm_messages.proofs.AtPage.{file_is, text_is}
-use Rattle.hm_build_messages.specs.Explanations.{AreFaultsTold, AreInTurn, IsFaultTold}
+use Rattle.hm_build_messages.specs.Explanations.{AreFaultsStated, AreInTurn, IsFaultStated}
 
 published_more : (status : ℕ → Status) (js : List ℕ) (fs : List Interface) (j : ℕ) (f : Interface) → ArePublished status js fs → status j ≡ Published f → ArePublished status (js ++ j ∷ []) (fs ++ f ∷ [])
 published_more status [] [] j f h e = (e, tt)
@@ -48,7 +48,7 @@ looked_up b j f e = settled_with (kept_at b.kept j) f e
 
 -- what is told of faults by a page is told by the pages that it stands among
 pub at_page : (paint : Paint) (pages : List Page) (source : ℕ) (page : Page) (p : ModuleSet) (status : ℕ → Status) (i : ℕ) (faults : List Fault) (before after : Bool) (text : List ℕ) → source < length pages → page ≡ get_or pages source page
-    → AreInTurn (IsFaultTold paint page.file.now page.lines p status i) faults before after text → AreFaultsTold paint (files_in pages) (texts_in pages) source p status i faults before after text
+    → AreInTurn (IsFaultStated paint page.file.now page.lines p status i) faults before after text → AreFaultsStated paint (files_in pages) (texts_in pages) source p status i faults before after text
 at_page paint pages source page p status i faults before after text inside is told =
-    subst (λ (s : List ℕ). AreInTurn (IsFaultTold paint (get_or (files_in pages) source []) s p status i) faults before after text) (text_is pages source page inside is)
-    (subst (λ (f : List ℕ). AreInTurn (IsFaultTold paint f page.lines p status i) faults before after text) (file_is pages source page inside is) told)
+    subst (λ (s : List ℕ). AreInTurn (IsFaultStated paint (get_or (files_in pages) source []) s p status i) faults before after text) (text_is pages source page inside is)
+    (subst (λ (f : List ℕ). AreInTurn (IsFaultStated paint f page.lines p status i) faults before after text) (file_is pages source page inside is) told)

@@ -8,7 +8,7 @@ use Rattle.hm_messages.specs.Refused.{AreRefusalMessages}
 use Rattle.hm_messages.specs.declared.heading.Paint.{Paint}
 use Rattle.hm_messages.proofs.InOrder.{each_more}
 use Rattle.hm_run_sources.specs.Refusals.{Refusal}
-use Rattle.hm_build_messages.specs.FurtherTold.{IsFirstTold, IsMessageOf}
+use Rattle.hm_build_messages.specs.FurtherStated.{IsFirstStated, IsMessageOf}
 
 faults_more : (n : ℕ) (ss : List (List ℕ)) (s : List ℕ) (faults : List Refusal) (first : Option Refusal) → AreFirstFaults n ss faults → IsFirstFault (n + length ss) s first
     → AreFirstFaults n (ss ++ s ∷ []) (faults ++ option_to_list first)
@@ -28,14 +28,14 @@ module _ (paint : Paint) (files sources : List (List ℕ)) where
   Tells r t = AreRefusalMessages paint files sources r 1 t
 
   -- the sources from one up to another, counted from 0, are told, with as many errors
-  pub record AreTold (from to errors : ℕ) (text : List ℕ) : Type 0 where
+  pub record AreStated (from to errors : ℕ) (text : List ℕ) : Type 0 where
     pub faults : List Refusal
     pub first : AreFirstFaults (from + 1) (drop from (take to sources)) faults
     pub each : AreEach Tells faults text
     pub count : errors ≡ length faults
     pub within : errors ≤ to
 
-  module _ (from to errors : ℕ) (text : List ℕ) (low : from ≤ to) (within : to < length sources) (told : AreTold from to errors text) where
+  module _ (from to errors : ℕ) (text : List ℕ) (low : from ≤ to) (within : to < length sources) (told : AreStated from to errors text) where
     behind : drop from (take (to + 1) sources) ≡ drop from (take to sources) ++ get_or sources to [] ∷ []
     behind =
         ap (drop from) (take_more sources to [] within)
@@ -51,7 +51,7 @@ module _ (paint : Paint) (files sources : List (List ℕ)) where
         (faults_more (from + 1) (drop from (take to sources)) (get_or sources to []) told.faults first told.first (subst (λ k. IsFirstFault k (get_or sources to []) first) number h))
 
     with_message : (first : Option Refusal) (message : List ℕ) → IsFirstFault (to + 1) (get_or sources to []) first → IsMessageOf Tells first (Some message)
-        → AreTold from (to + 1) (errors + 1) (text ++ message)
+        → AreStated from (to + 1) (errors + 1) (text ++ message)
     with_message None message h none = elim none [ ]
     with_message (Some r) message h tells = record {
       faults = told.faults ++ r ∷ [];
@@ -61,7 +61,7 @@ module _ (paint : Paint) (files sources : List (List ℕ)) where
       within = omega (arith, told.within);
     }
 
-    without : (first : Option Refusal) → IsFirstFault (to + 1) (get_or sources to []) first → IsMessageOf Tells first None → AreTold from (to + 1) errors text
+    without : (first : Option Refusal) → IsFirstFault (to + 1) (get_or sources to []) first → IsMessageOf Tells first None → AreStated from (to + 1) errors text
     without (Some r) h none = elim none [ ]
     without None h tells = record {
       faults = told.faults ++ [];
@@ -71,8 +71,8 @@ module _ (paint : Paint) (files sources : List (List ℕ)) where
       within = omega (arith, told.within);
     }
 
-    pub told_more : (message : List ℕ) → IsFirstTold paint files sources to (Some message) → AreTold from (to + 1) (errors + 1) (text ++ message)
+    pub told_more : (message : List ℕ) → IsFirstStated paint files sources to (Some message) → AreStated from (to + 1) (errors + 1) (text ++ message)
     told_more message h = with_message h.0 message h.1 h.2
 
-    pub told_none : IsFirstTold paint files sources to None → AreTold from (to + 1) errors text
-    told_none h = without h.0 h.1 h.2
+    pub stated_none : IsFirstStated paint files sources to None → AreStated from (to + 1) errors text
+    stated_none h = without h.0 h.1 h.2

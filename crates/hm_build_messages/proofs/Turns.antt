@@ -10,7 +10,7 @@ use Rattle.hm_verdicts.specs.Verdicts.{Status}
 use Rattle.hm_messages.specs.Messages.{AreEach, IsFaultMessage, IsMessage}
 use Rattle.hm_messages.specs.Subjects.{limit}
 use Rattle.hm_messages.specs.declared.heading.Paint.{Paint}
-use Rattle.hm_build_messages.specs.Explanations.{AreInTurn, IsFaultTold, IsFaultyTold, IsLimitNote, IsNoted}
+use Rattle.hm_build_messages.specs.Explanations.{AreInTurn, IsFaultStated, IsFaultyStated, IsLimitNote, IsNoted}
 use Rattle.hm_build_messages.specs.WorkedLimits.{IsAlone, LimitsRow}
 
 -- one more at the end
@@ -84,16 +84,16 @@ alone paint file source name fs f after text h =
     let is : text ≡ h.message = h.whole ∙ (ap (λ (l : List ℕ). (h.message ++ h.notes) ++ l) again.1 ∙ (append-nil (h.message ++ h.notes) ∙ (ap (λ (l : List ℕ). h.message ++ l) (h.silent refl) ∙ append-nil h.message))) in
     (again.0, (nothing, subst (IsFaultMessage paint file source f nothing) (sym is) h.says))
 
-fault_alone : (paint : Paint) (file source : List ℕ) (p : ModuleSet) (status : ℕ → Status) (i : ℕ) (f : Fault) (after : Bool) (text : List ℕ) → IsFaultTold paint file source p status i f true after text → (after ≡ true) × IsAlone paint file source f text
+fault_alone : (paint : Paint) (file source : List ℕ) (p : ModuleSet) (status : ℕ → Status) (i : ℕ) (f : Fault) (after : Bool) (text : List ℕ) → IsFaultStated paint file source p status i f true after text → (after ≡ true) × IsAlone paint file source f text
 fault_alone paint file source p status i f after text (inl h) = (h.0, (h.1.known, h.1.told))
 fault_alone paint file source p status i f after text (inr h) = alone paint file source _ h.0 f after text h.2
 
 told_once : (paint : Paint) (files texts : List (List ℕ)) (source : ℕ) (p : ModuleSet) (status : ℕ → Status) (i : ℕ) (faults : List Fault) (after : Bool) (text : List ℕ)
-    → IsFaultyTold paint files texts source p status i faults true after text → (after ≡ true) × AreEach (IsAlone paint (get_or files source []) (get_or texts source [])) faults text
+    → IsFaultyStated paint files texts source p status i faults true after text → (after ≡ true) × AreEach (IsAlone paint (get_or files source []) (get_or texts source [])) faults text
 told_once paint files texts source p status i faults after text h =
     let file = get_or files source [] in
     let lines = get_or texts source [] in
-    let rest = silent_turn (IsFaultTold paint file lines p status i) (IsAlone paint file lines) (λ f c t k. fault_alone paint file lines p status i f c t k) faults after h.messages h.told in
+    let rest = silent_turn (IsFaultStated paint file lines p status i) (IsAlone paint file lines) (λ f c t k. fault_alone paint file lines p status i f c t k) faults after h.messages h.told in
     let is : text ≡ h.messages = h.whole ∙ (ap (λ (l : List ℕ). h.messages ++ l) (h.silent rest.0) ∙ append-nil h.messages) in
     (rest.0, subst (AreEach (IsAlone paint file lines) faults) (sym is) rest.1)
 

@@ -8,7 +8,7 @@ use Rattle.hm_verdicts.specs.Sets.{ModuleSet}
 use Rattle.hm_verdicts.specs.Verdicts.{Status as Settlement, IsVerdictIn}
 use Rattle.hm_messages.specs.Messages.{IsMessage}
 use Rattle.hm_messages.specs.Pages.{AreFilesOf}
-use Rattle.hm_messages.specs.Refused.{IsRefusalTold}
+use Rattle.hm_messages.specs.Refused.{IsRefusalStated}
 use Rattle.hm_messages.specs.Subjects.{exhausted}
 use Rattle.hm_messages.specs.declared.heading.Paint.{Paint}
 use Rattle.hm_run_sources.specs.Origins.{IsSpelledBy}
@@ -29,7 +29,7 @@ pub record AreMessagesOf (paint : Paint) (names sources : List (List ℕ)) (b : 
   pub told : IsTold paint files sources (set_of b) (settlement b) messages
 
 -- the messages report the verdicts of the modules of the sources, and the text begins with the report of these verdicts
-pub record TellsReport (paint : Paint) (names sources : List (List ℕ)) (text messages : List ℕ) : Type 0 where
+pub record StatesReport (paint : Paint) (names sources : List (List ℕ)) (text messages : List ℕ) : Type 0 where
   pub set : ModuleSet
   pub settled : ℕ → Settlement
   pub read : AreModulesOf sources set.modules
@@ -43,15 +43,15 @@ pub record TellsReport (paint : Paint) (names sources : List (List ℕ)) (text m
   pub told : IsTold paint files sources set settled messages
 
 -- the messages say why the sources are refused
-pub record TellsRefusal (paint : Paint) (names sources : List (List ℕ)) (messages : List ℕ) : Type 0 where
+pub record StatesRefusal (paint : Paint) (names sources : List (List ℕ)) (messages : List ℕ) : Type 0 where
   pub refusal : Refusal
   pub because : IsRefusalOf sources refusal
   pub files : List (List ℕ)
   pub named : AreFilesOf names sources files
-  pub told : IsRefusalTold paint files sources refusal messages
+  pub told : IsRefusalStated paint files sources refusal messages
 
 -- the message says that there is no memory to check one of the modules of the sources, at a place in the source that spells it
-pub record TellsExhaustion (paint : Paint) (names sources : List (List ℕ)) (message : List ℕ) : Type 0 where
+pub record StatesExhaustion (paint : Paint) (names sources : List (List ℕ)) (message : List ℕ) : Type 0 where
   pub modules : List Module
   pub read : AreModulesOf sources modules
   pub number : ℕ
@@ -66,10 +66,10 @@ pub record TellsExhaustion (paint : Paint) (names sources : List (List ℕ)) (me
 
 -- the messages of a run with this status and this text. The names are those of the sources' files
 abbrev pub IsExplained : Paint → List (List ℕ) → List (List ℕ) → Status → List ℕ → List ℕ → Type 0
-IsExplained paint names sources Good text messages = TellsReport paint names sources text messages
-IsExplained paint names sources Faulty text messages = TellsReport paint names sources text messages
-IsExplained paint names sources Refused text messages = TellsRefusal paint names sources messages
+IsExplained paint names sources Good text messages = StatesReport paint names sources text messages
+IsExplained paint names sources Faulty text messages = StatesReport paint names sources text messages
+IsExplained paint names sources Refused text messages = StatesRefusal paint names sources messages
 
 -- these messages were written, or a prefix of them if their writer failed
-abbrev pub IsToldTo : Option (List ℕ) → Option (List ℕ) → List ℕ → Type 0 → Type 0
-IsToldTo old new messages failed = Appends old new messages ⊎ (WritesPrefix old new messages × failed)
+abbrev pub IsStatedTo : Option (List ℕ) → Option (List ℕ) → List ℕ → Type 0 → Type 0
+IsStatedTo old new messages failed = Appends old new messages ⊎ (WritesPrefix old new messages × failed)

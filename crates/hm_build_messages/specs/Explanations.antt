@@ -31,7 +31,7 @@ use Rattle.hm_messages_changes.specs.declared.data.SourceRange.{SourceRange}
 use Rattle.hm_run_sources.specs.Names.{name_below}
 use Rattle.hm_run_sources.specs.Origins.{IsSpelledBy}
 use Rattle.hm_build_messages.specs.declared.explaining.Blame.{Blame}
-use Rattle.hm_build_messages.specs.declared.explaining.Named.{Named}
+use Rattle.hm_build_messages.specs.declared.explaining.NumberedName.{NumberedName}
 
 -- the message of a fault, with what is known of it, which is so
 pub record IsDetailed (paint : Paint) (file source : List ℕ) (IsSo : Fault → Known → Type 0) (f : Fault) (text : List ℕ) : Type 0 where
@@ -72,10 +72,10 @@ ArePartTypes source name fs definition (Exchange first second) expected actual i
 ArePartTypes source name fs definition (Removal part) expected actual infinite = ⊥
 
 -- the text tells what gives the definition a type, or the two types of the part, with this as the other place
-pub data IsToldOf (paint : Paint) (file source name : List ℕ) (fs : List Interface) (definition : List ℕ) (mend : Mend) (other : Place) (text : List ℕ) : Type 0 where
-  by_mend : IsMessage paint file source (first_of mend) (replaceable definition (way_of mend other)) text → IsToldOf paint file source name fs definition mend other text
+pub data IsStatedOf (paint : Paint) (file source name : List ℕ) (fs : List Interface) (definition : List ℕ) (mend : Mend) (other : Place) (text : List ℕ) : Type 0 where
+  by_mend : IsMessage paint file source (first_of mend) (replaceable definition (way_of mend other)) text → IsStatedOf paint file source name fs definition mend other text
   by_types : (expected actual : List ℕ) (infinite : Bool) → ArePartTypes source name fs definition mend expected actual infinite
-      → IsMessage paint file source (first_of mend) (mistyped definition other expected actual infinite) text → IsToldOf paint file source name fs definition mend other text
+      → IsMessage paint file source (first_of mend) (mistyped definition other expected actual infinite) text → IsStatedOf paint file source name fs definition mend other text
 
 -- the note of a type fault tells what gives its definition a type, or the two types of the part, with places as readers count
 pub record IsNote (paint : Paint) (file source name : List ℕ) (fs : List Interface) (f : Fault) (text : List ℕ) : Type 0 where
@@ -84,7 +84,7 @@ pub record IsNote (paint : Paint) (file source name : List ℕ) (fs : List Inter
   pub mended : IsMend source name fs f.name mend
   pub columns : Columns
   pub columns_at : AreColumnsAt source (other_of mend) columns
-  pub told : IsToldOf paint file source name fs f.name mend (reader_place (other_of mend) columns) text
+  pub told : IsStatedOf paint file source name fs f.name mend (reader_place (other_of mend) columns) text
 
 -- the note of a signature tells the type that the definition of a type fault has without it. If the note leads, the module is good without the signature
 pub record IsSignatureNote (paint : Paint) (file source name : List ℕ) (fs : List Interface) (f : Fault) (leads : Bool) (text : List ℕ) : Type 0 where
@@ -133,8 +133,8 @@ IsNotedIn paint file source p status i f before after text =
 
 -- what is told of a fault of module number i: a message with what is known, or a message with a note. The truth values say whether the limit was told
 -- before the fault, and whether it was told behind it
-abbrev pub IsFaultTold : Paint → List ℕ → List ℕ → ModuleSet → (ℕ → Status) → ℕ → Fault → Bool → Bool → List ℕ → Type 0
-IsFaultTold paint file source p status i f before after text =
+abbrev pub IsFaultStated : Paint → List ℕ → List ℕ → ModuleSet → (ℕ → Status) → ℕ → Fault → Bool → Bool → List ℕ → Type 0
+IsFaultStated paint file source p status i f before after text =
     ((after ≡ before) × IsDetailed paint file source (IsKnownIn p status i) f text) ⊎ IsNotedIn paint file source p status i f before after text
 
 -- the text has a part for each element, in order, and no more. The truth value between two parts is the second of the one and the first of the other
@@ -144,9 +144,9 @@ AreInTurn tells (x ∷ xs) before after text =
     (first : List ℕ) × (later : List ℕ) × (between : Bool) × tells x before between first × AreInTurn tells xs between after later × (text ≡ first ++ later)
 
 -- of each fault, in order, at its place of this source
-abbrev pub AreFaultsTold : Paint → List (List ℕ) → List (List ℕ) → ℕ → ModuleSet → (ℕ → Status) → ℕ → List Fault → Bool → Bool → List ℕ → Type 0
-AreFaultsTold paint files texts source p status i found before after text =
-    AreInTurn (IsFaultTold paint (slice_index_or files source []) (slice_index_or texts source []) p status i) found before after text
+abbrev pub AreFaultsStated : Paint → List (List ℕ) → List (List ℕ) → ℕ → ModuleSet → (ℕ → Status) → ℕ → List Fault → Bool → Bool → List ℕ → Type 0
+AreFaultsStated paint files texts source p status i found before after text =
+    AreInTurn (IsFaultStated paint (slice_index_or files source []) (slice_index_or texts source []) p status i) found before after text
 
 -- the note of a fault that the report leaves out, at its place
 abbrev pub IsHiddenNote : Paint → List ℕ → List ℕ → Fault → List ℕ → Type 0
@@ -158,23 +158,23 @@ AreHiddenNotes paint file source (Verdict.Good f) text = text ≡ []
 AreHiddenNotes paint file source (Verdict.Faulty found) text = AreEach (IsHiddenNote paint file source) found text
 
 -- the notes of all faults that the module has with definitions of names that aren't in scope
-pub record AreHiddenTold (paint : Paint) (file source name : List ℕ) (fs : List Interface) (faults : List Fault) (text : List ℕ) : Type 0 where
+pub record AreHiddenStated (paint : Paint) (file source name : List ℕ) (fs : List Interface) (faults : List Fault) (text : List ℕ) : Type 0 where
   pub verdict : Verdict
   pub beyond : IsVerdictBeyond source name fs faults verdict
   pub told : AreHiddenNotes paint file source verdict text
 
 -- the same of module number i: the notes speak of it for the interfaces of what it imports
-abbrev pub AreHiddenToldIn : Paint → List ℕ → List ℕ → ModuleSet → (ℕ → Status) → ℕ → List Fault → List ℕ → Type 0
-AreHiddenToldIn paint file source p status i faults text =
-    (fs : List Interface) × ArePublished status (imports_of p i) fs × AreHiddenTold paint file source (module_at p i).header.name.text fs faults text
+abbrev pub AreHiddenStatedIn : Paint → List ℕ → List ℕ → ModuleSet → (ℕ → Status) → ℕ → List Fault → List ℕ → Type 0
+AreHiddenStatedIn paint file source p status i faults text =
+    (fs : List Interface) × ArePublished status (imports_of p i) fs × AreHiddenStated paint file source (module_at p i).header.name.text fs faults text
 
 -- what is told of a faulty module: a message for each of its faults, and behind them the notes of those that the report leaves out, or nothing. Where the
 -- limit was told there are no such notes
-pub record IsFaultyTold (paint : Paint) (files texts : List (List ℕ)) (source : ℕ) (p : ModuleSet) (status : ℕ → Status) (i : ℕ) (faults : List Fault) (before after : Bool) (text : List ℕ) : Type 0 where
+pub record IsFaultyStated (paint : Paint) (files texts : List (List ℕ)) (source : ℕ) (p : ModuleSet) (status : ℕ → Status) (i : ℕ) (faults : List Fault) (before after : Bool) (text : List ℕ) : Type 0 where
   pub messages : List ℕ
   pub notes : List ℕ
-  pub told : AreFaultsTold paint files texts source p status i faults before after messages
-  pub beyond : (notes ≡ []) ⊎ AreHiddenToldIn paint (slice_index_or files source []) (slice_index_or texts source []) p status i faults notes
+  pub told : AreFaultsStated paint files texts source p status i faults before after messages
+  pub beyond : (notes ≡ []) ⊎ AreHiddenStatedIn paint (slice_index_or files source []) (slice_index_or texts source []) p status i faults notes
   pub silent : after ≡ true → notes ≡ []
   pub whole : text ≡ messages ++ notes
 
@@ -185,10 +185,10 @@ pub record Blamed : Type 0 where
   pub subject : Subject
 
 -- what is told of an import by the status of the module that it names
-abbrev pub IsToldBy : Status → List ℕ → Subject → Type 0
-IsToldBy (Published f) x s = ⊥
-IsToldBy (Failed found) x s = s ≡ faulty x
-IsToldBy Skipped x s = s ≡ skipped x
+abbrev pub IsStatedBy : Status → List ℕ → Subject → Type 0
+IsStatedBy (Published f) x s = ⊥
+IsStatedBy (Failed found) x s = s ≡ faulty x
+IsStatedBy Skipped x s = s ≡ skipped x
 
 -- one of the imports has this name and this place, and one of the modules in the row has this name and is told so
 pub record IsBlamedBy (modules : List Module) (status : ℕ → Status) (row : List ℕ) (imports : List Import) (b : Blamed) : Type 0 where
@@ -199,7 +199,7 @@ pub record IsBlamedBy (modules : List Module) (status : ℕ → Status) (row : L
   pub number : ℕ
   pub imported : Contains row number
   pub named : (slice_index_or modules number no_module).header.name.text ≡ b.name
-  pub told : IsToldBy (status number) b.name b.subject
+  pub told : IsStatedBy (status number) b.name b.subject
 
 abbrev pub IsBlamed : ModuleSet → (ℕ → Status) → ℕ → Blamed → Type 0
 IsBlamed p status i b = IsBlamedBy p.modules status (imports_of p i) (module_at p i).header.imports b
@@ -209,7 +209,7 @@ abbrev pub IsBlameMessage : Paint → List ℕ → List ℕ → Blamed → List 
 IsBlameMessage paint file source b text = IsMessage paint file source b.place b.subject text
 
 -- a message for each name that the report blames, in order, at an import of the module that has it
-pub record AreBlamesTold (paint : Paint) (files texts : List (List ℕ)) (source : ℕ) (p : ModuleSet) (status : ℕ → Status) (i : ℕ) (text : List ℕ) : Type 0 where
+pub record AreBlamesStated (paint : Paint) (files texts : List (List ℕ)) (source : ℕ) (p : ModuleSet) (status : ℕ → Status) (i : ℕ) (text : List ℕ) : Type 0 where
   pub blames : List Blamed
   pub blamed : AreBlamed p status i (map (λ b. b.name) blames)
   pub right : All (IsBlamed p status i) blames
@@ -220,22 +220,22 @@ blamed_of b = record { name = b.name.now; place = b.place; subject = cond b.is_f
 
 -- nothing is told of a good module; of another one a message for each of its lines in the report, from the source that spells it. The truth values say
 -- whether the limit was told before the module, and whether it was told behind it
-abbrev pub IsToldAs : Paint → List (List ℕ) → List (List ℕ) → ModuleSet → (ℕ → Status) → ℕ → Bool → Bool → List ℕ → Status → Type 0
-IsToldAs paint files texts p status i before after text (Published f) = (after ≡ before) × (text ≡ [])
-IsToldAs paint files texts p status i before after text (Failed found) =
-    (source : ℕ) × IsSpelledBy texts i source × IsFaultyTold paint files texts source p status i found before after text
-IsToldAs paint files texts p status i before after text Skipped =
-    (after ≡ before) × (source : ℕ) × IsSpelledBy texts i source × AreBlamesTold paint files texts source p status i text
+abbrev pub IsStatedAs : Paint → List (List ℕ) → List (List ℕ) → ModuleSet → (ℕ → Status) → ℕ → Bool → Bool → List ℕ → Status → Type 0
+IsStatedAs paint files texts p status i before after text (Published f) = (after ≡ before) × (text ≡ [])
+IsStatedAs paint files texts p status i before after text (Failed found) =
+    (source : ℕ) × IsSpelledBy texts i source × IsFaultyStated paint files texts source p status i found before after text
+IsStatedAs paint files texts p status i before after text Skipped =
+    (after ≡ before) × (source : ℕ) × IsSpelledBy texts i source × AreBlamesStated paint files texts source p status i text
 
-abbrev pub IsModuleTold : Paint → List (List ℕ) → List (List ℕ) → ModuleSet → (ℕ → Status) → ℕ → Bool → Bool → List ℕ → Type 0
-IsModuleTold paint files texts p status i before after text = IsToldAs paint files texts p status i before after text (status i)
+abbrev pub IsModuleStated : Paint → List (List ℕ) → List (List ℕ) → ModuleSet → (ℕ → Status) → ℕ → Bool → Bool → List ℕ → Type 0
+IsModuleStated paint files texts p status i before after text = IsStatedAs paint files texts p status i before after text (status i)
 
 -- a module's name and its number
 pub record Numbered : Type 0 where
   pub name : List ℕ
   pub number : ℕ
 
-abbrev pub named_of : Named → Numbered
+abbrev pub named_of : NumberedName → Numbered
 named_of r = record { name = r.name.now; number = r.number }
 
 pub record IsRowOf (modules : List Module) (k : ℕ) (r : Numbered) : Type 0 where
@@ -267,5 +267,5 @@ pub record IsTold (paint : Paint) (files texts : List (List ℕ)) (p : ModuleSet
   pub ordered : IsSortedBy (λ x y. name_below x.name y.name) order
   pub messages : List ℕ
   pub limited : Bool
-  pub told : AreInTurn (λ r before after m. IsModuleTold paint files texts p status r.number before after m) order false limited messages
+  pub told : AreInTurn (λ r before after m. IsModuleStated paint files texts p status r.number before after m) order false limited messages
   pub whole : text ≡ messages ++ count_text paint (min (fault_count status (length p.modules)) (2 ^ 64 - 1)) (tally is_skipped status (length p.modules))

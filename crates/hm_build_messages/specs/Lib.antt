@@ -1,4 +1,4 @@
 pub mod Explained
 pub mod Explanations
-pub mod FurtherTold
+pub mod FurtherStated
 pub mod WorkedLimits

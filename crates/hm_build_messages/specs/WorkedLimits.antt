@@ -6,7 +6,7 @@ use Rattle.hm_verdicts.specs.Sets.{ModuleSet}
 use Rattle.hm_verdicts.specs.Verdicts.{Status}
 use Rattle.hm_messages.specs.Messages.{AreEach, IsFaultMessage}
 use Rattle.hm_messages.specs.declared.heading.Paint.{Paint}
-use Rattle.hm_build_messages.specs.Explanations.{IsFaultyTold, IsLimitNote}
+use Rattle.hm_build_messages.specs.Explanations.{IsFaultyStated, IsLimitNote}
 
 -- the message of a fault without notes
 abbrev pub IsAlone : Paint → List ℕ → List ℕ → Fault → List ℕ → Type 0
@@ -15,7 +15,7 @@ IsAlone paint file source f text = (known : Known) × IsFaultMessage paint file 
 -- If the limit was told before a module, only messages without notes are told of its faults. No text is a last note then, and that it wasn't told isn't one
 pub record LimitsRow : Type 0 where
   pub once : (paint : Paint) (files texts : List (List ℕ)) (source : ℕ) (p : ModuleSet) (status : ℕ → Status) (i : ℕ) (faults : List Fault) (after : Bool) (text : List ℕ)
-      → IsFaultyTold paint files texts source p status i faults true after text
+      → IsFaultyStated paint files texts source p status i faults true after text
       → (after ≡ true) × AreEach (IsAlone paint (slice_index_or files source []) (slice_index_or texts source [])) faults text
   pub quiet : (paint : Paint) (file source : List ℕ) (f : Fault) → IsLimitNote paint file source f true true []
   pub again : (paint : Paint) (file source : List ℕ) (f : Fault) (text : List ℕ) → ¬ (IsLimitNote paint file source f true false text)

@@ -10,7 +10,7 @@ ghost use Rattle.hm_messages.specs.Messages.{AreEach};
 ghost use Rattle.hm_messages.specs.Pages.{files_in, texts_in};
 ghost use Rattle.hm_build_reports.specs.Settling.{module_set, statuses_of};
 ghost use Rattle.hm_store.specs.Settlements.{settlement};
-ghost use Rattle.hm_build_messages.specs.Explanations.{AreFaultsTold, IsDetailed};
+ghost use Rattle.hm_build_messages.specs.Explanations.{AreFaultsStated, IsDetailed};
 ghost use Rattle.hm_verdicts.specs.Sets.{IsLawfulSet, module_at};
 ghost use Rattle.hm_verdicts.specs.Verdicts.{ArePublished};
 
@@ -189,9 +189,9 @@ pub(crate) fn faulty_messages(
     requires number { faulty.number < length told.now.modules.now }
     requires source { faulty.source < length told.now.pages.now.items.items }
     requires settled { statuses_of told.now.settled.now ≡ settlement told.now.store.now }
-    ensures { IfOk result (λ text. AreFaultsTold told.now.pages.now.paint (files_in told.now.pages.now.items.items) (texts_in told.now.pages.now.items.items)
+    ensures { IfOk result (λ text. AreFaultsStated told.now.pages.now.paint (files_in told.now.pages.now.items.items) (texts_in told.now.pages.now.items.items)
         faulty.entry.source (module_set told.now.modules.now told.now.plan.now) (statuses_of told.now.settled.now) faulty.entry.number faulty.entry.faults.now
-        allowance.old.is_limit_told allowance.new.is_limit_told text.items) }
+        allowance.old.is_limit_stated allowance.new.is_limit_stated text.items) }
 {
     let page = &told.pages.items[faulty.source];
     let paint = told.pages.paint;

@@ -1,6 +1,6 @@
 //! The message of a module that can't be checked because memory ran out.
 ghost use Rattle.std.specs.Prelude.{IfOk, map};
-ghost use Rattle.hm_build_messages.specs.Explained.{TellsExhaustion};
+ghost use Rattle.hm_build_messages.specs.Explained.{StatesExhaustion};
 ghost use Rattle.hm_run_sources.specs.Origins.{IsModuleOf};
 
 use crate::options::Explain;
@@ -16,7 +16,7 @@ pub fn module_message<'a>(
     here: &'a SourceModule,
 ) -> Result<Vec<u8>, AllocError>
     requires { IsModuleOf (map (λ s. s.items) sources.now) here.now }
-    ensures { IfOk result (λ m. TellsExhaustion explain.now.paint (map (λ s. s.items) explain.now.names.items) (map (λ s. s.items) sources.now) m.items) }
+    ensures { IfOk result (λ m. StatesExhaustion explain.now.paint (map (λ s. s.items) explain.now.names.items) (map (λ s. s.items) sources.now) m.items) }
 {
     let name = &here.name;
     let pages = pages_of(alloc, explain.paint, sources, &explain.names, &[])?;

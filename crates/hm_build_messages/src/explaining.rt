@@ -8,7 +8,7 @@ ghost use Rattle.hm_run_sources.specs.Origins.{HaveOrigins, IsSpelledBy};
 ghost use Rattle.hm_verdicts.specs.Sets.{IsLawfulSet, no_module};
 ghost use Rattle.hm_verdicts.specs.Reports.{is_skipped, tally};
 ghost use Rattle.hm_syntax.specs.declared.ast.Import.{Import as ImportTree};
-ghost use Rattle.hm_build_messages.specs.Explanations.{AreBlamesTold, AreNumbered, IsBlameMessage, IsBlamedBy, IsModuleTold, IsTold, IsToldBy, blamed_of, fault_count, named_of};
+ghost use Rattle.hm_build_messages.specs.Explanations.{AreBlamesStated, AreNumbered, IsBlameMessage, IsBlamedBy, IsModuleStated, IsTold, IsStatedBy, blamed_of, fault_count, named_of};
 ghost use Rattle.hm_store.specs.Settlements.{settlement as build_settlement};
 ghost use Rattle.hm_build_reports.specs.ReportBlocks.{all_blamed, blamed};
 ghost use Rattle.hm_build_reports.specs.Settling.{module_set, status_of as settlement, statuses_of};
@@ -84,7 +84,7 @@ fn blame_of<'a>(name: &'a str, place: Place, settled: &Settled<'_>) -> Option<Bl
     ensures names { map (λ b. b.name.now) (option_to_list result) ≡ blamed (settlement settled.now) name.entry.now }
     ensures name { IfSome result (λ b. b.name.now ≡ name.entry.now) }
     ensures place { IfSome result (λ b. b.place ≡ place) }
-    ensures told { IfSome result (λ b. IsToldBy (settlement settled.now) name.entry.now (blamed_of b).subject) }
+    ensures told { IfSome result (λ b. IsStatedBy (settlement settled.now) name.entry.now (blamed_of b).subject) }
 {
     match settled {
         Settled::Published(_) => None,
@@ -195,7 +195,7 @@ fn skipped_messages(
     requires len { length told.now.settled.now ≡ length told.now.modules.now }
     requires number { number < length told.now.modules.now }
     requires source { source < length told.now.pages.now.items.items }
-    ensures { IfOk result (λ text. AreBlamesTold told.now.pages.now.paint (files_in told.now.pages.now.items.items)
+    ensures { IfOk result (λ text. AreBlamesStated told.now.pages.now.paint (files_in told.now.pages.now.items.items)
         (texts_in told.now.pages.now.items.items) source
         (module_set told.now.modules.now told.now.plan.now) (statuses_of told.now.settled.now) number text.items) }
 {
@@ -219,9 +219,9 @@ fn module_messages(
     requires number { number < length told.now.modules.now }
     requires origins { HaveOrigins (texts_in told.now.pages.now.items.items) (length told.now.modules.now) told.now.origins.now }
     requires settled { statuses_of told.now.settled.now ≡ build_settlement told.now.store.now }
-    ensures { IfOk result (λ text. IsModuleTold told.now.pages.now.paint (files_in told.now.pages.now.items.items) (texts_in told.now.pages.now.items.items)
-        (module_set told.now.modules.now told.now.plan.now) (statuses_of told.now.settled.now) number allowance.old.is_limit_told
-        allowance.new.is_limit_told text.items) }
+    ensures { IfOk result (λ text. IsModuleStated told.now.pages.now.paint (files_in told.now.pages.now.items.items) (texts_in told.now.pages.now.items.items)
+        (module_set told.now.modules.now told.now.plan.now) (statuses_of told.now.settled.now) number allowance.old.is_limit_stated
+        allowance.new.is_limit_stated text.items) }
 {
     match &told.settled[number] {
         Settled::Published(_) => Ok(Vec::new(alloc)),
@@ -244,19 +244,22 @@ fn module_messages(
 
 /// A module's name and its number.
 #[derive(Clone, Copy)]
-struct Named<'a> {
+struct NumberedName<'a> {
     name: &'a str,
     number: usize,
 }
 
 /// Returns the names of the modules with their numbers, in order.
-fn numbered<'a>(alloc: Global, modules: &'a [Arc<Module>]) -> Result<Vec<Named<'a>>, AllocError>
+fn numbered<'a>(
+    alloc: Global,
+    modules: &'a [Arc<Module>],
+) -> Result<Vec<NumberedName<'a>>, AllocError>
     ensures { IfOk result (λ rows. AreNumbered (map arc_value modules.entry.now) (map named_of rows.items)) }
 {
     let mut rows = Vec::new(alloc);
     for number in 0..modules.len() {
         let name = modules[number].header.name.as_str();
-        rows.push(Named { name, number })?;
+        rows.push(NumberedName { name, number })?;
     }
     Ok(rows)
 }

@@ -7,7 +7,7 @@ ghost use Rattle.hm_messages_trials.specs.Limits.{IsUsedUp};
 ghost use Rattle.hm_messages_trials.specs.Mends.{IsMend};
 ghost use Rattle.hm_messages_trials.specs.Signatures.{IsUnsigned, Leads};
 ghost use Rattle.hm_names.specs.declared.faults.Kind.TheVariants.{Untyped};
-ghost use Rattle.hm_build_messages.specs.Explanations.{AreInTurn, ArePartTypes, AreNotes, IsNote, IsNoted, IsSignatureNote, IsToldOf, first_of as first_place, other_of as other_place, way_of as told_way};
+ghost use Rattle.hm_build_messages.specs.Explanations.{AreInTurn, ArePartTypes, AreNotes, IsNote, IsNoted, IsSignatureNote, IsStatedOf, first_of as first_place, other_of as other_place, way_of as stated_way};
 
 use hm_lex::Place;
 use hm_messages::{BothTypes, Page, Paint, Topic, Way, fault_message, message, reader_place};
@@ -32,18 +32,18 @@ pub(crate) struct FaultyModule<'f, 'p> {
 #[derive(Clone, Copy)]
 pub(crate) struct Allowance {
     pub effort: Effort,
-    pub is_limit_told: bool,
+    pub is_limit_stated: bool,
 }
 
 impl Allowance {
     /// Returns the allowance for all notes of a run.
     pub fn of_run() -> Allowance
         ensures left { ¬ (IsUsedUp result.effort) }
-        ensures untold { result.is_limit_told ≡ false }
+        ensures unstated { result.is_limit_stated ≡ false }
     {
         Allowance {
             effort: Effort::of_run(),
-            is_limit_told: false,
+            is_limit_stated: false,
         }
     }
 }
@@ -93,7 +93,7 @@ fn other_of(mend: &Mend) -> Place
 
 /// Returns the topic of the note, with this as the other place.
 fn way_of(mend: &Mend, other: Place) -> Way
-    ensures { result ≡ told_way mend.now other }
+    ensures { result ≡ stated_way mend.now other }
 {
     match mend {
         Mend::Expression(_) => Way::Expression(other),
@@ -150,7 +150,7 @@ fn note_text(
     requires { IfSome part.now.types (λ types. ArePartTypes «module».now.page.now.lines «module».now.question.now.name.now
         (map arc_value «module».now.question.now.imports.now) definition.now part.now.mend (string_bytes types.expected) (string_bytes types.actual)
         types.infinite) }
-    ensures { IfOk result (λ text. IsToldOf «module».now.paint «module».now.page.now.file.now «module».now.page.now.lines
+    ensures { IfOk result (λ text. IsStatedOf «module».now.paint «module».now.page.now.file.now «module».now.page.now.lines
         «module».now.question.now.name.now (map arc_value «module».now.question.now.imports.now) definition.now part.now.mend other text.items) }
 {
     let mend = &part.mend;
@@ -367,13 +367,13 @@ fn fault_text(
 ) -> Result<Vec<u8>, AllocError>
     requires { «module».now.question.now.source.now ≡ «module».now.page.now.lines }
     ensures told { IfOk result (λ text. IsNoted «module».now.paint «module».now.page.now.file.now «module».now.page.now.lines
-        «module».now.question.now.name.now (map arc_value «module».now.question.now.imports.now) fault.now allowance.old.is_limit_told
-        allowance.new.is_limit_told text.items) }
-    ensures reached { allowance.old.is_limit_told ≡ false → allowance.new.is_limit_told ≡ true → IsUsedUp allowance.new.effort }
-    ensures silent { OnOk result (allowance.old.is_limit_told ≡ false → allowance.new.is_limit_told ≡ false → ¬ (IsUsedUp allowance.new.effort)) }
+        «module».now.question.now.name.now (map arc_value «module».now.question.now.imports.now) fault.now allowance.old.is_limit_stated
+        allowance.new.is_limit_stated text.items) }
+    ensures reached { allowance.old.is_limit_stated ≡ false → allowance.new.is_limit_stated ≡ true → IsUsedUp allowance.new.effort }
+    ensures silent { OnOk result (allowance.old.is_limit_stated ≡ false → allowance.new.is_limit_stated ≡ false → ¬ (IsUsedUp allowance.new.effort)) }
 {
     let mut text = fault_message(alloc, module.paint, module.page, fault, Detail::Nothing)?;
-    if allowance.is_limit_told {
+    if allowance.is_limit_stated {
         return Ok(text);
     }
     let notes = notes_for(alloc, module, reading, fault, &mut allowance.effort)?;
@@ -383,7 +383,7 @@ fn fault_text(
     }
     let last = limit_note(alloc, module, fault)?;
     text.extend_from_slice(last.as_slice())?;
-    allowance.is_limit_told = true;
+    allowance.is_limit_stated = true;
     Ok(text)
 }
 
@@ -395,8 +395,8 @@ pub(crate) fn noted_messages(
 ) -> Result<Vec<u8>, AllocError>
     requires { «module».now.question.now.source.now ≡ «module».now.page.now.lines }
     ensures { IfOk result (λ text. AreInTurn (IsNoted «module».now.paint «module».now.page.now.file.now «module».now.page.now.lines
-        «module».now.question.now.name.now (map arc_value «module».now.question.now.imports.now)) «module».now.faults.now allowance.old.is_limit_told
-        allowance.new.is_limit_told text.items) }
+        «module».now.question.now.name.now (map arc_value «module».now.question.now.imports.now)) «module».now.faults.now allowance.old.is_limit_stated
+        allowance.new.is_limit_stated text.items) }
 {
     let reading = reading_for(alloc, module, &mut allowance.effort);
     let mut text = Vec::new(alloc);

@@ -6,7 +6,7 @@ ghost use Rattle.hm_messages.specs.Pages.{files_in, texts_in};
 ghost use Rattle.hm_build_reports.specs.Settling.{module_set, statuses_of};
 ghost use Rattle.hm_store.specs.Settlements.{settlement};
 ghost use Rattle.hm_messages_trials.specs.Hidden.{IsVerdictBeyond};
-ghost use Rattle.hm_build_messages.specs.Explanations.{AreHiddenNotes, AreHiddenTold, AreHiddenToldIn, IsFaultyTold, IsHiddenNote};
+ghost use Rattle.hm_build_messages.specs.Explanations.{AreHiddenNotes, AreHiddenStated, AreHiddenStatedIn, IsFaultyStated, IsHiddenNote};
 ghost use Rattle.hm_verdicts.specs.Outcomes.{verdict_of};
 ghost use Rattle.hm_verdicts.specs.Sets.{IsLawfulSet};
 
@@ -84,7 +84,7 @@ fn module_notes(
     effort: &mut Effort,
 ) -> Result<Vec<u8>, AllocError>
     requires { «module».now.question.now.source.now ≡ «module».now.page.now.lines }
-    ensures { IfOk result (λ text. (text.items ≡ []) ⊎ AreHiddenTold «module».now.paint «module».now.page.now.file.now «module».now.page.now.lines
+    ensures { IfOk result (λ text. (text.items ≡ []) ⊎ AreHiddenStated «module».now.paint «module».now.page.now.file.now «module».now.page.now.lines
         «module».now.question.now.name.now (map arc_value «module».now.question.now.imports.now) «module».now.faults.now text.items) }
 {
     let Some(outcome) = outcome_of(alloc, module, effort) else {
@@ -94,7 +94,7 @@ fn module_notes(
 }
 
 /// Returns the notes of the faults that the report leaves out of a module with this number, or no text.
-fn notes_behind(
+fn hidden_notes(
     alloc: Global,
     told: &BuildView<'_, '_, '_>,
     faulty: Faulty<'_>,
@@ -104,7 +104,7 @@ fn notes_behind(
     requires number { faulty.number < length told.now.modules.now }
     requires source { faulty.source < length told.now.pages.now.items.items }
     requires settled { statuses_of told.now.settled.now ≡ settlement told.now.store.now }
-    ensures { IfOk result (λ text. (text.items ≡ []) ⊎ AreHiddenToldIn told.now.pages.now.paint
+    ensures { IfOk result (λ text. (text.items ≡ []) ⊎ AreHiddenStatedIn told.now.pages.now.paint
         (slice_index_or (files_in told.now.pages.now.items.items) faulty.entry.source []) (slice_index_or (texts_in told.now.pages.now.items.items) faulty.entry.source [])
         (module_set told.now.modules.now told.now.plan.now) (statuses_of told.now.settled.now) faulty.entry.number faulty.entry.faults.now text.items) }
 {
@@ -140,15 +140,15 @@ pub(crate) fn all_messages(
     requires number { faulty.number < length told.now.modules.now }
     requires source { faulty.source < length told.now.pages.now.items.items }
     requires settled { statuses_of told.now.settled.now ≡ settlement told.now.store.now }
-    ensures { IfOk result (λ text. IsFaultyTold told.now.pages.now.paint (files_in told.now.pages.now.items.items) (texts_in told.now.pages.now.items.items)
+    ensures { IfOk result (λ text. IsFaultyStated told.now.pages.now.paint (files_in told.now.pages.now.items.items) (texts_in told.now.pages.now.items.items)
         faulty.entry.source (module_set told.now.modules.now told.now.plan.now) (statuses_of told.now.settled.now) faulty.entry.number faulty.entry.faults.now
-        allowance.old.is_limit_told allowance.new.is_limit_told text.items) }
+        allowance.old.is_limit_stated allowance.new.is_limit_stated text.items) }
 {
     let mut text = faulty_messages(alloc, told, faulty, allowance)?;
-    if allowance.is_limit_told {
+    if allowance.is_limit_stated {
         return Ok(text);
     }
-    let notes = notes_behind(alloc, told, faulty, &mut allowance.effort)?;
+    let notes = hidden_notes(alloc, told, faulty, &mut allowance.effort)?;
     text.extend_from_slice(notes.as_slice())?;
     Ok(text)
 }

@@ -3,6 +3,6 @@ ghost use Rattle.hm_build_messages.specs.WorkedLimits.{LimitsRow};
 
 /// After the note that the limit on trials is reached, no fault of a module has notes, and no note says it again.
 #[tactic(auto, using(crate::proofs::Turns::worked_limits))]
-pub fn limit_is_told_once()
+pub fn limit_is_stated_once()
     ensures { LimitsRow }
 {}

@@ -5,8 +5,8 @@ ghost use Rattle.hm_messages.specs.FurtherFaults.{AreFirstFaults, AreFurtherFaul
 ghost use Rattle.hm_messages.specs.Messages.{AreEach};
 ghost use Rattle.hm_messages.specs.Pages.{files_in, texts_in};
 ghost use Rattle.hm_messages.specs.Refused.{AreRefusalMessages, IsAdvised};
-ghost use Rattle.hm_build_messages.specs.FurtherTold.{IsFirstTold};
-ghost use Rattle.hm_build_messages.specs.Explained.{TellsRefusal};
+ghost use Rattle.hm_build_messages.specs.FurtherStated.{IsFirstStated};
+ghost use Rattle.hm_build_messages.specs.Explained.{StatesRefusal};
 ghost use Rattle.hm_run_sources.specs.Origins.{AreHeadersFor};
 ghost use Rattle.hm_run_sources.specs.Refusals.{Refusal};
 ghost use Rattle.hm_run_sources.specs.Runs.{IsRefusalOf};
@@ -90,7 +90,7 @@ fn first_message(
 ) -> Result<Option<Vec<u8>>, AllocError>
     requires within { source < length sources.now }
     requires texts { texts_in pages.now.items.items ≡ map (λ s. s.items) sources.now }
-    ensures { IfOk result (λ m. IsFirstTold pages.now.paint (files_in pages.now.items.items) (texts_in pages.now.items.items) source
+    ensures { IfOk result (λ m. IsFirstStated pages.now.paint (files_in pages.now.items.items) (texts_in pages.now.items.items) source
         (option_map (λ text. text.items) m)) }
 {
     let text = sources[source].as_slice();
@@ -173,7 +173,7 @@ fn own_messages(
 }
 
 /// Returns the messages of a refused set.
-pub fn told_refusal<'a>(
+pub fn refused_set_messages<'a>(
     alloc: Global,
     sources: &'a [Vec<u8>],
     refused: &RefusedSet,
@@ -181,7 +181,7 @@ pub fn told_refusal<'a>(
 ) -> Result<Vec<u8>, AllocError>
     requires because { IsRefusalOf (map (λ s. s.items) sources.now) refused.now.fault }
     requires headers { AreHeadersFor (map (λ s. s.items) sources.now) refused.now.fault refused.now.located.items }
-    ensures { IfOk result (λ m. TellsRefusal explain.now.paint (map (λ s. s.items) explain.now.names.items) (map (λ s. s.items) sources.now) m.items) }
+    ensures { IfOk result (λ m. StatesRefusal explain.now.paint (map (λ s. s.items) explain.now.names.items) (map (λ s. s.items) sources.now) m.items) }
 {
     let Some(from) = behind(&refused.fault, sources.len()) else {
         unreachable!()

@@ -14,15 +14,15 @@ use Rattle.hm_verdicts.proofs.Composition.{settled_verdict}
 use Rattle.hm_store.specs.Settlements.{settlement}
 use Rattle.hm_store.specs.declared.record.Record.{Record}
 use Rattle.hm_build_output.specs.BuildTexts.{HasReport, IsBehind}
-use Rattle.hm_build_messages.specs.Explained.{AreMessagesOf, IsExplained, IsToldTo, TellsRefusal, TellsReport}
+use Rattle.hm_build_messages.specs.Explained.{AreMessagesOf, IsExplained, IsStatedTo, StatesRefusal, StatesReport}
 use Rattle.hm_build_reports.specs.FinishedBuilds.{IsFinished}
 use Rattle.hm_build_output.specs.JournalledRuns.{IsRun}
 use Rattle.hm_build_messages.specs.declared.options.Explain.{Explain}
 use Rattle.hm_build_reports.specs.Journals.{journal_text}
 
-pub told_to : {X E : Type 0} (answer : Result X E) (old new : Option (List ℕ)) (messages : List ℕ) (failed : Type 0) → OnOk answer (Appends old new messages) → OnErr answer (WritesPrefix old new messages) → OnErr answer failed → IsToldTo old new messages failed
-told_to (Ok x) old new messages failed all part cause = inl all
-told_to (Err e) old new messages failed all part cause = inr (part, cause)
+pub stated_to : {X E : Type 0} (answer : Result X E) (old new : Option (List ℕ)) (messages : List ℕ) (failed : Type 0) → OnOk answer (Appends old new messages) → OnErr answer (WritesPrefix old new messages) → OnErr answer failed → IsStatedTo old new messages failed
+stated_to (Ok x) old new messages failed all part cause = inl all
+stated_to (Err e) old new messages failed all part cause = inr (part, cause)
 
 behind_is : (b : Build) (journal : Bool) (report text : List ℕ) → IsBehind b journal report text → (behind : List ℕ) × (text ≡ report ++ behind)
 behind_is b false report text h = ([], h ∙ sym (append-nil report))
@@ -33,7 +33,7 @@ pub tells : (paint : Paint) (names sources : List (List ℕ)) (b : Build) (recor
     → IsFinished sources workers b records → AreMessagesOf paint names sources b messages → IsExplained paint names sources status text messages
 tells paint names sources b records workers journal status text messages h either f m =
     let behind = behind_is b journal h.report text h.behind in
-    let told : TellsReport paint names sources text messages = record {
+    let told : StatesReport paint names sources text messages = record {
       set = set_of b;
       settled = settlement b;
       read = f.read;
@@ -63,7 +63,7 @@ refused_run workers journal sources refusal status text because is says =
     subst (λ s. IsRun workers journal sources s text) (sym is) written
 
 -- and its messages explain it, where they are asked for
-pub all_refused : (explain : Option Explain) (sources : List (List ℕ)) (status : Status) (text messages : List ℕ) → status ≡ Refused → IfSome explain (λ e. TellsRefusal e.paint (map (λ s. s.items) e.names.items) sources messages)
+pub all_refused : (explain : Option Explain) (sources : List (List ℕ)) (status : Status) (text messages : List ℕ) → status ≡ Refused → IfSome explain (λ e. StatesRefusal e.paint (map (λ s. s.items) e.names.items) sources messages)
     → IfSome explain (λ e. IsExplained e.paint (map (λ s. s.items) e.names.items) sources status text messages)
 all_refused None sources status text messages is told = tt
 all_refused (Some e) sources status text messages is told = subst (λ s. IsExplained e.paint (map (λ s. s.items) e.names.items) sources s text messages) (sym is) told

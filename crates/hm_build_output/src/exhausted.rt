@@ -1,9 +1,9 @@
 //! The message of a module that can't be checked because memory ran out.
 ghost use Rattle.std.specs.Prelude.{IfSome, map};
-ghost use Rattle.hm_build_messages.specs.Explained.{TellsExhaustion};
+ghost use Rattle.hm_build_messages.specs.Explained.{StatesExhaustion};
 ghost use Rattle.hm_run_sources.specs.Origins.{IsModuleOf};
 
-use crate::options::Wanted;
+use crate::options::RunOptions;
 use hm_build_messages::module_message;
 use hm_run_sources::SourceModule;
 use std::alloc::Global;
@@ -13,14 +13,14 @@ use std::alloc::Global;
 pub fn exhausted_message<'a>(
     alloc: Global,
     sources: &'a [Vec<u8>],
-    wanted: &'a Wanted,
+    run_options: &'a RunOptions,
     here: &'a SourceModule,
 ) -> Option<Vec<u8>>
     requires { IsModuleOf (map (λ s. s.items) sources.now) here.now }
-    ensures { IfSome result (λ m. IfSome wanted.now.explain (λ e.
-        TellsExhaustion e.paint (map (λ s. s.items) e.names.items) (map (λ s. s.items) sources.now) m.items)) }
+    ensures { IfSome result (λ m. IfSome run_options.now.explain (λ e.
+        StatesExhaustion e.paint (map (λ s. s.items) e.names.items) (map (λ s. s.items) sources.now) m.items)) }
 {
-    match &wanted.explain {
+    match &run_options.explain {
         Some(explain) => module_message(alloc, sources, explain, here).ok(),
         None => None,
     }

@@ -1,6 +1,6 @@
 //! The messages of a refused set: of the fault for which it is refused, and of the first fault of each further source.
 ghost use Rattle.std.specs.Prelude.{ℕ, List, IfOk, IfSome, map, string_bytes};
-ghost use Rattle.hm_build_messages.specs.Explained.{TellsRefusal, AreMessagesOf, IsExplained};
+ghost use Rattle.hm_build_messages.specs.Explained.{StatesRefusal, AreMessagesOf, IsExplained};
 ghost use Rattle.hm_run_sources.specs.Origins.{AreHeadersFor};
 ghost use Rattle.hm_run_sources.specs.Runs.{IsRefusalOf};
 ghost use Rattle.hm_store.specs.declared.record.Record.{Record};
@@ -9,8 +9,8 @@ ghost use Rattle.hm_build_output.specs.JournalledRuns.{IsRun};
 ghost use Rattle.hm_run_sources.specs.ModuleCounts.{AreCountedModules};
 
 use crate::answers::finished_answer;
-use crate::options::Wanted;
-use hm_build_messages::{BuildView, Explain, explanation, starts_of, told_refusal};
+use crate::options::RunOptions;
+use hm_build_messages::{BuildView, Explain, explanation, refused_set_messages, starts_of};
 use hm_build_reports::{settled_in, skipped_in};
 use hm_messages::pages_of;
 use hm_run_sources::{Answer, RefusedSet, origins_of, refusal_answer};
@@ -69,17 +69,17 @@ pub fn finished_explained<'a>(
     store: &'a Store,
     counts: &[usize],
     sources: &'a [Vec<u8>],
-    wanted: &'a Wanted,
+    run_options: &'a RunOptions,
 ) -> Result<Explained, AllocError>
     requires { AreCountedModules (map (λ s. s.items) sources.now) store.now.modules counts.now }
     ensures run { IfOk result (λ a. (sources : List (List ℕ)) (records : List Record) (workers : ℕ) → IsFinished sources workers store.now records
-        → IsRun workers wanted.now.options.journal sources a.answer.status (string_bytes a.answer.text)) }
+        → IsRun workers run_options.now.options.journal sources a.answer.status (string_bytes a.answer.text)) }
     ensures told { IfOk result (λ a. (records : List Record) (workers : ℕ) → IsFinished (map (λ s. s.items) sources.now) workers store.now records
-        → IfSome wanted.now.explain (λ e. IsExplained e.paint (map (λ s. s.items) e.names.items) (map (λ s.
+        → IfSome run_options.now.explain (λ e. IsExplained e.paint (map (λ s. s.items) e.names.items) (map (λ s.
         s.items) sources.now) a.answer.status (string_bytes a.answer.text) a.messages.items)) }
 {
-    let answer = finished_answer(alloc, store, wanted.options.journal)?;
-    let messages = finished_messages(alloc, store, counts, sources, wanted)?;
+    let answer = finished_answer(alloc, store, run_options.options.journal)?;
+    let messages = finished_messages(alloc, store, counts, sources, run_options)?;
     Ok(Explained { answer, messages })
 }
 
@@ -88,15 +88,15 @@ pub(crate) fn refused_messages<'a>(
     alloc: Global,
     sources: &'a [Vec<u8>],
     refused: &RefusedSet,
-    wanted: &'a Wanted,
+    run_options: &'a RunOptions,
 ) -> Result<Vec<u8>, AllocError>
     requires because { IsRefusalOf (map (λ s. s.items) sources.now) refused.now.fault }
     requires headers { AreHeadersFor (map (λ s. s.items) sources.now) refused.now.fault refused.now.located.items }
-    ensures { IfOk result (λ m. IfSome wanted.now.explain (λ e.
-        TellsRefusal e.paint (map (λ s. s.items) e.names.items) (map (λ s. s.items) sources.now) m.items)) }
+    ensures { IfOk result (λ m. IfSome run_options.now.explain (λ e.
+        StatesRefusal e.paint (map (λ s. s.items) e.names.items) (map (λ s. s.items) sources.now) m.items)) }
 {
-    match &wanted.explain {
-        Some(explain) => Ok(told_refusal(alloc, sources, refused, explain)?),
+    match &run_options.explain {
+        Some(explain) => Ok(refused_set_messages(alloc, sources, refused, explain)?),
         None => Ok(Vec::new(alloc)),
     }
 }
@@ -106,17 +106,17 @@ pub fn refused_explained<'a>(
     alloc: Global,
     sources: &'a [Vec<u8>],
     refused: &RefusedSet,
-    wanted: &'a Wanted,
+    run_options: &'a RunOptions,
 ) -> Result<Explained, AllocError>
     requires because { IsRefusalOf (map (λ s. s.items) sources.now) refused.now.fault }
     requires headers { AreHeadersFor (map (λ s. s.items) sources.now) refused.now.fault refused.now.located.items }
-    ensures run { IfOk result (λ a. (workers : ℕ) → IsRun workers wanted.now.options.journal (map (λ s.
+    ensures run { IfOk result (λ a. (workers : ℕ) → IsRun workers run_options.now.options.journal (map (λ s.
         s.items) sources.now) a.answer.status (string_bytes a.answer.text)) }
-    ensures told { IfOk result (λ a. IfSome wanted.now.explain (λ e. IsExplained e.paint (map (λ s. s.items) e.names.items) (map (λ s.
+    ensures told { IfOk result (λ a. IfSome run_options.now.explain (λ e. IsExplained e.paint (map (λ s. s.items) e.names.items) (map (λ s.
         s.items) sources.now) a.answer.status (string_bytes a.answer.text) a.messages.items)) }
 {
     let answer = refusal_answer(alloc, &refused.fault)?;
-    let messages = refused_messages(alloc, sources, refused, wanted)?;
+    let messages = refused_messages(alloc, sources, refused, run_options)?;
     Ok(Explained { answer, messages })
 }
 
@@ -126,13 +126,13 @@ fn finished_messages<'a>(
     store: &'a Store,
     counts: &[usize],
     sources: &'a [Vec<u8>],
-    wanted: &'a Wanted,
+    run_options: &'a RunOptions,
 ) -> Result<Vec<u8>, AllocError>
     requires { AreCountedModules (map (λ s. s.items) sources.now) store.now.modules counts.now }
-    ensures { IfOk result (λ m. IfSome wanted.now.explain (λ e.
+    ensures { IfOk result (λ m. IfSome run_options.now.explain (λ e.
         AreMessagesOf e.paint (map (λ s. s.items) e.names.items) (map (λ s. s.items) sources.now) store.now m.items)) }
 {
-    match &wanted.explain {
+    match &run_options.explain {
         Some(explain) => Ok(build_messages(alloc, store, counts, sources, explain)?),
         None => Ok(Vec::new(alloc)),
     }

@@ -8,4 +8,4 @@ mod options;
 
 pub use crate::exhausted::exhausted_message;
 pub use crate::explained::{Explained, finished_explained, refused_explained};
-pub use crate::options::{Explaining, Options, Wanted};
+pub use crate::options::{Explaining, Options, RunOptions};

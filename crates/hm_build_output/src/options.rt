@@ -23,7 +23,7 @@ pub struct Explaining {
 
 /// The options of a run, and those of its messages if its faults are explained.
 #[derive(Drop)]
-pub struct Wanted {
+pub struct RunOptions {
     pub options: Options,
     pub explain: Option<Explain>,
 }

@@ -8,7 +8,7 @@ use Rattle.hm_messages_excerpts.specs.Escapes.{shown}
 use Rattle.hm_messages_excerpts.specs.Excerpts.{IsPlaceIn}
 use Rattle.hm_messages_excerpts.specs.declared.columns.Columns.{Columns}
 use Rattle.hm_messages.specs.Headings.{heading}
-use Rattle.hm_messages.specs.Messages.{HasNoMessage, HasNoReaderPlace, IsMessage, TellsAt, message_left_out, message_told, reader_place}
+use Rattle.hm_messages.specs.Messages.{HasNoMessage, HasNoReaderPlace, IsMessage, StatesAt, message_left_out, message_stated, reader_place}
 use Rattle.hm_messages.specs.Notices.{notice_of}
 use Rattle.hm_messages.specs.Subjects.{Subject}
 use Rattle.hm_messages.specs.Worked.{ForeignRow, MessageRow}
@@ -70,12 +70,12 @@ is_told Plain h = is_for_readers h
 is_told Coloured h = is_for_readers h
 is_told Json h = h is_first
 
-isnt_told : (paint : Paint) → HasNoMessage paint [] second_place
-isnt_told Plain = λ h. absurd (isnt_second h)
-isnt_told Coloured = λ h. absurd (isnt_second h)
-isnt_told Json = isnt_second
+isnt_stated : (paint : Paint) → HasNoMessage paint [] second_place
+isnt_stated Plain = λ h. absurd (isnt_second h)
+isnt_stated Coloured = λ h. absurd (isnt_second h)
+isnt_stated Json = isnt_second
 
-isnt_empty : (paint : Paint) (file : List ℕ) (s : Subject) → ¬ (TellsAt paint file [] first_place s [])
+isnt_empty : (paint : Paint) (file : List ℕ) (s : Subject) → ¬ (StatesAt paint file [] first_place s [])
 unfolding first_byte
 isnt_empty Plain file s h =
     let colon : 0 ≡ 58 = ap first_byte (no_line (shown file) (heading Plain (reader_place first_place h.columns) s) (notice_of s).sentence (excerpt_text h.excerpt) h.says) in
@@ -87,13 +87,13 @@ isnt_empty Json file s h = let says = h.says in search (rules, some_bytes)
 
 isnt_left_out : (paint : Paint) (file : List ℕ) (s : Subject) → ¬ (IsMessage paint file [] first_place s [])
 isnt_left_out paint file s m = elim m [
-  | message_told h ↦ isnt_empty paint file s h
+  | message_stated h ↦ isnt_empty paint file s h
   | message_left_out e n ↦ is_told paint n
 ]
 
 pub worked_messages : MessageRow
 worked_messages = record {
-  outside = λ paint file s. message_left_out refl (isnt_told paint);
+  outside = λ paint file s. message_left_out refl (isnt_stated paint);
   inside = isnt_left_out;
 }
 

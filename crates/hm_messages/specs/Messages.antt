@@ -93,25 +93,25 @@ pub record NamesModule (starts : List Start) (place : Place) (text : List ℕ) :
   pub says : text ≡ message_text message
 
 -- the text tells the subject at a place, to a reader or to a program
-abbrev pub TellsAt : Paint → List ℕ → List ℕ → Place → Subject → List ℕ → Type 0
-TellsAt Plain file source place subject text = IsProse Plain file source place subject text
-TellsAt Coloured file source place subject text = IsProse Coloured file source place subject text
-TellsAt Json file source place subject text = IsObject file source place subject text
+abbrev pub StatesAt : Paint → List ℕ → List ℕ → Place → Subject → List ℕ → Type 0
+StatesAt Plain file source place subject text = IsProse Plain file source place subject text
+StatesAt Coloured file source place subject text = IsProse Coloured file source place subject text
+StatesAt Json file source place subject text = IsObject file source place subject text
 
 -- the same, to a reader by the first line alone
-abbrev pub TellsInLine : Paint → List ℕ → List ℕ → Place → Subject → List ℕ → Type 0
-TellsInLine Plain file source place subject text = IsProseHeading Plain file source place subject text
-TellsInLine Coloured file source place subject text = IsProseHeading Coloured file source place subject text
-TellsInLine Json file source place subject text = IsObject file source place subject text
+abbrev pub StatesInLine : Paint → List ℕ → List ℕ → Place → Subject → List ℕ → Type 0
+StatesInLine Plain file source place subject text = IsProseHeading Plain file source place subject text
+StatesInLine Coloured file source place subject text = IsProseHeading Coloured file source place subject text
+StatesInLine Json file source place subject text = IsObject file source place subject text
 
 -- a message at a place. It is left out only if no message can name the place
 pub data IsMessage (paint : Paint) (file source : List ℕ) (place : Place) (subject : Subject) (text : List ℕ) : Type 0 where
-  message_told : TellsAt paint file source place subject text → IsMessage paint file source place subject text
+  message_stated : StatesAt paint file source place subject text → IsMessage paint file source place subject text
   message_left_out : text ≡ [] → HasNoMessage paint source place → IsMessage paint file source place subject text
 
 -- the first line of a message, or its object. It is left out by the same rule
 pub data IsHeadingAt (paint : Paint) (file source : List ℕ) (place : Place) (subject : Subject) (text : List ℕ) : Type 0 where
-  line_told : TellsInLine paint file source place subject text → IsHeadingAt paint file source place subject text
+  line_stated : StatesInLine paint file source place subject text → IsHeadingAt paint file source place subject text
   line_left_out : text ≡ [] → HasNoMessage paint source place → IsHeadingAt paint file source place subject text
 
 -- the position of the place that the detail names, if it names one that is in the source

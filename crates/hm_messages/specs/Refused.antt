@@ -101,8 +101,8 @@ pub record Way : Type 0 where
   pub name : List ℕ
   pub import : List ℕ
 
-abbrev pub IsWayTold : Paint → List (List ℕ) → List (List ℕ) → Way → List ℕ → Type 0
-IsWayTold paint files sources way text = (way.number < length sources) × IsHeadingAt paint (slice_index_or files way.number []) (slice_index_or sources way.number []) way.place (step way.name way.import) text
+abbrev pub IsWayStated : Paint → List (List ℕ) → List (List ℕ) → Way → List ℕ → Type 0
+IsWayStated paint files sources way text = (way.number < length sources) × IsHeadingAt paint (slice_index_or files way.number []) (slice_index_or sources way.number []) way.place (step way.name way.import) text
 
 -- one message at a place of a source, and after it a line for each of some imports
 pub record AreMessagesOf (paint : Paint) (files sources : List (List ℕ)) (number : ℕ) (place : Place) (subject : Subject) (text : List ℕ) : Type 0 where
@@ -110,35 +110,35 @@ pub record AreMessagesOf (paint : Paint) (files sources : List (List ℕ)) (numb
   pub told : IsMessageAt paint files sources number place subject first
   pub ways : List Way
   pub lines : List ℕ
-  pub steps : AreEach (IsWayTold paint files sources) ways lines
+  pub steps : AreEach (IsWayStated paint files sources) ways lines
   pub whole : text ≡ first ++ lines
 
 -- a message at an import that names no module
-abbrev pub IsMissingTold : Paint → List (List ℕ) → List (List ℕ) → SetImport → List ℕ → Type 0
-IsMissingTold paint files sources i text = IsMessageAt paint files sources i.number i.place (missing i.name) text
+abbrev pub IsMissingStated : Paint → List (List ℕ) → List (List ℕ) → SetImport → List ℕ → Type 0
+IsMissingStated paint files sources i text = IsMessageAt paint files sources i.number i.place (missing i.name) text
 
 -- the first import that names no module is this one, and the text has a message for each further one, in order. The number of errors is that of all of
 -- them
-pub record AreFurtherTold (paint : Paint) (files sources : List (List ℕ)) (first : SetImport) (errors : ℕ) (text : List ℕ) : Type 0 where
+pub record AreFurtherStated (paint : Paint) (files sources : List (List ℕ)) (first : SetImport) (errors : ℕ) (text : List ℕ) : Type 0 where
   pub located : List Located
   pub of_sources : AreLocated sources located
   pub more : List SetImport
   pub all : missing_imports located ≡ first ∷ more
-  pub told : AreEach (IsMissingTold paint files sources) more text
+  pub told : AreEach (IsMissingStated paint files sources) more text
   pub count : errors ≡ length more + 1
 
 -- a note at the name of this module, and nothing if there is none
-abbrev pub IsTwinTold : Paint → List (List ℕ) → List (List ℕ) → List ℕ → Option Located → List ℕ → Type 0
-IsTwinTold paint files sources name (Some l) text = IsMessageAt paint files sources l.source (record { line = l.header.name.line; column = l.header.name.column }) (twin name) text
-IsTwinTold paint files sources name None text = text ≡ []
+abbrev pub IsTwinStated : Paint → List (List ℕ) → List (List ℕ) → List ℕ → Option Located → List ℕ → Type 0
+IsTwinStated paint files sources name (Some l) text = IsMessageAt paint files sources l.source (record { line = l.header.name.line; column = l.header.name.column }) (twin name) text
+IsTwinStated paint files sources name None text = text ≡ []
 
 -- the text is a note at a module before the one with this number, which has its name. If none has it, there is no note
-pub record HasTwinTold (paint : Paint) (files sources : List (List ℕ)) («module» : ℕ) (name text : List ℕ) : Type 0 where
+pub record HasTwinStated (paint : Paint) (files sources : List (List ℕ)) («module» : ℕ) (name text : List ℕ) : Type 0 where
   pub located : List Located
   pub of_sources : AreLocated sources located
   pub found : Option Located
   pub twin_of : IsTwinOf name (take «module» located) found
-  pub told : IsTwinTold paint files sources name found text
+  pub told : IsTwinStated paint files sources name found text
 
 -- the text after the first message, which is at this place, and the number of errors. It has a note at the first module of a name that is taken, a line
 -- for each import of a cycle, or a message for each further import that names no module. Otherwise it is empty
@@ -146,9 +146,9 @@ abbrev pub IsBehind : Paint → List (List ℕ) → List (List ℕ) → Refusal 
 IsBehind paint files sources (lex n fault) number place errors text = (text ≡ []) × (errors ≡ 1)
 IsBehind paint files sources (parse n fault) number place errors text = (text ≡ []) × (errors ≡ 1)
 IsBehind paint files sources (plan planning.TooMany m i) number place errors text = (text ≡ []) × (errors ≡ 1)
-IsBehind paint files sources (plan (planning.Duplicate k) m i) number place errors text = HasTwinTold paint files sources k m text × (errors ≡ 1)
-IsBehind paint files sources (plan (planning.Missing k j) m i) number place errors text = AreFurtherTold paint files sources (record { number = number; place = place; name = i }) errors text
-IsBehind paint files sources (plan (planning.Cycle k) m i) number place errors text = (ways : List Way) × AreEach (IsWayTold paint files sources) ways text × (errors ≡ 1)
+IsBehind paint files sources (plan (planning.Duplicate k) m i) number place errors text = HasTwinStated paint files sources k m text × (errors ≡ 1)
+IsBehind paint files sources (plan (planning.Missing k j) m i) number place errors text = AreFurtherStated paint files sources (record { number = number; place = place; name = i }) errors text
+IsBehind paint files sources (plan (planning.Cycle k) m i) number place errors text = (ways : List Way) × AreEach (IsWayStated paint files sources) ways text × (errors ≡ 1)
 IsBehind paint files sources (plan planning.Memory m i) number place errors text = (text ≡ []) × (errors ≡ 1)
 
 -- a message of the refusal at its place, the text after it, and the number of errors that they report
@@ -165,7 +165,7 @@ pub record AreRefusalMessages (paint : Paint) (files sources : List (List ℕ)) 
   pub whole : text ≡ first ++ behind
 
 -- these messages, then one for the first fault of each further source, and the counts. No module is skipped
-pub record IsRefusalTold (paint : Paint) (files sources : List (List ℕ)) (refusal : Refusal) (text : List ℕ) : Type 0 where
+pub record IsRefusalStated (paint : Paint) (files sources : List (List ℕ)) (refusal : Refusal) (text : List ℕ) : Type 0 where
   pub messages : List ℕ
   pub errors : ℕ
   pub told : AreRefusalMessages paint files sources refusal errors messages

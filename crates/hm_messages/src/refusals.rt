@@ -8,7 +8,7 @@ ghost use Rattle.hm_messages.specs.Foreign.{HasNoMissing, HasSource, IsForeign, 
 ghost use Rattle.hm_messages.specs.Pages.{files_in, texts_in};
 ghost use Rattle.hm_messages.specs.Messages.{AreEach};
 ghost use Rattle.hm_messages.specs.Missing.{import_of};
-ghost use Rattle.hm_messages.specs.Refused.{Way, AreFurtherTold, AreMessagesOf, AreRefusalMessages, HasTwinTold, IsAdvised, IsMessageAt, IsNamedAt, IsMissingTold, IsTwinTold, IsWayTold, MayHint};
+ghost use Rattle.hm_messages.specs.Refused.{Way, AreFurtherStated, AreMessagesOf, AreRefusalMessages, HasTwinStated, IsAdvised, IsMessageAt, IsNamedAt, IsMissingStated, IsTwinStated, IsWayStated, MayHint};
 ghost use Rattle.hm_messages.specs.Subjects.{cycle, missing, subject_of, twice};
 ghost use Rattle.hm_messages.specs.Twins.{IsTwinOf};
 
@@ -205,7 +205,7 @@ fn step_line(
 ) -> Result<Vec<u8>, AllocError>
     requires { AreLocated (texts_in pages.now.items.items) located.now }
     ensures { IfOk result (λ text. (ways : List Way)
-        × AreEach (IsWayTold pages.now.paint (files_in pages.now.items.items) (texts_in pages.now.items.items)) ways text.items) }
+        × AreEach (IsWayStated pages.now.paint (files_in pages.now.items.items) (texts_in pages.now.items.items)) ways text.items) }
 {
     let Some(spot) = import_spot(located, step) else {
         return Ok(Vec::new(alloc));
@@ -231,7 +231,7 @@ fn step_lines(
 ) -> Result<Vec<u8>, AllocError>
     requires { AreLocated (texts_in pages.now.items.items) located.now }
     ensures { IfOk result (λ text. (ways : List Way)
-        × AreEach (IsWayTold pages.now.paint (files_in pages.now.items.items) (texts_in pages.now.items.items)) ways text.items) }
+        × AreEach (IsWayStated pages.now.paint (files_in pages.now.items.items) (texts_in pages.now.items.items)) ways text.items) }
 {
     let mut text = Vec::new(alloc);
     for step in steps {
@@ -306,7 +306,7 @@ fn twin_note(
 ) -> Result<Vec<u8>, AllocError>
     requires { All (λ l. l.source < length (texts_in pages.now.items.items)) earlier.now }
     ensures { IfOk result (λ text. (twin : Option Row) × IsTwinOf name.now earlier.now twin
-        × IsTwinTold pages.now.paint (files_in pages.now.items.items) (texts_in pages.now.items.items) name.now twin text.items) }
+        × IsTwinStated pages.now.paint (files_in pages.now.items.items) (texts_in pages.now.items.items) name.now twin text.items) }
 {
     let Some(here) = module_called(earlier, name) else {
         return Ok(Vec::new(alloc));
@@ -331,7 +331,7 @@ fn twice_messages(
     ensures { IfOk result (λ text. (at : ℕ) × (place : Place) × (first : List ℕ) × (behind : List ℕ)
         × IsMessageAt pages.now.paint (files_in pages.now.items.items) (texts_in pages.now.items.items) at place (twice name.now) first
         × IsNamedAt (texts_in pages.now.items.items) at place
-        × HasTwinTold pages.now.paint (files_in pages.now.items.items) (texts_in pages.now.items.items) number name.now behind
+        × HasTwinStated pages.now.paint (files_in pages.now.items.items) (texts_in pages.now.items.items) number name.now behind
         × (text.items ≡ first ++ behind)) }
 {
     let spot = module_spot(located, number);
@@ -355,7 +355,7 @@ fn missing_message(
     import: &MissingImport<'_>,
 ) -> Result<Vec<u8>, AllocError>
     requires { import.now.source < length (texts_in pages.now.items.items) }
-    ensures { IfOk result (λ text. IsMissingTold pages.now.paint (files_in pages.now.items.items) (texts_in pages.now.items.items) (import_of import.now)
+    ensures { IfOk result (λ text. IsMissingStated pages.now.paint (files_in pages.now.items.items) (texts_in pages.now.items.items) (import_of import.now)
         text.items) }
 {
     let spot = Spot {
@@ -372,7 +372,7 @@ fn further_messages(
     imports: &[MissingImport<'_>],
 ) -> Result<Vec<u8>, AllocError>
     requires { All (λ i. i.source < length (texts_in pages.now.items.items)) imports.now }
-    ensures { IfOk result (λ text. AreEach (λ i t. IsMissingTold pages.now.paint (files_in pages.now.items.items) (texts_in pages.now.items.items) (import_of i) t)
+    ensures { IfOk result (λ text. AreEach (λ i t. IsMissingStated pages.now.paint (files_in pages.now.items.items) (texts_in pages.now.items.items) (import_of i) t)
         imports.now text.items) }
 {
     let mut text = Vec::new(alloc);
@@ -402,7 +402,7 @@ fn missing_messages(
     ensures ok { IfOk result (λ told. (number : ℕ) × (place : Place) × (first : List ℕ) × (behind : List ℕ)
         × IsMessageAt pages.now.paint (files_in pages.now.items.items) (texts_in pages.now.items.items) number place (missing name.now) first
         × IsNamedAt (texts_in pages.now.items.items) number place
-        × AreFurtherTold pages.now.paint (files_in pages.now.items.items) (texts_in pages.now.items.items) (record { number = number; place = place; name = name.now }) told.errors behind
+        × AreFurtherStated pages.now.paint (files_in pages.now.items.items) (texts_in pages.now.items.items) (record { number = number; place = place; name = name.now }) told.errors behind
         × (told.text.items ≡ first ++ behind)) }
     ensures foreign { IsErrOf result MessageFault.Foreign → HasNoMissing (texts_in pages.now.items.items) name.now }
 {

@@ -25,7 +25,7 @@ blanks_end (b ∷ bs) = ap (λ (t : Bool). t ∷ map is_line_end (map blank bs))
 step_same : (p : Place) (a b : ℕ) → is_line_end a ≡ is_line_end b → place_step p a ≡ place_step p b
 step_same p a b e = ap (λ (t : Bool). if t then record { line = p.line + 1; column = 1 } else record { line = p.line; column = p.column + 1 }) e
 
--- bytes that end lines alike, behind bytes that lead to one place
+-- bytes that end lines alike, after bytes that lead to one place
 places_from : (before later xs ys : List ℕ) → place_after before ≡ place_after later → map is_line_end xs ≡ map is_line_end ys → place_after (before ++ xs) ≡ place_after (later ++ ys)
 places_from before later [] [] same e = ap place_after (append-nil before) ∙ (same ∙ ap place_after (sym (append-nil later)))
 places_from before later [] (y ∷ ys) same e = absurd (omega (arith, ap length e))

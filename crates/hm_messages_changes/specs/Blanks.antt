@@ -4,11 +4,11 @@ use Rattle.hm_lex.specs.Cut.{is_line_end, place_after}
 use Rattle.hm_messages_changes.specs.Holes.{hole}
 use Rattle.hm_messages_changes.specs.declared.data.Other.{Other}
 
--- a definition of a variable as the hole, behind a semicolon (Report 4.4.3)
+-- a definition of a variable as the hole, after a semicolon (Report 4.4.3)
 abbrev pub defined : List ℕ → List ℕ
 defined x = codes " ; " ++ (x ++ (codes " = " ++ hole))
 
--- the source with such definitions of these variables, put in behind its first bytes
+-- the source with such definitions of these variables, put in after its first bytes
 abbrev pub with_definitions : List ℕ → ℕ → List (List ℕ) → List ℕ
 with_definitions source at names = take at source ++ (flat_map defined names ++ drop at source)
 

@@ -49,11 +49,11 @@ pub record Surroundings : Type 0 where
   pub exported : Option ℕ
   pub names : List Span
   pub before : List Other
-  pub behind : List Other
+  pub after : List Other
 
 -- the source with a text in place of a definition
 abbrev pub around : List ℕ → Surroundings → List ℕ → List ℕ
-around source s text = before source s.exported s.names s.whole.from s.before ++ text ++ hollowed source s.whole.to (length source) s.behind
+around source s text = before source s.exported s.names s.whole.from s.before ++ text ++ hollowed source s.whole.to (length source) s.after
 
 -- the source with the function in place of a definition
 abbrev pub with_probe : List ℕ → List ℕ → Surroundings → SourceRange → List ℕ

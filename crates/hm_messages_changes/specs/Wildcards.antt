@@ -6,13 +6,13 @@ use Rattle.hm_messages_changes.specs.declared.data.Frame.TheVariants.{Where, Fro
 use Rattle.hm_messages_changes.specs.declared.data.Span.{Span}
 use Rattle.hm_messages_changes.specs.declared.data.SourceRange.{SourceRange}
 
--- what stands before bindings: a `where` of their own, nothing inside one that is there, or a `let` (Report 3.12, 4.4.3)
+-- what is before bindings: a `where` of their own, nothing inside one that is there, or a `let` (Report 3.12, 4.4.3)
 abbrev pub opening : Frame → List ℕ
 opening Where = codes " where { "
 opening Front = codes " "
 opening Let = codes " let { "
 
--- and what stands behind them
+-- and what is after them
 abbrev pub closing : Frame → List ℕ
 closing Where = codes "}"
 closing Front = []
@@ -26,7 +26,7 @@ hole_for source v = slice_range source v.from v.to ++ (codes " = " ++ (hole ++ c
 abbrev pub bindings : List ℕ → Frame → List Span → List ℕ
 bindings source frame variables = opening frame ++ (flat_map (hole_for source) variables ++ closing frame)
 
--- the source with `_` in place of its bytes from the first number up to the second, and with a text put in behind it (Report 3.17)
+-- the source with `_` in place of its bytes from the first number up to the second, and with a text put in after it (Report 3.17)
 abbrev pub with_wildcard : List ℕ → ℕ → ℕ → ℕ → List ℕ → List ℕ
 with_wildcard source from to at text = take from source ++ (codes "_" ++ (slice_range source to at ++ (text ++ drop at source)))
 

@@ -37,8 +37,8 @@ fn with_definitions(
 {
     let definitions = definitions_of(alloc, names)?;
     let front = &source[..at];
-    let behind = &source[at..];
-    Ok(joined(alloc, &[front, definitions.as_slice(), behind])?)
+    let after = &source[at..];
+    Ok(joined(alloc, &[front, definitions.as_slice(), after])?)
 }
 
 /// Returns a space, or the byte itself if it ends a line.
@@ -67,8 +67,8 @@ fn blanked(alloc: Global, source: &[u8], definition: &Other<'_>) -> Result<Vec<u
 {
     let spaces = blanks(alloc, &source[definition.from..definition.to])?;
     let front = &source[..definition.from];
-    let behind = &source[definition.to..];
-    Ok(joined(alloc, &[front, spaces.as_slice(), behind])?)
+    let after = &source[definition.to..];
+    Ok(joined(alloc, &[front, spaces.as_slice(), after])?)
 }
 
 /// Returns the source with spaces in place of definitions. Returns `None` if they aren't in the source.

@@ -2,9 +2,9 @@
 ghost use Rattle.std.specs.Prelude.{◌≡◌, ◌≤◌, length, true};
 
 use crate::data::HOLE;
-use crate::edits::{Edit, Filling, before, behind, bracketed, in_place};
+use crate::edits::{Edit, Filling, after, before, bracketed, in_place};
 use crate::reported::Reported;
-use hm_messages_outline::{Lexed, Outline, Part, Role, Run};
+use hm_messages_outline::{Lexed, Outline, Role, Run, TermPart};
 use hm_parse_grammar::Symbol;
 use std::alloc::{AllocError, Global};
 
@@ -23,7 +23,7 @@ const LAST_COMPONENT: &str = ", let { h = h } in h";
 #[derive(Clone, Copy)]
 pub struct SmallChange {
     /// What is reported if the change gives a definition a type. With a hole in place of a reported expression, the definition has one too.
-    pub told: Reported,
+    pub reported: Reported,
     pub first: Edit,
     pub second: Edit,
 }
@@ -52,7 +52,7 @@ fn add_exchange(
     second: Run,
 ) -> Result<(), AllocError> {
     found.push(SmallChange {
-        told: Reported::Exchange(first, second),
+        reported: Reported::Exchange(first, second),
         first: in_place(lexed, first, bracketed(lexed, second)),
         second: in_place(lexed, second, bracketed(lexed, first)),
     })?;
@@ -92,9 +92,9 @@ fn add_without_one(
             end: atoms[number].end,
         };
         found.push(SmallChange {
-            told: Reported::Removal(atoms[number], around),
+            reported: Reported::Removal(atoms[number], around),
             first: in_place(lexed, atoms[number], NOTHING),
-            second: behind(lexed, whole, NOTHING),
+            second: after(lexed, whole, NOTHING),
         })?;
     }
     Ok(())
@@ -109,14 +109,14 @@ fn add_with_one_more(
 ) -> Result<(), AllocError> {
     for back in 0..atoms.len() {
         let atom = atoms[atoms.len() - 1 - back];
-        let told = Run {
+        let reported = Run {
             start: whole.start,
             end: atom.end,
         };
         found.push(SmallChange {
-            told: Reported::Expression(told),
-            first: behind(lexed, atom, Filling::Text(HOLE)),
-            second: behind(lexed, whole, NOTHING),
+            reported: Reported::Expression(reported),
+            first: after(lexed, atom, Filling::Text(HOLE)),
+            second: after(lexed, whole, NOTHING),
         })?;
     }
     Ok(())
@@ -173,9 +173,9 @@ fn add_of_name(
     }
     if name.end.saturating_sub(name.start) == 1 {
         found.push(SmallChange {
-            told: Reported::Expression(name),
+            reported: Reported::Expression(name),
             first: before(lexed, name, Filling::Text("(")),
-            second: behind(lexed, name, Filling::Text(LAST_ARGUMENT)),
+            second: after(lexed, name, Filling::Text(LAST_ARGUMENT)),
         })?;
     }
     Ok(())
@@ -203,9 +203,9 @@ fn add_unlisted(
             end: list.end.saturating_sub(1),
         };
         found.push(SmallChange {
-            told: Reported::Expression(list),
+            reported: Reported::Expression(list),
             first: in_place(lexed, list, bracketed(lexed, inner)),
-            second: behind(lexed, list, NOTHING),
+            second: after(lexed, list, NOTHING),
         })?;
     }
     Ok(())
@@ -215,7 +215,7 @@ fn add_unlisted(
 fn add_unlisted_inside(
     found: &mut Vec<SmallChange>,
     lexed: &Lexed<'_>,
-    part: Part,
+    part: TermPart,
 ) -> Result<(), AllocError> {
     for at in part.run.start..part.run.end {
         let list = Run {
@@ -228,9 +228,9 @@ fn add_unlisted_inside(
                 end: list.end.saturating_sub(1),
             };
             found.push(SmallChange {
-                told: Reported::Pattern(part.run, part.around),
+                reported: Reported::Pattern(part.run, part.around),
                 first: in_place(lexed, list, bracketed(lexed, inner)),
-                second: behind(lexed, list, NOTHING),
+                second: after(lexed, list, NOTHING),
             })?;
         }
     }
@@ -252,9 +252,9 @@ fn add_with_component(
             end: last,
         };
         found.push(SmallChange {
-            told: Reported::Expression(run),
-            first: behind(lexed, inner, Filling::Text(LAST_COMPONENT)),
-            second: behind(lexed, run, NOTHING),
+            reported: Reported::Expression(run),
+            first: after(lexed, inner, Filling::Text(LAST_COMPONENT)),
+            second: after(lexed, run, NOTHING),
         })?;
     }
     Ok(())
@@ -289,7 +289,7 @@ fn add_of_pair(
 pub fn changes_at(
     alloc: Global,
     lexed: &Lexed<'_>,
-    part: Part,
+    part: TermPart,
 ) -> Result<Vec<SmallChange>, AllocError> {
     let mut found = Vec::new(alloc);
     let around = part.around;

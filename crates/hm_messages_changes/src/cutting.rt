@@ -37,8 +37,8 @@ impl Writer {
     /// Appends a declaration, or a hole in place of its right sides if it is a clause of a variable with a signature.
     fn add(&mut self, lexed: &Lexed<'_>, run: Run) -> Result<(), AllocError> {
         let name = run.start;
-        let behind = lexed.outline.symbol(name.saturating_add(1));
-        if lexed.outline.symbol(name).is(Symbol::Var) && behind.begins_signature() {
+        let after = lexed.outline.symbol(name.saturating_add(1));
+        if lexed.outline.symbol(name).is(Symbol::Var) && after.begins_signature() {
             self.signature = run;
             return add_tokens(&mut self.text, lexed, run);
         }

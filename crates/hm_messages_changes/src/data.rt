@@ -12,7 +12,7 @@ pub struct Span {
     pub to: usize,
 }
 
-/// A part of a source without which a definition has a type.
+/// A part of a source, with the places of its first and last bytes.
 #[derive(Clone, Copy)]
 pub struct SourceRange {
     /// Where the part begins, in bytes of the source.
@@ -67,5 +67,5 @@ pub struct Layout<'a> {
     /// The definitions before it that are holes, in order.
     pub before: &'a [Other<'a>],
     /// The definitions after it that are holes, in order.
-    pub behind: &'a [Other<'a>],
+    pub after: &'a [Other<'a>],
 }

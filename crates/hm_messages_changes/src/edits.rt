@@ -36,7 +36,7 @@ pub(crate) fn before(lexed: &Lexed<'_>, run: Run, by: Filling) -> Edit {
 }
 
 /// Returns the edit that puts a text after a run.
-pub(crate) fn behind(lexed: &Lexed<'_>, run: Run, by: Filling) -> Edit {
+pub(crate) fn after(lexed: &Lexed<'_>, run: Run, by: Filling) -> Edit {
     let to = lexed.end(run);
     Edit { from: to, to, by }
 }

@@ -29,12 +29,12 @@ pub fn with_exchanged(
     ensures { IfOk result (λ made. made.items ≡ exchanged_text source.now first second) }
 {
     let in_front = bracketed(alloc, source, second)?;
-    let behind = bracketed(alloc, source, first)?;
+    let after = bracketed(alloc, source, first)?;
     let start = &source[..first.from];
     let middle = &source[first.to..second.from];
     let end = &source[second.to..];
     Ok(joined(
         alloc,
-        &[start, in_front.as_slice(), middle, behind.as_slice(), end],
+        &[start, in_front.as_slice(), middle, after.as_slice(), end],
     )?)
 }

@@ -37,8 +37,8 @@ fn probed_definition(
 {
     let probed = probed_part(alloc, &source[part.from..part.to])?;
     let front = &source[whole.from..part.from];
-    let behind = &source[part.to..whole.to];
-    Ok(joined(alloc, &[front, probed.as_slice(), behind])?)
+    let after = &source[part.to..whole.to];
+    Ok(joined(alloc, &[front, probed.as_slice(), after])?)
 }
 
 /// Returns the hole in place of a definition, and a second name for it.
@@ -88,17 +88,12 @@ fn alone(alloc: Global, name: &[u8], definition: &[u8]) -> Result<Vec<u8>, Alloc
 }
 
 /// Returns the hole in place of a definition, between two texts.
-fn with_hollow(
-    alloc: Global,
-    front: &[u8],
-    name: &str,
-    behind: &[u8],
-) -> Result<Vec<u8>, AllocError>
-    ensures { IfOk result (λ made. made.items ≡ front.now ++ name.now ++ codes " = " ++ hole ++ behind.now) }
+fn with_hollow(alloc: Global, front: &[u8], name: &str, after: &[u8]) -> Result<Vec<u8>, AllocError>
+    ensures { IfOk result (λ made. made.items ≡ front.now ++ name.now ++ codes " = " ++ hole ++ after.now) }
 {
     Ok(joined(
         alloc,
-        &[front, name.as_bytes(), b" = ", HOLE.as_bytes(), behind],
+        &[front, name.as_bytes(), b" = ", HOLE.as_bytes(), after],
     )?)
 }
 
@@ -121,11 +116,11 @@ fn hollowed(
     if from > first.from || first.from > source.len() {
         return Ok(None);
     }
-    let Some(behind) = hollowed(alloc, source, first.to, to, rest)? else {
+    let Some(after) = hollowed(alloc, source, first.to, to, rest)? else {
         return Ok(None);
     };
     let front = &source[from..first.from];
-    Ok(Some(with_hollow(alloc, front, first.name, behind.as_slice())?))
+    Ok(Some(with_hollow(alloc, front, first.name, after.as_slice())?))
 }
 
 /// Returns a name of the source for an export list.
@@ -165,7 +160,7 @@ fn listed_before(
     if at > source.len() {
         return Ok(None);
     }
-    let Some(behind) = hollowed(alloc, source, at, layout.whole.from, layout.before)? else {
+    let Some(after) = hollowed(alloc, source, at, layout.whole.from, layout.before)? else {
         return Ok(None);
     };
     let Some(names) = all_listed(alloc, source, layout.names)? else {
@@ -174,7 +169,7 @@ fn listed_before(
     let front = &source[..at];
     Ok(Some(joined(
         alloc,
-        &[front, b"part'types , ", names.as_slice(), behind.as_slice()],
+        &[front, b"part'types , ", names.as_slice(), after.as_slice()],
     )?))
 }
 
@@ -200,10 +195,10 @@ fn around(alloc: Global, layout: &Layout<'_>, text: &[u8]) -> Result<Option<Vec<
         return Ok(None);
     };
     let to = layout.whole.to;
-    let Some(behind) = hollowed(alloc, source, to, source.len(), layout.behind)? else {
+    let Some(after) = hollowed(alloc, source, to, source.len(), layout.after)? else {
         return Ok(None);
     };
-    Ok(Some(joined(alloc, &[front.as_slice(), text, behind.as_slice()])?))
+    Ok(Some(joined(alloc, &[front.as_slice(), text, after.as_slice()])?))
 }
 
 /// Returns the source with the function in place of the definition, or `None` if the part doesn't lie in that.

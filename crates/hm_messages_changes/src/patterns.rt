@@ -3,35 +3,35 @@
 use crate::data::{Frame, HOLE};
 use crate::edits::{Edit, Filling, copied, in_place};
 use crate::wildcards::{closing, opening};
-use hm_messages_outline::{Lexed, Part, Run, one};
+use hm_messages_outline::{Lexed, Run, TermPart, one};
 use hm_parse_grammar::Symbol;
 use std::alloc::AllocError;
 
 /// The place where the variables of a removed pattern are bound.
 #[derive(Clone, Copy)]
-pub struct Spot {
+pub struct BindingPlace {
     pub frame: Frame,
     /// The byte at which the bindings are put in.
     pub at: usize,
 }
 
 /// Returns where the variables of a pattern of this clause, alternative or lambda are bound.
-pub fn spot_in(lexed: &Lexed<'_>, around: Run) -> Option<Spot> {
+pub fn binding_place(lexed: &Lexed<'_>, around: Run) -> Option<BindingPlace> {
     let outline = lexed.outline;
     let Run { start, end } = around;
     if outline.symbol(start).is(Symbol::Backslash) {
         let arrow = outline.find(start.saturating_add(1), end, Symbol::Arrow)?;
-        return Some(Spot {
+        return Some(BindingPlace {
             frame: Frame::Let,
             at: lexed.start(arrow.saturating_add(1)),
         });
     }
     match outline.find(start, end, Symbol::Where) {
-        Some(word) => Some(Spot {
+        Some(word) => Some(BindingPlace {
             frame: Frame::Front,
             at: lexed.end(one(word.saturating_add(1))),
         }),
-        None => Some(Spot {
+        None => Some(BindingPlace {
             frame: Frame::Where,
             at: lexed.end(around),
         }),
@@ -39,7 +39,7 @@ pub fn spot_in(lexed: &Lexed<'_>, around: Run) -> Option<Spot> {
 }
 
 /// Returns an edit that puts something in at a spot.
-fn put(spot: Spot, by: Filling) -> Edit {
+fn put(spot: BindingPlace, by: Filling) -> Edit {
     Edit {
         from: spot.at,
         to: spot.at,
@@ -51,7 +51,7 @@ fn put(spot: Spot, by: Filling) -> Edit {
 fn add_bindings(
     edits: &mut Vec<Edit>,
     lexed: &Lexed<'_>,
-    spot: Spot,
+    spot: BindingPlace,
     pattern: Run,
 ) -> Result<(), AllocError> {
     for at in pattern.start..pattern.end {
@@ -73,9 +73,9 @@ pub fn add_open_patterns(
     edits: &mut Vec<Edit>,
     lexed: &Lexed<'_>,
     around: Run,
-    patterns: &[Part],
+    patterns: &[TermPart],
 ) -> Result<(), AllocError> {
-    let Some(spot) = spot_in(lexed, around) else {
+    let Some(spot) = binding_place(lexed, around) else {
         return Ok(());
     };
     for pattern in patterns {

@@ -36,8 +36,8 @@ fn part_at(source: &[u8], from: usize, to: usize) -> SourceRange
     SourceRange {
         from,
         to,
-        start: place_behind(source, from),
-        end: place_behind(source, to - 1),
+        start: place_of_byte(source, from),
+        end: place_of_byte(source, to - 1),
     }
 }
 
@@ -72,7 +72,7 @@ fn past(place: Place, byte: u8) -> Place
 }
 
 /// Returns the place after a text.
-fn place_behind_all(text: &[u8]) -> Place
+fn place_after_all(text: &[u8]) -> Place
     requires { length text.now + 1 < 2 ^ 32 }
     ensures { result ≡ place_after text.now }
 {
@@ -84,10 +84,10 @@ fn place_behind_all(text: &[u8]) -> Place
 }
 
 /// Returns the place after the first bytes of a source.
-pub fn place_behind(source: &[u8], at: usize) -> Place
+pub fn place_of_byte(source: &[u8], at: usize) -> Place
     requires within { at ≤ length source.now }
     requires short { at + 1 < 2 ^ 32 }
     ensures { result ≡ place_after (take at source.now) }
 {
-    place_behind_all(&source[..at])
+    place_after_all(&source[..at])
 }

@@ -22,8 +22,8 @@ struct Definition {
 /// Returns the definition that begins here with a clause or with a signature of its own.
 fn definition_at(lexed: &Lexed<'_>, at: usize) -> Option<Definition> {
     let mut clause = at;
-    let behind = lexed.outline.symbol(at.saturating_add(1));
-    if behind.is(Symbol::OfType) {
+    let after = lexed.outline.symbol(at.saturating_add(1));
+    if after.is(Symbol::OfType) {
         clause = past_semicolons(lexed.outline, declaration_end(lexed.outline, at));
     }
     if !is_clause_of(lexed.source, lexed.tokens, lexed.outline, clause, at) {

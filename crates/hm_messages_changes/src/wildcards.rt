@@ -58,8 +58,8 @@ pub fn bindings(alloc: Global, source: &[u8], rebound: &Rebound<'_>) -> Result<V
 {
     let holes = holes_for(alloc, source, rebound.variables)?;
     let front = opening(rebound.frame).as_bytes();
-    let behind = closing(rebound.frame).as_bytes();
-    Ok(joined(alloc, &[front, holes.as_slice(), behind])?)
+    let after = closing(rebound.frame).as_bytes();
+    Ok(joined(alloc, &[front, holes.as_slice(), after])?)
 }
 
 /// Returns the source with `_` in place of a part, and with a text after it.
@@ -71,7 +71,7 @@ pub fn with_wildcard(
     text: &[u8],
 ) -> Result<Vec<u8>, AllocError>
     requires ordered { part.from ≤ part.to }
-    requires behind { part.to ≤ at }
+    requires after { part.to ≤ at }
     requires within { at ≤ length source.now }
     ensures { IfOk result (λ made. made.items ≡ wildcard_text source.now part.from part.to at text.now) }
 {

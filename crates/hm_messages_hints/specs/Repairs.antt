@@ -5,20 +5,20 @@ use Rattle.hm_parse_grammar.specs.Grammar.Modules.{Spells}
 use Rattle.hm_syntax.specs.declared.ast.Module.{Module}
 use Rattle.hm_messages_hints.specs.Marks.{IsMarkIn}
 use Rattle.hm_messages_hints.specs.declared.mark.Mark.TheVariants.{RightBrace}
-use Rattle.hm_messages_hints.specs.declared.change.Change.{Change}
-use Rattle.hm_messages_hints.specs.declared.change.Change.TheVariants.{Insert, Replace, Remove}
+use Rattle.hm_messages_hints.specs.declared.change.TokenChange.{TokenChange}
+use Rattle.hm_messages_hints.specs.declared.change.TokenChange.TheVariants.{Insert, Replace, Remove}
 use Rattle.hm_messages_hints.specs.declared.change.Repair.{Repair}
 use Rattle.hm_messages_hints.specs.declared.change.Scope.{Scope}
 use Rattle.hm_messages_hints.specs.declared.change.Scope.TheVariants.{Whole, Declaration}
 
 -- the tokens after the change of the one with this number. The token `mark` is the one that the change puts in
-abbrev pub changed : Change → ℕ → Token → List Token → List Token
+abbrev pub changed : TokenChange → ℕ → Token → List Token → List Token
 changed (Insert m) at mark ts = take at ts ++ (mark ∷ drop at ts)
 changed (Replace m) at mark ts = take at ts ++ (mark ∷ drop (at + 1) ts)
 changed Remove at mark ts = take at ts ++ drop (at + 1) ts
 
 -- the token is the mark that the change puts in, if it puts one in
-abbrev pub IsPutIn : List ℕ → Change → Token → Type 0
+abbrev pub IsPutIn : List ℕ → TokenChange → Token → Type 0
 IsPutIn text (Insert m) mark = IsMarkIn text m mark
 IsPutIn text (Replace m) mark = IsMarkIn text m mark
 IsPutIn text Remove mark = ⊤
@@ -27,7 +27,7 @@ IsPutIn text Remove mark = ⊤
 abbrev pub repaired : Repair → Token → Token → List Token → List Token
 repaired r mark close ts = repaired_in r.scope r.change r.at mark close ts
   where
-    repaired_in : Scope → Change → ℕ → Token → Token → List Token → List Token
+    repaired_in : Scope → TokenChange → ℕ → Token → Token → List Token → List Token
     repaired_in Whole change at mark close ts = changed change at mark ts
     repaired_in (Declaration header body) change at mark close ts =
         slice_range ts header.start header.end ++ (changed change (at - body.start) mark (slice_range ts body.start body.end) ++ (close ∷ []))

@@ -2,8 +2,8 @@
 use Rattle.std.specs.Prelude.{ℕ, List, [], ◌++◌, codes}
 use Rattle.hm_messages_hints.specs.Features.{feature_help, feature_text}
 use Rattle.hm_messages_hints.specs.Marks.{mark_text}
-use Rattle.hm_messages_hints.specs.declared.change.Change.{Change}
-use Rattle.hm_messages_hints.specs.declared.change.Change.TheVariants.{Insert, Replace, Remove}
+use Rattle.hm_messages_hints.specs.declared.change.TokenChange.{TokenChange}
+use Rattle.hm_messages_hints.specs.declared.change.TokenChange.TheVariants.{Insert, Replace, Remove}
 use Rattle.hm_messages_hints.specs.declared.syntax_hints.SyntaxHint.{SyntaxHint}
 use Rattle.hm_messages_hints.specs.declared.syntax_hints.SyntaxHint.TheVariants.{NoHeader, ModuleEnded, NoBrace, LeftOut, Comprehension, Range, SmallName, AppliedVariable, Repaired, WherePart, NoElse, NotClosed, InPattern, Record, Update, NoAlternative, Unexpected, AppliedName, TypedPattern, ConsPattern, GuardAfterEquals, GuardArrow, ConstructorComma, NumberComma, WhereAfterSemicolon, NoThen, NewtypeArguments, LateQualified, AtSign}
 
@@ -12,7 +12,7 @@ abbrev pub quoted : List ℕ → List ℕ
 quoted [] = codes "the end of the source"
 quoted text = codes "'" ++ text ++ codes "'"
 
-abbrev pub change_text : Change → List ℕ → List ℕ
+abbrev pub change_text : TokenChange → List ℕ → List ℕ
 change_text (Insert m) text = codes "expected '" ++ mark_text m ++ codes "' before " ++ quoted text
 change_text (Replace m) text = codes "expected '" ++ mark_text m ++ codes "', found " ++ quoted text
 change_text Remove text = codes "unexpected " ++ quoted text
@@ -49,7 +49,7 @@ syntax_text (NewtypeArguments k) text = codes "a 'newtype' has one constructor w
 syntax_text LateQualified text = codes "'qualified' comes before the name of the module"
 syntax_text AtSign text = codes "'@' can only follow a variable in a pattern"
 
-abbrev pub change_help : Change → List ℕ
+abbrev pub change_help : TokenChange → List ℕ
 change_help (Insert m) = codes "With it this can be read.\n"
 change_help (Replace m) = codes "With it this can be read.\n"
 change_help Remove = codes "Without it this can be read.\n"

@@ -5,7 +5,7 @@ use hm_messages_outline::Run;
 
 /// A change of one token.
 #[derive(Clone, Copy, Debug, PartialEq, Eq)]
-pub enum Change {
+pub enum TokenChange {
     /// Puts this mark in before it.
     Insert(Mark),
     /// Replaces it with this mark.
@@ -28,6 +28,6 @@ pub enum Scope {
 #[derive(Clone, Copy, Debug, PartialEq, Eq)]
 pub struct Repair {
     pub at: usize,
-    pub change: Change,
+    pub change: TokenChange,
     pub scope: Scope,
 }

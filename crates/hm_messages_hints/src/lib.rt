@@ -13,7 +13,7 @@ mod mark;
 mod syntax_hints;
 mod syntax_texts;
 
-pub use crate::change::{Change, Repair, Scope};
+pub use crate::change::{Repair, Scope, TokenChange};
 pub use crate::features::{Feature, feature_of};
 pub use crate::lexeme_hints::{LexemeHint, lexeme_hint, operator_in};
 pub use crate::lexeme_texts::{lexeme_help, lexeme_text};

@@ -2,7 +2,7 @@
 ghost use Rattle.std.specs.Prelude.{◌≡◌, ◌++◌, IfOk, string_bytes};
 ghost use Rattle.hm_messages_hints.specs.SyntaxTexts.{change_help, change_text, quoted, syntax_help, syntax_text};
 
-use crate::change::Change;
+use crate::change::TokenChange;
 use crate::syntax_hints::SyntaxHint;
 use std::alloc::{AllocError, Global};
 
@@ -25,21 +25,21 @@ fn around(alloc: Global, front: &str, text: &str, back: &str) -> Result<String, 
 }
 
 /// Returns the first line of the text of a change of the token with this text.
-fn change_text(alloc: Global, change: Change, text: &str) -> Result<String, AllocError>
+fn change_text(alloc: Global, change: TokenChange, text: &str) -> Result<String, AllocError>
     ensures { IfOk result (λ line. string_bytes line ≡ change_text change text.now) }
 {
     let quote = quoted(alloc, text)?;
     let quote = quote.as_str();
     match change {
-        Change::Insert(mark) => {
+        TokenChange::Insert(mark) => {
             let mark = mark.text();
             format!(in alloc; "expected '{mark}' before {quote}")
         }
-        Change::Replace(mark) => {
+        TokenChange::Replace(mark) => {
             let mark = mark.text();
             format!(in alloc; "expected '{mark}', found {quote}")
         }
-        Change::Remove => format!(in alloc; "unexpected {quote}"),
+        TokenChange::Remove => format!(in alloc; "unexpected {quote}"),
     }
 }
 
@@ -92,7 +92,7 @@ pub fn syntax_text(alloc: Global, hint: SyntaxHint, text: &str) -> Result<String
             alloc,
             "a 'case' needs at least one alternative",
         ),
-        SyntaxHint::Unexpected => change_text(alloc, Change::Remove, text),
+        SyntaxHint::Unexpected => change_text(alloc, TokenChange::Remove, text),
         SyntaxHint::AppliedName(_) => around(
             alloc,
             "a variable takes no arguments in a pattern: is ',' missing before ",
@@ -129,12 +129,12 @@ pub fn syntax_text(alloc: Global, hint: SyntaxHint, text: &str) -> Result<String
 }
 
 /// Returns the second line of the text of a change.
-fn change_help(change: Change) -> &'static str
+fn change_help(change: TokenChange) -> &'static str
     ensures { result.now ≡ change_help change }
 {
     match change {
-        Change::Insert(_) | Change::Replace(_) => "With it this can be read.\n",
-        Change::Remove => "Without it this can be read.\n",
+        TokenChange::Insert(_) | TokenChange::Replace(_) => "With it this can be read.\n",
+        TokenChange::Remove => "Without it this can be read.\n",
     }
 }
 

@@ -30,8 +30,8 @@ pub fn is_clause_of(
     if !outline.symbol(at).is(Symbol::Var) || !outline.symbol(variable).is(Symbol::Var) {
         return false;
     }
-    let behind = outline.symbol(at.saturating_add(1));
-    if behind.begins_signature() || behind.continues_pattern() {
+    let after = outline.symbol(at.saturating_add(1));
+    if after.begins_signature() || after.continues_pattern() {
         return false;
     }
     token_bytes(source, &tokens[at]) == token_bytes(source, &tokens[variable])
@@ -122,9 +122,9 @@ pub fn signature_of(lexed: &Lexed<'_>, clause: usize) -> Option<Run> {
         }
         let end = declaration_end(lexed.outline, at);
         let run = Run { start: at, end };
-        let behind = lexed.outline.symbol(at.saturating_add(1));
+        let after = lexed.outline.symbol(at.saturating_add(1));
         if lexed.outline.symbol(at).is(Symbol::Var)
-            && behind.begins_signature()
+            && after.begins_signature()
             && has_clause(lexed, run, clause)
         {
             return Some(run);

@@ -22,7 +22,7 @@ fn module_start(symbols: &[Symbol], fault: usize) -> usize {
 }
 
 /// Returns the number of open braces after a symbol.
-fn depth_behind(depth: usize, symbol: Symbol) -> usize {
+fn depth_after(depth: usize, symbol: Symbol) -> usize {
     match symbol {
         Symbol::LeftBrace => depth.saturating_add(1),
         Symbol::RightBrace => depth.saturating_sub(1),
@@ -43,7 +43,7 @@ fn body_end(symbols: &[Symbol], start: usize, fault: usize) -> usize {
                 return at;
             }
         }
-        depth = depth_behind(depth, symbol);
+        depth = depth_after(depth, symbol);
     }
     symbols.len()
 }
@@ -63,7 +63,7 @@ pub fn declaration_at(symbols: &[Symbol], fault: usize) -> Option<Enclosing> {
         if symbol.is(Symbol::Semicolon) && depth == 1 {
             start = at.saturating_add(1);
         }
-        depth = depth_behind(depth, symbol);
+        depth = depth_after(depth, symbol);
     }
     let brace = brace?;
     let header = Run {

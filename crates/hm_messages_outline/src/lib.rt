@@ -21,5 +21,5 @@ pub use crate::definitions::{
 };
 pub use crate::enclosing::{Enclosing, declaration_at};
 pub use crate::outline::{Lexed, Outline};
-pub use crate::parts::{Part, Role, parts_below, right_sides, without_brackets};
+pub use crate::parts::{Role, TermPart, parts_below, right_sides, without_brackets};
 pub use crate::tokens::{Run, number_at, one, symbols_of};

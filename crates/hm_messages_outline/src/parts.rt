@@ -25,7 +25,7 @@ pub enum Role {
 
 /// An expression, or a pattern of one: a run of tokens.
 #[derive(Clone, Copy)]
-pub struct Part {
+pub struct TermPart {
     pub run: Run,
     pub role: Role,
     /// The expression that it is directly inside, or its own run if it is a body. For a pattern, its clause, alternative or lambda.
@@ -49,7 +49,7 @@ fn fits_all(outline: &Outline, run: Run) -> bool {
 /// The parts that are found.
 #[derive(Drop)]
 struct Found {
-    parts: Vec<Part>,
+    parts: Vec<TermPart>,
     /// Lists of declarations or of alternatives that a walk still has to go over.
     lists: Vec<Run>,
 }
@@ -58,7 +58,7 @@ impl Found {
     /// Appends the expression of these tokens, if there are any.
     fn add_in(&mut self, run: Run, role: Role, around: Run) -> Result<(), AllocError> {
         if run.start < run.end {
-            self.parts.push(Part { run, role, around })?;
+            self.parts.push(TermPart { run, role, around })?;
         }
         Ok(())
     }
@@ -113,7 +113,7 @@ const AT_PATTERNS: Spot = Spot {
 };
 
 /// Returns the position of a walk after a symbol that changes it. `at` is the number of its token.
-fn spot_behind(spot: Spot, symbol: Symbol, at: usize) -> Option<Spot> {
+fn spot_after(spot: Spot, symbol: Symbol, at: usize) -> Option<Spot> {
     let next = Some(at.saturating_add(1));
     let is_signature = spot.is_signature;
     match symbol {
@@ -145,11 +145,11 @@ fn spot_behind(spot: Spot, symbol: Symbol, at: usize) -> Option<Spot> {
 }
 
 /// Returns whether this is an alternative and not a declaration, by the tokens after its patterns.
-fn is_alternative(outline: &Outline, behind: Run) -> bool {
-    let Some(arrow) = outline.find(behind.start, behind.end, Symbol::Arrow) else {
+fn is_alternative(outline: &Outline, after: Run) -> bool {
+    let Some(arrow) = outline.find(after.start, after.end, Symbol::Arrow) else {
         return false;
     };
-    match outline.find(behind.start, behind.end, Symbol::Equals) {
+    match outline.find(after.start, after.end, Symbol::Equals) {
         Some(equals) => arrow < equals,
         None => true,
     }
@@ -163,11 +163,11 @@ fn add_head(
     end: usize,
 ) -> Result<(), AllocError> {
     let start = whole.start;
-    let behind = Run {
+    let after = Run {
         start: end,
         end: whole.end,
     };
-    if is_alternative(outline, behind) {
+    if is_alternative(outline, after) {
         return found.add_pattern(outline, Run { start, end }, whole);
     }
     let first = start.saturating_add(1);
@@ -213,13 +213,13 @@ fn add_right_sides(found: &mut Found, outline: &Outline, list: Run) -> Result<()
             if spot.expression.is_none() {
                 found.add_list(outline, at)?;
             }
-            if let Some(behind) = spot_behind(spot, symbol, at) {
-                if spot.expression.is_none() && behind.expression.is_some() {
+            if let Some(after) = spot_after(spot, symbol, at) {
+                if spot.expression.is_none() && after.expression.is_some() {
                     let end = declaration_end(outline, start).min(list.end);
                     add_head(found, outline, Run { start, end }, at)?;
                 }
                 found.end(spot.expression, at)?;
-                spot = behind;
+                spot = after;
             }
             if symbol.is(Symbol::Semicolon) {
                 start = next;
@@ -400,7 +400,7 @@ fn add_below(found: &mut Found, outline: &Outline, whole: Run) -> Result<(), All
 }
 
 /// Goes over the lists that are noted, and returns all parts.
-fn finished(found: Found, outline: &Outline) -> Result<Vec<Part>, AllocError> {
+fn finished(found: Found, outline: &Outline) -> Result<Vec<TermPart>, AllocError> {
     let mut found = found;
     for _ in 0..outline.len() {
         let Some(list) = found.lists.pop() else {
@@ -417,7 +417,7 @@ pub fn right_sides(
     alloc: Global,
     outline: &Outline,
     binding: Run,
-) -> Result<Vec<Part>, AllocError> {
+) -> Result<Vec<TermPart>, AllocError> {
     let mut found = Found {
         parts: Vec::new(alloc),
         lists: Vec::new(alloc),
@@ -432,7 +432,7 @@ fn patterns_in(
     outline: &Outline,
     inside: Found,
     around: Run,
-) -> Result<Vec<Part>, AllocError> {
+) -> Result<Vec<TermPart>, AllocError> {
     let mut found = Found {
         parts: Vec::new(alloc),
         lists: Vec::new(alloc),
@@ -447,7 +447,11 @@ fn patterns_in(
 
 // Why: docs/DECISIONS.md, "Parts of a definition".
 /// Returns the expressions directly inside an expression, or the patterns inside a pattern.
-pub fn parts_below(alloc: Global, outline: &Outline, part: Part) -> Result<Vec<Part>, AllocError> {
+pub fn parts_below(
+    alloc: Global,
+    outline: &Outline,
+    part: TermPart,
+) -> Result<Vec<TermPart>, AllocError> {
     let mut found = Found {
         parts: Vec::new(alloc),
         lists: Vec::new(alloc),

@@ -8,11 +8,11 @@ use Rattle.hm_parse_grammar.specs.declared.symbol.Symbol.TheVariants.{End}
 use Rattle.hm_messages_hints.specs.Advice.{symbol_at, text_at}
 use Rattle.hm_messages_outline.specs.Tokens.{symbol_in}
 
-pub symbol_behind : (source : List ℕ) (ts : List Token) (k : ℕ) → length ts ≤ k → symbol_at source ts k ≡ End
+pub symbol_after : (source : List ℕ) (ts : List Token) (k : ℕ) → length ts ≤ k → symbol_at source ts k ≡ End
 unfolding symbol_at
-symbol_behind source [] k h = refl
-symbol_behind source (t ∷ ts) zero h = absurd (omega (arith, h))
-symbol_behind source (t ∷ ts) (suc k) h = symbol_behind source ts k (omega (arith, h))
+symbol_after source [] k h = refl
+symbol_after source (t ∷ ts) zero h = absurd (omega (arith, h))
+symbol_after source (t ∷ ts) (suc k) h = symbol_after source ts k (omega (arith, h))
 
 pub symbol_there : (source : List ℕ) (ts : List Token) (k : ℕ) (d : Token) → k < length ts → symbol_at source ts k ≡ symbol_in source (get_or ts k d)
 unfolding symbol_at
@@ -34,7 +34,7 @@ text_there source (t ∷ ts) (suc k) d h = text_there source ts k d (omega (arit
 
 -- and as a look at the tokens finds them
 pub symbol_past : (source : List ℕ) (ts : List Token) (k : ℕ) → length ts ≤ k → End ≡ symbol_at source ts k
-symbol_past source ts k h = sym (symbol_behind source ts k h)
+symbol_past source ts k h = sym (symbol_after source ts k h)
 
 pub symbol_found : (source : List ℕ) (ts : List Token) (k : ℕ) (t : Token) (text : List ℕ) (s : Symbol) → k < length ts → t ≡ get_or ts k t → text ≡ token_text source t → s ≡ symbol_of t.kind text → s ≡ symbol_at source ts k
 symbol_found source ts k t text s below is says found =

@@ -1,4 +1,4 @@
--- The tokens of a trial lie in the text that goes on behind the source.
+-- The tokens of a trial lie in the text that goes on after the source.
 use Rattle.std.proofs.Common.{◌≡◌, ℕ, ◌+◌, ◌-◌, ◌<◌, ◌≤◌, List, [], ◌∷◌, ◌++◌, length, length-append, length-drop, take, drop, All, sym, ap, subst, ◌∙◌, append_assoc, arith}
 use Rattle.std.specs.Prelude.{slice_range, Bool, true, false, Option, Some, None, IfSome, is_some}
 use Rattle.std.proofs.lemmas.Bool.{false≢true}
@@ -14,8 +14,8 @@ use Rattle.hm_parse_grammar.specs.Grammar.Modules.{Spells}
 use Rattle.hm_syntax.specs.declared.ast.Module.{Module}
 use Rattle.hm_messages_hints.specs.declared.mark.Mark.{Mark}
 use Rattle.hm_messages_hints.specs.declared.mark.Mark.TheVariants.{RightBrace}
-use Rattle.hm_messages_hints.specs.declared.change.Change.{Change}
-use Rattle.hm_messages_hints.specs.declared.change.Change.TheVariants.{Insert, Replace, Remove}
+use Rattle.hm_messages_hints.specs.declared.change.TokenChange.{TokenChange}
+use Rattle.hm_messages_hints.specs.declared.change.TokenChange.TheVariants.{Insert, Replace, Remove}
 use Rattle.hm_messages_hints.specs.declared.change.Repair.{Repair}
 use Rattle.hm_messages_hints.specs.declared.change.Scope.{Scope}
 use Rattle.hm_messages_hints.specs.declared.change.Scope.TheVariants.{Whole, Declaration}
@@ -47,7 +47,7 @@ mark_more text rest mark t h = record {
 pub all_more : (source rest : List ℕ) (ts : List Token) → All (LiesIn source) ts → All (LiesIn (source ++ rest)) ts
 all_more source rest ts h = λ k d below. lies_more source rest _ (h k d below)
 
-changed_lie : (text : List ℕ) (change : Change) (at : ℕ) (mark : Token) (ts : List Token) → All (LiesIn text) ts → LiesIn text mark → All (LiesIn text) (changed change at mark ts)
+changed_lie : (text : List ℕ) (change : TokenChange) (at : ℕ) (mark : Token) (ts : List Token) → All (LiesIn text) ts → LiesIn text mark → All (LiesIn text) (changed change at mark ts)
 changed_lie text (Insert m) at mark ts h l = front_and_back text mark (take at ts) (drop at ts) (All-take (LiesIn text) at ts h) (All-drop (LiesIn text) at ts h) l
   where
     front_and_back : (text : List ℕ) (mark : Token) (xs ys : List Token) → All (LiesIn text) xs → All (LiesIn text) ys → LiesIn text mark → All (LiesIn text) (xs ++ (mark ∷ ys))
@@ -73,20 +73,20 @@ repaired_lie text r mark close ts h l m = go r.scope
 
 -- ---- what a trial is made of
 
-pub replaced_is : (old front put new ts : List Token) (at : ℕ) (mark : Token) (change : Change) (m : Mark) → change ≡ Replace m → front ≡ old ++ take at ts → put ≡ front ++ (mark ∷ []) → new ≡ put ++ drop 1 (drop at ts) → new ≡ old ++ changed change at mark ts
+pub replaced_is : (old front put new ts : List Token) (at : ℕ) (mark : Token) (change : TokenChange) (m : Mark) → change ≡ Replace m → front ≡ old ++ take at ts → put ≡ front ++ (mark ∷ []) → new ≡ put ++ drop 1 (drop at ts) → new ≡ old ++ changed change at mark ts
 replaced_is old front put new ts at mark change m is f p n =
     n ∙ (ap (λ (l : List Token). l ++ drop 1 (drop at ts)) (p ∙ ap (λ (l : List Token). l ++ (mark ∷ [])) f)
     ∙ (append_assoc (old ++ take at ts) (mark ∷ []) (drop 1 (drop at ts))
     ∙ (append_assoc old (take at ts) (mark ∷ drop 1 (drop at ts))
     ∙ (ap (λ (l : List Token). old ++ (take at ts ++ (mark ∷ l))) (rest_is ts at)
-    ∙ ap (λ (c : Change). old ++ changed c at mark ts) (sym is)))))
+    ∙ ap (λ (c : TokenChange). old ++ changed c at mark ts) (sym is)))))
 
-pub removed_is : (old front new ts : List Token) (at : ℕ) (mark : Token) (change : Change) → change ≡ Remove → front ≡ old ++ take at ts → new ≡ front ++ drop 1 (drop at ts) → new ≡ old ++ changed change at mark ts
+pub removed_is : (old front new ts : List Token) (at : ℕ) (mark : Token) (change : TokenChange) → change ≡ Remove → front ≡ old ++ take at ts → new ≡ front ++ drop 1 (drop at ts) → new ≡ old ++ changed change at mark ts
 removed_is old front new ts at mark change is f n =
     n ∙ (ap (λ (l : List Token). l ++ drop 1 (drop at ts)) f
     ∙ (append_assoc old (take at ts) (drop 1 (drop at ts))
     ∙ (ap (λ (l : List Token). old ++ (take at ts ++ l)) (rest_is ts at)
-    ∙ ap (λ (c : Change). old ++ changed c at mark ts) (sym is))))
+    ∙ ap (λ (c : TokenChange). old ++ changed c at mark ts) (sym is))))
 
 abbrev GoesOn : List ℕ → List ℕ → Type 0
 GoesOn old new = (rest : List ℕ) × (new ≡ old ++ rest)
@@ -108,7 +108,7 @@ pub trial_lies : (source copy text more : List ℕ) (ts trial : List Token) (r :
 trial_lies source copy text more ts trial r m mark close h e g put f end is =
     subst (λ (l : List Token). All (LiesIn more) l) (sym is) (repaired_lie more r mark close ts (all_on source more ts (both source text more (from_copy source copy text e g) f) h) (mark_on text more m mark f put).lies end.lies)
 
-put_in : (text : List ℕ) (change : Change) (mark : Token) → IsMarkIn text (mark_of change) mark → IsPutIn text change mark
+put_in : (text : List ℕ) (change : TokenChange) (mark : Token) → IsMarkIn text (mark_of change) mark → IsPutIn text change mark
 put_in text (Insert m) mark h = h
 put_in text (Replace m) mark h = h
 put_in text Remove mark h = tt

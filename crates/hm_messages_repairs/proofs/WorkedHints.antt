@@ -16,16 +16,16 @@ use Rattle.hm_messages_repairs.specs.Worked.{BracketsRow, ChangesRow, FactsRow, 
 square : IsOpen brackets 3
 square = record { within = omega arith; opening = refl; free = refl }
 
-none_behind : (j : ℕ) → 3 < j → IsOpen brackets j → ⊥
-none_behind zero h o = omega (arith, h)
-none_behind (suc zero) h o = omega (arith, h)
-none_behind (suc (suc zero)) h o = omega (arith, h)
-none_behind (suc (suc (suc zero))) h o = omega (arith, h)
-none_behind (suc (suc (suc (suc zero)))) h o = false≢true o.opening
-none_behind (suc (suc (suc (suc (suc j))))) h o = omega (arith, o.within)
+none_after : (j : ℕ) → 3 < j → IsOpen brackets j → ⊥
+none_after zero h o = omega (arith, h)
+none_after (suc zero) h o = omega (arith, h)
+none_after (suc (suc zero)) h o = omega (arith, h)
+none_after (suc (suc (suc zero))) h o = omega (arith, h)
+none_after (suc (suc (suc (suc zero)))) h o = false≢true o.opening
+none_after (suc (suc (suc (suc (suc j))))) h o = omega (arith, o.within)
 
 innermost : IsInnermost brackets 3
-innermost = record { opened = square; last = none_behind }
+innermost = record { opened = square; last = none_after }
 
 pub worked_brackets : BracketsRow
 worked_brackets = record {

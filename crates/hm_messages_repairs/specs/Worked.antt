@@ -8,7 +8,7 @@ use Rattle.hm_messages_hints.specs.Marks.{IsMarkIn}
 use Rattle.hm_messages_hints.specs.Repairs.{IsRepair}
 use Rattle.hm_messages_hints.specs.SyntaxHints.{IsSyntaxHint}
 use Rattle.hm_messages_hints.specs.Worked.{applied}
-use Rattle.hm_messages_hints.specs.declared.change.Change.TheVariants.{Remove}
+use Rattle.hm_messages_hints.specs.declared.change.TokenChange.TheVariants.{Remove}
 use Rattle.hm_messages_hints.specs.declared.change.Repair.{Repair}
 use Rattle.hm_messages_hints.specs.declared.change.Scope.TheVariants.{Whole}
 use Rattle.hm_messages_hints.specs.declared.mark.Mark.TheVariants.{RightBrace}

@@ -7,7 +7,7 @@ ghost use Rattle.hm_messages_outline.specs.Tokens.{symbol_in};
 
 use crate::search::repair_at;
 use hm_lex::{Place, Token, lex};
-use hm_messages_hints::{Advice, Change, Mark, Repair, SyntaxHint, syntax_hint};
+use hm_messages_hints::{Advice, Mark, Repair, SyntaxHint, TokenChange, syntax_hint};
 use hm_messages_outline::{number_at, symbols_of};
 use hm_parse_grammar::{Symbol, symbol_of, text_of};
 use std::alloc::{AllocError, Global};
@@ -79,20 +79,20 @@ fn fact_at(
 }
 
 /// Returns whether a change puts a mark in.
-fn puts_in(change: Change) -> bool {
+fn puts_in(change: TokenChange) -> bool {
     match change {
-        Change::Insert(_) => true,
-        Change::Replace(_) => false,
-        Change::Remove => false,
+        TokenChange::Insert(_) => true,
+        TokenChange::Replace(_) => false,
+        TokenChange::Remove => false,
     }
 }
 
 /// Returns whether a change makes an argument a part of its own.
-fn parts_argument(change: Change) -> bool {
+fn parts_argument(change: TokenChange) -> bool {
     if !puts_in(change) {
         return true;
     }
-    change == Change::Insert(Mark::Comma) || change == Change::Insert(Mark::Arrow)
+    change == TokenChange::Insert(Mark::Comma) || change == TokenChange::Insert(Mark::Arrow)
 }
 
 /// Returns whether a fact says more than a change of the token that it is about. The change makes this token readable, but often isn't the one
@@ -103,12 +103,12 @@ fn says_more(fact: SyntaxHint, number: usize, repair: Repair) -> bool {
     }
     let change = repair.change;
     match fact {
-        SyntaxHint::Update => change == Change::Insert(Mark::Where),
+        SyntaxHint::Update => change == TokenChange::Insert(Mark::Where),
         SyntaxHint::AppliedVariable | SyntaxHint::AppliedName(_) => parts_argument(change),
         SyntaxHint::ConsPattern
         | SyntaxHint::InPattern(_)
         | SyntaxHint::ConstructorComma(_)
-        | SyntaxHint::NumberComma => change == Change::Remove,
+        | SyntaxHint::NumberComma => change == TokenChange::Remove,
         SyntaxHint::TypedPattern | SyntaxHint::NewtypeArguments(_) => !puts_in(change),
         _ => false,
     }

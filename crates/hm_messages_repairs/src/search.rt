@@ -5,7 +5,7 @@ ghost use Rattle.hm_messages_hints.specs.Repairs.{IsRepair};
 
 use crate::trial::is_read;
 use hm_lex::Token;
-use hm_messages_hints::{Change, Mark, Repair, Scope};
+use hm_messages_hints::{Mark, Repair, Scope, TokenChange};
 use hm_messages_outline::{Enclosing, declaration_at, open_bracket, symbols_of};
 use hm_parse_grammar::Symbol;
 use std::alloc::{AllocError, Global};
@@ -88,7 +88,7 @@ const BYTES_PER_COST: usize = 16;
 #[derive(Clone, Copy)]
 struct Candidate {
     at: usize,
-    change: Change,
+    change: TokenChange,
 }
 
 /// Returns the innermost bracket that is open before a fault, if one is.
@@ -151,13 +151,13 @@ fn add_line_starts(
 ) -> Result<(), AllocError> {
     let last = fault.min(tokens.len().saturating_sub(1));
     let mut lines = 0usize;
-    for behind in 0..last {
-        let at = last - behind;
+    for after in 0..last {
+        let at = last - after;
         if lines == MOST_LINES {
             return Ok(());
         }
         if tokens[at].place.line != tokens[at - 1].place.line {
-            let change = Change::Insert(Mark::Semicolon);
+            let change = TokenChange::Insert(Mark::Semicolon);
             found.push(Candidate { at, change })?;
             lines = lines.saturating_add(1);
         }
@@ -169,11 +169,11 @@ fn add_line_starts(
 fn add_at_fault(found: &mut Vec<Candidate>, fault: usize) -> Result<(), AllocError> {
     let at = fault;
     for mark in &AT_FAULT {
-        let change = Change::Insert(*mark);
+        let change = TokenChange::Insert(*mark);
         found.push(Candidate { at, change })?;
     }
     for mark in &IN_PLACE {
-        let change = Change::Replace(*mark);
+        let change = TokenChange::Replace(*mark);
         found.push(Candidate { at, change })?;
     }
     Ok(())
@@ -182,10 +182,10 @@ fn add_at_fault(found: &mut Vec<Candidate>, fault: usize) -> Result<(), AllocErr
 /// Adds the changes before a fault, the nearest first.
 fn add_before_fault(found: &mut Vec<Candidate>, fault: usize) -> Result<(), AllocError> {
     let most = fault.min(MOST_BEFORE);
-    for behind in 0..most {
-        let at = fault - 1 - behind;
+    for after in 0..most {
+        let at = fault - 1 - after;
         for mark in &BEFORE_FAULT {
-            let change = Change::Insert(*mark);
+            let change = TokenChange::Insert(*mark);
             found.push(Candidate { at, change })?;
         }
     }
@@ -209,7 +209,7 @@ fn add_signature(
         return Ok(());
     };
     if first.is(Symbol::Var) && second.is(Symbol::Colon) {
-        let change = Change::Replace(Mark::OfType);
+        let change = TokenChange::Replace(Mark::OfType);
         found.push(Candidate { at, change })?;
     }
     Ok(())
@@ -235,7 +235,7 @@ fn add_lambda(
     };
     if opened.is(Symbol::Open) {
         let at = bracket.saturating_add(1);
-        let change = Change::Insert(Mark::Backslash);
+        let change = TokenChange::Insert(Mark::Backslash);
         found.push(Candidate { at, change })?;
     }
     Ok(())
@@ -258,11 +258,11 @@ fn candidates(
     let mut found = Vec::new(alloc);
     let at = fault;
     if is_unopened(symbols, fault) {
-        let change = Change::Remove;
+        let change = TokenChange::Remove;
         found.push(Candidate { at, change })?;
     }
     if let Some(bracket) = innermost(symbols, fault) {
-        let change = Change::Insert(closing(bracket));
+        let change = TokenChange::Insert(closing(bracket));
         found.push(Candidate { at, change })?;
     }
     add_signature(&mut found, symbols, part)?;
@@ -270,7 +270,7 @@ fn candidates(
     add_line_starts(&mut found, tokens, fault)?;
     add_at_fault(&mut found, fault)?;
     add_before_fault(&mut found, fault)?;
-    let change = Change::Remove;
+    let change = TokenChange::Remove;
     found.push(Candidate { at, change })?;
     Ok(found)
 }

@@ -6,7 +6,7 @@ ghost use Rattle.hm_messages_hints.specs.Marks.{IsMarkIn};
 ghost use Rattle.hm_messages_hints.specs.Repairs.{IsRepair, changed, repaired};
 
 use hm_lex::{Place, Token};
-use hm_messages_hints::{Change, Mark, Repair, Scope};
+use hm_messages_hints::{Mark, Repair, Scope, TokenChange};
 use hm_messages_outline::Run;
 use hm_parse::parse_run;
 use std::alloc::{AllocError, Global};
@@ -28,13 +28,13 @@ fn mark_token(text: &mut Vec<u8>, mark: Mark) -> Result<Token, AllocError>
 }
 
 /// Returns the mark that a change puts in, or `}` if it puts none in.
-fn mark_of(change: Change) -> Mark
+fn mark_of(change: TokenChange) -> Mark
     ensures { result ≡ mark_of change }
 {
     match change {
-        Change::Insert(mark) => mark,
-        Change::Replace(mark) => mark,
-        Change::Remove => Mark::RightBrace,
+        TokenChange::Insert(mark) => mark,
+        TokenChange::Replace(mark) => mark,
+        TokenChange::Remove => Mark::RightBrace,
     }
 }
 
@@ -54,7 +54,7 @@ fn add_changed(
     trial: &mut Vec<Token>,
     tokens: &[Token],
     at: usize,
-    change: Change,
+    change: TokenChange,
     mark: Token,
 ) -> Result<(), AllocError>
     requires { at ≤ length tokens.now }
@@ -63,15 +63,15 @@ fn add_changed(
     let (front, back) = tokens.split_at(at);
     trial.extend_from_slice(front)?;
     match change {
-        Change::Insert(_) => {
+        TokenChange::Insert(_) => {
             trial.push(mark)?;
             trial.extend_from_slice(back)?;
         }
-        Change::Replace(_) => {
+        TokenChange::Replace(_) => {
             trial.push(mark)?;
             trial.extend_from_slice(rest_of(back))?;
         }
-        Change::Remove => trial.extend_from_slice(rest_of(back))?,
+        TokenChange::Remove => trial.extend_from_slice(rest_of(back))?,
     }
     Ok(())
 }

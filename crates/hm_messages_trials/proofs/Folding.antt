@@ -32,14 +32,14 @@ piece_more f ps p = flat_map-append f ps (p ∷ []) ∙ ap (λ (l : List ℕ). f
 pub begun : (names : List NamedType) (text rest shown : List ℕ) → rest ≡ text → shown ≡ [] → IsFoldedTo names text rest shown
 begun names text rest shown same nothing = record { pieces = []; each = none (IsPiece names); text_is = sym same; shown_is = nothing }
 
-pub grown : (names : List NamedType) (text rest behind shown next : List ℕ) (p : NamedType) → IsFoldedTo names text rest shown → IsPiece names p → rest ≡ p.text ++ behind → next ≡ shown ++ p.name
-    → IsFoldedTo names text behind next
-grown names text rest behind shown next p so piece split pushed =
+pub grown : (names : List NamedType) (text rest after shown next : List ℕ) (p : NamedType) → IsFoldedTo names text rest shown → IsPiece names p → rest ≡ p.text ++ after → next ≡ shown ++ p.name
+    → IsFoldedTo names text after next
+grown names text rest after shown next p so piece split pushed =
     let before : List ℕ = flat_map (λ (q : NamedType). q.text) so.pieces in
     record {
       pieces = so.pieces ++ p ∷ [];
       each = All-append (IsPiece names) so.pieces (p ∷ []) so.each (one (IsPiece names) p piece);
-      text_is = so.text_is ∙ (ap (λ (l : List ℕ). before ++ l) split ∙ (sym (append_assoc before p.text behind) ∙ ap (λ (l : List ℕ). l ++ behind) (sym (piece_more (λ (q : NamedType). q.text) so.pieces p))));
+      text_is = so.text_is ∙ (ap (λ (l : List ℕ). before ++ l) split ∙ (sym (append_assoc before p.text after) ∙ ap (λ (l : List ℕ). l ++ after) (sym (piece_more (λ (q : NamedType). q.text) so.pieces p))));
       shown_is = pushed ∙ (ap (λ (l : List ℕ). l ++ p.name) so.shown_is ∙ sym (piece_more (λ (q : NamedType). q.name) so.pieces p));
     }
 

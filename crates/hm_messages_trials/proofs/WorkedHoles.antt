@@ -20,7 +20,7 @@ use Rattle.hm_verdicts.specs.WorkedVerdicts.{fault_Z, interface_A}
 use Rattle.hm_verdicts.proofs.OneModuleVerdict.{one_module_verdict}
 use Rattle.hm_verdicts.proofs.WorkedModules.{faulty_B, good_A}
 use Rattle.hm_messages_trials.specs.TypedSources.{AreTyped, HasTypesIn, IsElsewhere, IsModuleIn}
-use Rattle.hm_messages_trials.specs.Worked.{HolesRow, PartsRow, TypesRow, VerdictsRow, told_by}
+use Rattle.hm_messages_trials.specs.Worked.{HolesRow, PartsRow, TypesRow, VerdictsRow, reported_by}
 
 pub worked_holes : HolesRow
 worked_holes = record {
@@ -58,9 +58,9 @@ not_arity e = cc
 pub worked_verdicts : VerdictsRow
 worked_verdicts = record {
   good = good;
-  elsewhere = only (told_by Untyped (codes "g")) (refl, not_named);
-  here = λ all. (first_of (told_by Untyped (codes "f")) all).1 (0, omega arith, refl);
-  of_names = λ all. not_arity (first_of (told_by Arity (codes "g")) all).0;
+  elsewhere = only (reported_by Untyped (codes "g")) (refl, not_named);
+  here = λ all. (first_of (reported_by Untyped (codes "f")) all).1 (0, omega arith, refl);
+  of_names = λ all. not_arity (first_of (reported_by Arity (codes "g")) all).0;
 }
 
 -- ---- a source has one list of modules

@@ -22,7 +22,7 @@ pub record IsOutOfScope (faults : List Fault) (x : List ℕ) : Type 0 where
   pub unbound : fault.kind ≡ Unbound
   pub named : fault.name ≡ x
 
--- the kinds of faults of the phases behind that of names: those of arguments, of patterns, of synonyms and of types
+-- the kinds of faults of the phases after that of names: those of arguments, of patterns, of synonyms and of types
 abbrev pub IsLaterKind : Kind → Type 0
 IsLaterKind NotExported = ⊥
 IsLaterKind Duplicate = ⊥
@@ -42,7 +42,7 @@ pub record HaveUnbound (faults : List Fault) (start end : Place) : Type 0 where
   pub fault : Fault
   pub among : Contains faults fault
   pub unbound : fault.kind ≡ Unbound
-  pub behind : ¬ (IsBefore fault.place start)
+  pub after : ¬ (IsBefore fault.place start)
   pub ahead : IsBefore fault.place end
 
 -- the bytes begin with a name

@@ -14,7 +14,7 @@ use Rattle.hm_messages_changes.specs.Exchanges.{with_exchanged}
 -- The part is a pattern: the definition has a type with `_` in place of it, where variables of it are bound to the hole
 pub record HasTypesWithPattern (source name : List ℕ) (fs : List Interface) (definition : List ℕ) (part : SourceRange) : Type 0 where
   pub at : ℕ
-  pub behind : part.to ≤ at
+  pub after : part.to ≤ at
   pub within : at ≤ length source
   pub frame : Frame
   pub variables : List Span
@@ -26,7 +26,7 @@ pub record IsPatternPart (source name : List ℕ) (fs : List Interface) (definit
   pub part_of : IsPartOf source part
   pub typed : HasTypesWithPattern source name fs definition part
 
--- the definition has a type with the two parts exchanged, the second of which stands behind the first
+-- the definition has a type with the two parts exchanged, the second of which stands after the first
 pub record IsExchange (source name : List ℕ) (fs : List Interface) (definition : List ℕ) (first second : SourceRange) : Type 0 where
   pub first_of : IsPartOf source first
   pub second_of : IsPartOf source second

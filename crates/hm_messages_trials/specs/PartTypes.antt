@@ -46,7 +46,7 @@ abbrev pub text_in : TypeScheme → Mono → List ℕ
 text_in s t = scheme_text_of (record { vars = s.vars; body = t })
 
 -- A function with this scheme takes a type of a definition and two types that differ, and these are the texts of the two. The type of the definition is first, so its
--- variables have the first letters. If the two are told as infinite, they are equal only if a type contains itself
+-- variables have the first letters. If the two are reported as infinite, they are equal only if a type contains itself
 pub record AreTextsOf (scheme : TypeScheme) (expected actual : List ℕ) (infinite : Bool) : Type 0 where
   pub own_type : Mono
   pub expected_type : Mono

@@ -31,16 +31,16 @@ pub record PartsRow : Type 0 where
   pub argument : IsPartOf (codes "f x") (record { from = 2; to = 3; start = at_column 3; end = at_column 3 })
   pub empty : ¬ (IsPartOf (codes "f x") (record { from = 2; to = 2; start = at_column 3; end = at_column 2 }))
 
-abbrev pub told_by : Kind → List ℕ → Fault
-told_by kind name = record { place = at_column 18; kind = kind; name = name }
+abbrev pub reported_by : Kind → List ℕ → Fault
+reported_by kind name = record { place = at_column 18; kind = kind; name = name }
 
 -- f has a type if the module is good, or has only a type fault of g. It has none if f is a type fault, and none by this definition if g has a fault of
 -- another kind
 pub record VerdictsRow : Type 0 where
   pub good : (f : Interface) → AreTyped (codes "f" ∷ []) (Good f)
-  pub elsewhere : AreTyped (codes "f" ∷ []) (Faulty (told_by Untyped (codes "g") ∷ []))
-  pub here : ¬ (AreTyped (codes "f" ∷ []) (Faulty (told_by Untyped (codes "f") ∷ [])))
-  pub of_names : ¬ (AreTyped (codes "f" ∷ []) (Faulty (told_by Arity (codes "g") ∷ [])))
+  pub elsewhere : AreTyped (codes "f" ∷ []) (Faulty (reported_by Untyped (codes "g") ∷ []))
+  pub here : ¬ (AreTyped (codes "f" ∷ []) (Faulty (reported_by Untyped (codes "f") ∷ [])))
+  pub of_names : ¬ (AreTyped (codes "f" ∷ []) (Faulty (reported_by Arity (codes "g") ∷ [])))
 
 -- the module A has only x = 'c' and is good, and the module B exports a module that it doesn't import. In a source of A alone each definition of A has a
 -- type, and none of a module B has one. In a source of B alone none has one, because the fault of B is of another kind. A definition that is a type fault

@@ -17,7 +17,7 @@ use Rattle.hm_messages_trials.specs.Worked.{part, span}
 
 -- a definition from the first byte up to the second, in a module without an export list
 abbrev pub alone_at : ℕ → ℕ → Surroundings
-alone_at from to = record { whole = span from to; exported = None; names = []; before = []; behind = [] }
+alone_at from to = record { whole = span from to; exported = None; names = []; before = []; after = [] }
 
 -- g is another definition, from the first byte up to byte 5
 pub record OthersRow : Type 0 where
@@ -64,7 +64,7 @@ tuple t u = app (Tuple 2) (more t (more u none))
 abbrev pub swapped : TypeScheme
 swapped = record { vars = 2; body = from_three (function (tuple a b) (tuple b a)) (tuple b a) (tuple a b) }
 
--- The expected type is the first of the two, with the letters of the definition's type, and two equal types are none. A type that would be infinite is told as
+-- The expected type is the first of the two, with the letters of the definition's type, and two equal types are none. A type that would be infinite is reported as
 -- such, and two variables aren't
 pub record TextsRow : Type 0 where
   pub itself : AreTextsOf applied_to_itself (codes "a") (codes "a -> b") true

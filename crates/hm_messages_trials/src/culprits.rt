@@ -3,7 +3,7 @@
 use crate::costs::{Effort, MOST_TRIALS};
 use crate::trial::{Question, has_types_in};
 use hm_messages_changes::{Edit, Filling, HOLE, add_open_patterns, edited, in_place};
-use hm_messages_outline::{Lexed, Part, Role, Run, parts_below};
+use hm_messages_outline::{Lexed, Role, Run, TermPart, parts_below};
 use std::alloc::{AllocError, Global};
 
 /// The number of parts from which on halves of them are tried first.
@@ -41,7 +41,7 @@ pub(crate) fn is_mended_by(
 }
 
 /// Returns how many of the parts from this one on are patterns of the same clause, alternative or lambda.
-fn same_around(parts: &[Part], from: usize) -> usize {
+fn same_around(parts: &[TermPart], from: usize) -> usize {
     if from >= parts.len() {
         return 0;
     }
@@ -53,7 +53,7 @@ fn same_around(parts: &[Part], from: usize) -> usize {
 }
 
 /// Returns edits with holes in place of parts, which are in order. Neighbours in a list have one hole for all of them.
-fn holes(alloc: Global, lexed: &Lexed<'_>, parts: &[Part]) -> Result<Vec<Edit>, AllocError> {
+fn holes(alloc: Global, lexed: &Lexed<'_>, parts: &[TermPart]) -> Result<Vec<Edit>, AllocError> {
     let mut edits = Vec::new(alloc);
     let (Some(first), Some(last)) = (parts.first(), parts.last()) else {
         return Ok(edits);
@@ -88,7 +88,7 @@ fn holes(alloc: Global, lexed: &Lexed<'_>, parts: &[Part]) -> Result<Vec<Edit>, 
 fn mends(
     alloc: Global,
     searched: &Searched<'_, '_>,
-    parts: &[Part],
+    parts: &[TermPart],
     effort: &mut Effort,
 ) -> Result<bool, AllocError> {
     let edits = holes(alloc, searched.lexed, parts)?;
@@ -96,7 +96,7 @@ fn mends(
 }
 
 /// Returns the parts with these numbers.
-fn parts_in(parts: &[Part], run: Run) -> &[Part] {
+fn parts_in(parts: &[TermPart], run: Run) -> &[TermPart] {
     if run.start <= run.end && run.end <= parts.len() {
         &parts[run.start..run.end]
     } else {
@@ -108,9 +108,9 @@ fn parts_in(parts: &[Part], run: Run) -> &[Part] {
 fn mending(
     alloc: Global,
     searched: &Searched<'_, '_>,
-    parts: &[Part],
+    parts: &[TermPart],
     effort: &mut Effort,
-) -> Result<Vec<Part>, AllocError> {
+) -> Result<Vec<TermPart>, AllocError> {
     let mut found = Vec::new(alloc);
     let mut pending = Vec::new(alloc);
     pending.push(Run {
@@ -157,9 +157,9 @@ fn mending(
 pub(crate) fn culprits(
     alloc: Global,
     searched: &Searched<'_, '_>,
-    top: &[Part],
+    top: &[TermPart],
     effort: &mut Effort,
-) -> Result<Vec<Part>, AllocError> {
+) -> Result<Vec<TermPart>, AllocError> {
     let mut found = Vec::new(alloc);
     let mut pending = mending(alloc, searched, top, effort)?;
     for _ in 0..MOST_TRIALS {

@@ -11,7 +11,7 @@ use crate::costs::{Effort, cost_of};
 use crate::reading::{Reading, reading_of};
 use crate::trial::{Question, judged};
 use hm_lex::Place;
-use hm_messages_changes::{Other, ScopeChange, changed_by, place_behind, replaced_of};
+use hm_messages_changes::{Other, ScopeChange, changed_by, place_of_byte, replaced_of};
 use hm_messages_outline::declarations_of;
 use hm_names::{Fault, Kind};
 use hm_verdicts::{Outcome, Verdict};
@@ -121,7 +121,7 @@ fn are_later(verdict: &Verdict, end: Place) -> bool
 /// Returns whether a fault is a name that isn't in scope, from one place up to another.
 fn is_between(fault: &Fault, start: Place, end: Place) -> bool
     ensures unbound { result ≡ true → fault.now.kind ≡ Unbound }
-    ensures behind { result ≡ true → ¬ (IsBefore fault.now.place start) }
+    ensures after { result ≡ true → ¬ (IsBefore fault.now.place start) }
     ensures ahead { result ≡ true → IsBefore fault.now.place end }
 {
     if !is_unbound(fault) {
@@ -169,8 +169,8 @@ fn is_replaced(source: &[u8], definition: &Other<'_>, faults: &[Fault]) -> bool
     if !begin_with(bytes, definition.name.as_bytes()) {
         return false;
     }
-    let start = place_behind(source, definition.from);
-    let end = place_behind(source, definition.to);
+    let start = place_of_byte(source, definition.from);
+    let end = place_of_byte(source, definition.to);
     have_unbound(faults, start, end)
 }
 
@@ -203,7 +203,7 @@ fn outcome_with(
     if !are_replaced(source, change.replaced, faults) {
         return Ok(None);
     }
-    let end = place_behind(source, at);
+    let end = place_of_byte(source, at);
     let Some(changed) = changed_by(alloc, source, change)? else {
         return Ok(None);
     };

@@ -343,7 +343,7 @@ pub(crate) fn layout_of<'a>(
         names: setting.names,
         whole: Span { from, to },
         before: &others[..count],
-        behind: &others[count..],
+        after: &others[count..],
     })
 }
 

@@ -3,7 +3,7 @@
 use crate::costs::Effort;
 use crate::culprits::{Searched, is_mended_by};
 use hm_messages_changes::{Reported, SmallChange, changes_at, exchanges_at};
-use hm_messages_outline::{Outline, Part, Role, Run, without_brackets};
+use hm_messages_outline::{Outline, Role, Run, TermPart, without_brackets};
 use hm_parse_grammar::Symbol;
 use std::alloc::{AllocError, Global};
 
@@ -13,7 +13,7 @@ struct Suspect {
     /// Where the part begins.
     start: usize,
     /// What is reported: the part, or the expression around a change of it.
-    told: Reported,
+    reported: Reported,
     points: usize,
 }
 
@@ -31,7 +31,7 @@ fn is_constant(outline: &Outline, run: Run) -> bool {
 // Why: docs/DECISIONS.md, "Points".
 /// Returns how likely a part is to be the slip if no change of it gives the definition a type. A function gets less than its arguments, because another
 /// function hides any fault of these. The numbers were found on slips in good modules; docs/DECISIONS.md says how.
-fn points_of(outline: &Outline, part: Part) -> usize {
+fn points_of(outline: &Outline, part: TermPart) -> usize {
     let points = match part.role {
         Role::Function | Role::Pattern => 2usize,
         _ => 4,
@@ -45,7 +45,7 @@ fn points_of(outline: &Outline, part: Part) -> usize {
 /// Returns how much more likely a part is if this change of it gives the definition a type. An exchange outweighs all else. Of a pattern only lists of one
 /// element are changed, which is a rarer slip than those that other changes mend.
 fn points_of_change(change: &SmallChange) -> usize {
-    match change.told {
+    match change.reported {
         Reported::Exchange(_, _) => 8,
         Reported::Pattern(_, _) => 5,
         Reported::Expression(_) | Reported::Removal(_, _) => 4,
@@ -53,7 +53,7 @@ fn points_of_change(change: &SmallChange) -> usize {
 }
 
 /// Returns whether a part is a function, and one of these parts lies in its arguments.
-fn has_faulty_argument(parts: &[Part], part: Part) -> bool {
+fn has_faulty_argument(parts: &[TermPart], part: TermPart) -> bool {
     if part.role != Role::Function {
         return false;
     }
@@ -65,8 +65,8 @@ fn has_faulty_argument(parts: &[Part], part: Part) -> bool {
 fn changes_for(
     alloc: Global,
     searched: &Searched<'_, '_>,
-    parts: &[Part],
-    part: Part,
+    parts: &[TermPart],
+    part: TermPart,
 ) -> Result<Vec<SmallChange>, AllocError> {
     if has_faulty_argument(parts, part) {
         return exchanges_at(alloc, searched.lexed, part.around);
@@ -79,8 +79,8 @@ fn changes_for(
 fn judged_part(
     alloc: Global,
     searched: &Searched<'_, '_>,
-    parts: &[Part],
-    part: Part,
+    parts: &[TermPart],
+    part: TermPart,
     effort: &mut Effort,
 ) -> Result<Suspect, AllocError> {
     let start = part.run.start;
@@ -91,19 +91,19 @@ fn judged_part(
         if is_mended_by(alloc, searched, &edits, effort)? {
             return Ok(Suspect {
                 start,
-                told: change.told,
+                reported: change.reported,
                 points: points.saturating_add(points_of_change(change)),
             });
         }
     }
     let run = without_brackets(searched.lexed.outline, part.run);
-    let told = match part.role {
+    let reported = match part.role {
         Role::Pattern => Reported::Pattern(run, part.around),
         _ => Reported::Expression(run),
     };
     Ok(Suspect {
         start,
-        told,
+        reported,
         points,
     })
 }
@@ -112,7 +112,7 @@ fn judged_part(
 pub(crate) fn likeliest(
     alloc: Global,
     searched: &Searched<'_, '_>,
-    parts: &[Part],
+    parts: &[TermPart],
     effort: &mut Effort,
 ) -> Result<Option<Reported>, AllocError> {
     let mut best: Option<Suspect> = None;
@@ -130,7 +130,7 @@ pub(crate) fn likeliest(
         }
     }
     match best {
-        Some(suspect) => Ok(Some(suspect.told)),
+        Some(suspect) => Ok(Some(suspect.reported)),
         None => Ok(None),
     }
 }

@@ -11,7 +11,7 @@ use crate::ranking::likeliest;
 use crate::reading::{TypeFault, read};
 use crate::trial::{Question, types_without};
 use hm_lex::Token;
-use hm_messages_changes::{Cut, Rebound, Reported, Span, cut_of, part_of, spot_in};
+use hm_messages_changes::{Cut, Rebound, Reported, Span, binding_place, cut_of, part_of};
 use hm_messages_outline::{Lexed, Run, binding_at, names_in, one, right_sides};
 use hm_names::Fault;
 use hm_parse_grammar::Symbol;
@@ -38,7 +38,7 @@ fn likeliest_in(
 }
 
 /// Returns what is reported of a definition, by a search in this smaller source.
-fn told_in_cut(
+fn reported_in_cut(
     alloc: Global,
     searched: &Searched<'_, '_>,
     cut: &Cut,
@@ -60,21 +60,21 @@ fn told_in_cut(
     let start = token_at(lexed.tokens, cut.definition);
     let size = definition.end.saturating_sub(definition.start);
     let end = start.saturating_add(size);
-    let Some(told) = likeliest_in(alloc, &smaller, Run { start, end }, effort)? else {
+    let Some(reported) = likeliest_in(alloc, &smaller, Run { start, end }, effort)? else {
         return Ok(None);
     };
-    Ok(Some(told.moved(start, definition.start)))
+    Ok(Some(reported.moved(start, definition.start)))
 }
 
 /// Returns what is reported of a definition, by a search in a smaller source.
-fn told_in(
+fn reported_in(
     alloc: Global,
     searched: &Searched<'_, '_>,
     definition: Run,
     effort: &mut Effort,
 ) -> Result<Option<Reported>, AllocError> {
     match cut_of(alloc, searched.lexed, definition)? {
-        Some(cut) => told_in_cut(alloc, searched, &cut, definition, effort),
+        Some(cut) => reported_in_cut(alloc, searched, &cut, definition, effort),
         None => Ok(None),
     }
 }
@@ -129,7 +129,7 @@ fn pattern_mend(
     let Some(part) = part_of(lexed.tokens, pattern, searched.question.source) else {
         return Ok(None);
     };
-    let Some(spot) = spot_in(lexed, around) else {
+    let Some(spot) = binding_place(lexed, around) else {
         return Ok(None);
     };
     let variables = variables_in(alloc, lexed, pattern)?;
@@ -191,12 +191,12 @@ fn removal_mend(
 fn confirmed(
     alloc: Global,
     searched: &Searched<'_, '_>,
-    told: Reported,
+    reported: Reported,
 ) -> Result<Option<Mend>, AllocError>
     ensures { IfOk result (λ found. IfSome found (IsMend searched.now.question.now.source.now searched.now.question.now.name.now
         (map arc_value searched.now.question.now.imports.now) searched.now.definition.now)) }
 {
-    match told {
+    match reported {
         Reported::Expression(run) => Ok(expression_mend(alloc, searched, run)?),
         Reported::Pattern(run, around) => Ok(pattern_mend(alloc, searched, run, around)?),
         Reported::Exchange(first, second) => Ok(exchange_mend(alloc, searched, first, second)?),
@@ -255,8 +255,8 @@ pub fn mend_of(
     if !effort.pays(searched.cost) {
         return Ok(None);
     }
-    let Some(told) = told_in(alloc, &searched, binding, effort)? else {
+    let Some(reported) = reported_in(alloc, &searched, binding, effort)? else {
         return Ok(None);
     };
-    confirmed(alloc, &searched, told)
+    confirmed(alloc, &searched, reported)
 }

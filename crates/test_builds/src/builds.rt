@@ -155,7 +155,7 @@ fn exhausted_in(ended: &Result<Finished, BuildFault>) -> Option<usize> {
 }
 
 #[test]
-fn a_module_that_there_is_no_memory_to_check_is_told(rt: HostRuntime) -> Result<(), Fail> {
+fn a_module_that_there_is_no_memory_to_check_is_stated(rt: HostRuntime) -> Result<(), Fail> {
     for workers in 1..4 {
         let sources = source_of(rt.alloc(), TOO_LARGE)?;
         let told = exhausted_in(&build(&rt, rt.alloc(), sources, workers, &Open));

@@ -62,7 +62,7 @@ fn labels_have_colours(rt: HostRuntime) -> Result<(), Fail> {
 }
 
 #[test]
-fn a_place_outside_is_not_told(rt: HostRuntime) -> Result<(), Fail> {
+fn a_place_outside_is_not_stated(rt: HostRuntime) -> Result<(), Fail> {
     let names = Vec::new(rt.alloc());
     for column in [0u32, 4, 9] {
         let text = told(rt.alloc(), Paint::Plain, names.as_slice(), b"ab", column)?;

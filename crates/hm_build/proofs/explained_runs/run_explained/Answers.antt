@@ -1,5 +1,5 @@
 use Rattle.std.proofs.Common.{rules, ◌≡◌, Err, inl, inr, refl, ⊎_elim, string_bytes}
-use Rattle.hm_build_output.proofs.Telling.{told_to}
+use Rattle.hm_build_output.proofs.Telling.{stated_to}
 use Rattle.hm_build.proofs.RunFaults.{no_failure, not_of_writing, passed_back, passed_on, some_at}
 use Rattle.hm_run_io.specs.Watching.{failures_of}
 use Rattle.hm_run_io.specs.declared.faults.RunFault.TheVariants as fault
@@ -48,7 +48,7 @@ returns-in_default-clause-read_up_before_a_write g c is = absurd (not_of_writing
 -- the message of a module for which memory ran out
 pub returns-in-Some-clause-exhausted : goal.returns-in-Some-clause-exhausted
 returns-in-Some-clause-exhausted g c is sources told =
-    inr (c.in-Some.message.items, some_at _ c.read_and_check.new.note c.in-Some.message c.in-Some.is c.in-Err.ensures.exhausted sources told, told_to c.write_text.result _ _ c.in-Some.message.items _ (search rules) (search rules) (search rules))
+    inr (c.in-Some.message.items, some_at _ c.read_and_check.new.note c.in-Some.message c.in-Some.is c.in-Err.ensures.exhausted sources told, stated_to c.write_text.result _ _ c.in-Some.message.items _ (search rules) (search rules) (search rules))
 
 pub returns-in_err-write_text-clause-failed : goal.returns-in_err-write_text-clause-failed
 returns-in_err-write_text-clause-failed g c = inr (no_failure (λ r. failures_of r ≡ 0) c.read_and_check.new.readers c.in-Ok.explained c.in-Ok.ensures.failed)
@@ -73,5 +73,5 @@ returns-clause-told g c sources told =
       a.messages.items,
       c.in-Ok.ensures.told sources told,
       search rules,
-      told_to c.write_text-3.result _ _ a.messages.items _ (search rules) (search rules) (search rules),
+      stated_to c.write_text-3.result _ _ a.messages.items _ (search rules) (search rules) (search rules),
     )

@@ -8,7 +8,7 @@ use Rattle.hm_build_reports.specs.Settling.{module_set, statuses_of}
 use Rattle.hm_store.specs.Settlements.{settlement}
 use Rattle.hm_verdicts.specs.Sets.{imports_of, module_at}
 use Rattle.hm_verdicts.specs.Verdicts.{ArePublished}
-use Rattle.hm_build_messages.specs.Explanations.{AreInTurn, IsDetailed, IsFaultTold, IsNoted}
+use Rattle.hm_build_messages.specs.Explanations.{AreInTurn, IsDetailed, IsFaultStated, IsNoted}
 use Rattle.hm_build_reports.proofs.Reporting.{name_by_place}
 use Rattle.hm_build_messages.proofs.Detailed.{at_page}
 use Rattle.hm_build_messages.proofs.Turns.{quiet_turn, turn_so}
@@ -21,11 +21,11 @@ returns-in_default c =
     let p = module_set told.modules.now told.plan.now in
     let status = statuses_of told.settled.now in
     let faulty = c.args.faulty in
-    let before = c.args.allowance.now.is_limit_told in
+    let before = c.args.allowance.now.is_limit_stated in
     let pages = told.pages.now.items.items in
     let page : Page = c.index-page.result.now in
     at_page told.pages.now.paint pages faulty.source page p status faulty.number faulty.faults.now before before c.in_ok-plain_messages.field-0.items c.requires.source (search rules)
-    (quiet_turn (IsDetailed told.pages.now.paint page.file.now page.lines (λ f known. known ≡ nothing)) (IsFaultTold told.pages.now.paint page.file.now page.lines p status faulty.number)
+    (quiet_turn (IsDetailed told.pages.now.paint page.file.now page.lines (λ f known. known ≡ nothing)) (IsFaultStated told.pages.now.paint page.file.now page.lines p status faulty.number)
     (λ f b t h. inl (refl, record { known = h.known; so = inl h.so; told = h.told })) faulty.faults.now before c.in_ok-plain_messages.field-0.items c.in_ok-plain_messages.ensures)
 
 -- the scope and the trees of the module tell of names and numbers
@@ -36,7 +36,7 @@ returns-then-have_details c =
     let status = statuses_of told.settled.now in
     let faulty = c.args.faulty in
     let number = faulty.number in
-    let before = c.args.allowance.now.is_limit_told in
+    let before = c.args.allowance.now.is_limit_stated in
     let pages = told.pages.now.items.items in
     let page : Page = c.index-page.result.now in
     let fs = map arc_value c.in-Some.imports.items in
@@ -48,7 +48,7 @@ returns-then-have_details c =
     subst (λ l. AreEach (IsDetailed told.pages.now.paint page.file.now page.lines (IsKnown (module_at p number) (prelude_interface ∷ map arc_value l))) faulty.faults.now c.in_ok-searched_messages.field-0.items)
     c.as_slice.ensures.value c.in_ok-searched_messages.ensures in
     at_page told.pages.now.paint pages faulty.source page p status number faulty.faults.now before before c.in_ok-searched_messages.field-0.items c.requires.source (search rules)
-    (quiet_turn (IsDetailed told.pages.now.paint page.file.now page.lines (IsKnown (module_at p number) (prelude_interface ∷ fs))) (IsFaultTold told.pages.now.paint page.file.now page.lines p status number)
+    (quiet_turn (IsDetailed told.pages.now.paint page.file.now page.lines (IsKnown (module_at p number) (prelude_interface ∷ fs))) (IsFaultStated told.pages.now.paint page.file.now page.lines p status number)
     (λ f b t h. inl (refl, record { known = h.known; so = inr (fs, published, h.so); told = h.told })) faulty.faults.now before c.in_ok-searched_messages.field-0.items each)
 
 -- the checker tells of type faults
@@ -59,8 +59,8 @@ returns c =
     let status = statuses_of told.settled.now in
     let faulty = c.args.faulty in
     let number = faulty.number in
-    let before = c.args.allowance.now.is_limit_told in
-    let after = c.noted_messages.new.allowance.is_limit_told in
+    let before = c.args.allowance.now.is_limit_stated in
+    let after = c.noted_messages.new.allowance.is_limit_stated in
     let pages = told.pages.now.items.items in
     let page : Page = c.index-page.result.now in
     let fs = map arc_value c.in-Some.imports.items in
@@ -71,6 +71,6 @@ returns c =
     let published : ArePublished status (imports_of p number) fs =
     subst (λ s. ArePublished s (imports_of p number) fs) (sym c.requires.settled) (subst (λ row. ArePublished (settlement told.store.now) row fs) c.imports.ensures have) in
     at_page told.pages.now.paint pages faulty.source page p status number faulty.faults.now before after c.in_ok-noted_messages.field-0.items c.requires.source (search rules)
-    (turn_so (IsNoted told.pages.now.paint page.file.now page.lines name fs) (IsFaultTold told.pages.now.paint page.file.now page.lines p status number)
+    (turn_so (IsNoted told.pages.now.paint page.file.now page.lines name fs) (IsFaultStated told.pages.now.paint page.file.now page.lines p status number)
     (λ f b d t h. inr (fs, published, subst (λ n. IsNoted told.pages.now.paint page.file.now page.lines n fs f b d t) named h)) faulty.faults.now before after c.in_ok-noted_messages.field-0.items
     (subst (λ l. AreInTurn (IsNoted told.pages.now.paint page.file.now page.lines name (map arc_value l)) faulty.faults.now before after c.in_ok-noted_messages.field-0.items) c.as_slice-2.ensures.value c.in_ok-noted_messages.ensures))

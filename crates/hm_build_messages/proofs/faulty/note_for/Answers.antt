@@ -4,7 +4,7 @@ use Rattle.hm_lex.specs.declared.token.Place.{Place}
 use Rattle.hm_messages_excerpts.specs.Columns.{AreColumnsAt}
 use Rattle.hm_messages.specs.Messages.{reader_place}
 use Rattle.hm_messages_trials.specs.Mends.{IsMend}
-use Rattle.hm_build_messages.specs.Explanations.{IsToldOf, other_of}
+use Rattle.hm_build_messages.specs.Explanations.{IsStatedOf, other_of}
 use Rattle.hm_build_messages.proofs.faulty.note_for.Goals as goal
 
 pub returns : goal.returns
@@ -16,15 +16,15 @@ returns c =
     let mend = c.in-Some.mend in
     let placed = c.in-Some-reader_place.ensures.some in
     let text = c.in_ok-note_text.field-0.items in
-    let told : IsToldOf c.args.«module».now.paint page.file.now page.lines name imports c.as_str.result.now mend (reader_place c.other_of.result placed.0) text
-    = subst (λ (p : Place). IsToldOf c.args.«module».now.paint page.file.now page.lines name imports c.as_str.result.now mend p text) placed.2 c.in_ok-note_text.ensures in
-    let named : IsToldOf c.args.«module».now.paint page.file.now page.lines name imports fault.name mend (reader_place c.other_of.result placed.0) text
-    = subst (λ (d : List ℕ). IsToldOf c.args.«module».now.paint page.file.now page.lines name imports d mend (reader_place c.other_of.result placed.0) text) c.as_str.ensures told in
+    let told : IsStatedOf c.args.«module».now.paint page.file.now page.lines name imports c.as_str.result.now mend (reader_place c.other_of.result placed.0) text
+    = subst (λ (p : Place). IsStatedOf c.args.«module».now.paint page.file.now page.lines name imports c.as_str.result.now mend p text) placed.2 c.in_ok-note_text.ensures in
+    let named : IsStatedOf c.args.«module».now.paint page.file.now page.lines name imports fault.name mend (reader_place c.other_of.result placed.0) text
+    = subst (λ (d : List ℕ). IsStatedOf c.args.«module».now.paint page.file.now page.lines name imports d mend (reader_place c.other_of.result placed.0) text) c.as_str.ensures told in
     inr (record {
       untyped = c.in-Some.ensures.0;
       mend = mend;
       mended = subst (λ (s : List ℕ). IsMend s name imports fault.name mend) c.requires c.in-Some.ensures.1;
       columns = placed.0;
       columns_at = subst (λ (p : Place). AreColumnsAt page.lines p placed.0) c.other_of.ensures placed.1;
-      told = subst (λ (p : Place). IsToldOf c.args.«module».now.paint page.file.now page.lines name imports fault.name mend (reader_place p placed.0) text) c.other_of.ensures named;
+      told = subst (λ (p : Place). IsStatedOf c.args.«module».now.paint page.file.now page.lines name imports fault.name mend (reader_place p placed.0) text) c.other_of.ensures named;
     })

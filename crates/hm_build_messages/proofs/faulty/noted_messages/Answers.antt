@@ -13,9 +13,9 @@ loop-fault-preserved c =
     let item : Fault = c.fault-item.result in
     let is : item ≡ get_or faults i item = search rules in
     let message = c.in_ok-message.message.items in
-    let before = c.args.allowance.now.is_limit_told in
-    let between = c.loop-fault.allowance.is_limit_told in
-    let after = c.fault_text.new.allowance.is_limit_told in
+    let before = c.args.allowance.now.is_limit_stated in
+    let between = c.loop-fault.allowance.is_limit_stated in
+    let after = c.fault_text.new.allowance.is_limit_stated in
     let pushed : c.extend_from_slice.new.self.items ≡ c.loop-fault.text.items ++ message = search rules in
     taken_turn told faults i item before between after c.loop-fault.text.items c.extend_from_slice.new.self.items message (search rules) c.loop-fault.invariant
     (subst (λ (f : Fault). told f between after message) is c.in_ok-message.ensures.told) pushed

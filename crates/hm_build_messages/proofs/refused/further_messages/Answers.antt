@@ -1,8 +1,8 @@
 use Rattle.std.proofs.Common.{rules, ◌≡◌, ◌+◌, ◌<◌, ◌≤◌, ◌++◌, List, ℕ, None, Some, arith, length, subst, sym}
 use Rattle.std.proofs.lemmas.List.{length-map}
 use Rattle.hm_messages.specs.Pages.{files_in, texts_in}
-use Rattle.hm_build_messages.specs.FurtherTold.{IsFirstTold}
-use Rattle.hm_build_messages.proofs.Further.{told_more, told_none}
+use Rattle.hm_build_messages.specs.FurtherStated.{IsFirstStated}
+use Rattle.hm_build_messages.proofs.Further.{told_more, stated_none}
 use Rattle.hm_build_messages.proofs.refused.further_messages.Goals.{in-Some+in_ok-extend_from_slice, in_default}
 use Rattle.hm_build_messages.proofs.refused.further_messages.Goals as goal
 
@@ -21,13 +21,13 @@ loop-source-preserved c =
     elim c.match-branch-2.branch [
       | in-Some+in_ok-extend_from_slice w ↦
           (let message = w.in-Some.message in
-          let first : IsFirstTold paint files texts source (Some message.items) = search rules in
+          let first : IsFirstStated paint files texts source (Some message.items) = search rules in
           let pushed : c.match-branch-2.text.items ≡ text ++ message.items = search rules in
           let counted : c.match-branch-2.errors ≡ c.loop-source.errors + 1 = search rules in
           rw (pushed, counted) (told_more paint files texts from source c.loop-source.errors text low within told message.items first))
       | in_default w ↦
-          (let first : IsFirstTold paint files texts source None = search rules in
+          (let first : IsFirstStated paint files texts source None = search rules in
           let kept : c.match-branch-2.text.items ≡ text = search rules in
           let counted : c.match-branch-2.errors ≡ c.loop-source.errors = search rules in
-          rw (kept, counted) (told_none paint files texts from source c.loop-source.errors text low within told first))
+          rw (kept, counted) (stated_none paint files texts from source c.loop-source.errors text low within told first))
     ]

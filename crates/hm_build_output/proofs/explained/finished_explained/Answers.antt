@@ -5,7 +5,7 @@ use Rattle.hm_build_output.proofs.explained.finished_explained.Goals as goal
 pub returns-clause-told : goal.returns-clause-told
 returns-clause-told c records workers finished =
     let store = c.args.store.now in
-    let wanted = c.args.wanted.now in
+    let run_options = c.args.run_options.now in
     let a = c.in_ok-answer.answer in
-    all_told wanted.explain (map (λ s. s.items) c.args.sources.now) store records workers wanted.options.journal a.status (string_bytes a.text) c.in_ok-messages.messages.items
+    all_told run_options.explain (map (λ s. s.items) c.args.sources.now) store records workers run_options.options.journal a.status (string_bytes a.text) c.in_ok-messages.messages.items
     c.in_ok-answer.ensures.report c.in_ok-answer.ensures.status finished c.in_ok-messages.ensures

@@ -3,7 +3,7 @@ use Rattle.std.proofs.lemmas.List.{length-map}
 use Rattle.std.proofs.lemmas.List.Elements.{All-head, All-tail}
 use Rattle.hm_messages.specs.Missing.{import_of, missing_imports}
 use Rattle.hm_messages.specs.Pages.{files_in, texts_in}
-use Rattle.hm_messages.specs.Refused.{IsMessageAt, IsMissingTold}
+use Rattle.hm_messages.specs.Refused.{IsMessageAt, IsMissingStated}
 use Rattle.hm_messages.specs.Subjects.{missing}
 use Rattle.hm_messages.specs.declared.missing.MissingImport.{MissingImport}
 use Rattle.hm_messages.proofs.InOrder.{each_mapped}
@@ -54,7 +54,7 @@ returns-clause-ok c =
         of_sources = c.requires;
         more = map import_of more;
         all = all_of ∙ (ap (λ (n : List ℕ). record { number = first.source; place = first.place; name = n } ∷ map import_of more) called);
-        told = each_mapped import_of (IsMissingTold paint files texts) more c.in_ok-further.further.items c.in_ok-further.ensures;
+        told = each_mapped import_of (IsMissingStated paint files texts) more c.in_ok-further.further.items c.in_ok-further.ensures;
         count = many ∙ (ap (λ (l : List MissingImport). length l) parts ∙ omega (arith, length-map more import_of));
       },
       pushed,

@@ -1,6 +1,6 @@
 use Rattle.hm_messages.specs.Pages.{files_in, texts_in}
-use Rattle.hm_messages.proofs.Ways.{AreWaysTold}
+use Rattle.hm_messages.proofs.Ways.{AreWaysStated}
 use Rattle.hm_messages.proofs.refusals.step_lines.Given as goal
 
 abbrev pub invariant-loop-step : goal.invariant-loop-step
-invariant-loop-step l = AreWaysTold l.pages.paint (files_in l.pages.items.items) (texts_in l.pages.items.items) l.text.items
+invariant-loop-step l = AreWaysStated l.pages.paint (files_in l.pages.items.items) (texts_in l.pages.items.items) l.text.items

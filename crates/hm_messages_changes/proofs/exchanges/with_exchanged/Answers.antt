@@ -11,7 +11,7 @@ returns c =
     let first = c.args.first in
     let second = c.args.second in
     let in_front : c.as_slice.result.now ≡ bracketed source second = search rules in
-    let behind : c.as_slice-2.result.now ≡ bracketed source first = search rules in
+    let after : c.as_slice-2.result.now ≡ bracketed source first = search rules in
     let end : take (length source - second.to) (drop second.to source) ≡ drop second.to source = take_all _ _ (omega (arith, length-drop second.to source)) in
     five_in_row (take first.from source) (bracketed source second) (slice_range source first.to second.from) (bracketed source first) (drop second.to source)
-    c.as_slice.result.now c.as_slice-2.result.now (take (length source - second.to) (drop second.to source)) c.in_ok-joined.field-0.items in_front behind end c.in_ok-joined.ensures
+    c.as_slice.result.now c.as_slice-2.result.now (take (length source - second.to) (drop second.to source)) c.in_ok-joined.field-0.items in_front after end c.in_ok-joined.ensures

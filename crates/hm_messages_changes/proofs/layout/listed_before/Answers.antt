@@ -9,6 +9,6 @@ returns c =
     let layout = c.args.layout.now in
     let source = layout.source.now in
     let names : c.as_slice.result.now ≡ flat_map (listed source) layout.names.now = search rules in
-    let behind : c.as_slice-2.result.now ≡ hollowed source c.args.at layout.whole.from layout.before.now = search rules in
+    let after : c.as_slice-2.result.now ≡ hollowed source c.args.at layout.whole.from layout.before.now = search rules in
     four_joined (take c.args.at source) (codes "part'types , ") (flat_map (listed source) layout.names.now) (hollowed source c.args.at layout.whole.from layout.before.now)
-    c.in_ok-joined.field-0.items (rw (names, behind) at c.in_ok-joined.ensures)
+    c.in_ok-joined.field-0.items (rw (names, after) at c.in_ok-joined.ensures)

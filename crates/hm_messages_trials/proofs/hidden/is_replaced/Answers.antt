@@ -11,10 +11,10 @@ returns c so =
     let d = c.args.definition.now in
     let faults = c.args.faults.now in
     let begins : BeginWith (slice_range source d.from d.to) d.name.now = search rules in
-    let between : HaveUnbound faults c.place_behind-start.result c.place_behind-end.result = c.have_unbound.ensures so in
+    let between : HaveUnbound faults c.place_of_byte-start.result c.place_of_byte-end.result = c.have_unbound.ensures so in
     record {
       ordered = search rules;
       named = begins;
-      unbound = subst (λ (p : Place). HaveUnbound faults p (place_after (take d.to source))) c.place_behind-start.ensures
-          (subst (λ (p : Place). HaveUnbound faults c.place_behind-start.result p) c.place_behind-end.ensures between);
+      unbound = subst (λ (p : Place). HaveUnbound faults p (place_after (take d.to source))) c.place_of_byte-start.ensures
+          (subst (λ (p : Place). HaveUnbound faults c.place_of_byte-start.result p) c.place_of_byte-end.ensures between);
     }

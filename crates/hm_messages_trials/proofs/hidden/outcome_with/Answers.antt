@@ -27,7 +27,7 @@ returns c =
     let imports : o.imports ≡ fs = search rules in
     let asked : AreImportsOf o.«module» fs = search rules in
     let right : IsVerdict o.«module» (prelude_interface ∷ o.imports) o.verdict = search rules in
-    let later : AreLater c.place_behind-end.result (verdict_of c.verdict.result.now) = search rules in
+    let later : AreLater c.place_of_byte-end.result (verdict_of c.verdict.result.now) = search rules in
     record {
       at = change.at;
       within = search rules;
@@ -39,5 +39,5 @@ returns c =
       spelled = subst (λ (s : List ℕ). IsModuleIn s name o.«module») text spelled;
       asked = asked;
       right = subst (λ (l : List Interface). IsVerdict o.«module» (prelude_interface ∷ l) o.verdict) imports right;
-      later = subst (λ (p : Place). AreLater p o.verdict) c.place_behind-end.ensures (subst (λ (v : Verdict). AreLater c.place_behind-end.result v) c.verdict.ensures.value later);
+      later = subst (λ (p : Place). AreLater p o.verdict) c.place_of_byte-end.ensures (subst (λ (v : Verdict). AreLater c.place_of_byte-end.result v) c.verdict.ensures.value later);
     }

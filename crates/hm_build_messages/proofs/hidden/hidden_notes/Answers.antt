@@ -5,10 +5,10 @@ use Rattle.hm_build_reports.specs.Settling.{module_set, statuses_of}
 use Rattle.hm_store.specs.Settlements.{settlement}
 use Rattle.hm_verdicts.specs.Sets.{imports_of, module_at}
 use Rattle.hm_verdicts.specs.Verdicts.{ArePublished}
-use Rattle.hm_build_messages.specs.Explanations.{AreHiddenTold}
+use Rattle.hm_build_messages.specs.Explanations.{AreHiddenStated}
 use Rattle.hm_build_messages.proofs.Beyond.{beyond_page}
 use Rattle.hm_build_reports.proofs.Reporting.{name_by_place}
-use Rattle.hm_build_messages.proofs.hidden.notes_behind.Goals as goal
+use Rattle.hm_build_messages.proofs.hidden.hidden_notes.Goals as goal
 
 pub returns : goal.returns
 returns c =
@@ -28,4 +28,4 @@ returns c =
     let published : ArePublished status (imports_of p number) fs =
     subst (λ s. ArePublished s (imports_of p number) fs) (sym c.requires.settled) (subst (λ row. ArePublished (settlement told.store.now) row fs) c.imports.ensures have) in
     beyond_page told.pages.now.paint pages faulty.source page p status number name fs faulty.faults.now text c.requires.source (search rules) named published
-    (subst (λ l. (text ≡ []) ⊎ AreHiddenTold told.pages.now.paint page.file.now page.lines name (map arc_value l) faulty.faults.now text) c.as_slice.ensures.value c.in_ok-module_notes.ensures)
+    (subst (λ l. (text ≡ []) ⊎ AreHiddenStated told.pages.now.paint page.file.now page.lines name (map arc_value l) faulty.faults.now text) c.as_slice.ensures.value c.in_ok-module_notes.ensures)

@@ -13,6 +13,6 @@ IsMessageOf tells (Some fault) None = ⊥
 IsMessageOf tells (Some fault) (Some text) = tells fault text
 
 -- the message of the first fault of a source, counted from 0, if it has any
-abbrev pub IsFirstTold : Paint → List (List ℕ) → List (List ℕ) → ℕ → Option (List ℕ) → Type 0
-IsFirstTold paint files sources source message =
+abbrev pub IsFirstStated : Paint → List (List ℕ) → List (List ℕ) → ℕ → Option (List ℕ) → Type 0
+IsFirstStated paint files sources source message =
     (first : Option Refusal) × IsFirstFault (source + 1) (slice_index_or sources source []) first × IsMessageOf (λ r t. AreRefusalMessages paint files sources r 1 t) first message

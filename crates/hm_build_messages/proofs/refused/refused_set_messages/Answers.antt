@@ -7,7 +7,7 @@ use Rattle.hm_messages.specs.Messages.{AreEach}
 use Rattle.hm_messages.specs.Pages.{AreFilesOf, files_in, texts_in}
 use Rattle.hm_messages.specs.Refused.{AreRefusalMessages}
 use Rattle.hm_run_sources.specs.Refusals.{Refusal}
-use Rattle.hm_build_messages.proofs.refused.told_refusal.Goals as goal
+use Rattle.hm_build_messages.proofs.refused.refused_set_messages.Goals as goal
 
 pub returns : goal.returns
 returns c =

@@ -3,7 +3,7 @@ use Rattle.std.proofs.lemmas.List.{take_all}
 use Rattle.hm_lex.specs.declared.token.Place.{Place}
 use Rattle.hm_lex.specs.Cut.{place_after}
 use Rattle.hm_lex.proofs.Places.{place_more, step_line, step_column}
-use Rattle.hm_messages_changes.proofs.places.place_behind_all.Goals as goal
+use Rattle.hm_messages_changes.proofs.places.place_after_all.Goals as goal
 
 pub loop-byte-preserved : goal.loop-byte-preserved
 loop-byte-preserved c =

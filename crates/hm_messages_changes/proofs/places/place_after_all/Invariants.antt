@@ -1,6 +1,6 @@
 use Rattle.std.proofs.Common.{◌≡◌, ◌+◌, ◌≤◌, take}
 use Rattle.hm_lex.specs.Cut.{place_after}
-use Rattle.hm_messages_changes.proofs.places.place_behind_all.Given as goal
+use Rattle.hm_messages_changes.proofs.places.place_after_all.Given as goal
 
 abbrev pub invariant-loop-byte : goal.invariant-loop-byte
 invariant-loop-byte l = record {
