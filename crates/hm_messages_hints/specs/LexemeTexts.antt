@@ -24,21 +24,33 @@ lexeme_text CurlyQuote name = codes "this curly quote isn't a quote of Haskell"
 abbrev pub begins_comment : List ℕ → Bool
 begins_comment name = bytes_eq name (codes "//") || bytes_eq name (codes "/*") || bytes_eq name (codes "#")
 
+-- the operators of Haskell that calculate
+abbrev pub is_arithmetic : List ℕ → Bool
+is_arithmetic name = bytes_eq name (codes "+") || bytes_eq name (codes "-") || bytes_eq name (codes "*") || bytes_eq name (codes "/") || bytes_eq name (codes "^") || bytes_eq name (codes "**")
+
+-- those that compare by order
+abbrev pub is_order : List ℕ → Bool
+is_order name = bytes_eq name (codes "<") || bytes_eq name (codes ">") || bytes_eq name (codes "<=") || bytes_eq name (codes ">=")
+
+-- those of monads
+abbrev pub is_monadic : List ℕ → Bool
+is_monadic name = bytes_eq name (codes ">>=") || bytes_eq name (codes ">>") || bytes_eq name (codes "=<<")
+
 -- what to write instead of an operator
 abbrev pub operator_help : List ℕ → List ℕ
 operator_help name =
-    if bytes_eq name (codes "+") || bytes_eq name (codes "-") || bytes_eq name (codes "*") || bytes_eq name (codes "/") || bytes_eq name (codes "^") || bytes_eq name (codes "**") then codes "There is no arithmetic: define numbers of your own, such as `data Nat = Zero | Succ Nat`.\n" else
+    if is_arithmetic name then codes "There is no arithmetic: define numbers of your own, such as `data Nat = Zero | Succ Nat`.\n" else
     (if bytes_eq name (codes "++") then codes "Write `concat [xs, ys]` for `xs ++ ys`.\n" else
     (if bytes_eq name (codes ".") then codes "Write `\\x -> f (g x)` for `f . g`.\n" else
     (if bytes_eq name (codes "$") then codes "Write parentheses: `f (g x)` for `f $ g x`.\n" else
     (if bytes_eq name (codes "&&") then codes "Write `and [x, y]` for `x && y`.\n" else
     (if bytes_eq name (codes "||") then codes "Write `or [x, y]` for `x || y`.\n" else
     (if bytes_eq name (codes "==") || bytes_eq name (codes "/=") then codes "Compare by patterns: `f 0 = ..`, or `case x of { 0 -> .. ; _ -> .. }`.\n" else
-    (if bytes_eq name (codes "<") || bytes_eq name (codes ">") || bytes_eq name (codes "<=") || bytes_eq name (codes ">=") then codes "Numbers and characters can't be compared by order: use patterns.\n" else
+    (if is_order name then codes "Numbers and characters can't be compared by order: use patterns.\n" else
     (if bytes_eq name (codes "!!") then codes "Write `head (drop n xs)` for `xs !! n`.\n" else
     (if bytes_eq name (codes "$!") then codes "Write `seq x (f x)` for `f $! x`.\n" else
     (if bytes_eq name (codes "!") then codes "Write `not x` for `!x`. Leave it out before an argument of a constructor: no argument is strict.\n" else
-    (if bytes_eq name (codes ">>=") || bytes_eq name (codes ">>") || bytes_eq name (codes "=<<") then codes "There is no IO and no monad.\n" else
+    (if is_monadic name then codes "There is no IO and no monad.\n" else
     (if begins_comment name then codes "A comment begins with `--`.\n" else
     codes "Define a function with a name, and write it before its arguments.\n"))))))))))))
 

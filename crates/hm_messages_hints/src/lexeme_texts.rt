@@ -1,6 +1,6 @@
 //! The texts of the hint at a lexical fault.
 ghost use Rattle.std.specs.Prelude.{◌≡◌, IfOk, string_bytes};
-ghost use Rattle.hm_messages_hints.specs.LexemeTexts.{begins_comment, lexeme_help, lexeme_text, operator_help};
+ghost use Rattle.hm_messages_hints.specs.LexemeTexts.{begins_comment, is_arithmetic, is_monadic, is_order, lexeme_help, lexeme_text, operator_help};
 
 use crate::lexeme_hints::LexemeHint;
 use std::alloc::{AllocError, Global};
@@ -59,17 +59,40 @@ fn begins_comment(name: &[u8]) -> bool
     name == b"//".as_slice() || name == b"/*".as_slice() || name == b"#".as_slice()
 }
 
-/// Returns what to write instead of an operator.
-fn operator_help(name: &[u8]) -> &'static str
-    ensures { result.now ≡ operator_help name.now }
+/// Returns whether an operator of Haskell calculates.
+fn is_arithmetic(name: &[u8]) -> bool
+    ensures { result ≡ is_arithmetic name.now }
 {
-    if name == b"+".as_slice()
+    name == b"+".as_slice()
         || name == b"-".as_slice()
         || name == b"*".as_slice()
         || name == b"/".as_slice()
         || name == b"^".as_slice()
         || name == b"**".as_slice()
-    {
+}
+
+/// Returns whether an operator of Haskell compares by order.
+fn is_order(name: &[u8]) -> bool
+    ensures { result ≡ is_order name.now }
+{
+    name == b"<".as_slice()
+        || name == b">".as_slice()
+        || name == b"<=".as_slice()
+        || name == b">=".as_slice()
+}
+
+/// Returns whether an operator of Haskell is of a monad.
+fn is_monadic(name: &[u8]) -> bool
+    ensures { result ≡ is_monadic name.now }
+{
+    name == b">>=".as_slice() || name == b">>".as_slice() || name == b"=<<".as_slice()
+}
+
+/// Returns what to write instead of an operator.
+fn operator_help(name: &[u8]) -> &'static str
+    ensures { result.now ≡ operator_help name.now }
+{
+    if is_arithmetic(name) {
         "There is no arithmetic: define numbers of your own, such as `data Nat = Zero | Succ Nat`.\n"
     } else if name == b"++".as_slice() {
         "Write `concat [xs, ys]` for `xs ++ ys`.\n"
@@ -83,11 +106,7 @@ fn operator_help(name: &[u8]) -> &'static str
         "Write `or [x, y]` for `x || y`.\n"
     } else if name == b"==".as_slice() || name == b"/=".as_slice() {
         "Compare by patterns: `f 0 = ..`, or `case x of { 0 -> .. ; _ -> .. }`.\n"
-    } else if name == b"<".as_slice()
-        || name == b">".as_slice()
-        || name == b"<=".as_slice()
-        || name == b">=".as_slice()
-    {
+    } else if is_order(name) {
         "Numbers and characters can't be compared by order: use patterns.\n"
     } else if name == b"!!".as_slice() {
         "Write `head (drop n xs)` for `xs !! n`.\n"
@@ -95,7 +114,7 @@ fn operator_help(name: &[u8]) -> &'static str
         "Write `seq x (f x)` for `f $! x`.\n"
     } else if name == b"!".as_slice() {
         "Write `not x` for `!x`. Leave it out before an argument of a constructor: no argument is strict.\n"
-    } else if name == b">>=".as_slice() || name == b">>".as_slice() || name == b"=<<".as_slice() {
+    } else if is_monadic(name) {
         "There is no IO and no monad.\n"
     } else if begins_comment(name) {
         "A comment begins with `--`.\n"
