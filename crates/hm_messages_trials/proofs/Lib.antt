@@ -1,11 +1,8 @@
 pub mod Elsewhere
-pub mod Folding
 pub mod Found
-pub mod NoFiniteType
 pub mod TextParts
 pub mod WorkedHidden
 pub mod WorkedHoles
 pub mod WorkedLimits
 pub mod WorkedMends
 pub mod WorkedPartTypes
-pub mod WorkedShown

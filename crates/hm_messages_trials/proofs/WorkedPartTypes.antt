@@ -17,7 +17,7 @@ use Rattle.hm_verdicts.specs.WorkedVerdicts.{character, entry_x, fault_Z, interf
 use Rattle.hm_verdicts.proofs.OneModuleVerdict.{one_module_verdict}
 use Rattle.hm_verdicts.proofs.WorkedModules.{faulty_B, good_A}
 use Rattle.hm_messages_changes.specs.Holes.{hole}
-use Rattle.hm_messages_trials.specs.InfiniteTypes.{NeedInfinite}
+use Rattle.hm_messages_types.specs.InfiniteTypes.{NeedInfinite}
 use Rattle.hm_messages_trials.specs.PartTypes.{AreTextsOf, ExportsIn}
 use Rattle.hm_messages_changes.specs.Probes.{hollowed}
 use Rattle.hm_messages_trials.specs.Signatures.{IsGood, IsGoodIn}

@@ -1,14 +1,11 @@
-pub mod Aliases
 pub mod Hidden
-pub mod InfiniteTypes
 pub mod Limits
 pub mod Mends
 pub mod PartTypes
-pub mod Shown
+pub mod ShownTypes
 pub mod Signatures
 pub mod TypedSources
 pub mod Worked
 pub mod WorkedHidden
 pub mod WorkedLimits
 pub mod WorkedPartTypes
-pub mod WorkedShown

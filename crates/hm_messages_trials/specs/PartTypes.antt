@@ -13,7 +13,7 @@ use Rattle.hm_syntax.specs.declared.ast.Module.{Module}
 use Rattle.hm_names.specs.Imports.{AreImportsOf}
 use Rattle.hm_verdicts.specs.ModuleVerdicts.{Good, IsVerdict}
 use Rattle.hm_messages_trials.specs.TypedSources.{IsModuleIn}
-use Rattle.hm_messages_trials.specs.InfiniteTypes.{NeedInfinite}
+use Rattle.hm_messages_types.specs.InfiniteTypes.{NeedInfinite}
 use Rattle.hm_messages_changes.specs.declared.data.SourceRange.{SourceRange}
 use Rattle.hm_messages_changes.specs.Probes.{Surroundings, with_probe}
 

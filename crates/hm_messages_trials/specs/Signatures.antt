@@ -11,7 +11,7 @@ use Rattle.hm_messages_trials.specs.TypedSources.{HasTypesIn, IsModuleIn}
 use Rattle.hm_messages_changes.specs.Holes.{IsPartOf, without}
 use Rattle.hm_messages_trials.specs.PartTypes.{ExportsIn}
 use Rattle.hm_messages_changes.specs.Probes.{Surroundings, with_alone}
-use Rattle.hm_messages_trials.specs.Shown.{IsShown}
+use Rattle.hm_messages_trials.specs.ShownTypes.{IsShown}
 use Rattle.hm_messages_changes.specs.declared.data.SourceRange.{SourceRange}
 
 -- with that variable in place of the definition the module is good, and this is the text of the variable's type

@@ -7,7 +7,7 @@ use Rattle.hm_types.specs.declared.Head.TheVariants.{Arrow, Tuple}
 use Rattle.hm_run_sources.specs.SourceModules.{HasModules}
 use Rattle.hm_verdicts.specs.Worked.{module_A, module_B}
 use Rattle.hm_verdicts.specs.WorkedVerdicts.{character}
-use Rattle.hm_messages_trials.specs.InfiniteTypes.{NeedInfinite}
+use Rattle.hm_messages_types.specs.InfiniteTypes.{NeedInfinite}
 use Rattle.hm_messages_trials.specs.PartTypes.{AreTextsOf, ExportsIn, from_three}
 use Rattle.hm_messages_changes.specs.Probes.{Surroundings, before, hollowed, with_probe, with_alone}
 use Rattle.hm_messages_changes.specs.Holes.{without}

@@ -1,9 +1,10 @@
 //! The search for the parts without which a definition has a type.
 
 use crate::costs::{Effort, MOST_TRIALS};
-use crate::trial::{Question, has_types_in};
+use crate::trial::has_types_in;
 use hm_messages_changes::{Edit, Filling, HOLE, add_open_patterns, edited, in_place};
 use hm_messages_outline::{Lexed, Role, Run, TermPart, parts_below};
+use hm_messages_types::Question;
 use std::alloc::{AllocError, Global};
 
 /// The number of parts from which on halves of them are tried first.

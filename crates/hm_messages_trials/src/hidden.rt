@@ -9,10 +9,11 @@ ghost use Rattle.hm_messages_trials.specs.Limits.{IsUsedUp};
 
 use crate::costs::{Effort, cost_of};
 use crate::reading::{Reading, reading_of};
-use crate::trial::{Question, judged};
+use crate::trial::judged;
 use hm_lex::Place;
 use hm_messages_changes::{Other, ScopeChange, changed_by, place_of_byte, replaced_of};
 use hm_messages_outline::declarations_of;
+use hm_messages_types::Question;
 use hm_names::{Fault, Kind};
 use hm_verdicts::{Outcome, Verdict};
 use std::alloc::{AllocError, Global};

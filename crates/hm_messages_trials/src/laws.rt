@@ -1,10 +1,8 @@
 //! Worked examples: functions with empty bodies, whose contracts have the facts.
-ghost use Rattle.hm_messages_trials.specs.InfiniteTypes.{NoCommonInstance};
 ghost use Rattle.hm_messages_trials.specs.Worked.{HolesRow, MendsRow, PartsRow, TypesRow, VerdictsRow};
 ghost use Rattle.hm_messages_trials.specs.WorkedHidden.{BeyondRow, DefinitionsRow, HeldRow, LaterRow, ReplacedRow};
 ghost use Rattle.hm_messages_trials.specs.WorkedLimits.{LimitsRow};
 ghost use Rattle.hm_messages_trials.specs.WorkedPartTypes.{ExportsRow, GoodRow, InfiniteRow, OthersRow, ProbesRow, SignaturesRow, TextsRow};
-ghost use Rattle.hm_messages_trials.specs.WorkedShown.{AliasRow, FoldedRow};
 
 /// Sources with a hole, parts of a source, verdicts with which a definition has a type, and sources in which it has one.
 #[tactic(auto, using(crate::proofs::WorkedHoles::worked_holes, crate::proofs::WorkedHoles::worked_parts, crate::proofs::WorkedHoles::worked_verdicts, crate::proofs::WorkedHoles::worked_types))]
@@ -34,11 +32,6 @@ pub fn worked_part_types()
     ensures infinite { InfiniteRow }
 {}
 
-/// No substitution makes two types equal that are equal only if a type contains itself.
-pub fn infinite_types()
-    ensures { NoCommonInstance }
-{}
-
 /// A source with a definition of a name that isn't in scope, one with a replaced definition, faults of later phases, and verdicts beyond a fault of names.
 #[tactic(auto, using(crate::proofs::WorkedHidden::worked_definitions, crate::proofs::WorkedHidden::worked_replaced, crate::proofs::WorkedHidden::worked_held, crate::proofs::WorkedHidden::worked_later, crate::proofs::WorkedHidden::worked_beyond))]
 pub fn worked_hidden()
@@ -53,11 +46,4 @@ pub fn worked_hidden()
 #[tactic(auto, using(crate::proofs::WorkedLimits::worked_limits_row))]
 pub fn worked_limits()
     ensures { LimitsRow }
-{}
-
-/// Texts of types with a name for a part of them, and synonyms that are names for types.
-#[tactic(auto, using(crate::proofs::WorkedShown::worked_folded, crate::proofs::WorkedShown::worked_aliases))]
-pub fn worked_names()
-    ensures folded { FoldedRow }
-    ensures aliases { AliasRow }
 {}

@@ -8,14 +8,12 @@
 mod costs;
 mod culprits;
 mod hidden;
-mod infinite;
 pub mod laws;
 mod mends;
 mod part_typing;
 mod ranking;
 mod reading;
 mod search;
-mod shown;
 mod signatures;
 mod trial;
 
@@ -26,4 +24,4 @@ pub use crate::part_typing::{PartTypes, part_types_of};
 pub use crate::reading::{Reading, TypeFault, reading_of};
 pub use crate::search::mend_of;
 pub use crate::signatures::{Unsigned, unsigned_of};
-pub use crate::trial::Question;
+pub use hm_messages_types::Question;

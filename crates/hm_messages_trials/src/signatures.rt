@@ -8,10 +8,10 @@ ghost use Rattle.hm_messages_trials.specs.Signatures.{HasShownTypeAlone, IsUnsig
 use crate::costs::{Effort, cost_of};
 use crate::part_typing::{FUNCTION, Setting, layout_of, others_of, typed_in};
 use crate::reading::TypeFault;
-use crate::shown::{folded, names_in};
-use crate::trial::{Question, has_types_in, is_good_in};
+use crate::trial::{has_types_in, is_good_in};
 use hm_messages_changes::{Layout, SourceRange, bytes_of, part_of, with_alone, without};
 use hm_messages_outline::{Lexed, Run, binding_at, header_of, signature_of};
+use hm_messages_types::{Question, folded, names_in};
 use hm_parse_grammar::Symbol;
 use hm_types_display::scheme_text;
 use std::alloc::{AllocError, Global};

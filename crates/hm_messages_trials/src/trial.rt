@@ -12,11 +12,10 @@ use crate::costs::COST_OF_TRIAL;
 use hm_check::{CheckFault, check_module_within};
 use hm_lex::{LexFault, lex};
 use hm_messages_changes::with_hole;
+use hm_messages_types::Question;
 use hm_names::{Fault, Kind, TypeLimits};
 use hm_parse::{ParseFault, parse};
 use hm_syntax::Module;
-use hm_types::Interface;
-use hm_types_prelude::SharedPrelude;
 use hm_verdicts::{Outcome, Verdict};
 use std::alloc::{AllocError, Global};
 use std::sync::Arc;
@@ -26,18 +25,6 @@ const MOST_LEVELS: usize = 1 << 12;
 
 /// The number of nodes that types may have in a trial, for each unit of its cost.
 const NODES_PER_UNIT: usize = 2;
-
-/// The data that all trials of a module share.
-#[derive(Clone, Copy)]
-pub struct Question<'a> {
-    /// The source of the module.
-    pub source: &'a [u8],
-    /// The name of the module. The source may spell others too.
-    pub name: &'a str,
-    /// The interfaces of its imports except Prelude, each once, in order of first import.
-    pub imports: &'a [Arc<Interface>],
-    pub prelude: &'a SharedPrelude,
-}
 
 // Why: docs/DECISIONS.md, "Types in a trial".
 /// Returns how large types may grow in a trial. The levels are few, because a trial runs on a stack that is sized for trees. The nodes are as many as a trial

@@ -5,9 +5,10 @@ use Rattle.hm_types.specs.Interfaces.{Exports as Interface}
 use Rattle.hm_types.specs.StandardPrelude.{prelude_interface}
 use Rattle.hm_names.specs.Imports.{AreImportsOf}
 use Rattle.hm_verdicts.specs.ModuleVerdicts.{Good, IsVerdict}
-use Rattle.hm_messages_trials.specs.Aliases.{alias_of}
+use Rattle.hm_messages_types.specs.Aliases.{alias_of}
 use Rattle.hm_messages_trials.specs.TypedSources.{IsModuleIn}
-use Rattle.hm_messages_trials.specs.Shown.{ExportsNames, IsName}
+use Rattle.hm_messages_types.specs.Shown.{IsName}
+use Rattle.hm_messages_trials.specs.ShownTypes.{ExportsNames}
 use Rattle.hm_messages_trials.specs.declared.part_typing.Typed.{Typed}
 use Rattle.hm_messages_trials.proofs.Found.{found_so}
 use Rattle.hm_messages_trials.proofs.part_typing.typed_in.Goals as goal

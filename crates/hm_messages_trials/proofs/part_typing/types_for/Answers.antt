@@ -1,11 +1,11 @@
 use Rattle.std.proofs.Common.{rules, ◌≡◌, ◌≤◌, Bool, List, ℕ, length, map, string_bytes, subst}
 use Rattle.std.specs.Prelude.{codes}
 use Rattle.std.specs.Arc.{arc_value}
-use Rattle.hm_messages_trials.specs.Aliases.{alias_of}
+use Rattle.hm_messages_types.specs.Aliases.{alias_of}
 use Rattle.hm_messages_changes.specs.Layouts.{surroundings_of}
 use Rattle.hm_messages_trials.specs.PartTypes.{AreTextsOf, ExportsIn, HasPartTypes}
 use Rattle.hm_messages_changes.specs.Probes.{with_probe}
-use Rattle.hm_messages_trials.specs.Shown.{ExportsNames}
+use Rattle.hm_messages_trials.specs.ShownTypes.{ExportsNames}
 use Rattle.hm_messages_trials.proofs.part_typing.types_for.Goals as goal
 
 pub returns : goal.returns

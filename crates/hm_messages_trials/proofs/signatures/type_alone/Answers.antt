@@ -2,10 +2,10 @@ use Rattle.std.proofs.Common.{rules, ◌≡◌, ◌≤◌, List, ℕ, length, ma
 use Rattle.std.specs.Prelude.{codes}
 use Rattle.std.specs.Arc.{arc_value}
 use Rattle.hm_types_display.specs.Texts.{scheme_text_of}
-use Rattle.hm_messages_trials.specs.Aliases.{alias_of}
+use Rattle.hm_messages_types.specs.Aliases.{alias_of}
 use Rattle.hm_messages_changes.specs.Layouts.{surroundings_of}
 use Rattle.hm_messages_trials.specs.PartTypes.{ExportsIn}
-use Rattle.hm_messages_trials.specs.Shown.{ExportsNames}
+use Rattle.hm_messages_trials.specs.ShownTypes.{ExportsNames}
 use Rattle.hm_messages_trials.specs.Signatures.{HasTypeAlone}
 use Rattle.hm_messages_changes.specs.Probes.{with_alone}
 use Rattle.hm_messages_trials.proofs.signatures.type_alone.Goals as goal

@@ -1,7 +1,0 @@
-use Rattle.std.proofs.Common.{All}
-use Rattle.hm_messages_trials.specs.Aliases.{alias_of}
-use Rattle.hm_messages_trials.specs.Shown.{IsNameIn}
-use Rattle.hm_messages_trials.proofs.shown.own_aliases.Given as goal
-
-abbrev pub invariant-loop-index : goal.invariant-loop-index
-invariant-loop-index l = All (λ a. IsNameIn l.question.name.now l.interface (alias_of a)) l.found.items

@@ -1,0 +1,36 @@
+-- The types of a part as they are shown, with the names that the module has.
+use Rattle.std.specs.Prelude.{Bool, List, ◌∷◌, ℕ, All}
+use Rattle.hm_types.specs.Interfaces.{Exports as Interface}
+use Rattle.hm_types.specs.StandardPrelude.{prelude_interface}
+use Rattle.hm_syntax.specs.declared.ast.Module.{Module}
+use Rattle.hm_names.specs.Imports.{AreImportsOf}
+use Rattle.hm_verdicts.specs.ModuleVerdicts.{Good, IsVerdict}
+use Rattle.hm_messages_trials.specs.TypedSources.{IsModuleIn}
+use Rattle.hm_messages_trials.specs.PartTypes.{HasPartTypes}
+use Rattle.hm_messages_changes.specs.Probes.{Surroundings, with_probe}
+use Rattle.hm_messages_changes.specs.declared.data.SourceRange.{SourceRange}
+use Rattle.hm_messages_types.specs.Shown.{IsFolded, IsName, NamedType}
+
+-- The source spells a module with this name that needs these interfaces. It is good for them and Prelude's, and with its interface these are names
+pub record ExportsNames (source name : List ℕ) (fs : List Interface) (names : List NamedType) : Type 0 where
+  pub «module» : Module
+  pub spelled : IsModuleIn source name «module»
+  pub asked : AreImportsOf «module» fs
+  pub exports : Interface
+  pub right : IsVerdict «module» (prelude_interface ∷ fs) (Good exports)
+  pub each : All (IsName name exports) names
+
+-- the text of a type is shown so, by names that the module has in a source with a definition replaced
+pub record IsShown (changed : Surroundings → List ℕ) (name : List ℕ) (fs : List Interface) (text shown : List ℕ) : Type 0 where
+  pub place : Surroundings
+  pub names : List NamedType
+  pub exported : ExportsNames (changed place) name fs names
+  pub folded : IsFolded names text shown
+
+-- the two types of a part, as they are shown
+pub record HasShownTypes (source name : List ℕ) (fs : List Interface) (definition : List ℕ) (part : SourceRange) (expected actual : List ℕ) (infinite : Bool) : Type 0 where
+  pub whole_expected : List ℕ
+  pub whole_actual : List ℕ
+  pub types : HasPartTypes source name fs definition part whole_expected whole_actual infinite
+  pub expected_shown : IsShown (λ s. with_probe source definition s part) name fs whole_expected expected
+  pub actual_shown : IsShown (λ s. with_probe source definition s part) name fs whole_actual actual

@@ -1,0 +1,4 @@
+pub mod Aliases
+pub mod InfiniteTypes
+pub mod Shown
+pub mod WorkedShown

@@ -1,0 +1,38 @@
+-- Types as they are shown: names of synonyms stand for types, as in the signatures of the module (Report 4.2.2).
+use Rattle.std.specs.Prelude.{◌≡◌, ◌⊎◌, List, ℕ, All, Contains, codes, flat_map}
+use Rattle.hm_types.specs.Interfaces.{Exports as Interface}
+use Rattle.hm_types.specs.StandardPrelude.{prelude_interface}
+use Rattle.hm_types.specs.declared.entries.SynonymEntry.{SynonymEntry}
+use Rattle.hm_types_display.specs.Texts.{scheme_text_of}
+
+-- a name, and the text of the type that it stands for
+pub record NamedType : Type 0 where
+  pub name : List ℕ
+  pub text : List ℕ
+
+-- a piece of a text that is shown as it is, or by one of these names
+abbrev pub IsPiece : List NamedType → NamedType → Type 0
+IsPiece names p = (p.name ≡ p.text) ⊎ Contains names p
+
+-- what is shown is the text, with names in place of some pieces. With the type of each name put back it is the text again
+pub record IsFolded (names : List NamedType) (text shown : List ℕ) : Type 0 where
+  pub pieces : List NamedType
+  pub each : All (IsPiece names) pieces
+  pub text_is : text ≡ flat_map (λ p. p.text) pieces
+  pub shown_is : shown ≡ flat_map (λ p. p.name) pieces
+
+-- the synonym has no parameters, is declared in the module of this name, and stands for a type with this text
+pub record IsAlias (home : List ℕ) (entry : SynonymEntry) (n : NamedType) : Type 0 where
+  pub named : entry.name ≡ n.name
+  pub declared : entry.entity.«module» ≡ home
+  pub own : entry.entity.name ≡ n.name
+  pub closed : entry.synonym.parameters ≡ 0
+  pub text_is : n.text ≡ scheme_text_of (record { vars = 0; body = entry.synonym.body })
+
+-- an interface exports such a synonym
+abbrev pub IsNameIn : List ℕ → Interface → NamedType → Type 0
+IsNameIn home exports n = (entry : SynonymEntry) × Contains exports.synonyms entry × IsAlias home entry n
+
+-- the module's interface exports the name as a synonym of its own, or Prelude's does
+abbrev pub IsName : List ℕ → Interface → NamedType → Type 0
+IsName name exports n = IsNameIn name exports n ⊎ IsNameIn (codes "Prelude") prelude_interface n

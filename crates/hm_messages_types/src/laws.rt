@@ -1,0 +1,15 @@
+//! Worked examples, and a law: functions with empty bodies, whose contracts have the facts.
+ghost use Rattle.hm_messages_types.specs.InfiniteTypes.{NoCommonInstance};
+ghost use Rattle.hm_messages_types.specs.WorkedShown.{AliasRow, FoldedRow};
+
+/// No substitution makes two types equal that are equal only if a type contains itself.
+pub fn infinite_types()
+    ensures { NoCommonInstance }
+{}
+
+/// Texts of types with a name for a part of them, and synonyms that are names for types.
+#[tactic(auto, using(crate::proofs::WorkedShown::worked_folded, crate::proofs::WorkedShown::worked_aliases))]
+pub fn worked_names()
+    ensures folded { FoldedRow }
+    ensures aliases { AliasRow }
+{}

@@ -1,0 +1,12 @@
+//! Makes the texts of types in notes, in which names of synonyms stand for types as in the signatures of the module, and finds types that would be
+//! infinite.
+#![tactic(auto)]
+
+mod infinite;
+pub mod laws;
+mod question;
+mod shown;
+
+pub use crate::infinite::need_infinite;
+pub use crate::question::Question;
+pub use crate::shown::{Alias, aliases_in, folded, names_in, text_of};
