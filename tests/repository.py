@@ -20,6 +20,9 @@ docs/ARCHITECTURE.md that say what each crate does and what it depends on.
 7. The help, the constants of the program and LANGUAGE list the exit statuses of the definitions.
 8. Each decision that code cites (docs/DECISIONS.md, "NAME") is in DECISIONS, where a name stands once. Each decision is cited, except those on style
    and on what the program costs.
+9. No crate has more than 2,500 lines of code. In no crate do files use one another in a circle, except in those of CIRCLES.
+10. Each kind of fault has its word in LANGUAGE, in the schema of messages and in the comparison with GHC. The schema has the kinds of messages that the
+    code writes, and no others, and LANGUAGE has those of notes.
 """
 import pathlib
 import re
@@ -28,6 +31,9 @@ import sys
 
 TOP = pathlib.Path(__file__).resolve().parent.parent
 PAGE = TOP / "docs" / "ARCHITECTURE.md"
+MOST_LINES = 2500
+# Crates with a circle of files that is older than the test.
+CIRCLES = {"hm_lex", "hm_graph_components", "hm_run_sources"}
 ROW = re.compile(r"^\| `(\w+)` \|([^|]*)\|([^|]*)\|([^|]*)\|$", re.M)
 
 
@@ -231,9 +237,59 @@ def decision_faults():
     return faults + [f"docs/DECISIONS.md has {name}, which no code cites" for name in wanted if name not in cited]
 
 
+def circle(files, root):
+    """Returns the files of a crate that use one another in a circle, and those between two circles. `root` is the text of its root file."""
+    homes = {name: name for name in files}
+    for module, names in re.findall(r"\buse (?:crate::)?(\w+)::(\{[^}]*\}|\w+);", root):
+        homes |= {name: module for name in re.findall(r"\w+", names) if module in files}
+    names_in = lambda text: re.findall(r"\bcrate::(\{[^}]*\}|\w+)", text)
+    used = {name: {homes[it] for part in names_in(text) for it in re.findall(r"\w+", part) if it in homes} - {name} for name, text in files.items()}
+    while free := {name for name, others in used.items() if not others & used.keys() or not any(name in its for its in used.values())}:
+        used = {name: others for name, others in used.items() if name not in free}
+    return sorted(used)
+
+
+def size_faults():
+    """Returns the crates with too many lines of code, and those whose files use one another in a circle."""
+    faults = []
+    for name in listed():
+        texts = {it.stem: it.read_text() for it in (TOP / "crates" / name / "src").rglob("*.rt")}
+        lines = sum(len(it.splitlines()) for it in texts.values())
+        faults += [f"{name} has {lines} lines of code, and {MOST_LINES} are the limit"] if lines > MOST_LINES else []
+        # Ghost imports and citations of proofs name files of definitions and proofs.
+        code = {it: re.sub(r"^(?:ghost use|#\[tactic).*$|//.*$", "", text, flags=re.M) for it, text in texts.items()}
+        root = code.pop("lib", "") + code.pop("main", "")
+        found = circle(code, root)
+        if bool(found) != (name in CIRCLES):
+            faults.append(f"{name}: " + (f"these files use one another in a circle: {' '.join(found)}" if found else "no circle of files is left, so take it out of CIRCLES"))
+    return faults
+
+
+def kind_faults():
+    """Returns where documents and tests have other kinds of faults and of messages than the code."""
+    text = lambda path: (TOP / path).read_text()
+    language, notices = text("docs/LANGUAGE.md"), text("crates/hm_messages/src/notices.rt")
+    words = set(re.findall(r'Kind::\w+ => "([\w-]+)"', text("crates/hm_verdicts/src/kinds.rt")))
+    tables = ["".join(it) for it in re.findall(r"^(\| Word \| (?:Phase|First line) \|.*\n)((?:\|.*\n)+)", language, re.M) if "`unbound`" in it[1]]
+    found = {f"docs/LANGUAGE.md, the table {it.splitlines()[0]}": set(re.findall(r"^\| `([\w-]+)` \|", it, re.M)) for it in tables}
+    found["tests/haskell_sets/faults.py"] = set(re.findall(r'"([\w-]+)"', "".join(re.findall(r"^[A-Z]+ = \{.*\}$", text("tests/haskell_sets/faults.py"), re.M))))
+    faults = [f"{place}: other kinds of faults than hm_verdicts/src/kinds.rt: {' '.join(sorted(its ^ words))}" for place, its in found.items() if its != words]
+    faults += [] if len(tables) == 2 and words else ["docs/LANGUAGE.md doesn't have two tables of the kinds of faults"]
+    notes = set(re.findall(r'\bnote\(\s*"([\w-]+)"|kind: "([\w-]+)"', notices))
+    notes = {one or other for one, other in notes}
+    kinds = words | notes | set(re.findall(r'\berror\(\s*"([\w-]+)"', notices))
+    of_schema = re.search(r'"kind": \{\s*"enum": \[(.*?)\]', text("tests/message.schema.json"), re.S)
+    differing = kinds ^ set(re.findall(r'"([\w-]+)"', of_schema[1] if of_schema else ""))
+    faults += [f"tests/message.schema.json has other kinds of messages than the code: {' '.join(sorted(differing))}"] if differing else []
+    row = re.search(r"^\| `kind` \|.*$", language, re.M)
+    missing = notes - set(re.findall(r"`([\w-]+)`", row[0] if row else ""))
+    return faults + ([f"docs/LANGUAGE.md, the member kind, lacks {' '.join(sorted(missing))}"] if missing else [])
+
+
 def main():
     write = sys.argv[1:] == ["--write"]
     faults = table_faults(write) + room_faults() + generated_faults() + edit_faults() + cited_faults() + promise_faults() + trusted_faults() + decision_faults() + status_faults() + example_faults()
+    faults += size_faults() + kind_faults()
     print(*faults, sep="\n", end="\n" if faults else "")
     print(f"the repository agrees with itself: {'no' if faults else 'yes'}")
     return bool(faults)
