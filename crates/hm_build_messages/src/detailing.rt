@@ -50,21 +50,24 @@ pub(crate) fn published(
     Ok(Some(interfaces))
 }
 
+/// Returns whether a module's scope and its trees may have a detail of a fault of this kind.
+fn has_detail(kind: Kind) -> bool {
+    match kind {
+        Kind::NotExported
+        | Kind::Duplicate
+        | Kind::NoBinding
+        | Kind::Unbound
+        | Kind::Ambiguous
+        | Kind::NonLinear
+        | Kind::Arity
+        | Kind::ClauseLength => true,
+        Kind::ExportClash | Kind::NotImported | Kind::Untyped | Kind::Recursive => false,
+    }
+}
+
 /// Returns whether a module's scope and its trees may have a detail of one of these faults.
 fn have_details(faults: &[Fault]) -> bool {
-    faults.iter().any(|fault| {
-        matches!(
-            fault.kind,
-            Kind::Unbound
-                | Kind::Ambiguous
-                | Kind::Duplicate
-                | Kind::NonLinear
-                | Kind::Arity
-                | Kind::ClauseLength
-                | Kind::NotExported
-                | Kind::NoBinding
-        )
-    })
+    faults.iter().any(|fault| has_detail(fault.kind))
 }
 
 /// Returns the messages of faults without details.
