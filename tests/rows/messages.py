@@ -1152,6 +1152,11 @@ EXCERPTS = [
         2,
         b"M.hs:1:18: error: this comment isn't UTF-8 [lexeme]\nSave the file as UTF-8.\nmodule M where { {- \\xff -} }\n                 ^\nerrors: 1, skipped modules: 0\n",
     ),
+    (
+        b"-- caf\xe9\nmodule M where { x = 1 }",
+        2,
+        b"M.hs:1:1: error: this comment isn't UTF-8 [lexeme]\nSave the file as UTF-8.\n-- caf\\xe9\n^^\nerrors: 1, skipped modules: 0\n",
+    ),
 ]
 
 # a module of these imports and declarations, with the place of its one fault and the first line of its message
@@ -1218,7 +1223,17 @@ LEXEMES = [
     ("module M where { x = f `g` y }", "1:24", "a function between backquotes isn't supported"),
     ('module M where { s = "ab ;\n}', "1:22", "this string isn't closed on its line"),
     ('module M where { s = "a\\q" }', "1:22", "this string has an escape or a character that isn't supported"),
-    ("module M where { c = 'ab' }", "1:22", "this isn't one character between single quotes"),
+    ("module M where { c = 'ab' }", "1:22", "this isn't a character that can be read"),
+    ("module M where { c = '\\NUL' }", "1:22", "this isn't a character that can be read"),
+    # a quote within an escape doesn't close a string, and a line may end within a gap; the string is longer than what is shown of its line
+    ('module M where { s = "a\\" }', "1:22", "this string isn't closed on its line"),
+    ('module M where { s = "abc\\\n  \\de\\q" }', "1:22", "this string has an escape or a character that isn't supported"),
+    (
+        'module M where { s = "the quick brown fox jumps over the lazy dog and runs away from it; 95% of dogs \\^A sleep" }',
+        "1:22",
+        "this string has an escape or a character that isn't supported",
+    ),
+    ("module M where { s = \ufeff1 }", "1:22", "a character that isn't ASCII isn't allowed here"),
     ("module M where { x = 3.14 }", "1:22", "numbers with a fraction or an exponent aren't supported"),
     ("module M where { x = M.where }", "1:22", "a qualified name can't end in a reserved word"),
     ("module M where { x = 1 } --| y", "1:26", "'--|' is an operator, and begins no comment"),
@@ -1279,6 +1294,17 @@ HINTS = [
     ("module M where { x = 1,000 }", "1:23", "unexpected ',' after a number"),
     ("module M where { f x = y ; where { y = x } }", "1:28", "unexpected ';' before 'where'"),
     ("module M where { import A qualified ; x = 1 }", "1:27", "'qualified' comes before the name of the module"),
+    ("module M where { import qualified qualified A }", "1:35", "unexpected 'qualified'"),
+    ("module M where { x = 1 ; import A }", "1:26", "an import can't follow a declaration"),
+    ("module M where { import A ; data T = T ; import B ; }", "1:42", "an import can't follow a declaration"),
+    ("module M where { f x ; | x = 1 }", "1:24", "unexpected ';' before '|'"),
+    ("module M where { f x = case x of { y ; | y -> 1 } }", "1:40", "unexpected ';' before '|'"),
+    ("module M where { x = [1, 2, ] }", "1:29", "unexpected ',' before ']'"),
+    ("module M where { x = (1, 2,) }", "1:28", "unexpected ',' before ')'"),
+    ("module M where { data T a Int = C }", "1:27", "unexpected 'Int'"),
+    ("module M where { newtype T a Int = C a }", "1:30", "unexpected 'Int'"),
+    ("module M where { type S = | A }", "1:27", "unexpected '|'"),
+    ("module M where { f x = case x of { y | if y then True -> 1 ; z -> 2 } }", "1:55", "unexpected '->'"),
     ("module M where { f x = x @ (y : ys) }", "1:26", "'@' can only follow a variable in a pattern"),
     ("module M where { f x = | x = 1 }", "1:24", "a guard can't follow '='"),
     ("module M where { f x | x -> 1 | True -> 2 }", "1:26", "expected '=' after the guard, found '->'"),

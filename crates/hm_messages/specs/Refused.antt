@@ -1,10 +1,11 @@
 -- The messages of a refused set.
 use Rattle.std.specs.Prelude.{◌≡◌, ◌⊎◌, Contains, ℕ, ◌+◌, ◌-◌, ◌<◌, ⊤, List, [], ◌∷◌, ◌++◌, Option, Some, None, length, slice_index_or, take}
-use Rattle.hm_messages_excerpts.specs.Excerpts.{IsExcerptAt, IsPlaceIn}
+use Rattle.hm_messages_excerpts.specs.Excerpts.{IsExcerptAt, IsPlaceIn, IsRestOfLine}
 use Rattle.hm_messages_excerpts.specs.declared.excerpt.Excerpt.{Excerpt}
 use Rattle.hm_messages_hints.specs.Advice.{IsAdviceAt}
 use Rattle.hm_messages_hints.specs.LexemeHints.{IsLexemeHint, operator_in}
 use Rattle.hm_messages_hints.specs.declared.lexeme_hints.LexemeHint.{LexemeHint}
+use Rattle.hm_messages_hints.specs.declared.lexeme_hints.LexemeHint.TheVariants.{ByteOrderMark}
 use Rattle.hm_messages_hints.specs.declared.syntax_hints.SyntaxHint.{SyntaxHint}
 use Rattle.hm_lex.specs.declared.token.Place.{Place}
 use Rattle.hm_syntax.specs.Names.{Identifier}
@@ -23,11 +24,15 @@ use Rattle.hm_messages.specs.Subjects.{Subject, too_long, lexeme, open_comment, 
 use Rattle.hm_messages.specs.Twins.{IsTwinOf}
 use Rattle.hm_messages.specs.declared.heading.Paint.{Paint}
 
--- the hint holds for the shown text from the place on, and the operator that it names is the one there
+-- the hint holds for the rest of the line at the place. A byte order mark is one at the front of the source. The operator that the hint names is the
+-- shown one
 pub record IsLexemeHintAt (source : List ℕ) (p : Place) (hint : LexemeHint) (name : List ℕ) : Type 0 where
+  pub rest : List ℕ
+  pub from : IsRestOfLine source p rest
+  pub holds : IsLexemeHint rest hint
+  pub first : hint ≡ ByteOrderMark → p ≡ record { line = 1; column = 1 }
   pub shown : Excerpt
   pub at : IsExcerptAt source p shown
-  pub holds : IsLexemeHint shown.right.now hint
   pub name_is : name ≡ operator_in shown.right.now hint
 
 -- the same if the place is in the source. No message names another place

@@ -114,13 +114,19 @@ fn lexeme_advice<'a>(pages: &Pages<'a>, source: usize, place: Place) -> LexemeAd
     requires { HasSource (texts_in pages.now.items.items) source }
     ensures { MayHint (slice_index_or (texts_in pages.now.items.items) (source - 1) []) place result.hint result.name.now }
 {
-    let Some(excerpt) = pages.items[source - 1].lines.excerpt(place) else {
-        return LexemeAdvice {
-            hint: LexemeHint::NoText,
-            name: "",
-        };
+    let lines = &pages.items[source - 1].lines;
+    let nothing = LexemeAdvice {
+        hint: LexemeHint::NoText,
+        name: "",
     };
-    let hint = lexeme_hint(excerpt.right);
+    let Some(rest) = lines.rest_of_line(place) else {
+        return nothing;
+    };
+    let Some(excerpt) = lines.excerpt(place) else {
+        return nothing;
+    };
+    let is_first = place.line == 1 && place.column == 1;
+    let hint = lexeme_hint(rest, is_first);
     let name = operator_in(excerpt.right, hint);
     LexemeAdvice { hint, name }
 }

@@ -24,6 +24,10 @@ pub record IsLineAround (source : List ℕ) (place : Place) (front back : List �
   pub front_plain : IsWithout is_line_end front
   pub back_plain : IsWithout is_line_end back
 
+-- these are the bytes from the place to the end of its line
+abbrev pub IsRestOfLine : List ℕ → Place → List ℕ → Type 0
+IsRestOfLine source place rest = (front : List ℕ) × IsLineAround source place front rest
+
 -- the byte is inside a character of UTF-8, after its first byte
 abbrev pub continues : ℕ → Bool
 continues b = is_in_range 128 191 b

@@ -3,7 +3,7 @@ ghost use Rattle.std.specs.Prelude.{◌≡◌, ◌≤◌, ◌<◌, ◌+◌, All,
 ghost use Rattle.hm_lex.specs.Cut.{is_line_end};
 ghost use Rattle.hm_lex.specs.declared.token.Place.{Place as SourcePlace};
 ghost use Rattle.hm_messages_excerpts.specs.Columns.{AreColumnsAt, IsMarkEnd};
-ghost use Rattle.hm_messages_excerpts.specs.Excerpts.{IsExcerptAt, IsLineAround, IsPlaceIn};
+ghost use Rattle.hm_messages_excerpts.specs.Excerpts.{IsExcerptAt, IsLineAround, IsPlaceIn, IsRestOfLine};
 ghost use Rattle.hm_messages_excerpts.specs.Lines.{AreLinesOf, IsSpotOf, IsWithout};
 
 use crate::columns::{Columns, Units, columns_at, units_table};
@@ -128,6 +128,16 @@ impl<'a> SourceLines<'a> {
         let Spot { start, end, offset } = self.spot(place)?;
         let (front, back) = self.source[start..end].split_at(offset);
         Some(shown_round(front, back))
+    }
+
+    /// Returns the bytes from a place to the end of its line, if the place is in the source.
+    pub fn rest_of_line(&self, place: Place) -> Option<&'a [u8]>
+        ensures some { IfSome result (λ rest. IsRestOfLine self.now place rest.now) }
+        ensures none { IfNone result (IsPlaceIn self.now place → ⊥) }
+    {
+        let Spot { start, end, offset } = self.spot(place)?;
+        let (_, rest) = self.source[start..end].split_at(offset);
+        Some(rest)
     }
 
     /// Returns the columns of the place at a spot.

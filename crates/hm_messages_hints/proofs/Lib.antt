@@ -1,4 +1,5 @@
 mod Rests
+mod Strings
 mod SymbolRuns
 mod WorkedContexts
 mod WorkedPatterns

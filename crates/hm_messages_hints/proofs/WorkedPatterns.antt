@@ -1,11 +1,13 @@
 -- The worked patterns and guards.
-use Rattle.std.proofs.Common.{arith, ◌≡◌, ◌<◌, ◌+◌, ℕ, zero, suc, [], ◌∷◌, All, drop, get_or, true, false, refl, ap, subst, sym}
+use Rattle.std.proofs.Common.{arith, ◌≡◌, ◌<◌, ◌≤◌, ◌+◌, ℕ, zero, suc, [], ◌∷◌, All, drop, get_or, true, false, refl, ap, subst, sym}
 use Rattle.std.proofs.lemmas.Bool.{false≢true}
 use Rattle.hm_parse_grammar.specs.Symbols.{same}
 use Rattle.hm_parse_grammar.specs.declared.symbol.Symbol.{Symbol}
-use Rattle.hm_parse_grammar.specs.declared.symbol.Symbol.TheVariants.{Backslash, Bar, Then, Open, LeftBrace, Equals, Var, Con}
-use Rattle.hm_messages_hints.specs.SyntaxHints.{IsInPatterns, at, begins_patterns, begins_type, ends_guard, is_of_pattern, is_of_type}
-use Rattle.hm_messages_hints.specs.Worked.{GuardRow, PatternsRow, PlaceRow, ThenRow, defined, guarded_before}
+use Rattle.hm_parse_grammar.specs.declared.symbol.Symbol.TheVariants.{Backslash, Bar, Data, Import, Module, Then, Open, LeftBrace, Semicolon, Equals, Var, Con}
+use Rattle.hm_lex.specs.Bytes.{class_of}
+use Rattle.hm_messages_hints.specs.LexemeHints.{goes_on}
+use Rattle.hm_messages_hints.specs.SyntaxHints.{IsInPatterns, at, begins_declaration, begins_patterns, begins_right, begins_type, ends_guard, is_of_pattern, is_of_type}
+use Rattle.hm_messages_hints.specs.Worked.{DeclarationRow, GuardRow, PatternsRow, PlaceRow, RightRow, StringRow, ThenRow, defined, guarded, guarded_before}
 
 no_then : (k : ℕ) (d : Symbol) → k < 1 → same (get_or (Var ∷ []) k d) Then ≡ false
 no_then zero d l = refl
@@ -65,11 +67,42 @@ at_bar (suc (suc (suc (suc (suc n))))) l e = absurd (omega (arith, l))
 
 pub worked_guards : GuardRow
 worked_guards = record {
-  within = record { bar = 2; within = omega arith; begun = refl; patterns = head_is; rest = one_guard };
+  within = record { bar = 2; behind = omega arith; within = omega arith; begun = refl; patterns = head_is; rest = one_guard };
   behind = λ h.
       let second : h.bar ≡ 2 = at_bar h.bar h.within h.begun in
       let rest : ends_guard Equals ≡ false = subst (λ n. All (λ s. ends_guard s ≡ false) (drop (n + 1) guarded_before)) second h.rest 1 Equals (omega arith) in
       false≢true (sym rest);
+  inside = λ h. omega (arith, h.behind, h.within);
+}
+
+no_right : (n : ℕ) → n < 3 → begins_right (at (Data ∷ Con ∷ Var ∷ []) n) ≡ true → ⊥
+no_right zero l e = false≢true e
+no_right (suc zero) l e = false≢true e
+no_right (suc (suc zero)) l e = false≢true e
+no_right (suc (suc (suc n))) l e = omega (arith, l)
+
+pub worked_rights : RightRow
+worked_rights = record {
+  within = record { mark = 2; behind = omega arith; within = omega arith; begun = refl };
+  before = λ h. no_right h.mark h.within h.begun;
+}
+
+after_equals : (k : ℕ) (d : Symbol) → k < 2 → same (get_or (Var ∷ Semicolon ∷ []) k d) Module ≡ false
+after_equals zero d l = refl
+after_equals (suc zero) d l = refl
+after_equals (suc (suc k)) d l = absurd (omega (arith, l))
+
+no_declaration : (n : ℕ) → n < 4 → begins_declaration (at (LeftBrace ∷ Import ∷ Con ∷ Semicolon ∷ []) n) ≡ true → ⊥
+no_declaration zero l e = false≢true e
+no_declaration (suc zero) l e = false≢true e
+no_declaration (suc (suc zero)) l e = false≢true e
+no_declaration (suc (suc (suc zero))) l e = false≢true e
+no_declaration (suc (suc (suc (suc n)))) l e = omega (arith, l)
+
+pub worked_declarations : DeclarationRow
+worked_declarations = record {
+  after = record { start = 2; within = omega arith; begun = refl; rest = after_equals };
+  imports = λ h. no_declaration h.start h.within h.begun;
 }
 
 signed_rest : (k : ℕ) (d : Symbol) → k < 2 → is_of_type (get_or (Con ∷ Var ∷ []) k d) ≡ true
@@ -87,3 +120,7 @@ worked_places = record {
   signed = record { start = 1; within = omega arith; begun = refl; rest = signed_rest };
   bound = λ h. no_type h.start h.within h.begun;
 }
+
+pub worked_strings : StringRow
+unfolding goes_on class_of
+worked_strings = record { escaped = refl; closed = refl; gap = refl; goes_on = refl }

@@ -9,7 +9,7 @@ use Rattle.hm_parse_grammar.specs.declared.symbol.Symbol.TheVariants.{End}
 use Rattle.hm_messages_hints.specs.Repairs.{IsRepair}
 use Rattle.hm_messages_hints.specs.SyntaxHints.{IsSyntaxHint}
 use Rattle.hm_messages_hints.specs.declared.syntax_hints.SyntaxHint.{SyntaxHint}
-use Rattle.hm_messages_hints.specs.declared.syntax_hints.SyntaxHint.TheVariants.{NoHeader, ModuleEnded, NoBrace, LeftOut, Comprehension, Range, SmallName, AppliedVariable, Repaired, WherePart, NoElse, NotClosed, InPattern, Record, Update, NoAlternative, Unexpected, AppliedName, TypedPattern, ConsPattern, GuardAfterEquals, GuardArrow, ConstructorComma, NumberComma, WhereAfterSemicolon, NoThen, NewtypeArguments, LateQualified, AtSign}
+use Rattle.hm_messages_hints.specs.declared.syntax_hints.SyntaxHint.TheVariants.{NoHeader, ModuleEnded, NoBrace, LeftOut, Comprehension, Range, SmallName, AppliedVariable, Repaired, WherePart, NoElse, NotClosed, InPattern, Record, Update, NoAlternative, Unexpected, AppliedName, TypedPattern, ConsPattern, GuardAfterEquals, GuardArrow, ConstructorComma, NumberComma, WhereAfterSemicolon, NoThen, NewtypeArguments, LateQualified, AtSign, GuardAfterSemicolon, LateImport, ExtraComma}
 use Rattle.hm_messages_outline.specs.Tokens.{symbol_in, IsAt}
 
 -- the text of the token with this number, and its symbol. The end of the source comes after the last token
@@ -46,7 +46,7 @@ about (AppliedName j) k = k
 about TypedPattern k = k
 about ConsPattern k = k
 about GuardAfterEquals k = k
-about GuardArrow k = k
+about (GuardArrow j) k = k
 about (ConstructorComma j) k = k
 about NumberComma k = k
 about WhereAfterSemicolon k = k
@@ -54,6 +54,9 @@ about (NoThen j) k = k
 about (NewtypeArguments j) k = k
 about LateQualified k = k
 about AtSign k = k
+about GuardAfterSemicolon k = k
+about LateImport k = k
+about ExtraComma k = k
 
 -- the hint holds at the token with this number: a change repairs the tokens, any other hint is a fact about the tokens up to this one
 abbrev pub IsSo : List ℕ → List Token → ℕ → SyntaxHint → Type 0

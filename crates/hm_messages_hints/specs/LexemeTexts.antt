@@ -10,7 +10,7 @@ lexeme_text ByteOrderMark name = codes "the file begins with a byte order mark"
 lexeme_text Backquote name = codes "a function between backquotes isn't supported"
 lexeme_text OpenString name = codes "this string isn't closed on its line"
 lexeme_text StringItem name = codes "this string has an escape or a character that isn't supported"
-lexeme_text Character name = codes "this isn't one character between single quotes"
+lexeme_text Character name = codes "this isn't a character that can be read"
 lexeme_text Fraction name = codes "numbers with a fraction or an exponent aren't supported"
 lexeme_text ReservedName name = codes "a qualified name can't end in a reserved word"
 lexeme_text Comment name = codes "this comment isn't UTF-8"
@@ -39,13 +39,13 @@ is_monadic name = bytes_eq name (codes ">>=") || bytes_eq name (codes ">>") || b
 -- what to write instead of an operator
 abbrev pub operator_help : List ℕ → List ℕ
 operator_help name =
-    if is_arithmetic name then codes "There is no arithmetic: define numbers of your own, such as `data Nat = Zero | Succ Nat`.\n" else
+    if is_arithmetic name then codes "There is no arithmetic: declare a function, such as `plus :: Int -> Int -> Int ; plus = undefined`.\n" else
     (if bytes_eq name (codes "++") then codes "Write `concat [xs, ys]` for `xs ++ ys`.\n" else
     (if bytes_eq name (codes ".") then codes "Write `\\x -> f (g x)` for `f . g`.\n" else
     (if bytes_eq name (codes "$") then codes "Write parentheses: `f (g x)` for `f $ g x`.\n" else
     (if bytes_eq name (codes "&&") then codes "Write `and [x, y]` for `x && y`.\n" else
     (if bytes_eq name (codes "||") then codes "Write `or [x, y]` for `x || y`.\n" else
-    (if bytes_eq name (codes "==") || bytes_eq name (codes "/=") then codes "Compare by patterns: `f 0 = ..`, or `case x of { 0 -> .. ; _ -> .. }`.\n" else
+    (if bytes_eq name (codes "==") || bytes_eq name (codes "/=") then codes "Compare by patterns, such as `f 0 = ..`, or take the comparison as an argument.\n" else
     (if is_order name then codes "Numbers and characters can't be compared by order: use patterns.\n" else
     (if bytes_eq name (codes "!!") then codes "Write `head (drop n xs)` for `xs !! n`.\n" else
     (if bytes_eq name (codes "$!") then codes "Write `seq x (f x)` for `f $! x`.\n" else
@@ -57,10 +57,10 @@ operator_help name =
 -- the second line
 abbrev pub lexeme_help : LexemeHint → List ℕ → List ℕ
 lexeme_help ByteOrderMark name = codes "Save it as UTF-8 without one.\n"
-lexeme_help Backquote name = codes "Write it before its arguments: `div x y`.\n"
+lexeme_help Backquote name = codes "Write it before its arguments: `f x y`.\n"
 lexeme_help OpenString name = codes "Write `\"` at its end.\n"
 lexeme_help StringItem name = codes "Write `\\\\` for a backslash, and other characters by their numbers, such as `\\955`. Save the file as UTF-8.\n"
-lexeme_help Character name = codes "A string is written between double quotes.\n"
+lexeme_help Character name = codes "Write one character between single quotes, or its number, such as `'\\955'`. A string is between double quotes.\n"
 lexeme_help Fraction name = codes "All numbers are of type Int.\n"
 lexeme_help ReservedName name = codes "A name with a dot is one name; there is no operator `.`.\n"
 lexeme_help Comment name = codes "Save the file as UTF-8.\n"

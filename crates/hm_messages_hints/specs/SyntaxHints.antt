@@ -10,7 +10,7 @@ use Rattle.hm_messages_hints.specs.Features.{feature_of}
 use Rattle.hm_messages_hints.specs.declared.features.Feature.{Feature}
 use Rattle.hm_messages_hints.specs.declared.features.Feature.TheVariants.{Class, Instance, Deriving, Default, Do, Fixity, Context, Generator}
 use Rattle.hm_messages_hints.specs.declared.syntax_hints.SyntaxHint.{SyntaxHint}
-use Rattle.hm_messages_hints.specs.declared.syntax_hints.SyntaxHint.TheVariants.{NoHeader, ModuleEnded, NoBrace, LeftOut, Comprehension, Range, SmallName, AppliedVariable, Repaired, WherePart, NoElse, NotClosed, InPattern, Record, Update, NoAlternative, Unexpected, AppliedName, TypedPattern, ConsPattern, GuardAfterEquals, GuardArrow, ConstructorComma, NumberComma, WhereAfterSemicolon, NoThen, NewtypeArguments, LateQualified, AtSign}
+use Rattle.hm_messages_hints.specs.declared.syntax_hints.SyntaxHint.TheVariants.{NoHeader, ModuleEnded, NoBrace, LeftOut, Comprehension, Range, SmallName, AppliedVariable, Repaired, WherePart, NoElse, NotClosed, InPattern, Record, Update, NoAlternative, Unexpected, AppliedName, TypedPattern, ConsPattern, GuardAfterEquals, GuardArrow, ConstructorComma, NumberComma, WhereAfterSemicolon, NoThen, NewtypeArguments, LateQualified, AtSign, GuardAfterSemicolon, LateImport, ExtraComma}
 
 abbrev pub wants_brace : Symbol → Bool
 wants_brace Where = true
@@ -64,6 +64,21 @@ begins_constructors _ = false
 abbrev pub begins_newtype : Symbol → Bool
 begins_newtype Newtype = true
 begins_newtype _ = false
+
+-- the right side of a signature or of a declaration follows these
+abbrev pub begins_right : Symbol → Bool
+begins_right OfType = true
+begins_right Equals = true
+begins_right _ = false
+
+-- these are in declarations, and in no import
+abbrev pub begins_declaration : Symbol → Bool
+begins_declaration Equals = true
+begins_declaration OfType = true
+begins_declaration Data = true
+begins_declaration Newtype = true
+begins_declaration TypeWord = true
+begins_declaration _ = false
 
 -- patterns follow these: in a declaration, an alternative or a lambda
 abbrev pub begins_patterns : Symbol → Bool
@@ -144,6 +159,20 @@ pub record IsInType (begins : Symbol → Bool) (symbols : List Symbol) : Type 0 
   pub begun : begins (at symbols start) ≡ true
   pub rest : All (λ s. is_of_type s ≡ true) (drop (start + 1) symbols)
 
+-- a right side begins at this symbol or after it
+pub record IsRightOf (symbols : List Symbol) (start : ℕ) : Type 0 where
+  pub mark : ℕ
+  pub behind : start ≤ mark
+  pub within : mark < length symbols
+  pub begun : begins_right (at symbols mark) ≡ true
+
+-- a declaration is among the symbols, and no module begins after it
+pub record HasDeclaration (symbols : List Symbol) : Type 0 where
+  pub start : ℕ
+  pub within : start < length symbols
+  pub begun : begins_declaration (at symbols start) ≡ true
+  pub rest : All (λ s. same s Module ≡ false) (drop (start + 1) symbols)
+
 -- the symbols end with a part of patterns
 pub record IsInPatterns (symbols : List Symbol) : Type 0 where
   pub start : ℕ
@@ -151,9 +180,10 @@ pub record IsInPatterns (symbols : List Symbol) : Type 0 where
   pub begun : begins_patterns (at symbols start) ≡ true
   pub rest : All (λ s. is_of_pattern s ≡ true) (drop (start + 1) symbols)
 
--- the symbols end with a guard, or a part of one, after the patterns of a declaration
-pub record IsInGuard (symbols : List Symbol) : Type 0 where
+-- the symbols end with a guard, or a part of one, after the patterns of a declaration and after the bracket with this number
+pub record IsInGuard (symbols : List Symbol) (bracket : ℕ) : Type 0 where
   pub bar : ℕ
+  pub behind : bracket < bar
   pub within : bar < length symbols
   pub begun : at symbols bar ≡ Bar
   pub patterns : IsInPatterns (take bar symbols)
@@ -201,7 +231,7 @@ IsSyntaxHint before this text (LeftOut f) = (feature_of text ≡ Some f) × IsPl
 IsSyntaxHint before this text (Comprehension k) = IsInnermost before k × (at before k ≡ OpenSquare) × (this ≡ Bar)
 IsSyntaxHint before this text (Range k) = IsInnermost before k × (at before k ≡ OpenSquare) × (this ≡ Dots)
 IsSyntaxHint before this text SmallName = ((takes_capital (last_of before) ≡ true) ⊎ ((takes_constructor (last_of before) ≡ true) × IsInType begins_constructors before)) × (this ≡ Var)
-IsSyntaxHint before this text AppliedVariable = (last_of before ≡ Var) × (begins_atype this ≡ true) × IsInType begins_type before
+IsSyntaxHint before this text AppliedVariable = (last_of before ≡ Var) × (begins_atype this ≡ true) × ((t : IsInType begins_type before) × IsRightOf before t.start)
 IsSyntaxHint before this text (Repaired r) = ⊥
 IsSyntaxHint before this text (WherePart k) = IsInnermost before k × ((at before k ≡ Open) ⊎ (at before k ≡ OpenSquare)) × (this ≡ Where)
 IsSyntaxHint before this text (NoElse k) = (bracket : ℕ) × IsInnermost before bracket × (bracket < k) × HasNoElse before k × (ends this ≡ true)
@@ -214,12 +244,15 @@ IsSyntaxHint before this text Unexpected = ⊤
 IsSyntaxHint before this text (AppliedName k) = IsInnermost before k × ((at before k ≡ Open) ⊎ (at before k ≡ OpenSquare)) × IsInPatterns before × (last_of before ≡ Var) × (begins_apat this ≡ true)
 IsSyntaxHint before this text TypedPattern = IsInPatterns before × (ends_pattern (last_of before) ≡ true) × (this ≡ OfType)
 IsSyntaxHint before this text ConsPattern = IsInPatterns before × (ends_pattern (last_of before) ≡ true) × (this ≡ Colon)
-IsSyntaxHint before this text GuardAfterEquals = (last_of before ≡ Equals) × (this ≡ Bar)
-IsSyntaxHint before this text GuardArrow = IsInGuard before × (this ≡ Arrow)
+IsSyntaxHint before this text GuardAfterEquals = (last_of before ≡ Equals) × (this ≡ Bar) × IsInPatterns (take (length before - 1) before)
+IsSyntaxHint before this text (GuardArrow k) = IsInnermost before k × (at before k ≡ LeftBrace) × (same (at before (k - 1)) Of ≡ false) × IsInGuard before k × (this ≡ Arrow)
 IsSyntaxHint before this text (ConstructorComma k) = IsInnermost before k × (at before k ≡ LeftBrace) × IsInType begins_constructors before × (this ≡ Comma)
 IsSyntaxHint before this text NumberComma = (last_of before ≡ Integer) × (this ≡ Comma)
 IsSyntaxHint before this text WhereAfterSemicolon = (last_of before ≡ Semicolon) × (this ≡ Where)
 IsSyntaxHint before this text (NoThen k) = HasNoThen before k × (ends_operand (last_of before) ≡ true) × (this ≡ LeftBrace)
-IsSyntaxHint before this text (NewtypeArguments k) = IsInnermost before k × (at before k ≡ LeftBrace) × IsInType begins_newtype before × ((begins_atype this ≡ true) ⊎ (this ≡ Bar))
-IsSyntaxHint before this text LateQualified = (at before (length before - 2) ≡ Import) × (text ≡ codes "qualified")
+IsSyntaxHint before this text (NewtypeArguments k) = IsInnermost before k × (at before k ≡ LeftBrace) × ((t : IsInType begins_newtype before) × IsRightOf before t.start) × ((begins_atype this ≡ true) ⊎ (this ≡ Bar))
+IsSyntaxHint before this text LateQualified = (at before (length before - 2) ≡ Import) × ((last_of before ≡ Con) ⊎ (last_of before ≡ QCon)) × (text ≡ codes "qualified")
 IsSyntaxHint before this text AtSign = this ≡ At
+IsSyntaxHint before this text GuardAfterSemicolon = (last_of before ≡ Semicolon) × (this ≡ Bar)
+IsSyntaxHint before this text LateImport = (last_of before ≡ Semicolon) × (this ≡ Import) × HasDeclaration before
+IsSyntaxHint before this text ExtraComma = (last_of before ≡ Comma) × ((this ≡ Close) ⊎ (this ≡ CloseSquare))

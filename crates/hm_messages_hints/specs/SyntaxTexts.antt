@@ -5,7 +5,7 @@ use Rattle.hm_messages_hints.specs.Marks.{mark_text}
 use Rattle.hm_messages_hints.specs.declared.change.TokenChange.{TokenChange}
 use Rattle.hm_messages_hints.specs.declared.change.TokenChange.TheVariants.{Insert, Replace, Remove}
 use Rattle.hm_messages_hints.specs.declared.syntax_hints.SyntaxHint.{SyntaxHint}
-use Rattle.hm_messages_hints.specs.declared.syntax_hints.SyntaxHint.TheVariants.{NoHeader, ModuleEnded, NoBrace, LeftOut, Comprehension, Range, SmallName, AppliedVariable, Repaired, WherePart, NoElse, NotClosed, InPattern, Record, Update, NoAlternative, Unexpected, AppliedName, TypedPattern, ConsPattern, GuardAfterEquals, GuardArrow, ConstructorComma, NumberComma, WhereAfterSemicolon, NoThen, NewtypeArguments, LateQualified, AtSign}
+use Rattle.hm_messages_hints.specs.declared.syntax_hints.SyntaxHint.TheVariants.{NoHeader, ModuleEnded, NoBrace, LeftOut, Comprehension, Range, SmallName, AppliedVariable, Repaired, WherePart, NoElse, NotClosed, InPattern, Record, Update, NoAlternative, Unexpected, AppliedName, TypedPattern, ConsPattern, GuardAfterEquals, GuardArrow, ConstructorComma, NumberComma, WhereAfterSemicolon, NoThen, NewtypeArguments, LateQualified, AtSign, GuardAfterSemicolon, LateImport, ExtraComma}
 
 -- the text of a token between quotes. The end of a source has no text
 abbrev pub quoted : List ℕ → List ℕ
@@ -40,7 +40,7 @@ syntax_text (AppliedName k) text = codes "a variable takes no arguments in a pat
 syntax_text TypedPattern text = codes "'::' can't follow a pattern"
 syntax_text ConsPattern text = codes "unexpected ':' after a pattern"
 syntax_text GuardAfterEquals text = codes "a guard can't follow '='"
-syntax_text GuardArrow text = codes "expected '=' after the guard, found '->'"
+syntax_text (GuardArrow k) text = codes "expected '=' after the guard, found '->'"
 syntax_text (ConstructorComma k) text = codes "unexpected ',' between constructors"
 syntax_text NumberComma text = codes "unexpected ',' after a number"
 syntax_text WhereAfterSemicolon text = codes "unexpected ';' before 'where'"
@@ -48,6 +48,9 @@ syntax_text (NoThen k) text = codes "an 'if' before " ++ quoted text ++ codes " 
 syntax_text (NewtypeArguments k) text = codes "a 'newtype' has one constructor with one argument"
 syntax_text LateQualified text = codes "'qualified' comes before the name of the module"
 syntax_text AtSign text = codes "'@' can only follow a variable in a pattern"
+syntax_text GuardAfterSemicolon text = codes "unexpected ';' before '|'"
+syntax_text LateImport text = codes "an import can't follow a declaration"
+syntax_text ExtraComma text = codes "unexpected ',' before " ++ quoted text
 
 abbrev pub change_help : TokenChange → List ℕ
 change_help (Insert m) = codes "With it this can be read.\n"
@@ -77,7 +80,7 @@ syntax_help (AppliedName k) = codes "Only a constructor takes arguments, and its
 syntax_help TypedPattern = codes "Write a signature of its own for a type, such as `f :: Int -> Int`. Between an element and a list, write `:`.\n"
 syntax_help ConsPattern = codes "Write parentheses around a pattern with `:`, such as `f (x : xs)`.\n"
 syntax_help GuardAfterEquals = codes "Write the guard before the `=`: `f x | c = y`.\n"
-syntax_help GuardArrow = codes "Only an alternative of a `case` has `->` after its guard.\n"
+syntax_help (GuardArrow k) = codes "Only an alternative of a `case` has `->` after its guard.\n"
 syntax_help (ConstructorComma k) = codes "Write `|` between constructors, and spaces between their arguments: `data T = A Int Int | B`.\n"
 syntax_help NumberComma = codes "Write a number without commas, and a tuple between parentheses.\n"
 syntax_help WhereAfterSemicolon = codes "A `where` belongs to the definition before it, so no `;` is between them.\n"
@@ -85,3 +88,6 @@ syntax_help (NoThen k) = codes "An `if` has no braces: `if c then x else y`.\n"
 syntax_help (NewtypeArguments k) = codes "Write `data` for a type with more constructors or arguments.\n"
 syntax_help LateQualified = codes "Write `import qualified M`.\n"
 syntax_help AtSign = codes "A pattern `x@(y : ys)` is left of the `=` or the `->`.\n"
+syntax_help GuardAfterSemicolon = codes "A guard belongs to what is before it, so no `;` is between them.\n"
+syntax_help LateImport = codes "The imports of a module come before all its other declarations.\n"
+syntax_help ExtraComma = codes "A comma is between two parts, and none follows the last one.\n"

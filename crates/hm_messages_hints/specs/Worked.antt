@@ -1,8 +1,9 @@
 -- Worked examples: symbols that end within a type, after an `if` without `then` or `else`, and within patterns, guards and alternatives.
-use Rattle.std.specs.Prelude.{List, [], ◌∷◌}
+use Rattle.std.specs.Prelude.{◌≡◌, true, false, List, [], ◌∷◌}
 use Rattle.hm_parse_grammar.specs.declared.symbol.Symbol.{Symbol}
-use Rattle.hm_parse_grammar.specs.declared.symbol.Symbol.TheVariants.{Backslash, Bar, Data, OfType, If, Then, Else, Of, Open, LeftBrace, Semicolon, Equals, Arrow, Var, Con, Integer}
-use Rattle.hm_messages_hints.specs.SyntaxHints.{HasNoElse, HasNoThen, IsInAlternative, IsInGuard, IsInPatterns, IsInType, IsPlaceOf, begins_type}
+use Rattle.hm_parse_grammar.specs.declared.symbol.Symbol.TheVariants.{Backslash, Bar, Data, Import, OfType, If, Then, Else, Of, Open, LeftBrace, Semicolon, Equals, Arrow, Var, Con, Integer}
+use Rattle.hm_messages_hints.specs.LexemeHints.{is_left_open}
+use Rattle.hm_messages_hints.specs.SyntaxHints.{HasDeclaration, HasNoElse, HasNoThen, IsInAlternative, IsInGuard, IsInPatterns, IsInType, IsPlaceOf, IsRightOf, begins_type}
 use Rattle.hm_messages_hints.specs.declared.features.Feature.TheVariants.{Context}
 
 -- `data T = C a`
@@ -54,12 +55,30 @@ guarded = LeftBrace ∷ Var ∷ Bar ∷ Var ∷ []
 abbrev pub guarded_before : List Symbol
 guarded_before = LeftBrace ∷ Var ∷ Bar ∷ Var ∷ Equals ∷ []
 
--- a guard ends at its `=`
+-- a guard ends at its `=`. It isn't after a bracket within it
 pub record GuardRow : Type 0 where
-  pub within : IsInGuard guarded
-  pub behind : ¬ (IsInGuard guarded_before)
+  pub within : IsInGuard guarded 0
+  pub behind : ¬ (IsInGuard guarded_before 0)
+  pub inside : ¬ (IsInGuard guarded 3)
+
+-- in `data T a` no right side has begun, and in `data T = C a` it has
+pub record RightRow : Type 0 where
+  pub within : IsRightOf declared 0
+  pub before : ¬ (IsRightOf (Data ∷ Con ∷ Var ∷ []) 0)
+
+-- a declaration is before `;` in `{ x = y ;`, and none is in `{ import M ;`
+pub record DeclarationRow : Type 0 where
+  pub after : HasDeclaration (LeftBrace ∷ Var ∷ Equals ∷ Var ∷ Semicolon ∷ [])
+  pub imports : ¬ (HasDeclaration (LeftBrace ∷ Import ∷ Con ∷ Semicolon ∷ []))
 
 -- a context can be after `x :: T a`, and not after a lambda's `\x`
 pub record PlaceRow : Type 0 where
   pub signed : IsPlaceOf Context (Var ∷ OfType ∷ Con ∷ Var ∷ [])
   pub bound : ¬ (IsPlaceOf Context (Backslash ∷ Var ∷ []))
+
+-- `a\" }` isn't closed, because its quote is in an escape. `\q\\"` is, and so is `\  \"`, which has a gap. `a\` may go on in the next line
+pub record StringRow : Type 0 where
+  pub escaped : is_left_open (97 ∷ 92 ∷ 34 ∷ 32 ∷ 125 ∷ []) ≡ true
+  pub closed : is_left_open (92 ∷ 113 ∷ 92 ∷ 92 ∷ 34 ∷ []) ≡ false
+  pub gap : is_left_open (92 ∷ 32 ∷ 32 ∷ 92 ∷ 34 ∷ []) ≡ false
+  pub goes_on : is_left_open (97 ∷ 92 ∷ []) ≡ false

@@ -1,8 +1,8 @@
 //! The form that a place is in, by the symbols before it.
 ghost use Rattle.std.specs.Prelude.{◌≡◌, ◌⊎◌, ◌-◌, ◌<◌, length, slice_index_or, All, IfSome, true, false};
 ghost use Rattle.hm_parse_grammar.specs.Symbols.{same};
-ghost use Rattle.hm_parse_grammar.specs.declared.symbol.Symbol.TheVariants.{Else, End, LeftBrace, Of, Semicolon, Then};
-ghost use Rattle.hm_messages_hints.specs.SyntaxHints.{HasNoElse, HasNoThen, IsInAlternative, IsInGuard, IsInPatterns, IsInType, begins_constructors, begins_newtype, begins_patterns, begins_type, ends_guard, is_of_pattern, is_of_type};
+ghost use Rattle.hm_parse_grammar.specs.declared.symbol.Symbol.TheVariants.{Else, End, LeftBrace, Module, Of, Semicolon, Then};
+ghost use Rattle.hm_messages_hints.specs.SyntaxHints.{HasDeclaration, HasNoElse, HasNoThen, IsInAlternative, IsInGuard, IsInPatterns, IsInType, IsRightOf, begins_constructors, begins_declaration, begins_newtype, begins_patterns, begins_right, begins_type, ends_guard, is_of_pattern, is_of_type};
 
 use hm_parse_grammar::Symbol;
 
@@ -32,6 +32,26 @@ fn begins_newtype(symbol: Symbol) -> bool
 {
     match symbol {
         Symbol::Newtype => true,
+        _ => false,
+    }
+}
+
+/// Returns whether the right side of a signature or of a declaration follows this.
+fn begins_right(symbol: Symbol) -> bool
+    ensures { result ≡ begins_right symbol }
+{
+    match symbol {
+        Symbol::OfType | Symbol::Equals => true,
+        _ => false,
+    }
+}
+
+/// Returns whether this is in declarations, and in no import.
+fn begins_declaration(symbol: Symbol) -> bool
+    ensures { result ≡ begins_declaration symbol }
+{
+    match symbol {
+        Symbol::Equals | Symbol::OfType | Symbol::Data | Symbol::Newtype | Symbol::TypeWord => true,
         _ => false,
     }
 }
@@ -125,6 +145,13 @@ fn are_of_guard(symbols: &[Symbol]) -> bool
     symbols.iter().all(|symbol| !ends_guard(*symbol))
 }
 
+/// Returns whether none of these is `module`.
+fn have_no_module(symbols: &[Symbol]) -> bool
+    ensures { result ≡ true → All (λ s. same s Module ≡ false) symbols.now }
+{
+    symbols.iter().all(|symbol| !symbol.is(Symbol::Module))
+}
+
 /// Returns whether none of these is `then`.
 fn have_no_then(symbols: &[Symbol]) -> bool
     ensures { result ≡ true → All (λ s. same s Then ≡ false) symbols.now }
@@ -165,14 +192,58 @@ pub(crate) fn constructors_begin(symbols: &[Symbol]) -> bool
     false
 }
 
-/// Returns whether these end with a part of the constructor of a newtype.
-pub(crate) fn newtype_begins(symbols: &[Symbol]) -> bool
-    ensures { result ≡ true → IsInType begins_newtype symbols.now }
+/// Returns whether the right side of a signature or of a declaration has begun after the symbol with this number.
+fn right_begins(symbols: &[Symbol], start: usize) -> bool
+    ensures { result ≡ true → IsRightOf symbols.now start }
+{
+    for at in start..symbols.len() {
+        if begins_right(symbols[at]) {
+            return true;
+        }
+    }
+    false
+}
+
+/// Returns whether these end with a part of a type, of which a signature or the right side of a declaration consists.
+pub(crate) fn right_type_begins(symbols: &[Symbol]) -> bool
+    ensures { result ≡ true → (t : IsInType begins_type symbols.now) × IsRightOf symbols.now t.start }
+{
+    for behind in 0..symbols.len() {
+        let at = symbols.len() - 1 - behind;
+        if begins_type(symbols[at]) {
+            if !right_begins(symbols, at) {
+                return false;
+            }
+            return are_of_type(&symbols[at + 1..]);
+        }
+    }
+    false
+}
+
+/// Returns whether these end with a part of a type after the `=` of a newtype.
+pub(crate) fn right_newtype_begins(symbols: &[Symbol]) -> bool
+    ensures { result ≡ true → (t : IsInType begins_newtype symbols.now) × IsRightOf symbols.now t.start }
 {
     for behind in 0..symbols.len() {
         let at = symbols.len() - 1 - behind;
         if begins_newtype(symbols[at]) {
+            if !right_begins(symbols, at) {
+                return false;
+            }
             return are_of_type(&symbols[at + 1..]);
+        }
+    }
+    false
+}
+
+/// Returns whether a declaration is before this in the same module.
+pub(crate) fn has_declaration(symbols: &[Symbol]) -> bool
+    ensures { result ≡ true → HasDeclaration symbols.now }
+{
+    for behind in 0..symbols.len() {
+        let at = symbols.len() - 1 - behind;
+        if begins_declaration(symbols[at]) {
+            return have_no_module(&symbols[at + 1..]);
         }
     }
     false
@@ -191,14 +262,14 @@ pub(crate) fn patterns_begin(symbols: &[Symbol]) -> bool
     false
 }
 
-/// Returns whether these end with a guard of a declaration, or a part of one.
-pub(crate) fn guard_begins(symbols: &[Symbol]) -> bool
-    ensures { result ≡ true → IsInGuard symbols.now }
+/// Returns whether these end with a guard of a declaration, or a part of one, after the bracket with this number.
+pub(crate) fn guard_begins(symbols: &[Symbol], bracket: usize) -> bool
+    ensures { result ≡ true → IsInGuard symbols.now bracket }
 {
     for behind in 0..symbols.len() {
         let at = symbols.len() - 1 - behind;
         if symbols[at].is(Symbol::Bar) {
-            if !patterns_begin(&symbols[..at]) {
+            if at <= bracket || !patterns_begin(&symbols[..at]) {
                 return false;
             }
             return are_of_guard(&symbols[at + 1..]);

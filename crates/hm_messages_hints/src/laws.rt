@@ -1,5 +1,5 @@
 //! Worked examples: a function with an empty body, whose contract has the facts.
-ghost use Rattle.hm_messages_hints.specs.Worked.{AlternativeRow, ElseRow, GuardRow, PatternsRow, PlaceRow, ThenRow, TypeRow};
+ghost use Rattle.hm_messages_hints.specs.Worked.{AlternativeRow, DeclarationRow, ElseRow, GuardRow, PatternsRow, PlaceRow, RightRow, StringRow, ThenRow, TypeRow};
 
 /// Symbols that end within a type, after an `if` without `else`, and within an alternative.
 #[tactic(auto, using(crate::proofs::WorkedContexts::worked_types, crate::proofs::WorkedContexts::worked_elses, crate::proofs::WorkedContexts::worked_alternatives))]
@@ -16,4 +16,12 @@ pub fn worked_patterns()
     ensures patterns { PatternsRow }
     ensures guards { GuardRow }
     ensures places { PlaceRow }
+{}
+
+/// Where the right side of a declaration begins, where an import can't be, and strings that are closed on their lines.
+#[tactic(auto, using(crate::proofs::WorkedPatterns::worked_rights, crate::proofs::WorkedPatterns::worked_declarations, crate::proofs::WorkedPatterns::worked_strings))]
+pub fn worked_declarations()
+    ensures rights { RightRow }
+    ensures declarations { DeclarationRow }
+    ensures strings { StringRow }
 {}

@@ -23,10 +23,7 @@ pub fn lexeme_text(alloc: Global, hint: LexemeHint, name: &str) -> Result<String
             alloc,
             "this string has an escape or a character that isn't supported",
         ),
-        LexemeHint::Character => String::from_str(
-            alloc,
-            "this isn't one character between single quotes",
-        ),
+        LexemeHint::Character => String::from_str(alloc, "this isn't a character that can be read"),
         LexemeHint::Fraction => String::from_str(
             alloc,
             "numbers with a fraction or an exponent aren't supported",
@@ -93,7 +90,7 @@ fn operator_help(name: &[u8]) -> &'static str
     ensures { result.now ≡ operator_help name.now }
 {
     if is_arithmetic(name) {
-        "There is no arithmetic: define numbers of your own, such as `data Nat = Zero | Succ Nat`.\n"
+        "There is no arithmetic: declare a function, such as `plus :: Int -> Int -> Int ; plus = undefined`.\n"
     } else if name == b"++".as_slice() {
         "Write `concat [xs, ys]` for `xs ++ ys`.\n"
     } else if name == b".".as_slice() {
@@ -105,7 +102,7 @@ fn operator_help(name: &[u8]) -> &'static str
     } else if name == b"||".as_slice() {
         "Write `or [x, y]` for `x || y`.\n"
     } else if name == b"==".as_slice() || name == b"/=".as_slice() {
-        "Compare by patterns: `f 0 = ..`, or `case x of { 0 -> .. ; _ -> .. }`.\n"
+        "Compare by patterns, such as `f 0 = ..`, or take the comparison as an argument.\n"
     } else if is_order(name) {
         "Numbers and characters can't be compared by order: use patterns.\n"
     } else if name == b"!!".as_slice() {
@@ -129,11 +126,12 @@ pub fn lexeme_help(hint: LexemeHint, name: &str) -> &'static str
 {
     match hint {
         LexemeHint::ByteOrderMark => "Save it as UTF-8 without one.\n",
-        LexemeHint::Backquote => "Write it before its arguments: `div x y`.\n",
+        LexemeHint::Backquote => "Write it before its arguments: `f x y`.\n",
         LexemeHint::OpenString => "Write `\"` at its end.\n",
         LexemeHint::StringItem =>
             "Write `\\\\` for a backslash, and other characters by their numbers, such as `\\955`. Save the file as UTF-8.\n",
-        LexemeHint::Character => "A string is written between double quotes.\n",
+        LexemeHint::Character =>
+            "Write one character between single quotes, or its number, such as `'\\955'`. A string is between double quotes.\n",
         LexemeHint::Fraction => "All numbers are of type Int.\n",
         LexemeHint::ReservedName => "A name with a dot is one name; there is no operator `.`.\n",
         LexemeHint::Comment => "Save the file as UTF-8.\n",

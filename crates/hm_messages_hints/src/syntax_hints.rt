@@ -1,14 +1,15 @@
 //! The hint at a fault of syntax.
-ghost use Rattle.std.specs.Prelude.{◌≡◌, ◌⊎◌, ◌-◌, IfSome, length, slice_index_or, true};
-ghost use Rattle.hm_parse_grammar.specs.declared.symbol.Symbol.TheVariants.{Bar, End, Import, LeftBrace, Of, Open, OpenSquare};
+ghost use Rattle.std.specs.Prelude.{◌≡◌, ◌⊎◌, ◌-◌, IfSome, length, slice_index_or, take, false, true};
+ghost use Rattle.hm_parse_grammar.specs.declared.symbol.Symbol.TheVariants.{Bar, Close, CloseSquare, Con, End, Import, LeftBrace, Of, Open, OpenSquare, QCon};
+ghost use Rattle.hm_parse_grammar.specs.Symbols.{same};
 ghost use Rattle.hm_parse_grammar.specs.Reading.Types.{begins_atype};
 ghost use Rattle.hm_messages_outline.specs.Brackets.{IsInnermost};
-ghost use Rattle.hm_messages_hints.specs.SyntaxHints.{IsPlaceOf, IsSyntaxHint, ends, ends_operand, ends_pattern, is_partner, takes_capital, takes_constructor, wants_brace};
+ghost use Rattle.hm_messages_hints.specs.SyntaxHints.{IsPlaceOf, IsInPatterns, IsSyntaxHint, ends, ends_operand, ends_pattern, is_partner, takes_capital, takes_constructor, wants_brace};
 
 use crate::change::Repair;
 use crate::contexts::{
-    alternative_begins, constructors_begin, guard_begins, newtype_begins, patterns_begin,
-    type_begins, without_else, without_then,
+    alternative_begins, constructors_begin, guard_begins, has_declaration, patterns_begin,
+    right_newtype_begins, right_type_begins, type_begins, without_else, without_then,
 };
 use crate::features::{Feature, feature_of};
 use hm_messages_outline::open_bracket;
@@ -31,7 +32,7 @@ pub enum SyntaxHint {
     Range(usize),
     /// It is a small name where only a capital one may be.
     SmallName,
-    /// It begins a type right after a type variable.
+    /// It begins a type right after a type variable, in a signature or after the `=` of a declaration.
     AppliedVariable,
     /// With this change of one token the source, or the declaration, can be read.
     Repaired(Repair),
@@ -56,10 +57,10 @@ pub enum SyntaxHint {
     TypedPattern,
     /// It is `:` after a pattern.
     ConsPattern,
-    /// It is `|` after `=`.
+    /// It is `|` after `=`, before which patterns are.
     GuardAfterEquals,
-    /// It is `->` after a guard of a declaration.
-    GuardArrow,
+    /// It is `->` after a guard of a declaration, directly within the `{` with this number, which doesn't follow `of`.
+    GuardArrow(usize),
     /// It is `,` among the constructors of a declaration, directly within the `{` with this number.
     ConstructorComma(usize),
     /// It is `,` after a number.
@@ -68,12 +69,18 @@ pub enum SyntaxHint {
     WhereAfterSemicolon,
     /// It is `{`, and no `then` follows the `if` with this number.
     NoThen(usize),
-    /// It begins a type, or is `|`, in the declaration of a newtype, directly within the `{` with this number.
+    /// It begins a type, or is `|`, after the `=` of a newtype, directly within the `{` with this number.
     NewtypeArguments(usize),
     /// It is `qualified` after the module of an import.
     LateQualified,
     /// It is `@`.
     AtSign,
+    /// It is `|` after `;`.
+    GuardAfterSemicolon,
+    /// It is `import` after `;`, and a declaration of the module is before it.
+    LateImport,
+    /// It is `)` or `]` after `,`.
+    ExtraComma,
 }
 
 /// A hint at a fault of syntax, and the text of the token that it is about. The text is empty at the end of the source.
@@ -207,6 +214,49 @@ fn ends_with_import(before: &[Symbol]) -> bool
     before[before.len() - 2].is(Symbol::Import)
 }
 
+/// Returns whether this is a capital name.
+fn is_capital(symbol: Symbol) -> bool
+    ensures { result ≡ true → (symbol ≡ Con) ⊎ (symbol ≡ QCon) }
+{
+    match symbol {
+        Symbol::Con => true,
+        Symbol::QCon => true,
+        _ => false,
+    }
+}
+
+/// Returns whether this is `)` or `]`.
+fn closes_round_or_square(symbol: Symbol) -> bool
+    ensures { result ≡ true → (symbol ≡ Close) ⊎ (symbol ≡ CloseSquare) }
+{
+    match symbol {
+        Symbol::Close => true,
+        Symbol::CloseSquare => true,
+        _ => false,
+    }
+}
+
+/// Returns whether the bracket with this number follows `of`.
+fn follows_of(before: &[Symbol], at: usize) -> bool
+    ensures { result ≡ same (slice_index_or before.now (at - 1) End) Of }
+{
+    let number = at.saturating_sub(1);
+    if number >= before.len() {
+        return false;
+    }
+    before[number].is(Symbol::Of)
+}
+
+/// Returns whether all of these but the last end with a part of patterns.
+fn patterns_end(before: &[Symbol]) -> bool
+    ensures { result ≡ true → IsInPatterns (take (length before.now - 1) before.now) }
+{
+    if before.is_empty() {
+        return false;
+    }
+    patterns_begin(&before[..before.len() - 1])
+}
+
 /// Returns whether the bracket is `(` or `[`.
 fn is_round_or_square(bracket: Symbol) -> bool
     ensures { result ≡ true → (bracket ≡ Open) ⊎ (bracket ≡ OpenSquare) }
@@ -228,7 +278,7 @@ fn goes_on_with_types(here: Symbol) -> bool
     here.is(Symbol::Bar)
 }
 
-/// Returns a fact about a declaration of a type, directly within the `{` with this number.
+/// Returns a fact about a declaration, directly within the `{` with this number.
 fn declaration_hint(before: &[Symbol], at: usize, here: Symbol, text: &[u8]) -> Option<SyntaxHint>
     requires { IsInnermost before.now at }
     ensures { IfSome result (IsSyntaxHint before.now here text.now) }
@@ -242,8 +292,11 @@ fn declaration_hint(before: &[Symbol], at: usize, here: Symbol, text: &[u8]) -> 
     if here.is(Symbol::Comma) && constructors_begin(before) {
         return Some(SyntaxHint::ConstructorComma(at));
     }
-    if goes_on_with_types(here) && newtype_begins(before) {
+    if goes_on_with_types(here) && right_newtype_begins(before) {
         return Some(SyntaxHint::NewtypeArguments(at));
+    }
+    if here.is(Symbol::Arrow) && !follows_of(before, at) && guard_begins(before, at) {
+        return Some(SyntaxHint::GuardArrow(at));
     }
     None
 }
@@ -348,7 +401,7 @@ fn variable_hint(before: &[Symbol], last: Symbol, here: Symbol, text: &[u8]) -> 
     requires { last ≡ slice_index_or before.now (length before.now - 1) End }
     ensures { IfSome result (IsSyntaxHint before.now here text.now) }
 {
-    if last.is(Symbol::Var) && here.begins_atype() && type_begins(before) {
+    if last.is(Symbol::Var) && here.begins_atype() && right_type_begins(before) {
         return Some(SyntaxHint::AppliedVariable);
     }
     None
@@ -382,11 +435,8 @@ fn mark_hint(before: &[Symbol], last: Symbol, here: Symbol, text: &[u8]) -> Opti
     if last.is(Symbol::Semicolon) && here.is(Symbol::Where) {
         return Some(SyntaxHint::WhereAfterSemicolon);
     }
-    if last.is(Symbol::Equals) && here.is(Symbol::Bar) && !constructors_begin(before) {
+    if last.is(Symbol::Equals) && here.is(Symbol::Bar) && patterns_end(before) {
         return Some(SyntaxHint::GuardAfterEquals);
-    }
-    if here.is(Symbol::Arrow) && guard_begins(before) {
-        return Some(SyntaxHint::GuardArrow);
     }
     if ends_pattern(last) && here.is(Symbol::OfType) && patterns_begin(before) {
         return Some(SyntaxHint::TypedPattern);
@@ -417,13 +467,34 @@ fn inner_hint(before: &[Symbol], last: Symbol, here: Symbol, text: &[u8]) -> Opt
     }
 }
 
+/// Returns a fact about a token that would be right without the mark before it, or earlier in the module.
+fn order_hint(before: &[Symbol], last: Symbol, here: Symbol, text: &[u8]) -> Option<SyntaxHint>
+    requires { last ≡ slice_index_or before.now (length before.now - 1) End }
+    ensures { IfSome result (IsSyntaxHint before.now here text.now) }
+{
+    if is_capital(last) && text == b"qualified".as_slice() && ends_with_import(before) {
+        return Some(SyntaxHint::LateQualified);
+    }
+    if last.is(Symbol::Semicolon) && here.is(Symbol::Bar) {
+        return Some(SyntaxHint::GuardAfterSemicolon);
+    }
+    if last.is(Symbol::Semicolon) && here.is(Symbol::Import) && has_declaration(before) {
+        return Some(SyntaxHint::LateImport);
+    }
+    if last.is(Symbol::Comma) && closes_round_or_square(here) {
+        return Some(SyntaxHint::ExtraComma);
+    }
+    None
+}
+
 /// Returns a fact about the token and the declaration, the pattern or the mark before it, if there is one.
 fn near_hint(before: &[Symbol], last: Symbol, here: Symbol, text: &[u8]) -> Option<SyntaxHint>
     requires { last ≡ slice_index_or before.now (length before.now - 1) End }
     ensures { IfSome result (IsSyntaxHint before.now here text.now) }
 {
-    if text == b"qualified".as_slice() && ends_with_import(before) {
-        return Some(SyntaxHint::LateQualified);
+    match order_hint(before, last, here, text) {
+        Some(hint) => return Some(hint),
+        None => {}
     }
     match name_hint(before, last, here, text) {
         Some(hint) => return Some(hint),

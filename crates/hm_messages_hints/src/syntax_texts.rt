@@ -102,7 +102,7 @@ pub fn syntax_text(alloc: Global, hint: SyntaxHint, text: &str) -> Result<String
         SyntaxHint::TypedPattern => String::from_str(alloc, "'::' can't follow a pattern"),
         SyntaxHint::ConsPattern => String::from_str(alloc, "unexpected ':' after a pattern"),
         SyntaxHint::GuardAfterEquals => String::from_str(alloc, "a guard can't follow '='"),
-        SyntaxHint::GuardArrow => String::from_str(
+        SyntaxHint::GuardArrow(_) => String::from_str(
             alloc,
             "expected '=' after the guard, found '->'",
         ),
@@ -125,6 +125,9 @@ pub fn syntax_text(alloc: Global, hint: SyntaxHint, text: &str) -> Result<String
             alloc,
             "'@' can only follow a variable in a pattern",
         ),
+        SyntaxHint::GuardAfterSemicolon => String::from_str(alloc, "unexpected ';' before '|'"),
+        SyntaxHint::LateImport => String::from_str(alloc, "an import can't follow a declaration"),
+        SyntaxHint::ExtraComma => around(alloc, "unexpected ',' before ", text, ""),
     }
 }
 
@@ -174,7 +177,7 @@ pub fn syntax_help(hint: SyntaxHint) -> &'static str
         SyntaxHint::ConsPattern =>
             "Write parentheses around a pattern with `:`, such as `f (x : xs)`.\n",
         SyntaxHint::GuardAfterEquals => "Write the guard before the `=`: `f x | c = y`.\n",
-        SyntaxHint::GuardArrow => "Only an alternative of a `case` has `->` after its guard.\n",
+        SyntaxHint::GuardArrow(_) => "Only an alternative of a `case` has `->` after its guard.\n",
         SyntaxHint::ConstructorComma(_) =>
             "Write `|` between constructors, and spaces between their arguments: `data T = A Int Int | B`.\n",
         SyntaxHint::NumberComma =>
@@ -186,5 +189,10 @@ pub fn syntax_help(hint: SyntaxHint) -> &'static str
             "Write `data` for a type with more constructors or arguments.\n",
         SyntaxHint::LateQualified => "Write `import qualified M`.\n",
         SyntaxHint::AtSign => "A pattern `x@(y : ys)` is left of the `=` or the `->`.\n",
+        SyntaxHint::GuardAfterSemicolon =>
+            "A guard belongs to what is before it, so no `;` is between them.\n",
+        SyntaxHint::LateImport =>
+            "The imports of a module come before all its other declarations.\n",
+        SyntaxHint::ExtraComma => "A comma is between two parts, and none follows the last one.\n",
     }
 }

@@ -98,14 +98,14 @@ fn hints_by_contexts(rt: HostRuntime) {
 
 #[test]
 fn hints_of_lexemes(rt: HostRuntime) {
-    assert!(rt; lexeme_hint(b"`div` y") == LexemeHint::Backquote);
-    assert!(rt; lexeme_hint(b"--| doc") == LexemeHint::Dashes);
-    assert!(rt; lexeme_hint(b"3.14") == LexemeHint::Fraction);
-    assert!(rt; lexeme_hint(b"+ 1") == LexemeHint::Operator);
+    assert!(rt; lexeme_hint(b"`div` y", false) == LexemeHint::Backquote);
+    assert!(rt; lexeme_hint(b"--| doc", false) == LexemeHint::Dashes);
+    assert!(rt; lexeme_hint(b"3.14", false) == LexemeHint::Fraction);
+    assert!(rt; lexeme_hint(b"+ 1", false) == LexemeHint::Operator);
     assert!(rt; operator_in(b"++ ys", LexemeHint::Operator) == "++");
-    assert!(rt; lexeme_hint(b"\"ab ;") == LexemeHint::OpenString);
-    assert!(rt; lexeme_hint(b"\"a\\q\"") == LexemeHint::StringItem);
-    assert!(rt; lexeme_hint(b"\xEF\xBB\xBFmodule") == LexemeHint::ByteOrderMark);
+    assert!(rt; lexeme_hint(b"\"ab ;", false) == LexemeHint::OpenString);
+    assert!(rt; lexeme_hint(b"\"a\\q\"", false) == LexemeHint::StringItem);
+    assert!(rt; lexeme_hint(b"\xEF\xBB\xBFmodule", true) == LexemeHint::ByteOrderMark);
     assert!(rt; feature_of(b"class") == Some(Feature::Class));
     assert!(rt; feature_of(b"word") == None);
 }
