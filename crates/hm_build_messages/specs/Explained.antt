@@ -12,7 +12,7 @@ use Rattle.hm_messages.specs.Refused.{IsRefusalStated}
 use Rattle.hm_messages.specs.Subjects.{exhausted}
 use Rattle.hm_messages.specs.declared.heading.Paint.{Paint}
 use Rattle.hm_run_sources.specs.Origins.{IsSpelledBy}
-use Rattle.hm_run_sources.specs.Refusals.{Refusal}
+use Rattle.hm_run_sources.specs.Refusals.{Refusal, refusal_text}
 use Rattle.hm_run_sources.specs.Runs.{IsRefusalOf}
 use Rattle.hm_run_io.specs.Sources.{WritesPrefix}
 use Rattle.hm_run_sources.specs.SourceModules.{AreModulesOf}
@@ -42,15 +42,14 @@ pub record StatesReport (paint : Paint) (names sources : List (List ℕ)) (text 
   pub named : AreFilesOf names sources files
   pub told : IsTold paint files sources set settled messages
 
--- the messages say why the sources are refused
-pub record StatesRefusal (paint : Paint) (names sources : List (List ℕ)) (messages : List ℕ) : Type 0 where
-  pub refusal : Refusal
+-- the messages say why the sources are refused: for this reason
+pub record StatesRefusal (paint : Paint) (names sources : List (List ℕ)) (refusal : Refusal) (messages : List ℕ) : Type 0 where
   pub because : IsRefusalOf sources refusal
   pub files : List (List ℕ)
   pub named : AreFilesOf names sources files
   pub told : IsRefusalStated paint files sources refusal messages
 
--- the message says that there is no memory to check one of the modules of the sources, at a place in the source that spells it
+-- the message says that there is no memory to check one of the modules of the sources, by its name, at a place in the source that spells it
 pub record StatesExhaustion (paint : Paint) (names sources : List (List ℕ)) (message : List ℕ) : Type 0 where
   pub modules : List Module
   pub read : AreModulesOf sources modules
@@ -61,14 +60,15 @@ pub record StatesExhaustion (paint : Paint) (names sources : List (List ℕ)) (m
   pub files : List (List ℕ)
   pub named : AreFilesOf names sources files
   pub name : List ℕ
+  pub called : (d : Module) → name ≡ (slice_index_or modules number d).header.name.text
   pub place : Place
   pub told : IsMessage paint (slice_index_or files source []) (slice_index_or sources source []) place (exhausted name) message
 
--- the messages of a run with this status and this text. The names are those of the sources' files
+-- the messages of a run with this status and this text. Those of a refused set are about the refusal that the text says. The names are those of the sources' files
 abbrev pub IsExplained : Paint → List (List ℕ) → List (List ℕ) → Status → List ℕ → List ℕ → Type 0
 IsExplained paint names sources Good text messages = StatesReport paint names sources text messages
 IsExplained paint names sources Faulty text messages = StatesReport paint names sources text messages
-IsExplained paint names sources Refused text messages = StatesRefusal paint names sources messages
+IsExplained paint names sources Refused text messages = (refusal : Refusal) × (text ≡ refusal_text refusal) × StatesRefusal paint names sources refusal messages
 
 -- these messages were written, or a prefix of them if their writer failed
 abbrev pub IsStatedTo : Option (List ℕ) → Option (List ℕ) → List ℕ → Type 0 → Type 0

@@ -181,7 +181,7 @@ pub fn refused_set_messages<'a>(
 ) -> Result<Vec<u8>, AllocError>
     requires because { IsRefusalOf (map (λ s. s.items) sources.now) refused.now.fault }
     requires headers { AreHeadersFor (map (λ s. s.items) sources.now) refused.now.fault refused.now.located.items }
-    ensures { IfOk result (λ m. StatesRefusal explain.now.paint (map (λ s. s.items) explain.now.names.items) (map (λ s. s.items) sources.now) m.items) }
+    ensures { IfOk result (λ m. StatesRefusal explain.now.paint (map (λ s. s.items) explain.now.names.items) (map (λ s. s.items) sources.now) refused.now.fault m.items) }
 {
     let Some(from) = behind(&refused.fault, sources.len()) else {
         unreachable!()

@@ -63,7 +63,7 @@ refused_run workers journal sources refusal status text because is says =
     subst (λ s. IsRun workers journal sources s text) (sym is) written
 
 -- and its messages explain it, where they are asked for
-pub all_refused : (explain : Option Explain) (sources : List (List ℕ)) (status : Status) (text messages : List ℕ) → status ≡ Refused → IfSome explain (λ e. StatesRefusal e.paint (map (λ s. s.items) e.names.items) sources messages)
+pub all_refused : (explain : Option Explain) (sources : List (List ℕ)) (refusal : Refusal) (status : Status) (text messages : List ℕ) → status ≡ Refused → text ≡ refusal_text refusal → IfSome explain (λ e. StatesRefusal e.paint (map (λ s. s.items) e.names.items) sources refusal messages)
     → IfSome explain (λ e. IsExplained e.paint (map (λ s. s.items) e.names.items) sources status text messages)
-all_refused None sources status text messages is told = tt
-all_refused (Some e) sources status text messages is told = subst (λ s. IsExplained e.paint (map (λ s. s.items) e.names.items) sources s text messages) (sym is) told
+all_refused None sources refusal status text messages is says told = tt
+all_refused (Some e) sources refusal status text messages is says told = subst (λ s. IsExplained e.paint (map (λ s. s.items) e.names.items) sources s text messages) (sym is) (refusal, says, told)

@@ -93,7 +93,7 @@ pub(crate) fn refused_messages<'a>(
     requires because { IsRefusalOf (map (λ s. s.items) sources.now) refused.now.fault }
     requires headers { AreHeadersFor (map (λ s. s.items) sources.now) refused.now.fault refused.now.located.items }
     ensures { IfOk result (λ m. IfSome run_options.now.explain (λ e.
-        StatesRefusal e.paint (map (λ s. s.items) e.names.items) (map (λ s. s.items) sources.now) m.items)) }
+        StatesRefusal e.paint (map (λ s. s.items) e.names.items) (map (λ s. s.items) sources.now) refused.now.fault m.items)) }
 {
     match &run_options.explain {
         Some(explain) => Ok(refused_set_messages(alloc, sources, refused, explain)?),

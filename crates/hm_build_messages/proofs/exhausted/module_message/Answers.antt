@@ -36,6 +36,7 @@ returns c =
       files = files_in pages;
       named = subst (λ l. AreFilesOf (map (λ s. s.items) l) sources (files_in pages)) c.deref.ensures.value c.in_ok-pages.ensures.files;
       name = name;
+      called = λ d. c.as_str.ensures ∙ ap (λ n. n.text) (of.named d);
       place = place;
       told = subst (λ (p : Paint). IsMessage p (get_or (files_in pages) source []) (get_or sources source []) place (exhausted name) text) c.in_ok-pages.ensures.paint
           (subst (λ (s : List ℕ). IsMessage c.in_ok-pages.pages.paint (get_or (files_in pages) source []) s place (exhausted name) text) (text_is pages source page inside is ∙ ap (λ l. get_or l source []) c.in_ok-pages.ensures.texts)

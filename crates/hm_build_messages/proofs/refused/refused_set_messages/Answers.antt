@@ -29,7 +29,6 @@ returns c =
     let sum : c.in-Some-checked_add.all ≡ errors + c.in_ok-further.further.errors = search rules in
     let counted : c.extend_from_slice-2.new.self.items ≡ c.extend_from_slice.new.self.items ++ count_text paint c.in-Some-checked_add.all 0 = search rules in
     record {
-      refusal = fault;
       because = c.requires.because;
       files = files;
       named = subst (λ l. AreFilesOf (map (λ s. s.items) l) sources files) c.deref.ensures.value c.in_ok-pages.ensures.files;

@@ -10,4 +10,4 @@ returns-clause-run c workers =
 pub returns-clause-told : goal.returns-clause-told
 returns-clause-told c =
     let a = c.in_ok-answer.answer in
-    all_refused c.args.run_options.now.explain (map (λ s. s.items) c.args.sources.now) a.status (string_bytes a.text) c.in_ok-messages.messages.items c.in_ok-answer.ensures.status c.in_ok-messages.ensures
+    all_refused c.args.run_options.now.explain (map (λ s. s.items) c.args.sources.now) c.args.refused.now.fault a.status (string_bytes a.text) c.in_ok-messages.messages.items c.in_ok-answer.ensures.status c.in_ok-answer.ensures.text c.in_ok-messages.ensures
