@@ -1,25 +1,15 @@
 -- Schemes that quantify all variables but those that are kept.
-use Rattle.std.proofs.Common.{◌≡◌, ℕ, zero, suc, ◌+◌, ◌-◌, ◌<◌, ◌≤◌, ◌++◌, take, drop, get_or, subst, Bool, true, false, List, [], ◌∷◌, length, refl, sym, ap, ◌∙◌, ⊎_elim, ◌↔◌, inl, inr, arith, None}
-use Rattle.hm_types.specs.Types.{Var as leaf, App as app, In, put}
-use Rattle.hm_types.specs.Monotypes.{Leaf, Mono, var, rigid, arguments_of}
-use Rattle.hm_types.specs.declared.monotypes.Ty.{Ty}
-use Rattle.hm_types.specs.declared.Head.{Head}
-use Rattle.hm_unify.specs.Unifier.{Equation}
-use Rattle.hm_unify.specs.Bindings.{solution}
-use Rattle.hm_unify.specs.WellFormed.{IsWellFormed, AreWellFormed}
+use Rattle.std.proofs.Common.{◌≡◌, ℕ, zero, suc, ◌+◌, ◌-◌, ◌<◌, ◌++◌, get_or, subst, Bool, List, [], ◌∷◌, length, sym, ap, ◌∙◌, inr, arith}
+use Rattle.hm_types.specs.Types.{Var as leaf, In, put}
+use Rattle.hm_types.specs.Monotypes.{Leaf, Mono, var, rigid}
+use Rattle.hm_unify.specs.WellFormed.{IsWellFormed}
 use Rattle.hm_infer_generalisation.specs.declared.collecting.Collected.{Collected}
-use Rattle.hm_infer_generalisation.specs.Collected.{Gathers, IsNumbered, has_leaf, has_number}
+use Rattle.hm_infer_generalisation.specs.Collected.{Gathers}
 use Rattle.hm_infer_generalisation.specs.Generalised.{IsClosing, closing}
-use Rattle.std.specs.Prelude.{nat_eq, is_some}
-use Rattle.std.specs.HashMap.{HashMap, get, hash_map_len}
-use Rattle.hm_types.specs.Numbers.{Numbers}
-use Rattle.hm_types.specs.Schemes.{is_among}
-use Rattle.hm_types.proofs.Substitution.{bool_cases}
 use Rattle.hm_infer_context.specs.Environments.{Assumed, AreAssumed}
 use Rattle.hm_infer_context.specs.AssumedTypes.{type_in}
-use Rattle.hm_infer_context.specs.Kept.{stack, assumed_of, entries_of}
+use Rattle.hm_infer_context.specs.Kept.{stack, assumed_of}
 use Rattle.hm_infer_context.specs.declared.environment.Binding.{Binding}
-use Rattle.std.proofs.lemmas.List.{take_all, take-append-drop}
 
 -- the schemes of an environment
 
@@ -39,22 +29,13 @@ assumed_part g (e ∷ added) base a = assumed_part g added base a.1
 
 -- generalisation
 
-among_has : {S : Type 0} (table : HashMap ℕ ℕ S) (xs : List ℕ) (n : ℕ) → Numbers table xs → has_number n table ≡ true → is_among n xs ≡ true
-among_has table xs n numbers h =
-    elim (bool_cases (is_among n xs)) [
-      | inl here ↦ here
-      | inr absent ↦ let told : get nat_eq table n ≡ None = numbers.at n ∙ rw absent refl in let is : false ≡ true = sym (ap is_some told) ∙ h in absurd (cc)
-    ]
-
-pub closes : (kept : Leaf → Bool) (before slots : Collected) (value t body : Mono) (q i j : ℕ) → IsNumbered before → Gathers (λ l. In l value) before slots → value ≡ t → i ≡ hash_map_len slots.plain → j ≡ hash_map_len slots.rigid → q ≡ i + j →
-    ((xs ys : List ℕ) → Numbers slots.plain xs → Numbers slots.rigid ys → body ≡ put (λ l. leaf (closing kept q xs ys l)) value) → IsClosing kept t q body
-closes kept before slots value t body q i j n g v ei ej eq closed =
-    let m = g.numbered n in
-    record {
-      plain = m.plain;
-      rigid = m.rigid;
-      many = omega (arith, ei, ej, eq, m.plain_places.many, m.rigid_places.many);
-      whole = closed m.plain m.rigid m.plain_places m.rigid_places ∙ ap (put (λ l. leaf (closing kept q m.plain m.rigid l))) v;
-      plain_slots = λ k h. among_has slots.plain m.plain k m.plain_places ((g.has (var k)).1 (inr (subst (In (var k)) (sym v) h)));
-      rigid_slots = λ k h. among_has slots.rigid m.rigid k m.rigid_places ((g.has (rigid k)).1 (inr (subst (In (rigid k)) (sym v) h)));
-    }
+pub closes : (kept : Leaf → Bool) (before slots : Collected) (value t body : Mono) (q i j : ℕ) → Gathers (λ l. In l value) before slots → value ≡ t → i ≡ length slots.plain → j ≡ length slots.rigid → q ≡ i + j →
+    body ≡ put (λ l. leaf (closing kept q slots.plain slots.rigid l)) value → IsClosing kept t q body
+closes kept before slots value t body q i j g v ei ej eq closed = record {
+  plain = slots.plain;
+  rigid = slots.rigid;
+  many = omega (arith, ei, ej, eq);
+  whole = closed ∙ ap (put (λ l. leaf (closing kept q slots.plain slots.rigid l))) v;
+  plain_slots = λ k h. (g.has (var k)).1 (inr (subst (In (var k)) (sym v) h));
+  rigid_slots = λ k h. (g.has (rigid k)).1 (inr (subst (In (rigid k)) (sym v) h));
+}

@@ -1,47 +1,38 @@
 -- Variables are collected.
-use Rattle.std.proofs.Common.{◌≡◌, ℕ, ◌+◌, ◌<◌, ◌≤◌, take, get_or, subst, true, false, ◌==◌, List, [], ◌∷◌, ◌++◌, length, refl, sym, ap, ◌∙◌, ◌⊎◌, ⊎_elim, ◌↔◌, inl, inr, Some}
-use Rattle.std.specs.Prelude.{nat_eq, is_some}
-use Rattle.std.specs.HashMap.{HashMap, hash_map_len, Updates}
+use Rattle.std.proofs.Common.{◌≡◌, ℕ, ◌+◌, ◌<◌, ◌≤◌, take, get_or, subst, true, false, ◌||◌, ◌==◌, List, [], ◌∷◌, ◌++◌, length, sym, ap, ◌∙◌, ◌⊎◌, ⊎_elim, ◌↔◌, inl, inr}
 use Rattle.std.proofs.lemmas.Bool.{eq-eqb, eqb-true}
 use Rattle.std.proofs.lemmas.List.{take_all, length-map}
-use Rattle.hm_types.specs.Types.{Var as leaf, App as app, In, InArgs}
+use Rattle.hm_types.specs.Types.{App as app, In, InArgs}
 use Rattle.hm_types.specs.Monotypes.{Leaf, Mono, var, rigid, arguments_of}
 use Rattle.hm_types.specs.declared.monotypes.Ty.{Ty}
 use Rattle.hm_types.specs.declared.Head.{Head}
 use Rattle.hm_types.specs.Shape.{type_of, types_of}
-use Rattle.hm_types.specs.Schemes.{variables_after}
-use Rattle.hm_types.specs.Numbers.{Numbers}
-use Rattle.hm_types.proofs.Substitution.{bool_cases}
+use Rattle.hm_types.specs.Schemes.{is_among}
+use Rattle.hm_types.proofs.Quantified.{contains_append}
+use Rattle.hm_types.proofs.Substitution.{bool_cases, or_cases, or_left, or_right}
 use Rattle.hm_types.proofs.Rows.{types_of_more}
-use Rattle.hm_types.proofs.Table.{seen_already, seen_first}
 use Rattle.hm_infer_generalisation.specs.declared.collecting.Collected.{Collected}
-use Rattle.hm_infer_generalisation.specs.Collected.{Adds, Gathers, has_leaf, has_number}
+use Rattle.hm_infer_generalisation.specs.Collected.{Gathers, has_leaf}
+use Rattle.hm_infer_generalisation.specs.Places.{with_number}
 
-pub adds_old : {S : Type 0} (table : HashMap ℕ ℕ S) (n : ℕ) → has_number n table ≡ true → Adds n table table
-adds_old table n h = record {
-  numbered = λ xs numbers. (variables_after xs (leaf (var n)), seen_already table xs n numbers h);
-  has = λ m. (λ k. inl k, λ k. ⊎_elim (λ j. j) (λ e. subst (λ z. has_number z table ≡ true) (sym e) h) k);
-}
+-- a list with one more number
+pub with_number_has : (n m : ℕ) (xs : List ℕ) → (is_among m (with_number n xs) ≡ true) ↔ ((is_among m xs ≡ true) ⊎ (m ≡ n))
+with_number_has n m xs =
+    elim (bool_cases (is_among n xs)) [
+      | inl here ↦ rw here (λ h. inl h, λ h. ⊎_elim (λ k. k) (λ e. subst (λ z. is_among z xs ≡ true) (sym e) here) h)
+      | inr absent ↦
+          let both : is_among m (xs ++ n ∷ []) ≡ (is_among m xs || is_among m (n ∷ [])) = contains_append m xs (n ∷ []) in
+          rw absent (
+            λ h. ⊎_elim (λ k. inl k) (λ k. inr (one k)) (or_cases (is_among m xs) (is_among m (n ∷ [])) (sym both ∙ h)),
+            λ h. both ∙ ⊎_elim (λ k. or_left (is_among m xs) (is_among m (n ∷ [])) k) (λ e. or_right (is_among m xs) (is_among m (n ∷ [])) (or_left (m == n) false (eq-eqb m n e))) h,
+          )
+    ]
+  where
+    one : is_among m (n ∷ []) ≡ true → m ≡ n
+    one k = ⊎_elim (λ e. eqb-true m n e) (λ (e : false ≡ true). cc) (or_cases (m == n) false k)
 
-pub adds_new : {S : Type 0} (table next : HashMap ℕ ℕ S) (n k : ℕ) → has_number n table ≡ false → k ≡ hash_map_len table → Updates nat_eq table next n (Some k) → hash_map_len next ≡ hash_map_len table + 1 → Adds n table next
-adds_new table next n k h many updates more = record {
-  numbered = λ xs numbers. (variables_after xs (leaf (var n)), seen_first table next xs n k numbers h many updates more);
-  has = λ m.
-      elim (bool_cases (n == m)) [
-        | inl same ↦
-            let e : has_number m next ≡ true = ap is_some (updates.0 m) ∙ rw same refl in
-            (λ j. inr (sym (eqb-true n m same)), λ j. e)
-        | inr other ↦
-            let e : has_number m next ≡ has_number m table = ap is_some (updates.0 m) ∙ rw other refl in
-            (λ j. inl (sym e ∙ j), λ j. ⊎_elim (λ i. e ∙ i) (λ i. let both : (n == m) ≡ true = eq-eqb n m (sym i) in absurd (cc)) j)
-      ];
-}
-
-pub gathers_plain : (before after : Collected) (n : ℕ) → Adds n before.plain after.plain → after.rigid ≡ before.rigid → Gathers (λ l. l ≡ var n) before after
-gathers_plain before after n a same = record {
-  numbered = λ i. let h = a.numbered i.plain i.plain_places in record { plain = h.0; rigid = i.rigid; plain_places = h.1; rigid_places = subst (λ t. Numbers t i.rigid) (sym same) i.rigid_places };
-  has = has;
-}
+pub gathers_plain : (before after : Collected) (n : ℕ) → after.plain ≡ with_number n before.plain → after.rigid ≡ before.rigid → Gathers (λ l. l ≡ var n) before after
+gathers_plain before after n a same = record { has = has }
   where
     number_of : Leaf → ℕ
     number_of (var m) = m
@@ -52,14 +43,15 @@ gathers_plain before after n a same = record {
     IsPlain (rigid m) = ⊥
 
     has : (l : Leaf) → (has_leaf after l ≡ true) ↔ ((has_leaf before l ≡ true) ⊎ (l ≡ var n))
-    has (var m) = (λ h. ⊎_elim (λ k. inl k) (λ e. inr (ap var e)) ((a.has m).0 h), λ h. (a.has m).1 (⊎_elim (λ k. inl k) (λ e. inr (ap number_of e)) h))
-    has (rigid m) = (λ h. inl (ap (λ t. has_number m t) (sym same) ∙ h), λ h. ⊎_elim (λ k. ap (λ t. has_number m t) same ∙ k) (λ e. absurd (subst IsPlain (sym e) tt)) h)
+    has (var m) =
+        let more = with_number_has n m before.plain in (
+          λ h. ⊎_elim (λ k. inl k) (λ e. inr (ap var e)) (more.0 (ap (is_among m) (sym a) ∙ h)),
+          λ h. ap (is_among m) a ∙ more.1 (⊎_elim (λ k. inl k) (λ e. inr (ap number_of e)) h),
+        )
+    has (rigid m) = (λ h. inl (ap (is_among m) (sym same) ∙ h), λ h. ⊎_elim (λ k. ap (is_among m) same ∙ k) (λ e. absurd (subst IsPlain (sym e) tt)) h)
 
-pub gathers_rigid : (before after : Collected) (n : ℕ) → Adds n before.rigid after.rigid → after.plain ≡ before.plain → Gathers (λ l. l ≡ rigid n) before after
-gathers_rigid before after n a same = record {
-  numbered = λ i. let h = a.numbered i.rigid i.rigid_places in record { plain = i.plain; rigid = h.0; plain_places = subst (λ t. Numbers t i.plain) (sym same) i.plain_places; rigid_places = h.1 };
-  has = has;
-}
+pub gathers_rigid : (before after : Collected) (n : ℕ) → after.rigid ≡ with_number n before.rigid → after.plain ≡ before.plain → Gathers (λ l. l ≡ rigid n) before after
+gathers_rigid before after n a same = record { has = has }
   where
     number_of : Leaf → ℕ
     number_of (var m) = m
@@ -70,16 +62,19 @@ gathers_rigid before after n a same = record {
     IsRigid (rigid m) = Unit {0}
 
     has : (l : Leaf) → (has_leaf after l ≡ true) ↔ ((has_leaf before l ≡ true) ⊎ (l ≡ rigid n))
-    has (rigid m) = (λ h. ⊎_elim (λ k. inl k) (λ e. inr (ap rigid e)) ((a.has m).0 h), λ h. (a.has m).1 (⊎_elim (λ k. inl k) (λ e. inr (ap number_of e)) h))
-    has (var m) = (λ h. inl (ap (λ t. has_number m t) (sym same) ∙ h), λ h. ⊎_elim (λ k. ap (λ t. has_number m t) same ∙ k) (λ e. absurd (subst IsRigid (sym e) tt)) h)
+    has (rigid m) =
+        let more = with_number_has n m before.rigid in (
+          λ h. ⊎_elim (λ k. inl k) (λ e. inr (ap rigid e)) (more.0 (ap (is_among m) (sym a) ∙ h)),
+          λ h. ap (is_among m) a ∙ more.1 (⊎_elim (λ k. inl k) (λ e. inr (ap number_of e)) h),
+        )
+    has (var m) = (λ h. inl (ap (is_among m) (sym same) ∙ h), λ h. ⊎_elim (λ k. ap (is_among m) same ∙ k) (λ e. absurd (subst IsRigid (sym e) tt)) h)
 
 pub gathers_none : {P : Leaf → Type 0} (c : Collected) → ((l : Leaf) → P l → ⊥) → Gathers P c c
-gathers_none c never = record { numbered = λ i. i; has = λ l. (λ h. inl h, λ h. ⊎_elim (λ k. k) (λ p. absurd (never l p)) h) }
+gathers_none c never = record { has = λ l. (λ h. inl h, λ h. ⊎_elim (λ k. k) (λ p. absurd (never l p)) h) }
 
 -- two steps, one after the other
 pub gathers_both : {P Q R : Leaf → Type 0} (a b c : Collected) → ((l : Leaf) → R l → P l ⊎ Q l) → ((l : Leaf) → P l ⊎ Q l → R l) → Gathers P a b → Gathers Q b c → Gathers R a c
 gathers_both a b c there back f g = record {
-  numbered = λ i. g.numbered (f.numbered i);
   has = λ l. (
     λ h. ⊎_elim (λ k. ⊎_elim (λ j. inl j) (λ p. inr (back l (inl p))) ((f.has l).0 k)) (λ q. inr (back l (inr q))) ((g.has l).0 h),
     λ h. ⊎_elim (λ k. (g.has l).1 (inl ((f.has l).1 (inl k)))) (λ r. ⊎_elim (λ p. (g.has l).1 (inl ((f.has l).1 (inr p)))) (λ q. (g.has l).1 (inr q)) (there l r)) h,
@@ -87,7 +82,7 @@ gathers_both a b c there back f g = record {
 }
 
 pub gathers_same : {P Q : Leaf → Type 0} (a b : Collected) → ((l : Leaf) → P l → Q l) → ((l : Leaf) → Q l → P l) → Gathers P a b → Gathers Q a b
-gathers_same a b there back f = record { numbered = f.numbered; has = λ l. (λ h. ⊎_elim (λ k. inl k) (λ p. inr (there l p)) ((f.has l).0 h), λ h. (f.has l).1 (⊎_elim (λ k. inl k) (λ q. inr (back l q)) h)) }
+gathers_same a b there back f = record { has = λ l. (λ h. ⊎_elim (λ k. inl k) (λ p. inr (there l p)) ((f.has l).0 h), λ h. (f.has l).1 (⊎_elim (λ k. inl k) (λ q. inr (back l q)) h)) }
 
 -- Arguments
 

@@ -1,5 +1,5 @@
 -- What the program generalises to is the closure of the theory.
-use Rattle.std.proofs.Common.{◌≡◌, ℕ, suc, ◌+◌, ◌-◌, ◌<◌, ◌≤◌, get_or, subst, Bool, true, false, cond, nat_lt, ◌==◌, List, [], ◌∷◌, length, refl, sym, ap, ◌∙◌, ◌↔◌, inl, inr, arith, true≢false}
+use Rattle.std.proofs.Common.{◌≡◌, ℕ, suc, ◌+◌, ◌-◌, ◌<◌, get_or, subst, Bool, true, false, cond, nat_lt, ◌==◌, List, [], ◌∷◌, length, refl, sym, ap, ◌∙◌, inl, inr, arith, true≢false}
 use Rattle.std.proofs.lemmas.Bool.Decides.{nat_tests}
 use Rattle.std.proofs.lemmas.Bool.{eqb-true}
 use Rattle.hm_types.specs.Types.{Args, Var, App, done, more, In, InArgs, put, put_all}
@@ -7,19 +7,19 @@ use Rattle.hm_unify.specs.WellFormed.{IsWellFormed, AreWellFormed}
 use Rattle.hm_types.specs.Monotypes.{Leaf, Mono, var, rigid, list_of}
 use Rattle.hm_types.specs.Schemes.{is_among, place}
 use Rattle.hm_types.proofs.Substitution.{bool_cases}
-use Rattle.hm_typing.specs.Schemes.{Monotype, SchemeVariable, Free, Quantified, scheme_put}
+use Rattle.hm_typing.specs.Schemes.{Monotype, Free, Quantified}
 use Rattle.hm_typing.specs.Assumptions.{Assumptions, FreeIn, assumptions_put}
 use Rattle.hm_typing.specs.Decisions.{is_free_in}
 use Rattle.hm_typing.specs.Generalisation.{quantified_unless}
 use Rattle.hm_typing.proofs.Types.{put-agree, put-put, In-put, put-In}
-use Rattle.hm_typing.proofs.SchemeLaws.{In_scheme_put, scheme_put_In}
 use Rattle.hm_types.specs.Substitution.{substitute, image}
 use Rattle.hm_unify.specs.Unifier.{Equation}
 use Rattle.hm_unify.specs.Bindings.{solution}
 use Rattle.hm_infer_context.specs.Problems.{number, monotype}
-use Rattle.hm_infer_context.specs.Environments.{Assumed, OpenScheme, assumptions, scheme_in, slot}
+use Rattle.hm_infer_context.specs.Environments.{assumptions, scheme_in, slot}
 use Rattle.hm_infer_generalisation.specs.Generalised.{IsClosing, closing}
 use Rattle.hm_infer_generalisation.specs.Generalisations.{IsGeneralisation, IsSolution, Keeps, renumbered}
+use Rattle.hm_infer_generalisation.proofs.Placed.{place_below}
 use Rattle.hm_infer_context.proofs.Leaves.{leaf_at, leaf_at-number, map_at}
 
 number_one : (k l : Leaf) → number k ≡ number l → k ≡ l
@@ -38,14 +38,6 @@ pub of_monotype : (l : Leaf) (u : Mono) → In (number l) (monotype u) → In l 
 of_monotype l u i = let h = In-put (λ k. Var (number k)) (number l) u i in subst (λ k. In k u) (sym (number_one l h.0 h.2)) h.1
 
 -- Places
-
-place_below : (n : ℕ) (xs : List ℕ) → is_among n xs ≡ true → place n xs < length xs
-place_below n [] h = absurd (cc)
-place_below n (x ∷ xs) h =
-    elim (bool_cases (n == x)) [
-      | inl same ↦ rw same (omega arith)
-      | inr other ↦ let rest : place n xs < length xs = place_below n xs (rw other at h) in rw other (omega arith)
-    ]
 
 at_place : (n : ℕ) (xs : List ℕ) → is_among n xs ≡ true → get_or xs (place n xs) 0 ≡ n
 at_place n [] h = absurd (cc)

@@ -1,4 +1,5 @@
 pub mod Generalisations
 pub mod Escapes
 pub mod Collected
+pub mod Places
 pub mod Generalised

@@ -1,52 +1,142 @@
 //! Collects the variables that occur in types.
 
-ghost use Rattle.std.specs.Prelude.{◌≡◌, ℕ, List, IfOk, OnOk, true};
+ghost use Rattle.std.specs.Prelude.{◌≡◌, ℕ, List, [], length, take, true, false, MatchOption, OnOk};
 ghost use Rattle.hm_types.specs.Monotypes.{Leaf, var, rigid};
 ghost use Rattle.hm_types.specs.Shape.{type_of};
 ghost use Rattle.hm_types.specs.Types.{In};
-ghost use Rattle.hm_types.specs.Numbers.{Numbers};
-ghost use Rattle.hm_types.specs.Schemes.{place};
-ghost use Rattle.hm_infer_generalisation.specs.Collected.{Adds, Gathers, IsNumbered, IsAnswered, has_leaf};
+ghost use Rattle.hm_types.specs.Schemes.{is_among, place};
+ghost use Rattle.hm_infer_generalisation.specs.Collected.{Gathers, has_leaf};
+ghost use Rattle.hm_infer_generalisation.specs.Places.{AreNoted, IsPlaceOf, few, with_number};
 
 use hm_types::Ty;
 use std::alloc::{AllocError, Global};
 use std::collections::HashMap;
+use std::marker::Model;
 
-/// Variables and rigid variables, each with its place among those of its kind.
+/// The number of variables that are searched one by one. The table has the others. Most types have
+/// few variables, and filling a table costs more than searching a few numbers.
+const FEW: usize = 8;
+
+/// Different numbers. Contracts see them as a list, in the order in which they were added. A table
+/// has the place of each number after the first few.
+#[derive(Drop)]
+pub(crate) struct Seen {
+    numbers: Vec<usize>,
+    places: HashMap<usize, usize>,
+}
+
+impl Model for Seen {
+    ghost use Rattle.std.specs.Prelude.{ℕ, List};
+
+    ghost Value = { List ℕ };
+
+    ghost view = { λ s. s.numbers.items };
+
+    ghost use Rattle.hm_infer_generalisation.specs.Places.{AreNoted};
+
+    ghost invariant = { λ s. AreNoted s.numbers.items s.places };
+}
+
+impl Seen {
+    /// Returns an empty list.
+    fn new(alloc: Global) -> Seen
+        ensures { result ≡ [] }
+    {
+        Seen {
+            numbers: Vec::new(alloc),
+            places: HashMap::new(alloc),
+        }
+    }
+
+    /// Returns how many numbers there are.
+    pub(crate) fn len(&self) -> usize
+        ensures { result ≡ length self.now }
+    {
+        self.numbers.len()
+    }
+
+    /// Returns the place of a number, or the count if it wasn't added.
+    pub(crate) fn place_of(&self, n: usize) -> usize
+        ensures { result ≡ place n self.now }
+    {
+        place_in(&self.numbers, &self.places, n)
+    }
+
+    /// Adds a number, unless it was added before.
+    fn add(&mut self, n: usize) -> Result<(), AllocError>
+        ensures { OnOk result (self.new ≡ with_number n self.old) }
+    {
+        let count = self.numbers.len();
+        if place_in(&self.numbers, &self.places, n) < count {
+            return Ok(());
+        }
+        self.numbers.push(n)?;
+        if count < FEW {
+            return Ok(());
+        }
+        match self.places.insert(n, count) {
+            Ok(_) => Ok(()),
+            Err(_) => {
+                self.numbers.pop();
+                Err(AllocError)
+            }
+        }
+    }
+}
+
+/// Returns the place of a number among the first few, if it is one of them.
+fn place_among_few(numbers: &[usize], n: usize) -> Option<usize>
+    ensures { MatchOption result (is_among n (take few numbers.now) ≡ false) (λ p. IsPlaceOf n numbers.now p) }
+{
+    let count = FEW.min(numbers.len());
+    'numbers: for place in 0..count {
+        if numbers[place] == n {
+            return Some(place);
+        }
+    }
+    None
+}
+
+/// Returns the place of a number in a list, or the length of the list.
+fn place_in(numbers: &[usize], places: &HashMap<usize, usize>, n: usize) -> usize
+    ensures { AreNoted numbers.now places.now → result ≡ place n numbers.now }
+{
+    match place_among_few(numbers, n) {
+        Some(place) => return place,
+        None => {}
+    }
+    let count = numbers.len();
+    if count <= FEW {
+        return count;
+    }
+    match places.get(&n) {
+        Some(place) => *place,
+        None => count,
+    }
+}
+
+/// The variables of types, and their rigid variables.
 #[derive(Drop)]
 pub(crate) struct Collected {
-    pub plain: HashMap<usize, usize>,
-    pub rigid: HashMap<usize, usize>,
+    pub plain: Seen,
+    pub rigid: Seen,
 }
 
 /// Returns an empty collection.
 pub(crate) fn none_collected(alloc: Global) -> Collected
-    ensures numbered { IsNumbered result }
     ensures empty { (l : Leaf) → ¬ (has_leaf result l ≡ true) }
 {
     Collected {
-        plain: HashMap::new(alloc),
-        rigid: HashMap::new(alloc),
+        plain: Seen::new(alloc),
+        rigid: Seen::new(alloc),
     }
-}
-
-/// Adds a number, unless it was added before.
-fn see(places: &mut HashMap<usize, usize>, n: usize) -> Result<(), AllocError>
-    ensures { OnOk result (Adds n places.old places.new) }
-{
-    if places.contains_key(&n) {
-        return Ok(());
-    }
-    let next = places.len();
-    places.insert(n, next)?;
-    Ok(())
 }
 
 /// Adds a variable.
 pub(crate) fn see_plain(seen: &mut Collected, n: usize) -> Result<(), AllocError>
     ensures { OnOk result (Gathers (λ l. l ≡ var n) seen.old seen.new) }
 {
-    see(&mut seen.plain, n)?;
+    seen.plain.add(n)?;
     Ok(())
 }
 
@@ -54,7 +144,7 @@ pub(crate) fn see_plain(seen: &mut Collected, n: usize) -> Result<(), AllocError
 pub(crate) fn see_rigid(seen: &mut Collected, n: usize) -> Result<(), AllocError>
     ensures { OnOk result (Gathers (λ l. l ≡ rigid n) seen.old seen.new) }
 {
-    see(&mut seen.rigid, n)?;
+    seen.rigid.add(n)?;
     Ok(())
 }
 
@@ -72,21 +162,4 @@ pub(crate) fn collect(seen: &mut Collected, t: &Ty) -> Result<(), AllocError>
         }
     }
     Ok(())
-}
-
-/// Returns whether a number was added.
-pub(crate) fn has_number(places: &HashMap<usize, usize>, n: usize) -> bool
-    ensures { IsAnswered result n places.now }
-{
-    places.contains_key(&n)
-}
-
-/// Returns the place of a number, or the count if it wasn't added.
-pub(crate) fn place_of(places: &HashMap<usize, usize>, n: usize) -> usize
-    ensures { (xs : List ℕ) → Numbers places.now xs → result ≡ place n xs }
-{
-    match places.get(&n) {
-        Some(place) => *place,
-        None => places.len(),
-    }
 }

@@ -1,9 +1,8 @@
 //! Generalises types to schemes (Damas and Milner 1982, section 5; Haskell 98 Report, section 4.5.2).
 
-ghost use Rattle.std.specs.Prelude.{◌≡◌, ℕ, List, ◌+◌, length, true, IfOk, OnOk};
+ghost use Rattle.std.specs.Prelude.{◌≡◌, ℕ, ◌+◌, length, IfOk};
 ghost use Rattle.hm_types.specs.Shape.{type_of};
 ghost use Rattle.hm_types.specs.Types.{Var as leaf, put};
-ghost use Rattle.hm_types.specs.Numbers.{Numbers};
 ghost use Rattle.hm_types.specs.Schemes.{place};
 ghost use Rattle.hm_types.specs.Substitution.{substitute};
 ghost use Rattle.hm_typing.specs.Schemes.{Monotype};
@@ -16,7 +15,7 @@ ghost use Rattle.hm_unify.specs.Levels.{is_outer};
 ghost use Rattle.hm_unify.specs.WellFormed.{IsWellFormed};
 ghost use Rattle.hm_infer_generalisation.specs.Generalised.{closing, IsClosing};
 
-use crate::collecting::{Collected, collect, none_collected, place_of};
+use crate::collecting::{Collected, collect, none_collected};
 use hm_types::{Ty, Types};
 use hm_unify::Solver;
 use std::alloc::{AllocError, Global};
@@ -33,9 +32,9 @@ fn sum(a: usize, b: usize) -> Result<usize, AllocError>
 
 /// Returns the slot of a rigid variable. These come after the others.
 fn rigid_slot(slots: &Collected, n: usize) -> Result<usize, AllocError>
-    ensures { IfOk result (λ k. (xs ys : List ℕ) → Numbers slots.now.plain xs → Numbers slots.now.rigid ys → k ≡ place n ys + length xs) }
+    ensures { IfOk result (λ k. k ≡ place n slots.now.rigid + length slots.now.plain) }
 {
-    sum(place_of(&slots.rigid, n), slots.plain.len())
+    sum(slots.rigid.place_of(n), slots.plain.len())
 }
 
 /// The quantified variables of a scheme: `count` variables that have slots, without those in the
@@ -50,16 +49,15 @@ struct Quantified<'q> {
 
 /// Returns a type as the body of a scheme that quantifies these variables.
 fn close(alloc: Global, quantified: &Quantified<'_>, t: &Ty) -> Result<Ty, AllocError>
-    ensures { IfOk result (λ u. (xs ys : List ℕ) → Numbers quantified.now.slots.now.plain xs → Numbers quantified.now.slots.now.rigid ys
-        → type_of u ≡ put (λ l. leaf (closing (is_outer quantified.now.solver.now.equations quantified.now.older) quantified.now.count xs ys l))
-        (type_of t.now)) }
+    ensures { IfOk result (λ u. type_of u ≡ put (λ l. leaf (closing (is_outer quantified.now.solver.now.equations quantified.now.older) quantified.now.count
+        quantified.now.slots.now.plain quantified.now.slots.now.rigid l)) (type_of t.now)) }
 {
     match t {
         Ty::Var(n) => {
             if quantified.solver.is_outer_variable(quantified.older, *n) {
                 return Ok(Ty::Var(sum(*n, quantified.count)?));
             }
-            Ok(Ty::Var(place_of(&quantified.slots.plain, *n)))
+            Ok(Ty::Var(quantified.slots.plain.place_of(*n)))
         }
         Ty::Rigid(n) => {
             if quantified.solver.is_outer_rigid(quantified.older, *n) {

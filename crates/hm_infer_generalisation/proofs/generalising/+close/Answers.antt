@@ -15,12 +15,12 @@ close-requires t c =
 pub loop-argument-preserved : goal.loop-argument-preserved
 loop-argument-preserved t c = record {
   whole = c.loop-argument.invariant.whole;
-  done = λ xs ys n m.
-      pushed_more (λ l. leaf (closing (is_outer c.args.quantified.now.solver.now.equations c.args.quantified.now.older) c.args.quantified.now.count xs ys l)) _ _ _ _ c.argument-item.result _ c.loop-argument-test.true c.argument-item.is (c.loop-argument.invariant.done xs ys n m) (c.in_ok-close-in-App.ensures xs ys n m)
+  done =
+      pushed_more (λ l. leaf (closing (is_outer c.args.quantified.now.solver.now.equations c.args.quantified.now.older) c.args.quantified.now.count c.args.quantified.now.slots.now.plain c.args.quantified.now.slots.now.rigid l)) _ _ _ _ c.argument-item.result _ c.loop-argument-test.true c.argument-item.is c.loop-argument.invariant.done c.in_ok-close-in-App.ensures
       c.in_ok-push-in-App.ensures.items;
 }
 
 pub returns-in_ok-copy-in-App : goal.returns-in_ok-copy-in-App
-returns-in_ok-copy-in-App t c = λ xs ys n m.
+returns-in_ok-copy-in-App t c =
     ap (λ us. app c.in_ok-copy-in-App.field-0 (arguments_of us)) c.new.ensures ∙
-    made_all (λ l. leaf (closing (is_outer c.args.quantified.now.solver.now.equations c.args.quantified.now.older) c.args.quantified.now.count xs ys l)) _ _ _ _ _ _ c.loop-argument.invariant.whole c.in_ok-copy-in-App.ensures c.loop-argument-test.false (c.loop-argument.invariant.done xs ys n m)
+    made_all (λ l. leaf (closing (is_outer c.args.quantified.now.solver.now.equations c.args.quantified.now.older) c.args.quantified.now.count c.args.quantified.now.slots.now.plain c.args.quantified.now.slots.now.rigid l)) _ _ _ _ _ _ c.loop-argument.invariant.whole c.in_ok-copy-in-App.ensures c.loop-argument-test.false c.loop-argument.invariant.done
