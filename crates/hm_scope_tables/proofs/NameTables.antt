@@ -131,6 +131,14 @@ noted pairs p old new key slot named table tells updated k = elim (cases_Bool (s
       subst (λ o. IsTold (pairs ++ p ∷ []) k o) (sym kept) (told_kept pairs p k (get_by (same_key k) old) other (table k))
 ]
 
+-- a second write at a name hides the first
+pub noted_twice : (old middle new : Table) (key : Key) (first slot : Slot) → ((q : Key) → get_by (same_key q) middle ≡ cond (same_key key q) (Some first) (get_by (same_key q) old))
+    → ((q : Key) → get_by (same_key q) new ≡ cond (same_key key q) (Some slot) (get_by (same_key q) middle)) → (q : Key) → get_by (same_key q) new ≡ cond (same_key key q) (Some slot) (get_by (same_key q) old)
+noted_twice old middle new key first slot before after q = after q ∙ elim (cases_Bool (same_key key q)) [
+  | inl same ↦ ap (λ b. cond b (Some slot) (get_by (same_key q) middle)) same ∙ sym (ap (λ b. cond b (Some slot) (get_by (same_key q) old)) same)
+  | inr apart ↦ ap (cond (same_key key q) (Some slot)) (before q ∙ ap (λ b. cond b (Some first) (get_by (same_key q) old)) apart)
+]
+
 pub noted_more : (items : List Pair) (i : ℕ) (p : Pair) (table : Table) → i < length items → p ≡ get_or items i p → IsTable (take i items ++ p ∷ []) table → IsTable (take (i + 1) items) table
 noted_more items i p table inside is t =
     let more : take (i + 1) items ≡ take i items ++ p ∷ [] = take_more items i p inside ∙ ap (λ x. take i items ++ x ∷ []) (sym is) in

@@ -142,7 +142,7 @@ pub fn is_several<'a>(table: &IndexMap<Key<'a>, Slot<'a>>, pair: &Binding<'a>) -
     }
 }
 
-/// Adds a pair to the table.
+/// Adds a pair to the table. A name that the table lacks takes one probe: most names are new.
 pub fn note<'a>(
     table: &mut IndexMap<Key<'a>, Slot<'a>>,
     binding: &Binding<'a>,
@@ -154,10 +154,13 @@ pub fn note<'a>(
         qualifier: binding.qualifier(),
         text: binding.text(),
     };
-    let slot = match table.get(&key) {
-        None => Slot::One(binding.entity().copy()),
-        Some(slot) => with_entity(slot, binding.entity()),
-    };
-    table.insert(key, slot)?;
-    Ok(())
+    let first = Slot::One(binding.entity().copy());
+    match table.insert(key, first)? {
+        None => Ok(()),
+        Some(known) => {
+            let slot = with_entity(&known, binding.entity());
+            table.insert(key, slot)?;
+            Ok(())
+        }
+    }
 }
