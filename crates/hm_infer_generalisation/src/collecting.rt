@@ -13,6 +13,7 @@ use std::alloc::{AllocError, Global};
 use std::collections::HashMap;
 use std::marker::Model;
 
+// Why: docs/DECISIONS.md, "Few names".
 /// The number of variables that are searched one by one. The table has the others. Most types have
 /// few variables, and filling a table costs more than searching a few numbers.
 const FEW: usize = 8;

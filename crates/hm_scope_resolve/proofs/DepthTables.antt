@@ -1,5 +1,5 @@
 -- Tables of the depths at which local names are bound first.
-use Rattle.std.proofs.Common.{◌≡◌, ℕ, suc, ◌+◌, ◌<◌, ◌==◌, Bool, true, false, cond, ◌||◌, List, [], ◌∷◌, ◌++◌, reverse, length, take, get_or, Option, None, Some, is_some, option_map, inl, inr, refl, sym, ap, ◌∙◌, bytes_eq, arith}
+use Rattle.std.proofs.Common.{◌≡◌, ℕ, zero, suc, ◌+◌, ◌<◌, ◌==◌, Bool, true, false, cond, ◌||◌, List, [], ◌∷◌, ◌++◌, reverse, length, take, get_or, Option, None, Some, is_some, option_map, inl, inr, refl, sym, ap, ◌∙◌, bytes_eq, arith}
 use Rattle.std.proofs.lemmas.Bool.{cases_Bool, both_ways}
 use Rattle.std.proofs.lemmas.Bool.Decides.{Decides-eqb}
 use Rattle.std.proofs.lemmas.List.{take_more, map-append, reverse-append}
@@ -143,3 +143,50 @@ has_depth (g ∷ gs) x =
     go true o = refl
     go false None = refl
     go false (Some k) = refl
+
+-- The lists that are searched one by one
+
+among_reverse : (gs : List (List (List ℕ))) (x : List ℕ) → is_text_among x (all_of (reverse gs)) ≡ is_text_among x (all_of gs)
+among_reverse [] x = refl
+among_reverse (g ∷ gs) x =
+    ap (λ (l : List (List (List ℕ))). is_text_among x (all_of l)) (reverse-append (g ∷ []) gs)
+    ∙ (ap (is_text_among x) (all_append (reverse gs) (g ∷ [])) ∙ (among_append x (all_of (reverse gs)) (g ++ [])
+    ∙ (ap (λ b. is_text_among x (all_of (reverse gs)) || b) (among_append x g [] ∙ or_nothing (is_text_among x g)) ∙ (ap (λ b. b || is_text_among x g) (among_reverse gs x)
+    ∙ (or_swap (is_text_among x (all_of gs)) (is_text_among x g) ∙ sym (among_append x g (all_of gs)))))))
+
+-- the local names are those of both kinds of lists
+pub among_both : (few groups : List (List (List ℕ))) (x : List ℕ) → is_text_among x (all_of (reverse (few ++ groups))) ≡ (is_text_among x (all_of few) || is_text_among x (all_of (reverse groups)))
+among_both few groups x =
+    ap (λ (l : List (List (List ℕ))). is_text_among x (all_of l)) (reverse-append few groups)
+    ∙ (ap (is_text_among x) (all_append (reverse groups) (reverse few)) ∙ (among_append x (all_of (reverse groups)) (all_of (reverse few))
+    ∙ (or_swap (is_text_among x (all_of (reverse groups))) (is_text_among x (all_of (reverse few))) ∙ ap (λ b. b || is_text_among x (all_of (reverse groups))) (among_reverse few x))))
+
+pub here_in_few : (few groups : List (List (List ℕ))) (x : List ℕ) → is_text_among x (all_of few) ≡ true → true ≡ is_text_among x (all_of (reverse (few ++ groups)))
+here_in_few few groups x here = sym (among_both few groups x ∙ rw here refl)
+
+pub nowhere : (few groups : List (List (List ℕ))) (x : List ℕ) → is_text_among x (all_of few) ≡ false → length groups ≡ 0 → false ≡ is_text_among x (all_of (reverse (few ++ groups)))
+nowhere few [] x absent none = sym (among_both few [] x ∙ rw absent refl)
+nowhere few (g ∷ groups) x absent none = absurd (omega arith)
+
+pub in_others : (few groups : List (List (List ℕ))) (x : List ℕ) → is_text_among x (all_of few) ≡ false → is_text_among x (all_of (reverse groups)) ≡ is_text_among x (all_of (reverse (few ++ groups)))
+in_others few groups x absent = sym (among_both few groups x ∙ rw absent refl)
+
+-- the lists are gone through
+pub this_has : (gs : List (List (List ℕ))) (i : ℕ) (g : List (List ℕ)) (x : List ℕ) → i < length gs → g ≡ get_or gs i g → is_text_among x g ≡ true → true ≡ is_text_among x (all_of gs)
+this_has [] i g x within is here = absurd (omega arith)
+this_has (h ∷ gs) zero g x within is here =
+    let e : is_text_among x h ≡ true = ap (is_text_among x) (sym is) ∙ here in
+    sym (among_append x h (all_of gs) ∙ rw e refl)
+this_has (h ∷ gs) (suc i) g x within is here =
+    let e : is_text_among x (all_of gs) ≡ true = sym (this_has gs i g x (omega (arith, within)) is here) in
+    sym (among_append x h (all_of gs) ∙ rw e (or_true (is_text_among x h)))
+  where
+    or_true : (b : Bool) → (b || true) ≡ true
+    or_true true = refl
+    or_true false = refl
+
+pub none_has : (gs : List (List (List ℕ))) (i : ℕ) (g : List (List ℕ)) (x : List ℕ) → i < length gs → g ≡ get_or gs i g → is_text_among x g ≡ false → is_text_among x (all_of (take i gs)) ≡ false → is_text_among x (all_of (take (i + 1) gs)) ≡ false
+none_has gs i g x within is absent before =
+    ap (λ (l : List (List (List ℕ))). is_text_among x (all_of l)) (take_more gs i g within ∙ ap (λ z. take i gs ++ z ∷ []) (sym is))
+    ∙ (ap (is_text_among x) (all_append (take i gs) (g ∷ [])) ∙ (among_append x (all_of (take i gs)) (g ++ [])
+    ∙ rw before (among_append x g [] ∙ rw absent refl)))

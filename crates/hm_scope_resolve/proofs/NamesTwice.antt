@@ -1,13 +1,14 @@
 -- Names that stand twice, name by name.
-use Rattle.std.proofs.Common.{arith, ◌≡◌, ℕ, ◌<◌, ◌+◌, Bool, true, false, cond, ◌||◌, inl, inr, Bor, add-one, suc, ◌≤◌, append-nil, List, [], ◌∷◌, ◌++◌, refl, sym, ap, ◌∙◌, map, bytes_eq, not, append_assoc, drop, length, get_or, drop-cons}
+use Rattle.std.proofs.Common.{arith, ◌≡◌, ℕ, ◌<◌, ◌+◌, Bool, true, false, cond, ◌||◌, inl, inr, Bor, add-one, zero, suc, ◌≤◌, take, append-nil, List, [], ◌∷◌, ◌++◌, refl, sym, ap, ◌∙◌, map, bytes_eq, not, append_assoc, drop, length, get_or, drop-cons}
 use Rattle.std.proofs.lemmas.Bool.{cases_Bool}
-use Rattle.std.proofs.lemmas.List.{drop_all}
+use Rattle.std.proofs.lemmas.List.{drop_all, take_more, map-append, length-map}
 use Rattle.std.proofs.lemmas.Slice.Eq.{bytes_eq-Decides}
 use Rattle.hm_syntax.specs.Names.{Identifier}
 use Rattle.hm_names.specs.Faults.Lists.{firsts}
 use Rattle.hm_names.specs.Found.{repeated, outside}
 use Rattle.hm_names.specs.Texts.{is_text_among}
 use Rattle.hm_names.specs.Variables.{texts}
+use Rattle.hm_scope_resolve.proofs.DepthTables.{flip}
 use Rattle.hm_scope_tables.proofs.TextSets.{more}
 
 -- sets with the same texts
@@ -113,6 +114,76 @@ outside_there f row i n a within is there = ap (λ l. map f (outside a l)) (name
 pub outside_absent : {Y : Type 0} (f : Identifier → Y) (row : List (Bor Identifier)) (i : ℕ) (n : Bor Identifier) (a : List (List ℕ)) → i < length row → n ≡ get_or row i n
     → is_text_among n.now.text a ≡ false → map f (outside a (map (λ x. x.now) (drop i row))) ≡ f n.now ∷ map f (outside a (map (λ x. x.now) (drop (i + 1) row)))
 outside_absent f row i n a within is absent = ap (λ l. map f (outside a l)) (names_at row i n within is) ∙ ap (λ l. map f l) (outside_unknown n.now (map (λ x. x.now) (drop (i + 1) row)) a absent)
+
+-- steps over names of which each is compared with those before it
+before_one : (row : List (Bor Identifier)) (i : ℕ) (n : Bor Identifier) → i < length row → n ≡ get_or row i n
+    → AreLike (n.now.text ∷ texts (map (λ x. x.now) (take i row))) (texts (map (λ x. x.now) (take (i + 1) row)))
+before_one row i n within is x =
+    let names : map (λ x. x.now) (take (i + 1) row) ≡ map (λ x. x.now) (take i row) ++ n.now ∷ [] =
+    ap (λ (l : List (Bor Identifier)). map (λ x. x.now) l) (take_more row i n within ∙ ap (λ z. take i row ++ z ∷ []) (sym is)) ∙ map-append (λ (x : Bor Identifier). x.now) (take i row) (n ∷ []) in
+    let split : texts (map (λ x. x.now) (take (i + 1) row)) ≡ texts (map (λ x. x.now) (take i row)) ++ n.now.text ∷ [] =
+    ap texts names ∙ map-append (λ (k : Identifier). k.text) (map (λ x. x.now) (take i row)) (n.now ∷ []) in
+    added_last n.now.text (texts (map (λ x. x.now) (take i row))) x ∙ ap (is_text_among x) (sym split)
+
+pub few_repeated_there : {Y : Type 0} (f : Identifier → Y) (row : List (Bor Identifier)) (i : ℕ) (n : Bor Identifier) → i < length row → n ≡ get_or row i n
+    → is_text_among n.now.text (texts (map (λ x. x.now) (take i row))) ≡ true
+    → map f (repeated (texts (map (λ x. x.now) (take i row))) (map (λ x. x.now) (drop i row))) ≡ f n.now ∷ map f (repeated (texts (map (λ x. x.now) (take (i + 1) row))) (map (λ x. x.now) (drop (i + 1) row)))
+unfolding repeated
+few_repeated_there f row i n within is there =
+    let a = texts (map (λ x. x.now) (take i row)) in
+    let rest = map (λ x. x.now) (drop (i + 1) row) in
+    ap (λ l. map f (repeated a l)) (names_at row i n within is) ∙ rw there (ap (λ l. f n.now ∷ map f l) (repeated_like rest (n.now.text ∷ a) (texts (map (λ x. x.now) (take (i + 1) row))) (before_one row i n within is)))
+
+pub few_repeated_absent : {Y : Type 0} (f : Identifier → Y) (row : List (Bor Identifier)) (i : ℕ) (n : Bor Identifier) → i < length row → n ≡ get_or row i n
+    → is_text_among n.now.text (texts (map (λ x. x.now) (take i row))) ≡ false
+    → map f (repeated (texts (map (λ x. x.now) (take i row))) (map (λ x. x.now) (drop i row))) ≡ map f (repeated (texts (map (λ x. x.now) (take (i + 1) row))) (map (λ x. x.now) (drop (i + 1) row)))
+unfolding repeated
+few_repeated_absent f row i n within is absent =
+    let a = texts (map (λ x. x.now) (take i row)) in
+    let rest = map (λ x. x.now) (drop (i + 1) row) in
+    ap (λ l. map f (repeated a l)) (names_at row i n within is) ∙ rw absent (ap (map f) (repeated_like rest (n.now.text ∷ a) (texts (map (λ x. x.now) (take (i + 1) row))) (before_one row i n within is)))
+
+pub few_firsts_there : (row : List (Bor Identifier)) (i : ℕ) (n : Bor Identifier) → i < length row → n ≡ get_or row i n → is_text_among n.now.text (texts (map (λ x. x.now) (take i row))) ≡ true
+    → firsts (texts (map (λ x. x.now) (take i row))) (map (λ x. x.now) (drop i row)) ≡ firsts (texts (map (λ x. x.now) (take (i + 1) row))) (map (λ x. x.now) (drop (i + 1) row))
+few_firsts_there row i n within is there =
+    let a = texts (map (λ x. x.now) (take i row)) in
+    let rest = map (λ x. x.now) (drop (i + 1) row) in
+    ap (firsts a) (names_at row i n within is) ∙
+    rw there (firsts_like rest a (texts (map (λ x. x.now) (take (i + 1) row))) (λ x. sym (known_again n.now.text a there x) ∙ before_one row i n within is x))
+
+pub few_firsts_absent : (row : List (Bor Identifier)) (i : ℕ) (n : Bor Identifier) → i < length row → n ≡ get_or row i n → is_text_among n.now.text (texts (map (λ x. x.now) (take i row))) ≡ false
+    → firsts (texts (map (λ x. x.now) (take i row))) (map (λ x. x.now) (drop i row)) ≡ n.now ∷ firsts (texts (map (λ x. x.now) (take (i + 1) row))) (map (λ x. x.now) (drop (i + 1) row))
+few_firsts_absent row i n within is absent =
+    let a = texts (map (λ x. x.now) (take i row)) in
+    let rest = map (λ x. x.now) (drop (i + 1) row) in
+    ap (firsts a) (names_at row i n within is) ∙ rw absent (ap (λ l. n.now ∷ l) (firsts_like rest (n.now.text ∷ a) (texts (map (λ x. x.now) (take (i + 1) row))) (before_one row i n within is)))
+
+-- a text among those of names that are gone through
+pub is_this : (row : List Identifier) (i : ℕ) (n : Identifier) (x : List ℕ) → i < length row → n ≡ get_or row i n → bytes_eq n.text x ≡ true → true ≡ is_text_among x (texts row)
+is_this [] i n x within is same = absurd (omega arith)
+is_this (m ∷ row) zero n x within is same =
+    let e : bytes_eq x m.text ≡ true = (bytes_eq-Decides x m.text).1 (sym ((bytes_eq-Decides n.text x).0 same) ∙ ap (λ (k : Identifier). k.text) is) in
+    rw e refl
+is_this (m ∷ row) (suc i) n x within is same = rw (← is_this row i n x (omega (arith, within)) is same) (sym (or_true (bytes_eq x m.text)))
+  where
+    or_true : (b : Bool) → (b || true) ≡ true
+    or_true true = refl
+    or_true false = refl
+
+pub none_yet : (row : List Identifier) (i : ℕ) (n : Identifier) (x : List ℕ) → i < length row → n ≡ get_or row i n → bytes_eq n.text x ≡ false → is_text_among x (texts (take i row)) ≡ false → is_text_among x (texts (take (i + 1) row)) ≡ false
+none_yet row i n x within is other before =
+    let names : take (i + 1) row ≡ take i row ++ n ∷ [] = take_more row i n within ∙ ap (λ z. take i row ++ z ∷ []) (sym is) in
+    let split : texts (take (i + 1) row) ≡ texts (take i row) ++ n.text ∷ [] = ap texts names ∙ map-append (λ (k : Identifier). k.text) (take i row) (n ∷ []) in
+    ap (is_text_among x) split ∙ (more x n.text (texts (take i row)) ∙ rw (flip x n.text ∙ other) before)
+
+-- the same for names that are borrowed
+pub at_row : (row : List (Bor Identifier)) (i : ℕ) (n : Bor Identifier) → i < length row → n ≡ get_or row i n → n.now ≡ get_or (map (λ x. x.now) row) i n.now
+at_row [] i n within is = absurd (omega arith)
+at_row (m ∷ row) zero n within is = ap (λ (x : Bor Identifier). x.now) is
+at_row (m ∷ row) (suc i) n within is = at_row row i n (omega (arith, within)) is
+
+pub in_row : (row : List (Bor Identifier)) (i : ℕ) → i < length row → i < length (map (λ (x : Bor Identifier). x.now) row)
+in_row row i within = rw (length-map row (λ (x : Bor Identifier). x.now)) within
 
 -- a set of the texts of names
 pub texts_more : (row : List (Bor Identifier)) (i : ℕ) (n : Bor Identifier) (a b : List (List ℕ)) (x : List ℕ) → i < length row → n ≡ get_or row i n → IsWith a n.now.text b

@@ -142,6 +142,7 @@ pub fn is_several<'a>(table: &IndexMap<Key<'a>, Slot<'a>>, pair: &Binding<'a>) -
     }
 }
 
+// Why: docs/DECISIONS.md, "One probe".
 /// Adds a pair to the table. A name that the table lacks takes one probe: most names are new.
 pub fn note<'a>(
     table: &mut IndexMap<Key<'a>, Slot<'a>>,
