@@ -115,7 +115,7 @@ fn is_end(part: StringPart, byte: u8) -> bool
     }
 }
 
-/// Returns whether a part of a string ends with its text, so that no gap goes on behind the line.
+/// Returns whether a part of a string ends with its text, so that no gap goes on in the next line.
 fn is_text(part: StringPart) -> bool
     ensures { result ≡ is_text part }
 {
