@@ -53,6 +53,10 @@ applied_rest (suc (suc (suc k))) d l = absurd (omega (arith, l))
 in_patterns : IsInPatterns applied
 in_patterns = record { start = 0; within = omega arith; begun = refl; rest = applied_rest }
 
+one_pattern : (k : ℕ) (d : Symbol) → k < 1 → is_of_pattern (get_or (Var ∷ []) k d) ≡ true
+one_pattern zero d l = refl
+one_pattern (suc k) d l = absurd (omega (arith, l))
+
 no_bracket : (j : ℕ) → 2 < j → IsOpen applied j → ⊥
 no_bracket zero h o = omega (arith, h)
 no_bracket (suc zero) h o = omega (arith, h)
@@ -67,13 +71,13 @@ pub worked_neighbours : NeighboursRow
 worked_neighbours = record {
   argument = (in_bracket, inl refl, in_patterns, refl, refl);
   no_argument = λ h. false≢true h.4;
-  guard = (refl, refl);
+  guard = (refl, refl, record { start = 0; within = omega arith; begun = refl; rest = one_pattern });
   no_guard = λ h. false≢true (ap (λ s. same s Equals) h.0);
   apart = (refl, refl);
   joined = λ h. false≢true (ap (λ s. same s Semicolon) h.0);
   number = (refl, refl);
   no_number = λ h. false≢true (ap (λ s. same s Integer) h.0);
-  late = (refl, refl);
+  late = (refl, inl refl, refl);
   no_import = λ h. false≢true (ap (λ s. same s Import) h.0);
 }
 

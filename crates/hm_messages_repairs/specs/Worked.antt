@@ -43,7 +43,7 @@ pub record FactsRow : Type 0 where
 pub record NeighboursRow : Type 0 where
   pub argument : IsSyntaxHint applied Var (codes "s") (AppliedName 2)
   pub no_argument : ¬ (IsSyntaxHint applied Equals (codes "=") (AppliedName 2))
-  pub guard : IsSyntaxHint (Equals ∷ []) Bar (codes "|") GuardAfterEquals
+  pub guard : IsSyntaxHint (LeftBrace ∷ Var ∷ Equals ∷ []) Bar (codes "|") GuardAfterEquals
   pub no_guard : ¬ (IsSyntaxHint (Var ∷ []) Bar (codes "|") GuardAfterEquals)
   pub apart : IsSyntaxHint (Semicolon ∷ []) Where (codes "where") WhereAfterSemicolon
   pub joined : ¬ (IsSyntaxHint (Var ∷ []) Where (codes "where") WhereAfterSemicolon)
