@@ -1,4 +1,5 @@
 //! Sources in files and on standard input.
+ghost use Rattle.std.specs.Io.{ReadsAtMost};
 
 use crate::names::STDIN;
 use std::alloc::Global;
@@ -73,7 +74,9 @@ impl<'a> Opened<'a> {
     }
 
     /// Reads from the device, and closes it at its end.
-    fn read_input(&mut self, buf: &mut [u8]) -> io::Result<usize> {
+    fn read_input(&mut self, buf: &mut [u8]) -> io::Result<usize>
+        ensures { ReadsAtMost result buf.new }
+    {
         if let Input::Later(name) = &self.input {
             let file = File::open(self.rt, name.as_str())?;
             self.input = Input::File(file);

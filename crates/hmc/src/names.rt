@@ -164,7 +164,7 @@ fn add_listed(rt: &HostRuntime, list: &str, names: &mut Vec<String>) -> Result<(
     if bytes.len() as u64 > MOST_LISTED {
         return Err(Reason::NotText);
     }
-    let Ok(text) = core::str::from_utf8(bytes.as_slice()) else {
+    let Ok(text) = std::str::from_utf8(bytes.as_slice()) else {
         return Err(Reason::NotText);
     };
     for line in text.lines() {
