@@ -24,13 +24,17 @@ use Rattle.hm_messages.specs.Subjects.{Subject, too_long, lexeme, open_comment, 
 use Rattle.hm_messages.specs.Twins.{IsTwinOf}
 use Rattle.hm_messages.specs.declared.heading.Paint.{Paint}
 
+-- the place of the first byte of a source
+abbrev pub first_place : Place
+first_place = record { line = 1; column = 1 }
+
 -- the hint holds for the rest of the line at the place. A byte order mark is one at the front of the source. The operator that the hint names is the
 -- shown one
 pub record IsLexemeHintAt (source : List ℕ) (p : Place) (hint : LexemeHint) (name : List ℕ) : Type 0 where
   pub rest : List ℕ
   pub from : IsRestOfLine source p rest
   pub holds : IsLexemeHint rest hint
-  pub first : hint ≡ ByteOrderMark → p ≡ record { line = 1; column = 1 }
+  pub first : hint ≡ ByteOrderMark → p ≡ first_place
   pub shown : Excerpt
   pub at : IsExcerptAt source p shown
   pub name_is : name ≡ operator_in shown.right.now hint

@@ -8,7 +8,7 @@ ghost use Rattle.hm_messages.specs.Foreign.{HasNoMissing, HasSource, IsForeign, 
 ghost use Rattle.hm_messages.specs.Pages.{files_in, texts_in};
 ghost use Rattle.hm_messages.specs.Messages.{AreEach};
 ghost use Rattle.hm_messages.specs.Missing.{import_of};
-ghost use Rattle.hm_messages.specs.Refused.{Way, AreFurtherStated, AreMessagesOf, AreRefusalMessages, HasTwinStated, IsAdvised, IsMessageAt, IsNamedAt, IsMissingStated, IsTwinStated, IsWayStated, MayHint};
+ghost use Rattle.hm_messages.specs.Refused.{Way, AreFurtherStated, AreMessagesOf, AreRefusalMessages, HasTwinStated, IsAdvised, IsMessageAt, IsNamedAt, IsMissingStated, IsTwinStated, IsWayStated, MayHint, first_place};
 ghost use Rattle.hm_messages.specs.Subjects.{cycle, missing, subject_of, twice};
 ghost use Rattle.hm_messages.specs.Twins.{IsTwinOf};
 
@@ -109,6 +109,16 @@ struct LexemeAdvice<'a> {
     name: &'a str,
 }
 
+/// Returns whether a place is that of the first byte of a source.
+fn is_first(place: Place) -> bool
+    ensures { result ≡ true → place ≡ first_place }
+{
+    if place.line != 1 {
+        return false;
+    }
+    place.column == 1
+}
+
 /// Returns the hint at a place of a source, counted from 1, where no lexeme begins. It says nothing about a place that isn't in the source.
 fn lexeme_advice<'a>(pages: &Pages<'a>, source: usize, place: Place) -> LexemeAdvice<'a>
     requires { HasSource (texts_in pages.now.items.items) source }
@@ -125,8 +135,7 @@ fn lexeme_advice<'a>(pages: &Pages<'a>, source: usize, place: Place) -> LexemeAd
     let Some(excerpt) = lines.excerpt(place) else {
         return nothing;
     };
-    let is_first = place.line == 1 && place.column == 1;
-    let hint = lexeme_hint(rest, is_first);
+    let hint = lexeme_hint(rest, is_first(place));
     let name = operator_in(excerpt.right, hint);
     LexemeAdvice { hint, name }
 }

@@ -13,15 +13,15 @@ returns-clause-told c =
       file = c.as_str-2.result;
       start = c.in-Some.start;
       end = c.in-Some.end;
-      level = c.notice_of.result.level;
-      kind = c.notice_of.result.kind;
+      level = c.notice_of-notice.result.level;
+      kind = c.notice_of-notice.result.kind;
       «module» = c.module_at.result;
-      name = c.notice_of.result.name;
-      other = c.notice_of.result.other;
+      name = c.notice_of-notice.result.name;
+      other = c.notice_of-notice.result.other;
       text = c.as_str-3.result;
       hint = c.match-hint.hint;
-      expected = c.notice_of.result.expected;
-      actual = c.notice_of.result.actual;
+      expected = c.notice_of-notice.result.expected;
+      actual = c.notice_of-notice.result.actual;
     } in
     let hint_same : option_map string_bytes c.in_ok-hint.hint ≡ option_map (λ hint. hint.now) c.match-hint.hint = elim c.match-hint.branch [
       | in-Some-hint w ↦ search rules
@@ -51,15 +51,15 @@ returns-clause-among c =
       file = c.as_str-2.result;
       start = c.in-Some.start;
       end = c.in-Some.end;
-      level = c.notice_of.result.level;
-      kind = c.notice_of.result.kind;
+      level = c.notice_of-notice.result.level;
+      kind = c.notice_of-notice.result.kind;
       «module» = c.module_at.result;
-      name = c.notice_of.result.name;
-      other = c.notice_of.result.other;
+      name = c.notice_of-notice.result.name;
+      other = c.notice_of-notice.result.other;
       text = c.as_str-3.result;
       hint = c.match-hint.hint;
-      expected = c.notice_of.result.expected;
-      actual = c.notice_of.result.actual;
+      expected = c.notice_of-notice.result.expected;
+      actual = c.notice_of-notice.result.actual;
     } in
     inl (record {
       message = told;
