@@ -1,5 +1,5 @@
 -- The numbers of the nodes of a list, in a table. No public clause names it.
-use Rattle.std.specs.Prelude.{◌≡◌, List, ℕ, Option, None, Some, option_map, map}
+use Rattle.std.specs.Prelude.{◌≡◌, List, ℕ, Option, None, Some, option_map, map, drop}
 use Rattle.std.specs.List.{slice_get}
 use Rattle.hm_names_keys.specs.declared.lent_names.LentName.{LentName}
 use Rattle.hm_names_keys.specs.Variables.{Variable}
@@ -12,8 +12,12 @@ nodes_of ks = map (option_map variable_of_key) ks
 abbrev pub IsNode : List (Option Variable) → Variable → Type 0
 IsNode nodes x = (k : ℕ) × (slice_get nodes k ≡ Some (Some x))
 
--- the table has the number of each variable among the nodes, each once
+-- the number of nodes that need no place in the table
+abbrev pub few : ℕ
+few = 6
+
+-- the table has the number of each variable among the nodes after the first few, and each variable is a node once
 pub record IsNumbering (nodes : List (Option Variable)) (table : Table) : Type 0 where
   pub some : (x : Variable) (k : ℕ) → number_of table x ≡ Some k → slice_get nodes k ≡ Some (Some x)
-  pub none : (x : Variable) → number_of table x ≡ None → ¬ (IsNode nodes x)
+  pub none : (x : Variable) → number_of table x ≡ None → ¬ (IsNode (drop few nodes) x)
   pub once : (x : Variable) (j k : ℕ) → slice_get nodes j ≡ Some (Some x) → slice_get nodes k ≡ Some (Some x) → j ≡ k

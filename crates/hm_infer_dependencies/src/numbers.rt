@@ -1,9 +1,9 @@
 //! The numbers of a declaration list's nodes.
 
-ghost use Rattle.std.specs.Prelude.{◌≡◌, ℕ, ◌∷◌, [], ◌++◌, Some, None, IfOk, OnOk, OnErr, IfSome, IfNone, ◌<◌, option_map, length};
+ghost use Rattle.std.specs.Prelude.{◌≡◌, ℕ, ◌∷◌, [], ◌++◌, Some, None, IfOk, OnOk, OnErr, IfSome, IfNone, IsTrue, MatchOption, ◌↔◌, ◌<◌, option_map, length, take};
 ghost use Rattle.std.specs.List.{slice_get};
 ghost use Rattle.hm_names_keys.specs.Variables.{Variable, variable_of};
-ghost use Rattle.hm_infer_dependencies.specs.Numberings.{IsNode};
+ghost use Rattle.hm_infer_dependencies.specs.Numberings.{IsNode, few, nodes_of};
 ghost use Rattle.hm_names_keys.specs.Keys.{variable_of_key};
 
 use crate::faults::GroupFault;
@@ -13,8 +13,13 @@ use indexmap::IndexMap;
 use std::alloc::{AllocError, Global};
 use std::marker::Model;
 
+// Why: docs/DECISIONS.md, "Few names".
+/// The number of nodes that are searched one by one. The table has the others. Most lists have few
+/// nodes, and filling a table costs more than searching a few names.
+const FEW: usize = 6;
+
 /// The nodes of a declaration list, in order: its variables without signatures, and its pattern bindings, which have no name in a source.
-/// Contracts see a list in which a pattern binding is `None`.
+/// Contracts see a list in which a pattern binding is `None`. A table has the number of each variable after the first few nodes.
 pub struct Numbers<'a> {
     nodes: Vec<Option<LentName<'a>>>,
     table: IndexMap<LentName<'a>, usize>,
@@ -81,6 +86,13 @@ impl<'a> Numbers<'a> {
         ensures once { (x : Variable) (j k : ℕ) → slice_get self.now j ≡ Some (Some x) → slice_get self.now k ≡ Some (Some x) → j ≡ k }
     {
         let key = key_of(name);
+        match place_among_few(&self.nodes, &key) {
+            Some(number) => return Some(number),
+            None => {}
+        }
+        if self.nodes.len() <= FEW {
+            return None;
+        }
         match self.table.get(&key) {
             Some(number) => Some(*number),
             None => None,
@@ -99,6 +111,9 @@ impl<'a> Numbers<'a> {
         let key = key_of(name);
         let number = self.nodes.len();
         self.nodes.push(Some(key))?;
+        if number < FEW {
+            return Ok(());
+        }
         match self.table.insert(key, number) {
             Ok(_) => Ok(()),
             Err(_) => {
@@ -115,4 +130,29 @@ impl<'a> Numbers<'a> {
         self.nodes.push(None)?;
         Ok(())
     }
+}
+
+/// Returns whether a node is this variable.
+fn is_node(node: &Option<LentName<'_>>, key: &LentName<'_>) -> bool
+    ensures { IsTrue result ↔ (option_map variable_of_key node.now ≡ Some (variable_of_key key.now)) }
+{
+    match node {
+        Some(name) => *name == *key,
+        None => false,
+    }
+}
+
+/// Returns the number of a variable among the first few nodes, if it is one of them.
+fn place_among_few(nodes: &[Option<LentName<'_>>], key: &LentName<'_>) -> Option<usize>
+    ensures { MatchOption result (¬ (IsNode (nodes_of (take few nodes.now)) (variable_of_key key.now)))
+        (λ k. slice_get (nodes_of nodes.now) k ≡ Some (Some (variable_of_key key.now))) }
+{
+    let count = FEW.min(nodes.len());
+    'nodes: for number in 0..count {
+        let node = &nodes[number];
+        if is_node(node, key) {
+            return Some(number);
+        }
+    }
+    None
 }

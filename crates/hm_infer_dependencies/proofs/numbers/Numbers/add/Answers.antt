@@ -5,7 +5,7 @@ use Rattle.hm_names_keys.specs.Variables.{Variable, variable_of}
 use Rattle.hm_names_keys.specs.Keys.{number_of, same_variable, variable_of_key}
 use Rattle.hm_infer_dependencies.specs.Numberings.{nodes_of, IsNode, IsNumbering}
 use Rattle.hm_names_keys.proofs.SameVariables.{updated}
-use Rattle.hm_infer_dependencies.proofs.Numberings.{IsNumbering-more, IsNumbering-same, nodes_of-push}
+use Rattle.hm_infer_dependencies.proofs.Numberings.{few_more, IsNumbering-more, IsNumbering-same, nodes_of-push}
 use Rattle.hm_names_keys.proofs.Pushed.{take_all_but}
 use Rattle.hm_infer_dependencies.proofs.numbers.Numbers.add.Goals as goal
 
@@ -18,7 +18,16 @@ invariant_of-self-in-Ok c =
     λ y. updated c.self.inside.table c.insert.new.self c.key_of-key.result x (Some c.len-number.result) c.key_of-key.ensures c.in-Ok.ensures.updates.0 y ∙ ap (λ n. cond (same_variable x y) (Some n) (number_of c.self.inside.table y)) count in
     subst (λ ns. IsNumbering ns c.insert.new.self)
     (sym (ap nodes_of c.in_ok-push.ensures.items ∙ (nodes_of-push c.self.inside.nodes.items (Some c.key_of-key.result) ∙ ap (λ z. nodes ++ Some z ∷ []) c.key_of-key.ensures)))
-    (IsNumbering-more nodes c.self.inside.table c.insert.new.self x c.self.invariant (subst (λ ns. ¬ (IsNode ns x)) (sym c.self.view_is) c.in-None.ensures.none) u)
+    (IsNumbering-more nodes c.self.inside.table c.insert.new.self x c.self.invariant (subst (λ ns. ¬ (IsNode ns x)) (sym c.self.view_is) c.in-None.ensures.none) (omega (arith, c.if-number-lt-FEW.false, count)) u)
+
+pub invariant_of-self-then-number-lt-FEW : goal.invariant_of-self-then-number-lt-FEW
+invariant_of-self-then-number-lt-FEW c =
+    let nodes : List (Option Variable) = nodes_of c.self.inside.nodes.items in
+    let x : Variable = variable_of c.args.name.now in
+    let count : c.len-number.result ≡ length nodes = omega (arith, c.len-number.ensures, c.self.inside.nodes.ok.0, length-map c.self.inside.nodes.items (λ k. Rattle.std.specs.Prelude.option_map variable_of_key k)) in
+    subst (λ ns. IsNumbering ns c.self.inside.table)
+    (sym (ap nodes_of c.in_ok-push.ensures.items ∙ (nodes_of-push c.self.inside.nodes.items (Some c.key_of-key.result) ∙ ap (λ z. nodes ++ Some z ∷ []) c.key_of-key.ensures)))
+    (few_more nodes c.self.inside.table x c.self.invariant (subst (λ ns. ¬ (IsNode ns x)) (sym c.self.view_is) c.in-None.ensures.none) (omega (arith, c.if-number-lt-FEW.true, count)))
 
 pub invariant_of-self-in-Err : goal.invariant_of-self-in-Err
 invariant_of-self-in-Err c =
