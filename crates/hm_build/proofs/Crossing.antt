@@ -31,6 +31,8 @@ use Rattle.hm_store_shared.specs.contracts.shared.Shared as Shared
 use Rattle.hm_store_shared.specs.contracts.shared.Locked as Locked
 use Rattle.hm_store_shared.specs.contracts.listed.Listed as Listed
 use Rattle.hm_store_published.specs.contracts.history.Front as Front
+use Rattle.hm_store_published.specs.contracts.stops.Brake as Brake
+use Rattle.hm_store_published.specs.contracts.stops.Stopped as Stopped
 use Rattle.hm_store_published.specs.contracts.published.Published as Published
 use Rattle.hm_store_published.specs.contracts.published.Step as Step
 use Rattle.hm_store_published.specs.contracts.reading.Reader as Reader
@@ -38,10 +40,13 @@ use Rattle.hm_store_published.specs.declared.history.Naming.{Ghosts as Names}
 use Rattle.hm_store.proofs.object.Entry.TheSendSync as Entry
 use Rattle.hm_store.proofs.object.Status.TheSendSync as Status
 use Rattle.hm_build_stages.specs.contracts.finished_build.Finished as Finished
+use Rattle.hm_store_shared.specs.contracts.records.Records as Records
 use Rattle.hm_build.specs.contracts.workers.Work as Work
 use Rattle.hm_types_prelude.specs.contracts.shared_prelude.SharedPrelude as SharedPrelude
 use Rattle.core.specs.declared.ledger.Ledger.{Ghosts}
 use Rattle.hm_store_published.proofs.history.Front.TheSendSync as FrontFacts
+use Rattle.hm_store_published.proofs.stops.Brake.TheSendSync as BrakeFacts
+use Rattle.hm_store_published.proofs.stops.Stopped.TheSendSync as StoppedFacts
 use Rattle.logbook.proofs.word.Word.TheSendSync as Word
 use Rattle.core.proofs.ledger.Share.TheSendSync as Share
 use Rattle.core.proofs.ledger.Book.TheSendSync as Book
@@ -87,8 +92,11 @@ store_send = search (outcome_send, module_send, module_sync, Entry.the_field_sen
 pub record_field_send : IsSend Record.the_field.row
 record_field_send = search (call_field_send, crosses, sendable) depth 30 fits 5000
 
+pub records_send : IsSend Records.the_row
+records_send = search (record_field_send, crosses, sendable) depth 30 fits 5000
+
 pub finished_send : IsSend Finished.the_row
-finished_send = search (store_send, module_send, module_sync, record_field_send, crosses, sendable) depth 30 fits 5000
+finished_send = search (store_send, module_send, module_sync, records_send, crosses, sendable) depth 30 fits 5000
 
 module _ (L : RattleType) (l : Ghosts L.Denot) (j : Names L.Denot) (send : IsSend L) (sync : IsSync L) where
   front_send : IsSend (Front.the_row L j)
@@ -96,6 +104,12 @@ module _ (L : RattleType) (l : Ghosts L.Denot) (j : Names L.Denot) (send : IsSen
 
   front_sync : IsSync (Front.the_row L j)
   front_sync = search (FrontFacts.the_sync, crosses, sendable) depth 30 fits 5000
+
+  brake_send : IsSend (Brake.the_row L j)
+  brake_send = search (BrakeFacts.the_send, crosses, sendable) depth 30 fits 5000
+
+  stopped_send : IsSend (Stopped.the_row L j)
+  stopped_send = search (StoppedFacts.the_send, crosses, sendable) depth 30 fits 5000
 
   published_send : IsSend (Published.the_row L j)
   published_send = search (front_send, interface_send, interface_sync, crosses, sendable) depth 30 fits 5000
@@ -113,7 +127,7 @@ module _ (L : RattleType) (l : Ghosts L.Denot) (j : Names L.Denot) (send : IsSen
   reader_send = search (entrance_send, front_send, crosses, sendable) depth 30 fits 5000
 
   pub pass_send : IsSend (Pass.the_row L j l)
-  pass_send = search (call_field_send, reader_send, Share.the_send, crosses, sendable) depth 30 fits 5000
+  pass_send = search (call_field_send, reader_send, stopped_send, Share.the_send, crosses, sendable) depth 30 fits 5000
 
   listed_send : IsSend (Listed.the_row L j)
   listed_send = search (store_send, front_send, Word.the_send, crosses, sendable) depth 30 fits 5000
@@ -123,7 +137,7 @@ module _ (L : RattleType) (l : Ghosts L.Denot) (j : Names L.Denot) (send : IsSen
     pages_send = WriteHandleFacts.the_field_send (Published.the_row L j) (Step.the_row L j) W Heap.the_row S absorbs ghosts published_send step_send held heap.send published_sync heap.sync heap.frees
 
     locked_send : IsSend (Locked.the_row L W S j absorbs l)
-    locked_send = search (listed_send, pages_send, Book.the_send, crosses, sendable) depth 30 fits 5000
+    locked_send = search (listed_send, pages_send, brake_send, Book.the_send, crosses, sendable) depth 30 fits 5000
 
     shared_sync : IsSync (Shared.the_row L W S j absorbs l)
     shared_sync = search (locked_send, crosses, sendable) depth 30 fits 5000

@@ -10,6 +10,7 @@ use Rattle.hm_store.specs.Settlements.{SettledBuildIsSettled, settlement, settle
 use Rattle.hm_store.specs.declared.object.Status.{Status}
 use Rattle.hm_store.specs.declared.object.Status.TheVariants.{Waiting, Claimed, Published, Failed, Skipped}
 use Rattle.hm_build_reports.specs.FinishedBuilds.{IsFinished}
+use Rattle.hm_store_shared.specs.Gathered.{records_in}
 use Rattle.hm_build.specs.Headline.{HasVerdicts}
 use Rattle.hm_build_stages.specs.declared.finished_build.Finished.{Finished}
 use Rattle.hm_build_stages.specs.declared.faults.BuildFault.{BuildFault}
@@ -57,6 +58,6 @@ module _ (settled : SettledBuildIsSettled) (judged : SettledIsVerdict) (accepted
       }
 
   -- a build of modules that are read from sources, whatever the sources are
-  pub finished_have_verdicts : (sources : List (List ℕ)) (workers : ℕ) (read : List (List ℕ) → Type 0) (r : Result Finished BuildFault) → IfOk r (λ f. (s : List (List ℕ)) → read s → IsFinished s workers f.store f.records.items) → read sources → IfOk r (λ f. HasVerdicts f.store)
+  pub finished_have_verdicts : (sources : List (List ℕ)) (workers : ℕ) (read : List (List ℕ) → Type 0) (r : Result Finished BuildFault) → IfOk r (λ f. (s : List (List ℕ)) → read s → IsFinished s workers f.store (records_in f.records)) → read sources → IfOk r (λ f. HasVerdicts f.store)
   finished_have_verdicts sources workers read (Ok f) h a = let done = h sources a in verdicts_of f.store done.legal done.settled
   finished_have_verdicts sources workers read (Err e) h a = tt

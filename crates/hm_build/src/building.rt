@@ -3,6 +3,7 @@ ghost use Rattle.std.specs.Prelude.{◌≡◌, ◌⊎◌, ◌↔◌, ◌<◌, �
 ghost use Rattle.std.specs.Arc.{arc_value};
 ghost use Rattle.hm_build_stages.specs.Errors.{IsBuildError, IsBuildFault};
 ghost use Rattle.hm_build_reports.specs.FinishedBuilds.{IsFinished};
+ghost use Rattle.hm_store_shared.specs.Gathered.{records_in};
 ghost use Rattle.hm_build.specs.Headline.{HasVerdicts};
 ghost use Rattle.hm_build.specs.Workers.{IsWorkError};
 ghost use Rattle.hm_run_sources.specs.ModuleCounts.{AreCountedModules};
@@ -16,12 +17,11 @@ use hm_build_reports::may_work;
 use hm_build_stages::{Fresh, finished, read, room_for};
 use hm_run_parallel_parse::Pool;
 use hm_run_sources::Nesting;
-use hm_store::Record;
 use hm_store::laws::settled_builds_are_settled_sets;
-use hm_store_published::{Naming, Opened};
-use hm_store_shared::{Brands, Crew, Pass, Shared};
+use hm_store_published::{Naming, Opened, Released};
+use hm_store_shared::{Brands, Crew, Records, Shared};
 use hm_verdicts::settled_modules_have_their_verdicts;
-use std::alloc::{AllocError, Global};
+use std::alloc::Global;
 use std::marker::Brand;
 use std::snapshot::Snapshot;
 use std::sync::Wait;
@@ -38,19 +38,6 @@ pub(crate) struct Task<'a, G: Gate> {
     pub nesting: Nesting,
 }
 
-/// Returns the records of the workers, in the order of their passes.
-fn records_of<L: Ledger + Naming>(
-    alloc: Global,
-    passes: Vec<Pass<L>>,
-) -> Result<Vec<Record>, AllocError> {
-    let mut records = Vec::new(alloc);
-    for pass in passes {
-        let (record, _share) = pass.into_record();
-        records.push(record)?;
-    }
-    Ok(records)
-}
-
 /// Runs the workers on a new store, and checks that the build is complete.
 #[tactic(auto, using(crate::proofs::JobRows::work_is, crate::proofs::BuildFaults::from_shared, crate::proofs::BuildFaults::from_memory, crate::proofs::BuildFaults::from_end))]
 fn worked<L: Ledger + Naming + Send + Sync, G: Gate + Sync, R: Threads + Wait + Sync>(
@@ -62,6 +49,7 @@ fn worked<L: Ledger + Naming + Send + Sync, G: Gate + Sync, R: Threads + Wait + 
 ) -> Result<Finished, BuildFault>
     requires brand { (brands.blank.name ≡ L.name) × (brands.blank.parts ≡ L.parts) × (brands.blank.parts ≡ task.now.workers) }
     requires list { brands.opened.seen.book ≡ L.book }
+    requires stops { brands.released.seen.book ≡ L.stops }
     requires subjects { fresh.store.modules ≡ L.modules }
     requires same { map arc_value fresh.modules.items ≡ fresh.store.modules }
     requires plan { fresh.store.given.imports ≡ L.plan }
@@ -69,7 +57,7 @@ fn worked<L: Ledger + Naming + Send + Sync, G: Gate + Sync, R: Threads + Wait + 
     requires workers { (0 < task.now.workers) × (task.now.workers ≤ 16) }
     requires empty { fresh.store.journal ≡ [] }
     ensures finished { IfOk result (λ f. (sources : List (List ℕ)) → AreModulesOf sources (map arc_value fresh.modules.items)
-        → IsFinished sources task.now.workers f.store f.records.items) }
+        → IsFinished sources task.now.workers f.store (records_in f.records)) }
     ensures counted { IfOk result (λ f. (sources : List (List ℕ)) → AreCountedModules sources (map arc_value fresh.modules.items) fresh.counts.items
         → AreCountedModules sources f.store.modules f.counts.items) }
     ensures err { IfErr result (IsWorkError (map arc_value fresh.modules.items) fresh.counts.items) }
@@ -102,7 +90,7 @@ fn worked<L: Ledger + Naming + Send + Sync, G: Gate + Sync, R: Threads + Wait + 
         Err(fault) => return Err(build_fault(fault, modules.as_slice(), counts.as_slice())),
     }
     let (store, _book) = shared.into_store();
-    let records = records_of(alloc, passes)?;
+    let records = Records::of(alloc, passes)?;
     finished(alloc, store, records, counts, workers)
 }
 
@@ -114,7 +102,7 @@ pub(crate) fn build_here<T: Threads + Wait + Sync, G: Gate + Sync>(
     task: Task<'_, G>,
 ) -> Result<Finished, BuildFault>
     requires { (0 < task.workers) × (task.workers ≤ 16) }
-    ensures finished { IfOk result (λ f. IsFinished (map (λ s. s.items) sources.now) task.entry.workers f.store f.records.items) }
+    ensures finished { IfOk result (λ f. IsFinished (map (λ s. s.items) sources.now) task.entry.workers f.store (records_in f.records)) }
     ensures counted { IfOk result (λ f. AreCountedModules (map (λ s. s.items) sources.now) f.store.modules f.counts.items) }
     ensures verdicts { IfOk result (λ f. HasVerdicts f.store) }
     ensures err { IfErr result (IsBuildError (map (λ s. s.items) sources.now)) }
@@ -129,6 +117,7 @@ pub(crate) fn build_here<T: Threads + Wait + Sync, G: Gate + Sync>(
     let brands = Brands {
         blank: Blank::new(task.workers as u64),
         opened: Opened::new(),
+        released: Released::new(),
     };
     worked::<Brand, G, T>(rt, alloc, fresh, &task, brands)
 }
@@ -144,10 +133,11 @@ impl Promise<Result<Finished, BuildFault>> for BuildOf {
     ghost use Rattle.std.specs.Prelude.{IfErr, IfOk, map};
     ghost use Rattle.hm_build_stages.specs.Errors.{IsBuildError};
     ghost use Rattle.hm_build_reports.specs.FinishedBuilds.{IsFinished};
+    ghost use Rattle.hm_store_shared.specs.Gathered.{records_in};
     ghost use Rattle.hm_build.specs.Headline.{HasVerdicts};
     ghost use Rattle.hm_run_sources.specs.ModuleCounts.{AreCountedModules};
 
-    ghost kept_by = { λ p r. IfOk r (λ f. IsFinished (map (λ s. s.items) p.sources.value.items) p.workers f.store f.records.items) × (IfOk r (λ f. AreCountedModules (map (λ s. s.items) p.sources.value.items) f.store.modules f.counts.items) × (IfOk r (λ f. HasVerdicts f.store) × IfErr r (IsBuildError (map (λ s. s.items) p.sources.value.items)))) };
+    ghost kept_by = { λ p r. IfOk r (λ f. IsFinished (map (λ s. s.items) p.sources.value.items) p.workers f.store (records_in f.records)) × (IfOk r (λ f. AreCountedModules (map (λ s. s.items) p.sources.value.items) f.store.modules f.counts.items) × (IfOk r (λ f. HasVerdicts f.store) × IfErr r (IsBuildError (map (λ s. s.items) p.sources.value.items)))) };
 }
 
 /// Builds the modules of sources on a new thread with a large stack.
@@ -159,7 +149,7 @@ fn build_on_thread<T: Threads + Wait + Sync, G: Gate + Sync>(
     gate: &G,
 ) -> Result<Finished, BuildFault>
     requires { (0 < workers) × (workers ≤ 16) }
-    ensures finished { IfOk result (λ f. IsFinished (map (λ s. s.items) sources.items) workers f.store f.records.items) }
+    ensures finished { IfOk result (λ f. IsFinished (map (λ s. s.items) sources.items) workers f.store (records_in f.records)) }
     ensures counted { IfOk result (λ f. AreCountedModules (map (λ s. s.items) sources.items) f.store.modules f.counts.items) }
     ensures verdicts { IfOk result (λ f. HasVerdicts f.store) }
     ensures err { IfErr result (IsBuildError (map (λ s. s.items) sources.items)) }
@@ -169,7 +159,7 @@ fn build_on_thread<T: Threads + Wait + Sync, G: Gate + Sync>(
         rt,
         move |scope| -> Result<Finished, BuildFault>
             requires { (0 < workers) × (workers ≤ 16) }
-            ensures finished { IfOk result (λ f. IsFinished (map (λ s. s.items) sources.items) workers f.store f.records.items) }
+            ensures finished { IfOk result (λ f. IsFinished (map (λ s. s.items) sources.items) workers f.store (records_in f.records)) }
             ensures counted { IfOk result (λ f. AreCountedModules (map (λ s. s.items) sources.items) f.store.modules f.counts.items) }
             ensures verdicts { IfOk result (λ f. HasVerdicts f.store) }
             ensures err { IfErr result (IsBuildError (map (λ s. s.items) sources.items)) }
@@ -216,7 +206,7 @@ pub fn build<T: Threads + Wait + Sync, G: Gate + Sync>(
     gate: &G,
 ) -> Result<Finished, BuildFault>
     // The journal is legal, settles each module, and agrees with the record of each worker.
-    ensures finished { IfOk result (λ f. IsFinished (map (λ s. s.items) sources.items) workers f.store f.records.items) }
+    ensures finished { IfOk result (λ f. IsFinished (map (λ s. s.items) sources.items) workers f.store (records_in f.records)) }
     // Each source has its number of modules.
     ensures counted { IfOk result (λ f. AreCountedModules (map (λ s. s.items) sources.items) f.store.modules f.counts.items) }
     // Each module has the verdict that the rules give it in its set.

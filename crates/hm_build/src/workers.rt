@@ -1,11 +1,11 @@
 //! The workers of a build, which claim modules and check them.
-ghost use Rattle.std.specs.Prelude.{◌≡◌, ◌≢◌, ◌<◌, ◌≤◌, ◌+◌, length, map};
+ghost use Rattle.std.specs.Prelude.{◌≡◌, ◌≢◌, ◌<◌, ◌≤◌, ◌+◌, IfErr, length, map};
 ghost use Rattle.std.specs.Arc.{arc_value};
 ghost use Rattle.hm_store_published.specs.Publications.{IsLawful};
 ghost use Rattle.hm_store.specs.declared.object.Refusal.TheVariants.{Stranger};
 ghost use Rattle.hm_store.specs.declared.object.Turn.TheVariants.{Job};
 ghost use Rattle.hm_store_shared.specs.Listings.{HasImports, IsOfSeen, IsWithin};
-ghost use Rattle.hm_store_shared.specs.Passes.{room_of, seen_of};
+ghost use Rattle.hm_store_shared.specs.Passes.{IsStopped, room_of, seen_of};
 ghost use Rattle.hm_build.specs.Workers.{IsWorkError, IsWorkOf};
 
 use crate::{BuildFault, Gate};
@@ -41,7 +41,11 @@ pub(crate) enum WorkFault {
 
 impl WorkFault {
     /// Returns the fault to report: `Mixed` if there is one, else `Exhausted` with the smaller number, else the second fault.
-    fn or(self, other: WorkFault) -> WorkFault {
+    fn or(self, other: WorkFault) -> WorkFault
+        // One of the two; `Mixed` comes before all others.
+        ensures one { (result ≡ self) ⊎ (result ≡ other) }
+        ensures mixed { (self ≡ WorkFault.Mixed) ⊎ (other ≡ WorkFault.Mixed) → result ≡ WorkFault.Mixed }
+    {
         match (self, other) {
             (WorkFault::Mixed, _) | (_, WorkFault::Mixed) => WorkFault::Mixed,
             (WorkFault::Exhausted(one), WorkFault::Exhausted(two)) => {
@@ -110,6 +114,8 @@ where
 /// Returns the worker's fault if the store refuses an outcome.
 fn fault_of(refusal: Refusal) -> WorkFault
     requires { refusal ≢ Stranger }
+    ensures memory { refusal ≡ Refusal.Memory → result ≡ WorkFault.Memory }
+    ensures not_yours { refusal ≡ Refusal.NotYours → result ≡ WorkFault.Mixed }
 {
     match refusal {
         Refusal::Memory => WorkFault::Memory,
@@ -212,6 +218,8 @@ fn run_worker<L: Ledger + Naming, G: Gate, W: Wait + Drop, R: Wait>(
     pass: &mut Pass<L>,
 ) -> Result<(), WorkFault>
     requires work { IsWorkOf L.modules L.plan (map arc_value work.now.modules.now) (map (λ row. row.items) work.now.imports.now) }
+    // A worker that fails has stopped the build, or another one had.
+    ensures stopped { IfErr result (λ _. 0 < room_of pass.old → IsStopped pass.new) }
 {
     if pass.room() == 0 {
         return Err(WorkFault::Mixed);

@@ -3,8 +3,10 @@ ghost use Rattle.std.specs.Prelude.{◌≡◌, false, map};
 ghost use Rattle.std.specs.Arc.{arc_value};
 ghost use Rattle.hm_store.specs.Agreement.{Agree};
 ghost use Rattle.hm_store.specs.Builds.{IsAllSettled, state_of};
+ghost use Rattle.hm_store_shared.specs.Gathered.{records_in};
 
-use hm_store::{Record, Store};
+use hm_store::Store;
+use hm_store_shared::Records;
 use hm_syntax::Module;
 use std::sync::Arc;
 
@@ -15,13 +17,13 @@ use std::sync::Arc;
 pub struct Finished {
     /// The modules with their verdicts, and the journal.
     pub store: Store,
-    /// The record of each worker's calls.
-    pub records: Vec<Record>,
+    /// The record of each worker's calls, made from its pass.
+    pub records: Records,
     /// The number of modules of each source.
     pub counts: Vec<usize>,
     pub ghost settled: { IsAllSettled store },
     pub ghost running: { (state_of store).stopped ≡ false },
-    pub ghost agreeing: { ∥ Agree store records.items ∥₁ },
+    pub ghost agreeing: { ∥ Agree store (records_in records) ∥₁ },
 }
 
 impl Finished {

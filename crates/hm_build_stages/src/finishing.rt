@@ -3,10 +3,12 @@ ghost use Rattle.std.specs.Prelude.{◌≡◌, ◌⊎◌, ℕ, List, IfErr, IfOk
 ghost use Rattle.hm_build_reports.specs.FinishedBuilds.{IsFinished};
 ghost use Rattle.hm_run_sources.specs.ModuleCounts.{AreCountedModules};
 ghost use Rattle.hm_run_sources.specs.SourceModules.{AreModulesOf};
+ghost use Rattle.hm_store_shared.specs.Gathered.{records_in};
 
 use crate::{BuildFault, Finished};
 use hm_build_reports::has_ended;
-use hm_store::{Record, Store};
+use hm_store::Store;
+use hm_store_shared::Records;
 use std::alloc::Global;
 
 // Why: docs/DECISIONS.md, "No comparison of modules".
@@ -18,11 +20,11 @@ use std::alloc::Global;
 pub fn finished(
     alloc: Global,
     store: Store,
-    records: Vec<Record>,
+    records: Records,
     counts: Vec<usize>,
     workers: usize,
 ) -> Result<Finished, BuildFault>
-    ensures finished { IfOk result (λ f. (sources : List (List ℕ)) → AreModulesOf sources store.modules → IsFinished sources workers f.store f.records.items) }
+    ensures finished { IfOk result (λ f. (sources : List (List ℕ)) → AreModulesOf sources store.modules → IsFinished sources workers f.store (records_in f.records)) }
     ensures counted { IfOk result (λ f. (sources : List (List ℕ)) → AreCountedModules sources store.modules counts.items
         → AreCountedModules sources f.store.modules f.counts.items) }
     ensures given { IfOk result (λ f. (f.store ≡ store) × (f.records ≡ records) × (f.counts ≡ counts)) }

@@ -2,4 +2,5 @@ pub mod Beginnings
 pub mod Lawful
 pub mod Adding
 pub mod Showing
+pub mod Stopping
 pub mod WorkedLists

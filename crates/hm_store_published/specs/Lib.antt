@@ -1,3 +1,4 @@
 pub mod Publications
 pub mod Rules
+pub mod Stops
 pub mod Worked

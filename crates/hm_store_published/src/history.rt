@@ -57,13 +57,15 @@ impl Plain<Publication, Publication, u64> for Add {
 }
 
 // Why: docs/DECISIONS.md, "Names of builds".
-/// The ghost name of a build: the list of its publications, its modules, and their import plan. Each build has its own.
+/// The ghost name of a build: the list of its publications, that of its stops, its modules, and their import plan. Each build has its own.
 pub trait Naming {
     ghost use Rattle.std.specs.Prelude.{List, ℕ};
     ghost use Rattle.hm_syntax.specs.declared.ast.Module.{Module};
     ghost use Rattle.logbook.specs.Pages.{Book};
 
     ghost book: { Book };
+
+    ghost stops: { Book };
 
     ghost modules: { List Module };
 
@@ -78,6 +80,8 @@ impl Naming for Brand {
     ghost plan = { [] };
 
     ghost book = { record { number = 0; log_name = 0; cells_name = 0 } };
+
+    ghost stops = { record { number = 0; log_name = 0; cells_name = 0 } };
 }
 
 /// An empty list without a name.

@@ -1,3 +1,4 @@
+pub mod Braking
 pub mod Calls
 pub mod Dealt
 pub mod JobImports

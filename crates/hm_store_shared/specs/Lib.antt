@@ -1,3 +1,4 @@
+pub mod Gathered
 pub mod Laws
 pub mod Listings
 pub mod Passes

@@ -1,5 +1,5 @@
 -- The parts of a pass that clauses read.
-use Rattle.std.specs.Prelude.{ℕ, List}
+use Rattle.std.specs.Prelude.{ℕ, List, IsSome}
 use Rattle.std.specs.declared.sync.ledger.Share.{Share}
 use Rattle.hm_store_published.specs.declared.history.Naming as Naming
 use Rattle.hm_store_published.specs.declared.publication.Publication.{Publication}
@@ -25,3 +25,8 @@ share_of p = p.share
 -- the publications that it has seen, by look-ups or under the lock: a prefix of the list of all
 abbrev pub seen_of : {L : Type 0} {J : Naming.Ghosts L} → Pass L J → List Publication
 seen_of p = p.reader
+
+-- its worker knows that the build was stopped: it has a token that only the brake of this build gives, once it is pulled. The lock pulls the brake
+-- exactly when the store is stopped
+abbrev pub IsStopped : {L : Type 0} {J : Naming.Ghosts L} → Pass L J → Type 0
+IsStopped p = IsSome p.stopped

@@ -7,9 +7,11 @@ mod dealing;
 pub mod laws;
 mod listed;
 mod passes;
+mod records;
 mod shared;
 
 pub use crate::dealing::{Crew, SharedFault};
 pub use crate::listed::Listed;
 pub use crate::passes::Pass;
+pub use crate::records::Records;
 pub use crate::shared::{Brands, Locked, Shared};

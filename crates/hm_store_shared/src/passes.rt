@@ -8,7 +8,7 @@ ghost use Rattle.hm_store.specs.Records.{AddsAt, knows, rises, wrote, wrote_in};
 ghost use Rattle.hm_store.specs.declared.record.Act.TheVariants.{Look};
 
 use hm_store::{Act, Call, Record, noted};
-use hm_store_published::{Found, Front, LookFault, Naming, Reader};
+use hm_store_published::{Found, Front, LookFault, Naming, Reader, Stopped};
 use hm_types::Interface;
 use std::alloc::{AllocError, Global};
 use std::sync::Arc;
@@ -22,6 +22,7 @@ pub struct Pass<L: Ledger + Naming> {
     known: usize,
     share: Share<L>,
     reader: Reader<L>,
+    stopped: Option<Stopped<L>>,
     ghost reserved: { vec_len record.calls + room ≤ vec_capacity record.calls },
     ghost ordered: { rises 0 record.calls.items ≡ true },
     ghost knowing: { known ≡ knows 0 record.calls.items },
@@ -32,7 +33,7 @@ pub struct Pass<L: Ledger + Naming> {
 }
 
 impl<L: Ledger + Naming> Pass<L> {
-    ghost use Rattle.hm_store_shared.specs.Passes.{calls_of, room_of, seen_of, share_of, worker_of};
+    ghost use Rattle.hm_store_shared.specs.Passes.{IsStopped, calls_of, room_of, seen_of, share_of, worker_of};
 
     /// Returns a pass with an empty record.
     pub(crate) fn new(
@@ -57,6 +58,7 @@ impl<L: Ledger + Naming> Pass<L> {
             known: 0,
             share,
             reader,
+            stopped: None,
         })
     }
 
@@ -108,8 +110,21 @@ impl<L: Ledger + Naming> Pass<L> {
         ensures exact { (seen_of self.new ≡ seen_of self.old) ⊎ (seen_of self.new ≡ front.now) }
         ensures record { (worker_of self.new ≡ worker_of self.old) × (calls_of self.new ≡ calls_of self.old) × (room_of self.new ≡ room_of self.old)
             × (share_of self.new ≡ share_of self.old) }
+        ensures stopped { IsStopped self.old → IsStopped self.new }
     {
         self.reader.learn(front);
+    }
+
+    /// Notes that the build was stopped. Records nothing.
+    pub(crate) fn note_stop(&mut self, shown: Stopped<L>)
+        ensures stopped { IsStopped self.new }
+        ensures calls { calls_of self.new ≡ calls_of self.old }
+        ensures worker { worker_of self.new ≡ worker_of self.old }
+        ensures room { room_of self.new ≡ room_of self.old }
+        ensures share { share_of self.new ≡ share_of self.old }
+        ensures seen { seen_of self.new ≡ seen_of self.old }
+    {
+        self.stopped = Some(shown);
     }
 
     /// Shows that the publications that the pass has seen are a prefix of these, or the other way round.
@@ -228,6 +243,7 @@ impl<L: Ledger + Naming> Pass<L> {
             known: _,
             share,
             reader: _reader,
+            stopped: _stopped,
         } = self;
         (record, share)
     }

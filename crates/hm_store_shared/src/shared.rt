@@ -1,14 +1,14 @@
 //! The store behind a lock, for workers with a pass each.
-ghost use Rattle.std.specs.Prelude.{◌≡◌, ◌≢◌, ◌≤◌, ◌<◌, ◌+◌, ◌^◌, ◌⊎◌, [], ◌∷◌, ◌++◌, All, max, length, not, vec_len, IfOk, IfErr, IfSome, IfNone, ℕ, slice_index_or};
+ghost use Rattle.std.specs.Prelude.{◌≡◌, ◌≢◌, ◌≤◌, ◌<◌, ◌+◌, ◌^◌, ◌⊎◌, [], ◌∷◌, ◌++◌, true, false, All, max, length, not, vec_len, IfOk, IfErr, IfSome, IfNone, ℕ, slice_index_or};
 ghost use mathlib.Core.List.{IsPrefix};
 ghost use Rattle.hm_verdicts.specs.Outcomes.{IsGood};
 ghost use Rattle.hm_store_published.specs.Publications.{IsLawful, interface_in, interface_of};
 ghost use Rattle.hm_store.specs.declared.object.Refusal.TheVariants.{Memory, Stranger};
 ghost use Rattle.left_right.specs.Handles.{published};
-ghost use Rattle.hm_store.specs.Builds.{IsLegal, after_claim, after_stop, state_of};
-ghost use Rattle.hm_store_shared.specs.Listings.{FailsIn, HasImports, HasPublication, IsAnswered, IsBuildOf, IsListed, IsOfSeen, IsWithin, Settled, one_way};
+ghost use Rattle.hm_store.specs.Builds.{IsAllSettled, IsLegal, after_claim, after_stop, state_of};
+ghost use Rattle.hm_store_shared.specs.Listings.{FailsIn, HasImports, HasPublication, IsAnswered, IsBuildOf, IsEnded, IsListed, IsOfSeen, IsWithin, Settled, one_way};
 ghost use Rattle.hm_store.specs.Objects.{reply_of};
-ghost use Rattle.hm_store_shared.specs.Passes.{calls_of, room_of, seen_of, share_of, worker_of};
+ghost use Rattle.hm_store_shared.specs.Passes.{IsStopped, calls_of, room_of, seen_of, share_of, worker_of};
 ghost use Rattle.hm_store.specs.Records.{Adds, AddsAt, act_of, replied};
 ghost use Rattle.hm_store.specs.declared.record.Act.TheVariants.{Publish, Fail, Stop};
 
@@ -16,7 +16,7 @@ use crate::dealing::{Crew, SharedFault, deal};
 use crate::listed::Listed;
 use crate::passes::Pass;
 use hm_store::{Act, Claimed, Refusal, Store, Turn};
-use hm_store_published::{Naming, Opened, Published, Step, pages};
+use hm_store_published::{Brake, Naming, Opened, Published, Released, Step, pages};
 use hm_verdicts::Outcome;
 use left_right::{Absorb, WriteHandle};
 use std::alloc::Global;
@@ -33,15 +33,18 @@ where
     pub listed: Listed<L>,
     book: Book<L>,
     pages: WriteHandle<Published<L>, Step<L>, R>,
+    brake: Brake<L>,
     ghost counted: { book.total ≡ length listed.build.journal },
     ghost same: { published pages ≡ listed.published } by { one_way (published pages) listed.published },
+    ghost braked: { brake ≡ (state_of listed.build).stopped },
 }
 
-/// The ghost tokens that name a build: the ledger of its journal and the list of its publications, both empty.
+/// The ghost tokens that name a build: the ledger of its journal, the list of its publications and that of its stops, all empty.
 #[derive(Drop)]
 pub struct Brands {
     pub blank: Blank,
     pub opened: Opened,
+    pub released: Released,
 }
 
 // Why: docs/DECISIONS.md, "The lock's own crate".
@@ -69,7 +72,26 @@ impl<L: Ledger + Naming, R: Wait + Drop> Locked<L, R> {
         pass.beside(self.listed.front());
     }
 
+    /// Shows a pass that the build was stopped, if it was. Records nothing.
+    fn tell_stop(&self, pass: &mut Pass<L>)
+        ensures legal { IsLegal self.now.listed.build }
+        ensures listed { IsListed self.now.listed.build self.now.listed.published }
+        ensures build { IsBuildOf L.modules L.plan self.now.listed.build }
+        ensures stopped { (state_of self.now.listed.build).stopped ≡ true → IsStopped pass.new }
+        ensures calls { calls_of pass.new ≡ calls_of pass.old }
+        ensures worker { worker_of pass.new ≡ worker_of pass.old }
+        ensures room { room_of pass.new ≡ room_of pass.old }
+        ensures share { share_of pass.new ≡ share_of pass.old }
+        ensures seen { seen_of pass.new ≡ seen_of pass.old }
+    {
+        let _entries = self.listed.store().entries();
+        if self.listed.store().is_stopped() {
+            pass.note_stop(self.brake.token());
+        }
+    }
+
     /// Claims a module and records the call. Returns `None` if the worker has to wait.
+    #[tactic(auto, using(crate::proofs::Braking::claim_brakes))]
     fn claim_next(&mut self, pass: &mut Pass<L>) -> Option<Turn>
         requires { 0 < room_of pass.old }
         ensures reply { replied result ≡ reply_of self.old.listed.build.given (state_of self.old.listed.build) }
@@ -85,6 +107,7 @@ impl<L: Ledger + Naming, R: Wait + Drop> Locked<L, R> {
         ensures room { IfSome result (λ _. room_of pass.new + 1 ≡ room_of pass.old) }
         ensures parts { IfSome result (λ _. (share_of pass.new).parts ≡ (share_of pass.old).parts) }
         ensures seen { seen_of pass.new ≡ seen_of pass.old }
+        ensures done { IfSome result (λ t. t ≡ Turn.Done → (state_of self.old.listed.build).stopped ≡ false → IsAllSettled self.new.listed.build) }
     {
         let Locked { listed, book, .. } = self;
         let entries = listed.store().entries();
@@ -102,6 +125,7 @@ impl<L: Ledger + Naming, R: Wait + Drop> Locked<L, R> {
     }
 
     /// Publishes and records the call.
+    #[tactic(auto, using(crate::proofs::Braking::publish_brakes))]
     fn publish_one(
         &mut self,
         pass: &mut Pass<L>,
@@ -124,6 +148,7 @@ impl<L: Ledger + Naming, R: Wait + Drop> Locked<L, R> {
             listed,
             book,
             pages,
+            ..
         } = self;
         let entries = listed.store().entries();
         listed.publish(pages, pass.worker(), number, outcome)?;
@@ -132,7 +157,7 @@ impl<L: Ledger + Naming, R: Wait + Drop> Locked<L, R> {
     }
 
     /// Fails a module and records the call.
-    #[tactic(auto, using(crate::proofs::Listing::fails_without_memory))]
+    #[tactic(auto, using(crate::proofs::Listing::fails_without_memory, crate::proofs::Braking::fail_brakes))]
     fn fail_one(
         &mut self,
         pass: &mut Pass<L>,
@@ -159,6 +184,7 @@ impl<L: Ledger + Naming, R: Wait + Drop> Locked<L, R> {
     }
 
     /// Stops the build and records the call.
+    #[tactic(auto, using(crate::proofs::Braking::stop_brakes))]
     fn stop_all(&mut self, pass: &mut Pass<L>) -> bool
         requires { 0 < room_of pass.old }
         ensures reply { result ≡ not (state_of self.old.listed.build).stopped }
@@ -172,10 +198,16 @@ impl<L: Ledger + Naming, R: Wait + Drop> Locked<L, R> {
         ensures parts { (share_of pass.new).parts ≡ (share_of pass.old).parts }
         ensures seen { seen_of pass.new ≡ seen_of pass.old }
     {
-        let Locked { listed, book, .. } = self;
+        let Locked {
+            listed,
+            book,
+            brake,
+            ..
+        } = self;
         let entries = listed.store().entries();
         let first = listed.stop(pass.worker());
         if first {
+            brake.pull(pass.worker());
             pass.wrote(book, entries, Act::Stop(true));
         } else {
             pass.read(entries, Act::Stop(false));
@@ -201,8 +233,10 @@ impl<L: Ledger + Naming, R: Wait + Drop> Locked<L, R> {
         ensures kept { IfSome result (λ _. IsPrefix (seen_of pass.old) (seen_of pass.new)) }
         ensures told { IfSome result (λ _. IsPrefix self.new.listed.published (seen_of pass.new)) }
         ensures lawful { IfSome result (λ _. IsLawful L.modules L.plan (seen_of pass.new)) }
+        ensures done { IfSome result (λ t. t ≡ Turn.Done → IsStopped pass.new ⊎ IsEnded L.modules L.plan (seen_of pass.new)) }
     {
         let turn = self.claim_next(pass)?;
+        self.tell_stop(pass);
         meet(self, pass);
         Some(turn)
     }
@@ -290,8 +324,10 @@ impl<L: Ledger + Naming, R: Wait + Drop> Locked<L, R> {
         ensures kept { IsPrefix (seen_of pass.old) (seen_of pass.new) }
         ensures told { IsPrefix self.new.listed.published (seen_of pass.new) }
         ensures lawful { IsLawful L.modules L.plan (seen_of pass.new) }
+        ensures stopped { IsStopped pass.new }
     {
         let first = self.stop_all(pass);
+        self.tell_stop(pass);
         meet(self, pass);
         first
     }
@@ -307,6 +343,7 @@ pub fn meet<L: Ledger + Naming, R: Wait + Drop>(locked: &mut Locked<L, R>, pass:
     ensures exact { (seen_of pass.new ≡ seen_of pass.old) ⊎ (seen_of pass.new ≡ locked.old.listed.published) }
     ensures record { (worker_of pass.new ≡ worker_of pass.old) × (calls_of pass.new ≡ calls_of pass.old) × (room_of pass.new ≡ room_of pass.old)
         × (share_of pass.new ≡ share_of pass.old) }
+    ensures stopped { IsStopped pass.old → IsStopped pass.new }
     ensures same { locked.new ≡ locked.old }
 {
     pass.learn(locked.listed.front());
@@ -314,6 +351,7 @@ pub fn meet<L: Ledger + Naming, R: Wait + Drop>(locked: &mut Locked<L, R>, pass:
 
 impl<L: Ledger + Naming, R: Wait + Drop> Shared<L, R> {
     // Why: docs/DECISIONS.md, "Sums".
+    #[tactic(auto, using(crate::proofs::Braking::none_stopped))]
     /// Returns the store behind a lock, and a pass for each worker.
     ///
     /// # Errors
@@ -328,6 +366,7 @@ impl<L: Ledger + Naming, R: Wait + Drop> Shared<L, R> {
     ) -> Result<(Shared<L, R>, Vec<Pass<L>>), SharedFault>
         requires brand { (brands.blank.name ≡ L.name) × (brands.blank.parts ≡ L.parts) × (brands.blank.parts ≡ crew.workers) }
         requires list { brands.opened.seen.book ≡ L.book }
+        requires stops { brands.released.seen.book ≡ L.stops }
         requires modules { store.modules ≡ L.modules }
         requires plan { store.given.imports ≡ L.plan }
         requires workers { (0 < crew.workers) × (crew.workers ≤ 16) }
@@ -341,7 +380,11 @@ impl<L: Ledger + Naming, R: Wait + Drop> Shared<L, R> {
         ensures seen { IfOk result (λ r. All (λ p. seen_of p ≡ []) r.1.items) }
     {
         let _entries = store.entries();
-        let Brands { blank, opened } = brands;
+        let Brands {
+            blank,
+            opened,
+            released,
+        } = brands;
         let (book, rest) = blank.open::<L>();
         let (history, front) = opened.named::<L>();
         let pages = pages::opened(alloc, rt, &front, store.modules().len(), crew.workers)?;
@@ -350,6 +393,7 @@ impl<L: Ledger + Naming, R: Wait + Drop> Shared<L, R> {
             listed: Listed::new(store, front, history),
             book,
             pages,
+            brake: released.named::<L>(),
         });
         let shared = Shared {
             locked,
@@ -369,6 +413,8 @@ impl<L: Ledger + Naming, R: Wait + Drop> Shared<L, R> {
         ensures within { IsWithin (length L.modules) result × IsWithin (length L.plan) result }
         ensures kept { IsPrefix (seen_of pass.old) (seen_of pass.new) }
         ensures lawful { IsLawful L.modules L.plan (seen_of pass.new) }
+        // Nothing is left: the build was stopped, or each module is settled.
+        ensures done { result ≡ Turn.Done → IsStopped pass.new ⊎ IsEnded L.modules L.plan (seen_of pass.new) }
     {
         let mut locked = self.locked.lock(rt);
         for _ in rt.forever() {
@@ -429,6 +475,8 @@ impl<L: Ledger + Naming, R: Wait + Drop> Shared<L, R> {
         ensures parts { (share_of pass.new).parts ≡ (share_of pass.old).parts }
         ensures kept { IsPrefix (seen_of pass.old) (seen_of pass.new) }
         ensures lawful { IsLawful L.modules L.plan (seen_of pass.new) }
+        // The build is stopped, by this call or by one before.
+        ensures stopped { IsStopped pass.new }
     {
         let first = self.locked.lock(rt).stop(pass);
         self.moved.notify_all();

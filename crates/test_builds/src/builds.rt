@@ -142,7 +142,7 @@ fn each_module_is_checked_once(rt: HostRuntime) -> Result<(), Fail> {
         assert_eq!(rt; count.load(Ordering::SeqCst), 1);
     }
     assert_eq!(rt; finished.store.journal().len(), 12);
-    assert_eq!(rt; finished.records.len(), 4);
+    assert_eq!(rt; finished.records.as_slice().len(), 4);
     Ok(())
 }
 

@@ -9,6 +9,7 @@ ghost use Rattle.hm_run_sources.specs.Names.{module_outlines};
 
 use crate::sources::{NO_MEMORY, module_of, tokens_of};
 use crate::stores::{IMPORTED, IMPORTER, outcome_of, set_of, shared_modules, store_of};
+use crate::turns::brands;
 use hm_check::{CheckFault, check_module};
 use hm_graph::Plan;
 use hm_names::{Kind, ScopeFault};
@@ -16,14 +17,14 @@ use hm_parse::{ParseFault, parse};
 use hm_scope::scope;
 use hm_scope_imports::are_imports_of;
 use hm_store::{Entry, Refusal, Status, Store, Turn};
-use hm_store_published::{LookFault, Naming, Opened};
+use hm_store_published::{LookFault, Naming};
 use hm_store_shared::{Brands, Crew, Pass, Shared, SharedFault};
 use hm_syntax::Module;
 use hm_verdicts::{Outcome, Verdict};
 use std::alloc::{AllocError, Global};
 use std::marker::Brand;
 use std::process::Abort;
-use std::sync::ledger::{Blank, Ledger};
+use std::sync::ledger::Ledger;
 use std::sync::{Arc, Wait};
 use std::test::Fail;
 
@@ -160,16 +161,16 @@ fn are_dealt<L: Ledger + Naming>(passes: &[Pass<L>]) -> bool {
 fn shared_and_back<L: Ledger + Naming, R: AllocGlobal + Wait>(
     rt: &R,
     store: Store,
-    blank: Blank,
-    opened: Opened,
+    brands: Brands,
 ) -> Result<Store, Fail>
-    requires brand { (blank.name ≡ L.name) × (blank.parts ≡ L.parts) × (blank.parts ≡ 4) }
-    requires list { opened.seen.book ≡ L.book }
+    requires brand { (brands.blank.name ≡ L.name) × (brands.blank.parts ≡ L.parts) × (brands.blank.parts ≡ 4) }
+    requires list { brands.opened.seen.book ≡ L.book }
+    requires stops { brands.released.seen.book ≡ L.stops }
     requires subjects { store.modules ≡ L.modules }
     requires plan { store.given.imports ≡ L.plan }
     requires empty { store.journal ≡ [] }
 {
-    match Shared::<L, &R>::new(rt.alloc(), rt, store, FOUR, Brands { blank, opened }) {
+    match Shared::<L, &R>::new(rt.alloc(), rt, store, FOUR, brands) {
         Ok((shared, passes)) => {
             if !are_dealt(passes.as_slice()) {
                 return Err(Fail::from("other passes"));
@@ -185,8 +186,7 @@ fn shared_and_back<L: Ledger + Naming, R: AllocGlobal + Wait>(
 #[test]
 fn shared_alone(rt: HostRuntime) -> Result<(), Fail> {
     let store = store_of(rt.alloc(), &[IMPORTER, IMPORTED])?;
-    let blank = Blank::new(4);
-    let store = shared_and_back::<Brand, HostRuntime>(&rt, store, blank, Opened::new())?;
+    let store = shared_and_back::<Brand, HostRuntime>(&rt, store, brands())?;
     assert!(rt; is_untouched(&store));
     Ok(())
 }
@@ -286,16 +286,15 @@ fn by_three<L: Ledger + Naming, R: Abort + AllocGlobal + Wait>(
 fn published<L: Ledger + Naming, R: Abort + AllocGlobal + Wait>(
     rt: &R,
     store: Store,
-    blank: Blank,
-    opened: Opened,
+    brands: Brands,
 ) -> Result<(Store, bool), Fail>
-    requires brand { (blank.name ≡ L.name) × (blank.parts ≡ L.parts) × (blank.parts ≡ 4) }
-    requires list { opened.seen.book ≡ L.book }
+    requires brand { (brands.blank.name ≡ L.name) × (brands.blank.parts ≡ L.parts) × (brands.blank.parts ≡ 4) }
+    requires list { brands.opened.seen.book ≡ L.book }
+    requires stops { brands.released.seen.book ≡ L.stops }
     requires subjects { store.modules ≡ L.modules }
     requires plan { store.given.imports ≡ L.plan }
     requires empty { store.journal ≡ [] }
 {
-    let brands = Brands { blank, opened };
     let (shared, mut passes) = Shared::<L, &R>::new(rt.alloc(), rt, store, FOUR, brands)?;
     let is_published = by_three(rt, &shared, &mut passes)?;
     let (store, _book) = shared.into_store();
@@ -320,8 +319,7 @@ const STOPPED: Entry = Entry::Stop { worker: 2 };
 #[test]
 fn publish_alone(rt: HostRuntime) -> Result<(), Fail> {
     let store = store_of(rt.alloc(), &[POLYMORPHIC])?;
-    let blank = Blank::new(4);
-    let (store, is_published) = published::<Brand, HostRuntime>(&rt, store, blank, Opened::new())?;
+    let (store, is_published) = published::<Brand, HostRuntime>(&rt, store, brands())?;
     assert_eq!(rt; store.look(0).is_some(), is_published);
     if is_published {
         assert!(rt; store.journal() == [CLAIMED, PUBLISHED, STOPPED].as_slice());

@@ -5,7 +5,7 @@ use crate::sources::{NO_MEMORY, module_of};
 use crate::stores::{IMPORTED, IMPORTER, outcome_of, store_of};
 use hm_check::{CheckFault, check_module};
 use hm_store::{Claimed, Entry, Refusal, Status, Store, Turn};
-use hm_store_published::{LookFault, Naming, Opened};
+use hm_store_published::{LookFault, Naming, Opened, Released};
 use hm_store_shared::{Brands, Crew, Pass, Shared};
 use hm_verdicts::Verdict;
 use std::alloc::{AllocError, Global};
@@ -284,6 +284,7 @@ fn play<L: Ledger + Naming, R: AllocGlobal + Wait>(
 ) -> Result<Played, Fail>
     requires brand { (brands.blank.name ≡ L.name) × (brands.blank.parts ≡ L.parts) × (brands.blank.parts ≡ 4) }
     requires list { brands.opened.seen.book ≡ L.book }
+    requires stops { brands.released.seen.book ≡ L.stops }
     requires subjects { store.modules ≡ L.modules }
     requires plan { store.given.imports ≡ L.plan }
     requires empty { store.journal ≡ [] }
@@ -303,12 +304,13 @@ fn play<L: Ledger + Naming, R: AllocGlobal + Wait>(
 }
 
 /// Returns the ghost tokens that name a build by four workers.
-fn brands() -> Brands
+pub(crate) fn brands() -> Brands
     ensures parts { result.blank.parts ≡ 4 }
 {
     Brands {
         blank: Blank::new(4),
         opened: Opened::new(),
+        released: Released::new(),
     }
 }
 
