@@ -50,6 +50,8 @@ skipped C
   by A
 3 modules: 0 good, 2 faulty, 1 skipped
 """
+# How many seconds a run may take. A worker that waits for ever would hold up the gate.
+LIMIT = 60
 # How many runs with messages have an allocation refused, at least.
 EXPLAINED_RUNS = 1000
 # What a test prints first that ends for want of memory: before the call that it is about, or at that call.
@@ -89,7 +91,10 @@ class Refusing:
         environment = dict(os.environ, LD_PRELOAD=self.library, REFUSED_ALLOCATION=str(number))
         if not number:
             environment["ALLOCATION_COUNT"] = self.count
-        return subprocess.run(words, input=given, capture_output=True, env=environment)
+        try:
+            return subprocess.run(words, input=given, capture_output=True, env=environment, timeout=LIMIT)
+        except subprocess.TimeoutExpired:
+            return subprocess.CompletedProcess(words, -9, b"", f"no end after {LIMIT} s".encode())
 
     def runs(self, words, given, numbers):
         """How the command ends with each of these allocations refused, as many side by side as there are processors."""

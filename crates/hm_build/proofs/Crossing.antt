@@ -31,8 +31,8 @@ use Rattle.hm_store_shared.specs.contracts.shared.Shared as Shared
 use Rattle.hm_store_shared.specs.contracts.shared.Locked as Locked
 use Rattle.hm_store_shared.specs.contracts.listed.Listed as Listed
 use Rattle.hm_store_published.specs.contracts.history.Front as Front
-use Rattle.hm_store_published.specs.contracts.stops.Brake as Brake
-use Rattle.hm_store_published.specs.contracts.stops.Stopped as Stopped
+use Rattle.hm_store_journal.specs.contracts.journal.Journal as Journal
+use Rattle.hm_store_journal.specs.contracts.journal.Known as Known
 use Rattle.hm_store_published.specs.contracts.published.Published as Published
 use Rattle.hm_store_published.specs.contracts.published.Step as Step
 use Rattle.hm_store_published.specs.contracts.reading.Reader as Reader
@@ -45,8 +45,6 @@ use Rattle.hm_build.specs.contracts.workers.Work as Work
 use Rattle.hm_types_prelude.specs.contracts.shared_prelude.SharedPrelude as SharedPrelude
 use Rattle.core.specs.declared.ledger.Ledger.{Ghosts}
 use Rattle.hm_store_published.proofs.history.Front.TheSendSync as FrontFacts
-use Rattle.hm_store_published.proofs.stops.Brake.TheSendSync as BrakeFacts
-use Rattle.hm_store_published.proofs.stops.Stopped.TheSendSync as StoppedFacts
 use Rattle.logbook.proofs.word.Word.TheSendSync as Word
 use Rattle.core.proofs.ledger.Share.TheSendSync as Share
 use Rattle.core.proofs.ledger.Book.TheSendSync as Book
@@ -105,11 +103,11 @@ module _ (L : RattleType) (l : Ghosts L.Denot) (j : Names L.Denot) (send : IsSen
   front_sync : IsSync (Front.the_row L j)
   front_sync = search (FrontFacts.the_sync, crosses, sendable) depth 30 fits 5000
 
-  brake_send : IsSend (Brake.the_row L j)
-  brake_send = search (BrakeFacts.the_send, crosses, sendable) depth 30 fits 5000
+  journal_send : IsSend (Journal.the_row L j)
+  journal_send = search (crosses, sendable) depth 30 fits 5000
 
-  stopped_send : IsSend (Stopped.the_row L j)
-  stopped_send = search (StoppedFacts.the_send, crosses, sendable) depth 30 fits 5000
+  known_send : IsSend (Known.the_row L j)
+  known_send = search (crosses, sendable) depth 30 fits 5000
 
   published_send : IsSend (Published.the_row L j)
   published_send = search (front_send, interface_send, interface_sync, crosses, sendable) depth 30 fits 5000
@@ -127,7 +125,7 @@ module _ (L : RattleType) (l : Ghosts L.Denot) (j : Names L.Denot) (send : IsSen
   reader_send = search (entrance_send, front_send, crosses, sendable) depth 30 fits 5000
 
   pub pass_send : IsSend (Pass.the_row L j l)
-  pass_send = search (call_field_send, reader_send, stopped_send, Share.the_send, crosses, sendable) depth 30 fits 5000
+  pass_send = search (call_field_send, reader_send, known_send, Share.the_send, crosses, sendable) depth 30 fits 5000
 
   listed_send : IsSend (Listed.the_row L j)
   listed_send = search (store_send, front_send, Word.the_send, crosses, sendable) depth 30 fits 5000
@@ -137,7 +135,7 @@ module _ (L : RattleType) (l : Ghosts L.Denot) (j : Names L.Denot) (send : IsSen
     pages_send = WriteHandleFacts.the_field_send (Published.the_row L j) (Step.the_row L j) W Heap.the_row S absorbs ghosts published_send step_send held heap.send published_sync heap.sync heap.frees
 
     locked_send : IsSend (Locked.the_row L W S j absorbs l)
-    locked_send = search (listed_send, pages_send, brake_send, Book.the_send, crosses, sendable) depth 30 fits 5000
+    locked_send = search (listed_send, pages_send, journal_send, Book.the_send, crosses, sendable) depth 30 fits 5000
 
     shared_sync : IsSync (Shared.the_row L W S j absorbs l)
     shared_sync = search (locked_send, crosses, sendable) depth 30 fits 5000

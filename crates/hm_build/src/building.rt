@@ -18,7 +18,8 @@ use hm_build_stages::{Fresh, finished, read, room_for};
 use hm_run_parallel_parse::Pool;
 use hm_run_sources::Nesting;
 use hm_store::laws::settled_builds_are_settled_sets;
-use hm_store_published::{Naming, Opened, Released};
+use hm_store_journal::Unnamed;
+use hm_store_published::{Naming, Opened};
 use hm_store_shared::{Brands, Crew, Records, Shared};
 use hm_verdicts::settled_modules_have_their_verdicts;
 use std::alloc::Global;
@@ -49,7 +50,7 @@ fn worked<L: Ledger + Naming + Send + Sync, G: Gate + Sync, R: Threads + Wait + 
 ) -> Result<Finished, BuildFault>
     requires brand { (brands.blank.name ≡ L.name) × (brands.blank.parts ≡ L.parts) × (brands.blank.parts ≡ task.now.workers) }
     requires list { brands.opened.seen.book ≡ L.book }
-    requires stops { brands.released.seen.book ≡ L.stops }
+    requires table { brands.unnamed.seat.table_id ≡ L.table }
     requires subjects { fresh.store.modules ≡ L.modules }
     requires same { map arc_value fresh.modules.items ≡ fresh.store.modules }
     requires plan { fresh.store.given.imports ≡ L.plan }
@@ -109,6 +110,9 @@ pub(crate) fn build_here<T: Threads + Wait + Sync, G: Gate + Sync>(
 {
     settled_builds_are_settled_sets();
     settled_modules_have_their_verdicts();
+    let Ok(unnamed) = Unnamed::new(alloc) else {
+        return Err(BuildFault::Memory);
+    };
     let pool = Pool {
         threads: task.workers,
         stack: task.nesting.stack_size(),
@@ -117,7 +121,7 @@ pub(crate) fn build_here<T: Threads + Wait + Sync, G: Gate + Sync>(
     let brands = Brands {
         blank: Blank::new(task.workers as u64),
         opened: Opened::new(),
-        released: Released::new(),
+        unnamed,
     };
     worked::<Brand, G, T>(rt, alloc, fresh, &task, brands)
 }

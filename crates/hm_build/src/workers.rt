@@ -1,11 +1,12 @@
 //! The workers of a build, which claim modules and check them.
-ghost use Rattle.std.specs.Prelude.{◌≡◌, ◌≢◌, ◌<◌, ◌≤◌, ◌+◌, IfErr, length, map};
+ghost use Rattle.std.specs.Prelude.{◌≡◌, ◌≢◌, ◌<◌, ◌≤◌, ◌+◌, ◌⊎◌, IfErr, length, map};
 ghost use Rattle.std.specs.Arc.{arc_value};
 ghost use Rattle.hm_store_published.specs.Publications.{IsLawful};
-ghost use Rattle.hm_store.specs.declared.object.Refusal.TheVariants.{Stranger};
+ghost use Rattle.hm_store.specs.declared.object.Refusal.TheVariants.{NotYours, Stranger};
 ghost use Rattle.hm_store.specs.declared.object.Turn.TheVariants.{Job};
 ghost use Rattle.hm_store_shared.specs.Listings.{HasImports, IsOfSeen, IsWithin};
-ghost use Rattle.hm_store_shared.specs.Passes.{IsStopped, room_of, seen_of};
+ghost use Rattle.hm_store_shared.specs.Knowing.{HasClaimed, IsStopped};
+ghost use Rattle.hm_store_shared.specs.Passes.{known_of, room_of, seen_of, worker_of};
 ghost use Rattle.hm_build.specs.Workers.{IsWorkError, IsWorkOf};
 
 use crate::{BuildFault, Gate};
@@ -14,7 +15,7 @@ use hm_names::TypeLimits;
 use hm_run_sources::{SourceModule, source_of};
 use hm_store::{Refusal, Turn};
 use hm_store_published::{LookFault, Naming, Published, Step};
-use hm_store_shared::laws::seen_imports_are_asked_for;
+use hm_store_shared::laws::{replies_are_known, seen_imports_are_asked_for};
 use hm_store_shared::{Pass, Shared};
 use hm_syntax::Module;
 use hm_types_prelude::SharedPrelude;
@@ -111,20 +112,20 @@ where
 }
 
 // Why: docs/DECISIONS.md, "Mixed".
-/// Returns the worker's fault if the store refuses an outcome.
+/// Returns the worker's fault if the store refuses an outcome. The only reason left is that memory ran out.
 fn fault_of(refusal: Refusal) -> WorkFault
-    requires { refusal ≢ Stranger }
-    ensures memory { refusal ≡ Refusal.Memory → result ≡ WorkFault.Memory }
-    ensures not_yours { refusal ≡ Refusal.NotYours → result ≡ WorkFault.Mixed }
+    requires stranger { refusal ≢ Stranger }
+    requires yours { refusal ≢ NotYours }
+    ensures { result ≡ WorkFault.Memory }
 {
     match refusal {
         Refusal::Memory => WorkFault::Memory,
-        Refusal::NotYours => WorkFault::Mixed,
+        Refusal::NotYours => unreachable!(),
         Refusal::Stranger => unreachable!(),
     }
 }
 
-/// Publishes or fails a module in the store. The outcome must be that of the module for the interfaces that the pass has seen.
+/// Publishes or fails a module that the worker has claimed. The outcome must be that of the module for the interfaces that the pass has seen.
 fn settle<L: Ledger + Naming, G: Gate, W: Wait + Drop, R: Wait>(
     rt: &R,
     work: &Work<'_, L, G, W>,
@@ -134,8 +135,11 @@ fn settle<L: Ledger + Naming, G: Gate, W: Wait + Drop, R: Wait>(
 ) -> Result<(), WorkFault>
     requires room { 0 < room_of pass.old }
     requires fits { IsOfSeen L.modules L.plan (seen_of pass.old) number outcome }
-    ensures { room_of pass.old ≤ room_of pass.new + 1 }
+    requires has { HasClaimed (worker_of pass.old) (known_of pass.old) number }
+    ensures room { room_of pass.old ≤ room_of pass.new + 1 }
+    ensures memory { IfErr result (λ fault. fault ≡ WorkFault.Memory) }
 {
+    replies_are_known();
     if outcome.is_good() {
         return match work.shared.publish(rt, pass, number, outcome) {
             Ok(()) => Ok(()),
@@ -160,6 +164,7 @@ fn check_one<L: Ledger + Naming, G: Gate, W: Wait + Drop, R: Wait>(
     requires work { IsWorkOf L.modules L.plan (map arc_value work.now.modules.now) (map (λ row. row.items) work.now.imports.now) }
     requires within { IsWithin (length L.modules) (Job number) × IsWithin (length L.plan) (Job number) }
     requires imports { HasImports L.plan (Job number) (seen_of pass.old) }
+    requires has { HasClaimed (worker_of pass.old) (known_of pass.old) number }
     requires lawful { IsLawful L.modules L.plan (seen_of pass.old) }
     requires room { 0 < room_of pass.old }
     ensures { 0 < room_of pass.new }
@@ -198,6 +203,7 @@ fn check_all<L: Ledger + Naming, G: Gate, W: Wait + Drop, R: Wait>(
     requires room { 0 < room_of pass.old }
     ensures { 0 < room_of pass.new }
 {
+    replies_are_known();
     for _ in rt.forever() {
         if pass.room() < 2 {
             return Err(WorkFault::Mixed);
@@ -218,8 +224,8 @@ fn run_worker<L: Ledger + Naming, G: Gate, W: Wait + Drop, R: Wait>(
     pass: &mut Pass<L>,
 ) -> Result<(), WorkFault>
     requires work { IsWorkOf L.modules L.plan (map arc_value work.now.modules.now) (map (λ row. row.items) work.now.imports.now) }
-    // A worker that fails has stopped the build, or another one had.
-    ensures stopped { IfErr result (λ _. 0 < room_of pass.old → IsStopped pass.new) }
+    // If a worker fails, it knows that the build is stopped.
+    ensures stopped { IfErr result (λ _. 0 < room_of pass.old → IsStopped L.modules L.plan (known_of pass.new)) }
 {
     if pass.room() == 0 {
         return Err(WorkFault::Mixed);

@@ -2,5 +2,4 @@ pub mod Beginnings
 pub mod Lawful
 pub mod Adding
 pub mod Showing
-pub mod Stopping
 pub mod WorkedLists

@@ -1,4 +1,3 @@
 pub mod Publications
 pub mod Rules
-pub mod Stops
 pub mod Worked

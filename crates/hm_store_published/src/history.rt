@@ -57,15 +57,16 @@ impl Plain<Publication, Publication, u64> for Add {
 }
 
 // Why: docs/DECISIONS.md, "Names of builds".
-/// The ghost name of a build: the list of its publications, that of its stops, its modules, and their import plan. Each build has its own.
+/// The ghost name of a build: the list of its publications, the table of its entries, its modules, and their import plan. Each build has its own.
 pub trait Naming {
     ghost use Rattle.std.specs.Prelude.{List, ℕ};
     ghost use Rattle.hm_syntax.specs.declared.ast.Module.{Module};
     ghost use Rattle.logbook.specs.Pages.{Book};
+    ghost use Rattle.atomic_table.specs.Seated.{TableId};
 
     ghost book: { Book };
 
-    ghost stops: { Book };
+    ghost table: { TableId };
 
     ghost modules: { List Module };
 
@@ -81,7 +82,7 @@ impl Naming for Brand {
 
     ghost book = { record { number = 0; log_name = 0; cells_name = 0 } };
 
-    ghost stops = { record { number = 0; log_name = 0; cells_name = 0 } };
+    ghost table = { record { words = 0; slots = 0; views_name = 0; atom = 0; block = 0; offset = 0; slot_names = [] } };
 }
 
 /// An empty list without a name.

@@ -9,10 +9,8 @@ pub mod pages;
 mod publication;
 mod published;
 mod reading;
-mod stops;
 
 pub use crate::history::{Front, History, Naming, Opened};
 pub use crate::publication::Publication;
 pub use crate::published::{LookFault, Published, Sight, Step};
 pub use crate::reading::{Found, Reader};
-pub use crate::stops::{Brake, Released, Stopped};

@@ -4,7 +4,10 @@ use Rattle.std.specs.Prelude.{nat_le, ◌&&◌}
 use Rattle.std.proofs.lemmas.Bool.{le-leb}
 use Rattle.std.proofs.lemmas.List.Sums.{sum_by-append}
 use Rattle.hm_store.specs.Records.{known_after, knows, rises, wrote, wrote_in}
+use Rattle.hm_store.specs.declared.object.Entry.{Entry}
+use Rattle.hm_store.specs.declared.object.Entry.TheVariants.{Claim, Publish, Fail, Stop}
 use Rattle.hm_store.specs.declared.record.Call.{Call}
+use Rattle.hm_store_shared.specs.Knowing.{act_by}
 
 pub knows_more : (n : ℕ) (cs : List Call) (c : Call) → knows n (cs ++ c ∷ []) ≡ c.at + wrote c.act
 knows_more n [] c = refl
@@ -28,3 +31,9 @@ rises_more n (d ∷ cs) c h le = both (nat_le n d.at) (rises (known_after d) (cs
 
 pub wrote_more : (cs : List Call) (c : Call) → wrote_in (cs ++ c ∷ []) ≡ wrote_in cs + wrote c.act
 wrote_more cs c = omega (arith, sum_by-append (λ (d : Call). wrote d.act) cs (c ∷ []))
+
+pub wrote_by : (e : Entry) → wrote (act_by e) ≡ 1
+wrote_by (Claim w m) = refl
+wrote_by (Publish w m) = refl
+wrote_by (Fail w m) = refl
+wrote_by (Stop w) = refl

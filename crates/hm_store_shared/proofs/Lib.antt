@@ -1,8 +1,10 @@
-pub mod Braking
 pub mod Calls
 pub mod Dealt
 pub mod JobImports
+pub mod Knowing
 pub mod Listing
+pub mod Owning
+pub mod Publishing
 pub mod Refusing
 pub mod SeenImports
 pub mod WorkedListings

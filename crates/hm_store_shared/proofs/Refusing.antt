@@ -1,6 +1,6 @@
 -- Why an outcome is refused, as far as its worker can know.
 use Rattle.std.proofs.Common.{◌≡◌, ◌≢◌, ℕ, suc, List, [], ◌∷◌, map, ◌⊎◌, inl, inr, Some, Result, Ok, Err, refl, ap, sym, ◌∙◌, subst, arith}
-use Rattle.std.specs.Prelude.{All, Contains, slice_get, slice_index_or}
+use Rattle.std.specs.Prelude.{All, Contains, IfErr, slice_get, slice_index_or}
 use mathlib.Core.List.{IsPrefix}
 use Rattle.hm_types.specs.Interfaces.{Exports as Interface}
 use Rattle.hm_syntax.specs.declared.ast.Module.{Module}
@@ -15,7 +15,7 @@ use Rattle.hm_store.specs.declared.object.Refusal.{Refusal}
 use Rattle.hm_store.specs.declared.object.Refusal.TheVariants.{NotYours, Stranger, Memory}
 use Rattle.hm_store.specs.declared.object.Status.TheVariants.{Claimed, Published}
 use Rattle.hm_store.proofs.Finishing.{build_follows}
-use Rattle.hm_store_shared.specs.Listings.{FailsIn, IsAnswered, IsBuildOf, IsListed, IsOfSeen, Listing, Settled}
+use Rattle.hm_store_shared.specs.Listings.{FailsIn, IsBuildOf, IsListed, IsOfSeen, Listing, Settled}
 use Rattle.hm_store_shared.proofs.Listing.{found_in_more, same_found}
 
 -- the imports of a claimed module are published
@@ -79,18 +79,12 @@ fails_no_stranger subjects plan l l' qs w m c (NotYours, d) legal listed build b
 fails_no_stranger subjects plan l l' qs w m c (Stranger, d) legal listed build beside settled of e = no_stranger subjects plan l.build l.published qs w m c legal listed build beside of settled.0
 fails_no_stranger subjects plan l l' qs w m c (Memory, d) legal listed build beside settled of e = absurd (cc e)
 
--- Each answer has its reason in the build that the lock keeps
+pub publish_fits : (subjects : List Module) (plan : List (List ℕ)) (l l' : Listing) (qs : List Publication) (w m : ℕ) (c : Checked) (r : Result (Unit {0}) (Refusal × Checked)) → IsLegal l.build → IsListed l.build l.published → IsBuildOf subjects plan l.build
+    → IsPrefix qs l.published ⊎ IsPrefix l.published qs → Settled l w m c l' r → IsOfSeen subjects plan qs m c → IfErr r (λ x. x.0 ≢ Stranger)
+publish_fits subjects plan l l' qs w m c (Ok u) legal listed build beside settled of = tt
+publish_fits subjects plan l l' qs w m c (Err r) legal listed build beside settled of = publishes_no_stranger subjects plan l l' qs w m c r legal listed build beside settled of
 
-pub publish_answered : (subjects : List Module) (plan : List (List ℕ)) (l l' : Listing) (w m : ℕ) (c : Checked) (r : Result (Unit {0}) (Refusal × Checked)) → IsLegal l.build → IsBuildOf subjects plan l.build → Settled l w m c l' r
-    → IsAnswered subjects plan w m c r
-publish_answered subjects plan l l' w m c (Ok u) legal build settled = record { build = l.build; same = build; legal = legal; reason = settled.0 }
-publish_answered subjects plan l l' w m c (Err (NotYours, d)) legal build settled = record { build = l.build; same = build; legal = legal; reason = settled.0 }
-publish_answered subjects plan l l' w m c (Err (Stranger, d)) legal build settled = record { build = l.build; same = build; legal = legal; reason = settled.0 }
-publish_answered subjects plan l l' w m c (Err (Memory, d)) legal build settled = record { build = l.build; same = build; legal = legal; reason = settled.0 }
-
-pub fail_answered : (subjects : List Module) (plan : List (List ℕ)) (l l' : Listing) (w m : ℕ) (c : Checked) (r : Result (Unit {0}) (Refusal × Checked)) → IsLegal l.build → IsBuildOf subjects plan l.build → FailsIn l w m c l' r
-    → IsAnswered subjects plan w m c r
-fail_answered subjects plan l l' w m c (Ok u) legal build settled = record { build = l.build; same = build; legal = legal; reason = settled.0 }
-fail_answered subjects plan l l' w m c (Err (NotYours, d)) legal build settled = record { build = l.build; same = build; legal = legal; reason = settled.0 }
-fail_answered subjects plan l l' w m c (Err (Stranger, d)) legal build settled = record { build = l.build; same = build; legal = legal; reason = settled.0 }
-fail_answered subjects plan l l' w m c (Err (Memory, d)) legal build settled = absurd settled.0
+pub fail_fits : (subjects : List Module) (plan : List (List ℕ)) (l l' : Listing) (qs : List Publication) (w m : ℕ) (c : Checked) (r : Result (Unit {0}) (Refusal × Checked)) → IsLegal l.build → IsListed l.build l.published → IsBuildOf subjects plan l.build
+    → IsPrefix qs l.published ⊎ IsPrefix l.published qs → FailsIn l w m c l' r → IsOfSeen subjects plan qs m c → IfErr r (λ x. x.0 ≢ Stranger)
+fail_fits subjects plan l l' qs w m c (Ok u) legal listed build beside settled of = tt
+fail_fits subjects plan l l' qs w m c (Err r) legal listed build beside settled of = fails_no_stranger subjects plan l l' qs w m c r legal listed build beside settled of

@@ -1,4 +1,5 @@
 pub mod Gathered
+pub mod Knowing
 pub mod Laws
 pub mod Listings
 pub mod Passes

@@ -9,8 +9,7 @@ use Rattle.hm_graph_components.specs.Digraph.{Edge}
 use Rattle.hm_verdicts.specs.Outcomes.{Checked}
 use Rattle.hm_store_published.specs.declared.publication.Publication.{Publication}
 use Rattle.hm_store_published.specs.Publications.{IsPublishedIn, interface_in, entries_of}
-use mathlib.Core.List.{IsPrefix}
-use Rattle.hm_store.specs.Builds.{Build, IsAllSettled, IsLegal, Refuses, kept_at, interface_at, with_kept}
+use Rattle.hm_store.specs.Builds.{Build, IsLegal, Refuses, kept_at, interface_at, with_kept}
 use Rattle.hm_store.specs.declared.object.Turn.{Turn}
 use Rattle.hm_store.specs.declared.object.Turn.TheVariants as turn
 use Rattle.hm_store.specs.declared.object.Refusal.{Refusal}
@@ -72,22 +71,6 @@ reason_of (Ok _) = None
 reason_of (Err (NotYours, d)) = Some NotYours
 reason_of (Err (Stranger, d)) = Some Stranger
 reason_of (Err (Memory, d)) = None
-
--- at one point of a build of these modules with this plan, the journal is legal, and the build object has this reason for its reply to worker w
-pub record IsAnswered (subjects : List Module) (plan : List (List ℕ)) (w m : ℕ) (c : Checked) (r : Result (Unit {0}) (Refusal × Checked)) : Type 0 where
-  pub build : Build
-  pub same : IsBuildOf subjects plan build
-  pub legal : IsLegal build
-  pub reason : Refuses build w m c (reason_of r)
-
--- a legal build of these modules with this plan has settled each module, and all its publications are among these
-pub record IsEnded (subjects : List Module) (plan : List (List ℕ)) (ps : List Publication) : Type 0 where
-  pub listing : Listing
-  pub same : IsBuildOf subjects plan listing.build
-  pub legal : IsLegal listing.build
-  pub listed : IsListed listing.build listing.published
-  pub settled : IsAllSettled listing.build
-  pub seen : IsPrefix listing.published ps
 
 -- the listing after a publication
 abbrev pub published_after : Listing → ℕ → ℕ → Checked → Listing

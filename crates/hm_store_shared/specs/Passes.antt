@@ -1,8 +1,9 @@
 -- The parts of a pass that clauses read.
-use Rattle.std.specs.Prelude.{ℕ, List, IsSome}
+use Rattle.std.specs.Prelude.{ℕ, List}
 use Rattle.std.specs.declared.sync.ledger.Share.{Share}
 use Rattle.hm_store_published.specs.declared.history.Naming as Naming
 use Rattle.hm_store_published.specs.declared.publication.Publication.{Publication}
+use Rattle.hm_store.specs.declared.object.Entry.{Entry}
 use Rattle.hm_store.specs.declared.record.Call.{Call}
 use Rattle.hm_store_shared.specs.declared.passes.Pass.{Pass}
 
@@ -26,7 +27,6 @@ share_of p = p.share
 abbrev pub seen_of : {L : Type 0} {J : Naming.Ghosts L} → Pass L J → List Publication
 seen_of p = p.reader
 
--- its worker knows that the build was stopped: it has a token that only the brake of this build gives, once it is pulled. The lock pulls the brake
--- exactly when the store is stopped
-abbrev pub IsStopped : {L : Type 0} {J : Naming.Ghosts L} → Pass L J → Type 0
-IsStopped p = IsSome p.stopped
+-- the entries of the journal that it knows, from its calls under the lock: a prefix of the list of all
+abbrev pub known_of : {L : Type 0} {J : Naming.Ghosts L} → Pass L J → List Entry
+known_of p = p.token.entries

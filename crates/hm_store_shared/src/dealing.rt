@@ -1,8 +1,9 @@
 //! Makes the passes of the workers that share a store.
 ghost use Rattle.std.specs.Prelude.{◌≡◌, ◌<◌, ◌^◌, [], ℕ, All, IfOk, slice_index_or, vec_len};
-ghost use Rattle.hm_store_shared.specs.Passes.{calls_of, room_of, seen_of, share_of, worker_of};
+ghost use Rattle.hm_store_shared.specs.Passes.{calls_of, known_of, room_of, seen_of, share_of, worker_of};
 
 use crate::passes::Pass;
+use hm_store_journal::Journal;
 use hm_store_published::{Front, Naming, Published, Step, pages};
 use left_right::WriteHandle;
 use std::alloc::{AllocError, Global};
@@ -39,23 +40,37 @@ impl From<AllocError> for SharedFault {
     }
 }
 
-/// Returns a pass for each worker, each with its part of the ledger.
+/// What each pass gets its part of: the ledger and the journal.
+#[derive(Drop)]
+pub(crate) struct Stock<L: Ledger + Naming> {
+    pub rest: Share<L>,
+    pub journal: Journal<L>,
+}
+
+/// Returns a pass for each worker, each with its part of the ledger and its token of the journal. Returns the journal, too.
 pub(crate) fn deal<L: Ledger + Naming, R: Wait + Drop>(
     alloc: Global,
     crew: Crew,
-    mut rest: Share<L>,
+    stock: Stock<L>,
     pages: &WriteHandle<Published<L>, Step<L>, R>,
     front: &Front<L>,
-) -> Result<Vec<Pass<L>>, SharedFault>
-    requires share { (rest.parts ≡ crew.workers) × (rest.amount ≡ 0) }
+) -> Result<(Vec<Pass<L>>, Journal<L>), SharedFault>
+    requires share { (stock.rest.parts ≡ crew.workers) × (stock.rest.amount ≡ 0) }
+    requires journal { (stock.journal.entries ≡ []) × (stock.journal.workers ≡ 0) }
     requires room { crew.room < 2 ^ 62 }
-    ensures count { IfOk result (λ v. vec_len v ≡ crew.workers) }
-    ensures worker { IfOk result (λ v. (k : ℕ) (d : _) → k < crew.workers → worker_of (slice_index_or v.items k d) ≡ k) }
-    ensures room { IfOk result (λ v. All (λ p. room_of p ≡ crew.room) v.items) }
-    ensures empty { IfOk result (λ v. All (λ p. calls_of p ≡ []) v.items) }
-    ensures parts { IfOk result (λ v. All (λ p. (share_of p).parts ≡ 1) v.items) }
-    ensures seen { IfOk result (λ v. All (λ p. seen_of p ≡ front.now) v.items) }
+    ensures count { IfOk result (λ r. vec_len r.0 ≡ crew.workers) }
+    ensures worker { IfOk result (λ r. (k : ℕ) (d : _) → k < crew.workers → worker_of (slice_index_or r.0.items k d) ≡ k) }
+    ensures room { IfOk result (λ r. All (λ p. room_of p ≡ crew.room) r.0.items) }
+    ensures empty { IfOk result (λ r. All (λ p. calls_of p ≡ []) r.0.items) }
+    ensures parts { IfOk result (λ r. All (λ p. (share_of p).parts ≡ 1) r.0.items) }
+    ensures seen { IfOk result (λ r. All (λ p. seen_of p ≡ front.now) r.0.items) }
+    ensures known { IfOk result (λ r. All (λ p. known_of p ≡ []) r.0.items) }
+    ensures journal { IfOk result (λ r. r.1.entries ≡ []) }
 {
+    let Stock {
+        mut rest,
+        mut journal,
+    } = stock;
     let mut passes = Vec::new(alloc);
     for worker in 0..crew.workers {
         let share = rest.split_off(1, 0);
@@ -63,11 +78,12 @@ pub(crate) fn deal<L: Ledger + Naming, R: Wait + Drop>(
             Ok(reader) => reader,
             Err(AllocError) => return Err(SharedFault::NoReader),
         };
-        let pass = Pass::new(alloc, worker, crew.room, share, reader)?;
+        let token = journal.enlist(worker);
+        let pass = Pass::new(alloc, crew.room, token, share, reader)?;
         match passes.push(pass) {
             Ok(()) => {}
             Err(failed) => return Err(AllocError::from(failed).into()),
         }
     }
-    Ok(passes)
+    Ok((passes, journal))
 }

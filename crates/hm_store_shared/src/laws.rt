@@ -1,5 +1,5 @@
 //! Laws of the lock and of passes.
-ghost use Rattle.hm_store_shared.specs.Laws.{SeenAreAskedFor};
+ghost use Rattle.hm_store_shared.specs.Laws.{ClaimsAreHeld, DoneIsTheEnd, HeldAreTheirs, SeenAreAskedFor};
 ghost use Rattle.hm_store_shared.specs.Worked.{ClaimRow, ListingRow, PublishRow, SeenRow};
 
 use hm_verdicts::steps_settle_a_set;
@@ -14,6 +14,14 @@ pub fn seen_imports_are_asked_for()
 {
     steps_settle_a_set();
 }
+
+/// What the replies of claims, publications and failures come to. After a claim that got a module, the worker has claimed it by its own entries. An
+/// outcome of such a module is never refused as `NotYours`. If a claim is told that nothing is left, there was a stop or each module is settled.
+pub fn replies_are_known()
+    ensures claims { ClaimsAreHeld }
+    ensures held { HeldAreTheirs }
+    ensures done { DoneIsTheEnd }
+{}
 
 /// Worked examples of lists: the publications of a journal, the publications that a worker has seen after a claim, the changes of a publication,
 /// and the outcomes that fit the list.

@@ -1,7 +1,7 @@
 //! A store with the list of its publications.
-ghost use Rattle.std.specs.Prelude.{◌≡◌, ◌++◌, ◌∷◌, [], false, length, not};
+ghost use Rattle.std.specs.Prelude.{◌≡◌, ◌++◌, ◌∷◌, [], length, not};
 ghost use Rattle.hm_verdicts.specs.Outcomes.{IsGood};
-ghost use Rattle.hm_store.specs.Builds.{IsAllSettled, IsLegal, after_claim, after_stop, state_of};
+ghost use Rattle.hm_store.specs.Builds.{IsLegal, after_claim, after_stop, state_of};
 ghost use Rattle.hm_store_shared.specs.Listings.{FailsIn, IsBuildOf, IsListed, Settled, published_after};
 ghost use Rattle.hm_store.specs.Objects.{reply_of};
 ghost use Rattle.left_right.specs.Handles.{published};
@@ -75,7 +75,6 @@ impl<J: Naming> Listed<J> {
     pub(crate) fn claim(&mut self, worker: usize) -> Claimed
         ensures reply { result ≡ reply_of self.old.build.given (state_of self.old.build) }
         ensures step { self.new ≡ record { build = after_claim self.old.build worker result; published = self.old.published } }
-        ensures done { result ≡ Claimed.Done → (state_of self.old.build).stopped ≡ false → IsAllSettled self.new.build }
     {
         self.store.claim(worker)
     }

@@ -6,9 +6,12 @@ ghost use Rattle.hm_store_published.specs.Publications.{IsLawful, IsPublishedIn,
 ghost use Rattle.hm_store_published.specs.declared.published.LookFault.TheVariants.{NoEntry};
 ghost use Rattle.hm_store.specs.Records.{AddsAt, knows, rises, wrote, wrote_in};
 ghost use Rattle.hm_store.specs.declared.record.Act.TheVariants.{Look};
+ghost use Rattle.hm_store_journal.specs.Entries.{writer_of};
+ghost use Rattle.hm_store_shared.specs.Knowing.{Begins, act_by};
 
-use hm_store::{Act, Call, Record, noted};
-use hm_store_published::{Found, Front, LookFault, Naming, Reader, Stopped};
+use hm_store::{Act, Call, Entry, Record, noted};
+use hm_store_journal::{Journal, Known};
+use hm_store_published::{Found, Front, LookFault, Naming, Reader};
 use hm_types::Interface;
 use std::alloc::{AllocError, Global};
 use std::sync::Arc;
@@ -22,61 +25,74 @@ pub struct Pass<L: Ledger + Naming> {
     known: usize,
     share: Share<L>,
     reader: Reader<L>,
-    stopped: Option<Stopped<L>>,
+    token: Known<L>,
     ghost reserved: { vec_len record.calls + room ≤ vec_capacity record.calls },
     ghost ordered: { rises 0 record.calls.items ≡ true },
     ghost knowing: { known ≡ knows 0 record.calls.items },
     ghost counted: { share.amount ≡ wrote_in record.calls.items },
     ghost backed: { 0 < share.parts },
+    ghost numbered: { token.worker ≡ record.worker },
     ghost bounded: { known + room < 2 ^ 63 },
     ghost small: { room < 2 ^ 62 },
 }
 
 impl<L: Ledger + Naming> Pass<L> {
-    ghost use Rattle.hm_store_shared.specs.Passes.{IsStopped, calls_of, room_of, seen_of, share_of, worker_of};
+    ghost use Rattle.hm_store_shared.specs.Passes.{calls_of, known_of, room_of, seen_of, share_of, worker_of};
 
     /// Returns a pass with an empty record.
     pub(crate) fn new(
         alloc: Global,
-        worker: usize,
         room: usize,
+        token: Known<L>,
         share: Share<L>,
         reader: Reader<L>,
     ) -> Result<Pass<L>, AllocError>
         requires share { (share.amount ≡ 0) × (0 < share.parts) }
         requires room { room < 2 ^ 62 }
-        ensures worker { IfOk result (λ p. worker_of p ≡ worker) }
+        ensures worker { IfOk result (λ p. worker_of p ≡ token.worker) }
+        ensures known { IfOk result (λ p. known_of p ≡ token.entries) }
         ensures room { IfOk result (λ p. room_of p ≡ room) }
         ensures empty { IfOk result (λ p. calls_of p ≡ []) }
         ensures parts { IfOk result (λ p. (share_of p).parts ≡ share.parts) }
         ensures seen { IfOk result (λ p. seen_of p ≡ reader) }
     {
-        let record = Record::new(alloc, worker, room)?;
+        let record = Record::new(alloc, token.worker(), room)?;
         Ok(Pass {
             record,
             room,
             known: 0,
             share,
             reader,
-            stopped: None,
+            token,
         })
     }
 
     // Why: docs/DECISIONS.md, "Places of calls".
-    /// Records a call that wrote an entry.
-    #[tactic(auto, using(crate::proofs::Calls::rises_more, crate::proofs::Calls::knows_more, crate::proofs::Calls::wrote_more))]
-    pub(crate) fn wrote(&mut self, book: &mut Book<L>, entries: usize, act: Act)
+    /// Adds an entry of the worker to the journal, and records the call that wrote it.
+    #[tactic(auto, using(crate::proofs::Calls::rises_more, crate::proofs::Calls::knows_more, crate::proofs::Calls::wrote_more, crate::proofs::Calls::wrote_by))]
+    pub(crate) fn wrote(
+        &mut self,
+        book: &mut Book<L>,
+        journal: &mut Journal<L>,
+        entries: usize,
+        entry: Entry,
+    )
         requires room { 0 < room_of self.old }
-        requires writes { wrote act ≡ 1 }
+        requires own { writer_of entry ≡ worker_of self.old }
         requires place { entries + room_of self.old < 2 ^ 63 }
         ensures total { book.new.total ≡ book.old.total + 1 }
-        ensures calls { AddsAt entries (calls_of self.old) act (calls_of self.new) }
+        ensures added { journal.new.entries ≡ journal.old.entries ++ entry ∷ [] }
+        ensures known { known_of self.new ≡ journal.old.entries ++ entry ∷ [] }
+        ensures begins { Begins (worker_of self.old) (known_of self.old) journal.old.entries }
+        ensures calls { AddsAt entries (calls_of self.old) (act_by entry) (calls_of self.new) }
         ensures worker { worker_of self.new ≡ worker_of self.old }
         ensures room { room_of self.new + 1 ≡ room_of self.old }
         ensures parts { (share_of self.new).parts ≡ (share_of self.old).parts }
         ensures seen { seen_of self.new ≡ seen_of self.old }
     {
         let at = entries.max(self.known);
+        let act = act_by(entry);
+        journal.add(&mut self.token, entry);
         book.add(&mut self.share, 1);
         self.record.calls.push_reserved(Call { at, act });
         self.known = at + 1;
@@ -94,6 +110,7 @@ impl<L: Ledger + Naming> Pass<L> {
         ensures room { room_of self.new + 1 ≡ room_of self.old }
         ensures parts { (share_of self.new).parts ≡ (share_of self.old).parts }
         ensures seen { seen_of self.new ≡ seen_of self.old }
+        ensures known { known_of self.new ≡ known_of self.old }
     {
         let at = entries.max(self.known);
         self.record.calls.push_reserved(Call { at, act });
@@ -110,21 +127,23 @@ impl<L: Ledger + Naming> Pass<L> {
         ensures exact { (seen_of self.new ≡ seen_of self.old) ⊎ (seen_of self.new ≡ front.now) }
         ensures record { (worker_of self.new ≡ worker_of self.old) × (calls_of self.new ≡ calls_of self.old) × (room_of self.new ≡ room_of self.old)
             × (share_of self.new ≡ share_of self.old) }
-        ensures stopped { IsStopped self.old → IsStopped self.new }
+        ensures known { known_of self.new ≡ known_of self.old }
     {
         self.reader.learn(front);
     }
 
-    /// Notes that the build was stopped. Records nothing.
-    pub(crate) fn note_stop(&mut self, shown: Stopped<L>)
-        ensures stopped { IsStopped self.new }
+    /// Shows the pass all entries of the journal. Records nothing.
+    pub(crate) fn meet(&mut self, journal: &mut Journal<L>)
+        ensures same { journal.new ≡ journal.old }
+        ensures known { known_of self.new ≡ journal.old.entries }
+        ensures begins { Begins (worker_of self.old) (known_of self.old) journal.old.entries }
         ensures calls { calls_of self.new ≡ calls_of self.old }
         ensures worker { worker_of self.new ≡ worker_of self.old }
         ensures room { room_of self.new ≡ room_of self.old }
         ensures share { share_of self.new ≡ share_of self.old }
         ensures seen { seen_of self.new ≡ seen_of self.old }
     {
-        self.stopped = Some(shown);
+        journal.meet(&mut self.token);
     }
 
     /// Shows that the publications that the pass has seen are a prefix of these, or the other way round.
@@ -147,6 +166,7 @@ impl<L: Ledger + Naming> Pass<L> {
     pub fn look(&mut self, number: usize) -> Result<Option<Arc<Interface>>, LookFault>
         requires { 0 < room_of self.old }
         ensures list { IsPrefix (seen_of self.old) (seen_of self.new) }
+        ensures known { known_of self.new ≡ known_of self.old }
         ensures lawful { IsLawful L.modules L.plan (seen_of self.new) }
         ensures reply { IfOk result (λ r. option_map arc_value r ≡ interface_in (seen_of self.new) number) }
         ensures ok { IfOk result (λ r. (o : _) × (option_map arc_value o ≡ option_map arc_value r)
@@ -176,6 +196,7 @@ impl<L: Ledger + Naming> Pass<L> {
         requires room { 0 < room_of self.old }
         requires published { IsPublishedIn (seen_of self.old) number }
         ensures list { IsPrefix (seen_of self.old) (seen_of self.new) }
+        ensures known { known_of self.new ≡ known_of self.old }
         ensures lawful { IsLawful L.modules L.plan (seen_of self.new) }
         ensures reply { IfOk result (λ i. interface_in (seen_of self.old) number ≡ Some (arc_value i)) }
         ensures worker { worker_of self.new ≡ worker_of self.old }
@@ -199,6 +220,7 @@ impl<L: Ledger + Naming> Pass<L> {
         requires room { length numbers.now ≤ room_of self.old }
         requires published { All (IsPublishedIn (seen_of self.old)) numbers.now }
         ensures list { IsPrefix (seen_of self.old) (seen_of self.new) }
+        ensures known { known_of self.new ≡ known_of self.old }
         ensures reply { IfOk result (λ v. map (λ i. Some (arc_value i)) v.items ≡ map (interface_in (seen_of self.old)) numbers.now) }
         ensures worker { worker_of self.new ≡ worker_of self.old }
         ensures room { IfOk result (λ _. room_of self.new + length numbers.now ≡ room_of self.old) }
@@ -243,8 +265,20 @@ impl<L: Ledger + Naming> Pass<L> {
             known: _,
             share,
             reader: _reader,
-            stopped: _stopped,
+            token: _token,
         } = self;
         (record, share)
+    }
+}
+
+/// Returns the recorded call that writes this entry.
+fn act_by(entry: Entry) -> Act
+    ensures { result ≡ act_by entry }
+{
+    match entry {
+        Entry::Claim { worker: _, module } => Act::Job(module),
+        Entry::Publish { worker: _, module } => Act::Publish(module),
+        Entry::Fail { worker: _, module } => Act::Fail(module),
+        Entry::Stop { worker: _ } => Act::Stop(true),
     }
 }

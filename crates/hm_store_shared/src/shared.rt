@@ -1,22 +1,25 @@
 //! The store behind a lock, for workers with a pass each.
-ghost use Rattle.std.specs.Prelude.{◌≡◌, ◌≢◌, ◌≤◌, ◌<◌, ◌+◌, ◌^◌, ◌⊎◌, [], ◌∷◌, ◌++◌, true, false, All, max, length, not, vec_len, IfOk, IfErr, IfSome, IfNone, ℕ, slice_index_or};
+ghost use Rattle.std.specs.Prelude.{◌≡◌, ◌≢◌, ◌≤◌, ◌<◌, ◌+◌, ◌^◌, ◌⊎◌, [], ◌∷◌, ◌++◌, All, max, length, not, vec_len, IfOk, IfErr, IfSome, IfNone, ℕ, slice_index_or};
 ghost use mathlib.Core.List.{IsPrefix};
 ghost use Rattle.hm_verdicts.specs.Outcomes.{IsGood};
 ghost use Rattle.hm_store_published.specs.Publications.{IsLawful, interface_in, interface_of};
 ghost use Rattle.hm_store.specs.declared.object.Refusal.TheVariants.{Memory, Stranger};
 ghost use Rattle.left_right.specs.Handles.{published};
-ghost use Rattle.hm_store.specs.Builds.{IsAllSettled, IsLegal, after_claim, after_stop, state_of};
-ghost use Rattle.hm_store_shared.specs.Listings.{FailsIn, HasImports, HasPublication, IsAnswered, IsBuildOf, IsEnded, IsListed, IsOfSeen, IsWithin, Settled, one_way};
+ghost use Rattle.hm_store.specs.Builds.{IsLegal, after_claim, after_stop, state_of};
+ghost use Rattle.hm_store.specs.declared.object.Entry.TheVariants as entry;
+ghost use Rattle.hm_store_shared.specs.Knowing.{Answers, Begins, Claims, IsStopped, Stops};
+ghost use Rattle.hm_store_shared.specs.Listings.{FailsIn, HasImports, HasPublication, IsBuildOf, IsListed, IsOfSeen, IsWithin, Settled, one_way};
 ghost use Rattle.hm_store.specs.Objects.{reply_of};
-ghost use Rattle.hm_store_shared.specs.Passes.{IsStopped, calls_of, room_of, seen_of, share_of, worker_of};
+ghost use Rattle.hm_store_shared.specs.Passes.{calls_of, known_of, room_of, seen_of, share_of, worker_of};
 ghost use Rattle.hm_store.specs.Records.{Adds, AddsAt, act_of, replied};
 ghost use Rattle.hm_store.specs.declared.record.Act.TheVariants.{Publish, Fail, Stop};
 
-use crate::dealing::{Crew, SharedFault, deal};
+use crate::dealing::{Crew, SharedFault, Stock, deal};
 use crate::listed::Listed;
 use crate::passes::Pass;
-use hm_store::{Act, Claimed, Refusal, Store, Turn};
-use hm_store_published::{Brake, Naming, Opened, Published, Released, Step, pages};
+use hm_store::{Act, Claimed, Entry, Refusal, Store, Turn};
+use hm_store_journal::{Journal, Unnamed};
+use hm_store_published::{Naming, Opened, Published, Step, pages};
 use hm_verdicts::Outcome;
 use left_right::{Absorb, WriteHandle};
 use std::alloc::Global;
@@ -24,7 +27,8 @@ use std::sync::ledger::{Blank, Book, Ledger};
 use std::sync::{Condvar, Mutex, Wait};
 
 // Why: docs/DECISIONS.md, "What the lock keeps".
-/// The data behind the lock: the store with the list of its publications, the book that counts its entries, and the copies that look-ups read.
+/// The data behind the lock: the store with the list of its publications, the book that counts its entries, the list of these, and the copies that
+/// look-ups read.
 #[derive(Drop)]
 pub struct Locked<L: Ledger + Naming, R: Wait + Drop>
 where
@@ -33,18 +37,18 @@ where
     pub listed: Listed<L>,
     book: Book<L>,
     pages: WriteHandle<Published<L>, Step<L>, R>,
-    brake: Brake<L>,
+    journal: Journal<L>,
     ghost counted: { book.total ≡ length listed.build.journal },
     ghost same: { published pages ≡ listed.published } by { one_way (published pages) listed.published },
-    ghost braked: { brake ≡ (state_of listed.build).stopped },
+    ghost written: { journal.entries ≡ listed.build.journal },
 }
 
-/// The ghost tokens that name a build: the ledger of its journal, the list of its publications and that of its stops, all empty.
+/// The ghost tokens that name a build: the ledger of its journal, the list of its publications and that of its entries, all empty.
 #[derive(Drop)]
 pub struct Brands {
     pub blank: Blank,
     pub opened: Opened,
-    pub released: Released,
+    pub unnamed: Unnamed,
 }
 
 // Why: docs/DECISIONS.md, "The lock's own crate".
@@ -72,26 +76,7 @@ impl<L: Ledger + Naming, R: Wait + Drop> Locked<L, R> {
         pass.beside(self.listed.front());
     }
 
-    /// Shows a pass that the build was stopped, if it was. Records nothing.
-    fn tell_stop(&self, pass: &mut Pass<L>)
-        ensures legal { IsLegal self.now.listed.build }
-        ensures listed { IsListed self.now.listed.build self.now.listed.published }
-        ensures build { IsBuildOf L.modules L.plan self.now.listed.build }
-        ensures stopped { (state_of self.now.listed.build).stopped ≡ true → IsStopped pass.new }
-        ensures calls { calls_of pass.new ≡ calls_of pass.old }
-        ensures worker { worker_of pass.new ≡ worker_of pass.old }
-        ensures room { room_of pass.new ≡ room_of pass.old }
-        ensures share { share_of pass.new ≡ share_of pass.old }
-        ensures seen { seen_of pass.new ≡ seen_of pass.old }
-    {
-        let _entries = self.listed.store().entries();
-        if self.listed.store().is_stopped() {
-            pass.note_stop(self.brake.token());
-        }
-    }
-
     /// Claims a module and records the call. Returns `None` if the worker has to wait.
-    #[tactic(auto, using(crate::proofs::Braking::claim_brakes))]
     fn claim_next(&mut self, pass: &mut Pass<L>) -> Option<Turn>
         requires { 0 < room_of pass.old }
         ensures reply { replied result ≡ reply_of self.old.listed.build.given (state_of self.old.listed.build) }
@@ -107,17 +92,29 @@ impl<L: Ledger + Naming, R: Wait + Drop> Locked<L, R> {
         ensures room { IfSome result (λ _. room_of pass.new + 1 ≡ room_of pass.old) }
         ensures parts { IfSome result (λ _. (share_of pass.new).parts ≡ (share_of pass.old).parts) }
         ensures seen { seen_of pass.new ≡ seen_of pass.old }
-        ensures done { IfSome result (λ t. t ≡ Turn.Done → (state_of self.old.listed.build).stopped ≡ false → IsAllSettled self.new.listed.build) }
+        ensures begins { IfSome result (λ _. Begins (worker_of pass.old) (known_of pass.old) self.old.listed.build.journal) }
+        ensures known { IfSome result (λ _. known_of pass.new ≡ self.new.listed.build.journal) }
     {
-        let Locked { listed, book, .. } = self;
+        let Locked {
+            listed,
+            book,
+            journal,
+            ..
+        } = self;
+        let worker = pass.worker();
         let entries = listed.store().entries();
-        match listed.claim(pass.worker()) {
+        match listed.claim(worker) {
             Claimed::Job(number) => {
-                pass.wrote(book, entries, Act::Job(number));
+                let entry = Entry::Claim {
+                    worker,
+                    module: number,
+                };
+                pass.wrote(book, journal, entries, entry);
                 Some(Turn::Job(number))
             }
             Claimed::Later => None,
             Claimed::Done => {
+                pass.meet(journal);
                 pass.read(entries, Act::Done);
                 Some(Turn::Done)
             }
@@ -125,7 +122,6 @@ impl<L: Ledger + Naming, R: Wait + Drop> Locked<L, R> {
     }
 
     /// Publishes and records the call.
-    #[tactic(auto, using(crate::proofs::Braking::publish_brakes))]
     fn publish_one(
         &mut self,
         pass: &mut Pass<L>,
@@ -136,10 +132,13 @@ impl<L: Ledger + Naming, R: Wait + Drop> Locked<L, R> {
         requires good { IsGood outcome.verdict }
         ensures settles { Settled self.old.listed (worker_of pass.old) number outcome self.new.listed result }
         ensures ok { IfOk result (λ _. AddsAt (length self.old.listed.build.journal) (calls_of pass.old) (Publish number) (calls_of pass.new)) }
-        ensures worker { IfOk result (λ _. worker_of pass.new ≡ worker_of pass.old) }
+        ensures worker { worker_of pass.new ≡ worker_of pass.old }
         ensures room { IfOk result (λ _. room_of pass.new + 1 ≡ room_of pass.old) }
         ensures parts { IfOk result (λ _. (share_of pass.new).parts ≡ (share_of pass.old).parts) }
-        ensures err { IfErr result (λ _. pass.new ≡ pass.old) }
+        ensures calls { IfErr result (λ _. (calls_of pass.new ≡ calls_of pass.old) × (share_of pass.new ≡ share_of pass.old)) }
+        ensures refused_room { IfErr result (λ _. room_of pass.new ≡ room_of pass.old) }
+        ensures begins { Begins (worker_of pass.old) (known_of pass.old) self.old.listed.build.journal }
+        ensures known { known_of pass.new ≡ self.new.listed.build.journal }
         ensures returned { IfErr result (λ r. r.1 ≡ outcome) }
         ensures seen { seen_of pass.new ≡ seen_of pass.old }
         ensures published { IfOk result (λ _. interface_in self.new.listed.published number ≡ interface_of outcome.verdict) }
@@ -147,17 +146,30 @@ impl<L: Ledger + Naming, R: Wait + Drop> Locked<L, R> {
         let Locked {
             listed,
             book,
+            journal,
             pages,
             ..
         } = self;
+        let worker = pass.worker();
         let entries = listed.store().entries();
-        listed.publish(pages, pass.worker(), number, outcome)?;
-        pass.wrote(book, entries, Act::Publish(number));
-        Ok(())
+        match listed.publish(pages, worker, number, outcome) {
+            Ok(()) => {
+                let entry = Entry::Publish {
+                    worker,
+                    module: number,
+                };
+                pass.wrote(book, journal, entries, entry);
+                Ok(())
+            }
+            Err(refused) => {
+                pass.meet(journal);
+                Err(refused)
+            }
+        }
     }
 
     /// Fails a module and records the call.
-    #[tactic(auto, using(crate::proofs::Listing::fails_without_memory, crate::proofs::Braking::fail_brakes))]
+    #[tactic(auto, using(crate::proofs::Listing::fails_without_memory))]
     fn fail_one(
         &mut self,
         pass: &mut Pass<L>,
@@ -169,22 +181,41 @@ impl<L: Ledger + Naming, R: Wait + Drop> Locked<L, R> {
         ensures settles { FailsIn self.old.listed (worker_of pass.old) number outcome self.new.listed result }
         ensures refused { IfErr result (λ r. r.0 ≢ Memory) }
         ensures ok { IfOk result (λ _. AddsAt (length self.old.listed.build.journal) (calls_of pass.old) (Fail number) (calls_of pass.new)) }
-        ensures worker { IfOk result (λ _. worker_of pass.new ≡ worker_of pass.old) }
+        ensures worker { worker_of pass.new ≡ worker_of pass.old }
         ensures room { IfOk result (λ _. room_of pass.new + 1 ≡ room_of pass.old) }
         ensures parts { IfOk result (λ _. (share_of pass.new).parts ≡ (share_of pass.old).parts) }
-        ensures err { IfErr result (λ _. pass.new ≡ pass.old) }
+        ensures calls { IfErr result (λ _. (calls_of pass.new ≡ calls_of pass.old) × (share_of pass.new ≡ share_of pass.old)) }
+        ensures refused_room { IfErr result (λ _. room_of pass.new ≡ room_of pass.old) }
+        ensures begins { Begins (worker_of pass.old) (known_of pass.old) self.old.listed.build.journal }
+        ensures known { known_of pass.new ≡ self.new.listed.build.journal }
         ensures returned { IfErr result (λ r. r.1 ≡ outcome) }
         ensures seen { seen_of pass.new ≡ seen_of pass.old }
     {
-        let Locked { listed, book, .. } = self;
+        let Locked {
+            listed,
+            book,
+            journal,
+            ..
+        } = self;
+        let worker = pass.worker();
         let entries = listed.store().entries();
-        listed.fail(pass.worker(), number, outcome)?;
-        pass.wrote(book, entries, Act::Fail(number));
-        Ok(())
+        match listed.fail(worker, number, outcome) {
+            Ok(()) => {
+                let entry = Entry::Fail {
+                    worker,
+                    module: number,
+                };
+                pass.wrote(book, journal, entries, entry);
+                Ok(())
+            }
+            Err(refused) => {
+                pass.meet(journal);
+                Err(refused)
+            }
+        }
     }
 
     /// Stops the build and records the call.
-    #[tactic(auto, using(crate::proofs::Braking::stop_brakes))]
     fn stop_all(&mut self, pass: &mut Pass<L>) -> bool
         requires { 0 < room_of pass.old }
         ensures reply { result ≡ not (state_of self.old.listed.build).stopped }
@@ -197,19 +228,22 @@ impl<L: Ledger + Naming, R: Wait + Drop> Locked<L, R> {
         ensures room { room_of pass.new + 1 ≡ room_of pass.old }
         ensures parts { (share_of pass.new).parts ≡ (share_of pass.old).parts }
         ensures seen { seen_of pass.new ≡ seen_of pass.old }
+        ensures begins { Begins (worker_of pass.old) (known_of pass.old) self.old.listed.build.journal }
+        ensures known { known_of pass.new ≡ self.new.listed.build.journal }
     {
         let Locked {
             listed,
             book,
-            brake,
+            journal,
             ..
         } = self;
+        let worker = pass.worker();
         let entries = listed.store().entries();
-        let first = listed.stop(pass.worker());
+        let first = listed.stop(worker);
         if first {
-            brake.pull(pass.worker());
-            pass.wrote(book, entries, Act::Stop(true));
+            pass.wrote(book, journal, entries, Entry::Stop { worker });
         } else {
+            pass.meet(journal);
             pass.read(entries, Act::Stop(false));
         }
         first
@@ -233,10 +267,10 @@ impl<L: Ledger + Naming, R: Wait + Drop> Locked<L, R> {
         ensures kept { IfSome result (λ _. IsPrefix (seen_of pass.old) (seen_of pass.new)) }
         ensures told { IfSome result (λ _. IsPrefix self.new.listed.published (seen_of pass.new)) }
         ensures lawful { IfSome result (λ _. IsLawful L.modules L.plan (seen_of pass.new)) }
-        ensures done { IfSome result (λ t. t ≡ Turn.Done → IsStopped pass.new ⊎ IsEnded L.modules L.plan (seen_of pass.new)) }
+        ensures claims { IfSome result (λ t. Claims L.modules L.plan (worker_of pass.old) (known_of pass.old) (known_of pass.new) t) }
     {
+        self.beside(pass);
         let turn = self.claim_next(pass)?;
-        self.tell_stop(pass);
         meet(self, pass);
         Some(turn)
     }
@@ -252,28 +286,25 @@ impl<L: Ledger + Naming, R: Wait + Drop> Locked<L, R> {
         requires good { IsGood outcome.verdict }
         ensures settles { Settled self.old.listed (worker_of pass.old) number outcome self.new.listed result }
         ensures ok { IfOk result (λ _. AddsAt (length self.old.listed.build.journal) (calls_of pass.old) (Publish number) (calls_of pass.new)) }
-        ensures worker { IfOk result (λ _. worker_of pass.new ≡ worker_of pass.old) }
+        ensures worker { worker_of pass.new ≡ worker_of pass.old }
         ensures room { IfOk result (λ _. room_of pass.new + 1 ≡ room_of pass.old) }
         ensures parts { IfOk result (λ _. (share_of pass.new).parts ≡ (share_of pass.old).parts) }
-        ensures err { IfErr result (λ _. pass.new ≡ pass.old) }
+        ensures err { IfErr result (λ _. (calls_of pass.new ≡ calls_of pass.old) × (share_of pass.new ≡ share_of pass.old)) }
+        ensures refused_room { IfErr result (λ _. room_of pass.new ≡ room_of pass.old) }
         ensures returned { IfErr result (λ r. r.1 ≡ outcome) }
-        ensures kept { IfOk result (λ _. IsPrefix (seen_of pass.old) (seen_of pass.new)) }
-        ensures told { IfOk result (λ _. IsPrefix self.new.listed.published (seen_of pass.new)) }
-        ensures lawful { IfOk result (λ _. IsLawful L.modules L.plan (seen_of pass.new)) }
+        ensures kept { IsPrefix (seen_of pass.old) (seen_of pass.new) }
+        ensures told { IsPrefix self.new.listed.published (seen_of pass.new) }
+        ensures lawful { IsLawful L.modules L.plan (seen_of pass.new) }
         ensures publication { IfOk result (λ _. (place : ℕ) × AddsAt place (calls_of pass.old) (Publish number) (calls_of pass.new)
             × HasPublication (seen_of pass.new) number place outcome) }
-        ensures answered { IsAnswered L.modules L.plan (worker_of pass.old) number outcome result }
+        ensures answers { Answers L.modules L.plan (worker_of pass.old) number outcome (entry.Publish (worker_of pass.old) number) (known_of pass.old) (known_of pass.new) result }
         ensures fits { IsOfSeen L.modules L.plan (seen_of pass.old) number outcome → IfErr result (λ r. r.0 ≢ Stranger) }
         ensures seen { IfOk result (λ _. interface_in (seen_of pass.new) number ≡ interface_of outcome.verdict) }
     {
         self.beside(pass);
-        match self.publish_one(pass, number, outcome) {
-            Ok(()) => {
-                meet(self, pass);
-                Ok(())
-            }
-            Err(refused) => Err(refused),
-        }
+        let reply = self.publish_one(pass, number, outcome);
+        meet(self, pass);
+        reply
     }
 
     /// Fails a module, records the call, and shows the pass all publications.
@@ -288,25 +319,22 @@ impl<L: Ledger + Naming, R: Wait + Drop> Locked<L, R> {
         ensures settles { FailsIn self.old.listed (worker_of pass.old) number outcome self.new.listed result }
         ensures refused { IfErr result (λ r. r.0 ≢ Memory) }
         ensures ok { IfOk result (λ _. AddsAt (length self.old.listed.build.journal) (calls_of pass.old) (Fail number) (calls_of pass.new)) }
-        ensures worker { IfOk result (λ _. worker_of pass.new ≡ worker_of pass.old) }
+        ensures worker { worker_of pass.new ≡ worker_of pass.old }
         ensures room { IfOk result (λ _. room_of pass.new + 1 ≡ room_of pass.old) }
         ensures parts { IfOk result (λ _. (share_of pass.new).parts ≡ (share_of pass.old).parts) }
-        ensures err { IfErr result (λ _. pass.new ≡ pass.old) }
+        ensures err { IfErr result (λ _. (calls_of pass.new ≡ calls_of pass.old) × (share_of pass.new ≡ share_of pass.old)) }
+        ensures refused_room { IfErr result (λ _. room_of pass.new ≡ room_of pass.old) }
         ensures returned { IfErr result (λ r. r.1 ≡ outcome) }
-        ensures kept { IfOk result (λ _. IsPrefix (seen_of pass.old) (seen_of pass.new)) }
-        ensures told { IfOk result (λ _. IsPrefix self.new.listed.published (seen_of pass.new)) }
-        ensures lawful { IfOk result (λ _. IsLawful L.modules L.plan (seen_of pass.new)) }
-        ensures answered { IsAnswered L.modules L.plan (worker_of pass.old) number outcome result }
+        ensures kept { IsPrefix (seen_of pass.old) (seen_of pass.new) }
+        ensures told { IsPrefix self.new.listed.published (seen_of pass.new) }
+        ensures lawful { IsLawful L.modules L.plan (seen_of pass.new) }
+        ensures answers { Answers L.modules L.plan (worker_of pass.old) number outcome (entry.Fail (worker_of pass.old) number) (known_of pass.old) (known_of pass.new) result }
         ensures fits { IsOfSeen L.modules L.plan (seen_of pass.old) number outcome → IfErr result (λ r. r.0 ≢ Stranger) }
     {
         self.beside(pass);
-        match self.fail_one(pass, number, outcome) {
-            Ok(()) => {
-                meet(self, pass);
-                Ok(())
-            }
-            Err(refused) => Err(refused),
-        }
+        let reply = self.fail_one(pass, number, outcome);
+        meet(self, pass);
+        reply
     }
 
     /// Stops the build, records the call, and shows the pass all publications.
@@ -324,10 +352,12 @@ impl<L: Ledger + Naming, R: Wait + Drop> Locked<L, R> {
         ensures kept { IsPrefix (seen_of pass.old) (seen_of pass.new) }
         ensures told { IsPrefix self.new.listed.published (seen_of pass.new) }
         ensures lawful { IsLawful L.modules L.plan (seen_of pass.new) }
-        ensures stopped { IsStopped pass.new }
+        ensures stops { Stops L.modules L.plan (worker_of pass.old) (known_of pass.old) (known_of pass.new) result }
+        ensures stopped { IsStopped L.modules L.plan (known_of pass.new) }
     {
+        self.beside(pass);
         let first = self.stop_all(pass);
-        self.tell_stop(pass);
+        self.beside(pass);
         meet(self, pass);
         first
     }
@@ -343,7 +373,7 @@ pub fn meet<L: Ledger + Naming, R: Wait + Drop>(locked: &mut Locked<L, R>, pass:
     ensures exact { (seen_of pass.new ≡ seen_of pass.old) ⊎ (seen_of pass.new ≡ locked.old.listed.published) }
     ensures record { (worker_of pass.new ≡ worker_of pass.old) × (calls_of pass.new ≡ calls_of pass.old) × (room_of pass.new ≡ room_of pass.old)
         × (share_of pass.new ≡ share_of pass.old) }
-    ensures stopped { IsStopped pass.old → IsStopped pass.new }
+    ensures known { known_of pass.new ≡ known_of pass.old }
     ensures same { locked.new ≡ locked.old }
 {
     pass.learn(locked.listed.front());
@@ -351,7 +381,6 @@ pub fn meet<L: Ledger + Naming, R: Wait + Drop>(locked: &mut Locked<L, R>, pass:
 
 impl<L: Ledger + Naming, R: Wait + Drop> Shared<L, R> {
     // Why: docs/DECISIONS.md, "Sums".
-    #[tactic(auto, using(crate::proofs::Braking::none_stopped))]
     /// Returns the store behind a lock, and a pass for each worker.
     ///
     /// # Errors
@@ -366,7 +395,7 @@ impl<L: Ledger + Naming, R: Wait + Drop> Shared<L, R> {
     ) -> Result<(Shared<L, R>, Vec<Pass<L>>), SharedFault>
         requires brand { (brands.blank.name ≡ L.name) × (brands.blank.parts ≡ L.parts) × (brands.blank.parts ≡ crew.workers) }
         requires list { brands.opened.seen.book ≡ L.book }
-        requires stops { brands.released.seen.book ≡ L.stops }
+        requires table { brands.unnamed.seat.table_id ≡ L.table }
         requires modules { store.modules ≡ L.modules }
         requires plan { store.given.imports ≡ L.plan }
         requires workers { (0 < crew.workers) × (crew.workers ≤ 16) }
@@ -378,22 +407,27 @@ impl<L: Ledger + Naming, R: Wait + Drop> Shared<L, R> {
         ensures empty { IfOk result (λ r. All (λ p. calls_of p ≡ []) r.1.items) }
         ensures parts { IfOk result (λ r. All (λ p. (share_of p).parts ≡ 1) r.1.items) }
         ensures seen { IfOk result (λ r. All (λ p. seen_of p ≡ []) r.1.items) }
+        ensures known { IfOk result (λ r. All (λ p. known_of p ≡ []) r.1.items) }
     {
         let _entries = store.entries();
         let Brands {
             blank,
             opened,
-            released,
+            unnamed,
         } = brands;
         let (book, rest) = blank.open::<L>();
         let (history, front) = opened.named::<L>();
         let pages = pages::opened(alloc, rt, &front, store.modules().len(), crew.workers)?;
-        let passes = deal(alloc, crew, rest, &pages, &front)?;
+        let stock = Stock {
+            rest,
+            journal: unnamed.named::<L>(),
+        };
+        let (passes, journal) = deal(alloc, crew, stock, &pages, &front)?;
         let locked = Mutex::new(Locked {
             listed: Listed::new(store, front, history),
             book,
             pages,
-            brake: released.named::<L>(),
+            journal,
         });
         let shared = Shared {
             locked,
@@ -413,8 +447,8 @@ impl<L: Ledger + Naming, R: Wait + Drop> Shared<L, R> {
         ensures within { IsWithin (length L.modules) result × IsWithin (length L.plan) result }
         ensures kept { IsPrefix (seen_of pass.old) (seen_of pass.new) }
         ensures lawful { IsLawful L.modules L.plan (seen_of pass.new) }
-        // Nothing is left: the build was stopped, or each module is settled.
-        ensures done { result ≡ Turn.Done → IsStopped pass.new ⊎ IsEnded L.modules L.plan (seen_of pass.new) }
+        // After a journal that begins with what the worker knew, the build object gives this reply. The worker then knows this journal and its claim.
+        ensures claims { Claims L.modules L.plan (worker_of pass.old) (known_of pass.old) (known_of pass.new) result }
     {
         let mut locked = self.locked.lock(rt);
         for _ in rt.forever() {
@@ -445,18 +479,21 @@ impl<L: Ledger + Naming, R: Wait + Drop> Shared<L, R> {
         requires room { 0 < room_of pass.old }
         requires good { IsGood outcome.verdict }
         ensures ok { IfOk result (λ _. Adds (calls_of pass.old) (Publish number) (calls_of pass.new)) }
-        ensures worker { IfOk result (λ _. worker_of pass.new ≡ worker_of pass.old) }
+        ensures worker { worker_of pass.new ≡ worker_of pass.old }
         ensures room { IfOk result (λ _. room_of pass.new + 1 ≡ room_of pass.old) }
         ensures parts { IfOk result (λ _. (share_of pass.new).parts ≡ (share_of pass.old).parts) }
-        ensures err { IfErr result (λ _. pass.new ≡ pass.old) }
+        // A refused call changes neither the record nor the room.
+        ensures err { IfErr result (λ _. (calls_of pass.new ≡ calls_of pass.old) × (share_of pass.new ≡ share_of pass.old)) }
+        ensures refused_room { IfErr result (λ _. room_of pass.new ≡ room_of pass.old) }
         ensures returned { IfErr result (λ r. r.1 ≡ outcome) }
-        ensures kept { IfOk result (λ _. IsPrefix (seen_of pass.old) (seen_of pass.new)) }
-        ensures lawful { IfOk result (λ _. IsLawful L.modules L.plan (seen_of pass.new)) }
+        ensures kept { IsPrefix (seen_of pass.old) (seen_of pass.new) }
+        ensures lawful { IsLawful L.modules L.plan (seen_of pass.new) }
         // The pass sees this publication, with its outcome and with the place in the journal at which the call is recorded.
         ensures publication { IfOk result (λ _. (place : ℕ) × AddsAt place (calls_of pass.old) (Publish number) (calls_of pass.new)
             × HasPublication (seen_of pass.new) number place outcome) }
-        // At one point of the build, whose journal is legal, the build object gives this reason; it gives none for `Memory`.
-        ensures answered { IsAnswered L.modules L.plan (worker_of pass.old) number outcome result }
+        // After a journal that begins with what the worker knew, the build object takes the outcome, or gives this reason; it gives none for `Memory`.
+        // The worker then knows this journal, and its entry if the outcome was taken.
+        ensures answers { Answers L.modules L.plan (worker_of pass.old) number outcome (entry.Publish (worker_of pass.old) number) (known_of pass.old) (known_of pass.new) result }
         // An outcome of the module for the interfaces that the pass has seen of its imports is never refused as `Stranger`.
         ensures fits { IsOfSeen L.modules L.plan (seen_of pass.old) number outcome → IfErr result (λ r. r.0 ≢ Stranger) }
         ensures seen { IfOk result (λ _. interface_in (seen_of pass.new) number ≡ interface_of outcome.verdict) }
@@ -475,8 +512,10 @@ impl<L: Ledger + Naming, R: Wait + Drop> Shared<L, R> {
         ensures parts { (share_of pass.new).parts ≡ (share_of pass.old).parts }
         ensures kept { IsPrefix (seen_of pass.old) (seen_of pass.new) }
         ensures lawful { IsLawful L.modules L.plan (seen_of pass.new) }
+        // After a journal that begins with what the worker knew, the build object gives this reply. The worker then knows this journal and its stop.
+        ensures stops { Stops L.modules L.plan (worker_of pass.old) (known_of pass.old) (known_of pass.new) result }
         // The build is stopped, by this call or by one before.
-        ensures stopped { IsStopped pass.new }
+        ensures stopped { IsStopped L.modules L.plan (known_of pass.new) }
     {
         let first = self.locked.lock(rt).stop(pass);
         self.moved.notify_all();
@@ -499,15 +538,18 @@ impl<L: Ledger + Naming, R: Wait + Drop> Shared<L, R> {
         requires faulty { ¬ IsGood outcome.verdict }
         ensures refused { IfErr result (λ r. r.0 ≢ Memory) }
         ensures ok { IfOk result (λ _. Adds (calls_of pass.old) (Fail number) (calls_of pass.new)) }
-        ensures worker { IfOk result (λ _. worker_of pass.new ≡ worker_of pass.old) }
+        ensures worker { worker_of pass.new ≡ worker_of pass.old }
         ensures room { IfOk result (λ _. room_of pass.new + 1 ≡ room_of pass.old) }
         ensures parts { IfOk result (λ _. (share_of pass.new).parts ≡ (share_of pass.old).parts) }
-        ensures err { IfErr result (λ _. pass.new ≡ pass.old) }
+        // A refused call changes neither the record nor the room.
+        ensures err { IfErr result (λ _. (calls_of pass.new ≡ calls_of pass.old) × (share_of pass.new ≡ share_of pass.old)) }
+        ensures refused_room { IfErr result (λ _. room_of pass.new ≡ room_of pass.old) }
         ensures returned { IfErr result (λ r. r.1 ≡ outcome) }
-        ensures kept { IfOk result (λ _. IsPrefix (seen_of pass.old) (seen_of pass.new)) }
-        ensures lawful { IfOk result (λ _. IsLawful L.modules L.plan (seen_of pass.new)) }
-        // At one point of the build, whose journal is legal, the build object gives this reason; it gives none for `Memory`.
-        ensures answered { IsAnswered L.modules L.plan (worker_of pass.old) number outcome result }
+        ensures kept { IsPrefix (seen_of pass.old) (seen_of pass.new) }
+        ensures lawful { IsLawful L.modules L.plan (seen_of pass.new) }
+        // After a journal that begins with what the worker knew, the build object takes the outcome, or gives this reason; it gives none for `Memory`.
+        // The worker then knows this journal, and its entry if the outcome was taken.
+        ensures answers { Answers L.modules L.plan (worker_of pass.old) number outcome (entry.Fail (worker_of pass.old) number) (known_of pass.old) (known_of pass.new) result }
         // An outcome of the module for the interfaces that the pass has seen of its imports is never refused as `Stranger`.
         ensures fits { IsOfSeen L.modules L.plan (seen_of pass.old) number outcome → IfErr result (λ r. r.0 ≢ Stranger) }
     {

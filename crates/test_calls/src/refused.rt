@@ -165,7 +165,7 @@ fn shared_and_back<L: Ledger + Naming, R: AllocGlobal + Wait>(
 ) -> Result<Store, Fail>
     requires brand { (brands.blank.name ≡ L.name) × (brands.blank.parts ≡ L.parts) × (brands.blank.parts ≡ 4) }
     requires list { brands.opened.seen.book ≡ L.book }
-    requires stops { brands.released.seen.book ≡ L.stops }
+    requires table { brands.unnamed.seat.table_id ≡ L.table }
     requires subjects { store.modules ≡ L.modules }
     requires plan { store.given.imports ≡ L.plan }
     requires empty { store.journal ≡ [] }
@@ -186,7 +186,7 @@ fn shared_and_back<L: Ledger + Naming, R: AllocGlobal + Wait>(
 #[test]
 fn shared_alone(rt: HostRuntime) -> Result<(), Fail> {
     let store = store_of(rt.alloc(), &[IMPORTER, IMPORTED])?;
-    let store = shared_and_back::<Brand, HostRuntime>(&rt, store, brands())?;
+    let store = shared_and_back::<Brand, HostRuntime>(&rt, store, brands(rt.alloc())?)?;
     assert!(rt; is_untouched(&store));
     Ok(())
 }
@@ -290,7 +290,7 @@ fn published<L: Ledger + Naming, R: Abort + AllocGlobal + Wait>(
 ) -> Result<(Store, bool), Fail>
     requires brand { (brands.blank.name ≡ L.name) × (brands.blank.parts ≡ L.parts) × (brands.blank.parts ≡ 4) }
     requires list { brands.opened.seen.book ≡ L.book }
-    requires stops { brands.released.seen.book ≡ L.stops }
+    requires table { brands.unnamed.seat.table_id ≡ L.table }
     requires subjects { store.modules ≡ L.modules }
     requires plan { store.given.imports ≡ L.plan }
     requires empty { store.journal ≡ [] }
@@ -319,7 +319,7 @@ const STOPPED: Entry = Entry::Stop { worker: 2 };
 #[test]
 fn publish_alone(rt: HostRuntime) -> Result<(), Fail> {
     let store = store_of(rt.alloc(), &[POLYMORPHIC])?;
-    let (store, is_published) = published::<Brand, HostRuntime>(&rt, store, brands())?;
+    let (store, is_published) = published::<Brand, HostRuntime>(&rt, store, brands(rt.alloc())?)?;
     assert_eq!(rt; store.look(0).is_some(), is_published);
     if is_published {
         assert!(rt; store.journal() == [CLAIMED, PUBLISHED, STOPPED].as_slice());

@@ -1,11 +1,12 @@
 //! Calls of workers in turn, on a store and on a shared store.
-ghost use Rattle.std.specs.Prelude.{◌≡◌, []};
+ghost use Rattle.std.specs.Prelude.{◌≡◌, [], IfOk};
 
 use crate::sources::{NO_MEMORY, module_of};
 use crate::stores::{IMPORTED, IMPORTER, outcome_of, store_of};
 use hm_check::{CheckFault, check_module};
 use hm_store::{Claimed, Entry, Refusal, Status, Store, Turn};
-use hm_store_published::{LookFault, Naming, Opened, Released};
+use hm_store_journal::Unnamed;
+use hm_store_published::{LookFault, Naming, Opened};
 use hm_store_shared::{Brands, Crew, Pass, Shared};
 use hm_verdicts::Verdict;
 use std::alloc::{AllocError, Global};
@@ -284,7 +285,7 @@ fn play<L: Ledger + Naming, R: AllocGlobal + Wait>(
 ) -> Result<Played, Fail>
     requires brand { (brands.blank.name ≡ L.name) × (brands.blank.parts ≡ L.parts) × (brands.blank.parts ≡ 4) }
     requires list { brands.opened.seen.book ≡ L.book }
-    requires stops { brands.released.seen.book ≡ L.stops }
+    requires table { brands.unnamed.seat.table_id ≡ L.table }
     requires subjects { store.modules ≡ L.modules }
     requires plan { store.given.imports ≡ L.plan }
     requires empty { store.journal ≡ [] }
@@ -304,20 +305,21 @@ fn play<L: Ledger + Naming, R: AllocGlobal + Wait>(
 }
 
 /// Returns the ghost tokens that name a build by four workers.
-pub(crate) fn brands() -> Brands
-    ensures parts { result.blank.parts ≡ 4 }
+pub(crate) fn brands(alloc: Global) -> Result<Brands, AllocError>
+    ensures parts { IfOk result (λ b. b.blank.parts ≡ 4) }
 {
-    Brands {
+    let unnamed = Unnamed::new(alloc)?;
+    Ok(Brands {
         blank: Blank::new(4),
         opened: Opened::new(),
-        released: Released::new(),
-    }
+        unnamed,
+    })
 }
 
 #[test]
 fn looks_see_more(rt: HostRuntime) -> Result<(), Fail> {
     let store = store_of(rt.alloc(), &[IMPORTER, IMPORTED])?;
-    let played = play::<Brand, HostRuntime>(&rt, store, brands(), Script::LookOn)?;
+    let played = play::<Brand, HostRuntime>(&rt, store, brands(rt.alloc())?, Script::LookOn)?;
     assert!(rt; played.is_right);
     assert!(rt; played.places.as_slice() == [0, 2, 2, 3].as_slice());
     Ok(())
@@ -364,7 +366,7 @@ fn is_claimed(store: &Store, number: usize) -> bool {
 #[test]
 fn claimed_modules_end_behind_a_stop(rt: HostRuntime) -> Result<(), Fail> {
     let store = store_of(rt.alloc(), &FOUR_MODULES)?;
-    let played = play::<Brand, HostRuntime>(&rt, store, brands(), Script::StopBetween)?;
+    let played = play::<Brand, HostRuntime>(&rt, store, brands(rt.alloc())?, Script::StopBetween)?;
     assert!(rt; played.is_right);
     assert!(rt; played.store.journal() == STOPPED.as_slice());
     assert!(rt; is_claimed(&played.store, 2));

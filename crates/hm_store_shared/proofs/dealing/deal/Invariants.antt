@@ -1,6 +1,6 @@
 use Rattle.std.proofs.Common.{◌≡◌, ℕ, ◌<◌, ◌+◌, [], All, vec_len}
 use Rattle.std.specs.Prelude.{slice_index_or}
-use Rattle.hm_store_shared.specs.Passes.{calls_of, room_of, seen_of, share_of, worker_of}
+use Rattle.hm_store_shared.specs.Passes.{calls_of, known_of, room_of, seen_of, share_of, worker_of}
 use Rattle.hm_store_shared.proofs.dealing.deal.Given as goal
 
 abbrev pub invariant-loop-worker : goal.invariant-loop-worker
@@ -13,4 +13,7 @@ invariant-loop-worker g l = record {
   empty : All (λ p. calls_of p ≡ []) l.passes.items;
   parts : All (λ p. (share_of p).parts ≡ 1) l.passes.items;
   seen : All (λ p. seen_of p ≡ l.front) l.passes.items;
+  known : All (λ p. known_of p ≡ []) l.passes.items;
+  entries : l.journal.entries ≡ [];
+  hired : l.journal.workers ≡ l.worker;
 }

@@ -4,4 +4,4 @@ abbrev pub ghosts-published-L-Ledger : goal.ghosts-published-L-Ledger
 ghosts-published-L-Ledger g a = record { name = a.brands.blank.name; parts = a.brands.blank.parts }
 
 abbrev pub ghosts-published-L-Naming : goal.ghosts-published-L-Naming
-ghosts-published-L-Naming g a = record { book = a.brands.opened.seen.book; stops = a.brands.released.seen.book; modules = a.store.modules; plan = a.store.given.imports }
+ghosts-published-L-Naming g a = record { book = a.brands.opened.seen.book; table = a.brands.unnamed.seat.table_id; modules = a.store.modules; plan = a.store.given.imports }

@@ -4,4 +4,4 @@ abbrev pub ghosts-play-L-Ledger : goal.ghosts-play-L-Ledger
 ghosts-play-L-Ledger g a = record { name = a.brands.blank.name; parts = a.brands.blank.parts }
 
 abbrev pub ghosts-play-L-Naming : goal.ghosts-play-L-Naming
-ghosts-play-L-Naming g a = record { book = a.brands.opened.seen.book; stops = a.brands.released.seen.book; modules = a.store.modules; plan = a.store.given.imports }
+ghosts-play-L-Naming g a = record { book = a.brands.opened.seen.book; table = a.brands.unnamed.seat.table_id; modules = a.store.modules; plan = a.store.given.imports }
