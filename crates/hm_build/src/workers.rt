@@ -224,7 +224,7 @@ fn run_worker<L: Ledger + Naming, G: Gate, W: Wait + Drop, R: Wait>(
     pass: &mut Pass<L>,
 ) -> Result<(), WorkFault>
     requires work { IsWorkOf L.modules L.plan (map arc_value work.now.modules.now) (map (λ row. row.items) work.now.imports.now) }
-    // If a worker fails, it knows that the build is stopped.
+    // If a worker fails, the journal that it has seen has a stop.
     ensures stopped { IfErr result (λ _. 0 < room_of pass.old → IsStopped L.modules L.plan (known_of pass.new)) }
 {
     if pass.room() == 0 {

@@ -75,7 +75,7 @@ Appends s v found w = (e : Entry) × (s.said ≡ some e) × (w ≡ (view v.0.mai
 abbrev pub Hires : Step Entry → Me Entry View → ℕ → Me Entry View → Type 0
 Hires s v found w = (by v.0.hired v.0.seen ≡ []) × (w ≡ (view v.0.main v.0.seen [] (v.0.hired + 1) (Some (v.0.hired, [])), v.1))
 
--- the list that was told is a prefix of the one that was seen, which has the worker's entries and no others of it
+-- the list of the joined view is a prefix of the one that was seen, which has the worker's entries and no others of it
 abbrev pub Compares : Step Entry → Me Entry View → ℕ → Me Entry View → Type 0
 Compares s v found w = IsPrefix v.0.told v.0.seen × ((x : ℕ) (es : List Entry) → v.0.own ≡ Some (x, es) → by x v.0.seen ≡ es) × (w ≡ v)
 

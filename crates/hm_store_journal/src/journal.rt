@@ -44,6 +44,7 @@ impl Unnamed {
     }
 }
 
+// Why: docs/DECISIONS.md, "The list of entries".
 /// The whole list, which the lock has. Contracts see its entries, and the number of workers that have a token.
 #[derive(Drop)]
 pub struct Journal<J: Naming> {
@@ -115,7 +116,7 @@ impl<J: Naming> Journal<J> {
         }
     }
 
-    /// Adds an entry of this worker, whose token has then seen the whole list. Nobody else has added an entry of the worker.
+    /// Adds an entry of this worker, whose token has then seen the whole list. No other call has added an entry of the worker.
     pub fn add(&mut self, known: &mut Known<J>, entry: Entry)
         requires { writer_of entry ≡ known.old.worker }
         ensures added { self.new ≡ record { entries = self.old.entries ++ entry ∷ []; workers = self.old.workers } }

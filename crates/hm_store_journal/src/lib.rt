@@ -1,4 +1,6 @@
-//! The list of all entries of a build, which only the proofs have. The lock has it whole, and each worker's token has seen a prefix of it.
+//! The list of all entries of a build, which only proofs have, and a token of it for each worker.
+//!
+//! The lock has the whole list. A token has seen a prefix of it.
 #![tactic(auto)]
 
 mod journal;

@@ -1,4 +1,4 @@
--- What a worker knows of the journal, and what a call under the lock adds to it.
+-- What a worker has seen of the journal, and what a call under the lock adds to it.
 use Rattle.std.specs.Prelude.{◌≡◌, ◌==◌, ℕ, Bool, true, false, cond, fold, not, List, [], ◌∷◌, ◌++◌, Some, Result, Ok, Err}
 use mathlib.Core.List.{IsPrefix}
 use Rattle.hm_syntax.specs.declared.ast.Module.{Module}
@@ -23,18 +23,18 @@ act_by (entry.Publish w m) = Publish m
 act_by (entry.Fail w m) = Fail m
 act_by (entry.Stop w) = Stop true
 
--- the entries begin with those that worker w knew, and none of the others is of this worker
+-- the entries begin with those that worker w had seen, and none of the others is of this worker
 pub record Begins (w : ℕ) (known : List Entry) (entries : List Entry) : Type 0 where
   pub begun : IsPrefix known entries
   pub own : by w entries ≡ by w known
 
--- a legal build of these modules with this plan, whose journal begins with what worker w knew
+-- a legal build of these modules with this plan, whose journal begins with what worker w had seen
 pub record IsMet (subjects : List Module) (plan : List (List ℕ)) (w : ℕ) (known : List Entry) (b : Build) : Type 0 where
   pub same : IsBuildOf subjects plan b
   pub legal : IsLegal b
   pub begins : Begins w known b.journal
 
--- a claim of worker w: after a journal that begins with what the worker knew, the build object has this reply. The worker then knows this journal and its
+-- a claim of worker w: after a journal that begins with what the worker had seen, the build object has this reply. The worker has then seen this journal and its
 -- claim
 pub record Claims (subjects : List Module) (plan : List (List ℕ)) (w : ℕ) (old new : List Entry) (turn : Turn) : Type 0 where
   pub before : Build

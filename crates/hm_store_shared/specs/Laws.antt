@@ -30,6 +30,6 @@ HeldAreTheirs =
     (subjects : List Module) (plan : List (List ℕ)) (w m : ℕ) (c : Checked) (e : Entry) (old new : List Entry) (r : Result (Unit {0}) (Refusal × Checked)) → Answers subjects plan w m c e old new r → HasClaimed w old m
     → IfErr r (λ x. x.0 ≢ NotYours)
 
--- law: if a claim is told that nothing is left, the journal that the worker then knows has a stop, or settles each module
+-- law: if the reply to a claim is that nothing is left, the journal that the worker has then seen has a stop, or settles each module
 abbrev pub DoneIsTheEnd : Type 0
 DoneIsTheEnd = (subjects : List Module) (plan : List (List ℕ)) (w : ℕ) (old new : List Entry) → Claims subjects plan w old new turn.Done → IsStopped subjects plan new ⊎ IsEnded subjects plan new

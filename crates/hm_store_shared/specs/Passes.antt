@@ -27,6 +27,6 @@ share_of p = p.share
 abbrev pub seen_of : {L : Type 0} {J : Naming.Ghosts L} → Pass L J → List Publication
 seen_of p = p.reader
 
--- the entries of the journal that it knows, from its calls under the lock: a prefix of the list of all
+-- the entries of the journal that it has seen, from its calls under the lock: a prefix of the list of all
 abbrev pub known_of : {L : Type 0} {J : Naming.Ghosts L} → Pass L J → List Entry
 known_of p = p.token.entries

@@ -15,8 +15,8 @@ pub fn seen_imports_are_asked_for()
     steps_settle_a_set();
 }
 
-/// What the replies of claims, publications and failures come to. After a claim that got a module, the worker has claimed it by its own entries. An
-/// outcome of such a module is never refused as `NotYours`. If a claim is told that nothing is left, there was a stop or each module is settled.
+/// Facts about the replies of claims, publications and failures. After a claim that got a module, the worker has claimed it by its own entries. An
+/// outcome of such a module is never refused as `NotYours`. If its reply is that nothing is left, there was a stop or each module is settled.
 pub fn replies_are_known()
     ensures claims { ClaimsAreHeld }
     ensures held { HeldAreTheirs }

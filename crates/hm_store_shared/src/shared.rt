@@ -447,7 +447,7 @@ impl<L: Ledger + Naming, R: Wait + Drop> Shared<L, R> {
         ensures within { IsWithin (length L.modules) result × IsWithin (length L.plan) result }
         ensures kept { IsPrefix (seen_of pass.old) (seen_of pass.new) }
         ensures lawful { IsLawful L.modules L.plan (seen_of pass.new) }
-        // After a journal that begins with what the worker knew, the build object gives this reply. The worker then knows this journal and its claim.
+        // After a journal that begins with what the worker had seen, the build object gives this reply. The worker has then seen this journal and its claim.
         ensures claims { Claims L.modules L.plan (worker_of pass.old) (known_of pass.old) (known_of pass.new) result }
     {
         let mut locked = self.locked.lock(rt);
@@ -491,8 +491,8 @@ impl<L: Ledger + Naming, R: Wait + Drop> Shared<L, R> {
         // The pass sees this publication, with its outcome and with the place in the journal at which the call is recorded.
         ensures publication { IfOk result (λ _. (place : ℕ) × AddsAt place (calls_of pass.old) (Publish number) (calls_of pass.new)
             × HasPublication (seen_of pass.new) number place outcome) }
-        // After a journal that begins with what the worker knew, the build object takes the outcome, or gives this reason; it gives none for `Memory`.
-        // The worker then knows this journal, and its entry if the outcome was taken.
+        // After a journal that begins with what the worker had seen, the build object takes the outcome, or gives this reason; it gives none for `Memory`.
+        // The worker has then seen this journal, and its entry if the outcome was taken.
         ensures answers { Answers L.modules L.plan (worker_of pass.old) number outcome (entry.Publish (worker_of pass.old) number) (known_of pass.old) (known_of pass.new) result }
         // An outcome of the module for the interfaces that the pass has seen of its imports is never refused as `Stranger`.
         ensures fits { IsOfSeen L.modules L.plan (seen_of pass.old) number outcome → IfErr result (λ r. r.0 ≢ Stranger) }
@@ -512,7 +512,7 @@ impl<L: Ledger + Naming, R: Wait + Drop> Shared<L, R> {
         ensures parts { (share_of pass.new).parts ≡ (share_of pass.old).parts }
         ensures kept { IsPrefix (seen_of pass.old) (seen_of pass.new) }
         ensures lawful { IsLawful L.modules L.plan (seen_of pass.new) }
-        // After a journal that begins with what the worker knew, the build object gives this reply. The worker then knows this journal and its stop.
+        // After a journal that begins with what the worker had seen, the build object gives this reply. The worker has then seen this journal and its stop.
         ensures stops { Stops L.modules L.plan (worker_of pass.old) (known_of pass.old) (known_of pass.new) result }
         // The build is stopped, by this call or by one before.
         ensures stopped { IsStopped L.modules L.plan (known_of pass.new) }
@@ -547,8 +547,8 @@ impl<L: Ledger + Naming, R: Wait + Drop> Shared<L, R> {
         ensures returned { IfErr result (λ r. r.1 ≡ outcome) }
         ensures kept { IsPrefix (seen_of pass.old) (seen_of pass.new) }
         ensures lawful { IsLawful L.modules L.plan (seen_of pass.new) }
-        // After a journal that begins with what the worker knew, the build object takes the outcome, or gives this reason; it gives none for `Memory`.
-        // The worker then knows this journal, and its entry if the outcome was taken.
+        // After a journal that begins with what the worker had seen, the build object takes the outcome, or gives this reason; it gives none for `Memory`.
+        // The worker has then seen this journal, and its entry if the outcome was taken.
         ensures answers { Answers L.modules L.plan (worker_of pass.old) number outcome (entry.Fail (worker_of pass.old) number) (known_of pass.old) (known_of pass.new) result }
         // An outcome of the module for the interfaces that the pass has seen of its imports is never refused as `Stranger`.
         ensures fits { IsOfSeen L.modules L.plan (seen_of pass.old) number outcome → IfErr result (λ r. r.0 ≢ Stranger) }
