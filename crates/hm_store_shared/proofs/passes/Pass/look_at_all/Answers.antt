@@ -29,6 +29,7 @@ loop-number-preserved g c =
     record {
       seen = begins_through before (seen_of c.loop-number.self) (seen_of c.look_at_seen.new.self) inv.seen c.look_at_seen.ensures.list;
       reply = rw c.in-Ok.ensures.items (map-append (λ j. Some (arc_value j)) c.loop-number.interfaces.items (c.in_ok-interface.interface ∷ []) ∙ (ap (λ w. w ++ Some x ∷ []) inv.reply ∙ (ap (λ y. map (interface_in before) (take i numbers) ++ y ∷ []) (sym one) ∙ sym more)));
+      known = c.look_at_seen.ensures.known ∙ inv.known;
       worker = c.look_at_seen.ensures.worker ∙ inv.worker;
       room = omega (arith, c.in_ok-interface.ensures.room, inv.room);
     }
