@@ -7,4 +7,5 @@ pub mod Owning
 pub mod Publishing
 pub mod Refusing
 pub mod SeenImports
+pub mod WorkedEntries
 pub mod WorkedListings

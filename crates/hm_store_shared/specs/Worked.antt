@@ -6,9 +6,10 @@ use Rattle.hm_verdicts.specs.Outcomes.{Checked}
 use Rattle.hm_store_published.specs.declared.publication.Publication.{Publication}
 use Rattle.hm_store_published.specs.Worked.{entry, plan}
 use Rattle.hm_store.specs.Worked.{begun, done, journal_by}
-use Rattle.hm_store.specs.declared.object.Entry.TheVariants.{Publish}
+use Rattle.hm_store.specs.declared.object.Entry.TheVariants.{Claim, Publish, Stop}
 use Rattle.hm_store.specs.declared.object.Refusal.TheVariants.{NotYours, Memory}
 use Rattle.hm_store.specs.declared.object.Turn.TheVariants.{Job, Done}
+use Rattle.hm_store_shared.specs.Knowing.{Begins, HasClaimed}
 use Rattle.hm_store_shared.specs.Listings.{ArePublications, HasImports, HasPublication, IsListed, IsOfSeen, IsWithin, Listing, Settled, published_after, publications_in}
 
 abbrev pub published_as : ℕ → ℕ → Checked → Publication
@@ -48,3 +49,15 @@ pub record SeenRow : Type 0 where
   pub fits : (a b : Module) (g : Interface) (c : Checked) → c.«module» ≡ a → c.imports ≡ g ∷ [] → IsOfSeen (a ∷ b ∷ []) plan (entry 1 1 b [] g ∷ []) 0 c
   pub other : (a b : Module) (g h : Interface) (c : Checked) → c.imports ≡ h ∷ [] → g ≢ h → ¬ (IsOfSeen (a ∷ b ∷ []) plan (entry 1 1 b [] g ∷ []) 0 c)
   pub unseen : (a b : Module) (g : Interface) (c : Checked) → c.imports ≡ g ∷ [] → ¬ (IsOfSeen (a ∷ b ∷ []) plan [] 0 c)
+
+-- worker 1 has claimed module 0, and no longer after its publication. Worker 2 has claimed another module
+pub record HeldRow : Type 0 where
+  pub claimed : HasClaimed 1 (Claim 2 3 ∷ Claim 1 0 ∷ []) 0
+  pub ended : ¬ (HasClaimed 1 (Claim 2 3 ∷ Claim 1 0 ∷ Publish 1 0 ∷ []) 0)
+  pub another : ¬ (HasClaimed 2 (Claim 2 3 ∷ Claim 1 0 ∷ []) 0)
+
+-- entries of other workers may follow what worker 1 had seen. An entry of its own may not
+pub record BeginsRow : Type 0 where
+  pub others : Begins 1 (Claim 1 0 ∷ []) (Claim 1 0 ∷ Claim 2 1 ∷ [])
+  pub own : ¬ (Begins 1 (Claim 1 0 ∷ []) (Claim 1 0 ∷ Stop 1 ∷ []))
+  pub shorter : ¬ (Begins 1 (Claim 1 0 ∷ []) [])

@@ -1,6 +1,6 @@
 //! Laws of the lock and of passes.
 ghost use Rattle.hm_store_shared.specs.Laws.{ClaimsAreHeld, DoneIsTheEnd, HeldAreTheirs, SeenAreAskedFor};
-ghost use Rattle.hm_store_shared.specs.Worked.{ClaimRow, ListingRow, PublishRow, SeenRow};
+ghost use Rattle.hm_store_shared.specs.Worked.{BeginsRow, ClaimRow, HeldRow, ListingRow, PublishRow, SeenRow};
 
 use hm_verdicts::steps_settle_a_set;
 
@@ -24,10 +24,12 @@ pub fn replies_are_known()
 {}
 
 /// Worked examples of lists: the publications of a journal, the publications that a worker has seen after a claim, the changes of a publication,
-/// and the outcomes that fit the list.
+/// the outcomes that fit the list, and what a worker has seen of the journal.
 pub fn worked_listings()
     ensures listings { ListingRow }
     ensures claims { ClaimRow }
     ensures publishes { PublishRow }
     ensures seen { SeenRow }
+    ensures held { HeldRow }
+    ensures begins { BeginsRow }
 {}
