@@ -14,8 +14,8 @@ use Rattle.hm_build_messages.proofs.Turns.{each_so}
 use Rattle.hm_build_messages.proofs.detailing.searched_messages.Goals as goal
 
 -- interfaces of other imports: nothing is known
-pub returns-then-not-are_imports_of : goal.returns-then-not-are_imports_of
-returns-then-not-are_imports_of c =
+pub returns-then-not-branch : goal.returns-then-not-branch
+returns-then-not-branch c =
     let told = c.args.told.now in
     let page = c.args.page.now in
     let known = IsKnown (module_at (module_set told.modules.now told.plan.now) c.args.faulty.number) (prelude_interface ∷ map arc_value c.args.imports.now) in
