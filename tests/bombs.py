@@ -101,6 +101,7 @@ BOMBS = [
     ("imports of synonyms", importing("type T{n} = (T{m}, T{m})", "type T0 = (Int, Int)", 21), "22 modules: 22 good, 0 faulty, 0 skipped", True),
     ("a large type in 30 modules", "\n".join([module(*PAIRS[:15], head="M0"), *(module(f"import M{n - 1}", head=f"M{n} (module M{n - 1})") for n in range(1, 30))]), "30 modules: 30 good, 0 faulty, 0 skipped", True),
     # what is large as it is written is good
+    ("60,000 constructors", module("data T = " + row("C{n}", 60_000, " | ")), GOOD, False),
     ("a line of 327,676 bytes", module("a x = (x, x)", "b x = a (a x)", "c x = b (b x)", "d x = c (c x)", "e x = d (d x)"), GOOD, False),
     ("20,000 nested lambdas", module("x = " + "\\y -> " * 20_000 + "1"), GOOD, False),
     ("20,000 arguments", module("f a = a" + " 1" * 20_000), GOOD, False),

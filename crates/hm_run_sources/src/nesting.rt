@@ -1,8 +1,8 @@
 //! A bound on how deep the trees of a source nest.
 //!
 //! Each edge of a tree has a lexeme of its own: an argument, an arrow, a colon, a `\`, an `if`, or the bracket around the subtree. Trees on the
-//! two sides of a separator are siblings. An item goes from one separator to the next. So it has at most as many levels as it has lexemes, plus
-//! those of the deepest brackets in it.
+//! two sides of a separator are siblings, and so are constructors and guards. An item goes from one separator to the next, or begins with a `|`. So
+//! it has at most as many levels as it has lexemes, plus those of the deepest brackets in it.
 ghost use Rattle.std.specs.Prelude.{◌<◌, ◌≤◌};
 
 use crate::pieces::{Piece, first_piece};
@@ -49,6 +49,12 @@ impl Items {
             within: 0,
             before: self.levels(),
         };
+    }
+
+    /// Adds a lexeme with which an item begins.
+    fn begin(&mut self) {
+        self.part();
+        self.add(0);
     }
 }
 
@@ -113,6 +119,7 @@ impl Open {
             Piece::Gap => {}
             Piece::Lexeme => self.here.add(0),
             Piece::Separator => self.here.part(),
+            Piece::Bar => self.here.begin(),
             Piece::Opening => self.open(),
             Piece::Closing => self.close(),
         }

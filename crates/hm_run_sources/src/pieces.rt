@@ -17,6 +17,8 @@ pub(crate) enum Piece {
     Closing,
     /// `,` or `;`.
     Separator,
+    /// `|`, with which the next constructor or guard begins.
+    Bar,
 }
 
 /// A class of bytes that form runs.
@@ -173,15 +175,19 @@ fn comment_len(bytes: &[u8]) -> usize
     if depth > 0 { bytes.len() } else { end }
 }
 
-/// Returns the operator or the line comment at the front.
+/// Returns the operator, the `|` or the line comment at the front.
 fn symbols(bytes: &[u8]) -> (Piece, usize)
+    requires { 0 < length bytes.now }
     ensures within { result.1 ≤ length bytes.now }
 {
     if bytes.len() >= 2 && bytes[0] == b'-' && bytes[1] == b'-' {
-        (Piece::Gap, run_len(bytes, Class::Line))
-    } else {
-        (Piece::Lexeme, run_len(bytes, Class::Symbol))
+        return (Piece::Gap, run_len(bytes, Class::Line));
     }
+    let len = run_len(bytes, Class::Symbol);
+    if len == 1 && bytes[0] == b'|' {
+        return (Piece::Bar, len);
+    }
+    (Piece::Lexeme, len)
 }
 
 /// Returns the bracket or the nested comment at the front.

@@ -4,7 +4,7 @@ use hm_run_sources::Nesting;
 use std::alloc::{AllocError, Global};
 
 /// A source, and its bound: its lexemes between separators, plus those of its deepest brackets.
-const ROWS: [(&str, usize); 14] = [
+const ROWS: [(&str, usize); 15] = [
     ("", 0),
     ("module A where { }", 4),
     ("module A where { x = 1 }", 7),
@@ -25,7 +25,8 @@ const ROWS: [(&str, usize); 14] = [
     ("module A where { x' = f' '(' '\\'' '\\\\' ';' }", 11),
     ("module A where { x = f 0x1F'(' 0o17'(' 0'(' }", 13),
     ("module A where { x = f 0g'h'(1)0x0g'h'(1) }", 14),
-    ("module A where { f :: a -> b ; f x | x = \\y->y }", 13),
+    ("module A where { f :: a -> b ; f x | x = \\y->y }", 11),
+    ("module A where { data T = C0 | C1 | C2 a b | C3 }", 8),
 ];
 
 /// Appended to each source, because the bound is at most a quarter of a source's bytes.
