@@ -20,6 +20,7 @@ MEGABYTE = 1_000_000
 MOST_SECONDS, MOST_MEGABYTES, ADDRESSES = 10, 1000, 4_000 * MEGABYTE
 GOOD = "1 modules: 1 good, 0 faulty, 0 skipped"
 FAULTY = "1 modules: 0 good, 1 faulty, 0 skipped"
+TWO_GOOD = "2 modules: 2 good, 0 faulty, 0 skipped"
 
 
 def module(*declarations, head="A"):
@@ -51,6 +52,7 @@ DOUBLED = "type D a = (a, a)"
 SYNONYMS = chain("type T0 = (Int, Int)", "type T{n} = (T{m}, T{m})", 30)
 LARGE = "x :: " + nested("D (", "Int", ")", 14)
 LONG = "T" * 400
+VALUES = [f"a{n} = 1" for n in range(4_000)]
 
 # A name; the source; the last line that is right; whether memory may run out instead.
 BOMBS = [
@@ -100,7 +102,13 @@ BOMBS = [
     ("imports of pairs", importing("a{n} = (a{m}, a{m})", "a0 = 1", 21), "22 modules: 22 good, 0 faulty, 0 skipped", True),
     ("imports of synonyms", importing("type T{n} = (T{m}, T{m})", "type T0 = (Int, Int)", 21), "22 modules: 22 good, 0 faulty, 0 skipped", True),
     ("a large type in 30 modules", "\n".join([module(*PAIRS[:15], head="M0"), *(module(f"import M{n - 1}", head=f"M{n} (module M{n - 1})") for n in range(1, 30))]), "30 modules: 30 good, 0 faulty, 0 skipped", True),
+    # what adds up by repetition
+    ("2,800 imports of one module", module(*VALUES[:2_800]) + "\n" + module(*["import A"] * 2_800, head="B"), TWO_GOOD, True),
+    ("4,000 imports of one module under other names", module(*VALUES) + "\n" + module(*(f"import A as Q{n}" for n in range(4_000)), head="B"), TWO_GOOD, True),
+    ("imports that hide another name each", module(*VALUES[:1_500]) + "\n" + module(*(f"import A hiding (a{n})" for n in range(1_500)), head="B"), TWO_GOOD, True),
+    ("imports of one module in 1,000 modules", module(*VALUES[:2_500]) + "\n" + "\n".join(module("import A", head=f"B{n}") for n in range(1_000)), "1001 modules: 1001 good, 0 faulty, 0 skipped", True),
     # what is large as it is written is good
+    ("40,000 values beside an import", module("m = 1", head="B") + "\n" + module("import B", *(f"a{n} = 1" for n in range(40_000))), TWO_GOOD, False),
     ("60,000 constructors", module("data T = " + row("C{n}", 60_000, " | ")), GOOD, False),
     ("a line of 327,676 bytes", module("a x = (x, x)", "b x = a (a x)", "c x = b (b x)", "d x = c (c x)", "e x = d (d x)"), GOOD, False),
     ("20,000 nested lambdas", module("x = " + "\\y -> " * 20_000 + "1"), GOOD, False),

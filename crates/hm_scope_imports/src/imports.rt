@@ -21,6 +21,12 @@ use hm_types::{Entity, Interface};
 use std::alloc::{AllocError, Global};
 use std::sync::Arc;
 
+/// The number of pairs that the imports of a module may bring in, whatever the interfaces.
+const LEAST_PAIRS: usize = 1 << 16;
+
+/// Further pairs, for each entry of an interface. An import without a list brings in two for each: bare and qualified.
+const PAIRS_PER_ENTRY: usize = 16;
+
 /// The names that an import brings in: those of a selection, with this qualifier, and bare unless `qualified` holds.
 #[derive(Clone, Copy)]
 struct Brought<'r, 'a> {
@@ -268,7 +274,28 @@ pub(crate) fn names_prelude(imports: &[Import]) -> bool
     false
 }
 
-/// Adds the entities that the written imports bring in.
+/// Returns how many entries an interface has.
+fn entry_count(interface: &Interface) -> usize {
+    let types = interface.types().len();
+    types
+        .saturating_add(interface.synonyms().len())
+        .saturating_add(interface.constructors().len())
+        .saturating_add(interface.values().len())
+}
+
+// Why: docs/DECISIONS.md, "Pairs of a scope".
+/// Returns how many pairs the imports for these interfaces may bring in. Imports that repeat a module under many names would bring in more.
+fn most_pairs(interfaces: &[&Interface]) -> usize {
+    let mut entries: usize = 0;
+    for interface in interfaces {
+        entries = entries.saturating_add(entry_count(interface));
+    }
+    entries
+        .saturating_mul(PAIRS_PER_ENTRY)
+        .saturating_add(LEAST_PAIRS)
+}
+
+/// Adds the entities that the written imports bring in. If these are too many, returns an error as if memory ran out.
 fn add_written<'a>(
     alloc: Global,
     pairs: &mut Vec<Binding<'a>>,
@@ -279,8 +306,12 @@ fn add_written<'a>(
     ensures { OnOk result (Adds pairs.old.items pairs.new.items (λ p. (i : Import)
         × (Contains imports.now i × IsBroughtFrom (map (λ f. f.now) interfaces.now) i p))) }
 {
+    let most = pairs.len().saturating_add(most_pairs(interfaces));
     let mut from = 0;
     for import in imports {
+        if pairs.len() > most {
+            return Err(AllocError);
+        }
         from = add_import(alloc, pairs, import, interfaces, from)?;
     }
     Ok(())
