@@ -107,6 +107,9 @@ BOMBS = [
     ("4,000 imports of one module under other names", module(*VALUES) + "\n" + module(*(f"import A as Q{n}" for n in range(4_000)), head="B"), TWO_GOOD, True),
     ("imports that hide another name each", module(*VALUES[:1_500]) + "\n" + module(*(f"import A hiding (a{n})" for n in range(1_500)), head="B"), TWO_GOOD, True),
     ("imports of one module in 1,000 modules", module(*VALUES[:2_500]) + "\n" + "\n".join(module("import A", head=f"B{n}") for n in range(1_000)), "1001 modules: 1001 good, 0 faulty, 0 skipped", True),
+    ("4,000 exports of one type with 4,000 constructors", module("data T = " + row("C{n}", 4_000, " | "), head="A (" + row("T (..)", 4_000) + ")"), GOOD, True),
+    ("4,000 exports of a whole module", module(*VALUES, head="A (" + row("module A", 4_000) + ")"), GOOD, True),
+    ("2,000 exports of such names", module(*VALUES[:2_000]) + "\n" + module(*(f"import A as Q{n}" for n in range(2_000)), head="B (" + row("module Q{n}", 2_000) + ")"), TWO_GOOD, True),
     # what is large as it is written is good
     ("40,000 values beside an import", module("m = 1", head="B") + "\n" + module("import B", *(f"a{n} = 1" for n in range(40_000))), TWO_GOOD, False),
     ("60,000 constructors", module("data T = " + row("C{n}", 60_000, " | ")), GOOD, False),

@@ -358,7 +358,7 @@ def faulty_and_growing(folder):
 
 NO_ROOM_FOR_C = """\
 <stdin>:3:8: error: there is no memory to check module 'C' [no-memory]
-Its types grow too large, or the machine has no more memory.
+Its types grow too large, its imports or exports repeat too much, or the machine has no more memory.
 hmc: no memory
 """
 

@@ -189,7 +189,7 @@ pub(crate) fn notice_of<'a>(topic: &Topic<'a>) -> Notice<'a>
         Topic::Exhausted(name) => error(
             "no-memory",
             Some(name),
-            "Its types grow too large, or the machine has no more memory.\n",
+            "Its types grow too large, its imports or exports repeat too much, or the machine has no more memory.\n",
         ),
         Topic::Limit => note("limit", None),
         Topic::Step(_, import) => note("import", Some(import)),

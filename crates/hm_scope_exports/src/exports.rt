@@ -27,6 +27,12 @@ use hm_types::{Interface, Text};
 use indexmap::IndexMap;
 use std::alloc::{AllocError, Global};
 
+/// The number of exports that the items of an export list may select, whatever the scope.
+const LEAST_EXPORTS: usize = 1 << 16;
+
+/// Further exports, for each pair of the scope.
+const EXPORTS_PER_PAIR: usize = 8;
+
 /// The tables in which the items of an export list are looked up.
 #[derive(Drop)]
 struct Exporter<'s, 'a> {
@@ -34,6 +40,8 @@ struct Exporter<'s, 'a> {
     scope: &'s Scope<'a>,
     modules: TextSet<'a>,
     groups: IndexMap<Selector<'a>, Vec<Binding<'a>>>,
+    /// The number of exports that the items may select before the last one, counted once for each item.
+    most: usize,
 }
 
 /// The exports of a module with their names, and the faults of its export list.
@@ -331,7 +339,8 @@ fn add_all<'a>(
     Ok(())
 }
 
-/// Adds the exports of an item of the export list, and its faults.
+/// Adds the exports of an item of the export list, and its faults. If the items before it select too many exports, returns an error as if memory
+/// ran out.
 fn add_export<'a>(
     exporter: &Exporter<'_, 'a>,
     exports: &mut ModuleExports<'a>,
@@ -341,6 +350,9 @@ fn add_export<'a>(
     ensures { OnOk result ((m : Module) (fs : List Interface) (before : List Export) → IsExporterOf m fs exporter.now
         → AreExportsSoFar m fs before exports.old table.old → AreExportsSoFar m fs (before ++ item.now ∷ []) exports.new table.new) }
 {
+    if exports.given.len() > exporter.most {
+        return Err(AllocError);
+    }
     let mut out = Vec::new(exporter.alloc);
     add_item(exporter, &mut out, &mut exports.faults, item)?;
     add_all(&mut exports.given, table, &out)?;
@@ -390,6 +402,16 @@ fn declared_exports<'a>(alloc: Global, program: &'a Module) -> Result<Vec<Bindin
     Ok(given)
 }
 
+// Why: docs/DECISIONS.md, "Repeated exports".
+/// Returns how many exports the items of an export list may select. Each pair of the scope may be selected some times.
+fn most_exports(scope: &Scope<'_>) -> usize {
+    scope
+        .pairs()
+        .len()
+        .saturating_mul(EXPORTS_PER_PAIR)
+        .saturating_add(LEAST_EXPORTS)
+}
+
 /// Returns the exports of a module, each entity once or more, and the faults of its export list.
 pub fn module_exports<'a>(
     alloc: Global,
@@ -412,6 +434,7 @@ pub fn module_exports<'a>(
         scope,
         modules: module_names(alloc, program)?,
         groups: groups_of(alloc, program, interfaces, scope.pairs())?,
+        most: most_exports(scope),
     };
     Ok(listed_exports(&exporter, items.as_slice())?)
 }
