@@ -45,6 +45,9 @@ use Rattle.hm_build.specs.contracts.workers.Work as Work
 use Rattle.hm_types_prelude.specs.contracts.shared_prelude.SharedPrelude as SharedPrelude
 use Rattle.core.specs.declared.ledger.Ledger.{Ghosts}
 use Rattle.hm_store_published.proofs.history.Front.TheSendSync as FrontFacts
+use Rattle.atomic_table.proofs.send_lease.SendLease.TheSendSync as LeaseFacts
+use Rattle.atomic_table.proofs.shared.Seat.TheSendSync as SeatFacts
+use Rattle.atomic_table.proofs.shared.Shared.TheSendSync as TableFacts
 use Rattle.logbook.proofs.word.Word.TheSendSync as Word
 use Rattle.core.proofs.ledger.Share.TheSendSync as Share
 use Rattle.core.proofs.ledger.Book.TheSendSync as Book
@@ -90,11 +93,11 @@ store_send = search (outcome_send, module_send, module_sync, Entry.the_field_sen
 pub record_field_send : IsSend Record.the_field.row
 record_field_send = search (call_field_send, crosses, sendable) depth 30 fits 5000
 
-pub records_send : IsSend Records.the_row
-records_send = search (record_field_send, crosses, sendable) depth 30 fits 5000
+pub records_field_send : IsSend Records.the_field.row
+records_field_send = search (record_field_send, crosses, sendable) depth 30 fits 5000
 
 pub finished_send : IsSend Finished.the_row
-finished_send = search (store_send, module_send, module_sync, records_send, crosses, sendable) depth 30 fits 5000
+finished_send = search (store_send, module_send, module_sync, records_field_send, crosses, sendable) depth 30 fits 5000
 
 module _ (L : RattleType) (l : Ghosts L.Denot) (j : Names L.Denot) (send : IsSend L) (sync : IsSync L) where
   front_send : IsSend (Front.the_row L j)
@@ -104,10 +107,10 @@ module _ (L : RattleType) (l : Ghosts L.Denot) (j : Names L.Denot) (send : IsSen
   front_sync = search (FrontFacts.the_sync, crosses, sendable) depth 30 fits 5000
 
   journal_send : IsSend (Journal.the_row L j)
-  journal_send = search (crosses, sendable) depth 30 fits 5000
+  journal_send = search (Entry.the_send, SeatFacts.the_send, TableFacts.the_send, LeaseFacts.the_send, heap.send, heap.frees, crosses, sendable) depth 30 fits 5000
 
   known_send : IsSend (Known.the_row L j)
-  known_send = search (crosses, sendable) depth 30 fits 5000
+  known_send = search (Entry.the_send, SeatFacts.the_send, crosses, sendable) depth 30 fits 5000
 
   published_send : IsSend (Published.the_row L j)
   published_send = search (front_send, interface_send, interface_sync, crosses, sendable) depth 30 fits 5000
