@@ -69,7 +69,7 @@ of_its : (g : Given) (s : State) (w m : ℕ) (e : Entry) (has : Bool) → writer
 of_its g s w m (Claim v k) has its may keeps h =
     ⊎_elim
     (λ (eq : k ≡ m). let job = job_is_ready g s k may in
-      ap (status_at (set s.statuses k (Claimed v))) (sym eq) ∙ (get_or-set_same s.statuses k (Claimed v) Skipped job.0 ∙ ap Claimed its))
+    ap (status_at (set s.statuses k (Claimed v))) (sym eq) ∙ (get_or-set_same s.statuses k (Claimed v) Skipped job.0 ∙ ap Claimed its))
     (λ (ne : k ≢ m). still g s w m (Claim v k) (λ e. ne (sym e)) (keeps (sym (ap (λ b. cond b true has) (ne_eqb k m ne)) ∙ h)))
     (cases_eq k m)
 of_its g s w m (Publish v k) has its may keeps h =

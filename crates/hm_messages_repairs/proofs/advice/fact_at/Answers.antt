@@ -17,5 +17,5 @@ returns c =
     let text : c.as_bytes.result.now ≡ text_at source tokens number = search rules in
     let hint = c.syntax_hint.result in
     subst (λ (b : List Symbol). IsSyntaxHint b (symbol_at source tokens number) (text_at source tokens number) hint) before
-        (subst (λ (s : Symbol). IsSyntaxHint c.as_slice.result.now s (text_at source tokens number) hint) here
-        (subst (λ (t : List ℕ). IsSyntaxHint c.as_slice.result.now c.symbol_at-here.result t hint) text c.syntax_hint.ensures))
+    (subst (λ (s : Symbol). IsSyntaxHint c.as_slice.result.now s (text_at source tokens number) hint) here
+    (subst (λ (t : List ℕ). IsSyntaxHint c.as_slice.result.now c.symbol_at-here.result t hint) text c.syntax_hint.ensures))
