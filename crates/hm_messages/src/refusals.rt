@@ -124,15 +124,14 @@ fn lexeme_advice<'a>(pages: &Pages<'a>, source: usize, place: Place) -> LexemeAd
     requires { HasSource (texts_in pages.now.items.items) source }
     ensures { MayHint (slice_index_or (texts_in pages.now.items.items) (source - 1) []) place result.hint result.name.now }
 {
-    let lines = &pages.items[source - 1].lines;
     let nothing = LexemeAdvice {
         hint: LexemeHint::NoText,
         name: "",
     };
-    let Some(rest) = lines.rest_of_line(place) else {
+    let Some(rest) = pages.items[source - 1].lines.rest_of_line(place) else {
         return nothing;
     };
-    let Some(excerpt) = lines.excerpt(place) else {
+    let Some(excerpt) = pages.items[source - 1].lines.excerpt(place) else {
         return nothing;
     };
     let hint = lexeme_hint(rest, is_first(place));
