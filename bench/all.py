@@ -32,6 +32,7 @@ PARTS = {
     "missing_tokens": ["bench/missing_tokens.py", PROGRAM, "40"],
     "deep": ["tests/deep.py", PROGRAM],
     "growth": ["tests/growth.py", PROGRAM],
+    "newcomer": ["bench/newcomer.py"],
     "first": ["bench/build_times.py", "first"],
     "start": ["bench/build_times.py", "start"],
     "proved": ["bench/build_times.py", "proved"],
@@ -39,6 +40,8 @@ PARTS = {
     "reports": ["bench/build_times.py", "reports"],
     "gate": ["bench/build_times.py", "gate"],
 }
+# These parts build, and aren't measured unless they are named.
+BUILDS = ("bench/build_times.py", "bench/newcomer.py")
 
 
 def sections():
@@ -65,7 +68,7 @@ def main():
     words.add_argument("--program", default=PROVED)
     words.add_argument("parts", nargs="*", metavar="PART")
     given = words.parse_args()
-    parts = given.parts or [name for name, (script, *_) in PARTS.items() if script != "bench/build_times.py"]
+    parts = given.parts or [name for name, (script, *_) in PARTS.items() if script not in BUILDS]
     if unknown := {*parts} - PARTS.keys():
         words.error(f"no part {' '.join(sorted(unknown))}; there are {' '.join(PARTS)}")
     failed = False

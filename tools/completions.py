@@ -9,6 +9,7 @@ import re
 import subprocess
 import sys
 
+# Why: docs/DECISIONS.md, "What the command line leaves out".
 FOLDER = pathlib.Path(__file__).resolve().parent.parent / "completions"
 OPTION = re.compile(r"  (?:-(?P<letter>\w), |    )--(?P<word>[\w-]+)(?: <(?P<value>\w+)>)?\s{2,}(?P<help>.*?)(?: \[possible values: (?P<values>.*)\])?")
 ARGUMENT = re.compile(r"  \[FILE\]\.\.\.  (.*)")
