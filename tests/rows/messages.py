@@ -45,7 +45,7 @@ KINDS = [
         "module C where { import A ; import B ; y = x }",
         1,
         "M.hs:3:44: error: 'x' is ambiguous: write 'A.x' (imported in line 3) or 'B.x' (imported in line 3) [ambiguous]\n"
-        "Several things in scope have this name: write a qualifier, or hide it in an import.\n"
+        "Several things in scope have this name. Write a qualifier that only one has, or hide the others in their imports.\n"
         "module C where { import A ; import B ; y = x }\n"
         "                                           ^\n"
         "errors: 1, skipped modules: 0\n",
@@ -56,10 +56,59 @@ KINDS = [
         "module B where { x = 2 }\n"
         "module C where { import A as L ; import B as L ; y = x }",
         1,
-        "M.hs:3:54: error: 'x' is ambiguous: 'A.x' or 'B.x' [ambiguous]\n"
-        "Several things in scope have this name: write a qualifier, or hide it in an import.\n"
+        "M.hs:3:54: error: 'x' is ambiguous: 'x' of module 'A' or 'x' of module 'B' [ambiguous]\n"
+        "Several things in scope have this name. Write a qualifier that only one has, or hide the others in their imports.\n"
         "module C where { import A as L ; import B as L ; y = x }\n"
         "                                                     ^\n"
+        "errors: 1, skipped modules: 0\n",
+    ),
+    # the module's own qualifier is that of an import too: the import doesn't bring this name
+    (
+        "module B where { y = 1 }\n"
+        "module C where { x = 1 }\n"
+        "module A where { import B as A (y) ;\n"
+        "  import C ; x = 1 ; z = x }",
+        1,
+        "M.hs:4:26: error: 'x' is ambiguous: write 'A.x' or 'C.x' (imported in line 4) [ambiguous]\n"
+        "Several things in scope have this name. Write a qualifier that only one has, or hide the others in their imports.\n"
+        "  import C ; x = 1 ; z = x }\n"
+        "                         ^\n"
+        "errors: 1, skipped modules: 0\n",
+    ),
+    (
+        "module B where { foo = 1 }\n"
+        "module A where {\n"
+        "  import B as Prelude (foo) ;\n"
+        "  map = 1 ; z = map }",
+        1,
+        "M.hs:4:17: error: 'map' is ambiguous: write 'A.map' or 'Prelude.map' [ambiguous]\n"
+        "Several things in scope have this name. Write a qualifier that only one has, or hide the others in their imports.\n"
+        "  map = 1 ; z = map }\n"
+        "                ^^^\n"
+        "errors: 1, skipped modules: 0\n",
+    ),
+    # another import brings Prelude's, so to hide it in Prelude isn't enough
+    (
+        "module B (map) where { }\n"
+        "module A where {\n"
+        "  import B ;\n"
+        "  map = 1 ; z = map }",
+        1,
+        "M.hs:4:17: error: 'map' is ambiguous: write 'A.map' or 'B.map' (imported in line 3) [ambiguous]\n"
+        "Several things in scope have this name. Write a qualifier that only one has, or hide the others in their imports.\n"
+        "  map = 1 ; z = map }\n"
+        "                ^^^\n"
+        "errors: 1, skipped modules: 0\n",
+    ),
+    # no qualifier means either alone
+    (
+        "module B where { x = 1 }\n"
+        "module A where { import B as A ; x = 2 ; z = A.x }",
+        1,
+        "M.hs:2:46: error: 'A.x' is ambiguous: 'x' of module 'A' or 'x' of module 'B' [ambiguous]\n"
+        "Several things in scope have this name. Write a qualifier that only one has, or hide the others in their imports.\n"
+        "module A where { import B as A ; x = 2 ; z = A.x }\n"
+        "                                             ^^^\n"
         "errors: 1, skipped modules: 0\n",
     ),
     (
@@ -123,7 +172,7 @@ KINDS = [
         "module M where { twice f = f f }",
         1,
         "M.hs:1:18: error: type error in 'twice' [type]\n"
-        "This definition has no type, though everything that it refers to has one.\n"
+        "No types fit this definition and those that refer back to it. All others that it refers to have types or signatures.\n"
         "module M where { twice f = f f }\n"
         "                 ^^^^^\n"
         "M.hs:1:30: note: this has type 'a -> b', but 'a' is expected (up to 1:30)\n"
@@ -258,7 +307,7 @@ KINDS = [
         "module M where { f x = if x then 1 else (2 : []) }",
         1,
         "M.hs:1:18: error: type error in 'f' [type]\n"
-        "This definition has no type, though everything that it refers to has one.\n"
+        "No types fit this definition and those that refer back to it. All others that it refers to have types or signatures.\n"
         "module M where { f x = if x then 1 else (2 : []) }\n"
         "                 ^\n"
         "M.hs:1:34: note: this has type 'Int', but '[Int]' is expected (up to 1:34)\n"
@@ -271,7 +320,7 @@ KINDS = [
         "module M where { f True = 1 ; f 'c' = 2 }",
         1,
         "M.hs:1:18: error: type error in 'f' [type]\n"
-        "This definition has no type, though everything that it refers to has one.\n"
+        "No types fit this definition and those that refer back to it. All others that it refers to have types or signatures.\n"
         "module M where { f True = 1 ; f 'c' = 2 }\n"
         "                 ^\n"
         "M.hs:1:33: note: 'f' has a type with another pattern here (up to 1:35)\n"
@@ -284,7 +333,7 @@ KINDS = [
         "module M where { f :: Maybe Bool -> Bool ; f x = case x of { Just [y] -> z where { z = not y } ; Nothing -> True } }",
         1,
         "M.hs:1:44: error: type error in 'f' [type]\n"
-        "This definition has no type, though everything that it refers to has one.\n"
+        "No types fit this definition and those that refer back to it. All others that it refers to have types or signatures.\n"
         "module M where { f :: Maybe Bool -> Bool ; f x = case x of { Just [y] -> z where { z = not y } ; Nothing -> True } }\n"
         "                                           ^\n"
         "M.hs:1:67: note: 'f' has a type with another pattern here (up to 1:69)\n"
@@ -300,7 +349,7 @@ KINDS = [
         "module M where { f x = not 'c' ; f y = not 'd' }",
         1,
         "M.hs:1:18: error: type error in 'f' [type]\n"
-        "This definition has no type, though everything that it refers to has one.\n"
+        "No types fit this definition and those that refer back to it. All others that it refers to have types or signatures.\n"
         "module M where { f x = not 'c' ; f y = not 'd' }\n"
         "                 ^\n"
         "errors: 1, skipped modules: 0\n",
@@ -311,7 +360,7 @@ KINDS = [
         "module B where { import A ; y = not k }",
         1,
         "M.hs:2:29: error: type error in 'y' [type]\n"
-        "This definition has no type, though everything that it refers to has one.\n"
+        "No types fit this definition and those that refer back to it. All others that it refers to have types or signatures.\n"
         "module B where { import A ; y = not k }\n"
         "                            ^\n"
         "M.hs:2:37: note: this has type 'Int', but 'Bool' is expected (up to 2:37)\n"
@@ -324,7 +373,7 @@ KINDS = [
         "module M where { f x = g where { g = (x, h) ; h = [x, [x]] } }",
         1,
         "M.hs:1:18: error: type error in 'f' [type]\n"
-        "This definition has no type, though everything that it refers to has one.\n"
+        "No types fit this definition and those that refer back to it. All others that it refers to have types or signatures.\n"
         "module M where { f x = g where { g = (x, h) ; h = [x, [x]] } }\n"
         "                 ^\n"
         "M.hs:1:55: note: this has type '[a]', but 'a' is expected (up to 1:57)\n"
@@ -338,7 +387,7 @@ KINDS = [
         "module M where { k xs = xs : xs }",
         1,
         "M.hs:1:18: error: type error in 'k' [type]\n"
-        "This definition has no type, though everything that it refers to has one.\n"
+        "No types fit this definition and those that refer back to it. All others that it refers to have types or signatures.\n"
         "module M where { k xs = xs : xs }\n"
         "                 ^\n"
         "M.hs:1:30: note: this has type 'a', but '[a]' is expected (up to 1:31)\n"
@@ -351,7 +400,7 @@ KINDS = [
         "module M where { rev [] = [] ; rev (x : xs) = rev xs : x }",
         1,
         "M.hs:1:18: error: type error in 'rev' [type]\n"
-        "This definition has no type, though everything that it refers to has one.\n"
+        "No types fit this definition and those that refer back to it. All others that it refers to have types or signatures.\n"
         "module M where { rev [] = [] ; rev (x : xs) = rev xs : x }\n"
         "                 ^^^\n"
         "M.hs:1:47: note: this has type '[[a]] -> [a]', but '[[a]] -> a' is expected (up to 1:49)\n"
@@ -365,7 +414,7 @@ KINDS = [
         "module M where { f :: Bool -> Maybe Bool -> Bool ; f x y = maybe not x y }",
         1,
         "M.hs:1:52: error: type error in 'f' [type]\n"
-        "This definition has no type, though everything that it refers to has one.\n"
+        "No types fit this definition and those that refer back to it. All others that it refers to have types or signatures.\n"
         "module M where { f :: Bool -> Maybe Bool -> Bool ; f x y = maybe not x y }\n"
         "                                                   ^\n"
         "M.hs:1:66: note: 'f' has a type with this expression and the one at 1:70 exchanged\n"
@@ -381,7 +430,7 @@ KINDS = [
         "module M where { f :: Bool -> Bool ; f x = not x x }",
         1,
         "M.hs:1:38: error: type error in 'f' [type]\n"
-        "This definition has no type, though everything that it refers to has one.\n"
+        "No types fit this definition and those that refer back to it. All others that it refers to have types or signatures.\n"
         "module M where { f :: Bool -> Bool ; f x = not x x }\n"
         "                                     ^\n"
         "M.hs:1:50: note: 'f' has a type if this is left out (up to 1:50)\n"
@@ -394,7 +443,7 @@ KINDS = [
         "module M where { f :: Bool ; f = maybe True not }",
         1,
         "M.hs:1:30: error: type error in 'f' [type]\n"
-        "This definition has no type, though everything that it refers to has one.\n"
+        "No types fit this definition and those that refer back to it. All others that it refers to have types or signatures.\n"
         "module M where { f :: Bool ; f = maybe True not }\n"
         "                             ^\n"
         "M.hs:1:34: note: this has type 'Maybe Bool -> Bool', but 'Bool' is expected (up to 1:47)\n"
@@ -410,7 +459,7 @@ KINDS = [
         "module M where { f :: [Bool] -> [Bool] ; f = map (\\[x] -> not x) }",
         1,
         "M.hs:1:42: error: type error in 'f' [type]\n"
-        "This definition has no type, though everything that it refers to has one.\n"
+        "No types fit this definition and those that refer back to it. All others that it refers to have types or signatures.\n"
         "module M where { f :: [Bool] -> [Bool] ; f = map (\\[x] -> not x) }\n"
         "                                         ^\n"
         "M.hs:1:52: note: 'f' has a type with another pattern here (up to 1:54)\n"
@@ -426,7 +475,7 @@ KINDS = [
         "module M where { f :: Bool -> Char ; f x = not x ; g = not (f True) }",
         1,
         "M.hs:1:38: error: type error in 'f' [type]\n"
-        "This definition has no type, though everything that it refers to has one.\n"
+        "No types fit this definition and those that refer back to it. All others that it refers to have types or signatures.\n"
         "module M where { f :: Bool -> Char ; f x = not x ; g = not (f True) }\n"
         "                                     ^\n"
         "M.hs:1:18: note: 'f' has type 'Bool -> Bool' without this signature (up to 1:34)\n"
@@ -436,7 +485,7 @@ KINDS = [
         "module M where { f :: Bool -> Char ; f x = not x ; g = not (f True) }\n"
         "                                           ^^^\n"
         "M.hs:1:52: error: type error in 'g' [type]\n"
-        "This definition has no type, though everything that it refers to has one.\n"
+        "No types fit this definition and those that refer back to it. All others that it refers to have types or signatures.\n"
         "module M where { f :: Bool -> Char ; f x = not x ; g = not (f True) }\n"
         "                                                   ^\n"
         "M.hs:1:61: note: this has type 'Bool -> Char', but 'Bool -> Bool' is expected (up to 1:61)\n"
@@ -449,7 +498,7 @@ KINDS = [
         "module M where { n = foldr 0 (\\x y -> y) \"abc\" }",
         1,
         "M.hs:1:18: error: type error in 'n' [type]\n"
-        "This definition has no type, though everything that it refers to has one.\n"
+        "No types fit this definition and those that refer back to it. All others that it refers to have types or signatures.\n"
         "module M where { n = foldr 0 (\\x y -> y) \"abc\" }\n"
         "                 ^\n"
         "M.hs:1:28: note: 'n' has a type with this expression and the one at 1:30 exchanged\n"
@@ -462,7 +511,7 @@ KINDS = [
         "module M where { f = not ('c') }",
         1,
         "M.hs:1:18: error: type error in 'f' [type]\n"
-        "This definition has no type, though everything that it refers to has one.\n"
+        "No types fit this definition and those that refer back to it. All others that it refers to have types or signatures.\n"
         "module M where { f = not ('c') }\n"
         "                 ^\n"
         "M.hs:1:27: note: this has type 'Char', but 'Bool' is expected (up to 1:29)\n"
@@ -475,7 +524,7 @@ KINDS = [
         "module M where { f :: ([((), ())] -> ()) -> [()] -> () ; f g xs = g (map (\\x -> (x)) xs) }",
         1,
         "M.hs:1:58: error: type error in 'f' [type]\n"
-        "This definition has no type, though everything that it refers to has one.\n"
+        "No types fit this definition and those that refer back to it. All others that it refers to have types or signatures.\n"
         "module M where { f :: ([((), ())] -> ()) -> [()] -> () ; f g xs = g (map (\\x -> (x)) xs) }\n"
         "                                                         ^\n"
         "M.hs:1:81: note: this has type '()', but '((), ())' is expected (up to 1:83)\n"
@@ -491,7 +540,7 @@ KINDS = [
         "module M (f, g) where { f :: Bool -> Bool ; f x = 'c' ; g = not 1 }",
         1,
         "M.hs:1:45: error: type error in 'f' [type]\n"
-        "This definition has no type, though everything that it refers to has one.\n"
+        "No types fit this definition and those that refer back to it. All others that it refers to have types or signatures.\n"
         "module M (f, g) where { f :: Bool -> Bool ; f x = 'c' ; g = not 1 }\n"
         "                                            ^\n"
         "M.hs:1:51: note: this has type 'Char', but 'Bool' is expected (up to 1:53)\n"
@@ -501,7 +550,7 @@ KINDS = [
         "module M (f, g) where { f :: Bool -> Bool ; f x = 'c' ; g = not 1 }\n"
         "                        ^\n"
         "M.hs:1:57: error: type error in 'g' [type]\n"
-        "This definition has no type, though everything that it refers to has one.\n"
+        "No types fit this definition and those that refer back to it. All others that it refers to have types or signatures.\n"
         "module M (f, g) where { f :: Bool -> Bool ; f x = 'c' ; g = not 1 }\n"
         "                                                        ^\n"
         "M.hs:1:65: note: this has type 'Int', but 'Bool' is expected (up to 1:65)\n"
@@ -514,7 +563,7 @@ KINDS = [
         "module M where { type Pos = (Int, Int) ; f :: Pos -> Pos ; f p = 'c' }",
         1,
         "M.hs:1:60: error: type error in 'f' [type]\n"
-        "This definition has no type, though everything that it refers to has one.\n"
+        "No types fit this definition and those that refer back to it. All others that it refers to have types or signatures.\n"
         "module M where { type Pos = (Int, Int) ; f :: Pos -> Pos ; f p = 'c' }\n"
         "                                                           ^\n"
         "M.hs:1:66: note: this has type 'Char', but 'Pos' is expected (up to 1:68)\n"
@@ -530,7 +579,7 @@ KINDS = [
         "module M where { type Pos = (Int, Int) ; f :: Pos -> Bool ; f = g ; g :: Pos -> Pos ; g p = p }",
         1,
         "M.hs:1:61: error: type error in 'f' [type]\n"
-        "This definition has no type, though everything that it refers to has one.\n"
+        "No types fit this definition and those that refer back to it. All others that it refers to have types or signatures.\n"
         "module M where { type Pos = (Int, Int) ; f :: Pos -> Bool ; f = g ; g :: Pos -> Pos ; g p = p }\n"
         "                                                            ^\n"
         "M.hs:1:65: note: this has type 'Pos -> Pos', but 'Pos -> Bool' is expected (up to 1:65)\n"
@@ -546,7 +595,7 @@ KINDS = [
         "module M where { type P = (Int, Int) ; type Q = [P] ; f :: Q -> P ; f p = p }",
         1,
         "M.hs:1:69: error: type error in 'f' [type]\n"
-        "This definition has no type, though everything that it refers to has one.\n"
+        "No types fit this definition and those that refer back to it. All others that it refers to have types or signatures.\n"
         "module M where { type P = (Int, Int) ; type Q = [P] ; f :: Q -> P ; f p = p }\n"
         "                                                                    ^\n"
         "M.hs:1:75: note: this has type 'Q', but 'P' is expected (up to 1:75)\n"
@@ -562,7 +611,7 @@ KINDS = [
         "module M where { type P = [Int] ; type Q = [Int] ; f :: P -> Q ; f p = 'c' }",
         1,
         "M.hs:1:66: error: type error in 'f' [type]\n"
-        "This definition has no type, though everything that it refers to has one.\n"
+        "No types fit this definition and those that refer back to it. All others that it refers to have types or signatures.\n"
         "module M where { type P = [Int] ; type Q = [Int] ; f :: P -> Q ; f p = 'c' }\n"
         "                                                                 ^\n"
         "M.hs:1:72: note: this has type 'Char', but '[Int]' is expected (up to 1:74)\n"
@@ -578,7 +627,7 @@ KINDS = [
         "module M where { type P = [Int] ; type L a = [a] ; f :: [Int] -> L Int ; f p = 'c' }",
         1,
         "M.hs:1:74: error: type error in 'f' [type]\n"
-        "This definition has no type, though everything that it refers to has one.\n"
+        "No types fit this definition and those that refer back to it. All others that it refers to have types or signatures.\n"
         "module M where { type P = [Int] ; type L a = [a] ; f :: [Int] -> L Int ; f p = 'c' }\n"
         "                                                                         ^\n"
         "M.hs:1:80: note: this has type 'Char', but '[Int]' is expected (up to 1:82)\n"
@@ -594,7 +643,7 @@ KINDS = [
         "module M (f) where { type P = [Int] ; f :: P -> Bool ; f p = p }",
         1,
         "M.hs:1:56: error: type error in 'f' [type]\n"
-        "This definition has no type, though everything that it refers to has one.\n"
+        "No types fit this definition and those that refer back to it. All others that it refers to have types or signatures.\n"
         "module M (f) where { type P = [Int] ; f :: P -> Bool ; f p = p }\n"
         "                                                       ^\n"
         "M.hs:1:62: note: this has type 'P', but 'Bool' is expected (up to 1:62)\n"
@@ -610,7 +659,7 @@ KINDS = [
         "module M where { f :: String -> Bool ; f s = s }",
         1,
         "M.hs:1:40: error: type error in 'f' [type]\n"
-        "This definition has no type, though everything that it refers to has one.\n"
+        "No types fit this definition and those that refer back to it. All others that it refers to have types or signatures.\n"
         "module M where { f :: String -> Bool ; f s = s }\n"
         "                                       ^\n"
         "M.hs:1:46: note: this has type 'String', but 'Bool' is expected (up to 1:46)\n"
@@ -626,7 +675,7 @@ KINDS = [
         "module M where { f :: [Char] -> Bool ; f s = s }",
         1,
         "M.hs:1:40: error: type error in 'f' [type]\n"
-        "This definition has no type, though everything that it refers to has one.\n"
+        "No types fit this definition and those that refer back to it. All others that it refers to have types or signatures.\n"
         "module M where { f :: [Char] -> Bool ; f s = s }\n"
         "                                       ^\n"
         "M.hs:1:46: note: this has type '[Char]', but 'Bool' is expected (up to 1:46)\n"
@@ -642,7 +691,7 @@ KINDS = [
         "module M where { data S a = S [a] ; f :: a -> S a -> S a ; f x (S xs) = S x : xs }",
         1,
         "M.hs:1:60: error: type error in 'f' [type]\n"
-        "This definition has no type, though everything that it refers to has one.\n"
+        "No types fit this definition and those that refer back to it. All others that it refers to have types or signatures.\n"
         "module M where { data S a = S [a] ; f :: a -> S a -> S a ; f x (S xs) = S x : xs }\n"
         "                                                           ^\n"
         "M.hs:1:73: note: 'f' has a type with another expression here (up to 1:80)\n"
@@ -658,7 +707,7 @@ KINDS = [
         "module M where { f x = [1, 2, 3, 4, x, 'c', 7, 8] }",
         1,
         "M.hs:1:18: error: type error in 'f' [type]\n"
-        "This definition has no type, though everything that it refers to has one.\n"
+        "No types fit this definition and those that refer back to it. All others that it refers to have types or signatures.\n"
         "module M where { f x = [1, 2, 3, 4, x, 'c', 7, 8] }\n"
         "                 ^\n"
         "M.hs:1:40: note: this has type 'Char', but 'Int' is expected (up to 1:42)\n"
@@ -681,7 +730,7 @@ KINDS = [
         "module D where { import C }",
         1,
         "M.hs:1:18: error: type error in 'twice' [type]\n"
-        "This definition has no type, though everything that it refers to has one.\n"
+        "No types fit this definition and those that refer back to it. All others that it refers to have types or signatures.\n"
         "module B where { twice f = f f }\n"
         "                 ^^^^^\n"
         "M.hs:1:30: note: this has type 'a -> b', but 'a' is expected (up to 1:30)\n"
@@ -1169,6 +1218,15 @@ DETAILS = [
     ("x = Filter", "1:22", "'Filter' isn't in scope [unbound]"),
     ("x :: Mabye Int ; x = Nothing", "1:23", "'Mabye' isn't in scope (did you mean 'Maybe'?) [unbound]"),
     ("x = Noting", "1:22", "'Noting' isn't in scope (did you mean 'Nothing'?) [unbound]"),
+    # a name that can't stand at the place isn't meant: a value for a type variable or a type, a constructor for a type
+    ("data T a = C log", "1:31", "'log' isn't in scope [unbound]"),
+    ("alphb1 = 1 ; data T alpha = C alphb", "1:48", "'alphb' isn't in scope [unbound]"),
+    ("data T a = C true", "1:31", "'true' isn't in scope [unbound]"),
+    ("data S = Circle ; f :: Circl -> Int ; f = f", "1:41", "'Circl' isn't in scope [unbound]"),
+    ("x = Maybee", "1:22", "'Maybee' isn't in scope [unbound]"),
+    # a type variable that is no parameter
+    ("data T = Leaf | Node T int T", "1:41", "'int' isn't in scope (did you mean 'Int'?) [unbound]"),
+    ("type S = [string]", "1:28", "'string' isn't in scope (did you mean 'String'?) [unbound]"),
     # a name of two letters is near dozens
     ("x = ie", "1:22", "'ie' isn't in scope [unbound]"),
     # two edits are too many, and a capital letter isn't a small one
@@ -1192,6 +1250,7 @@ DETAILS = [
     ("f list = M.lsit", "1:27", "'M.lsit' isn't in scope [unbound]"),
     # what is hidden isn't in scope
     ("import Prelude hiding (length) ; f = lenght", "1:55", "'lenght' isn't in scope [unbound]"),
+    ("f = catch", "1:22", "'catch' isn't in scope: this Prelude leaves it out [unbound]"),
     ("f = putStrLn", "1:22", "'putStrLn' isn't in scope: this Prelude leaves it out [unbound]"),
     ("x :: Integer ; x = 1", "1:23", "'Integer' isn't in scope: this Prelude leaves it out [unbound]"),
     # the Report's Prelude has these as types alone

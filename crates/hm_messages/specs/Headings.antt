@@ -58,7 +58,8 @@ near_text q x = codes " (did you mean '" ++ written_in q x ++ codes "'?)"
 
 -- two entities of one name, by the modules that define them
 abbrev pub both_text : Candidate → Candidate → List ℕ
-both_text c d = codes ": '" ++ c.entity.«module» ++ codes "." ++ c.entity.name ++ codes "' or '" ++ d.entity.«module» ++ codes "." ++ d.entity.name ++ codes "'"
+both_text c d =
+    codes ": '" ++ c.entity.name ++ codes "' of module '" ++ c.entity.«module» ++ codes "' or '" ++ d.entity.name ++ codes "' of module '" ++ d.entity.«module» ++ codes "'"
 
 abbrev pub line_text : Option ℕ → List ℕ
 line_text None = []

@@ -64,7 +64,7 @@ fn both_text(
         module: other_module,
         name: other_name,
     } = other.origin;
-    format!(in alloc; ": '{module}.{name}' or '{other_module}.{other_name}'")
+    format!(in alloc; ": '{name}' of module '{module}' or '{other_name}' of module '{other_module}'")
 }
 
 /// Returns the text about the line of an import.

@@ -17,7 +17,7 @@ pub(crate) fn fault_sentence(kind: Kind) -> &'static str
             "A variable with a signature needs clauses in the same list; a variable of a pattern can't have a signature.\n",
         Kind::Unbound => "No declaration, import or parameter gives this name a meaning here.\n",
         Kind::Ambiguous =>
-            "Several things in scope have this name: write a qualifier, or hide it in an import.\n",
+            "Several things in scope have this name. Write a qualifier that only one has, or hide the others in their imports.\n",
         Kind::ExportClash => "An export list gives each name to one thing.\n",
         Kind::NotImported =>
             "`module N` in an export list exports what the imports called N give.\n",
@@ -27,7 +27,7 @@ pub(crate) fn fault_sentence(kind: Kind) -> &'static str
             "A type, synonym or constructor takes as many arguments as its declaration gives it.\n",
         Kind::ClauseLength => "Each clause of a function has as many patterns as the first one.\n",
         Kind::Untyped =>
-            "This definition has no type, though everything that it refers to has one.\n",
+            "No types fit this definition and those that refer back to it. All others that it refers to have types or signatures.\n",
         Kind::Recursive =>
             "A synonym is replaced by its right side, so that would never end; use `data` or `newtype`.\n",
     }

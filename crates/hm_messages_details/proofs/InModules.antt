@@ -8,15 +8,17 @@ use Rattle.hm_syntax.specs.Trees.{TypeTree, variable_type, constructor_type, fun
 use Rattle.hm_syntax.specs.Lists.{declarations}
 use Rattle.hm_syntax.specs.declared.ast.Module.{Module}
 use Rattle.hm_names.specs.declared.faults.Fault.{Fault}
-use Rattle.hm_names.specs.Walk.{Locals, Node, Somewhere, at_pattern, at_type, at_head, at_parameters, at_list, InType, InTypes, InConstructor, InConstructors, InPattern, InPatterns, InHead, InExpression, InExpressions, InAlternatives, InRightSide, InBodies, InDeclarations, InDeclaration, InTop, with_patterns, with_list}
+use Rattle.hm_names.specs.Walk.{Locals, Node, Somewhere, at_expression, at_pattern, at_type, at_head, at_parameters, at_list, InType, InTypes, InConstructor, InConstructors, InPattern, InPatterns, InHead, InExpression, InExpressions, InAlternatives, InRightSide, InBodies, InDeclarations, InDeclaration, InTop, with_patterns, with_list}
 use Rattle.hm_names.specs.Variables.{type_variables, constructor_variables, constructors_variables}
 use Rattle.hm_names.proofs.Members.{none_in, cases}
 use Rattle.hm_messages_details.specs.Counts.{HasArguments, of_type, of_constructor, HasLengthsAt}
 use Rattle.hm_messages_details.specs.Firsts.{IsFirstOf}
-use Rattle.hm_messages_details.specs.LeftOut.{IsTypeUse, is_type_use}
 use Rattle.hm_messages_details.specs.NearBindings.{HasNearBinding, IsNearBindingAt}
 use Rattle.hm_messages_details.specs.PatternBindings.{HasPatternBound, IsPatternBoundAt}
-use Rattle.hm_messages_details.specs.Parts.{Part, a_list, a_head, a_row, a_pattern, a_type, IsPart, list_is, head_is, parameters_are, pattern_is, type_is, type_parts, types_parts, constructor_parts, constructors_parts, pattern_parts, patterns_parts, head_parts, expression_parts, expressions_parts, alternative_parts, alternatives_parts, right_side_parts, bodies_parts, declarations_parts, declaration_parts, module_parts, IsFirstIn, IsTypeUseIn, HasArgumentsIn, HasLengthsIn, IsNearBindingIn, IsPatternBoundIn}
+use Rattle.hm_messages_details.specs.Roles.{IsRoleAt, a_variable, a_constructor, a_pattern as a_pattern_role, a_type as a_type_role, a_type_variable}
+use Rattle.hm_messages_details.specs.declared.role.Role.{Role}
+use Rattle.hm_messages_details.specs.declared.role.Role.TheVariants.{Variable, Constructor, TypeVariable}
+use Rattle.hm_messages_details.specs.Parts.{Part, a_list, a_head, a_row, a_pattern, a_type, a_use, IsPart, list_is, head_is, parameters_are, pattern_is, type_is, variable_is, constructor_is, type_variable_is, type_parts, types_parts, constructor_parts, constructors_parts, pattern_parts, patterns_parts, head_parts, expression_parts, expressions_parts, alternative_parts, alternatives_parts, right_side_parts, bodies_parts, declarations_parts, declaration_parts, module_parts, IsFirstIn, IsPartRole, HasArgumentsIn, HasLengthsIn, IsNearBindingIn, IsPatternBoundIn}
 
 module _ (Q : Locals → Node → Type 0) (p : Part) (h : (xs : Locals) (k : Node) → IsPart k p → Q xs k) where
   -- the node of the part
@@ -25,7 +27,7 @@ module _ (Q : Locals → Node → Type 0) (p : Part) (h : (xs : Locals) (k : Nod
 
   mutual
     pub in_type : (xs : Locals) (t : TypeTree) → Contains (type_parts t) p → InType Q xs t
-    in_type xs (variable_type n) c = absurd (none_in p c)
+    in_type xs (variable_type n) c = ⊎_elim (λ e. at_node xs (at_type (variable_type n)) (a_use TypeVariable n) type_variable_is e) (λ o. absurd (none_in p o)) (cases (a_use TypeVariable n) [] p c)
     in_type xs (constructor_type n ts) c = ⊎_elim (λ e. inl (at_node xs (at_type (constructor_type n ts)) (a_type n ts) type_is e)) (λ o. inr (in_types xs ts o)) (cases (a_type n ts) (types_parts ts) p c)
     in_type xs (function_type a b) c = ⊎_elim (λ o. inl (in_type xs a o)) (λ o. inr (in_type xs b o)) (Contains-append_cases (type_parts a) (type_parts b) p c)
     in_type xs (tuple_type ts) c = in_types xs ts c
@@ -63,8 +65,8 @@ module _ (Q : Locals → Node → Type 0) (p : Part) (h : (xs : Locals) (k : Nod
 
   mutual
     pub in_expression : (xs : Locals) (t : Expression) → Contains (expression_parts t) p → InExpression Q xs t
-    in_expression xs (variable_expression n) c = absurd (none_in p c)
-    in_expression xs (constructor_expression n) c = absurd (none_in p c)
+    in_expression xs (variable_expression n) c = ⊎_elim (λ e. at_node xs (at_expression (variable_expression n)) (a_use Variable n) variable_is e) (λ o. absurd (none_in p o)) (cases (a_use Variable n) [] p c)
+    in_expression xs (constructor_expression n) c = ⊎_elim (λ e. at_node xs (at_expression (constructor_expression n)) (a_use Constructor n) constructor_is e) (λ o. absurd (none_in p o)) (cases (a_use Constructor n) [] p c)
     in_expression xs (literal_expression l) c = absurd (none_in p c)
     in_expression xs (application f e) c = ⊎_elim (λ o. inl (in_expression xs f o)) (λ o. inr (in_expression xs e o)) (Contains-append_cases (expression_parts f) (expression_parts e) p c)
     in_expression xs (lambda ps e) c = ⊎_elim (λ o. inl (in_head xs ps o)) (λ o. inr (in_expression (with_patterns ps xs) e o)) (Contains-append_cases (head_parts ps) (expression_parts e) p c)
@@ -125,6 +127,9 @@ first_of f q head_is s = s
 first_of f q parameters_are s = s
 first_of f q pattern_is s = absurd s
 first_of f q type_is s = absurd s
+first_of f q variable_is s = absurd s
+first_of f q constructor_is s = absurd s
+first_of f q type_variable_is s = absurd s
 
 arguments_of : (m : Module) (fs : List Interface) (f : Fault) (here takes : ℕ) {p : Part} {k : Node} → IsPart k p → HasArgumentsIn m fs f here takes p → HasArguments m fs f here takes k
 arguments_of m fs f here takes list_is s = absurd s
@@ -132,13 +137,19 @@ arguments_of m fs f here takes head_is s = absurd s
 arguments_of m fs f here takes parameters_are s = absurd s
 arguments_of m fs f here takes pattern_is s = of_constructor s.0 s.1 s.2
 arguments_of m fs f here takes type_is s = of_type s.0 s.1 s.2
+arguments_of m fs f here takes variable_is s = absurd s
+arguments_of m fs f here takes constructor_is s = absurd s
+arguments_of m fs f here takes type_variable_is s = absurd s
 
-type_of : (f : Fault) {p : Part} {k : Node} → IsPart k p → IsTypeUseIn p f → IsTypeUse f k
-type_of f list_is s = absurd s
-type_of f head_is s = absurd s
-type_of f parameters_are s = absurd s
-type_of f pattern_is s = absurd s
-type_of f type_is s = is_type_use s
+role_of : (f : Fault) (r : Role) {p : Part} {k : Node} → IsPart k p → IsPartRole p f r → IsRoleAt f r k
+role_of f r list_is s = absurd s
+role_of f r head_is s = absurd s
+role_of f r parameters_are s = absurd s
+role_of f r (pattern_is {n} {ps}) s = subst (λ q. IsRoleAt f q (at_pattern (constructor_pattern n ps))) (sym s.0) (a_pattern_role s.1)
+role_of f r (type_is {n} {ts}) s = subst (λ q. IsRoleAt f q (at_type (constructor_type n ts))) (sym s.0) (a_type_role s.1)
+role_of f r (variable_is {n}) s = subst (λ q. IsRoleAt f q (at_expression (variable_expression n))) (sym s.0) (a_variable s.1)
+role_of f r (constructor_is {n}) s = subst (λ q. IsRoleAt f q (at_expression (constructor_expression n))) (sym s.0) (a_constructor s.1)
+role_of f r (type_variable_is {n}) s = subst (λ q. IsRoleAt f q (at_type (variable_type n))) (sym s.0) (a_type_variable s.1)
 
 lengths_of : (f : Fault) (here first : ℕ) {p : Part} {k : Node} → IsPart k p → HasLengthsIn f here first p → HasLengthsAt f here first k
 lengths_of f here first list_is s = s
@@ -146,6 +157,9 @@ lengths_of f here first head_is s = absurd s
 lengths_of f here first parameters_are s = absurd s
 lengths_of f here first pattern_is s = absurd s
 lengths_of f here first type_is s = absurd s
+lengths_of f here first variable_is s = absurd s
+lengths_of f here first constructor_is s = absurd s
+lengths_of f here first type_variable_is s = absurd s
 
 near_of : (f : Fault) (x : List ℕ) {p : Part} {k : Node} → IsPart k p → IsNearBindingIn p f x → IsNearBindingAt k f x
 near_of f x list_is s = s
@@ -153,6 +167,9 @@ near_of f x head_is s = absurd s
 near_of f x parameters_are s = absurd s
 near_of f x pattern_is s = absurd s
 near_of f x type_is s = absurd s
+near_of f x variable_is s = absurd s
+near_of f x constructor_is s = absurd s
+near_of f x type_variable_is s = absurd s
 
 bound_of : (f : Fault) {p : Part} {k : Node} → IsPart k p → IsPatternBoundIn p f → IsPatternBoundAt k f
 bound_of f list_is s = s
@@ -160,6 +177,9 @@ bound_of f head_is s = absurd s
 bound_of f parameters_are s = absurd s
 bound_of f pattern_is s = absurd s
 bound_of f type_is s = absurd s
+bound_of f variable_is s = absurd s
+bound_of f constructor_is s = absurd s
+bound_of f type_variable_is s = absurd s
 
 -- and so it stands somewhere in the module
 
@@ -178,5 +198,5 @@ somewhere_near m f x p c s = in_top (λ xs k. IsNearBindingAt k f x) p (λ xs k 
 pub somewhere_bound : (m : Module) (f : Fault) (p : Part) → Contains (module_parts m.decls) p → IsPatternBoundIn p f → HasPatternBound m f
 somewhere_bound m f p c s = in_top (λ xs k. IsPatternBoundAt k f) p (λ xs k is. bound_of f is s) m.decls c
 
-pub somewhere_type : (m : Module) (f : Fault) (p : Part) → Contains (module_parts m.decls) p → IsTypeUseIn p f → Somewhere m (λ xs k. IsTypeUse f k)
-somewhere_type m f p c s = in_top (λ xs k. IsTypeUse f k) p (λ xs k is. type_of f is s) m.decls c
+pub somewhere_role : (m : Module) (f : Fault) (r : Role) (p : Part) → Contains (module_parts m.decls) p → IsPartRole p f r → Somewhere m (λ xs k. IsRoleAt f r k)
+somewhere_role m f r p c s = in_top (λ xs k. IsRoleAt f r k) p (λ xs k is. role_of f r is s) m.decls c

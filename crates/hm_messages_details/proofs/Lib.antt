@@ -8,7 +8,8 @@ mod Listing
 mod Meant
 mod Signing
 mod PartLists
-mod TypeUses
+mod RolesOfExports
 mod WorkedCandidates
 mod WorkedDetails
 mod WorkedNames
+mod WorkedRoles

@@ -1,5 +1,5 @@
 -- The worked names.
-use Rattle.std.proofs.Common.{◌≡◌, ℕ, ◌∙◌, ◌∷◌, [], List, Option, Some, None, inl, ⊎_elim, false, true, refl, sym, ap, subst, arith}
+use Rattle.std.proofs.Common.{◌≡◌, ℕ, ◌∙◌, ◌∷◌, [], List, Option, Some, None, ⊎_elim, false, true, refl, sym, ap, arith}
 use Rattle.std.proofs.lemmas.Bool.{false≢true}
 use Rattle.std.specs.Prelude.{Contains, codes}
 use Rattle.hm_names.specs.declared.faults.Kind.{Kind}
@@ -7,16 +7,15 @@ use Rattle.hm_names.specs.declared.faults.Kind.TheVariants.{Ambiguous, Arity, Un
 use Rattle.hm_names.proofs.Standing.{among_decides}
 use Rattle.hm_lex.specs.declared.token.Place.{Place}
 use Rattle.hm_syntax.specs.Names.{Identifier}
-use Rattle.hm_syntax.specs.Trees.{Pattern, constructor_pattern}
+use Rattle.hm_syntax.specs.Trees.{constructor_pattern}
 use Rattle.hm_syntax.specs.declared.ast.Module.{Module}
 use Rattle.hm_types.specs.Interfaces.{Exports as Interface}
 use Rattle.hm_names.specs.Faults.Phases.{fault}
-use Rattle.hm_names.specs.declared.faults.Fault.{Fault}
 use Rattle.hm_names.specs.Walk.{at_pattern}
 use Rattle.hm_names.proofs.Members.{cases, none_in}
 use Rattle.hm_messages_details.specs.Counts.{HasArguments, LaterClause, a_special, later_clauses, of_constructor}
 use Rattle.hm_messages_details.specs.Firsts.{place_of}
-use Rattle.hm_messages_details.specs.LeftOut.{IsTypeUse, is_type_use, left_out_variables}
+use Rattle.hm_messages_details.specs.LeftOut.{left_out_variables}
 use Rattle.hm_messages_details.specs.Worked.{ArgumentsRow, FirstRow, LeftOutRow, LengthsRow, name_on, one_pattern, three_clauses}
 
 is_ambiguous : Kind → ℕ
@@ -28,16 +27,13 @@ differ : Ambiguous ≡ Unbound → ⊥
 unfolding is_ambiguous
 differ e = let numbers : 1 ≡ 0 = ap is_ambiguous e in omega (arith, numbers)
 
-no_type : (f : Fault) (p : Pattern) → ¬ (IsTypeUse f (at_pattern p))
-no_type f p h = elim h [ ]
-
 pub worked_left_out : LeftOutRow
 worked_left_out = record {
-  missing = λ m fs f kind name. (kind, inl (subst (Contains left_out_variables) (sym name) (70, omega arith, refl)));
+  missing = (71, omega arith, refl);
   there = λ h. let found : false ≡ true = (among_decides (codes "map") left_out_variables).1 h in false≢true found;
+  a_type = (0, omega arith, refl);
   no_variable = λ h. let found : false ≡ true = (among_decides (codes "Double") left_out_variables).1 h in false≢true found;
-  type_use = is_type_use (record { place_is = refl; name_is = refl });
-  in_pattern = no_type _ _;
+  type_variable = λ h. h;
   ambiguous = λ m fs f kind known. differ (sym kind ∙ known.0);
 }
 

@@ -4,7 +4,11 @@ use Rattle.std.proofs.lemmas.List.Elements.{All-cons, All-nil}
 use Rattle.std.specs.Prelude.{Contains, codes}
 use Rattle.hm_syntax.specs.Names.{Identifier}
 use Rattle.hm_syntax.specs.declared.ast.Import.{Import}
+use Rattle.hm_types.specs.declared.Entity.{Entity}
+use Rattle.hm_types.specs.Interfaces.{Exports as Interface}
+use Rattle.hm_names.specs.Entities.{Exports}
 use Rattle.hm_names.specs.Faults.Phases.{fault}
+use Rattle.hm_names.specs.Scope.{Brings, every, hiding, known_as, only}
 use Rattle.hm_names.specs.declared.faults.Kind.TheVariants.{NotExported}
 use Rattle.hm_names.specs.declared.namespace.Namespace.{Namespace}
 use Rattle.hm_names.specs.declared.namespace.Namespace.TheVariants.{Types, Constructors, Values}
@@ -12,7 +16,7 @@ use Rattle.hm_names.proofs.Members.{cases, none_in}
 use Rattle.hm_messages_details.specs.Candidates.{IsInLine}
 use Rattle.hm_messages_details.specs.Nearness.{IsSmallForm}
 use Rattle.hm_messages_details.specs.Listed.{IsListedAs, a_constructor, a_type}
-use Rattle.hm_messages_details.specs.Worked.{ImportLineRow, ListedRow, NearBindingRow, PatternRow, SmallFormRow, SpaceRow, constructor_item, import_on, name_on}
+use Rattle.hm_messages_details.specs.Worked.{ImportLineRow, ListedRow, NearBindingRow, PatternRow, SmallFormRow, SpaceRow, constructor_item, import_on, name_on, two_imports}
 use Rattle.hm_lex.specs.declared.token.Place.{Place}
 
 pub worked_listed : ListedRow
@@ -24,28 +28,46 @@ worked_listed = record {
     not_alone : ¬ (IsListedAs (fault NotExported (name_on (codes "D") 2)) constructor_item None)
     not_alone (a_type at) = let lines : 2 ≡ 1 = ap (λ (p : Place). p.line) at.place_is in omega (arith, lines)
 
-two_imports : List Import
-two_imports = import_on (codes "A") (codes "L") 1 ∷ import_on (codes "B") (codes "M") 2 ∷ []
-
 first_letter : List ℕ → ℕ
 first_letter [] = 0
 first_letter (x ∷ xs) = x
 
+-- an import that brings an entity in is of an interface that exports it
+pub exported : (f : Interface) (i : Import) (s : Namespace) (x : List ℕ) (e : Entity) → Brings f i s x e → Exports f x e s
+exported f i s x e (every is there) = there
+exported f i s x e (only is among lists there) = there
+exported f i s x e (hiding is not there) = there
+
+-- of the two imports, L is the first
+called_l : (i : Import) → Contains two_imports i → known_as i ≡ codes "L" → i.name.text ≡ codes "A"
+unfolding first_letter
+called_l i c known = ⊎_elim (λ e. ap (λ (j : Import). j.name.text) e)
+    (λ o. ⊎_elim (λ e. let letters : 77 ≡ 76 = ap first_letter (ap known_as (sym e) ∙ known) in absurd (omega (arith, letters))) (λ z. absurd (none_in i z))
+    (cases (import_on (codes "B") (codes "M") 2) [] i o))
+    (cases (import_on (codes "A") (codes "L") 1) (import_on (codes "B") (codes "M") 2 ∷ []) i c)
+
 pub worked_lines : ImportLineRow
-unfolding two_imports first_letter
+unfolding first_letter
 worked_lines = record {
-  first = λ m is. record {
+  first = λ m fs e f is of. record {
     import = import_on (codes "A") (codes "L") 1;
+    interface = f;
     written = subst (λ l. Contains l (import_on (codes "A") (codes "L") 1)) (sym is) (0, omega arith, refl);
+    among = of.0;
+    from = of.1;
+    brings = every refl of.2;
     known = refl;
     each = subst (All (IsInLine (codes "L") 1)) (sym is)
         (All-cons (IsInLine (codes "L") 1) (import_on (codes "A") (codes "L") 1) (import_on (codes "B") (codes "M") 2 ∷ []) (λ e. refl)
         (All-cons (IsInLine (codes "L") 1) (import_on (codes "B") (codes "M") 2) [] (λ e. let letters : 77 ≡ 76 = ap first_letter e in omega (arith, letters)) (All-nil (IsInLine (codes "L") 1))));
   };
-  second = λ m is h.
+  second = λ m fs e is h.
       let each : All (IsInLine (codes "L") 2) two_imports = subst (All (IsInLine (codes "L") 2)) is h.each in
       let lines : 1 ≡ 2 = each 0 (import_on (codes "A") (codes "L") 1) (omega arith) refl in
       omega (arith, lines);
+  not_brought = λ m fs e is none h.
+      let text : h.import.name.text ≡ codes "A" = called_l h.import (subst (λ l. Contains l h.import) is h.written) h.known in
+      none h.interface (h.among, h.from ∙ text, exported h.interface h.import Values e.name e h.brings);
 }
 
 pub worked_bindings : NearBindingRow

@@ -10,7 +10,6 @@ use Rattle.hm_names.specs.Scope.{InScope}
 use Rattle.hm_names.specs.declared.faults.Fault.{Fault}
 use Rattle.hm_names.specs.declared.faults.Kind.TheVariants.{Ambiguous, Arity, ClauseLength, Duplicate, NoBinding, NonLinear, NotExported, Unbound}
 use Rattle.hm_names.specs.declared.namespace.Namespace.{Namespace}
-use Rattle.hm_names.specs.declared.namespace.Namespace.TheVariants.{Constructors}
 use Rattle.hm_messages_details.specs.Candidates.{Candidate, IsCandidate}
 use Rattle.hm_messages_details.specs.Counts.{AreArguments, AreLengths}
 use Rattle.hm_messages_details.specs.Firsts.{IsFirst}
@@ -20,10 +19,12 @@ use Rattle.hm_messages_details.specs.NearBindings.{HasNearBinding}
 use Rattle.hm_messages_details.specs.NearLocals.{HasNearLocal}
 use Rattle.hm_messages_details.specs.Nearness.{AreNear, IsSmallForm}
 use Rattle.hm_messages_details.specs.PatternBindings.{HasPatternBound}
+use Rattle.hm_messages_details.specs.Roles.{CanStand, CanStandInCapitals, HasRole}
 use Rattle.hm_messages_details.specs.declared.detail.Candidate.{Candidate as LentCandidate}
 use Rattle.hm_messages_details.specs.declared.detail.Detail.{Detail}
 use Rattle.hm_messages_details.specs.declared.detail.Detail.TheVariants as detail
 use Rattle.hm_messages_details.specs.declared.detail.Origin.{Origin}
+use Rattle.hm_messages_details.specs.declared.role.Role.{Role}
 
 -- nothing; a name in scope that is near, by its qualifier and its text; a local variable that is near; the Report's Prelude has the name, as what it stands for; two entities that it stands for; the place of
 -- the first name that is the same; its arguments and how many it takes; the patterns of the clause and of the first one; the module that doesn't export
@@ -63,11 +64,11 @@ known_of (detail.NearBinding x) = near_binding x.now
 known_of (detail.Elsewhere s) = elsewhere s
 known_of detail.ByPattern = by_pattern
 
--- behind the same qualifier, the name of the pair is near to this one, or is a constructor whose small form this one is
-pub record IsNearPair (name : List ℕ) (p : Pair) : Type 0 where
+-- behind the same qualifier, the name of the pair can stand there and is near to this one, or it can stand there and this one is its small form
+pub record IsNearPair (r : Role) (name : List ℕ) (p : Pair) : Type 0 where
   pub text : List ℕ
   pub written : name ≡ written_in p.qualifier text
-  pub near : AreNear text p.text ⊎ ((p.space ≡ Constructors) × IsSmallForm text p.text)
+  pub near : (CanStand r p.space × AreNear text p.text) ⊎ (CanStandInCapitals r p.space × IsSmallForm text p.text)
 
 -- the pair has this name in this namespace
 pub record IsEntityFor (name : List ℕ) (space : Namespace) (p : Pair) : Type 0 where
@@ -77,13 +78,15 @@ pub record IsEntityFor (name : List ℕ) (space : Namespace) (p : Pair) : Type 0
 abbrev pub IsPairInScope : Module → List Interface → Pair → Type 0
 IsPairInScope m fs p = InScope m fs p.space p.qualifier p.text p.entity
 
--- a near name is in scope
-pub record IsNear (m : Module) (fs : List Interface) (name : List ℕ) (q : Option (List ℕ)) (x : List ℕ) : Type 0 where
+-- a near name is in scope, and can stand for what the name of the fault stands for
+pub record IsNear (m : Module) (fs : List Interface) (f : Fault) (q : Option (List ℕ)) (x : List ℕ) : Type 0 where
+  pub role : Role
+  pub stands : HasRole m f role
   pub pair : Pair
   pub in_scope : IsPairInScope m fs pair
   pub qualifier_is : pair.qualifier ≡ q
   pub text_is : pair.text ≡ x
-  pub is_near : IsNearPair name pair
+  pub is_near : IsNearPair role f.name pair
 
 -- the name stands for both entities, which differ, in one namespace (Report, section 5.5.2)
 pub record IsEither (m : Module) (fs : List Interface) (name : List ℕ) (c d : Candidate) : Type 0 where
@@ -107,7 +110,7 @@ pub record IsElsewhere (m : Module) (fs : List Interface) (name : List ℕ) (spa
 -- what is known of a fault of a module with these interfaces is so
 abbrev pub IsKnown : Module → List Interface → Fault → Known → Type 0
 IsKnown m fs f nothing = ⊤
-IsKnown m fs f (near q x) = (f.kind ≡ Unbound) × IsNear m fs f.name q x
+IsKnown m fs f (near q x) = (f.kind ≡ Unbound) × IsNear m fs f q x
 IsKnown m fs f (near_local x) = (f.kind ≡ Unbound) × HasNearLocal m f x
 IsKnown m fs f of_report = (f.kind ≡ Unbound) × IsOfReport m f
 IsKnown m fs f (either c d) = (f.kind ≡ Ambiguous) × IsEither m fs f.name c d

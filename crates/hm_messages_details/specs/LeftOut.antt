@@ -1,15 +1,11 @@
 -- The names of the Report's Prelude (chapter 8) that this Prelude leaves out. Classes aren't here, because the name of a class is never looked up.
 -- No constructor is left out.
-use Rattle.std.specs.Prelude.{◌≡◌, ◌⊎◌, ℕ, List, [], ◌∷◌, Some, Contains, codes}
-use Rattle.hm_syntax.specs.Names.{Identifier}
-use Rattle.hm_syntax.specs.Trees.{TypeTrees, constructor_type}
-use Rattle.hm_syntax.specs.declared.ast.Export.{Export}
-use Rattle.hm_syntax.specs.declared.ast.Export.TheVariants as export
+use Rattle.std.specs.Prelude.{ℕ, List, [], ◌∷◌, Contains, codes}
 use Rattle.hm_syntax.specs.declared.ast.Module.{Module}
-use Rattle.hm_syntax.specs.declared.ast.SubItems.{SubItems}
-use Rattle.hm_names.specs.Walk.{Node, Somewhere, at_type}
 use Rattle.hm_names.specs.declared.faults.Fault.{Fault}
-use Rattle.hm_messages_details.specs.Firsts.{IsAt}
+use Rattle.hm_messages_details.specs.Roles.{HasRole}
+use Rattle.hm_messages_details.specs.declared.role.Role.{Role}
+use Rattle.hm_messages_details.specs.declared.role.Role.TheVariants.{Variable, ExportedVariable, Constructor, TypeConstructor, TypeVariable}
 
 -- types
 abbrev pub left_out_types : List (List ℕ)
@@ -21,7 +17,7 @@ left_out_types =
 abbrev pub left_out_variables : List (List ℕ)
 left_out_variables =
     codes "abs" ∷ codes "acos" ∷ codes "acosh" ∷ codes "appendFile" ∷ codes "asin" ∷ codes "asinh" ∷ codes "atan" ∷
-    codes "atan2" ∷ codes "atanh" ∷ codes "ceiling" ∷ codes "compare" ∷ codes "cos" ∷ codes "cosh" ∷
+    codes "atan2" ∷ codes "atanh" ∷ codes "catch" ∷ codes "ceiling" ∷ codes "compare" ∷ codes "cos" ∷ codes "cosh" ∷
     codes "decodeFloat" ∷ codes "div" ∷ codes "divMod" ∷ codes "elem" ∷ codes "encodeFloat" ∷ codes "enumFrom" ∷
     codes "enumFromThen" ∷ codes "enumFromThenTo" ∷ codes "enumFromTo" ∷ codes "even" ∷ codes "exp" ∷
     codes "exponent" ∷ codes "fail" ∷ codes "floatDigits" ∷ codes "floatRadix" ∷ codes "floatRange" ∷ codes "floor" ∷
@@ -41,23 +37,16 @@ left_out_variables =
     codes "toInteger" ∷ codes "toRational" ∷ codes "truncate" ∷ codes "unzip3" ∷ codes "userError" ∷
     codes "writeFile" ∷ codes "zip3" ∷ codes "zipWith3" ∷ []
 
--- the fault is at a type constructor
-pub data IsTypeUse (f : Fault) : Node → Type 0 where
-  is_type_use : {n : Identifier} {ts : TypeTrees} → IsAt f n → IsTypeUse f (at_type (constructor_type n ts))
+-- the Report's Prelude has this name for what it stands for, and this one leaves it out
+abbrev pub IsLeftOutAs : Role → List ℕ → Type 0
+IsLeftOutAs Variable x = Contains left_out_variables x
+IsLeftOutAs ExportedVariable x = Contains left_out_variables x
+IsLeftOutAs Constructor x = ⊥
+IsLeftOutAs TypeConstructor x = Contains left_out_types x
+IsLeftOutAs TypeVariable x = ⊥
 
--- the fault is at a type of the export list (Report, section 5.2)
-pub record IsExportedType (m : Module) (f : Fault) : Type 0 where
-  pub items : List Export
-  pub listed : m.header.exports ≡ Some items
-  pub name : Identifier
-  pub subs : SubItems
-  pub among : Contains items (export.Con name subs)
-  pub at_name : IsAt f name
-
--- the name of the fault stands for a type there
-abbrev pub StandsForType : Module → Fault → Type 0
-StandsForType m f = Somewhere m (λ xs k. IsTypeUse f k) ⊎ IsExportedType m f
-
--- the Report's Prelude has the name of the fault: as a variable, or as a type, and then the name stands for a type
-abbrev pub IsOfReport : Module → Fault → Type 0
-IsOfReport m f = Contains left_out_variables f.name ⊎ (Contains left_out_types f.name × StandsForType m f)
+-- it is so of the name of the fault, as what it stands for at its place
+pub record IsOfReport (m : Module) (f : Fault) : Type 0 where
+  pub role : Role
+  pub stands : HasRole m f role
+  pub left_out : IsLeftOutAs role f.name

@@ -10,4 +10,5 @@ pub mod NearLocals
 pub mod Nearness
 pub mod Parts
 pub mod PatternBindings
+pub mod Roles
 pub mod Worked

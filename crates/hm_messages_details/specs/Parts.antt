@@ -3,7 +3,7 @@ use Rattle.std.specs.Prelude.{ℕ, List, [], ◌∷◌, ◌++◌, Option, Some, 
 use Rattle.hm_syntax.specs.Names.{Identifier}
 use Rattle.hm_syntax.specs.Trees.{TypeTree, variable_type, constructor_type, function_type, tuple_type, list_type, unit_type, TypeTrees, no_types, more_types, DataConstructor, data_constructor, DataConstructors, no_constructors, more_constructors, Pattern, variable_pattern, bound_pattern, constructor_pattern, literal_pattern, wildcard_pattern, tuple_pattern, list_pattern, lazy_pattern, Patterns, no_patterns, more_patterns, Expression, variable_expression, constructor_expression, literal_expression, application, lambda, let_expression, if_expression, case_expression, tuple_expression, list_expression, typed_expression, Expressions, no_expressions, more_expressions, Declaration, data_declaration, newtype_declaration, synonym_declaration, signature, clause, pattern_binding, Declarations, no_declarations, more_declarations, RightSide, right_side, Bodies, no_bodies, plain_body, guarded_body, Alternative, alternative, Alternatives, no_alternatives, more_alternatives}
 use Rattle.hm_syntax.specs.Lists.{declarations, patterns, types}
-use Rattle.hm_names.specs.Walk.{Node, at_pattern, at_type, at_head, at_parameters, at_list}
+use Rattle.hm_names.specs.Walk.{Node, at_expression, at_pattern, at_type, at_head, at_parameters, at_list}
 use Rattle.hm_lex.specs.declared.token.Place.{Place}
 use Rattle.hm_types.specs.Interfaces.{Exports as Interface}
 use Rattle.hm_syntax.specs.declared.ast.Module.{Module}
@@ -17,15 +17,18 @@ use Rattle.hm_messages_details.specs.PatternBindings.{IsPatternBound}
 use Rattle.hm_messages_details.specs.declared.lengths.Later.{Later}
 use Rattle.hm_messages_details.specs.declared.parts.Part.{Part as LentPart}
 use Rattle.hm_messages_details.specs.declared.parts.Part.TheVariants as lent
+use Rattle.hm_messages_details.specs.declared.role.Role.{Role}
+use Rattle.hm_messages_details.specs.declared.role.Role.TheVariants.{Variable, Constructor, TypeConstructor, TypeVariable}
 
 -- a declaration list; the patterns of one clause, lambda or alternative; the parameters of a type's declaration; a constructor in a pattern, and a
--- type constructor, each with its arguments
+-- type constructor, each with its arguments; a variable or a constructor of an expression, or a type variable
 pub data Part : Type 0 where
   a_list : Declarations → Part
   a_head : Patterns → Part
   a_row : List Identifier → Part
   a_pattern : Identifier → Patterns → Part
   a_type : Identifier → TypeTrees → Part
+  a_use : Role → Identifier → Part
 
 -- the node of a tree is this part
 pub data IsPart : Node → Part → Type 0 where
@@ -34,6 +37,9 @@ pub data IsPart : Node → Part → Type 0 where
   parameters_are : {ps vs : List Identifier} → IsPart (at_parameters ps vs) (a_row ps)
   pattern_is : {n : Identifier} {ps : Patterns} → IsPart (at_pattern (constructor_pattern n ps)) (a_pattern n ps)
   type_is : {n : Identifier} {ts : TypeTrees} → IsPart (at_type (constructor_type n ts)) (a_type n ts)
+  variable_is : {n : Identifier} → IsPart (at_expression (variable_expression n)) (a_use Variable n)
+  constructor_is : {n : Identifier} → IsPart (at_expression (constructor_expression n)) (a_use Constructor n)
+  type_variable_is : {n : Identifier} → IsPart (at_type (variable_type n)) (a_use TypeVariable n)
 
 abbrev pub part_of : LentPart → Part
 part_of (lent.List ds) = a_list (declarations ds.now)
@@ -42,10 +48,11 @@ part_of (lent.Alone p) = a_head (more_patterns p.now no_patterns)
 part_of (lent.Parameters ps) = a_row ps.now
 part_of (lent.Pattern n ps) = a_pattern n.now (patterns ps.now)
 part_of (lent.Type n ts) = a_type n.now (types ts.now)
+part_of (lent.Use r n) = a_use r n.now
 
 abbrev mutual
   pub type_parts : TypeTree → List Part
-  type_parts (variable_type n) = []
+  type_parts (variable_type n) = a_use TypeVariable n ∷ []
   type_parts (constructor_type n ts) = a_type n ts ∷ types_parts ts
   type_parts (function_type a b) = type_parts a ++ type_parts b
   type_parts (tuple_type ts) = types_parts ts
@@ -83,8 +90,8 @@ head_parts ps = a_head ps ∷ patterns_parts ps
 
 abbrev mutual
   pub expression_parts : Expression → List Part
-  expression_parts (variable_expression n) = []
-  expression_parts (constructor_expression n) = []
+  expression_parts (variable_expression n) = a_use Variable n ∷ []
+  expression_parts (constructor_expression n) = a_use Constructor n ∷ []
   expression_parts (literal_expression l) = []
   expression_parts (application f e) = expression_parts f ++ expression_parts e
   expression_parts (lambda ps e) = head_parts ps ++ expression_parts e
@@ -147,13 +154,15 @@ IsFirstIn (a_head ps) f p = IsFirstAt (patterns_variables ps) f p
 IsFirstIn (a_row ps) f p = IsFirstAt ps f p
 IsFirstIn (a_pattern n ps) f p = ⊥
 IsFirstIn (a_type n ts) f p = ⊥
+IsFirstIn (a_use r n) f p = ⊥
 
-abbrev pub IsTypeUseIn : Part → Fault → Type 0
-IsTypeUseIn (a_list ds) f = ⊥
-IsTypeUseIn (a_head ps) f = ⊥
-IsTypeUseIn (a_row ps) f = ⊥
-IsTypeUseIn (a_pattern n ps) f = ⊥
-IsTypeUseIn (a_type n ts) f = IsAt f n
+abbrev pub IsPartRole : Part → Fault → Role → Type 0
+IsPartRole (a_list ds) f r = ⊥
+IsPartRole (a_head ps) f r = ⊥
+IsPartRole (a_row ps) f r = ⊥
+IsPartRole (a_pattern n ps) f r = (r ≡ Constructor) × IsAt f n
+IsPartRole (a_type n ts) f r = (r ≡ TypeConstructor) × IsAt f n
+IsPartRole (a_use s n) f r = (r ≡ s) × IsAt f n
 
 abbrev pub HasArgumentsIn : Module → List Interface → Fault → ℕ → ℕ → Part → Type 0
 HasArgumentsIn m fs f here takes (a_list ds) = ⊥
@@ -161,6 +170,7 @@ HasArgumentsIn m fs f here takes (a_head ps) = ⊥
 HasArgumentsIn m fs f here takes (a_row ps) = ⊥
 HasArgumentsIn m fs f here takes (a_pattern n ps) = IsAt f n × (here ≡ pattern_count ps) × ConstructorTakes m fs n takes
 HasArgumentsIn m fs f here takes (a_type n ts) = IsAt f n × (here ≡ type_count ts) × TypeTakes m fs n takes
+HasArgumentsIn m fs f here takes (a_use r n) = ⊥
 
 abbrev pub HasLengthsIn : Fault → ℕ → ℕ → Part → Type 0
 HasLengthsIn f here first (a_list ds) = HasLengths f here first ds
@@ -168,6 +178,7 @@ HasLengthsIn f here first (a_head ps) = ⊥
 HasLengthsIn f here first (a_row ps) = ⊥
 HasLengthsIn f here first (a_pattern n ps) = ⊥
 HasLengthsIn f here first (a_type n ts) = ⊥
+HasLengthsIn f here first (a_use r n) = ⊥
 
 abbrev pub IsNearBindingIn : Part → Fault → List ℕ → Type 0
 IsNearBindingIn (a_list ds) f x = IsNearBinding ds f x
@@ -175,6 +186,7 @@ IsNearBindingIn (a_head ps) f x = ⊥
 IsNearBindingIn (a_row ps) f x = ⊥
 IsNearBindingIn (a_pattern n ps) f x = ⊥
 IsNearBindingIn (a_type n ts) f x = ⊥
+IsNearBindingIn (a_use r n) f x = ⊥
 
 abbrev pub IsPatternBoundIn : Part → Fault → Type 0
 IsPatternBoundIn (a_list ds) f = IsPatternBound ds f
@@ -182,6 +194,7 @@ IsPatternBoundIn (a_head ps) f = ⊥
 IsPatternBoundIn (a_row ps) f = ⊥
 IsPatternBoundIn (a_pattern n ps) f = ⊥
 IsPatternBoundIn (a_type n ts) f = ⊥
+IsPatternBoundIn (a_use r n) f = ⊥
 
 -- a clause that continues a binding, as the code has it
 abbrev pub later_of : Later → LaterClause

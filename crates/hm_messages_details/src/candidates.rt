@@ -4,7 +4,7 @@ ghost use Rattle.hm_types.specs.Interfaces.{Exports as Interface};
 ghost use Rattle.hm_syntax.specs.declared.ast.Import.{Import as ImportTree};
 ghost use Rattle.hm_names.specs.Bindings.{IsScopeOf};
 ghost use Rattle.hm_names.specs.Scope.{known_as, prelude_name};
-ghost use Rattle.hm_messages_details.specs.Candidates.{IsAlone, IsCandidate, IsImportLine, IsInLine, IsOther, IsUnder, MeansOnly};
+ghost use Rattle.hm_messages_details.specs.Candidates.{HasLine, IsAlone, IsByPrelude, IsCandidate, IsInLine, IsOfImports, IsOther, IsUnder, MeansOnly};
 ghost use Rattle.hm_messages_details.specs.Details.{candidate_of, entity_of as entity_at};
 
 use crate::detail::{Candidate, Origin};
@@ -149,10 +149,9 @@ fn is_only_line(imports: &[Import], qualifier: &str, line: u32) -> bool
 
 /// Returns the line of the imports with this qualifier, if there is one and no other line has one.
 #[tactic(auto, using(crate::proofs::Meant::only_line))]
-fn import_line(program: &Module, qualifier: &str) -> Option<u32>
-    ensures { IfSome result (IsImportLine program.now qualifier.now) }
+fn line_of(imports: &[Import], qualifier: &str) -> Option<u32>
+    ensures { IfSome result (HasLine imports.now qualifier.now) }
 {
-    let imports = program.header.imports.as_slice();
     let line = first_line(imports, qualifier)?;
     if !is_only_line(imports, qualifier, line) {
         return None;
@@ -160,14 +159,52 @@ fn import_line(program: &Module, qualifier: &str) -> Option<u32>
     Some(line)
 }
 
-/// Returns whether an import names another module than Prelude.
+/// Returns whether an import names Prelude.
+fn names_prelude(imports: &[Import]) -> bool
+    ensures { result ≡ true → (i : ImportTree) × Contains imports.now i × (i.name.text ≡ prelude_name) }
+{
+    for import in imports {
+        if import.name.as_str() == "Prelude" {
+            return true;
+        }
+    }
+    false
+}
+
+/// Returns whether what has this qualifier comes from written imports: it isn't the module's own name, nor that of an implicit Prelude.
+fn is_of_imports(program: &Module, qualifier: &str) -> bool
+    ensures { result ≡ true → IsOfImports program.now qualifier.now }
+{
+    if qualifier == program.header.name.as_str() {
+        return false;
+    }
+    if qualifier != "Prelude" {
+        return true;
+    }
+    names_prelude(program.header.imports.as_slice())
+}
+
+/// Returns the line of the imports that bring names with this qualifier, if there is one and no other line has one.
+fn import_line(program: &Module, qualifier: &str) -> Option<u32>
+    ensures { IfSome result (λ line. IsOfImports program.now qualifier.now × HasLine program.now.header.imports qualifier.now line) }
+{
+    if !is_of_imports(program, qualifier) {
+        return None;
+    }
+    line_of(program.header.imports.as_slice(), qualifier)
+}
+
+/// Returns whether an import names another module than Prelude, and calls it otherwise.
 fn is_other(import: &Import) -> bool
     ensures { result ≡ true → IsOther import.now }
 {
-    import.name.as_str() != "Prelude"
+    if import.name.as_str() == "Prelude" {
+        return false;
+    }
+    qualifier_of(import) != "Prelude"
 }
 
-/// Returns whether each of these imports names another module than Prelude.
+/// Returns whether each of these imports names another module than Prelude, and calls it otherwise.
 fn are_others(imports: &[Import]) -> bool
     ensures { result ≡ true → All IsOther imports.now }
 {
@@ -179,14 +216,53 @@ fn are_others(imports: &[Import]) -> bool
     true
 }
 
-/// Returns whether Prelude defines an entity, and no import names Prelude.
-fn is_preludes(program: &Module, entity: &EntityRef<'_>) -> bool
-    ensures { result ≡ true → (entity.now.«module» ≡ prelude_name) × All IsOther program.now.header.imports }
+/// Returns whether a pair is of another entity, is bare, or has Prelude's name for its qualifier.
+fn is_by_prelude(space: Namespace, entity: &EntityRef<'_>, pair: &Binding<'_>) -> bool
+    ensures { result ≡ true → IsByPrelude space entity.now pair.now }
+{
+    let Some(qualifier) = pair.qualifier() else {
+        return true;
+    };
+    if qualifier == "Prelude" {
+        return true;
+    }
+    if pair.space() != space {
+        return true;
+    }
+    if pair.text() != entity.name() {
+        return true;
+    }
+    !pair.entity().is_same(entity)
+}
+
+/// Returns whether each pair with an entity under its name is bare, or has Prelude's name for its qualifier.
+fn are_by_prelude(space: Namespace, entity: &EntityRef<'_>, pairs: &[Binding<'_>]) -> bool
+    ensures { result ≡ true → All (IsByPrelude space entity.now) pairs.now }
+{
+    'pairs: for pair in pairs {
+        if !is_by_prelude(space, entity, pair) {
+            return false;
+        }
+    }
+    true
+}
+
+/// Returns whether an entity comes from the implicit import of Prelude alone.
+fn is_preludes(
+    program: &Module,
+    pairs: &[Binding<'_>],
+    space: Namespace,
+    entity: &EntityRef<'_>,
+) -> bool
+    ensures { result ≡ true → (entity.now.«module» ≡ prelude_name) × All IsOther program.now.header.imports × All (IsByPrelude space entity.now) pairs.now }
 {
     if entity.module() != "Prelude" {
         return false;
     }
-    are_others(program.header.imports.as_slice())
+    if !are_others(program.header.imports.as_slice()) {
+        return false;
+    }
+    are_by_prelude(space, entity, pairs)
 }
 
 // Why: docs/DECISIONS.md, "Two things of one name".
@@ -200,7 +276,7 @@ pub(crate) fn candidate<'a>(
     ensures { (fs : List Interface) → IsScopeOf program.now fs pairs.now → IsCandidate program.now fs space entity.now (candidate_of result) }
 {
     let origin = origin_of(entity);
-    let is_implicit = is_preludes(program, entity);
+    let is_implicit = is_preludes(program, pairs, space, entity);
     match qualifier_for(space, entity, pairs) {
         Some(qualifier) => Candidate {
             origin,

@@ -96,6 +96,7 @@ fn counts_in(site: &Site<'_, '_, '_>, fault: &Fault, part: Part<'_>) -> Option<C
         Part::Head(_) => None,
         Part::Alone(_) => None,
         Part::Parameters(_) => None,
+        Part::Use(_, _) => None,
     }
 }
 

@@ -5,6 +5,7 @@ ghost use Rattle.hm_names.specs.Bindings.{IsScopeOf};
 ghost use Rattle.hm_names.specs.declared.faults.Kind.TheVariants.{Ambiguous, Arity, ClauseLength, Duplicate, NoBinding, NonLinear, Unbound};
 ghost use Rattle.hm_scope_tables.specs.KnownTables.{AreTablesOf};
 ghost use Rattle.hm_messages_details.specs.Details.{IsKnown, known_of};
+ghost use Rattle.hm_messages_details.specs.Roles.{HasRole};
 
 use crate::candidates::candidate;
 use crate::counts::argument_counts;
@@ -16,6 +17,8 @@ use crate::listed::import_detail;
 use crate::locals::near_local;
 use crate::nearest::{entity_of, nearest, other_entity_of, space_of};
 use crate::patterned::is_pattern_bound;
+use crate::role::Role;
+use crate::roles::role_of;
 use crate::signed::near_binding;
 use crate::site::Site;
 use hm_names::{Fault, Kind, Namespace};
@@ -23,24 +26,26 @@ use hm_scope_tables::Scope;
 use hm_syntax::Module;
 use std::alloc::{AllocError, Global};
 
-/// Returns the detail of an unbound name, if there is one.
+/// Returns the detail of an unbound name with this role, if there is one.
 fn unbound_detail<'a>(
     alloc: Global,
     program: &'a Module,
     scope: &Scope<'a>,
     fault: &Fault,
+    role: Role,
 ) -> Result<Detail<'a>, AllocError>
-    requires { fault.now.kind ≡ Unbound }
+    requires unbound { fault.now.kind ≡ Unbound }
+    requires stands { HasRole program.now fault.now role }
     ensures { IfOk result (λ detail. (fs : List Interface) → IsScopeOf program.now fs scope.now → IsKnown program.now fs fault.now (known_of detail)) }
 {
-    if is_left_out(alloc, program, fault)? {
+    if is_left_out(fault.name.as_str(), role) {
         return Ok(Detail::LeftOut);
     }
     match near_local(alloc, program, fault)? {
         Some(near) => return Ok(Detail::NearLocal(near)),
         None => {}
     }
-    match nearest(alloc, fault.name.as_str(), scope.pairs())? {
+    match nearest(alloc, fault.name.as_str(), role, scope.pairs())? {
         Some(pair) => Ok(Detail::Near(pair.qualifier(), pair.text())),
         None => Ok(Detail::Nothing),
     }
@@ -60,7 +65,10 @@ fn name_detail<'a>(
         Some(space) => return Ok(Detail::Elsewhere(space)),
         None => {}
     }
-    Ok(unbound_detail(alloc, program, scope, fault)?)
+    match role_of(alloc, program, fault)? {
+        Some(role) => Ok(unbound_detail(alloc, program, scope, fault, role)?),
+        None => Ok(Detail::Nothing),
+    }
 }
 
 /// Returns two entities that a name means in a namespace, if there are two.

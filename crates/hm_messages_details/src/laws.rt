@@ -1,5 +1,5 @@
 //! Worked examples: functions with an empty body, whose contracts have the facts.
-ghost use Rattle.hm_messages_details.specs.Worked.{ArgumentsRow, CandidateRow, FirstRow, ImportLineRow, LeftOutRow, LengthsRow, ListedRow, NearBindingRow, NearLocalRow, PatternRow, SmallFormRow, SpaceRow};
+ghost use Rattle.hm_messages_details.specs.Worked.{ArgumentsRow, CandidateRow, FirstRow, ImportLineRow, LeftOutRow, LengthsRow, ListedRow, NearBindingRow, NearLocalRow, NearPairRow, PatternRow, RoleRow, SmallFormRow, SpaceRow};
 
 /// A name that only the Report's Prelude has, and one that both have.
 #[tactic(auto, using(crate::proofs::WorkedDetails::worked_left_out))]
@@ -34,6 +34,13 @@ pub fn worked_spaces()
     ensures spaces { SpaceRow }
     ensures small_forms { SmallFormRow }
     ensures patterns { PatternRow }
+{}
+
+/// What names stand for at their places, and names that may be meant for them; and others that don't.
+#[tactic(auto, using(crate::proofs::WorkedRoles::worked_roles, crate::proofs::WorkedRoles::worked_near_pairs))]
+pub fn worked_roles()
+    ensures roles { RoleRow }
+    ensures near_pairs { NearPairRow }
 {}
 
 /// What is said of an entity of an ambiguous name, and a local variable near to a name; and others that aren't so.

@@ -1,18 +1,8 @@
 //! The names of the Report's Prelude that this Prelude leaves out.
-ghost use Rattle.std.specs.Prelude.{◌≡◌, Contains, IfOk, map, true};
-ghost use Rattle.hm_syntax.specs.Names.{Identifier};
-ghost use Rattle.hm_syntax.specs.declared.ast.Export.TheVariants as export;
-ghost use Rattle.hm_syntax.specs.declared.ast.SubItems.{SubItems};
-ghost use Rattle.hm_names.specs.Walk.{Somewhere};
-ghost use Rattle.hm_messages_details.specs.Firsts.{IsAt};
-ghost use Rattle.hm_messages_details.specs.LeftOut.{IsExportedType, IsOfReport, IsTypeUse, StandsForType, left_out_types, left_out_variables};
-ghost use Rattle.hm_messages_details.specs.Parts.{IsTypeUseIn, part_of};
+ghost use Rattle.std.specs.Prelude.{◌≡◌, Contains, map, true};
+ghost use Rattle.hm_messages_details.specs.LeftOut.{IsLeftOutAs, left_out_types, left_out_variables};
 
-use crate::firsts::is_at;
-use crate::parts::{Part, parts_of};
-use hm_names::Fault;
-use hm_syntax::{Export, Module};
-use std::alloc::{AllocError, Global};
+use crate::role::Role;
 
 /// The types, in the order of their bytes.
 const TYPES: [&str; 9] = [
@@ -20,7 +10,7 @@ const TYPES: [&str; 9] = [
 ];
 
 /// The variables, in the order of their bytes.
-const VARIABLES: [&str; 117] = [
+const VARIABLES: [&str; 118] = [
     "abs",
     "acos",
     "acosh",
@@ -30,6 +20,7 @@ const VARIABLES: [&str; 117] = [
     "atan",
     "atan2",
     "atanh",
+    "catch",
     "ceiling",
     "compare",
     "cos",
@@ -166,88 +157,15 @@ fn is_one_of(words: &[&str], text: &str) -> bool
     false
 }
 
-/// Returns whether a fault is at the type constructor of a part.
-fn is_type_use_in(fault: &Fault, part: Part<'_>) -> bool
-    ensures { result ≡ true → IsTypeUseIn (part_of part.entry) fault.now }
+/// Returns whether this Prelude leaves a name out, and the Report's Prelude has it as what it stands for.
+pub(crate) fn is_left_out(name: &str, role: Role) -> bool
+    ensures { result ≡ true → IsLeftOutAs role name.now }
 {
-    match part {
-        Part::Type(name, _) => is_at(fault, name),
-        Part::List(_) => false,
-        Part::Head(_) => false,
-        Part::Alone(_) => false,
-        Part::Parameters(_) => false,
-        Part::Pattern(_, _) => false,
+    match role {
+        Role::Variable => is_one_of(left_out_variables(), name),
+        Role::ExportedVariable => is_one_of(left_out_variables(), name),
+        Role::TypeConstructor => is_one_of(left_out_types(), name),
+        Role::Constructor => false,
+        Role::TypeVariable => false,
     }
-}
-
-/// Returns whether a fault is at a type constructor of a module.
-fn is_type_use(alloc: Global, program: &Module, fault: &Fault) -> Result<bool, AllocError>
-    ensures { IfOk result (λ is. is ≡ true → Somewhere program.now (λ xs k. IsTypeUse fault.now k)) }
-{
-    let parts = parts_of(alloc, program)?;
-    let row = parts.as_slice();
-    'row: for part in row {
-        if is_type_use_in(fault, *part) {
-            return Ok(true);
-        }
-    }
-    Ok(false)
-}
-
-/// Returns whether a fault is at a type of an export list.
-fn is_exported(fault: &Fault, item: &Export) -> bool
-    ensures { result ≡ true → (n : Identifier) × (s : SubItems) × (item.now ≡ export.Con n s) × IsAt fault.now n }
-{
-    match item {
-        Export::Con(name, _) => is_at(fault, name),
-        Export::Var(_) => false,
-        Export::Whole(_) => false,
-    }
-}
-
-/// Returns whether a fault is at a type of the export list of a module.
-#[tactic(auto, using(crate::proofs::TypeUses::exported_type))]
-fn is_exported_type(program: &Module, fault: &Fault) -> bool
-    ensures { result ≡ true → IsExportedType program.now fault.now }
-{
-    match &program.header.exports {
-        Some(items) => {
-            let row = items.as_slice();
-            'row: for item in row {
-                if is_exported(fault, item) {
-                    return true;
-                }
-            }
-            false
-        }
-        None => false,
-    }
-}
-
-/// Returns whether the name of a fault stands for a type there.
-fn stands_for_type(alloc: Global, program: &Module, fault: &Fault) -> Result<bool, AllocError>
-    ensures { IfOk result (λ is. is ≡ true → StandsForType program.now fault.now) }
-{
-    if is_exported_type(program, fault) {
-        return Ok(true);
-    }
-    Ok(is_type_use(alloc, program, fault)?)
-}
-
-/// Returns whether this Prelude leaves the name of a fault out, and the Report's Prelude has it as what it stands for there.
-pub(crate) fn is_left_out(
-    alloc: Global,
-    program: &Module,
-    fault: &Fault,
-) -> Result<bool, AllocError>
-    ensures { IfOk result (λ is. is ≡ true → IsOfReport program.now fault.now) }
-{
-    let name = fault.name.as_str();
-    if is_one_of(left_out_variables(), name) {
-        return Ok(true);
-    }
-    if !is_one_of(left_out_types(), name) {
-        return Ok(false);
-    }
-    Ok(stands_for_type(alloc, program, fault)?)
 }

@@ -155,14 +155,10 @@ fn lengths_in_list(
 fn lengths_in(alloc: Global, fault: &Fault, part: Part<'_>) -> Result<Option<Counts>, AllocError>
     ensures { IfOk result (λ found. IfSome found (λ c. HasLengthsIn fault.now c.here c.right (part_of part.entry))) }
 {
-    match part {
-        Part::List(decls) => Ok(lengths_in_list(alloc, fault, decls)?),
-        Part::Head(_) => Ok(None),
-        Part::Alone(_) => Ok(None),
-        Part::Parameters(_) => Ok(None),
-        Part::Pattern(_, _) => Ok(None),
-        Part::Type(_, _) => Ok(None),
-    }
+    let Part::List(decls) = part else {
+        return Ok(None);
+    };
+    Ok(lengths_in_list(alloc, fault, decls)?)
 }
 
 /// Returns the numbers of patterns of the clause at a fault and of the first clause of its binding, if they differ.

@@ -15,6 +15,8 @@ mod locals;
 mod nearest;
 mod parts;
 mod patterned;
+mod role;
+mod roles;
 mod signed;
 mod site;
 mod written;

@@ -3,7 +3,9 @@ ghost use Rattle.std.specs.Prelude.{◌≡◌, Contains, IfOk, IfSome, true};
 ghost use Rattle.hm_names.specs.Bindings.{Pair};
 ghost use Rattle.hm_messages_details.specs.Details.{IsEntityFor, IsNearPair};
 ghost use Rattle.hm_messages_details.specs.Nearness.{AreNear, IsSmallForm, begins_capital};
+ghost use Rattle.hm_messages_details.specs.Roles.{CanStand, CanStandInCapitals};
 
+use crate::role::Role;
 use crate::written::behind;
 use hm_names::Namespace;
 use hm_scope_tables::{Binding, EntityRef};
@@ -81,34 +83,65 @@ fn is_small_form(text: &[u8], name: &[u8]) -> bool
     *small == *capital + 32 && rest == others
 }
 
-/// Returns whether a pair's name is one edit away from this one, after the same qualifier, or is a constructor of which this is the small form.
-fn is_near_pair(alloc: Global, name: &str, pair: &Binding<'_>) -> Result<bool, AllocError>
-    ensures { IfOk result (λ is. is ≡ true → IsNearPair name.now pair.now) }
+/// Returns whether a name of this namespace fits a place.
+fn can_stand(role: Role, space: Namespace) -> bool
+    ensures { result ≡ true → CanStand role space }
 {
-    match behind(name, pair.qualifier()) {
-        Some(text) => {
-            if pair.space() == Namespace::Constructors
-                && is_small_form(text.as_bytes(), pair.text().as_bytes())
-            {
-                return Ok(true);
-            }
-            is_near(alloc, text, pair.text())
-        }
-        None => Ok(false),
+    match role {
+        Role::Variable => space == Namespace::Values,
+        Role::ExportedVariable => space == Namespace::Values,
+        Role::Constructor => space == Namespace::Constructors,
+        Role::TypeConstructor => space == Namespace::Types,
+        Role::TypeVariable => false,
     }
 }
 
+/// Returns whether a name of this namespace fits a place if it begins with a capital letter in place of a small one.
+fn can_stand_in_capitals(role: Role, space: Namespace) -> bool
+    ensures { result ≡ true → CanStandInCapitals role space }
+{
+    match role {
+        Role::Variable => space == Namespace::Constructors,
+        Role::TypeVariable => space == Namespace::Types,
+        Role::ExportedVariable => false,
+        Role::Constructor => false,
+        Role::TypeConstructor => false,
+    }
+}
+
+/// Returns whether a pair's name can stand for a name with this role, and is one edit away from it after the same qualifier, or has it as its small form.
+fn is_near_pair(
+    alloc: Global,
+    name: &str,
+    role: Role,
+    pair: &Binding<'_>,
+) -> Result<bool, AllocError>
+    ensures { IfOk result (λ is. is ≡ true → IsNearPair role name.now pair.now) }
+{
+    let Some(text) = behind(name, pair.qualifier()) else {
+        return Ok(false);
+    };
+    if can_stand_in_capitals(role, pair.space()) {
+        return Ok(is_small_form(text.as_bytes(), pair.text().as_bytes()));
+    }
+    if !can_stand(role, pair.space()) {
+        return Ok(false);
+    }
+    is_near(alloc, text, pair.text())
+}
+
 // Why: docs/DECISIONS.md, "Near names".
-/// Returns the first of these pairs whose name is near to this one.
+/// Returns the first of these pairs whose name is near to this one, and can stand where a name with this role stands.
 pub(crate) fn nearest<'r, 'a>(
     alloc: Global,
     name: &str,
+    role: Role,
     pairs: &'r [Binding<'a>],
 ) -> Result<Option<&'r Binding<'a>>, AllocError>
-    ensures { IfOk result (λ found. IfSome found (λ pair. Contains pairs.entry.now pair.now × IsNearPair name.now pair.now)) }
+    ensures { IfOk result (λ found. IfSome found (λ pair. Contains pairs.entry.now pair.now × IsNearPair role name.now pair.now)) }
 {
     for pair in pairs {
-        if is_near_pair(alloc, name, pair)? {
+        if is_near_pair(alloc, name, role, pair)? {
             return Ok(Some(pair));
         }
     }

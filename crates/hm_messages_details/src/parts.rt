@@ -4,6 +4,7 @@ ghost use Rattle.hm_syntax.specs.Trees.{more_patterns, no_patterns};
 ghost use Rattle.hm_syntax.specs.Lists.{patterns, types, constructors, expressions, alternatives};
 ghost use Rattle.hm_messages_details.specs.Parts.{part_of, type_parts, types_parts, constructor_parts, constructors_parts, pattern_parts, patterns_parts, head_parts, expression_parts, expressions_parts, alternatives_parts, right_side_parts, bodies_of_parts, guard_parts, declaration_parts, module_parts};
 
+use crate::role::Role;
 use hm_syntax::{
     Alt, Constr, Decl, DeclKind, Expr, ExprKind, Module, Name, Pat, PatKind, Rhs, TypeExpr,
     TypeKind,
@@ -25,6 +26,8 @@ pub(crate) enum Part<'a> {
     Pattern(&'a Name, &'a [Pat]),
     /// A type constructor with its arguments.
     Type(&'a Name, &'a [TypeExpr]),
+    /// A variable or a constructor of an expression, or a type variable.
+    Use(Role, &'a Name),
 }
 
 /// Adds a part.
@@ -42,7 +45,7 @@ fn add_type<'a>(out: &mut Vec<Part<'a>>, ty: &'a TypeExpr) -> Result<(), AllocEr
     ensures { OnOk result (map part_of out.new.items ≡ map part_of out.old.items ++ type_parts ty.now) }
 {
     match &ty.kind {
-        TypeKind::Var(_) => Ok(()),
+        TypeKind::Var(name) => Ok(add_part(out, Part::Use(Role::TypeVariable, name))?),
         TypeKind::Con(name, args) => {
             add_part(out, Part::Type(name, args))?;
             add_types(out, args)?;
@@ -147,8 +150,8 @@ fn add_expr<'a>(out: &mut Vec<Part<'a>>, expr: &'a Expr) -> Result<(), AllocErro
     ensures { OnOk result (map part_of out.new.items ≡ map part_of out.old.items ++ expression_parts expr.now) }
 {
     match &expr.kind {
-        ExprKind::Var(_) => Ok(()),
-        ExprKind::Con(_) => Ok(()),
+        ExprKind::Var(name) => Ok(add_part(out, Part::Use(Role::Variable, name))?),
+        ExprKind::Con(name) => Ok(add_part(out, Part::Use(Role::Constructor, name))?),
         ExprKind::Literal(_) => Ok(()),
         ExprKind::Apply(function, argument) => {
             add_expr(out, function)?;

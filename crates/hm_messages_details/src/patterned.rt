@@ -78,14 +78,10 @@ fn is_bound_in_list(alloc: Global, fault: &Fault, decls: &[Decl]) -> Result<bool
 fn is_bound_in(alloc: Global, fault: &Fault, part: Part<'_>) -> Result<bool, AllocError>
     ensures { IfOk result (λ is. is ≡ true → IsPatternBoundIn (part_of part.entry) fault.now) }
 {
-    match part {
-        Part::List(decls) => Ok(is_bound_in_list(alloc, fault, decls)?),
-        Part::Head(_) => Ok(false),
-        Part::Alone(_) => Ok(false),
-        Part::Parameters(_) => Ok(false),
-        Part::Pattern(_, _) => Ok(false),
-        Part::Type(_, _) => Ok(false),
-    }
+    let Part::List(decls) = part else {
+        return Ok(false);
+    };
+    Ok(is_bound_in_list(alloc, fault, decls)?)
 }
 
 /// Returns whether a pattern binds the variable of a signature without clauses.

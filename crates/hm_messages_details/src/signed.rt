@@ -66,14 +66,10 @@ fn near_in_list<'a>(
 fn near_in<'a>(alloc: Global, fault: &Fault, part: Part<'a>) -> Result<Option<&'a str>, AllocError>
     ensures { IfOk result (λ found. IfSome found (λ x. IsNearBindingIn (part_of part.entry) fault.now x.now)) }
 {
-    match part {
-        Part::List(decls) => Ok(near_in_list(alloc, fault, decls)?),
-        Part::Head(_) => Ok(None),
-        Part::Alone(_) => Ok(None),
-        Part::Parameters(_) => Ok(None),
-        Part::Pattern(_, _) => Ok(None),
-        Part::Type(_, _) => Ok(None),
-    }
+    let Part::List(decls) = part else {
+        return Ok(None);
+    };
+    Ok(near_in_list(alloc, fault, decls)?)
 }
 
 // Why: docs/DECISIONS.md, "Near names".
