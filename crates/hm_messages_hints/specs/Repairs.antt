@@ -32,7 +32,12 @@ repaired r mark close ts = repaired_in r.scope r.change r.at mark close ts
     repaired_in (Declaration header body) change at mark close ts =
         slice_range ts header.start header.end ++ (changed change (at - body.start) mark (slice_range ts body.start body.end) ++ (close ∷ []))
 
--- with the change the tokens spell modules. The marks are in a text that extends the source
+-- the tokens that are read without the change
+abbrev pub unrepaired : Scope → Token → List Token → List Token
+unrepaired Whole close ts = ts
+unrepaired (Declaration header body) close ts = slice_range ts header.start header.end ++ (slice_range ts body.start body.end ++ (close ∷ []))
+
+-- with the change the tokens spell modules, and without it they don't. The marks are in a text that extends the source
 pub record IsRepair (source : List ℕ) (ts : List Token) (repair : Repair) : Type 0 where
   pub rest : List ℕ
   pub text : List ℕ
@@ -43,3 +48,4 @@ pub record IsRepair (source : List ℕ) (ts : List Token) (repair : Repair) : Ty
   pub close_is : IsMarkIn text RightBrace close
   pub modules : List Module
   pub spelled : Spells modules text (repaired repair mark close ts)
+  pub unread : (others : List Module) → ¬ (Spells others text (unrepaired repair.scope close ts))

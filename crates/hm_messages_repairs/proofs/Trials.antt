@@ -1,14 +1,14 @@
 -- The tokens of a trial lie in the text that goes on after the source.
-use Rattle.std.proofs.Common.{◌≡◌, ℕ, ◌+◌, ◌-◌, ◌<◌, ◌≤◌, List, [], ◌∷◌, ◌++◌, length, length-append, length-drop, take, drop, All, sym, ap, subst, ◌∙◌, append_assoc, arith}
-use Rattle.std.specs.Prelude.{slice_range, Bool, true, false, Option, Some, None, IfSome, is_some}
+use Rattle.std.proofs.Common.{◌≡◌, ℕ, ◌+◌, ◌-◌, ◌≤◌, List, [], ◌∷◌, ◌++◌, length, length-append, length-drop, take, drop, All, sym, ap, subst, ◌∙◌, append_assoc, arith}
+use Rattle.std.specs.Prelude.{slice_range, true, Option, Some, None, IfSome, is_some}
 use Rattle.std.proofs.lemmas.Bool.{false≢true}
 use Rattle.std.specs.Str.{IsUtf8}
 use Rattle.std.proofs.lemmas.List.{take-append-le, drop-append-le, drop-drop}
 use Rattle.std.proofs.lemmas.List.Elements.{All-append, All-drop, All-push, All-take}
-use Rattle.hm_lex.specs.Texts.{LiesIn, token_text}
+use Rattle.hm_lex.specs.Texts.{LiesIn}
 use Rattle.hm_lex.specs.declared.token.Token.{Token}
 use Rattle.hm_messages_hints.specs.Marks.{IsMarkIn}
-use Rattle.hm_messages_hints.specs.Repairs.{IsPutIn, IsRepair, changed, repaired}
+use Rattle.hm_messages_hints.specs.Repairs.{IsPutIn, IsRepair, changed, repaired, unrepaired}
 use Rattle.hm_messages_repairs.specs.Trials.{mark_of}
 use Rattle.hm_parse_grammar.specs.Grammar.Modules.{Spells}
 use Rattle.hm_syntax.specs.declared.ast.Module.{Module}
@@ -71,6 +71,16 @@ repaired_lie text r mark close ts h l m = go r.scope
         (changed_lie text r.change (r.at - body.start) mark (slice_range ts body.start body.end) (range_lies text ts body.start body.end h) l)
         (All-push (LiesIn text) [] close (λ k d below. absurd (omega (arith, below))) m))
 
+pub unrepaired_lie : (text : List ℕ) (s : Scope) (close : Token) (ts trial : List Token) → All (LiesIn text) ts → LiesIn text close → trial ≡ unrepaired s close ts → All (LiesIn text) trial
+unrepaired_lie text s close ts trial h m is = subst (λ (l : List Token). All (LiesIn text) l) (sym is) (go s)
+  where
+    go : (s : Scope) → All (LiesIn text) (unrepaired s close ts)
+    go Whole = h
+    go (Declaration header body) =
+        All-append (LiesIn text) (slice_range ts header.start header.end) _ (range_lies text ts header.start header.end h)
+        (All-append (LiesIn text) (slice_range ts body.start body.end) (close ∷ []) (range_lies text ts body.start body.end h)
+        (All-push (LiesIn text) [] close (λ k d below. absurd (omega (arith, below))) m))
+
 -- ---- what a trial is made of
 
 pub replaced_is : (old front put new ts : List Token) (at : ℕ) (mark : Token) (change : TokenChange) (m : Mark) → change ≡ Replace m → front ≡ old ++ take at ts → put ≡ front ++ (mark ∷ []) → new ≡ put ++ drop 1 (drop at ts) → new ≡ old ++ changed change at mark ts
@@ -88,19 +98,19 @@ removed_is old front new ts at mark change is f n =
     ∙ (ap (λ (l : List Token). old ++ (take at ts ++ l)) (rest_is ts at)
     ∙ ap (λ (c : TokenChange). old ++ changed c at mark ts) (sym is))))
 
-abbrev GoesOn : List ℕ → List ℕ → Type 0
+abbrev pub GoesOn : List ℕ → List ℕ → Type 0
 GoesOn old new = (rest : List ℕ) × (new ≡ old ++ rest)
 
-both : (source text more : List ℕ) → GoesOn source text → GoesOn text more → GoesOn source more
+pub both : (source text more : List ℕ) → GoesOn source text → GoesOn text more → GoesOn source more
 both source text more a b = (a.0 ++ b.0, b.1 ∙ (ap (λ (l : List ℕ). l ++ b.0) a.1 ∙ append_assoc source a.0 b.0))
 
-all_on : (source text : List ℕ) (ts : List Token) → GoesOn source text → All (LiesIn source) ts → All (LiesIn text) ts
+pub all_on : (source text : List ℕ) (ts : List Token) → GoesOn source text → All (LiesIn source) ts → All (LiesIn text) ts
 all_on source text ts g h = subst (λ (l : List ℕ). All (LiesIn l) ts) (sym g.1) (all_more source g.0 ts h)
 
 mark_on : (text more : List ℕ) (m : Mark) (t : Token) → GoesOn text more → IsMarkIn text m t → IsMarkIn more m t
 mark_on text more m t g h = subst (λ (l : List ℕ). IsMarkIn l m t) (sym g.1) (mark_more text g.0 m t h)
 
-from_copy : (source copy text : List ℕ) → copy ≡ source → GoesOn copy text → GoesOn source text
+pub from_copy : (source copy text : List ℕ) → copy ≡ source → GoesOn copy text → GoesOn source text
 from_copy source copy text e g = subst (λ (l : List ℕ). GoesOn l text) e g
 
 pub trial_lies : (source copy text more : List ℕ) (ts trial : List Token) (r : Repair) (m : Mark) (mark close : Token) → All (LiesIn source) ts → copy ≡ source → GoesOn copy text → IsMarkIn text m mark → GoesOn text more → IsMarkIn more RightBrace close
@@ -114,8 +124,8 @@ put_in text (Replace m) mark h = h
 put_in text Remove mark h = tt
 
 pub repair_of : (source copy text more : List ℕ) (ts trial : List Token) (r : Repair) (mark close : Token) (modules : List Module) → copy ≡ source → GoesOn copy text → IsMarkIn text (mark_of r.change) mark → GoesOn text more → IsMarkIn more RightBrace close
-    → trial ≡ repaired r mark close ts → Spells modules more trial → IsRepair source ts r
-repair_of source copy text more ts trial r mark close modules e g put f end is spelled =
+    → trial ≡ repaired r mark close ts → Spells modules more trial → ((others : List Module) → ¬ (Spells others more (unrepaired r.scope close ts))) → IsRepair source ts r
+repair_of source copy text more ts trial r mark close modules e g put f end is spelled unread =
     let on = both source text more (from_copy source copy text e g) f in
     record {
       rest = on.0;
@@ -127,6 +137,7 @@ repair_of source copy text more ts trial r mark close modules e g put f end is s
       close_is = end;
       modules = modules;
       spelled = subst (λ (l : List Token). Spells modules more l) is spelled;
+      unread = unread;
     }
 
 pub some_of : {X : Type 0} {P : X → Type 0} (o : Option X) → IfSome o P → is_some o ≡ true → (x : X) × P x

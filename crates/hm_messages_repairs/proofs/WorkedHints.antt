@@ -91,6 +91,7 @@ no_module ms ks (source_more {m = m} {us = us} a b) e = short m ks us a (omega (
 
 pub worked_changes : ChangesRow
 worked_changes = record {
-  lone = λ t h. record { rest = []; text = codes "}"; extends = sym (append-nil (codes "}")); mark = t; close = t; mark_is = tt; close_is = h; modules = []; spelled = source_none };
+  lone = λ t h. record { rest = []; text = codes "}"; extends = sym (append-nil (codes "}")); mark = t; close = t; mark_is = tt; close_is = h; modules = []; spelled = source_none; unread = λ others s. no_module others _ s refl };
   two = λ t h r. no_module r.modules _ r.spelled refl;
+  empty = λ r. r.unread [] source_none;
 }

@@ -1,5 +1,5 @@
 -- Worked examples of hints and changes.
-use Rattle.std.specs.Prelude.{List, ℕ, [], ◌∷◌, codes}
+use Rattle.std.specs.Prelude.{List, [], ◌∷◌, codes}
 use Rattle.hm_lex.specs.declared.token.Token.{Token}
 use Rattle.hm_parse_grammar.specs.declared.symbol.Symbol.{Symbol}
 use Rattle.hm_parse_grammar.specs.declared.symbol.Symbol.TheVariants.{Bar, Close, CloseSquare, Comma, Con, Equals, Import, Integer, LeftBrace, Module, Open, OpenSquare, Semicolon, Var, Where}
@@ -55,7 +55,9 @@ pub record NeighboursRow : Type 0 where
 abbrev pub without_first : Repair
 without_first = record { at = 0; change = Remove; scope = Whole }
 
--- a source that is a lone `}` can be read without its one token. If there are two of them, one is left, and it spells no module
+-- a source that is a lone `}` can be read without its one token. If there are two of them, one is left, and it spells no module. A source without tokens is
+-- read as it is, so no change of it is a repair
 pub record ChangesRow : Type 0 where
   pub lone : (t : Token) → IsMarkIn (codes "}") RightBrace t → IsRepair (codes "}") (t ∷ []) without_first
   pub two : (t : Token) → IsMarkIn (codes "}") RightBrace t → ¬ (IsRepair (codes "}") (t ∷ t ∷ []) without_first)
+  pub empty : ¬ (IsRepair [] [] without_first)

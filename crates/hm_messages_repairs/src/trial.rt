@@ -3,7 +3,9 @@ ghost use Rattle.std.specs.Prelude.{◌≡◌, ◌≤◌, ◌<◌, ◌++◌, ℕ
 ghost use Rattle.hm_lex.specs.Texts.{LiesIn};
 ghost use Rattle.hm_messages_repairs.specs.Trials.{mark_of};
 ghost use Rattle.hm_messages_hints.specs.Marks.{IsMarkIn};
-ghost use Rattle.hm_messages_hints.specs.Repairs.{IsRepair, changed, repaired};
+ghost use Rattle.hm_messages_hints.specs.Repairs.{IsRepair, changed, repaired, unrepaired};
+ghost use Rattle.hm_parse_grammar.specs.Grammar.Modules.{Spells};
+ghost use Rattle.hm_syntax.specs.declared.ast.Module.{Module};
 
 use hm_lex::{Place, Token};
 use hm_messages_hints::{Mark, Repair, Scope, TokenChange};
@@ -123,7 +125,53 @@ fn repaired(
     Ok(Some(trial))
 }
 
-/// Returns whether the tokens of a source can be read after a change.
+/// Returns the tokens that are read without a change, or `None` if the numbers of its part aren't those of tokens.
+fn unrepaired(
+    alloc: Global,
+    tokens: &[Token],
+    scope: Scope,
+    close: Token,
+) -> Result<Option<Vec<Token>>, AllocError>
+    ensures { IfOk result (λ found. IfSome found (λ trial. trial.items ≡ unrepaired scope close tokens.now)) }
+{
+    let mut trial = Vec::new(alloc);
+    match scope {
+        Scope::Whole => trial.extend_from_slice(tokens)?,
+        Scope::Declaration { header, body } => {
+            if !lies_within(header, tokens.len()) || !lies_within(body, tokens.len()) {
+                return Ok(None);
+            }
+            trial.extend_from_slice(&tokens[header.start..header.end])?;
+            trial.extend_from_slice(&tokens[body.start..body.end])?;
+            trial.push(close)?;
+        }
+    }
+    Ok(Some(trial))
+}
+
+/// Returns whether the tokens of a source, or of a part of it, can't be read as they are.
+#[tactic(auto, using(crate::proofs::Trials::unrepaired_lie))]
+fn is_unread(
+    alloc: Global,
+    text: &[u8],
+    tokens: &[Token],
+    scope: Scope,
+    close: Token,
+) -> Result<bool, AllocError>
+    requires lie { All (LiesIn text.now) tokens.now }
+    requires closes { LiesIn text.now close }
+    ensures { IfOk result (λ is. is ≡ true → (others : List Module) → ¬ (Spells others text.now (unrepaired scope close tokens.now))) }
+{
+    let Some(trial) = unrepaired(alloc, tokens, scope, close)? else {
+        return Ok(false);
+    };
+    match parse_run(alloc, text, trial.as_slice())? {
+        Some(_) => Ok(false),
+        None => Ok(true),
+    }
+}
+
+/// Returns whether the tokens of a source can be read after a change, and not without it.
 #[tactic(auto, using(crate::proofs::Trials::trial_lies, crate::proofs::Trials::repair_of))]
 pub(crate) fn is_read(
     alloc: Global,
@@ -141,5 +189,8 @@ pub(crate) fn is_read(
         return Ok(false);
     };
     let found = parse_run(alloc, text.as_slice(), trial.as_slice())?;
-    Ok(found.is_some())
+    if found.is_none() {
+        return Ok(false);
+    }
+    Ok(is_unread(alloc, text.as_slice(), tokens, repair.scope, close)?)
 }

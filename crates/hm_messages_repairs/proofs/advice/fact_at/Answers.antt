@@ -1,4 +1,4 @@
-use Rattle.std.proofs.Common.{rules, ◌≡◌, ◌∙◌, ℕ, List, map, take, subst}
+use Rattle.std.proofs.Common.{rules, ◌≡◌, ℕ, List, map, take, subst}
 use Rattle.hm_lex.specs.declared.token.Token.{Token}
 use Rattle.hm_parse_grammar.specs.declared.symbol.Symbol.{Symbol}
 use Rattle.hm_messages_hints.specs.Advice.{symbol_at, text_at}

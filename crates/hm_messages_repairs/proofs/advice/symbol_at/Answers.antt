@@ -1,5 +1,4 @@
 use Rattle.std.proofs.Common.{rules, ◌<◌, length, get_or, sym, ap, ◌∙◌}
-use Rattle.hm_lex.specs.declared.token.Place.{Place}
 use Rattle.hm_lex.specs.declared.token.Token.{Token}
 use Rattle.hm_lex.specs.declared.token.Kind.TheVariants.{Word}
 use Rattle.hm_parse_grammar.specs.Symbols.{symbol_of}

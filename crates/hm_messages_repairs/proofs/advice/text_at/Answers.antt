@@ -1,5 +1,4 @@
-use Rattle.std.proofs.Common.{rules, ◌<◌, ◌≡◌, length, get_or, sym, ◌∙◌}
-use Rattle.hm_lex.specs.declared.token.Place.{Place}
+use Rattle.std.proofs.Common.{rules, ◌<◌, ◌≡◌, length, sym, ◌∙◌}
 use Rattle.hm_lex.specs.declared.token.Token.{Token}
 use Rattle.hm_lex.specs.declared.token.Kind.TheVariants.{Word}
 use Rattle.hm_messages_repairs.proofs.Numbered.{text_there}
