@@ -1,13 +1,14 @@
 -- The worked types as they are shown.
-use Rattle.std.proofs.Common.{◌≡◌, ◌∙◌, ◌⊎◌, inl, inr, ℕ, suc, ◌≤◌, All, List, [], ◌∷◌, ◌++◌, Contains, length, get_or, refl, sym, ap, ap₂, subst, arith}
+use Rattle.std.proofs.Common.{◌≡◌, ◌∙◌, ◌⊎◌, inl, inr, ℕ, suc, ◌≤◌, All, List, [], ◌∷◌, ◌++◌, Contains, length, get_or, refl, sym, ap, ap₂, subst, arith, false, true}
 use Rattle.std.specs.Prelude.{codes, flat_map}
+use Rattle.std.proofs.lemmas.Bool.{false≢true}
 use Rattle.std.proofs.lemmas.List.{length-append}
 use Rattle.std.proofs.lemmas.List.Elements.{All-contains, All-cons}
 use Rattle.hm_types.specs.Synonyms.{TypeSynonym}
 use Rattle.hm_types.specs.declared.entries.SynonymEntry.{SynonymEntry}
 use Rattle.hm_types_display.specs.Texts.{scheme_text_of}
-use Rattle.hm_messages_types.specs.Shown.{IsAlias, IsFolded, IsPiece, NamedType}
-use Rattle.hm_messages_types.specs.WorkedShown.{AliasRow, FoldedRow, pair, pos}
+use Rattle.hm_messages_types.specs.Shown.{IsAlias, IsFolded, IsPiece, NamedType, is_bracketed}
+use Rattle.hm_messages_types.specs.WorkedShown.{AliasRow, FoldedRow, pair, pos, unit}
 
 none : {X : Type 0} (P : X → Type 0) → All P []
 none P k d l = absurd (omega (arith, l))
@@ -74,6 +75,7 @@ own e named home name synonym = record {
   declared = home;
   own = name;
   closed = ap (λ (s : TypeSynonym). s.parameters) synonym;
+  bracketed = ap (λ (s : TypeSynonym). is_bracketed s.body) synonym;
   text_is = sym (ap (λ (s : TypeSynonym). scheme_text_of (record { vars = 0; body = s.body })) synonym);
 }
 
@@ -85,5 +87,8 @@ not_imported e n there a =
     let other : 66 ≡ 65 = ap (λ (l : List ℕ). get_or l 0 0) (sym there ∙ a.declared) in
     absurd (omega (arith, other))
 
+not_bare : (e : SynonymEntry) (n : NamedType) → e.synonym ≡ record { parameters = 0; body = unit } → ¬ (IsAlias (codes "A") e n)
+not_bare e n is a = let clash : false ≡ true = sym (ap (λ (s : TypeSynonym). is_bracketed s.body) is) ∙ a.bracketed in false≢true clash
+
 pub worked_aliases : AliasRow
-worked_aliases = record { own = own; applied = not_applied; imported = not_imported }
+worked_aliases = record { own = own; applied = not_applied; imported = not_imported; bare = not_bare }

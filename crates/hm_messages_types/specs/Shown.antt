@@ -1,7 +1,11 @@
 -- Types as they are shown: names of synonyms stand for types, as in the signatures of the module (Report 4.2.2).
-use Rattle.std.specs.Prelude.{◌≡◌, ◌⊎◌, List, ℕ, All, Contains, codes, flat_map}
+use Rattle.std.specs.Prelude.{◌≡◌, ◌⊎◌, Bool, true, false, List, ℕ, All, Contains, codes, flat_map}
 use Rattle.hm_types.specs.Interfaces.{Exports as Interface}
+use Rattle.hm_types.specs.Monotypes.{Mono}
 use Rattle.hm_types.specs.StandardPrelude.{prelude_interface}
+use Rattle.hm_types.specs.Types.{App as app, Var as leaf}
+use Rattle.hm_types.specs.declared.Head.{Head}
+use Rattle.hm_types.specs.declared.Head.TheVariants.{Arrow, List as OfList, Named, Tuple, Unit}
 use Rattle.hm_types.specs.declared.entries.SynonymEntry.{SynonymEntry}
 use Rattle.hm_types_display.specs.Texts.{scheme_text_of}
 
@@ -21,12 +25,25 @@ pub record IsFolded (names : List NamedType) (text shown : List ℕ) : Type 0 wh
   pub text_is : text ≡ flat_map (λ p. p.text) pieces
   pub shown_is : shown ≡ flat_map (λ p. p.name) pieces
 
--- the synonym has no parameters, is declared in the module of this name, and stands for a type with this text
+-- the type is a list or a tuple. Its text has brackets of its own, so it is a whole type in the text of each other one
+abbrev pub is_bracketed : Mono → Bool
+is_bracketed (leaf v) = false
+is_bracketed (app h ts) = has_brackets h
+  where
+    has_brackets : Head → Bool
+    has_brackets OfList = true
+    has_brackets (Tuple n) = true
+    has_brackets Unit = false
+    has_brackets Arrow = false
+    has_brackets (Named e) = false
+
+-- the synonym has no parameters, is declared in the module of this name, and stands for a list or a tuple with this text
 pub record IsAlias (home : List ℕ) (entry : SynonymEntry) (n : NamedType) : Type 0 where
   pub named : entry.name ≡ n.name
   pub declared : entry.entity.«module» ≡ home
   pub own : entry.entity.name ≡ n.name
   pub closed : entry.synonym.parameters ≡ 0
+  pub bracketed : is_bracketed entry.synonym.body ≡ true
   pub text_is : n.text ≡ scheme_text_of (record { vars = 0; body = entry.synonym.body })
 
 -- an interface exports such a synonym

@@ -23,8 +23,9 @@ pub record FoldedRow : Type 0 where
   pub inside : IsFolded (pos ∷ []) (codes "[((), ())]") (codes "[Pos]")
   pub other : ¬ (IsFolded (pos ∷ []) (codes "[()]") (codes "[Pos]"))
 
--- a synonym of the module A without parameters is a name for its type. One with a parameter isn't, nor is one of the module B
+-- a synonym of the module A without parameters is a name for its pair. One with a parameter isn't, nor is one of the module B, nor one for the unit type
 pub record AliasRow : Type 0 where
   pub own : (e : SynonymEntry) → e.name ≡ codes "Pos" → e.entity.«module» ≡ codes "A" → e.entity.name ≡ codes "Pos" → e.synonym ≡ record { parameters = 0; body = pair } → IsAlias (codes "A") e pos
   pub applied : (e : SynonymEntry) (n : NamedType) → e.synonym.parameters ≡ 1 → ¬ (IsAlias (codes "A") e n)
   pub imported : (e : SynonymEntry) (n : NamedType) → e.entity.«module» ≡ codes "B" → ¬ (IsAlias (codes "A") e n)
+  pub bare : (e : SynonymEntry) (n : NamedType) → e.synonym ≡ record { parameters = 0; body = unit } → ¬ (IsAlias (codes "A") e n)

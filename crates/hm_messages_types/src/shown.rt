@@ -5,7 +5,7 @@ ghost use Rattle.hm_types.specs.Shape.{type_of};
 ghost use Rattle.hm_types.specs.StandardPrelude.{prelude_interface};
 ghost use Rattle.hm_types_display.specs.Texts.{scheme_text_of};
 ghost use Rattle.hm_messages_types.specs.Aliases.{alias_of as named_type};
-ghost use Rattle.hm_messages_types.specs.Shown.{IsAlias, IsFolded, IsName, IsNameIn, IsPiece, NamedType};
+ghost use Rattle.hm_messages_types.specs.Shown.{IsAlias, IsFolded, IsName, IsNameIn, IsPiece, NamedType, is_bracketed};
 
 use crate::question::Question;
 use hm_messages_changes::Span;
@@ -129,7 +129,9 @@ fn have_name(interfaces: &[Arc<Interface>], name: &str) -> bool {
 }
 
 /// Returns whether a type is written in brackets of its own.
-fn is_bracketed(ty: &Ty) -> bool {
+fn is_bracketed(ty: &Ty) -> bool
+    ensures { result ≡ true → is_bracketed (type_of ty.now) ≡ true }
+{
     match ty {
         Ty::App(Head::List, _) => true,
         Ty::App(Head::Tuple(_), _) => true,
