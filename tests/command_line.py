@@ -50,7 +50,7 @@ skipped C
 def untyped(file):
     """Its message in the source that has this name."""
     return f"""{file}:1:18: error: type error in 'twice' [type]
-This definition has no type, though everything that it refers to has one.
+No types fit this definition and those that refer back to it. All others that it refers to have types or signatures.
 module B where {{ twice f = f f }}
                  ^^^^^
 {file}:1:30: note: this has type 'a -> b', but 'a' is expected (up to 1:30)
@@ -106,7 +106,7 @@ module A where { import B ; x = y }
 """
 
 # the same as objects
-OBJECTS = """{"end":{"byte":23,"character":23,"line":1,"utf16":23},"expected":null,"file":"twice.hs","hint":"This definition has no type, though everything that it refers to has one.","kind":"type","level":"error","module":"B","name":"twice","other":null,"start":{"byte":18,"character":18,"line":1,"utf16":18},"text":"type error in 'twice'","type":null}
+OBJECTS = """{"end":{"byte":23,"character":23,"line":1,"utf16":23},"expected":null,"file":"twice.hs","hint":"No types fit this definition and those that refer back to it. All others that it refers to have types or signatures.","kind":"type","level":"error","module":"B","name":"twice","other":null,"start":{"byte":18,"character":18,"line":1,"utf16":18},"text":"type error in 'twice'","type":null}
 {"end":{"byte":31,"character":31,"line":1,"utf16":31},"expected":"a","file":"twice.hs","hint":"No type is both: it would contain itself, and so be infinite.","kind":"mistyped","level":"note","module":"B","name":"twice","other":null,"start":{"byte":30,"character":30,"line":1,"utf16":30},"text":"this has type 'a -> b', but 'a' is expected (up to 1:30)","type":"a -> b"}
 {"end":{"byte":26,"character":26,"line":1,"utf16":26},"expected":null,"file":"user.hs","hint":null,"kind":"skipped","level":"note","module":"C","name":"B","other":null,"start":{"byte":25,"character":25,"line":1,"utf16":25},"text":"skipped, since 'B' has errors","type":null}
 {"errors":1,"level":"end","skipped":1}

@@ -1,0 +1,349 @@
+#!/usr/bin/env python3
+"""Makes faulty sources out of good ones, and tries from outside what the messages claim.
+
+`claims.py [--sources N] [--seed N] [--processes N] [PROGRAM]`: without PROGRAM, the proved program beside this folder is run. The good sources are those
+of bench/programs. A fault is made by chance: a token left out, given twice, exchanged with the next one or put elsewhere; a line left out; a name with another letter, or taken
+out of scope; a type or a value of Prelude declared again; a slip in an expression, as bench/slips.py makes them. For each message that a run prints, what can be tried is tried:
+
+- the change of a token: the source without it can't be read up to there, and with it the fault is gone or further on;
+- a near name: with it no name is unbound or ambiguous at this place;
+- a name to write for an ambiguous one: the same; without the import in the named line this name isn't in scope;
+- `import Prelude hiding (x)`: with it the name isn't ambiguous there;
+- two types: they have no common instance, if the definition has no signature;
+- another expression: with a hole there, the definition has a type; an exchange, an argument left out: the same with the changed source;
+- a type without a signature: the module without it has this type, if it is good.
+
+Prints how often each was tried, and each claim that is false. Ends with 1 if there is one. The sources are a function of the seed.
+"""
+# Why: docs/DECISIONS.md, "Claims tried from outside".
+import argparse
+import collections
+import glob
+import json
+import multiprocessing
+import os
+import random
+import re
+import subprocess
+import sys
+
+TOP = os.path.dirname(os.path.dirname(os.path.abspath(__file__)))
+sys.path.insert(0, os.path.join(TOP, "bench"))
+import slips  # noqa: E402
+
+HOLE = "(let { hole' = hole' } in hole')"
+CHANGES = [
+    ("put in", re.compile(r"expected '(.+)' before '(.+)'")),
+    ("replaced", re.compile(r"expected '(.+)', found '(.+)'")),
+    ("left out", re.compile(r"unexpected '()(.+)'")),
+]
+UP_TO = re.compile(r"\(up to (\d+):(\d+)\)")
+# How many tokens before the mark the changed one is searched.
+FAR = 60
+
+
+class Finding(Exception):
+    """A claim that is false."""
+
+
+def ask(program, source):
+    """Returns the report and the messages of a source."""
+    words = [program, "--jobs", "1", "--message-format", "json"]
+    done = subprocess.run(words, input=source.encode(), capture_output=True, check=False, timeout=120)
+    messages = [json.loads(line) for line in done.stderr.decode().splitlines()]
+    return done.stdout.decode(), [it for it in messages if it["level"] in ("error", "note")]
+
+
+def offset(source, position):
+    """Returns the index of a position, which counts bytes, in a source of ASCII."""
+    lines = source.split("\n")
+    return sum(len(it) + 1 for it in lines[: position["line"] - 1]) + position["byte"] - 1
+
+
+def has_fault(messages, line, column, kinds):
+    return any(it["start"]["line"] == line and it["start"]["byte"] == column and it["kind"] in kinds for it in messages)
+
+
+def with_text(source, start, end, text):
+    return source[:start] + text + source[end:]
+
+
+# Types, to find a common instance
+
+def parsed_type(text):
+    words = re.findall(r"->|[()\[\],]|[A-Za-z_][\w.']*", text)
+
+    def atom():
+        word = words.pop(0)
+        if word in "([":
+            parts = []
+            while words[0] not in ")]":
+                parts.append(arrow())
+                if words[0] == ",":
+                    words.pop(0)
+            words.pop(0)
+            if word == "(" and len(parts) == 1:
+                return parts[0]
+            return (f"{word}{len(parts)}", *parts)
+        return word if word[0].islower() or word[0] == "_" else ("String" == word and ("[1", ("Char",)) or (word,))
+
+    def application():
+        head = atom()
+        if isinstance(head, str) or not head[0][0].isalpha():
+            return head
+        parts = []
+        while words and (words[0] in "([" or words[0][0].isalnum()):
+            parts.append(atom())
+        return (*head, *parts) if parts else head
+
+    def arrow():
+        left = application()
+        if words and words[0] == "->":
+            words.pop(0)
+            return ("->", left, arrow())
+        return left
+
+    return arrow()
+
+
+def have_common_instance(one, other):
+    bound = {}
+
+    def seen(ty):
+        while isinstance(ty, str) and ty in bound:
+            ty = bound[ty]
+        return ty
+
+    def occurs(name, ty):
+        ty = seen(ty)
+        return ty == name if isinstance(ty, str) else any(occurs(name, it) for it in ty[1:])
+
+    def unify(a, b):
+        a, b = seen(a), seen(b)
+        if isinstance(b, str) and not isinstance(a, str):
+            a, b = b, a
+        if isinstance(a, str):
+            if a != b and occurs(a, b):
+                return False
+            if a != b:
+                bound[a] = b
+            return True
+        return a[0] == b[0] and len(a) == len(b) and all(unify(x, y) for x, y in zip(a[1:], b[1:]))
+
+    return unify(one, other)
+
+
+# Claims: each takes the program, the source, the messages and one of them, and returns what it tried, or None
+
+def try_change(program, source, message):
+    if message["kind"] != "syntax":
+        return None
+    found = next(((way, it) for way, regex in CHANGES if (it := regex.fullmatch(message["text"]))), None)
+    if found is None or not (message["hint"] or "").endswith("t this can be read."):
+        return None
+    way, names = found
+    at = offset(source, message["start"])
+    tokens = slips.tokens_of(source)
+    here = next((number for number, it in enumerate(tokens) if it.start >= at), len(tokens))
+    candidates = [it for it in tokens[max(0, here - FAR) : here + 1] if it.text == names[2]]
+    if names[2] == "the end" or not candidates:
+        return None
+    for token in reversed(candidates):
+        start, end, text = token.start, token.end, names[1]
+        changed = {"put in": with_text(source, start, start, f" {text} "), "replaced": with_text(source, start, end, text), "left out": with_text(source, start, end, "")}[way]
+        after = ask(program, changed)[1]
+        syntax = [it for it in after if it["kind"] in ("syntax", "lexeme") and it["level"] == "error"]
+        if not syntax or offset(changed, syntax[0]["start"]) > at + len(changed) - len(source):
+            return f"a token {way}"
+    raise Finding("the change doesn't make this readable")
+
+
+def try_near(program, source, message):
+    found = re.search(r"\(did you mean '(.+)'\?\)$", message["text"])
+    if message["kind"] != "unbound" or not found:
+        return None
+    start, end = offset(source, message["start"]), offset(source, message["end"])
+    after = ask(program, with_text(source, start, end, found[1]))[1]
+    if has_fault(after, message["start"]["line"], message["start"]["byte"], ("unbound", "ambiguous")):
+        raise Finding("the near name is a fault too")
+    return "a near name"
+
+
+def without_import(source, line):
+    lines = source.split("\n")
+    lines[line - 1] = re.sub(r"import [^;]*;", lambda it: " " * len(it[0]), lines[line - 1])
+    return "\n".join(lines)
+
+
+def try_written(program, source, message):
+    if message["kind"] != "ambiguous":
+        return None
+    names = re.findall(r"'([\w.']+)'(?: \(imported in line (\d+)\))?", message["text"].partition(": write ")[2].partition(", or add")[0])
+    start, end = offset(source, message["start"]), offset(source, message["end"])
+    place = message["start"]["line"], message["start"]["byte"]
+    for name, line in names:
+        changed = with_text(source, start, end, name)
+        if has_fault(ask(program, changed)[1], *place, ("unbound", "ambiguous")):
+            raise Finding(f"{name} is a fault too")
+        if line and not has_fault(ask(program, without_import(changed, int(line)))[1], *place, ("unbound",)):
+            raise Finding(f"{name} doesn't come from line {line}")
+    if hiding := re.search(r"or add '(import Prelude hiding \(.+?\))'", message["text"]):
+        heads = [it.end() for it in re.finditer(r"\bwhere\s*\{", source)]
+        tried = [ask(program, with_text(source, at, at, f" {hiding[1]} ;"))[1] for at in heads if at <= start]
+        if tried and all(any(it["kind"] == "ambiguous" and it["name"] == message["name"] for it in after) for after in tried):
+            raise Finding("to hide the name isn't enough")
+    return "a name to write" if names else None
+
+
+def signed_names(source):
+    return {name.strip() for row in re.findall(r"(?<![\w'])([a-z_][\w', ]*?)\s*::", source) for name in row.split(",")}
+
+
+def try_types(program, source, message):
+    if message["kind"] != "mistyped" or message["name"] in signed_names(source):
+        return None
+    if have_common_instance(parsed_type(message["type"]), parsed_type(message["expected"])):
+        raise Finding(f"{message['type']} and {message['expected']} have a common instance")
+    return "two types"
+
+
+def is_untyped(messages, name):
+    return any(it["kind"] == "type" and it["name"] == name for it in messages)
+
+
+def changed_part(source, message):
+    """Returns the source with the change that a note of a part names, or None."""
+    start = offset(source, message["start"])
+    end = UP_TO.search(message["text"])
+    last = offset(source, {"line": int(end[1]), "byte": int(end[2])}) + 1 if end else None
+    if "another expression here" in message["text"]:
+        return with_text(source, start, last, HOLE)
+    if "if this is left out" in message["text"]:
+        return with_text(source, start, last, "")
+    found = re.search(r"this expression and the one at (\d+):(\d+) exchanged", message["text"])
+    if found is None:
+        return None
+    tokens = slips.tokens_of(source)
+    number = {it.start: at for at, it in enumerate(tokens)}
+    other = offset(source, {"line": int(found[1]), "byte": int(found[2])})
+    ends = [tokens[slips.atom_end(tokens, number[it]) - 1].end for it in (start, other)]
+    return source[:start] + source[other : ends[1]] + source[ends[0] : other] + source[start : ends[0]] + source[ends[1] :]
+
+
+def try_part(program, source, message):
+    if message["level"] != "note" or (changed := changed_part(source, message)) is None:
+        return None
+    after = ask(program, changed)[1]
+    if is_untyped(after, message["name"]) or any(it["kind"] in ("syntax", "lexeme") for it in after):
+        raise Finding("with the change the definition has no type")
+    return "another expression" if HOLE in changed else "an exchange or an argument left out"
+
+
+def try_signature(program, source, message):
+    if message["kind"] != "signature" or "without this signature" not in message["text"]:
+        return None
+    start, end = offset(source, message["start"]), UP_TO.search(message["text"])
+    changed = with_text(source, start, offset(source, {"line": int(end[1]), "byte": int(end[2])}) + 1, "")
+    value = re.search(rf"^  val {re.escape(message['name'])} = \S+ :: (.*)$", ask(program, changed)[0], re.M)
+    if value is None:
+        return None
+    if value[1].replace("String", "[Char]") != message["type"].replace("String", "[Char]"):
+        raise Finding(f"without the signature the type is {value[1]}")
+    return "a type without a signature"
+
+
+CLAIMS = [try_change, try_near, try_written, try_types, try_part, try_signature]
+
+
+# Faults
+
+def of_tokens(source, tokens, chance):
+    at = chance.randrange(6, len(tokens) - 1)
+    token, after = tokens[at], tokens[at + 1]
+    other = chance.choice(tokens)
+    return chance.choice([
+        with_text(source, token.start, token.end, ""),
+        with_text(source, token.end, token.end, f" {token.text}"),
+        source[: token.start] + after.text + source[token.end : after.start] + token.text + source[after.end :],
+        with_text(source, token.start, token.end, other.text),
+        with_text(source, token.start, token.start, f"{other.text} "),
+    ])
+
+
+def of_lines(source, tokens, chance):
+    lines = source.split("\n")
+    del lines[chance.randrange(1, len(lines))]
+    return "\n".join(lines)
+
+
+def misspelt(source, tokens, chance):
+    token = chance.choice([it for it in tokens if it.kind in ("variable", "constructor") and len(it.text) > 2])
+    at = chance.randrange(1, len(token.text))
+    text = chance.choice([token.text[:at] + token.text[at + 1 :], token.text[:at] + "q" + token.text[at:], token.text[:1].swapcase() + token.text[1:]])
+    return with_text(source, token.start, token.end, text)
+
+
+def declared_again(source, tokens, chance):
+    name = chance.choice(["map", "filter", "length", "not", "fst", "Just", "Left", "String", "Maybe"])
+    text = f"{name.lower()}' = 1 ; {name} = 2" if name[0].islower() else f"data {name} = {name}" if name in ("Just", "Left") else f"data {name} = New{name}"
+    last = source.rindex("}")
+    return with_text(source, last, last, f" ; {text} ")
+
+
+def slipped(source, tokens, chance):
+    found = list(slips.all_slips(source, tokens, chance))
+    (start, end), text = chance.choice(found)[1:]
+    return with_text(source, start, end, text)
+
+
+FAULTS = [of_tokens, of_lines, misspelt, declared_again, slipped, slipped]
+
+
+def tried(work):
+    """Makes one source, and returns how often each claim was tried, and the claims that are false."""
+    program, seed, number, good = work
+    chance = random.Random(f"{seed} {number}")
+    source = chance.choice(good)
+    source = chance.choice(FAULTS)(source, slips.tokens_of(source), chance)
+    counts, false = collections.Counter(), []
+    try:
+        slips.tokens_of(source)
+    except ValueError:
+        return counts, false
+    for message in ask(program, source)[1]:
+        counts["messages"] += 1
+        for claim in CLAIMS:
+            try:
+                if what := claim(program, source, message):
+                    counts[what] += 1
+            except Finding as finding:
+                line = source.split("\n")[message["start"]["line"] - 1]
+                false.append(f"seed {seed}, source {number}, {message['start']['line']}:{message['start']['byte']}: {message['text']}\n  {finding}\n  {line}")
+    return counts, false
+
+
+def main():
+    parser = argparse.ArgumentParser()
+    parser.add_argument("--sources", type=int, default=20_000)
+    parser.add_argument("--seed", type=int, default=1)
+    parser.add_argument("--processes", type=int, default=os.cpu_count())
+    parser.add_argument("program", nargs="?", default=os.path.join(TOP, "crates", "hmc", "out", "hmc"))
+    asked = parser.parse_args()
+    good = [open(it, encoding="utf-8").read() for it in sorted(glob.glob(os.path.join(TOP, "bench", "programs", "*.hs")))]
+    good = [it for it in good if it.isascii()]
+    counts, false = collections.Counter(), []
+    with multiprocessing.Pool(asked.processes) as pool:
+        work = ((os.path.abspath(asked.program), asked.seed, number, good) for number in range(asked.sources))
+        for more, found in pool.imap(tried, work, chunksize=16):
+            counts += more
+            false += found
+            for it in found:
+                print(it, flush=True)
+    for what, count in counts.most_common():
+        print(f"{what}: {count}")
+    print(f"{asked.sources} sources, {len(false)} false claims")
+    return 1 if false else 0
+
+
+if __name__ == "__main__":
+    sys.exit(main())
