@@ -245,7 +245,8 @@ def try_signature(program, source, message):
     start, end = offset(source, message["start"]), UP_TO.search(message["text"])
     changed = with_text(source, start, offset(source, {"line": int(end[1]), "byte": int(end[2])}) + 1, "")
     value = re.search(rf"^  val {re.escape(message['name'])} = \S+ :: (.*)$", ask(program, changed)[0], re.M)
-    if value is None:
+    # The note may have names of synonyms, and the report has the types that they stand for.
+    if value is None or any(re.search(rf"\b{it}\b", message["type"]) for it in re.findall(r"\btype (\w+) =", source)):
         return None
     if value[1].replace("String", "[Char]") != message["type"].replace("String", "[Char]"):
         raise Finding(f"without the signature the type is {value[1]}")
