@@ -142,4 +142,6 @@ finished = record {
   claimed = λ sources workers a b kept rs h. let e : false ≡ true = h.settled 0 (omega arith) in false≢true e;
   stopped = λ sources workers modules kept rs h. let e : true ≡ false = h.running in false≢true (sym e);
   missing = λ sources b r h. let e : 1 ≡ 2 = h.numbered.len in absurd (omega (arith, e));
+  ended = λ sources workers b rs h. record { running = h.running; settled = h.settled; agree = h.agree; numbered = h.numbered; rounds = h.rounds };
+  not_ended = λ workers modules kept rs h. let e : true ≡ false = h.running in false≢true (sym e);
 }

@@ -21,3 +21,11 @@ pub record IsFinished (sources : List (List ℕ)) (workers : ℕ) (b : Build) (r
   pub agree : Agree b records
   pub numbered : AreNumbered workers records
   pub rounds : All (IsInRounds b.given.imports) records
+
+-- what a build's store and records have after its workers, if no worker failed
+pub record HasEnded (workers : ℕ) (b : Build) (records : List Record) : Type 0 where
+  pub running : (state_of b).stopped ≡ false
+  pub settled : IsAllSettled b
+  pub agree : Agree b records
+  pub numbered : AreNumbered workers records
+  pub rounds : All (IsInRounds b.given.imports) records

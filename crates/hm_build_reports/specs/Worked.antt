@@ -12,7 +12,7 @@ use Rattle.hm_store.specs.Worked.{IsRecordOf, begins, begun, call, done, found}
 use Rattle.hm_store.specs.declared.object.Entry.TheVariants.{Stop}
 use Rattle.hm_store.specs.declared.record.Act.TheVariants.{Publish, Done, Look}
 use Rattle.hm_store.specs.declared.record.Record.{Record}
-use Rattle.hm_build_reports.specs.FinishedBuilds.{AreNumbered, IsFinished}
+use Rattle.hm_build_reports.specs.FinishedBuilds.{AreNumbered, HasEnded, IsFinished}
 use Rattle.hm_build_reports.specs.Rounds.{IsInRounds, IsWorked}
 
 -- module 0 imports module 1
@@ -42,9 +42,11 @@ OneWorkerFinishes = (sources : List (List ℕ)) (modules : List Module) (kept : 
     → AreModulesOf sources modules → IsLegal (done 0 modules kept) → interface_at kept 1 ≡ Some (arc_value f)
     → IsRecordOf 0 (begins ++ (found f ∷ call 3 (Publish 0) ∷ call 4 Done ∷ [])) r → IsFinished sources 1 (done 0 modules kept) (r ∷ [])
 
--- a build isn't finished while a module is claimed, after a stop, or if a worker has no record
+-- a build isn't finished while a module is claimed, after a stop, or if a worker has no record. A finished build has ended, and one with a stop hasn't
 pub record FinishedRow : Type 0 where
   pub whole : OneWorkerFinishes
   pub claimed : (sources : List (List ℕ)) (workers : ℕ) (a b : Module) (kept : List (Option Checked)) (rs : List Record) → ¬ (IsFinished sources workers (begun (a ∷ b ∷ []) kept) rs)
   pub stopped : (sources : List (List ℕ)) (workers : ℕ) (modules : List Module) (kept : List (Option Checked)) (rs : List Record) → ¬ (IsFinished sources workers (with_entry (done 0 modules kept) (Stop 0)) rs)
   pub missing : (sources : List (List ℕ)) (b : Build) (r : Record) → ¬ (IsFinished sources 2 b (r ∷ []))
+  pub ended : (sources : List (List ℕ)) (workers : ℕ) (b : Build) (rs : List Record) → IsFinished sources workers b rs → HasEnded workers b rs
+  pub not_ended : (workers : ℕ) (modules : List Module) (kept : List (Option Checked)) (rs : List Record) → ¬ (HasEnded workers (with_entry (done 0 modules kept) (Stop 0)) rs)

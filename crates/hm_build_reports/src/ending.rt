@@ -1,8 +1,8 @@
 //! Whether a build finished.
-ghost use Rattle.std.specs.Prelude.{◌≡◌, All, IfOk, true, false};
+ghost use Rattle.std.specs.Prelude.{◌≡◌, ◌↔◌, All, IfOk, IsTrue, true, false};
 ghost use Rattle.hm_store.specs.Agreement.{Agree};
 ghost use Rattle.hm_store.specs.Builds.{IsAllSettled, state_of};
-ghost use Rattle.hm_build_reports.specs.FinishedBuilds.{AreNumbered};
+ghost use Rattle.hm_build_reports.specs.FinishedBuilds.{AreNumbered, HasEnded};
 ghost use Rattle.hm_build_reports.specs.Rounds.{IsInRounds};
 
 use crate::rounds::are_in_rounds;
@@ -11,7 +11,7 @@ use std::alloc::{AllocError, Global};
 
 /// Returns whether each module is settled.
 fn is_all_settled(store: &Store) -> bool
-    ensures { result ≡ true → IsAllSettled store.now }
+    ensures { IsTrue result ↔ IsAllSettled store.now }
 {
     for number in 0..store.modules().len() {
         if !store.status(number).is_settled() {
@@ -23,7 +23,7 @@ fn is_all_settled(store: &Store) -> bool
 
 /// Returns whether there is a record for each worker, in the order of their numbers.
 fn are_numbered(records: &[Record], workers: usize) -> bool
-    ensures { result ≡ true → AreNumbered workers records.now }
+    ensures { IsTrue result ↔ AreNumbered workers records.now }
 {
     for (number, record) in records.iter().enumerate() {
         if record.worker != number {
@@ -33,9 +33,9 @@ fn are_numbered(records: &[Record], workers: usize) -> bool
     records.len() == workers
 }
 
-// Why: docs/DECISIONS.md, "has_ended".
-/// Returns whether a build with this many workers finished. If so, its store wasn't stopped, each module is settled, and the workers' records
-/// agree with the journal and are in rounds.
+// Why: docs/DECISIONS.md, "has_ended", "The audit".
+/// Returns whether a build with this many workers finished: its store wasn't stopped, each module is settled, and the workers' records are
+/// numbered, agree with the journal and are in rounds.
 pub fn has_ended(
     alloc: Global,
     store: &Store,
@@ -47,6 +47,8 @@ pub fn has_ended(
     ensures numbered { IfOk result (λ is. is ≡ true → AreNumbered workers records.now) }
     ensures rounds { IfOk result (λ is. is ≡ true → All (IsInRounds store.now.given.imports) records.now) }
     ensures agree { IfOk result (λ is. is ≡ true → Agree store.now records.now) }
+    // It is false only if one of these isn't so.
+    ensures only { IfOk result (λ is. HasEnded workers store.now records.now → is ≡ true) }
 {
     if store.is_stopped() {
         return Ok(false);

@@ -1,6 +1,6 @@
 //! Ends a build after its workers.
-ghost use Rattle.std.specs.Prelude.{◌≡◌, ◌⊎◌, ℕ, List, IfErr, IfOk};
-ghost use Rattle.hm_build_reports.specs.FinishedBuilds.{IsFinished};
+ghost use Rattle.std.specs.Prelude.{◌≡◌, ◌⊎◌, ℕ, List, IfErr, IfOk, IsErrOf};
+ghost use Rattle.hm_build_reports.specs.FinishedBuilds.{HasEnded, IsFinished};
 ghost use Rattle.hm_run_sources.specs.ModuleCounts.{AreCountedModules};
 ghost use Rattle.hm_run_sources.specs.SourceModules.{AreModulesOf};
 ghost use Rattle.hm_store_shared.specs.Gathered.{records_in};
@@ -29,6 +29,8 @@ pub fn finished(
         → AreCountedModules sources f.store.modules f.counts.items) }
     ensures given { IfOk result (λ f. (f.store ≡ store) × (f.records ≡ records) × (f.counts ≡ counts)) }
     ensures err { IfErr result (λ e. (e ≡ BuildFault.Memory) ⊎ (e ≡ BuildFault.Mixed)) }
+    // `Mixed` only if the build hasn't ended as one without faults does.
+    ensures mixed { IsErrOf result BuildFault.Mixed → ¬ HasEnded workers store (records_in records) }
 {
     store.legal();
     if !has_ended(alloc, &store, records.as_slice(), workers)? {
