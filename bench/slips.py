@@ -209,13 +209,17 @@ def byte_at(source, line, column):
     return sum(len(it) + 1 for it in lines[:line - 1]) + column - 1
 
 
-NOTE = re.compile(r"^<stdin>:(\d+):(\d+): note: .* (?:(?:another (?:expression|pattern) here|this is left out|is expected|without this signature) \(up to|the one (at)) (\d+):(\d+)(?:\)| exchanged)$", re.M)
+NOTE = re.compile(r"^<stdin>:(\d+):(\d+): note: .* (?:(?:(?:another (?:expression|pattern) here|this is left out|is expected|without this signature|around this|in front of this|argument after this) \(up to|the one (at)) (\d+):(\d+)(?:\)| exchanged)|with '[;,]' before this)$", re.M)
 
 
 def notes_in(source, tokens, messages):
-    """The ranges of notes: of a part, or of two expressions that change places and what stands between them."""
+    """The ranges of notes: of a part, of two that change places and what stands between them, or of the tokens around a mark that is put in."""
     for match in NOTE.finditer(messages):
         start = byte_at(source, int(match[1]), int(match[2]))
+        if match[4] is None:
+            at = next(at for at, token in enumerate(tokens) if token.start == start)
+            yield tokens[max(at - 1, 0)].start, tokens[at].end
+            continue
         other = byte_at(source, int(match[4]), int(match[5]))
         if match[3]:
             at = next(at for at, token in enumerate(tokens) if token.start == other)

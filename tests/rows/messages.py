@@ -403,8 +403,7 @@ KINDS = [
         "No types fit this definition and those that refer back to it. All others that it refers to have types or signatures.\n"
         "module M where { rev [] = [] ; rev (x : xs) = rev xs : x }\n"
         "                 ^^^\n"
-        "M.hs:1:47: note: this has type '[[a]] -> [a]', but '[[a]] -> a' is expected (up to 1:49)\n"
-        "No type is both: it would contain itself, and so be infinite.\n"
+        "M.hs:1:47: note: 'rev' has a type with this side of ':' and the one at 1:56 exchanged\n"
         "module M where { rev [] = [] ; rev (x : xs) = rev xs : x }\n"
         "                                              ^^^\n"
         "errors: 1, skipped modules: 0\n",
@@ -446,11 +445,137 @@ KINDS = [
         "No types fit this definition and those that refer back to it. All others that it refers to have types or signatures.\n"
         "module M where { f :: Bool ; f = maybe True not }\n"
         "                             ^\n"
-        "M.hs:1:34: note: this has type 'Maybe Bool -> Bool', but 'Bool' is expected (up to 1:47)\n"
+        "M.hs:1:34: note: 'f' has a type with one more argument after this (up to 1:47)\n"
         "module M where { f :: Bool ; f = maybe True not }\n"
         "                                 ^^^^^\n"
         "M.hs:1:18: note: 'f' has type 'Maybe Bool -> Bool' without this signature (up to 1:26)\n"
         "module M where { f :: Bool ; f = maybe True not }\n"
+        "                 ^\n"
+        "errors: 1, skipped modules: 0\n",
+    ),
+    # brackets that are missing
+    (
+        "module M where { f :: [Bool] -> [Bool] ; f xs = map not map not xs }",
+        1,
+        "M.hs:1:42: error: type error in 'f' [type]\n"
+        "This definition has no type, though everything that it refers to has one.\n"
+        "module M where { f :: [Bool] -> [Bool] ; f xs = map not map not xs }\n"
+        "                                         ^\n"
+        "M.hs:1:57: note: 'f' has a type with brackets around this (up to 1:66)\n"
+        "module M where { f :: [Bool] -> [Bool] ; f xs = map not map not xs }\n"
+        "                                                        ^^^\n"
+        "errors: 1, skipped modules: 0\n",
+    ),
+    # a `;` that is missing before a signature
+    (
+        "module M where { f :: Bool -> Bool ; f x = not x g :: Bool ; g = True }",
+        1,
+        "M.hs:1:38: error: type error in 'f' [type]\n"
+        "This definition has no type, though everything that it refers to has one.\n"
+        "module M where { f :: Bool -> Bool ; f x = not x g :: Bool ; g = True }\n"
+        "                                     ^\n"
+        "M.hs:1:50: note: 'f' has a type with ';' before this\n"
+        "module M where { f :: Bool -> Bool ; f x = not x g :: Bool ; g = True }\n"
+        "                                                 ^\n"
+        "errors: 1, skipped modules: 0\n",
+    ),
+    # a `,` that is missing in a list
+    (
+        "module M where { f :: [(Bool, Char)] ; f = [(True, 'a') (False, 'b')] }",
+        1,
+        "M.hs:1:40: error: type error in 'f' [type]\n"
+        "This definition has no type, though everything that it refers to has one.\n"
+        "module M where { f :: [(Bool, Char)] ; f = [(True, 'a') (False, 'b')] }\n"
+        "                                       ^\n"
+        "M.hs:1:57: note: 'f' has a type with ',' before this\n"
+        "module M where { f :: [(Bool, Char)] ; f = [(True, 'a') (False, 'b')] }\n"
+        "                                                        ^\n"
+        "errors: 1, skipped modules: 0\n",
+    ),
+    # a `,` that is missing in a tuple
+    (
+        "module M where { f :: (Bool, Char, Bool) ; f = (True, 'a' False) }",
+        1,
+        "M.hs:1:44: error: type error in 'f' [type]\n"
+        "This definition has no type, though everything that it refers to has one.\n"
+        "module M where { f :: (Bool, Char, Bool) ; f = (True, 'a' False) }\n"
+        "                                           ^\n"
+        "M.hs:1:59: note: 'f' has a type with ',' before this\n"
+        "module M where { f :: (Bool, Char, Bool) ; f = (True, 'a' False) }\n"
+        "                                                          ^^^^^\n"
+        "errors: 1, skipped modules: 0\n",
+    ),
+    # brackets of a list that are missing
+    (
+        "module M where { f :: [a] -> a -> [a] ; f xs x = concat (xs : x : []) }",
+        1,
+        "M.hs:1:41: error: type error in 'f' [type]\n"
+        "This definition has no type, though everything that it refers to has one.\n"
+        "module M where { f :: [a] -> a -> [a] ; f xs x = concat (xs : x : []) }\n"
+        "                                        ^\n"
+        "M.hs:1:63: note: 'f' has a type with '[' and ']' around this (up to 1:63)\n"
+        "module M where { f :: [a] -> a -> [a] ; f xs x = concat (xs : x : []) }\n"
+        "                                                              ^\n"
+        "M.hs:1:18: note: 'f' has type '[a] -> [a] -> [a]' without this signature (up to 1:37)\n"
+        "module M where { f :: [a] -> a -> [a] ; f xs x = concat (xs : x : []) }\n"
+        "                 ^\n"
+        "errors: 1, skipped modules: 0\n",
+    ),
+    # the sides of a `:`
+    (
+        "module M where { f :: [a] -> [a] ; f [] = [] ; f (x : xs) = f xs : x }",
+        1,
+        "M.hs:1:36: error: type error in 'f' [type]\n"
+        "This definition has no type, though everything that it refers to has one.\n"
+        "module M where { f :: [a] -> [a] ; f [] = [] ; f (x : xs) = f xs : x }\n"
+        "                                   ^\n"
+        "M.hs:1:61: note: 'f' has a type with this side of ':' and the one at 1:68 exchanged\n"
+        "module M where { f :: [a] -> [a] ; f [] = [] ; f (x : xs) = f xs : x }\n"
+        "                                                            ^\n"
+        "errors: 1, skipped modules: 0\n",
+    ),
+    # two patterns of a lambda
+    (
+        "module M where { f :: [Bool] -> Int ; f = foldr (\\n b -> if b then n else 0) 0 }",
+        1,
+        "M.hs:1:39: error: type error in 'f' [type]\n"
+        "This definition has no type, though everything that it refers to has one.\n"
+        "module M where { f :: [Bool] -> Int ; f = foldr (\\n b -> if b then n else 0) 0 }\n"
+        "                                      ^\n"
+        "M.hs:1:51: note: 'f' has a type with this pattern and the one at 1:53 exchanged\n"
+        "module M where { f :: [Bool] -> Int ; f = foldr (\\n b -> if b then n else 0) 0 }\n"
+        "                                                  ^\n"
+        "errors: 1, skipped modules: 0\n",
+    ),
+    # two patterns of a clause
+    (
+        "module M where { f :: Bool -> Int -> Int ; f n b = if b then n else 0 }",
+        1,
+        "M.hs:1:44: error: type error in 'f' [type]\n"
+        "This definition has no type, though everything that it refers to has one.\n"
+        "module M where { f :: Bool -> Int -> Int ; f n b = if b then n else 0 }\n"
+        "                                           ^\n"
+        "M.hs:1:46: note: 'f' has a type with this pattern and the one at 1:48 exchanged\n"
+        "module M where { f :: Bool -> Int -> Int ; f n b = if b then n else 0 }\n"
+        "                                             ^\n"
+        "M.hs:1:18: note: 'f' has type 'Int -> Bool -> Int' without this signature (up to 1:40)\n"
+        "module M where { f :: Bool -> Int -> Int ; f n b = if b then n else 0 }\n"
+        "                 ^\n"
+        "errors: 1, skipped modules: 0\n",
+    ),
+    # an argument that is missing in the middle
+    (
+        "module M where { f :: [Bool] -> Bool ; f xs = foldr (\\x y -> x) xs }",
+        1,
+        "M.hs:1:40: error: type error in 'f' [type]\n"
+        "This definition has no type, though everything that it refers to has one.\n"
+        "module M where { f :: [Bool] -> Bool ; f xs = foldr (\\x y -> x) xs }\n"
+        "                                       ^\n"
+        "M.hs:1:47: note: 'f' has a type with one more argument after this (up to 1:63)\n"
+        "module M where { f :: [Bool] -> Bool ; f xs = foldr (\\x y -> x) xs }\n"
+        "                                              ^^^^^\n"
+        "M.hs:1:18: note: 'f' has type 'a -> [a] -> a' without this signature (up to 1:36)\n"
+        "module M where { f :: [Bool] -> Bool ; f xs = foldr (\\x y -> x) xs }\n"
         "                 ^\n"
         "errors: 1, skipped modules: 0\n",
     ),
@@ -686,7 +811,7 @@ KINDS = [
         "                 ^\n"
         "errors: 1, skipped modules: 0\n",
     ),
-    # the part has no type by itself, so neither type is told
+    # brackets around a row of `:`
     (
         "module M where { data S a = S [a] ; f :: a -> S a -> S a ; f x (S xs) = S x : xs }",
         1,
@@ -694,9 +819,9 @@ KINDS = [
         "No types fit this definition and those that refer back to it. All others that it refers to have types or signatures.\n"
         "module M where { data S a = S [a] ; f :: a -> S a -> S a ; f x (S xs) = S x : xs }\n"
         "                                                           ^\n"
-        "M.hs:1:73: note: 'f' has a type with another expression here (up to 1:80)\n"
+        "M.hs:1:75: note: 'f' has a type with brackets around this (up to 1:80)\n"
         "module M where { data S a = S [a] ; f :: a -> S a -> S a ; f x (S xs) = S x : xs }\n"
-        "                                                                        ^\n"
+        "                                                                          ^\n"
         "M.hs:1:37: note: 'f' has type '[a] -> M.S (M.S a) -> [M.S a]' without this signature (up to 1:56)\n"
         "module M where { data S a = S [a] ; f :: a -> S a -> S a ; f x (S xs) = S x : xs }\n"
         "                                    ^\n"

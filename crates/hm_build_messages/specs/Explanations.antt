@@ -26,7 +26,9 @@ use Rattle.hm_messages_trials.specs.Mends.{IsMend}
 use Rattle.hm_messages_trials.specs.ShownTypes.{HasShownTypes}
 use Rattle.hm_messages_trials.specs.Signatures.{IsUnsigned, Leads}
 use Rattle.hm_messages_trials.specs.declared.mends.Mend.{Mend}
-use Rattle.hm_messages_trials.specs.declared.mends.Mend.TheVariants.{Expression, Pattern, Exchange, Removal}
+use Rattle.hm_messages_trials.specs.declared.mends.Mend.TheVariants.{Expression, Pattern, Exchange, Removal, Sides, Patterns, Insertion as insertion_mend}
+use Rattle.hm_messages_changes.specs.declared.insertions.Insertion.{Insertion}
+use Rattle.hm_messages_changes.specs.declared.insertions.Insertion.TheVariants.{Brackets, ListBrackets, Argument, Semicolon, Comma}
 use Rattle.hm_messages_changes.specs.declared.data.SourceRange.{SourceRange}
 use Rattle.hm_run_sources.specs.Names.{name_below}
 use Rattle.hm_run_sources.specs.Origins.{IsSpelledBy}
@@ -49,13 +51,27 @@ first_of (Expression part) = part.start
 first_of (Pattern part) = part.start
 first_of (Exchange first second) = first.start
 first_of (Removal part) = part.start
+first_of (Sides first second) = first.start
+first_of (Patterns first second) = first.start
+first_of (insertion_mend insertion part) = part.start
 
--- the other place that is told: where it ends, or where the second expression begins
+-- the other place that is told: where it ends, or where the second part begins
 abbrev pub other_of : Mend → Place
 other_of (Expression part) = part.end
 other_of (Pattern part) = part.end
 other_of (Exchange first second) = second.start
 other_of (Removal part) = part.end
+other_of (Sides first second) = second.start
+other_of (Patterns first second) = second.start
+other_of (insertion_mend insertion part) = part.end
+
+-- how a text is told that is put in around a part, which ends at this place
+abbrev pub insertion_way : Insertion → Place → Way
+insertion_way Brackets p = way.Brackets p
+insertion_way ListBrackets p = way.ListBrackets p
+insertion_way Argument p = way.Argument p
+insertion_way Semicolon p = way.Semicolon
+insertion_way Comma p = way.Comma
 
 -- how it is told, with this as the other place
 abbrev pub way_of : Mend → Place → Way
@@ -63,6 +79,9 @@ way_of (Expression part) p = way.Expression p
 way_of (Pattern part) p = way.Pattern p
 way_of (Exchange first second) p = way.Exchange p
 way_of (Removal part) p = way.Removal p
+way_of (Sides first second) p = way.Sides p
+way_of (Patterns first second) p = way.Patterns p
+way_of (insertion_mend insertion part) p = insertion_way insertion p
 
 -- these are the two types of the part that is to blame, and whether they are told as infinite
 abbrev pub ArePartTypes : List ℕ → List ℕ → List Interface → List ℕ → Mend → List ℕ → List ℕ → Bool → Type 0
@@ -70,6 +89,9 @@ ArePartTypes source name fs definition (Expression part) expected actual infinit
 ArePartTypes source name fs definition (Pattern part) expected actual infinite = ⊥
 ArePartTypes source name fs definition (Exchange first second) expected actual infinite = ⊥
 ArePartTypes source name fs definition (Removal part) expected actual infinite = ⊥
+ArePartTypes source name fs definition (Sides first second) expected actual infinite = ⊥
+ArePartTypes source name fs definition (Patterns first second) expected actual infinite = ⊥
+ArePartTypes source name fs definition (insertion_mend insertion part) expected actual infinite = ⊥
 
 -- the text tells what gives the definition a type, or the two types of the part, with this as the other place
 pub data IsStatedOf (paint : Paint) (file source name : List ℕ) (fs : List Interface) (definition : List ℕ) (mend : Mend) (other : Place) (text : List ℕ) : Type 0 where

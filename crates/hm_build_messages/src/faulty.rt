@@ -7,10 +7,11 @@ ghost use Rattle.hm_messages_trials.specs.Limits.{IsUsedUp};
 ghost use Rattle.hm_messages_trials.specs.Mends.{IsMend};
 ghost use Rattle.hm_messages_trials.specs.Signatures.{IsUnsigned, Leads};
 ghost use Rattle.hm_names.specs.declared.faults.Kind.TheVariants.{Untyped};
-ghost use Rattle.hm_build_messages.specs.Explanations.{AreInTurn, ArePartTypes, AreNotes, IsNote, IsNoted, IsSignatureNote, IsStatedOf, first_of as first_place, other_of as other_place, way_of as stated_way};
+ghost use Rattle.hm_build_messages.specs.Explanations.{AreInTurn, ArePartTypes, AreNotes, IsNote, IsNoted, IsSignatureNote, IsStatedOf, first_of as first_place, insertion_way as stated_insertion, other_of as other_place, way_of as stated_way};
 
 use hm_lex::Place;
 use hm_messages::{BothTypes, Page, Paint, Topic, Way, fault_message, message, reader_place};
+use hm_messages_changes::Insertion;
 use hm_messages_details::Detail;
 use hm_messages_trials::{
     Effort, Mend, PartTypes, Question, Reading, TypeFault, Unsigned, mend_of, part_types_of,
@@ -76,10 +77,13 @@ fn first_of(mend: &Mend) -> Place
         Mend::Pattern(part) => part.start,
         Mend::Exchange(first, _) => first.start,
         Mend::Removal(part) => part.start,
+        Mend::Sides(first, _) => first.start,
+        Mend::Patterns(first, _) => first.start,
+        Mend::Insertion(_, part) => part.start,
     }
 }
 
-/// Returns the other place of the note: where the part ends, or where the second expression begins.
+/// Returns the other place of the note: where the part ends, or where the second one begins.
 fn other_of(mend: &Mend) -> Place
     ensures { result ≡ other_place mend.now }
 {
@@ -88,6 +92,22 @@ fn other_of(mend: &Mend) -> Place
         Mend::Pattern(part) => part.end,
         Mend::Exchange(_, second) => second.start,
         Mend::Removal(part) => part.end,
+        Mend::Sides(_, second) => second.start,
+        Mend::Patterns(_, second) => second.start,
+        Mend::Insertion(_, part) => part.end,
+    }
+}
+
+/// Returns the topic of the note of a text that is put in around a part, which ends at this place.
+fn insertion_way(insertion: Insertion, end: Place) -> Way
+    ensures { result ≡ stated_insertion insertion end }
+{
+    match insertion {
+        Insertion::Brackets => Way::Brackets(end),
+        Insertion::ListBrackets => Way::ListBrackets(end),
+        Insertion::Argument => Way::Argument(end),
+        Insertion::Semicolon => Way::Semicolon,
+        Insertion::Comma => Way::Comma,
     }
 }
 
@@ -100,6 +120,9 @@ fn way_of(mend: &Mend, other: Place) -> Way
         Mend::Pattern(_) => Way::Pattern(other),
         Mend::Exchange(_, _) => Way::Exchange(other),
         Mend::Removal(_) => Way::Removal(other),
+        Mend::Sides(_, _) => Way::Sides(other),
+        Mend::Patterns(_, _) => Way::Patterns(other),
+        Mend::Insertion(insertion, _) => insertion_way(*insertion, other),
     }
 }
 
@@ -129,6 +152,9 @@ fn types_for(
         Mend::Pattern(_) => None,
         Mend::Exchange(_, _) => None,
         Mend::Removal(_) => None,
+        Mend::Sides(_, _) => None,
+        Mend::Patterns(_, _) => None,
+        Mend::Insertion(_, _) => None,
     }
 }
 
@@ -172,6 +198,31 @@ fn note_text(
     }
 }
 
+/// The note of the change that gives a definition a type, or no text, and whether it is before the note of the signature in any case.
+#[derive(Drop)]
+struct PartNote {
+    text: Vec<u8>,
+    is_first: bool,
+}
+
+/// Returns no note of a change.
+fn no_part_note(alloc: Global) -> PartNote
+    ensures { result.text.items ≡ [] }
+{
+    PartNote {
+        text: Vec::new(alloc),
+        is_first: false,
+    }
+}
+
+/// Returns whether the note of a change is before that of the signature in any case: it says what to write.
+fn is_first(mend: &Mend) -> bool {
+    match mend {
+        Mend::Sides(_, _) | Mend::Patterns(_, _) | Mend::Insertion(_, _) => true,
+        _ => false,
+    }
+}
+
 // Why: docs/DECISIONS.md, "Memory in a trial".
 /// Returns the note of a fault, or no text.
 fn note_for(
@@ -179,20 +230,22 @@ fn note_for(
     module: &FaultyModule<'_, '_>,
     found: &TypeFault<'_>,
     effort: &mut Effort,
-) -> Result<Vec<u8>, AllocError>
+) -> Result<PartNote, AllocError>
     requires { «module».now.question.now.source.now ≡ «module».now.page.now.lines }
-    ensures { IfOk result (λ text. (text.items ≡ []) ⊎ IsNote «module».now.paint «module».now.page.now.file.now «module».now.page.now.lines
-        «module».now.question.now.name.now (map arc_value «module».now.question.now.imports.now) found.now.fault.now text.items) }
+    ensures { IfOk result (λ note. (note.text.items ≡ []) ⊎ IsNote «module».now.paint «module».now.page.now.file.now «module».now.page.now.lines
+        «module».now.question.now.name.now (map arc_value «module».now.question.now.imports.now) found.now.fault.now note.text.items) }
 {
     let Some(mend) = mend_for(alloc, module, found, effort) else {
-        return Ok(Vec::new(alloc));
+        return Ok(no_part_note(alloc));
     };
     let Some(place) = reader_place(module.page, other_of(&mend)) else {
-        return Ok(Vec::new(alloc));
+        return Ok(no_part_note(alloc));
     };
     let types = types_for(alloc, module, found, &mend, effort);
+    let is_first = is_first(&mend);
     let part = FaultyPart { mend, types };
-    Ok(note_text(alloc, module, found.fault.name.as_str(), &part, place)?)
+    let text = note_text(alloc, module, found.fault.name.as_str(), &part, place)?;
+    Ok(PartNote { text, is_first })
 }
 
 /// Returns the type that the definition of a type fault has without its signature, if it is found.
@@ -254,11 +307,19 @@ fn signature_text(
     )?)
 }
 
-/// Returns the note of the signature of a fault, or no text.
+/// Returns whether the note of a signature that leads is first, if that of the part may be first in any case.
+fn leads_before(leads: bool, is_part_first: bool) -> bool
+    ensures { result ≡ true → leads ≡ true }
+{
+    leads && !is_part_first
+}
+
+/// Returns the note of the signature of a fault, or no text. It doesn't lead if the note of the part is first in any case.
 fn signature_note(
     alloc: Global,
     module: &FaultyModule<'_, '_>,
     found: &TypeFault<'_>,
+    is_part_first: bool,
     effort: &mut Effort,
 ) -> Result<SignatureNote, AllocError>
     requires { «module».now.question.now.source.now ≡ «module».now.page.now.lines }
@@ -274,7 +335,7 @@ fn signature_note(
     let text = signature_text(alloc, module, found.fault.name.as_str(), &unsigned, end)?;
     Ok(SignatureNote {
         text,
-        leads: unsigned.leads,
+        leads: leads_before(unsigned.leads, is_part_first),
     })
 }
 
@@ -317,8 +378,13 @@ fn notes_of(
         «module».now.question.now.name.now (map arc_value «module».now.question.now.imports.now) found.now.fault.now text.items) }
 {
     let note = note_for(alloc, module, found, effort)?;
-    let signed = signature_note(alloc, module, found, effort)?;
-    Ok(in_order(alloc, note.as_slice(), signed.text.as_slice(), signed.leads)?)
+    let signed = signature_note(alloc, module, found, note.is_first, effort)?;
+    Ok(in_order(
+        alloc,
+        note.text.as_slice(),
+        signed.text.as_slice(),
+        signed.leads,
+    )?)
 }
 
 /// Returns the notes of a fault, or no text without a reading of the module's source.

@@ -19,7 +19,7 @@ use Rattle.hm_names.specs.Faults.Phases.{written_in}
 use Rattle.hm_messages.specs.Notices.{notice_of}
 use Rattle.hm_messages.specs.Subjects.{Subject, fault, replaceable, mistyped, unsigned, faulty, skipped, too_long, lexeme, open_comment, too_deep, syntax_fault, too_many, twice, twin, missing, cycle, exhausted, limit, step, hidden}
 use Rattle.hm_messages.specs.declared.topic.Way.{Way}
-use Rattle.hm_messages.specs.declared.topic.Way.TheVariants.{Expression, Pattern, Exchange, Removal}
+use Rattle.hm_messages.specs.declared.topic.Way.TheVariants.{Expression, Pattern, Exchange, Removal, Sides, Patterns, Brackets, ListBrackets, Argument, Semicolon, Comma}
 use Rattle.hm_messages.specs.declared.heading.Paint.{Paint}
 use Rattle.hm_messages.specs.declared.heading.Paint.TheVariants.{Plain, Coloured, Json}
 
@@ -135,12 +135,43 @@ exchange_title x p = codes "'" ++ x ++ codes "' has a type with this expression 
 abbrev pub removal_title : List ℕ → Place → List ℕ
 removal_title x p = codes "'" ++ x ++ codes "' has a type if this is left out (up to " ++ decimal p.line ++ codes ":" ++ decimal p.column ++ codes ")"
 
+-- what is said of a side of a `:` that changes places with the one at this place
+abbrev pub sides_title : List ℕ → Place → List ℕ
+sides_title x p = codes "'" ++ x ++ codes "' has a type with this side of ':' and the one at " ++ decimal p.line ++ codes ":" ++ decimal p.column ++ codes " exchanged"
+
+-- what is said of a pattern that changes places with the one at this place
+abbrev pub patterns_title : List ℕ → Place → List ℕ
+patterns_title x p = codes "'" ++ x ++ codes "' has a type with this pattern and the one at " ++ decimal p.line ++ codes ":" ++ decimal p.column ++ codes " exchanged"
+
+-- what is said of an expression that ends at this place and gets brackets
+abbrev pub brackets_title : List ℕ → Place → List ℕ
+brackets_title x p = codes "'" ++ x ++ codes "' has a type with brackets around this (up to " ++ decimal p.line ++ codes ":" ++ decimal p.column ++ codes ")"
+
+-- what is said of an expression that ends at this place and gets the brackets of a list
+abbrev pub list_brackets_title : List ℕ → Place → List ℕ
+list_brackets_title x p = codes "'" ++ x ++ codes "' has a type with '[' and ']' around this (up to " ++ decimal p.line ++ codes ":" ++ decimal p.column ++ codes ")"
+
+-- what is said of an expression that ends at this place and gets one more argument
+abbrev pub argument_title : List ℕ → Place → List ℕ
+argument_title x p = codes "'" ++ x ++ codes "' has a type with one more argument after this (up to " ++ decimal p.line ++ codes ":" ++ decimal p.column ++ codes ")"
+
+-- what is said of an expression before which this mark is missing
+abbrev pub mark_title : List ℕ → List ℕ → List ℕ
+mark_title x mark = codes "'" ++ x ++ codes "' has a type with '" ++ mark ++ codes "' before this"
+
 -- in which way a definition has a type
 abbrev pub replaceable_title : List ℕ → Way → List ℕ
 replaceable_title x (Expression p) = expression_title x p
 replaceable_title x (Pattern p) = pattern_title x p
 replaceable_title x (Exchange p) = exchange_title x p
 replaceable_title x (Removal p) = removal_title x p
+replaceable_title x (Sides p) = sides_title x p
+replaceable_title x (Patterns p) = patterns_title x p
+replaceable_title x (Brackets p) = brackets_title x p
+replaceable_title x (ListBrackets p) = list_brackets_title x p
+replaceable_title x (Argument p) = argument_title x p
+replaceable_title x Semicolon = mark_title x (codes ";")
+replaceable_title x Comma = mark_title x (codes ",")
 
 -- what is said of a part that ends at this place, with the type that is expected there and the one that it has
 abbrev pub mistyped_title : Place → List ℕ → List ℕ → List ℕ

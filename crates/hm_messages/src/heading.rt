@@ -1,6 +1,6 @@
 //! The first line of a message, after the name of its file.
 ghost use Rattle.std.specs.Prelude.{◌≡◌, IfOk, string_bytes};
-ghost use Rattle.hm_messages.specs.Headings.{begin, end, exchange_title as exchange_title_bytes, expression_title as expression_title_bytes, heading as heading_bytes, mistyped_title as mistyped_title_bytes, pattern_title as pattern_title_bytes, removal_title as removal_title_bytes, replaceable_title as replaceable_title_bytes, tag as tag_bytes, title as title_bytes, unsigned_title as unsigned_title_bytes};
+ghost use Rattle.hm_messages.specs.Headings.{argument_title as argument_title_bytes, begin, brackets_title as brackets_title_bytes, end, exchange_title as exchange_title_bytes, expression_title as expression_title_bytes, heading as heading_bytes, list_brackets_title as list_brackets_title_bytes, mark_title as mark_title_bytes, mistyped_title as mistyped_title_bytes, pattern_title as pattern_title_bytes, patterns_title as patterns_title_bytes, removal_title as removal_title_bytes, replaceable_title as replaceable_title_bytes, sides_title as sides_title_bytes, tag as tag_bytes, title as title_bytes, unsigned_title as unsigned_title_bytes};
 ghost use Rattle.hm_messages.specs.Subjects.{subject_of};
 
 use crate::fault_titles::{fault_title, hidden_title};
@@ -82,6 +82,59 @@ fn removal_title(alloc: Global, name: &str, end: Place) -> Result<String, AllocE
     format!(in alloc; "'{name}' has a type if this is left out (up to {line}:{column})")
 }
 
+/// Returns the text about a side of a `:` that is exchanged with the one at this place.
+fn sides_title(alloc: Global, name: &str, other: Place) -> Result<String, AllocError>
+    ensures { IfOk result (λ text. string_bytes text ≡ sides_title_bytes name.now other) }
+{
+    let Place { line, column } = other;
+    format!(in alloc;
+        "'{name}' has a type with this side of ':' and the one at {line}:{column} exchanged"
+    )
+}
+
+/// Returns the text about a pattern that is exchanged with the one at this place.
+fn patterns_title(alloc: Global, name: &str, other: Place) -> Result<String, AllocError>
+    ensures { IfOk result (λ text. string_bytes text ≡ patterns_title_bytes name.now other) }
+{
+    let Place { line, column } = other;
+    format!(in alloc;
+        "'{name}' has a type with this pattern and the one at {line}:{column} exchanged"
+    )
+}
+
+/// Returns the text about an expression that ends at this place and gets brackets.
+fn brackets_title(alloc: Global, name: &str, end: Place) -> Result<String, AllocError>
+    ensures { IfOk result (λ text. string_bytes text ≡ brackets_title_bytes name.now end) }
+{
+    let Place { line, column } = end;
+    format!(in alloc; "'{name}' has a type with brackets around this (up to {line}:{column})")
+}
+
+/// Returns the text about an expression that ends at this place and gets the brackets of a list.
+fn list_brackets_title(alloc: Global, name: &str, end: Place) -> Result<String, AllocError>
+    ensures { IfOk result (λ text. string_bytes text ≡ list_brackets_title_bytes name.now end) }
+{
+    let Place { line, column } = end;
+    format!(in alloc; "'{name}' has a type with '[' and ']' around this (up to {line}:{column})")
+}
+
+/// Returns the text about an expression that ends at this place and gets one more argument.
+fn argument_title(alloc: Global, name: &str, end: Place) -> Result<String, AllocError>
+    ensures { IfOk result (λ text. string_bytes text ≡ argument_title_bytes name.now end) }
+{
+    let Place { line, column } = end;
+    format!(in alloc;
+        "'{name}' has a type with one more argument after this (up to {line}:{column})"
+    )
+}
+
+/// Returns the text about an expression before which a mark is missing.
+fn mark_title(alloc: Global, name: &str, mark: &str) -> Result<String, AllocError>
+    ensures { IfOk result (λ text. string_bytes text ≡ mark_title_bytes name.now mark.now) }
+{
+    format!(in alloc; "'{name}' has a type with '{mark}' before this")
+}
+
 /// Returns the text about the change with which a definition has a type.
 fn replaceable_title(alloc: Global, name: &str, way: Way) -> Result<String, AllocError>
     ensures { IfOk result (λ text. string_bytes text ≡ replaceable_title_bytes name.now way) }
@@ -91,6 +144,13 @@ fn replaceable_title(alloc: Global, name: &str, way: Way) -> Result<String, Allo
         Way::Pattern(end) => pattern_title(alloc, name, end),
         Way::Exchange(other) => exchange_title(alloc, name, other),
         Way::Removal(end) => removal_title(alloc, name, end),
+        Way::Sides(other) => sides_title(alloc, name, other),
+        Way::Patterns(other) => patterns_title(alloc, name, other),
+        Way::Brackets(end) => brackets_title(alloc, name, end),
+        Way::ListBrackets(end) => list_brackets_title(alloc, name, end),
+        Way::Argument(end) => argument_title(alloc, name, end),
+        Way::Semicolon => mark_title(alloc, name, ";"),
+        Way::Comma => mark_title(alloc, name, ","),
     }
 }
 

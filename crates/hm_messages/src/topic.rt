@@ -25,6 +25,20 @@ pub enum Way {
     Exchange(Place),
     /// Nothing in place of the expression, up to this place.
     Removal(Place),
+    /// An exchange of this side of a `:` with the one that begins here.
+    Sides(Place),
+    /// An exchange of the pattern with the one that begins here.
+    Patterns(Place),
+    /// Brackets around the expression, up to this place.
+    Brackets(Place),
+    /// The brackets of a list around the expression, up to this place.
+    ListBrackets(Place),
+    /// One more argument after the expression, which ends at this place.
+    Argument(Place),
+    /// A `;` before the expression.
+    Semicolon,
+    /// A `,` before the expression.
+    Comma,
 }
 
 /// The two types of a part of a definition.

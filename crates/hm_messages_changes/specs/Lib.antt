@@ -1,6 +1,7 @@
 pub mod Blanks
 pub mod Exchanges
 pub mod Holes
+pub mod Insertions
 pub mod Layouts
 pub mod Probes
 pub mod Wildcards

@@ -1,10 +1,10 @@
 //! Small changes of an expression, which show what may be wrong with it.
 ghost use Rattle.std.specs.Prelude.{◌≡◌, ◌≤◌, length, true};
 
-use crate::data::HOLE;
 use crate::edits::{Edit, Filling, after, before, bracketed, in_place};
+use crate::insertions::{Insertion, text_after, text_before};
 use crate::reported::Reported;
-use hm_messages_outline::{Lexed, Outline, Role, Run, TermPart};
+use hm_messages_outline::{Lexed, Outline, Role, Run, TermPart, without_brackets};
 use hm_parse_grammar::Symbol;
 use std::alloc::{AllocError, Global};
 
@@ -12,9 +12,6 @@ use std::alloc::{AllocError, Global};
 const MOST_ARGUMENTS: usize = 6;
 
 const NOTHING: Filling = Filling::Text(" ");
-
-/// A hole as the last argument in brackets.
-const LAST_ARGUMENT: &str = " (let { h = h } in h))";
 
 /// A hole as the last component of a tuple.
 const LAST_COMPONENT: &str = ", let { h = h } in h";
@@ -28,8 +25,8 @@ pub struct SmallChange {
     pub second: Edit,
 }
 
-/// Returns the function and the arguments of an application.
-fn atoms_of(alloc: Global, outline: &Outline, run: Run) -> Result<Vec<Run>, AllocError> {
+/// Returns the function and the arguments of an application, or patterns that are next to each other.
+pub(crate) fn atoms_of(alloc: Global, outline: &Outline, run: Run) -> Result<Vec<Run>, AllocError> {
     let mut atoms = Vec::new(alloc);
     let mut next = run.start;
     for at in run.start..run.end {
@@ -44,6 +41,29 @@ fn atoms_of(alloc: Global, outline: &Outline, run: Run) -> Result<Vec<Run>, Allo
     Ok(atoms)
 }
 
+/// Returns the change that puts a text in around a run.
+pub(crate) fn inserted(lexed: &Lexed<'_>, insertion: Insertion, run: Run) -> SmallChange {
+    SmallChange {
+        reported: Reported::Insertion(insertion, run),
+        first: before(lexed, run, Filling::Text(text_before(insertion))),
+        second: after(lexed, run, Filling::Text(text_after(insertion))),
+    }
+}
+
+/// Returns the exchange of two runs, which are in order.
+pub(crate) fn exchange_of(
+    lexed: &Lexed<'_>,
+    first: Run,
+    second: Run,
+    reported: Reported,
+) -> SmallChange {
+    SmallChange {
+        reported,
+        first: in_place(lexed, first, bracketed(lexed, second)),
+        second: in_place(lexed, second, bracketed(lexed, first)),
+    }
+}
+
 /// Adds the exchange of two runs, which are in order.
 fn add_exchange(
     found: &mut Vec<SmallChange>,
@@ -51,11 +71,8 @@ fn add_exchange(
     first: Run,
     second: Run,
 ) -> Result<(), AllocError> {
-    found.push(SmallChange {
-        reported: Reported::Exchange(first, second),
-        first: in_place(lexed, first, bracketed(lexed, second)),
-        second: in_place(lexed, second, bracketed(lexed, first)),
-    })?;
+    let reported = Reported::Exchange(first, second);
+    found.push(exchange_of(lexed, first, second, reported))?;
     Ok(())
 }
 
@@ -100,7 +117,7 @@ fn add_without_one(
     Ok(())
 }
 
-/// Adds the changes that put one more argument into an application, at the last place first. The part before it is reported.
+/// Adds the changes that put one more argument into an application, at the last place first.
 fn add_with_one_more(
     found: &mut Vec<SmallChange>,
     lexed: &Lexed<'_>,
@@ -109,15 +126,11 @@ fn add_with_one_more(
 ) -> Result<(), AllocError> {
     for back in 0..atoms.len() {
         let atom = atoms[atoms.len() - 1 - back];
-        let reported = Run {
+        let front = Run {
             start: whole.start,
             end: atom.end,
         };
-        found.push(SmallChange {
-            reported: Reported::Expression(reported),
-            first: after(lexed, atom, Filling::Text(HOLE)),
-            second: after(lexed, whole, NOTHING),
-        })?;
+        found.push(inserted(lexed, Insertion::Argument, front))?;
     }
     Ok(())
 }
@@ -157,26 +170,28 @@ fn add_of_application(
         return Ok(());
     }
     add_exchanges(found, lexed, &atoms[1..])?;
-    add_without_one(found, lexed, whole, atoms)?;
-    add_with_one_more(found, lexed, whole, atoms)
+    add_with_one_more(found, lexed, whole, atoms)?;
+    add_without_one(found, lexed, whole, atoms)
 }
 
-/// Adds the changes that put arguments after a name.
+/// Adds the change that puts an argument after a name. Only in a definition with a signature it is reported as such.
 fn add_of_name(
     found: &mut Vec<SmallChange>,
     lexed: &Lexed<'_>,
-    name: Run,
+    whole: Run,
+    is_signed: bool,
 ) -> Result<(), AllocError> {
+    let name = without_brackets(lexed.outline, whole);
     match lexed.outline.symbol(name.start) {
         Symbol::Var | Symbol::QVar | Symbol::Con | Symbol::QCon => {}
         _ => return Ok(()),
     }
     if name.end.saturating_sub(name.start) == 1 {
-        found.push(SmallChange {
-            reported: Reported::Expression(name),
-            first: before(lexed, name, Filling::Text("(")),
-            second: after(lexed, name, Filling::Text(LAST_ARGUMENT)),
-        })?;
+        let mut change = inserted(lexed, Insertion::Argument, name);
+        if !is_signed {
+            change.reported = Reported::Expression(name);
+        }
+        found.push(change)?;
     }
     Ok(())
 }
@@ -261,7 +276,7 @@ fn add_with_component(
 }
 
 /// Adds the exchange of the two sides of a form of two parts with a separator between them.
-fn add_of_pair(
+pub(crate) fn add_of_pair(
     found: &mut Vec<SmallChange>,
     lexed: &Lexed<'_>,
     inner: Run,
@@ -278,18 +293,47 @@ fn add_of_pair(
         start: middle.saturating_add(1),
         end: inner.end,
     };
-    match lexed.outline.find(second.start, second.end, separator) {
-        Some(_) => Ok(()),
-        None => add_exchange(found, lexed, first, second),
+    if lexed
+        .outline
+        .find(second.start, second.end, separator)
+        .is_some()
+    {
+        return Ok(());
+    }
+    if separator.is(Symbol::Colon) {
+        let sides = Reported::Sides(first, second);
+        found.push(exchange_of(lexed, first, second, sides))?;
+        return Ok(());
+    }
+    add_exchange(found, lexed, first, second)
+}
+
+/// Adds the exchange of the two sides of a `:` or of the two components of a pair, if they are the whole of an expression.
+fn add_inside(found: &mut Vec<SmallChange>, lexed: &Lexed<'_>, run: Run) -> Result<(), AllocError> {
+    let inner = without_brackets(lexed.outline, run);
+    let last = inner.end.saturating_sub(1);
+    let first = lexed.outline.symbol(inner.start);
+    if first.is(Symbol::Open) && lexed.outline.closing(inner.start) == last {
+        let pair = Run {
+            start: inner.start.saturating_add(1),
+            end: last,
+        };
+        return add_of_pair(found, lexed, pair, Symbol::Comma);
+    }
+    match first {
+        Symbol::Backslash | Symbol::Let | Symbol::If | Symbol::Case => Ok(()),
+        _ => add_of_pair(found, lexed, inner, Symbol::Colon),
     }
 }
 
 // Why: docs/DECISIONS.md, "Small changes".
-/// Returns the changes that are tried at a part, the most likely ones first.
+/// Returns the changes that are tried at a part, the most likely ones first. Brackets of a list are put in only in a definition with a signature: without one,
+/// `xs : [xs]` would be the change of `xs : xs`.
 pub fn changes_at(
     alloc: Global,
     lexed: &Lexed<'_>,
     part: TermPart,
+    is_signed: bool,
 ) -> Result<Vec<SmallChange>, AllocError> {
     let mut found = Vec::new(alloc);
     let around = part.around;
@@ -314,8 +358,13 @@ pub fn changes_at(
         _ => {}
     }
     if part.role != Role::Function {
-        add_of_name(&mut found, lexed, part.run)?;
+        add_inside(&mut found, lexed, part.run)?;
+        add_of_name(&mut found, lexed, part.run, is_signed)?;
         add_with_component(&mut found, lexed, part.run)?;
+        if is_signed {
+            let run = without_brackets(lexed.outline, part.run);
+            found.push(inserted(lexed, Insertion::ListBrackets, run))?;
+        }
     }
     Ok(found)
 }

@@ -1,5 +1,6 @@
 //! What the search finds, in tokens.
 
+use crate::insertions::Insertion;
 use hm_messages_outline::Run;
 
 /// What is reported of a definition.
@@ -12,6 +13,12 @@ pub enum Reported {
     Exchange(Run, Run),
     /// An argument that is left out, and the expression that is reported if the definition has no type without it in the whole source.
     Removal(Run, Run),
+    /// The two sides of a `:` that are exchanged.
+    Sides(Run, Run),
+    /// Two patterns that are exchanged.
+    Patterns(Run, Run),
+    /// A text that is put in around an expression, or before it.
+    Insertion(Insertion, Run),
 }
 
 /// Returns the run, as if its token with the first number had the second one.
@@ -23,6 +30,14 @@ fn moved(run: Run, from: usize, to: usize) -> Run {
 }
 
 impl Reported {
+    /// Returns whether this says what to write, and not only that another expression or pattern is needed.
+    pub fn is_change(self) -> bool {
+        match self {
+            Reported::Expression(_) | Reported::Pattern(_, _) => false,
+            _ => true,
+        }
+    }
+
     /// Returns the same, as if the token with the first number had the second one.
     pub fn moved(self, from: usize, to: usize) -> Reported {
         match self {
@@ -35,6 +50,15 @@ impl Reported {
             }
             Reported::Removal(argument, around) => {
                 Reported::Removal(moved(argument, from, to), moved(around, from, to))
+            }
+            Reported::Sides(first, second) => {
+                Reported::Sides(moved(first, from, to), moved(second, from, to))
+            }
+            Reported::Patterns(first, second) => {
+                Reported::Patterns(moved(first, from, to), moved(second, from, to))
+            }
+            Reported::Insertion(insertion, run) => {
+                Reported::Insertion(insertion, moved(run, from, to))
             }
         }
     }

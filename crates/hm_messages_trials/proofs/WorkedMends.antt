@@ -12,4 +12,10 @@ worked_mends_row = record {
   stays = λ e. let other : 121 ≡ 120 = ap (λ (l : List ℕ). get_or l 3 0) e in absurd (omega (arith, other));
   left = refl;
   other = λ e. let apart : 32 ≡ 120 = ap (λ (l : List ℕ). get_or l 2 0) e in absurd (omega (arith, apart));
+  brackets = refl;
+  elsewhere = λ e. let apart : 41 ≡ 32 = ap (λ (l : List ℕ). get_or l 4 0) e in absurd (omega (arith, apart));
+  list = refl;
+  argument = refl;
+  semicolon = refl;
+  comma = refl;
 }

@@ -1,15 +1,17 @@
--- What gives a definition a type: another expression, another pattern, two expressions exchanged, or one left out.
+-- What gives a definition a type: another expression, another pattern, two parts exchanged, one left out, or a text put in around one.
 use Rattle.std.specs.Prelude.{◌≤◌, ℕ, List, ◌∷◌, All, length}
 use Rattle.hm_types.specs.Interfaces.{Exports as Interface}
 use Rattle.hm_messages_trials.specs.TypedSources.{HasTypesIn, IsCulprit}
 use Rattle.hm_messages_changes.specs.Holes.{IsPartOf, without}
 use Rattle.hm_messages_changes.specs.declared.data.Frame.{Frame}
 use Rattle.hm_messages_trials.specs.declared.mends.Mend.{Mend}
-use Rattle.hm_messages_trials.specs.declared.mends.Mend.TheVariants.{Expression, Pattern, Exchange, Removal}
+use Rattle.hm_messages_trials.specs.declared.mends.Mend.TheVariants.{Expression, Pattern, Exchange, Removal, Sides, Patterns, Insertion as insertion_mend}
 use Rattle.hm_messages_changes.specs.declared.data.Span.{Span}
 use Rattle.hm_messages_changes.specs.declared.data.SourceRange.{SourceRange}
 use Rattle.hm_messages_changes.specs.Wildcards.{bindings, with_wildcard, IsInside}
 use Rattle.hm_messages_changes.specs.Exchanges.{with_exchanged}
+use Rattle.hm_messages_changes.specs.Insertions.{with_insertion}
+use Rattle.hm_messages_changes.specs.declared.insertions.Insertion.{Insertion}
 
 -- The part is a pattern: the definition has a type with `_` in place of it, where variables of it are bound to the hole
 pub record HasTypesWithPattern (source name : List ℕ) (fs : List Interface) (definition : List ℕ) (part : SourceRange) : Type 0 where
@@ -40,9 +42,19 @@ pub record IsRemoval (source name : List ℕ) (fs : List Interface) (definition 
   pub others : List (List ℕ)
   pub types : HasTypesIn (without source part.from part.to) name fs (definition ∷ others)
 
--- the definition has a type with another expression or another pattern there, with the two parts exchanged, or if the part is left out
+-- the definition has a type with a text put in around the part, or before it
+pub record IsInsertion (source name : List ℕ) (fs : List Interface) (definition : List ℕ) (insertion : Insertion) (part : SourceRange) : Type 0 where
+  pub part_of : IsPartOf source part
+  pub others : List (List ℕ)
+  pub types : HasTypesIn (with_insertion source insertion part) name fs (definition ∷ others)
+
+-- the definition has a type with another expression or another pattern there, with the two parts exchanged, if the part is left out, or with a text put in
+-- around it. The parts that are exchanged are expressions, sides of a `:` or patterns
 abbrev pub IsMend : List ℕ → List ℕ → List Interface → List ℕ → Mend → Type 0
 IsMend source name fs definition (Expression part) = IsCulprit source name fs definition part
 IsMend source name fs definition (Pattern part) = IsPatternPart source name fs definition part
 IsMend source name fs definition (Exchange first second) = IsExchange source name fs definition first second
 IsMend source name fs definition (Removal part) = IsRemoval source name fs definition part
+IsMend source name fs definition (Sides first second) = IsExchange source name fs definition first second
+IsMend source name fs definition (Patterns first second) = IsExchange source name fs definition first second
+IsMend source name fs definition (insertion_mend insertion part) = IsInsertion source name fs definition insertion part

@@ -14,6 +14,8 @@ use Rattle.hm_messages_trials.specs.TypedSources.{AreTyped, HasTypesIn}
 use Rattle.hm_messages_changes.specs.Holes.{IsPartOf, with_hole, without}
 use Rattle.hm_messages_changes.specs.Wildcards.{IsInside, bindings, with_wildcard}
 use Rattle.hm_messages_changes.specs.Exchanges.{with_exchanged}
+use Rattle.hm_messages_changes.specs.Insertions.{with_insertion}
+use Rattle.hm_messages_changes.specs.declared.insertions.Insertion.TheVariants.{Brackets, ListBrackets, Argument, Semicolon, Comma}
 use Rattle.hm_messages_changes.specs.declared.data.Frame.TheVariants.{Where, Front}
 use Rattle.hm_messages_changes.specs.declared.data.Span.{Span}
 use Rattle.hm_messages_changes.specs.declared.data.SourceRange.{SourceRange}
@@ -59,7 +61,7 @@ abbrev pub part : ℕ → ℕ → SourceRange
 part from to = record { from = from; to = to; start = at_column (from + 1); end = at_column to }
 
 -- Without its pattern [x], f has x in a where of its own; where it has one, x is the first of it. With x and y exchanged, each is in brackets. With y left
--- out, x stays
+-- out, x stays. Each text is put in around a part: brackets around g x aren't brackets around g
 pub record MendsRow : Type 0 where
   pub own : with_wildcard (codes "f [x] = x") 2 5 9 (bindings (codes "f [x] = x") Where (span 3 4 ∷ [])) ≡ codes "f _ = x where { x = (let { h = h } in h) ; }"
   pub there : with_wildcard (codes "f [x] = y where {y = x}") 2 5 17 (bindings (codes "f [x] = y where {y = x}") Front (span 3 4 ∷ [])) ≡ codes "f _ = y where { x = (let { h = h } in h) ; y = x}"
@@ -69,3 +71,9 @@ pub record MendsRow : Type 0 where
   pub stays : ¬ (with_exchanged (codes "f x y") (part 2 3) (part 4 5) ≡ codes "f (x) (y)")
   pub left : without (codes "f x y") 4 5 ≡ codes "f x "
   pub other : ¬ (without (codes "f x y") 2 3 ≡ codes "f x ")
+  pub brackets : with_insertion (codes "f g x") Brackets (part 2 5) ≡ codes "f (g x)"
+  pub elsewhere : ¬ (with_insertion (codes "f g x") Brackets (part 2 3) ≡ codes "f (g x)")
+  pub list : with_insertion (codes "f x") ListBrackets (part 2 3) ≡ codes "f [x]"
+  pub argument : with_insertion (codes "f x") Argument (part 0 3) ≡ codes "(f x (let { h = h } in h))"
+  pub semicolon : with_insertion (codes "x y :: T") Semicolon (part 2 3) ≡ codes "x ; y :: T"
+  pub comma : with_insertion (codes "[x y]") Comma (part 3 4) ≡ codes "[x , y]"

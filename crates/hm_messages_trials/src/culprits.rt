@@ -17,6 +17,8 @@ pub(crate) struct Searched<'a, 'q> {
     pub lexed: &'a Lexed<'a>,
     pub definition: &'a str,
     pub others: &'a [&'a str],
+    /// Whether the definition has a signature.
+    pub is_signed: bool,
     /// The cost of a trial.
     pub cost: usize,
 }
@@ -154,26 +156,39 @@ fn mending(
     Ok(found)
 }
 
-/// Returns the parts without which a definition has a type, and inside which no part has this property. If the trials run out, it returns those found by then.
+/// The parts without which a definition has a type.
+#[derive(Drop)]
+pub(crate) struct MendingParts {
+    /// All that were found, each before those inside it.
+    pub all: Vec<TermPart>,
+    /// Those inside which no part has this property.
+    pub least: Vec<TermPart>,
+}
+
+/// Returns the parts without which a definition has a type. If the trials run out, it returns those found by then.
 pub(crate) fn culprits(
     alloc: Global,
     searched: &Searched<'_, '_>,
     top: &[TermPart],
     effort: &mut Effort,
-) -> Result<Vec<TermPart>, AllocError> {
-    let mut found = Vec::new(alloc);
+) -> Result<MendingParts, AllocError> {
+    let mut found = MendingParts {
+        all: Vec::new(alloc),
+        least: Vec::new(alloc),
+    };
     let mut pending = mending(alloc, searched, top, effort)?;
     for _ in 0..MOST_TRIALS {
         let Some(part) = pending.pop() else {
             return Ok(found);
         };
+        found.all.push(part)?;
         let below = parts_below(alloc, searched.lexed.outline, part)?;
         let inside = mending(alloc, searched, below.as_slice(), effort)?;
         if effort.is_spent() {
             return Ok(found);
         }
         if inside.is_empty() {
-            found.push(part)?;
+            found.least.push(part)?;
         }
         pending.extend_from_slice(inside.as_slice())?;
     }

@@ -13,7 +13,7 @@ pub fn worked_holes()
     ensures types { TypesRow }
 {}
 
-/// A source without a pattern, and with two parts exchanged.
+/// A source without a pattern, with two parts exchanged, and with a text put in.
 #[tactic(auto, using(crate::proofs::WorkedMends::worked_mends_row))]
 pub fn worked_mends()
     ensures { MendsRow }

@@ -2,12 +2,13 @@
 ghost use Rattle.std.specs.Prelude.{◌≡◌, IfOk, map, true};
 ghost use Rattle.std.specs.Arc.{arc_value};
 ghost use Rattle.hm_messages_changes.specs.Holes.{IsPartOf};
-ghost use Rattle.hm_messages_trials.specs.Mends.{HasTypesWithPattern, IsExchange, IsRemoval};
+ghost use Rattle.hm_messages_trials.specs.Mends.{HasTypesWithPattern, IsExchange, IsInsertion, IsRemoval};
 
 use crate::culprits::Searched;
 use crate::trial::has_types_in;
 use hm_messages_changes::{
-    Rebound, SourceRange, are_inside, bindings, with_exchanged, with_wildcard, without,
+    Insertion, Rebound, SourceRange, are_inside, bindings, with_exchanged, with_insertion,
+    with_wildcard, without,
 };
 use std::alloc::{AllocError, Global};
 
@@ -22,6 +23,12 @@ pub enum Mend {
     Exchange(SourceRange, SourceRange),
     /// Nothing in place of this expression.
     Removal(SourceRange),
+    /// These sides of a `:`, exchanged.
+    Sides(SourceRange, SourceRange),
+    /// These patterns of a clause or a lambda, exchanged.
+    Patterns(SourceRange, SourceRange),
+    /// This text around an expression, or before it.
+    Insertion(Insertion, SourceRange),
 }
 
 /// Returns whether the definition has a type with `_` in place of a part, and with the part's variables bound to the hole.
@@ -89,6 +96,27 @@ pub(crate) fn types_if_left_out(
         (map arc_value searched.now.question.now.imports.now) searched.now.definition.now part) }
 {
     let changed = without(alloc, searched.question.source, part.from, part.to)?;
+    Ok(has_types_in(
+        alloc,
+        searched.question,
+        changed.as_slice(),
+        searched.definition,
+        searched.others,
+    )?)
+}
+
+/// Returns whether the definition has a type with a text put in around a part.
+pub(crate) fn types_with_insertion(
+    alloc: Global,
+    searched: &Searched<'_, '_>,
+    insertion: Insertion,
+    part: SourceRange,
+) -> Result<bool, AllocError>
+    requires { IsPartOf searched.now.question.now.source.now part }
+    ensures { IfOk result (λ yes. yes ≡ true → IsInsertion searched.now.question.now.source.now searched.now.question.now.name.now
+        (map arc_value searched.now.question.now.imports.now) searched.now.definition.now insertion part) }
+{
+    let changed = with_insertion(alloc, searched.question.source, insertion, part)?;
     Ok(has_types_in(
         alloc,
         searched.question,

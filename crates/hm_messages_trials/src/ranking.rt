@@ -1,8 +1,10 @@
 //! Decides which of several parts is reported.
 
 use crate::costs::Effort;
-use crate::culprits::{Searched, is_mended_by};
-use hm_messages_changes::{Reported, SmallChange, changes_at, exchanges_at};
+use crate::culprits::{MendingParts, Searched, is_mended_by};
+use hm_messages_changes::{
+    Insertion, Reported, SmallChange, changes_at, exchanges_at, insertions_in, pattern_exchanges_in,
+};
 use hm_messages_outline::{Outline, Role, Run, TermPart, without_brackets};
 use hm_parse_grammar::Symbol;
 use std::alloc::{AllocError, Global};
@@ -46,9 +48,10 @@ fn points_of(outline: &Outline, part: TermPart) -> usize {
 /// element are changed, which is a rarer slip than those that other changes mend.
 fn points_of_change(change: &SmallChange) -> usize {
     match change.reported {
-        Reported::Exchange(_, _) => 8,
+        Reported::Exchange(_, _) | Reported::Sides(_, _) => 8,
         Reported::Pattern(_, _) => 5,
-        Reported::Expression(_) | Reported::Removal(_, _) => 4,
+        Reported::Insertion(Insertion::ListBrackets, _) => 1,
+        _ => 4,
     }
 }
 
@@ -71,7 +74,7 @@ fn changes_for(
     if has_faulty_argument(parts, part) {
         return exchanges_at(alloc, searched.lexed, part.around);
     }
-    changes_at(alloc, searched.lexed, part)
+    changes_at(alloc, searched.lexed, part, searched.is_signed)
 }
 
 /// Returns a part of these, and what is reported of it: the expression around the first change that gives the definition a type, or else the part without
@@ -108,8 +111,53 @@ fn judged_part(
     })
 }
 
-/// Returns what is reported of these parts: of the one with the most points, and of the last of several with as many.
+/// Returns what the first of these changes that gives the definition a type reports.
+fn first_of(
+    alloc: Global,
+    searched: &Searched<'_, '_>,
+    changes: &[SmallChange],
+    effort: &mut Effort,
+) -> Result<Option<Reported>, AllocError> {
+    for change in changes {
+        let edits = [change.first, change.second];
+        if is_mended_by(alloc, searched, &edits, effort)? {
+            return Ok(Some(change.reported));
+        }
+    }
+    Ok(None)
+}
+
+// Why: docs/DECISIONS.md, "Texts put in".
+/// Returns what is reported of a definition with these right sides: a text that is put in, or else a change of a part, an exchange of patterns, or the likeliest
+/// part. Without a part that mends, patterns of all its clauses are exchanged.
 pub(crate) fn likeliest(
+    alloc: Global,
+    searched: &Searched<'_, '_>,
+    sides: &[TermPart],
+    found: &MendingParts,
+    effort: &mut Effort,
+) -> Result<Option<Reported>, AllocError> {
+    let all = found.all.as_slice();
+    let insertions = insertions_in(alloc, searched.lexed, all, searched.is_signed)?;
+    if let Some(reported) = first_of(alloc, searched, insertions.as_slice(), effort)? {
+        return Ok(Some(reported));
+    }
+    let likeliest = likeliest_part(alloc, searched, found.least.as_slice(), effort)?;
+    if let Some(reported) = likeliest {
+        if reported.is_change() {
+            return Ok(likeliest);
+        }
+    }
+    let clauses = if all.is_empty() { sides } else { all };
+    let exchanges = pattern_exchanges_in(alloc, searched.lexed, clauses)?;
+    match first_of(alloc, searched, exchanges.as_slice(), effort)? {
+        Some(reported) => Ok(Some(reported)),
+        None => Ok(likeliest),
+    }
+}
+
+/// Returns what is reported of these parts: of the one with the most points, and of the last of several with as many.
+fn likeliest_part(
     alloc: Global,
     searched: &Searched<'_, '_>,
     parts: &[TermPart],

@@ -2,17 +2,21 @@
 ghost use Rattle.std.specs.Prelude.{◌≡◌, IfOk, IfSome, None, map};
 ghost use Rattle.std.specs.Arc.{arc_value};
 ghost use Rattle.hm_messages_trials.specs.Limits.{IsUsedUp};
-ghost use Rattle.hm_messages_trials.specs.Mends.{IsMend};
+ghost use Rattle.hm_messages_trials.specs.Mends.{IsExchange, IsMend};
 
 use crate::costs::{Effort, cost_of};
 use crate::culprits::{Searched, culprits};
-use crate::mends::{Mend, types_exchanged, types_if_left_out, types_with_pattern};
+use crate::mends::{
+    Mend, types_exchanged, types_if_left_out, types_with_insertion, types_with_pattern,
+};
 use crate::ranking::likeliest;
 use crate::reading::{TypeFault, read};
 use crate::trial::types_without;
 use hm_lex::Token;
-use hm_messages_changes::{Cut, Rebound, Reported, Span, binding_place, cut_of, part_of};
-use hm_messages_outline::{Lexed, Run, binding_at, names_in, one, right_sides};
+use hm_messages_changes::{
+    Cut, Insertion, Rebound, Reported, SourceRange, Span, binding_place, cut_of, part_of,
+};
+use hm_messages_outline::{Lexed, Run, binding_at, names_in, one, right_sides, signature_of};
 use hm_messages_types::Question;
 use hm_names::Fault;
 use hm_parse_grammar::Symbol;
@@ -35,7 +39,7 @@ fn likeliest_in(
 ) -> Result<Option<Reported>, AllocError> {
     let top = right_sides(alloc, searched.lexed.outline, definition)?;
     let found = culprits(alloc, searched, top.as_slice(), effort)?;
-    likeliest(alloc, searched, found.as_slice(), effort)
+    likeliest(alloc, searched, top.as_slice(), &found, effort)
 }
 
 /// Returns what is reported of a definition, by a search in this smaller source.
@@ -56,6 +60,7 @@ fn reported_in_cut(
         lexed: &lexed,
         definition: searched.definition,
         others: searched.others,
+        is_signed: searched.is_signed,
         cost: cost_of(source, lexed.outline),
     };
     let start = token_at(lexed.tokens, cut.definition);
@@ -145,15 +150,15 @@ fn pattern_mend(
     Ok(Some(Mend::Pattern(part)))
 }
 
-/// Returns two expressions, if the definition has a type with them exchanged.
-fn exchange_mend(
+/// Returns two parts, if the definition has a type with them exchanged.
+fn exchanged(
     alloc: Global,
     searched: &Searched<'_, '_>,
     first: Run,
     second: Run,
-) -> Result<Option<Mend>, AllocError>
-    ensures { IfOk result (λ found. IfSome found (IsMend searched.now.question.now.source.now searched.now.question.now.name.now
-        (map arc_value searched.now.question.now.imports.now) searched.now.definition.now)) }
+) -> Result<Option<(SourceRange, SourceRange)>, AllocError>
+    ensures { IfOk result (λ found. IfSome found (λ parts. IsExchange searched.now.question.now.source.now searched.now.question.now.name.now
+        (map arc_value searched.now.question.now.imports.now) searched.now.definition.now parts.0 parts.1)) }
 {
     let source = searched.question.source;
     let Some(first) = part_of(searched.lexed.tokens, first, source) else {
@@ -165,7 +170,75 @@ fn exchange_mend(
     if !types_exchanged(alloc, searched, first, second)? {
         return Ok(None);
     }
-    Ok(Some(Mend::Exchange(first, second)))
+    Ok(Some((first, second)))
+}
+
+/// Returns two expressions, if the definition has a type with them exchanged.
+fn exchange_mend(
+    alloc: Global,
+    searched: &Searched<'_, '_>,
+    first: Run,
+    second: Run,
+) -> Result<Option<Mend>, AllocError>
+    ensures { IfOk result (λ found. IfSome found (IsMend searched.now.question.now.source.now searched.now.question.now.name.now
+        (map arc_value searched.now.question.now.imports.now) searched.now.definition.now)) }
+{
+    match exchanged(alloc, searched, first, second)? {
+        Some((first, second)) => Ok(Some(Mend::Exchange(first, second))),
+        None => Ok(None),
+    }
+}
+
+/// Returns the sides of a `:`, if the definition has a type with them exchanged.
+fn sides_mend(
+    alloc: Global,
+    searched: &Searched<'_, '_>,
+    first: Run,
+    second: Run,
+) -> Result<Option<Mend>, AllocError>
+    ensures { IfOk result (λ found. IfSome found (IsMend searched.now.question.now.source.now searched.now.question.now.name.now
+        (map arc_value searched.now.question.now.imports.now) searched.now.definition.now)) }
+{
+    match exchanged(alloc, searched, first, second)? {
+        Some((first, second)) => Ok(Some(Mend::Sides(first, second))),
+        None => Ok(None),
+    }
+}
+
+/// Returns two patterns, if the definition has a type with them exchanged.
+fn patterns_mend(
+    alloc: Global,
+    searched: &Searched<'_, '_>,
+    first: Run,
+    second: Run,
+) -> Result<Option<Mend>, AllocError>
+    ensures { IfOk result (λ found. IfSome found (IsMend searched.now.question.now.source.now searched.now.question.now.name.now
+        (map arc_value searched.now.question.now.imports.now) searched.now.definition.now)) }
+{
+    match exchanged(alloc, searched, first, second)? {
+        Some((first, second)) => Ok(Some(Mend::Patterns(first, second))),
+        None => Ok(None),
+    }
+}
+
+/// Returns an expression, if the definition has a type with a text put in around it. Otherwise returns the expression, if the definition has a type with the
+/// hole in place of it.
+fn insertion_mend(
+    alloc: Global,
+    searched: &Searched<'_, '_>,
+    insertion: Insertion,
+    run: Run,
+) -> Result<Option<Mend>, AllocError>
+    ensures { IfOk result (λ found. IfSome found (IsMend searched.now.question.now.source.now searched.now.question.now.name.now
+        (map arc_value searched.now.question.now.imports.now) searched.now.definition.now)) }
+{
+    let Some(part) = part_of(searched.lexed.tokens, run, searched.question.source) else {
+        return Ok(None);
+    };
+    if types_with_insertion(alloc, searched, insertion, part)? {
+        return Ok(Some(Mend::Insertion(insertion, part)));
+    }
+    Ok(expression_mend(alloc, searched, run)?)
 }
 
 /// Returns an argument, if the definition has a type without it. Otherwise returns an expression around it, if the definition has a type with the hole in
@@ -202,6 +275,9 @@ fn confirmed(
         Reported::Pattern(run, around) => Ok(pattern_mend(alloc, searched, run, around)?),
         Reported::Exchange(first, second) => Ok(exchange_mend(alloc, searched, first, second)?),
         Reported::Removal(argument, around) => Ok(removal_mend(alloc, searched, argument, around)?),
+        Reported::Sides(first, second) => Ok(sides_mend(alloc, searched, first, second)?),
+        Reported::Patterns(first, second) => Ok(patterns_mend(alloc, searched, first, second)?),
+        Reported::Insertion(insertion, run) => Ok(insertion_mend(alloc, searched, insertion, run)?),
     }
 }
 
@@ -251,6 +327,7 @@ pub fn mend_of(
         lexed: &lexed,
         definition: fault.name.as_str(),
         others: others.as_slice(),
+        is_signed: signature_of(&lexed, binding.start).is_some(),
         cost: cost_of(question.source, lexed.outline),
     };
     if !effort.pays(searched.cost) {

@@ -15,9 +15,9 @@ returns c =
     let fault = c.args.found.now.fault.now in
     let mend = c.in-Some.mend in
     let placed = c.in-Some-reader_place.ensures.some in
-    let text = c.in_ok-note_text.field-0.items in
+    let text = c.in_ok-text.text.items in
     let told : IsStatedOf c.args.«module».now.paint page.file.now page.lines name imports c.as_str.result.now mend (reader_place c.other_of.result placed.0) text
-    = subst (λ (p : Place). IsStatedOf c.args.«module».now.paint page.file.now page.lines name imports c.as_str.result.now mend p text) placed.2 c.in_ok-note_text.ensures in
+    = subst (λ (p : Place). IsStatedOf c.args.«module».now.paint page.file.now page.lines name imports c.as_str.result.now mend p text) placed.2 c.in_ok-text.ensures in
     let named : IsStatedOf c.args.«module».now.paint page.file.now page.lines name imports fault.name mend (reader_place c.other_of.result placed.0) text
     = subst (λ (d : List ℕ). IsStatedOf c.args.«module».now.paint page.file.now page.lines name imports d mend (reader_place c.other_of.result placed.0) text) c.as_str.ensures told in
     inr (record {
