@@ -323,7 +323,7 @@ KINDS = [
         "No types fit this definition and those that refer back to it. All others that it refers to have types or signatures.\n"
         "module M where { f True = 1 ; f 'c' = 2 }\n"
         "                 ^\n"
-        "M.hs:1:33: note: 'f' has a type with another pattern here (up to 1:35)\n"
+        "M.hs:1:33: note: 'f' has a type if this pattern is '_' and its variables have every type (up to 1:35)\n"
         "module M where { f True = 1 ; f 'c' = 2 }\n"
         "                                ^^^\n"
         "errors: 1, skipped modules: 0\n",
@@ -336,7 +336,7 @@ KINDS = [
         "No types fit this definition and those that refer back to it. All others that it refers to have types or signatures.\n"
         "module M where { f :: Maybe Bool -> Bool ; f x = case x of { Just [y] -> z where { z = not y } ; Nothing -> True } }\n"
         "                                           ^\n"
-        "M.hs:1:67: note: 'f' has a type with another pattern here (up to 1:69)\n"
+        "M.hs:1:67: note: 'f' has a type if this pattern is '_' and its variables have every type (up to 1:69)\n"
         "module M where { f :: Maybe Bool -> Bool ; f x = case x of { Just [y] -> z where { z = not y } ; Nothing -> True } }\n"
         "                                                                  ^\n"
         "M.hs:1:18: note: 'f' has type 'Maybe [Bool] -> Bool' without this signature (up to 1:40)\n"
@@ -458,7 +458,7 @@ KINDS = [
         "module M where { f :: [Bool] -> [Bool] ; f xs = map not map not xs }",
         1,
         "M.hs:1:42: error: type error in 'f' [type]\n"
-        "This definition has no type, though everything that it refers to has one.\n"
+        "No types fit this definition and those that refer back to it. All others that it refers to have types or signatures.\n"
         "module M where { f :: [Bool] -> [Bool] ; f xs = map not map not xs }\n"
         "                                         ^\n"
         "M.hs:1:57: note: 'f' has a type with brackets around this (up to 1:66)\n"
@@ -471,7 +471,7 @@ KINDS = [
         "module M where { f :: Bool -> Bool ; f x = not x g :: Bool ; g = True }",
         1,
         "M.hs:1:38: error: type error in 'f' [type]\n"
-        "This definition has no type, though everything that it refers to has one.\n"
+        "No types fit this definition and those that refer back to it. All others that it refers to have types or signatures.\n"
         "module M where { f :: Bool -> Bool ; f x = not x g :: Bool ; g = True }\n"
         "                                     ^\n"
         "M.hs:1:50: note: 'f' has a type with ';' before this\n"
@@ -484,7 +484,7 @@ KINDS = [
         "module M where { f :: [(Bool, Char)] ; f = [(True, 'a') (False, 'b')] }",
         1,
         "M.hs:1:40: error: type error in 'f' [type]\n"
-        "This definition has no type, though everything that it refers to has one.\n"
+        "No types fit this definition and those that refer back to it. All others that it refers to have types or signatures.\n"
         "module M where { f :: [(Bool, Char)] ; f = [(True, 'a') (False, 'b')] }\n"
         "                                       ^\n"
         "M.hs:1:57: note: 'f' has a type with ',' before this\n"
@@ -497,7 +497,7 @@ KINDS = [
         "module M where { f :: (Bool, Char, Bool) ; f = (True, 'a' False) }",
         1,
         "M.hs:1:44: error: type error in 'f' [type]\n"
-        "This definition has no type, though everything that it refers to has one.\n"
+        "No types fit this definition and those that refer back to it. All others that it refers to have types or signatures.\n"
         "module M where { f :: (Bool, Char, Bool) ; f = (True, 'a' False) }\n"
         "                                           ^\n"
         "M.hs:1:59: note: 'f' has a type with ',' before this\n"
@@ -510,7 +510,7 @@ KINDS = [
         "module M where { f :: [a] -> a -> [a] ; f xs x = concat (xs : x : []) }",
         1,
         "M.hs:1:41: error: type error in 'f' [type]\n"
-        "This definition has no type, though everything that it refers to has one.\n"
+        "No types fit this definition and those that refer back to it. All others that it refers to have types or signatures.\n"
         "module M where { f :: [a] -> a -> [a] ; f xs x = concat (xs : x : []) }\n"
         "                                        ^\n"
         "M.hs:1:63: note: 'f' has a type with '[' and ']' around this (up to 1:63)\n"
@@ -526,7 +526,7 @@ KINDS = [
         "module M where { f :: [a] -> [a] ; f [] = [] ; f (x : xs) = f xs : x }",
         1,
         "M.hs:1:36: error: type error in 'f' [type]\n"
-        "This definition has no type, though everything that it refers to has one.\n"
+        "No types fit this definition and those that refer back to it. All others that it refers to have types or signatures.\n"
         "module M where { f :: [a] -> [a] ; f [] = [] ; f (x : xs) = f xs : x }\n"
         "                                   ^\n"
         "M.hs:1:61: note: 'f' has a type with this side of ':' and the one at 1:68 exchanged\n"
@@ -539,7 +539,7 @@ KINDS = [
         "module M where { f :: [Bool] -> Int ; f = foldr (\\n b -> if b then n else 0) 0 }",
         1,
         "M.hs:1:39: error: type error in 'f' [type]\n"
-        "This definition has no type, though everything that it refers to has one.\n"
+        "No types fit this definition and those that refer back to it. All others that it refers to have types or signatures.\n"
         "module M where { f :: [Bool] -> Int ; f = foldr (\\n b -> if b then n else 0) 0 }\n"
         "                                      ^\n"
         "M.hs:1:51: note: 'f' has a type with this pattern and the one at 1:53 exchanged\n"
@@ -552,7 +552,7 @@ KINDS = [
         "module M where { f :: Bool -> Int -> Int ; f n b = if b then n else 0 }",
         1,
         "M.hs:1:44: error: type error in 'f' [type]\n"
-        "This definition has no type, though everything that it refers to has one.\n"
+        "No types fit this definition and those that refer back to it. All others that it refers to have types or signatures.\n"
         "module M where { f :: Bool -> Int -> Int ; f n b = if b then n else 0 }\n"
         "                                           ^\n"
         "M.hs:1:46: note: 'f' has a type with this pattern and the one at 1:48 exchanged\n"
@@ -568,7 +568,7 @@ KINDS = [
         "module M where { f :: [Bool] -> Bool ; f xs = foldr (\\x y -> x) xs }",
         1,
         "M.hs:1:40: error: type error in 'f' [type]\n"
-        "This definition has no type, though everything that it refers to has one.\n"
+        "No types fit this definition and those that refer back to it. All others that it refers to have types or signatures.\n"
         "module M where { f :: [Bool] -> Bool ; f xs = foldr (\\x y -> x) xs }\n"
         "                                       ^\n"
         "M.hs:1:47: note: 'f' has a type with one more argument after this (up to 1:63)\n"
@@ -587,7 +587,7 @@ KINDS = [
         "No types fit this definition and those that refer back to it. All others that it refers to have types or signatures.\n"
         "module M where { f :: [Bool] -> [Bool] ; f = map (\\[x] -> not x) }\n"
         "                                         ^\n"
-        "M.hs:1:52: note: 'f' has a type with another pattern here (up to 1:54)\n"
+        "M.hs:1:52: note: 'f' has a type if this pattern is '_' and its variables have every type (up to 1:54)\n"
         "module M where { f :: [Bool] -> [Bool] ; f = map (\\[x] -> not x) }\n"
         "                                                   ^\n"
         "M.hs:1:18: note: 'f' has type '[[Bool]] -> [Bool]' without this signature (up to 1:38)\n"

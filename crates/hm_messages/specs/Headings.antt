@@ -125,7 +125,7 @@ expression_title x p = codes "'" ++ x ++ codes "' has a type with another expres
 
 -- what is said of a pattern that ends at this place
 abbrev pub pattern_title : List ℕ → Place → List ℕ
-pattern_title x p = codes "'" ++ x ++ codes "' has a type with another pattern here (up to " ++ decimal p.line ++ codes ":" ++ decimal p.column ++ codes ")"
+pattern_title x p = codes "'" ++ x ++ codes "' has a type if this pattern is '_' and its variables have every type (up to " ++ decimal p.line ++ codes ":" ++ decimal p.column ++ codes ")"
 
 -- what is said of an expression that changes places with the one at this place
 abbrev pub exchange_title : List ℕ → Place → List ℕ

@@ -64,7 +64,9 @@ fn both_text(
         module: other_module,
         name: other_name,
     } = other.origin;
-    format!(in alloc; ": '{name}' of module '{module}' or '{other_name}' of module '{other_module}'")
+    format!(in alloc;
+        ": '{name}' of module '{module}' or '{other_name}' of module '{other_module}'"
+    )
 }
 
 /// Returns the text about the line of an import.

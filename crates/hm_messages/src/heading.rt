@@ -61,7 +61,9 @@ fn pattern_title(alloc: Global, name: &str, end: Place) -> Result<String, AllocE
     ensures { IfOk result (λ text. string_bytes text ≡ pattern_title_bytes name.now end) }
 {
     let Place { line, column } = end;
-    format!(in alloc; "'{name}' has a type with another pattern here (up to {line}:{column})")
+    format!(in alloc;
+        "'{name}' has a type if this pattern is '_' and its variables have every type (up to {line}:{column})"
+    )
 }
 
 /// Returns the text about an expression that is exchanged with the one at this place.
