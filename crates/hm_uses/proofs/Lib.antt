@@ -1,0 +1,9 @@
+mod AllFound
+mod Complete
+pub mod Existence
+mod Faults
+mod Others
+mod Rows
+mod Senses
+mod Sound
+mod Written
