@@ -2,7 +2,7 @@
 """Runs the program, and tests of single calls, with each of their allocations refused in turn.
 
 `refuse_allocations.py [--program PROGRAM] [--tests TESTS..]`: without words, the proved program beside this folder; with TESTS, the tests
-of the crates `test_calls` and `test_builds` too whose names are `refused::..` (`crates/NAME/out/NAME_tests`, after `rt ci`). A run of the
+of the crates `test_calls`, `test_builds` and `test_uses` too whose names are `refused::..` (`crates/NAME/out/NAME_tests`, after `rt ci`). A run of the
 program, with 1 and with 4 workers, must print the right text and end with the right status, or print nothing, say `hmc: no memory` and
 end with 3, or, where a thread could not be started, say `hmc: no worker` and end with 6. With messages, for readers and for programs, it may also
 leave the note of a type fault out, or its types, or name the module whose check was refused before it says `hmc: no memory`. Of a set whose types grow, the first,
@@ -65,7 +65,7 @@ ERRORS = {
     'error: "no reader"': "no reader",
 }
 # The tests that must be there.
-TESTS = ["parse", "scope", "check_module", "new_store", "shared", "publish", "audit", "report", "journal_text"]
+TESTS = ["parse", "scope", "check_module", "new_store", "shared", "publish", "audit", "report", "journal_text", "declaration_uses"]
 DOUBLING = b"module A where { a x = (x, x) ; b x = a (a x) ; c x = b (b x) ; d x = c (c x) ; e x = d (d x) }"
 
 

@@ -1,0 +1,4 @@
+mod DeclaredTexts
+mod Meant
+pub mod Steps
+mod Tables

@@ -1,0 +1,5 @@
+//! Tests of the uses of names.
+#![tactic(auto)]
+
+#[cfg(test)]
+mod refused;
