@@ -1,0 +1,4 @@
+pub mod Objects
+pub mod Stating
+pub mod TypeTexts
+pub mod Worked
