@@ -1,7 +1,7 @@
 #!/usr/bin/env python3
 """Goes through a newcomer's first hour in a fresh clone of the last commit, and prints what each step takes.
 
-`newcomer.py` follows README.md: the clone, the first answer, a file with layout and its repair, a link on the PATH, the
+`newcomer.py` follows README.md: the clone, the first answer, a file with layout and its repair, a link on the PATH, the objects for programs, the
 grading of submissions, and a program that embeds the checker. It ends with 1 at the first step that doesn't end as README.md says. The two builds
 take some minutes. The machine should do nothing else.
 """
@@ -45,6 +45,7 @@ def main():
         link.parent.mkdir()
         link.symlink_to(hmc)
         step("all files of a folder, by a link on the PATH", [str(link), "--explain", "."], mine, 0, "1 modules: 1 good")
+        step("the report as objects", [str(link), "--report-format", "json", "."], mine, 0, '"verdict":"good"')
         step("what the program is", [str(link), "--version"], mine, 0, "NOT PROVED")
         grading = examples / "grading"
         step("five submissions graded", [sys.executable, "grade.py", hmc, "Check.hs", "submissions"], grading, 0, "ada")

@@ -175,6 +175,11 @@ ROWS = {
         "",
     ),
     "messages of a plan": (["--plan", "--explain"], A + B, 0, PLAN, ""),
+    "messages of a refused plan": (["--plan", "-e", "a.hs"], "", 2, "refused: module A imports missing B\n", MISSING + "errors: 1, skipped modules: 0\n"),
+    "messages of a plan of two faulty sources": (["--plan", "-e", "bad.hs", "b.hs", "-"], "module D where { z = # }", 2, "refused: source 1 at 1:18: syntax\n", TWO_FAULTS),
+    "messages of a plan, quiet": (["--plan", "-eq", "a.hs"], "", 2, "", MISSING + "errors: 1, skipped modules: 0\n"),
+    "objects of a plan": (["--plan", "--message-format", "json", "a.hs", "b.hs"], "", 0, PLAN, '{"errors":0,"level":"end","skipped":0}\n'),
+    "messages of a plan of no such file": (["--plan", "-e", "none.hs"], "", 4, "", cannot_open("none.hs")),
     "messages of no such file": (["--explain", "none.hs"], "", 4, "", cannot_open("none.hs")),
     "a name for standard input": (
         ["--explain", "--stdin-name", "B.hs"],
@@ -225,6 +230,12 @@ ROWS = {
     "a list without an end": (["@/dev/zero"], "", 4, "", cannot_open("/dev/zero", NO_LIST)),
     "a list that names no such file": (["@listed"], "", 4, "", cannot_open("@nothing.hs")),
     "a file whose name begins with @": (["--plan", "./@at.hs"], "", 0, "module B\n1 modules\n", ""),
+    "a report as objects of nothing": (["--report-format", "json"], "", 0, '{"faulty":0,"good":0,"kind":"end","modules":0,"skipped":0}\n', ""),
+    "a report as text": (["--report-format=text", "--jobs", "1", "--journal"], BEHIND, 0, JOURNAL, ""),
+    "a report as objects without its journal": (["--report-format", "json", "--journal"], "", 0, '{"faulty":0,"good":0,"kind":"end","modules":0,"skipped":0}\n', ""),
+    "a report as objects of no such file": (["--report-format", "json", "none.hs"], "", 4, "", cannot_open("none.hs")),
+    "a plan in place of objects": (["--report-format", "json", "--plan", "a.hs", "b.hs"], "", 0, PLAN, ""),
+    "a report in no such format": (["--report-format", "xml", "a.hs"], "", 2, "", None),
     "a format alone": (["--message-format", "human", "pair.hs", "twice.hs", "user.hs"], "", 1, EXAMPLE, ""),
     "a format that isn't there": (["--message-format", "xml", "a.hs"], "", 2, "", None),
     "objects of a folder": (["--message-format", "json", "folder"], "", 4, "", FOLDER),
@@ -530,9 +541,10 @@ def main():
             runs.append(("the version on a full device", run(folder, ["--version"], "", stdout=full), (4, "", "hmc: write fault\n")))
             runs.append(("a refusal on a full device", run(folder, ["bad.hs"], "", stdout=full), (4, "", "hmc: write fault\n")))
             runs.append(("a journal on a full device", run(folder, ["--journal", "a.hs", "b.hs"], "", stdout=full), (4, "", "hmc: write fault\n")))
+            runs.append(("objects on a full device", run(folder, ["--report-format", "json", "a.hs", "b.hs"], "", stdout=full), (4, "", "hmc: write fault\n")))
             runs.append(("words that are refused, on a full device", run(folder, ["--nothing"], "", stdout=full), (2, "", None)))
         closed = lambda: os.close(1)
-        for name, words in (("a plan", ["--plan"]), ("help", ["--help"]), ("a plan of a file", ["--plan", "b.hs"]), ("a check", ["--jobs", "2"]), ("the version", ["--version"])):
+        for name, words in (("a plan", ["--plan"]), ("help", ["--help"]), ("a plan of a file", ["--plan", "b.hs"]), ("a check", ["--jobs", "2"]), ("objects", ["--report-format", "json"]), ("the version", ["--version"])):
             runs.append((name + " on a closed output", run(folder, words, B, before=closed), (4, "", "hmc: write fault\n")))
         errors_closed = lambda: os.close(2)
         runs.append(

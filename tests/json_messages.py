@@ -19,12 +19,12 @@ FILE = "M.hs"
 HEADING = re.compile(r"^(?P<file>[^:\n]*):(?P<line>\d+):(?P<column>\d+): (?P<level>error|note): (?P<text>.*?)(?: \[(?P<kind>[a-z-]+)\])?$", re.MULTILINE)
 # More type faults than a run has trials for.
 LIMIT = "module M where {\n" + " ;\n".join(f"f{n} = not 'c'" for n in range(2000)) + "\n}\n"
-TYPES = {"object": dict, "string": str, "integer": int, "null": type(None)}
+TYPES = {"object": dict, "array": list, "string": str, "integer": int, "boolean": bool, "null": type(None)}
 
 
 def differs(value, schema, root, at="line"):
-    """Why the value isn't of this schema, or nothing. It reads the words of JSON schemas that message.schema.json has, and refuses others."""
-    left = set(schema) - {"$schema", "title", "$defs", "$ref", "oneOf", "type", "minimum", "enum", "properties", "required", "additionalProperties"}
+    """Why the value isn't of this schema, or nothing. It reads the words of JSON schemas that those of this folder have, and refuses others."""
+    left = set(schema) - {"$schema", "title", "$defs", "$ref", "oneOf", "type", "minimum", "enum", "items", "properties", "required", "additionalProperties"}
     if left:
         return f"{at}: the schema has {sorted(left)}"
     if "$ref" in schema:
@@ -37,8 +37,11 @@ def differs(value, schema, root, at="line"):
         return f"{at}: {value!r} is no {types}"
     if "enum" in schema and value not in schema["enum"]:
         return f"{at}: {value!r} is none of {schema['enum']}"
-    if "minimum" in schema and value < schema["minimum"]:
+    if "minimum" in schema and value is not None and value < schema["minimum"]:
         return f"{at}: {value} is less than {schema['minimum']}"
+    for number, each in enumerate(value if "items" in schema else []):
+        if why := differs(each, schema["items"], root, f"{at}.{number}"):
+            return why
     if "properties" in schema:
         if lacking := set(schema["required"]) - set(value):
             return f"{at}: no {sorted(lacking)}"

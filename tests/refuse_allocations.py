@@ -156,15 +156,18 @@ def ending(ran, status, report):
 
 def refuse_in_program(refusing, program):
     sets = [
-        ("imported", IMPORTED, 0, IMPORTED_REPORT, False),
-        ("skipped", SKIPPED, 1, SKIPPED_REPORT, False),
-        ("doubling", DOUBLING, 0, doubling_report(), True),
+        ("imported", [], IMPORTED, 0, IMPORTED_REPORT, False),
+        ("skipped", [], SKIPPED, 1, SKIPPED_REPORT, False),
+        ("doubling", [], DOUBLING, 0, doubling_report(), True),
+        ("objects", ["--report-format", "json"], SKIPPED, 1, None, False),
     ]
     well = True
-    for name, source, status, report, doubles in sets:
+    for name, more, source, status, report, doubles in sets:
         for workers in ("1", "4"):
-            words = [program, "--jobs", workers]
-            first = ending(refusing.run(words, source, 0), status, report)
+            words = [program, "--jobs", workers, *more]
+            ran = refusing.run(words, source, 0)
+            report = report or ran.stdout
+            first = ending(ran, status, report)
             total = refusing.total()
             found = collections.Counter()
             for number, ran in refusing.runs(words, source, numbers(total, doubles)):

@@ -87,8 +87,8 @@ pub mod store {
 /// Builds by several threads, and runs from readers to a writer.
 pub mod build {
     pub use hm_build::{
-        BuildFault, Explain, Explaining, Finished, Gate, Open, Options, Outputs, build,
-        journal_text, report, run, run_explained,
+        BuildFault, Explain, Explaining, Finished, Gate, Listing, Open, Options, Outputs, build,
+        journal_text, report, run, run_explained, run_listed,
     };
     pub use hm_messages::Paint;
     pub use hm_run_io::{RunFault, Watched};

@@ -1,6 +1,7 @@
 //! The result of a run before it is written: a text, a status and messages.
 ghost use Rattle.std.specs.Prelude.{◌≡◌, ◌⊎◌, ◌<◌, ◌≤◌, None, IfOk, IfErr, IfSome, map, string_bytes};
 ghost use Rattle.hm_build_messages.specs.Explained.{IsExplained, StatesExhaustion};
+ghost use Rattle.hm_build_listing.specs.Listed.{IsListed};
 ghost use Rattle.hm_build_output.specs.JournalledRuns.{IsRun};
 
 use crate::building::{Task, build_here};
@@ -78,6 +79,8 @@ pub(crate) fn build_answer<'a, T: Threads + Wait + Sync>(
     ensures told { IfOk result (λ a. IfSome run_options.now.explain (λ e.
         IsExplained e.paint (map (λ s. s.items) e.names.items) (map (λ s.
         s.items) sources.now) a.answer.status (string_bytes a.answer.text) a.messages.items)) }
+    ensures listed { IfOk result (λ a. IfSome run_options.now.listed (λ names. IsListed (map string_bytes names.items) (map (λ s.
+        s.items) sources.now) a.answer.status (string_bytes a.answer.text) (string_bytes a.listing))) }
     ensures err { IfErr result (λ e. (e.fault ≡ RunFault.Memory) ⊎ ((e.fault ≡ RunFault.NoWorker) ⊎ (e.fault ≡ RunFault.Mixed))) }
     ensures exhausted { IfErr result (λ e. IfSome e.message (λ m. IfSome run_options.now.explain (λ x.
         StatesExhaustion x.paint (map (λ s. s.items) x.names.items) (map (λ s. s.items) sources.now) m.items))) }

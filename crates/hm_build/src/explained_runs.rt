@@ -107,7 +107,12 @@ pub fn run_explained<T: Threads + Wait + Sync, R: Read, W: Write, E: Write>(
     let Explaining { options, explain } = run_options;
     let explain = Some(explain);
     let mut note = None;
-    let run_options = RunOptions { options, explain };
+    let listed = None;
+    let run_options = RunOptions {
+        options,
+        explain,
+        listed,
+    };
     let explained = match read_and_check(rt, alloc, readers, run_options, &mut note) {
         Ok(explained) => explained,
         Err(fault) => {

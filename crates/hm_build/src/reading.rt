@@ -1,6 +1,7 @@
 //! Reads sources and checks them. Writing the result is left to the callers.
 ghost use Rattle.std.specs.Prelude.{◌≡◌, ◌<◌, ◌⊎◌, ◌↔◌, ℕ, List, None, All, Any, IfOk, IfErr, IfSome, IsErrOf, OnOk, map, string_bytes};
 ghost use Rattle.hm_build_messages.specs.Explained.{IsExplained, StatesExhaustion};
+ghost use Rattle.hm_build_listing.specs.Listed.{IsListed};
 ghost use Rattle.hm_build_output.specs.JournalledRuns.{IsRun};
 ghost use Rattle.hm_run_io.specs.Sources.{AreReadUp, Stops, StopsAtFault, Tell, held_of};
 ghost use Rattle.hm_run_io.specs.Watching.{device_of, failures_of, HasReadFault, IsFresh, IsReadWithin};
@@ -34,6 +35,8 @@ pub(crate) fn read_and_check<T: Threads + Wait + Sync, R: Read>(
     ensures told { IfOk result (λ a. (sources : List (List ℕ)) → Tell (λ r. R.remaining (device_of r)) readers.old sources
         → IfSome run_options.explain (λ e. IsExplained e.paint (map (λ s.
         s.items) e.names.items) (map held_of sources) a.answer.status (string_bytes a.answer.text) a.messages.items)) }
+    ensures listed { IfOk result (λ a. (sources : List (List ℕ)) → Tell (λ r. R.remaining (device_of r)) readers.old sources
+        → IfSome run_options.listed (λ names. IsListed (map string_bytes names.items) (map held_of sources) a.answer.status (string_bytes a.answer.text) (string_bytes a.listing))) }
     ensures exhausted { IfSome note.new (λ m. (sources : List (List ℕ)) → Tell (λ r. R.remaining (device_of r)) readers.old sources
         → IfSome run_options.explain (λ e. StatesExhaustion e.paint (map (λ s. s.items) e.names.items) (map held_of sources) m.items)) }
     ensures silent { IsErrOf result RunFault.Memory ⊎ (note.new ≡ None) }

@@ -85,7 +85,11 @@ pub fn run<T: Threads + Wait + Sync, R: Read, W: Write>(
         rt,
         alloc,
         readers,
-        RunOptions { options, explain },
+        RunOptions {
+            options,
+            explain,
+            listed: None,
+        },
         &mut note,
     )?;
     write_text(writer, explained.answer.text.as_bytes())?;

@@ -1,6 +1,7 @@
 //! Runs a build on a thread whose stack is large enough for the source that nests deepest.
 ghost use Rattle.std.specs.Prelude.{◌≡◌, ◌⊎◌, ◌<◌, ◌≤◌, None, IfErr, IfOk, IfSome, map, string_bytes};
 ghost use Rattle.hm_build_messages.specs.Explained.{IsExplained, StatesExhaustion};
+ghost use Rattle.hm_build_listing.specs.Listed.{IsListed};
 ghost use Rattle.hm_build_output.specs.JournalledRuns.{IsRun};
 
 use crate::answers::{Unanswered, build_answer};
@@ -24,10 +25,11 @@ struct RunOf {
 impl Promise<Result<Explained, Unanswered>> for RunOf {
     ghost use Rattle.std.specs.Prelude.{◌≡◌, ◌⊎◌, None, IfErr, IfOk, IfSome, map, string_bytes};
     ghost use Rattle.hm_build_messages.specs.Explained.{IsExplained, StatesExhaustion};
+    ghost use Rattle.hm_build_listing.specs.Listed.{IsListed};
     ghost use Rattle.hm_build_output.specs.JournalledRuns.{IsRun};
     ghost use Rattle.hm_run_io.specs.declared.faults.RunFault.TheVariants.{Memory, NoWorker, Mixed};
 
-    ghost kept_by = { λ p r. IfOk r (λ a. IsRun p.run_options.value.options.workers p.run_options.value.options.journal (map (λ s. s.items) p.sources.value.items) a.answer.status (string_bytes a.answer.text)) × (IfOk r (λ a. IfSome p.run_options.value.explain (λ e. IsExplained e.paint (map (λ s. s.items) e.names.items) (map (λ s. s.items) p.sources.value.items) a.answer.status (string_bytes a.answer.text) a.messages.items)) × (IfErr r (λ e. (e.fault ≡ Memory) ⊎ ((e.fault ≡ NoWorker) ⊎ (e.fault ≡ Mixed))) × (IfErr r (λ e. IfSome e.message (λ m. IfSome p.run_options.value.explain (λ x. StatesExhaustion x.paint (map (λ s. s.items) x.names.items) (map (λ s. s.items) p.sources.value.items) m.items))) × IfErr r (λ e. (e.fault ≡ Memory) ⊎ (e.message ≡ None))))) };
+    ghost kept_by = { λ p r. IfOk r (λ a. IsRun p.run_options.value.options.workers p.run_options.value.options.journal (map (λ s. s.items) p.sources.value.items) a.answer.status (string_bytes a.answer.text)) × (IfOk r (λ a. IfSome p.run_options.value.explain (λ e. IsExplained e.paint (map (λ s. s.items) e.names.items) (map (λ s. s.items) p.sources.value.items) a.answer.status (string_bytes a.answer.text) a.messages.items)) × (IfOk r (λ a. IfSome p.run_options.value.listed (λ names. IsListed (map string_bytes names.items) (map (λ s. s.items) p.sources.value.items) a.answer.status (string_bytes a.answer.text) (string_bytes a.listing))) × (IfErr r (λ e. (e.fault ≡ Memory) ⊎ ((e.fault ≡ NoWorker) ⊎ (e.fault ≡ Mixed))) × (IfErr r (λ e. IfSome e.message (λ m. IfSome p.run_options.value.explain (λ x. StatesExhaustion x.paint (map (λ s. s.items) x.names.items) (map (λ s. s.items) p.sources.value.items) m.items))) × IfErr r (λ e. (e.fault ≡ Memory) ⊎ (e.message ≡ None)))))) };
 }
 
 /// Returns what `build_answer` returns, from a new thread with a large stack.
@@ -43,6 +45,8 @@ pub(crate) fn build_answer_on_thread<T: Threads + Wait + Sync>(
     ensures told { IfOk result (λ a. IfSome run_options.explain (λ e.
         IsExplained e.paint (map (λ s. s.items) e.names.items) (map (λ s.
         s.items) sources.items) a.answer.status (string_bytes a.answer.text) a.messages.items)) }
+    ensures listed { IfOk result (λ a. IfSome run_options.listed (λ names. IsListed (map string_bytes names.items) (map (λ s.
+        s.items) sources.items) a.answer.status (string_bytes a.answer.text) (string_bytes a.listing))) }
     ensures err { IfErr result (λ e. (e.fault ≡ RunFault.Memory) ⊎ ((e.fault ≡ RunFault.NoWorker) ⊎ (e.fault ≡ RunFault.Mixed))) }
     ensures exhausted { IfErr result (λ e. IfSome e.message (λ m. IfSome run_options.explain (λ x.
         StatesExhaustion x.paint (map (λ s. s.items) x.names.items) (map (λ s. s.items) sources.items) m.items))) }
@@ -58,6 +62,8 @@ pub(crate) fn build_answer_on_thread<T: Threads + Wait + Sync>(
             ensures told { IfOk result (λ a. IfSome run_options.explain (λ e.
                 IsExplained e.paint (map (λ s. s.items) e.names.items) (map (λ s.
                 s.items) sources.items) a.answer.status (string_bytes a.answer.text) a.messages.items)) }
+            ensures listed { IfOk result (λ a. IfSome run_options.listed (λ names. IsListed (map string_bytes names.items) (map (λ s.
+                s.items) sources.items) a.answer.status (string_bytes a.answer.text) (string_bytes a.listing))) }
             ensures err { IfErr result (λ e. (e.fault ≡ RunFault.Memory) ⊎ ((e.fault ≡ RunFault.NoWorker) ⊎ (e.fault ≡ RunFault.Mixed))) }
             ensures exhausted { IfErr result (λ e. IfSome e.message (λ m. IfSome run_options.explain (λ x.
                 StatesExhaustion x.paint (map (λ s. s.items) x.names.items) (map (λ s. s.items) sources.items) m.items))) }

@@ -19,6 +19,14 @@ use Rattle.hm_build_reports.specs.FinishedBuilds.{IsFinished}
 use Rattle.hm_build_output.specs.JournalledRuns.{IsRun}
 use Rattle.hm_build_messages.specs.declared.options.Explain.{Explain}
 use Rattle.hm_build_reports.specs.Journals.{journal_text}
+use Rattle.std.specs.Prelude.{string_bytes}
+use Rattle.std.specs.Global.{Global, Vec}
+use Rattle.std.specs.declared.string.String.{String}
+use Rattle.hm_run_sources.specs.ModuleCounts.{AreCountedModules, AreOrigins}
+use Rattle.hm_run_sources.proofs.ModuleCounts.{have_origins}
+use Rattle.hm_build_listing.specs.Listings.{IsListing, file_of}
+use Rattle.hm_build_listing.specs.Listed.{IsListed, ListsReport}
+use Rattle.hm_build_listing.specs.Refusals.{refusal_object_text}
 
 pub stated_to : {X E : Type 0} (answer : Result X E) (old new : Option (List ℕ)) (messages : List ℕ) (failed : Type 0) → OnOk answer (Appends old new messages) → OnErr answer (WritesPrefix old new messages) → OnErr answer failed → IsStatedTo old new messages failed
 stated_to (Ok x) old new messages failed all part cause = inl all
@@ -67,3 +75,45 @@ pub all_refused : (explain : Option Explain) (sources : List (List ℕ)) (refusa
     → IfSome explain (λ e. IsExplained e.paint (map (λ s. s.items) e.names.items) sources status text messages)
 all_refused None sources refusal status text messages is says told = tt
 all_refused (Some e) sources refusal status text messages is says told = subst (λ s. IsExplained e.paint (map (λ s. s.items) e.names.items) sources s text messages) (sym is) (refusal, says, told)
+
+-- the listing of a finished build has the verdicts of its report
+pub lists : (names sources : List (List ℕ)) (b : Build) (records : List Record) (workers : ℕ) (journal : Bool) (counts : List ℕ) (status : Status) (text listing : List ℕ) → HasReport b journal text → (status ≡ Good) ⊎ (status ≡ Faulty)
+    → IsFinished sources workers b records → AreCountedModules sources b.modules counts → ((origins : List ℕ) × AreOrigins counts origins × IsListing (file_of names origins) (set_of b) (settlement b) listing) → IsListed names sources status text listing
+lists names sources b records workers journal counts status text listing h either f counted l =
+    let behind = behind_is b journal h.report text h.behind in
+    let listed : ListsReport names sources text listing = record {
+      set = set_of b;
+      settled = settlement b;
+      read = f.read;
+      report = h.report;
+      behind = behind.0;
+      verdicts = λ i k. settled_verdict (set_of b) f.legal.lawful (settlement b) (settled_build b f.legal f.settled) i k;
+      reported = h.reported;
+      whole = behind.1;
+      origins = l.0;
+      sourced = have_origins sources b.modules counts l.0 counted l.1;
+      listed = l.2;
+    } in
+    ⊎_elim (λ e. subst (λ s. IsListed names sources s text listing) (sym e) listed) (λ e. subst (λ s. IsListed names sources s text listing) (sym e) listed) either
+
+-- and so where it is asked for
+pub all_listed : (wanted : Option (Vec (String Global))) (sources : List (List ℕ)) (b : Build) (records : List Record) (workers : ℕ) (journal : Bool) (counts : List ℕ) (status : Status) (text listing : List ℕ) → HasReport b journal text → (status ≡ Good) ⊎ (status ≡ Faulty)
+    → IsFinished sources workers b records → AreCountedModules sources b.modules counts
+    → IfSome wanted (λ names. (origins : List ℕ) × AreOrigins counts origins × IsListing (file_of (map string_bytes names.items) origins) (set_of b) (settlement b) listing)
+    → IfSome wanted (λ names. IsListed (map string_bytes names.items) sources status text listing)
+all_listed None sources b records workers journal counts status text listing h either f counted l = tt
+all_listed (Some names) sources b records workers journal counts status text listing h either f counted l = lists (map string_bytes names.items) sources b records workers journal counts status text listing h either f counted l
+
+-- the listing of a refused set says its refusal
+pub refused_listed : (wanted : Option (Vec (String Global))) (sources : List (List ℕ)) (refusal : Refusal) (status : Status) (text listing : List ℕ) → IsRefusalOf sources refusal → status ≡ Refused → text ≡ refusal_text refusal
+    → IfSome wanted (λ names. listing ≡ refusal_object_text refusal) → IfSome wanted (λ names. IsListed (map string_bytes names.items) sources status text listing)
+refused_listed None sources refusal status text listing because is says l = tt
+refused_listed (Some names) sources refusal status text listing because is says l = subst (λ s. IsListed (map string_bytes names.items) sources s text listing) (sym is) (refusal, says, because, l)
+
+-- the listing of a build for the names that are asked for
+pub wanted_listing : (wanted : Option (Vec (String Global))) (names : Vec (String Global)) (slice : List (String Global)) (counts : List ℕ) (b : Build) (listing : List ℕ) → wanted ≡ Some names → slice ≡ names.items
+    → ((origins : List ℕ) × AreOrigins counts origins × IsListing (file_of (map string_bytes slice) origins) (set_of b) (settlement b) listing)
+    → IfSome wanted (λ names. (origins : List ℕ) × AreOrigins counts origins × IsListing (file_of (map string_bytes names.items) origins) (set_of b) (settlement b) listing)
+wanted_listing wanted names slice counts b listing is same l =
+    subst (λ w. IfSome w (λ names. (origins : List ℕ) × AreOrigins counts origins × IsListing (file_of (map string_bytes names.items) origins) (set_of b) (settlement b) listing)) (sym is)
+    (subst (λ (s : List (String Global)). (origins : List ℕ) × AreOrigins counts origins × IsListing (file_of (map string_bytes s) origins) (set_of b) (settlement b) listing) same l)

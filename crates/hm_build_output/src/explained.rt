@@ -5,10 +5,12 @@ ghost use Rattle.hm_run_sources.specs.Origins.{AreHeadersFor};
 ghost use Rattle.hm_run_sources.specs.Runs.{IsRefusalOf};
 ghost use Rattle.hm_store.specs.declared.record.Record.{Record};
 ghost use Rattle.hm_build_reports.specs.FinishedBuilds.{IsFinished};
+ghost use Rattle.hm_build_listing.specs.Listed.{IsListed};
 ghost use Rattle.hm_build_output.specs.JournalledRuns.{IsRun};
 ghost use Rattle.hm_run_sources.specs.ModuleCounts.{AreCountedModules};
 
 use crate::answers::finished_answer;
+use crate::listed::{finished_listing, refused_listing};
 use crate::options::RunOptions;
 use hm_build_messages::{BuildView, Explain, explanation, refused_set_messages, starts_of};
 use hm_build_reports::{settled_in, skipped_in};
@@ -18,11 +20,12 @@ use hm_store::Store;
 use hm_types_prelude::SharedPrelude;
 use std::alloc::{AllocError, Global};
 
-/// The text and the status of a run, and its messages. There are none if faults aren't explained.
+/// The text and the status of a run, its messages, and its report as JSON objects. There are none of these if they aren't requested.
 #[derive(Drop)]
 pub struct Explained {
     pub answer: Answer,
     pub messages: Vec<u8>,
+    pub listing: String,
 }
 
 /// Returns the messages of a finished build. `counts` has the number of modules of each source.
@@ -77,10 +80,18 @@ pub fn finished_explained<'a>(
     ensures told { IfOk result (λ a. (records : List Record) (workers : ℕ) → IsFinished (map (λ s. s.items) sources.now) workers store.now records
         → IfSome run_options.now.explain (λ e. IsExplained e.paint (map (λ s. s.items) e.names.items) (map (λ s.
         s.items) sources.now) a.answer.status (string_bytes a.answer.text) a.messages.items)) }
+    ensures listed { IfOk result (λ a. (records : List Record) (workers : ℕ) → IsFinished (map (λ s. s.items) sources.now) workers store.now records
+        → IfSome run_options.now.listed (λ names. IsListed (map string_bytes names.items) (map (λ s.
+        s.items) sources.now) a.answer.status (string_bytes a.answer.text) (string_bytes a.listing))) }
 {
     let answer = finished_answer(alloc, store, run_options.options.journal)?;
+    let listing = finished_listing(alloc, store, counts, run_options)?;
     let messages = finished_messages(alloc, store, counts, sources, run_options)?;
-    Ok(Explained { answer, messages })
+    Ok(Explained {
+        answer,
+        messages,
+        listing,
+    })
 }
 
 /// Returns the messages of a refused set if its faults are explained.
@@ -114,10 +125,17 @@ pub fn refused_explained<'a>(
         s.items) sources.now) a.answer.status (string_bytes a.answer.text)) }
     ensures told { IfOk result (λ a. IfSome run_options.now.explain (λ e. IsExplained e.paint (map (λ s. s.items) e.names.items) (map (λ s.
         s.items) sources.now) a.answer.status (string_bytes a.answer.text) a.messages.items)) }
+    ensures listed { IfOk result (λ a. IfSome run_options.now.listed (λ names. IsListed (map string_bytes names.items) (map (λ s.
+        s.items) sources.now) a.answer.status (string_bytes a.answer.text) (string_bytes a.listing))) }
 {
     let answer = refusal_answer(alloc, &refused.fault)?;
+    let listing = refused_listing(alloc, &refused.fault, run_options)?;
     let messages = refused_messages(alloc, sources, refused, run_options)?;
-    Ok(Explained { answer, messages })
+    Ok(Explained {
+        answer,
+        messages,
+        listing,
+    })
 }
 
 /// Returns the messages of a finished build if its faults are explained.

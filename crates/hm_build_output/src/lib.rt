@@ -4,8 +4,9 @@
 mod answers;
 mod exhausted;
 mod explained;
+mod listed;
 mod options;
 
 pub use crate::exhausted::exhausted_message;
 pub use crate::explained::{Explained, finished_explained, refused_explained};
-pub use crate::options::{Explaining, Options, RunOptions};
+pub use crate::options::{Explaining, Listing, Options, RunOptions};

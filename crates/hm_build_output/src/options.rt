@@ -21,9 +21,20 @@ pub struct Explaining {
     pub explain: Explain,
 }
 
-/// The options of a run, and those of its messages if its faults are explained.
+/// The options of a run whose report is JSON objects.
+#[derive(Drop)]
+pub struct Listing {
+    pub options: Options,
+    /// The names of the sources' files, in order. A source without a name is standard input.
+    pub names: Vec<String>,
+    /// How faults are explained, if they are.
+    pub explain: Option<Explain>,
+}
+
+/// The options of a run, those of its messages if its faults are explained, and the names of the sources' files if its report is JSON objects.
 #[derive(Drop)]
 pub struct RunOptions {
     pub options: Options,
     pub explain: Option<Explain>,
+    pub listed: Option<Vec<String>>,
 }

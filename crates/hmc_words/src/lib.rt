@@ -22,6 +22,8 @@ pub struct Asked {
     pub explain: bool,
     /// Whether these messages are JSON objects.
     pub json: bool,
+    /// Whether the report is JSON objects.
+    pub listed: bool,
     /// Whether messages have colours.
     pub colour: Colour,
     /// Whether nothing is written to standard output.
@@ -51,6 +53,9 @@ const WORKERS: usize = 4;
 
 /// The formats of messages.
 const MESSAGE_FORMATS: [&str; 2] = ["human", "json"];
+
+/// The formats of reports.
+const REPORT_FORMATS: [&str; 2] = ["text", "json"];
 
 /// The words for `Colour`.
 const COLOURS: [&str; 3] = ["auto", "always", "never"];
@@ -129,6 +134,17 @@ fn message_format<'a>(alloc: Global) -> Arg<'a> {
     .value_parser(ValueParser::Names(&MESSAGE_FORMATS))
 }
 
+/// Returns the option for the format of the report.
+fn report_format<'a>(alloc: Global) -> Arg<'a> {
+    valued(
+        alloc,
+        "report-format",
+        "FORMAT",
+        "How the report is written: text, or json, a JSON object for each module on a line each; json leaves the journal out",
+    )
+    .value_parser(ValueParser::Names(&REPORT_FORMATS))
+}
+
 /// Returns the option for colours.
 fn colour_option<'a>(alloc: Global) -> Arg<'a> {
     valued(
@@ -176,6 +192,7 @@ fn command<'a>(alloc: Global) -> Result<Command<'a>, AllocError> {
             "Write to standard error, for each fault, FILE:LINE:COLUMN, what is wrong in plain words, and the line with a mark",
         ))?
         .arg(message_format(alloc))?
+        .arg(report_format(alloc))?
         .arg(colour_option(alloc))?
         .arg(lettered(
             alloc,
@@ -245,12 +262,14 @@ pub fn command_line(alloc: Global, words: &[String]) -> Result<Asked, Error>
 {
     let matches = command(alloc)?.try_get_matches_from(words)?;
     let json = matches.get_str("message-format") == Some("json");
+    let listed = matches.get_str("report-format") == Some("json");
     Ok(Asked {
         workers: workers(&matches),
         journal: matches.get_flag("journal"),
         plan: matches.get_flag("plan"),
         explain: json || matches.get_flag("explain"),
         json,
+        listed,
         colour: colour_of(&matches),
         quiet: matches.get_flag("quiet"),
         stdin_name: stdin_name(alloc, &matches)?,

@@ -1,5 +1,6 @@
 use Rattle.std.proofs.Common.{rules, ◌≡◌, ◌<◌, ◌≤◌, IsErrOf, IfSome, Err, inl, inr, ⊎_elim, map, string_bytes, subst}
 use Rattle.hm_build_messages.specs.Explained.{IsExplained, StatesExhaustion}
+use Rattle.hm_build_listing.specs.Listed.{IsListed}
 use Rattle.hm_build_output.specs.JournalledRuns.{IsRun}
 use Rattle.hm_build_output.proofs.HeldRuns.{build_held}
 use Rattle.hm_build.proofs.RunFaults.{no_failure, not_of_reading, only_read_faults, some_more}
@@ -18,6 +19,12 @@ returns-in-Ok-clause-told g c sources told =
     let a = c.in-Ok.explained in
     subst (λ l. IfSome c.args.run_options.explain (λ e. IsExplained e.paint (map (λ s. s.items) e.names.items) l a.answer.status (string_bytes a.answer.text) a.messages.items)) (c.in_ok-sources.ensures.bytes sources told)
     c.in-Ok.ensures.told
+
+pub returns-in-Ok-clause-listed : goal.returns-in-Ok-clause-listed
+returns-in-Ok-clause-listed g c sources told =
+    let a = c.in-Ok.explained in
+    subst (λ l. IfSome c.args.run_options.listed (λ names. IsListed (map string_bytes names.items) l a.answer.status (string_bytes a.answer.text) (string_bytes a.listing))) (c.in_ok-sources.ensures.bytes sources told)
+    c.in-Ok.ensures.listed
 
 pub returns-in-Err-clause-exhausted : goal.returns-in-Err-clause-exhausted
 returns-in-Err-clause-exhausted g c =
