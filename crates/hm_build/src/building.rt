@@ -3,7 +3,7 @@ ghost use Rattle.std.specs.Prelude.{◌≡◌, ◌⊎◌, ◌↔◌, ◌<◌, �
 ghost use Rattle.std.specs.Arc.{arc_value};
 ghost use Rattle.hm_build_stages.specs.Errors.{IsBuildError, IsBuildFault};
 ghost use Rattle.hm_build_reports.specs.FinishedBuilds.{IsFinished};
-ghost use Rattle.hm_store_shared.specs.Gathered.{records_in};
+ghost use Rattle.hm_store_shared.specs.Gathered.{records_in, written_in};
 ghost use Rattle.hm_build.specs.Headline.{HasVerdicts};
 ghost use Rattle.hm_build.specs.Workers.{IsWorkError};
 ghost use Rattle.hm_run_sources.specs.ModuleCounts.{AreCountedModules};
@@ -40,7 +40,7 @@ pub(crate) struct Task<'a, G: Gate> {
 }
 
 /// Runs the workers on a new store, and checks that the build is complete.
-#[tactic(auto, using(crate::proofs::JobRows::work_is, crate::proofs::BuildFaults::from_shared, crate::proofs::BuildFaults::from_memory, crate::proofs::BuildFaults::from_end))]
+#[tactic(auto, using(crate::proofs::JobRows::work_is, crate::proofs::Rooms::all_have_room, crate::proofs::BuildFaults::from_shared, crate::proofs::BuildFaults::from_memory, crate::proofs::BuildFaults::from_end))]
 fn worked<L: Ledger + Naming + Send + Sync, G: Gate + Sync, R: Threads + Wait + Sync>(
     rt: &R,
     alloc: Global,
@@ -61,6 +61,7 @@ fn worked<L: Ledger + Naming + Send + Sync, G: Gate + Sync, R: Threads + Wait + 
         → IsFinished sources task.now.workers f.store (records_in f.records)) }
     ensures counted { IfOk result (λ f. (sources : List (List ℕ)) → AreCountedModules sources (map arc_value fresh.modules.items) fresh.counts.items
         → AreCountedModules sources f.store.modules f.counts.items) }
+    ensures written { IfOk result (λ f. written_in (records_in f.records) ≡ length f.store.journal) }
     ensures err { IfErr result (IsWorkError (map arc_value fresh.modules.items) fresh.counts.items) }
 {
     let Fresh {
@@ -73,9 +74,9 @@ fn worked<L: Ledger + Naming + Send + Sync, G: Gate + Sync, R: Threads + Wait + 
     // Shows that the store's modules are a lawful set, as the workers require.
     let _entries = store.entries();
     let workers = task.workers;
-    let room = room_for(imports.as_slice());
+    let room = room_for(imports.as_slice())?;
     let crew = Crew { workers, room };
-    let (shared, mut passes) = Shared::<L, &R>::new(alloc, rt, store, crew, brands)?;
+    let (shared, passes) = Shared::<L, &R>::new(alloc, rt, store, crew, brands)?;
     let work = Work {
         alloc,
         shared: &shared,
@@ -86,12 +87,13 @@ fn worked<L: Ledger + Naming + Send + Sync, G: Gate + Sync, R: Threads + Wait + 
         prelude: &prelude,
     };
     let stack = task.nesting.worker_stack_size();
-    match run_workers(rt, &work, passes.as_mut_slice(), stack) {
+    let (passes, ended) = run_workers(rt, &work, passes, stack);
+    match ended {
         Ok(()) => {}
         Err(fault) => return Err(build_fault(fault, modules.as_slice(), counts.as_slice())),
     }
-    let (store, _book) = shared.into_store();
-    let records = Records::of(alloc, passes)?;
+    let (store, mut book) = shared.into_store();
+    let records = Records::of(alloc, &store, &mut book, passes)?;
     finished(alloc, store, records, counts, workers)
 }
 
@@ -105,6 +107,7 @@ pub(crate) fn build_here<T: Threads + Wait + Sync, G: Gate + Sync>(
     requires { (0 < task.workers) × (task.workers ≤ 16) }
     ensures finished { IfOk result (λ f. IsFinished (map (λ s. s.items) sources.now) task.entry.workers f.store (records_in f.records)) }
     ensures counted { IfOk result (λ f. AreCountedModules (map (λ s. s.items) sources.now) f.store.modules f.counts.items) }
+    ensures written { IfOk result (λ f. written_in (records_in f.records) ≡ length f.store.journal) }
     ensures verdicts { IfOk result (λ f. HasVerdicts f.store) }
     ensures err { IfErr result (IsBuildError (map (λ s. s.items) sources.now)) }
 {
@@ -134,14 +137,14 @@ struct BuildOf {
 }
 
 impl Promise<Result<Finished, BuildFault>> for BuildOf {
-    ghost use Rattle.std.specs.Prelude.{IfErr, IfOk, map};
+    ghost use Rattle.std.specs.Prelude.{◌≡◌, IfErr, IfOk, length, map};
     ghost use Rattle.hm_build_stages.specs.Errors.{IsBuildError};
     ghost use Rattle.hm_build_reports.specs.FinishedBuilds.{IsFinished};
-    ghost use Rattle.hm_store_shared.specs.Gathered.{records_in};
+    ghost use Rattle.hm_store_shared.specs.Gathered.{records_in, written_in};
     ghost use Rattle.hm_build.specs.Headline.{HasVerdicts};
     ghost use Rattle.hm_run_sources.specs.ModuleCounts.{AreCountedModules};
 
-    ghost kept_by = { λ p r. IfOk r (λ f. IsFinished (map (λ s. s.items) p.sources.value.items) p.workers f.store (records_in f.records)) × (IfOk r (λ f. AreCountedModules (map (λ s. s.items) p.sources.value.items) f.store.modules f.counts.items) × (IfOk r (λ f. HasVerdicts f.store) × IfErr r (IsBuildError (map (λ s. s.items) p.sources.value.items)))) };
+    ghost kept_by = { λ p r. IfOk r (λ f. IsFinished (map (λ s. s.items) p.sources.value.items) p.workers f.store (records_in f.records)) × (IfOk r (λ f. AreCountedModules (map (λ s. s.items) p.sources.value.items) f.store.modules f.counts.items) × (IfOk r (λ f. written_in (records_in f.records) ≡ length f.store.journal) × (IfOk r (λ f. HasVerdicts f.store) × IfErr r (IsBuildError (map (λ s. s.items) p.sources.value.items))))) };
 }
 
 /// Builds the modules of sources on a new thread with a large stack.
@@ -155,6 +158,7 @@ fn build_on_thread<T: Threads + Wait + Sync, G: Gate + Sync>(
     requires { (0 < workers) × (workers ≤ 16) }
     ensures finished { IfOk result (λ f. IsFinished (map (λ s. s.items) sources.items) workers f.store (records_in f.records)) }
     ensures counted { IfOk result (λ f. AreCountedModules (map (λ s. s.items) sources.items) f.store.modules f.counts.items) }
+    ensures written { IfOk result (λ f. written_in (records_in f.records) ≡ length f.store.journal) }
     ensures verdicts { IfOk result (λ f. HasVerdicts f.store) }
     ensures err { IfErr result (IsBuildError (map (λ s. s.items) sources.items)) }
 {
@@ -165,6 +169,7 @@ fn build_on_thread<T: Threads + Wait + Sync, G: Gate + Sync>(
             requires { (0 < workers) × (workers ≤ 16) }
             ensures finished { IfOk result (λ f. IsFinished (map (λ s. s.items) sources.items) workers f.store (records_in f.records)) }
             ensures counted { IfOk result (λ f. AreCountedModules (map (λ s. s.items) sources.items) f.store.modules f.counts.items) }
+            ensures written { IfOk result (λ f. written_in (records_in f.records) ≡ length f.store.journal) }
             ensures verdicts { IfOk result (λ f. HasVerdicts f.store) }
             ensures err { IfErr result (IsBuildError (map (λ s. s.items) sources.items)) }
         {
@@ -213,6 +218,8 @@ pub fn build<T: Threads + Wait + Sync, G: Gate + Sync>(
     ensures finished { IfOk result (λ f. IsFinished (map (λ s. s.items) sources.items) workers f.store (records_in f.records)) }
     // Each source has its number of modules.
     ensures counted { IfOk result (λ f. AreCountedModules (map (λ s. s.items) sources.items) f.store.modules f.counts.items) }
+    // The journal has as many entries as the recorded calls of the workers wrote.
+    ensures written { IfOk result (λ f. written_in (records_in f.records) ≡ length f.store.journal) }
     // Each module has the verdict that the rules give it in its set.
     ensures verdicts { IfOk result (λ f. HasVerdicts f.store) }
     // The number of workers is checked before any source is read.

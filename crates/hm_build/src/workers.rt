@@ -1,5 +1,5 @@
 //! The workers of a build, which claim modules and check them.
-ghost use Rattle.std.specs.Prelude.{◌≡◌, ◌≢◌, ◌<◌, ◌≤◌, ◌+◌, ◌⊎◌, IfErr, length, map};
+ghost use Rattle.std.specs.Prelude.{◌≡◌, ◌≢◌, ◌<◌, ◌≤◌, ◌+◌, ◌⊎◌, ◌↔◌, [], All, IfErr, IfOk, IsErrOf, IsOk, length, map, slice_index_or, vec_len};
 ghost use Rattle.std.specs.Arc.{arc_value};
 ghost use Rattle.hm_store_published.specs.Publications.{IsLawful};
 ghost use Rattle.hm_store.specs.declared.object.Refusal.TheVariants.{NotYours, Stranger};
@@ -7,7 +7,7 @@ ghost use Rattle.hm_store.specs.declared.object.Turn.TheVariants.{Job};
 ghost use Rattle.hm_store_shared.specs.Listings.{HasImports, IsOfSeen, IsWithin};
 ghost use Rattle.hm_store_shared.specs.Knowing.{HasClaimed, IsStopped};
 ghost use Rattle.hm_store_shared.specs.Passes.{known_of, room_of, seen_of, worker_of};
-ghost use Rattle.hm_build.specs.Workers.{IsWorkError, IsWorkOf};
+ghost use Rattle.hm_build.specs.Workers.{HasRoomIn, IsWorkError, IsWorkOf, calls_of};
 
 use crate::{BuildFault, Gate};
 use hm_check::{CheckFault, check_module_within};
@@ -15,7 +15,7 @@ use hm_names::TypeLimits;
 use hm_run_sources::{SourceModule, source_of};
 use hm_store::{Refusal, Turn};
 use hm_store_published::{LookFault, Naming, Published, Step};
-use hm_store_shared::laws::{replies_are_known, seen_imports_are_asked_for};
+use hm_store_shared::laws::{claims_fit_the_room, replies_are_known, seen_imports_are_asked_for};
 use hm_store_shared::{Pass, Shared};
 use hm_syntax::Module;
 use hm_types_prelude::SharedPrelude;
@@ -55,6 +55,19 @@ impl WorkFault {
             (WorkFault::Exhausted(one), _) => WorkFault::Exhausted(one),
             (_, other) => other,
         }
+    }
+}
+
+/// Returns what two workers return together: a fault if one of them has a fault, and the one to report if both have.
+fn both(one: Result<(), WorkFault>, other: Result<(), WorkFault>) -> Result<(), WorkFault>
+    ensures ok { IsOk result ↔ (IsOk one × IsOk other) }
+    ensures given { (result ≡ one) ⊎ (result ≡ other) }
+    ensures mixed { IsErrOf one WorkFault.Mixed ⊎ IsErrOf other WorkFault.Mixed → IsErrOf result WorkFault.Mixed }
+{
+    match (one, other) {
+        (Ok(()), other) => other,
+        (one, Ok(())) => one,
+        (Err(one), Err(other)) => Err(one.or(other)),
     }
 }
 
@@ -137,9 +150,12 @@ fn settle<L: Ledger + Naming, G: Gate, W: Wait + Drop, R: Wait>(
     requires fits { IsOfSeen L.modules L.plan (seen_of pass.old) number outcome }
     requires has { HasClaimed (worker_of pass.old) (known_of pass.old) number }
     ensures room { room_of pass.old ≤ room_of pass.new + 1 }
+    ensures worker { worker_of pass.new ≡ worker_of pass.old }
+    ensures calls { calls_of L.plan (worker_of pass.old) (known_of pass.new) ≡ calls_of L.plan (worker_of pass.old) (known_of pass.old) }
     ensures memory { IfErr result (λ fault. fault ≡ WorkFault.Memory) }
 {
     replies_are_known();
+    claims_fit_the_room();
     if outcome.is_good() {
         return match work.shared.publish(rt, pass, number, outcome) {
             Ok(()) => Ok(()),
@@ -154,7 +170,7 @@ fn settle<L: Ledger + Naming, G: Gate, W: Wait + Drop, R: Wait>(
 
 // Why: docs/DECISIONS.md, "Workers' contracts".
 /// Checks a claimed module. The pass has seen all its imports, so each look finds one, and they are those that the module requires.
-/// Leaves room for a stop.
+/// Takes a call for each import and one more.
 fn check_one<L: Ledger + Naming, G: Gate, W: Wait + Drop, R: Wait>(
     rt: &R,
     work: &Work<'_, L, G, W>,
@@ -166,14 +182,13 @@ fn check_one<L: Ledger + Naming, G: Gate, W: Wait + Drop, R: Wait>(
     requires imports { HasImports L.plan (Job number) (seen_of pass.old) }
     requires has { HasClaimed (worker_of pass.old) (known_of pass.old) number }
     requires lawful { IsLawful L.modules L.plan (seen_of pass.old) }
-    requires room { 0 < room_of pass.old }
-    ensures { 0 < room_of pass.new }
+    requires room { length (slice_index_or L.plan number []) + 2 ≤ room_of pass.old }
+    ensures room { room_of pass.old ≤ room_of pass.new + (length (slice_index_or L.plan number []) + 1) }
+    ensures worker { worker_of pass.new ≡ worker_of pass.old }
+    ensures calls { calls_of L.plan (worker_of pass.old) (known_of pass.new) ≡ calls_of L.plan (worker_of pass.old) (known_of pass.old) }
 {
     seen_imports_are_asked_for();
     let numbers = work.imports[number].as_slice();
-    if pass.room() < numbers.len() + 2 {
-        return Err(WorkFault::Mixed);
-    }
     let interfaces = match pass.look_at_all(work.alloc, numbers) {
         Ok(interfaces) => interfaces,
         Err(LookFault::NoEntry) => return Err(WorkFault::Mixed),
@@ -193,21 +208,19 @@ fn check_one<L: Ledger + Naming, G: Gate, W: Wait + Drop, R: Wait>(
     }
 }
 
-/// Claims and checks modules until none is left. Leaves room for a stop.
+/// Claims and checks modules until none is left. There is room for that, and for a stop.
 fn check_all<L: Ledger + Naming, G: Gate, W: Wait + Drop, R: Wait>(
     rt: &R,
     work: &Work<'_, L, G, W>,
     pass: &mut Pass<L>,
 ) -> Result<(), WorkFault>
     requires work { IsWorkOf L.modules L.plan (map arc_value work.now.modules.now) (map (λ row. row.items) work.now.imports.now) }
-    requires room { 0 < room_of pass.old }
+    requires room { HasRoomIn L.plan pass.old }
     ensures { 0 < room_of pass.new }
 {
     replies_are_known();
+    claims_fit_the_room();
     for _ in rt.forever() {
-        if pass.room() < 2 {
-            return Err(WorkFault::Mixed);
-        }
         match work.shared.claim(rt, pass) {
             Turn::Job(number) => check_one(rt, work, pass, number)?,
             Turn::Done => return Ok(()),
@@ -224,12 +237,10 @@ fn run_worker<L: Ledger + Naming, G: Gate, W: Wait + Drop, R: Wait>(
     pass: &mut Pass<L>,
 ) -> Result<(), WorkFault>
     requires work { IsWorkOf L.modules L.plan (map arc_value work.now.modules.now) (map (λ row. row.items) work.now.imports.now) }
+    requires room { HasRoomIn L.plan pass.old }
     // If a worker fails, the journal that it has seen has a stop.
-    ensures stopped { IfErr result (λ _. 0 < room_of pass.old → IsStopped L.modules L.plan (known_of pass.new)) }
+    ensures stopped { IfErr result (λ _. IsStopped L.modules L.plan (known_of pass.new)) }
 {
-    if pass.room() == 0 {
-        return Err(WorkFault::Mixed);
-    }
     let ended = check_all(rt, work, pass);
     if ended.is_err() {
         work.shared.stop(rt, pass);
@@ -245,45 +256,47 @@ fn join_all<R: Threads>(
 ) -> Result<(), WorkFault> {
     let mut all = Ok(());
     for worker in workers {
-        match worker.join(rt) {
-            Ok(()) => {}
-            Err(fault) => {
-                all = match all {
-                    Ok(()) => Err(fault),
-                    Err(other) => Err(other.or(fault)),
-                };
-            }
-        }
+        all = both(all, worker.join(rt));
     }
     all
 }
 
 // Why: docs/DECISIONS.md, "Threads that don't start".
-/// Runs a worker for each pass, on threads with stacks of this size. Starts as many threads as it can.
+/// Runs a worker for each pass, on threads with stacks of this size. Starts as many threads as it can. Returns the passes.
 pub(crate) fn run_workers<
     L: Ledger + Naming + Send + Sync,
     G: Gate + Sync,
     W: Wait + Drop + Send,
     R: Threads + Wait + Sync,
->(rt: &R, work: &Work<'_, L, G, W>, passes: &mut [Pass<L>], stack: usize) -> Result<(), WorkFault>
-    requires { IsWorkOf L.modules L.plan (map arc_value work.now.modules.now) (map (λ row. row.items) work.now.imports.now) }
+>(
+    rt: &R,
+    work: &Work<'_, L, G, W>,
+    mut passes: Vec<Pass<L>>,
+    stack: usize,
+) -> (Vec<Pass<L>>, Result<(), WorkFault>)
+    requires work { IsWorkOf L.modules L.plan (map arc_value work.now.modules.now) (map (λ row. row.items) work.now.imports.now) }
+    requires room { All (HasRoomIn L.plan) passes.items }
+    ensures { vec_len result.0 ≡ vec_len passes }
 {
     let count = passes.len();
-    thread::scope(
+    let lent = passes.as_mut_slice();
+    let ended = thread::scope(
         thread::scope_env(),
         rt,
         move |scope| -> Result<(), WorkFault>
-            requires { IsWorkOf L.modules L.plan (map arc_value work.now.modules.now) (map (λ row. row.items) work.now.imports.now) }
+            requires work { IsWorkOf L.modules L.plan (map arc_value work.now.modules.now) (map (λ row. row.items) work.now.imports.now) }
+            requires room { All (HasRoomIn L.plan) lent.now }
         {
             let Ok(mut workers) = Vec::with_capacity(work.alloc, count) else {
                 return Err(WorkFault::Memory);
             };
-            for pass in passes.iter_mut() {
+            for pass in lent.iter_mut() {
                 let thread = Builder::new().stack_size(stack);
                 if let Ok(worker) = thread.spawn_scoped(
                     scope,
                     move || -> Result<(), WorkFault>
-                        requires { IsWorkOf L.modules L.plan (map arc_value work.now.modules.now) (map (λ row. row.items) work.now.imports.now) }
+                        requires work { IsWorkOf L.modules L.plan (map arc_value work.now.modules.now) (map (λ row. row.items) work.now.imports.now) }
+                        requires room { HasRoomIn L.plan pass.now }
                     { run_worker(rt, work, pass) },
                 ) {
                     let _ = workers.push(worker);
@@ -294,5 +307,6 @@ pub(crate) fn run_workers<
             }
             join_all(rt, workers)
         },
-    )
+    );
+    (passes, ended)
 }

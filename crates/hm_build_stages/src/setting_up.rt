@@ -1,5 +1,5 @@
 //! Sets up a build: a store for the modules of sources, and the number of calls that a worker may make.
-ghost use Rattle.std.specs.Prelude.{◌≡◌, ◌^◌, [], IfErr, IfOk, map, min};
+ghost use Rattle.std.specs.Prelude.{◌≡◌, ◌<◌, ◌^◌, [], IfErr, IfOk, map};
 ghost use Rattle.std.specs.Arc.{arc_value};
 ghost use Rattle.hm_graph.specs.Imports.{IsImportPlan, IsLawful};
 ghost use Rattle.hm_run_sources.specs.ModuleCounts.{AreCountedModules};
@@ -121,13 +121,20 @@ pub fn read<T: Threads + Wait + Sync>(
 }
 
 // Why: docs/DECISIONS.md, "Room in advance".
-/// Returns the number of calls that a worker may make, at most 2^40.
-pub fn room_for(imports: &[Vec<usize>]) -> usize
-    ensures { result ≡ min (room_of (map (λ row. row.items) imports.now)) (2 ^ 40) }
+/// Returns the number of calls that a worker may make.
+///
+/// # Errors
+///
+/// If there are more than 2^40, for which no machine has memory.
+pub fn room_for(imports: &[Vec<usize>]) -> Result<usize, AllocError>
+    ensures { IfOk result (λ room. (room ≡ room_of (map (λ row. row.items) imports.now)) × (room < 2 ^ 62)) }
 {
     let mut room = 2usize;
     for row in imports {
         room = room.saturating_add(row.len()).saturating_add(2);
     }
-    room.min(1 << 40)
+    if room > 1 << 40 {
+        return Err(AllocError);
+    }
+    Ok(room)
 }

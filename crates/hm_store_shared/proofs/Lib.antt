@@ -1,4 +1,5 @@
 pub mod Calls
+pub mod Counting
 pub mod Dealt
 pub mod JobImports
 pub mod Knowing
@@ -7,5 +8,6 @@ pub mod Owning
 pub mod Publishing
 pub mod Refusing
 pub mod SeenImports
+pub mod Spent
 pub mod WorkedEntries
 pub mod WorkedListings

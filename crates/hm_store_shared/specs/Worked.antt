@@ -10,6 +10,7 @@ use Rattle.hm_store.specs.declared.object.Entry.TheVariants.{Claim, Publish, Sto
 use Rattle.hm_store.specs.declared.object.Refusal.TheVariants.{NotYours, Memory}
 use Rattle.hm_store.specs.declared.object.Turn.TheVariants.{Job, Done}
 use Rattle.hm_store_shared.specs.Knowing.{Begins, HasClaimed}
+use Rattle.hm_store_shared.specs.Spending.{calls_in}
 use Rattle.hm_store_shared.specs.Listings.{ArePublications, HasImports, HasPublication, IsListed, IsOfSeen, IsWithin, Listing, Settled, published_after, publications_in}
 
 abbrev pub published_as : ℕ → ℕ → Checked → Publication
@@ -61,3 +62,9 @@ pub record BeginsRow : Type 0 where
   pub others : Begins 1 (Claim 1 0 ∷ []) (Claim 1 0 ∷ Claim 2 1 ∷ [])
   pub own : ¬ (Begins 1 (Claim 1 0 ∷ []) (Claim 1 0 ∷ Stop 1 ∷ []))
   pub shorter : ¬ (Begins 1 (Claim 1 0 ∷ []) [])
+
+-- a claim of module 0, which imports module 1, takes three calls, and one of module 1 two. A publication takes none of its own
+pub record CallsRow : Type 0 where
+  pub importing : calls_in plan (Claim 1 0 ∷ Publish 1 0 ∷ []) ≡ 3
+  pub both : calls_in plan (Claim 1 1 ∷ Publish 1 1 ∷ Claim 1 0 ∷ []) ≡ 5
+  pub more : ¬ (calls_in plan (Claim 1 0 ∷ []) ≡ 2)

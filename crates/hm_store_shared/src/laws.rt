@@ -1,6 +1,6 @@
 //! Laws of the lock and of passes.
-ghost use Rattle.hm_store_shared.specs.Laws.{ClaimsAreHeld, DoneIsTheEnd, HeldAreTheirs, SeenAreAskedFor};
-ghost use Rattle.hm_store_shared.specs.Worked.{BeginsRow, ClaimRow, HeldRow, ListingRow, PublishRow, SeenRow};
+ghost use Rattle.hm_store_shared.specs.Laws.{AnswersTakeNoCalls, ClaimsAreHeld, ClaimsFit, ClaimsTakeTheirCalls, DoneIsTheEnd, HeldAreTheirs, SeenAreAskedFor};
+ghost use Rattle.hm_store_shared.specs.Worked.{BeginsRow, CallsRow, ClaimRow, HeldRow, ListingRow, PublishRow, SeenRow};
 
 use hm_verdicts::steps_settle_a_set;
 
@@ -23,8 +23,16 @@ pub fn replies_are_known()
     ensures done { DoneIsTheEnd }
 {}
 
+/// Facts about the calls that a worker's claims take: the claim, a look-up for each import, and a publication or a failure. No module is claimed
+/// twice, so together they are at most those for all modules. So a pass with room for these has room for each call of its worker.
+pub fn claims_fit_the_room()
+    ensures taken { ClaimsTakeTheirCalls }
+    ensures fits { ClaimsFit }
+    ensures none { AnswersTakeNoCalls }
+{}
+
 /// Worked examples of lists: the publications of a journal, the publications that a worker has seen after a claim, the changes of a publication,
-/// the outcomes that fit the list, and what a worker has seen of the journal.
+/// the outcomes that fit the list, what a worker has seen of the journal, and the calls that its claims take.
 pub fn worked_listings()
     ensures listings { ListingRow }
     ensures claims { ClaimRow }
@@ -32,4 +40,5 @@ pub fn worked_listings()
     ensures seen { SeenRow }
     ensures held { HeldRow }
     ensures begins { BeginsRow }
+    ensures calls { CallsRow }
 {}

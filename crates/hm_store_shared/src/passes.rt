@@ -258,6 +258,7 @@ impl<L: Ledger + Naming> Pass<L> {
         ensures ordered { rises 0 result.0.calls.items ≡ true }
         ensures counted { result.1.amount ≡ wrote_in result.0.calls.items }
         ensures parts { result.1.parts ≡ (share_of self).parts }
+        ensures backed { 0 < result.1.parts }
     {
         let Pass {
             record,

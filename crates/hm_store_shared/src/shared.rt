@@ -464,7 +464,7 @@ impl<L: Ledger + Naming, R: Wait + Drop> Shared<L, R> {
     ///
     /// # Errors
     ///
-    /// Returns the outcome; store and pass are unchanged. In this order:
+    /// Returns the outcome; the store and the pass's record are unchanged. In this order:
     /// - `NotYours` if the worker hasn't claimed the module.
     /// - `Stranger` if the outcome isn't of that module, or isn't for the published interfaces of its imports.
     /// - `Memory` if an allocation failed: the copy of an `Arc`, the log of operations, or the copies that readers take. If the log or the copies
