@@ -65,7 +65,7 @@ ERRORS = {
     'error: "no reader"': "no reader",
 }
 # The tests that must be there.
-TESTS = ["parse", "scope", "check_module", "new_store", "shared", "publish", "audit", "report", "journal_text", "declaration_uses"]
+TESTS = ["parse", "scope", "check_module", "new_store", "shared", "publish", "audit", "report", "journal_text", "declaration_uses", "candidates_of"]
 DOUBLING = b"module A where { a x = (x, x) ; b x = a (a x) ; c x = b (b x) ; d x = c (c x) ; e x = d (d x) }"
 
 

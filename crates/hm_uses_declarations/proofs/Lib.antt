@@ -1,4 +1,5 @@
 mod DeclaredTexts
 mod Meant
+mod Selected
 pub mod Steps
 mod Tables

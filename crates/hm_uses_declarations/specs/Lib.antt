@@ -1,3 +1,4 @@
 pub mod Bindings
+pub mod Candidates
 pub mod Senses
 pub mod Walking

@@ -4,13 +4,14 @@
 //! error is "no memory". The test has no other end.
 // Why: docs/DECISIONS.md, "Refusals of single calls".
 use hm_lex::{LexFault, lex};
+use hm_names::Namespace;
 use hm_parse::{ParseFault, parse};
 use hm_scope_imports::scope_of;
-use hm_scope_tables::Scope;
-use hm_syntax::Module;
+use hm_scope_tables::{EntityRef, Scope};
+use hm_syntax::{Module, Name};
 use hm_types::Interface;
 use hm_types_prelude::SharedPrelude;
-use hm_uses_declarations::{Meaning, Use, declaration_uses};
+use hm_uses_declarations::{Meaning, Use, candidates_of, declaration_uses};
 use std::alloc::{AllocError, Global};
 use std::test::Fail;
 
@@ -239,5 +240,55 @@ fn declaration_uses_alone(rt: HostRuntime) -> Result<(), Fail> {
         let module = module_of(rt.alloc(), row.source)?;
         assert!(rt; has_uses(rt.alloc(), &prelude, &module, row.uses)?);
     }
+    Ok(())
+}
+
+/// Returns whether these are the `not` of this module and that of Prelude.
+fn are_both(entities: &[EntityRef<'_>]) -> bool {
+    match entities {
+        [own, imported] => {
+            own.module() == "A"
+                && own.name() == "not"
+                && imported.module() == "Prelude"
+                && imported.name() == "not"
+        }
+        _ => false,
+    }
+}
+
+/// Returns whether a name has these two entities in a scope.
+fn has_both(alloc: Global, scope: &Scope<'_>, name: &Name) -> Result<bool, Fail> {
+    match candidates_of(alloc, scope, Namespace::Values, name) {
+        Ok(entities) => Ok(are_both(&entities)),
+        Err(AllocError) => Err(Fail::from(REFUSED)),
+    }
+}
+
+/// Returns whether the first ambiguous name of a module without imports has these two entities.
+fn has_candidates(alloc: Global, prelude: &SharedPrelude, module: &Module) -> Result<bool, Fail> {
+    let scope = match scope_alone(alloc, module, prelude.interface()) {
+        Ok(scope) => scope,
+        Err(AllocError) => return Err(Fail::from(NO_MEMORY)),
+    };
+    let uses = match declaration_uses(alloc, module, &scope) {
+        Ok(uses) => uses,
+        Err(AllocError) => return Err(Fail::from(NO_MEMORY)),
+    };
+    for one in &uses {
+        if is_expected(one.meaning(), Ambiguous) {
+            return has_both(alloc, &scope, one.name());
+        }
+    }
+    Ok(false)
+}
+
+#[test]
+fn candidates_of_alone(rt: HostRuntime) -> Result<(), Fail> {
+    let prelude = match SharedPrelude::new(rt.alloc()) {
+        Ok(prelude) => prelude,
+        Err(AllocError) => return Err(Fail::from(NO_MEMORY)),
+    };
+    let module = module_of(rt.alloc(), b"module A where { not x = not x }")?;
+    assert!(rt; has_candidates(rt.alloc(), &prelude, &module)?);
     Ok(())
 }
