@@ -1,4 +1,5 @@
 mod AllFound
+mod Clashes
 mod Complete
 pub mod Existence
 mod Faults

@@ -7,9 +7,9 @@ use Rattle.hm_syntax.specs.declared.ast.Module.{Module}
 use Rattle.hm_syntax.specs.declared.ast.ImportItem.TheVariants as item
 use Rattle.hm_syntax.specs.declared.ast.ImportList.TheVariants as list
 use Rattle.hm_names.specs.Entities.{named}
-use Rattle.hm_names.specs.Worked.{at, is, one, a_module, module_of, imports, pair_of, with_x, prelude_alone, x}
+use Rattle.hm_names.specs.Worked.{at, is, one, a_module, module_of, imports, pair_of, with_x, prelude_alone, two_x, x}
 use Rattle.hm_uses.specs.declared.name_kind.NameKind.TheVariants.{Variable, TypeVariable}
-use Rattle.hm_uses.specs.Uses.{Sense, InDeclarations, InHeader, local_variable, type_variable, an_entity}
+use Rattle.hm_uses.specs.Uses.{Sense, InDeclarations, InHeader, local_variable, type_variable, an_entity, ambiguous}
 
 abbrev pub f : List ℕ
 f = codes "f"
@@ -96,3 +96,15 @@ ItemRow = InHeader lists_x (prelude_interface ∷ with_x (codes "B") ∷ []) (at
 -- module A where { import B hiding (x) ; y = x }: hiding names B's x, and the other is unbound
 abbrev pub HidingRow : Type 0
 HidingRow = InHeader Rattle.hm_names.specs.Worked.hides_x (prelude_interface ∷ with_x (codes "B") ∷ []) (at 35 x) Variable false (an_entity (named (codes "B") x))
+
+-- and not this module's own x
+abbrev pub NotOwnRow : Type 0
+NotOwnRow = ¬ (InHeader lists_x (prelude_interface ∷ with_x (codes "B") ∷ []) (at 29 x) Variable false (an_entity (named (codes "A") x)))
+
+-- module F where { import A ; import D ; y = x }, where A and D export an x each: x is ambiguous
+abbrev pub AmbiguousRow : Type 0
+AmbiguousRow = InDeclarations two_x (prelude_interface ∷ with_x (codes "A") ∷ with_x (codes "D") ∷ []) (at 44 x) Variable false ambiguous
+
+-- and it doesn't mean the first of the two
+abbrev pub NotFirstRow : Type 0
+NotFirstRow = ¬ (InDeclarations two_x (prelude_interface ∷ with_x (codes "A") ∷ with_x (codes "D") ∷ []) (at 44 x) Variable false (an_entity (named (codes "A") x)))

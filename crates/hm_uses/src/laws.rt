@@ -1,6 +1,7 @@
 //! Laws of uses. Each law is a function with an empty body, and its contract is the law.
 ghost use Rattle.hm_uses.specs.Laws.{ExportFaultsAreUses, ResolversAgree, FindsAll, FindsMeanings, FindsNames, HasKnown};
 ghost use Rattle.hm_uses.specs.Worked.{
+  AmbiguousRow,
   FirstClauseRow,
   GuardRow,
   HidingRow,
@@ -9,8 +10,10 @@ ghost use Rattle.hm_uses.specs.Worked.{
   LastClauseRow,
   MatchedRow,
   NoParameterRow,
+  NotFirstRow,
   NotGuardRow,
   NotMatchedRow,
+  NotOwnRow,
   NotScrutineeRow,
   OuterRow,
   ParameterRow,
@@ -34,7 +37,7 @@ pub fn faults_and_resolvers()
 
 /// Worked modules. The variable of a lambda hides that of the clause around it. A `where` scopes over its guards. The variable of an alternative isn't
 /// bound in what is matched. A local function is bound at its first clause. A synonym's right side has its parameters. A name of an import list is what
-/// the imported module exports, also after `hiding`.
+/// the imported module exports, also after `hiding`. A name of two entities is ambiguous, and means neither.
 pub fn worked_modules()
     ensures inner { InnerRow }
     ensures guard { GuardRow }
@@ -50,4 +53,7 @@ pub fn worked_modules()
     ensures no_parameter { NoParameterRow }
     ensures matched { MatchedRow }
     ensures not_matched { NotMatchedRow }
+    ensures not_own { NotOwnRow }
+    ensures ambiguous { AmbiguousRow }
+    ensures not_first { NotFirstRow }
 {}
