@@ -29,6 +29,7 @@ PARTS = {
     "many_modules": ["bench/many_modules.py", PROGRAM],
     "ghc": ["bench/ghc_times.py", PROGRAM],
     "slips": ["bench/slips.py", "--program", PROGRAM, "--ghc", "--count", "16", "--seed", "601", "--seed", "602", "--seed", "603", "--seed", "604"],
+    "forgotten": ["bench/forgotten.py", "--program", PROGRAM, "--count", "3", "--seed", "9101", "--seed", "9102", "--seed", "9103", "--seed", "9104"],
     "missing_tokens": ["bench/missing_tokens.py", PROGRAM, "40"],
     "deep": ["tests/deep.py", PROGRAM],
     "growth": ["tests/growth.py", PROGRAM],
