@@ -521,6 +521,38 @@ KINDS = [
         "                 ^\n"
         "errors: 1, skipped modules: 0\n",
     ),
+    # a constructor that is missing
+    (
+        "module M where { data P a = P (a -> a) | Q ; f :: (a -> a) -> P a ; f g = \\x -> g (g x) }",
+        1,
+        "M.hs:1:69: error: type error in 'f' [type]\n"
+        "No types fit this definition and those that refer back to it. All others that it refers to have types or signatures.\n"
+        "module M where { data P a = P (a -> a) | Q ; f :: (a -> a) -> P a ; f g = \\x -> g (g x) }\n"
+        "                                                                    ^\n"
+        "M.hs:1:75: note: 'f' has a type with 'P' in front of this (up to 1:87)\n"
+        "module M where { data P a = P (a -> a) | Q ; f :: (a -> a) -> P a ; f g = \\x -> g (g x) }\n"
+        "                                                                          ^\n"
+        "M.hs:1:46: note: 'f' has type '(a -> a) -> a -> a' without this signature (up to 1:65)\n"
+        "module M where { data P a = P (a -> a) | Q ; f :: (a -> a) -> P a ; f g = \\x -> g (g x) }\n"
+        "                                             ^\n"
+        "errors: 1, skipped modules: 0\n",
+    ),
+    # Just that is missing
+    (
+        "module M where { f :: [a] -> Maybe a ; f [] = Nothing ; f (x : xs) = x }",
+        1,
+        "M.hs:1:40: error: type error in 'f' [type]\n"
+        "No types fit this definition and those that refer back to it. All others that it refers to have types or signatures.\n"
+        "module M where { f :: [a] -> Maybe a ; f [] = Nothing ; f (x : xs) = x }\n"
+        "                                       ^\n"
+        "M.hs:1:70: note: 'f' has a type with 'Just' in front of this (up to 1:70)\n"
+        "module M where { f :: [a] -> Maybe a ; f [] = Nothing ; f (x : xs) = x }\n"
+        "                                                                     ^\n"
+        "M.hs:1:18: note: 'f' has type '[Maybe a] -> Maybe a' without this signature (up to 1:36)\n"
+        "module M where { f :: [a] -> Maybe a ; f [] = Nothing ; f (x : xs) = x }\n"
+        "                 ^\n"
+        "errors: 1, skipped modules: 0\n",
+    ),
     # the sides of a `:`
     (
         "module M where { f :: [a] -> [a] ; f [] = [] ; f (x : xs) = f xs : x }",

@@ -17,7 +17,7 @@ use Rattle.hm_messages_excerpts.specs.Columns.{AreColumnsAt}
 use Rattle.hm_messages_excerpts.specs.declared.columns.Columns.{Columns}
 use Rattle.hm_messages.specs.Headings.{count_text}
 use Rattle.hm_messages.specs.Messages.{AreEach, IsFaultMessage, IsMessage, reader_place}
-use Rattle.hm_messages.specs.Subjects.{Subject, faulty, hidden, limit, mistyped, replaceable, skipped, unsigned}
+use Rattle.hm_messages.specs.Subjects.{Subject, faulty, hidden, limit, mistyped, replaceable, skipped, unsigned, wrapped}
 use Rattle.hm_messages.specs.declared.heading.Paint.{Paint}
 use Rattle.hm_messages.specs.declared.topic.Way.{Way}
 use Rattle.hm_messages.specs.declared.topic.Way.TheVariants as way
@@ -26,7 +26,7 @@ use Rattle.hm_messages_trials.specs.Mends.{IsMend}
 use Rattle.hm_messages_trials.specs.ShownTypes.{HasShownTypes}
 use Rattle.hm_messages_trials.specs.Signatures.{IsUnsigned, Leads}
 use Rattle.hm_messages_trials.specs.declared.mends.Mend.{Mend}
-use Rattle.hm_messages_trials.specs.declared.mends.Mend.TheVariants.{Expression, Pattern, Exchange, Removal, Sides, Patterns, Insertion as insertion_mend}
+use Rattle.hm_messages_trials.specs.declared.mends.Mend.TheVariants.{Expression, Pattern, Exchange, Removal, Sides, Patterns, Insertion as insertion_mend, Wrapped}
 use Rattle.hm_messages_changes.specs.declared.insertions.Insertion.{Insertion}
 use Rattle.hm_messages_changes.specs.declared.insertions.Insertion.TheVariants.{Brackets, ListBrackets, Argument, Semicolon, Comma}
 use Rattle.hm_messages_changes.specs.declared.data.SourceRange.{SourceRange}
@@ -54,6 +54,7 @@ first_of (Removal part) = part.start
 first_of (Sides first second) = first.start
 first_of (Patterns first second) = first.start
 first_of (insertion_mend insertion part) = part.start
+first_of (Wrapped constructor part) = part.start
 
 -- the other place that is told: where it ends, or where the second part begins
 abbrev pub other_of : Mend → Place
@@ -64,6 +65,7 @@ other_of (Removal part) = part.end
 other_of (Sides first second) = second.start
 other_of (Patterns first second) = second.start
 other_of (insertion_mend insertion part) = part.end
+other_of (Wrapped constructor part) = part.end
 
 -- how a text is told that is put in around a part, which ends at this place
 abbrev pub insertion_way : Insertion → Place → Way
@@ -73,15 +75,16 @@ insertion_way Argument p = way.Argument p
 insertion_way Semicolon p = way.Semicolon
 insertion_way Comma p = way.Comma
 
--- how it is told, with this as the other place
-abbrev pub way_of : Mend → Place → Way
-way_of (Expression part) p = way.Expression p
-way_of (Pattern part) p = way.Pattern p
-way_of (Exchange first second) p = way.Exchange p
-way_of (Removal part) p = way.Removal p
-way_of (Sides first second) p = way.Sides p
-way_of (Patterns first second) p = way.Patterns p
-way_of (insertion_mend insertion part) p = insertion_way insertion p
+-- how the change of a definition is told, with this as the other place
+abbrev pub subject_of_mend : List ℕ → Mend → Place → Subject
+subject_of_mend x (Expression part) p = replaceable x (way.Expression p)
+subject_of_mend x (Pattern part) p = replaceable x (way.Pattern p)
+subject_of_mend x (Exchange first second) p = replaceable x (way.Exchange p)
+subject_of_mend x (Removal part) p = replaceable x (way.Removal p)
+subject_of_mend x (Sides first second) p = replaceable x (way.Sides p)
+subject_of_mend x (Patterns first second) p = replaceable x (way.Patterns p)
+subject_of_mend x (insertion_mend insertion part) p = replaceable x (insertion_way insertion p)
+subject_of_mend x (Wrapped constructor part) p = wrapped x constructor.now p
 
 -- these are the two types of the part that is to blame, and whether they are told as infinite
 abbrev pub ArePartTypes : List ℕ → List ℕ → List Interface → List ℕ → Mend → List ℕ → List ℕ → Bool → Type 0
@@ -92,10 +95,11 @@ ArePartTypes source name fs definition (Removal part) expected actual infinite =
 ArePartTypes source name fs definition (Sides first second) expected actual infinite = ⊥
 ArePartTypes source name fs definition (Patterns first second) expected actual infinite = ⊥
 ArePartTypes source name fs definition (insertion_mend insertion part) expected actual infinite = ⊥
+ArePartTypes source name fs definition (Wrapped constructor part) expected actual infinite = ⊥
 
 -- the text tells what gives the definition a type, or the two types of the part, with this as the other place
 pub data IsStatedOf (paint : Paint) (file source name : List ℕ) (fs : List Interface) (definition : List ℕ) (mend : Mend) (other : Place) (text : List ℕ) : Type 0 where
-  by_mend : IsMessage paint file source (first_of mend) (replaceable definition (way_of mend other)) text → IsStatedOf paint file source name fs definition mend other text
+  by_mend : IsMessage paint file source (first_of mend) (subject_of_mend definition mend other) text → IsStatedOf paint file source name fs definition mend other text
   by_types : (expected actual : List ℕ) (infinite : Bool) → ArePartTypes source name fs definition mend expected actual infinite
       → IsMessage paint file source (first_of mend) (mistyped definition other expected actual infinite) text → IsStatedOf paint file source name fs definition mend other text
 

@@ -2,12 +2,12 @@
 ghost use Rattle.std.specs.Prelude.{◌≡◌, ◌⊎◌, ◌++◌, IfOk, IfSome, OnOk, [], cond, false, map, string_bytes, true};
 ghost use Rattle.std.specs.Arc.{arc_value};
 ghost use Rattle.hm_messages.specs.Messages.{IsMessage};
-ghost use Rattle.hm_messages.specs.Subjects.{limit, unsigned as unsigned_subject};
+ghost use Rattle.hm_messages.specs.Subjects.{limit, subject_of, unsigned as unsigned_subject};
 ghost use Rattle.hm_messages_trials.specs.Limits.{IsUsedUp};
 ghost use Rattle.hm_messages_trials.specs.Mends.{IsMend};
 ghost use Rattle.hm_messages_trials.specs.Signatures.{IsUnsigned, Leads};
 ghost use Rattle.hm_names.specs.declared.faults.Kind.TheVariants.{Untyped};
-ghost use Rattle.hm_build_messages.specs.Explanations.{AreInTurn, ArePartTypes, AreNotes, IsNote, IsNoted, IsSignatureNote, IsStatedOf, first_of as first_place, insertion_way as stated_insertion, other_of as other_place, way_of as stated_way};
+ghost use Rattle.hm_build_messages.specs.Explanations.{AreInTurn, ArePartTypes, AreNotes, IsNote, IsNoted, IsSignatureNote, IsStatedOf, first_of as first_place, insertion_way as stated_insertion, other_of as other_place, subject_of_mend as stated_subject};
 
 use hm_lex::Place;
 use hm_messages::{BothTypes, Page, Paint, Topic, Way, fault_message, message, reader_place};
@@ -50,12 +50,12 @@ impl Allowance {
 }
 
 /// Returns the change that gives the definition of a type fault a type, if one is found. Returns `None` if memory or the effort doesn't suffice for the search.
-fn mend_for(
+fn mend_for<'f>(
     alloc: Global,
-    module: &FaultyModule<'_, '_>,
+    module: &FaultyModule<'f, '_>,
     found: &TypeFault<'_>,
     effort: &mut Effort,
-) -> Option<Mend>
+) -> Option<Mend<'f>>
     ensures { IfSome result (λ mend. (found.now.fault.now.kind ≡ Untyped) × IsMend «module».now.question.now.source.now «module».now.question.now.name.now
         (map arc_value «module».now.question.now.imports.now) found.now.fault.now.name mend) }
 {
@@ -69,7 +69,7 @@ fn mend_for(
 }
 
 /// Returns where the part begins.
-fn first_of(mend: &Mend) -> Place
+fn first_of(mend: &Mend<'_>) -> Place
     ensures { result ≡ first_place mend.now }
 {
     match mend {
@@ -80,11 +80,12 @@ fn first_of(mend: &Mend) -> Place
         Mend::Sides(first, _) => first.start,
         Mend::Patterns(first, _) => first.start,
         Mend::Insertion(_, part) => part.start,
+        Mend::Wrapped(_, part) => part.start,
     }
 }
 
 /// Returns the other place of the note: where the part ends, or where the second one begins.
-fn other_of(mend: &Mend) -> Place
+fn other_of(mend: &Mend<'_>) -> Place
     ensures { result ≡ other_place mend.now }
 {
     match mend {
@@ -95,6 +96,7 @@ fn other_of(mend: &Mend) -> Place
         Mend::Sides(_, second) => second.start,
         Mend::Patterns(_, second) => second.start,
         Mend::Insertion(_, part) => part.end,
+        Mend::Wrapped(_, part) => part.end,
     }
 }
 
@@ -111,18 +113,21 @@ fn insertion_way(insertion: Insertion, end: Place) -> Way
     }
 }
 
-/// Returns the topic of the note, with this as the other place.
-fn way_of(mend: &Mend, other: Place) -> Way
-    ensures { result ≡ stated_way mend.now other }
+/// Returns the topic of the note of a change that gives the definition a type, with this as the other place.
+fn topic_of<'a>(definition: &'a str, mend: &Mend<'a>, other: Place) -> Topic<'a>
+    ensures { subject_of result ≡ stated_subject definition.now mend.now other }
 {
     match mend {
-        Mend::Expression(_) => Way::Expression(other),
-        Mend::Pattern(_) => Way::Pattern(other),
-        Mend::Exchange(_, _) => Way::Exchange(other),
-        Mend::Removal(_) => Way::Removal(other),
-        Mend::Sides(_, _) => Way::Sides(other),
-        Mend::Patterns(_, _) => Way::Patterns(other),
-        Mend::Insertion(insertion, _) => insertion_way(*insertion, other),
+        Mend::Expression(_) => Topic::Replaceable(definition, Way::Expression(other)),
+        Mend::Pattern(_) => Topic::Replaceable(definition, Way::Pattern(other)),
+        Mend::Exchange(_, _) => Topic::Replaceable(definition, Way::Exchange(other)),
+        Mend::Removal(_) => Topic::Replaceable(definition, Way::Removal(other)),
+        Mend::Sides(_, _) => Topic::Replaceable(definition, Way::Sides(other)),
+        Mend::Patterns(_, _) => Topic::Replaceable(definition, Way::Patterns(other)),
+        Mend::Insertion(insertion, _) => {
+            Topic::Replaceable(definition, insertion_way(*insertion, other))
+        }
+        Mend::Wrapped(name, _) => Topic::Wrapped(definition, name, other),
     }
 }
 
@@ -131,7 +136,7 @@ fn types_for(
     alloc: Global,
     module: &FaultyModule<'_, '_>,
     found: &TypeFault<'_>,
-    mend: &Mend,
+    mend: &Mend<'_>,
     effort: &mut Effort,
 ) -> Option<PartTypes>
     ensures { IfSome result (λ types. ArePartTypes «module».now.question.now.source.now «module».now.question.now.name.now
@@ -155,13 +160,14 @@ fn types_for(
         Mend::Sides(_, _) => None,
         Mend::Patterns(_, _) => None,
         Mend::Insertion(_, _) => None,
+        Mend::Wrapped(_, _) => None,
     }
 }
 
 /// The change that gives a definition a type, and the two types of the part, if they are found.
 #[derive(Drop)]
-struct FaultyPart {
-    mend: Mend,
+struct FaultyPart<'a> {
+    mend: Mend<'a>,
     types: Option<PartTypes>,
 }
 
@@ -170,7 +176,7 @@ fn note_text(
     alloc: Global,
     module: &FaultyModule<'_, '_>,
     definition: &str,
-    part: &FaultyPart,
+    part: &FaultyPart<'_>,
     other: Place,
 ) -> Result<Vec<u8>, AllocError>
     requires { IfSome part.now.types (λ types. ArePartTypes «module».now.page.now.lines «module».now.question.now.name.now
@@ -192,7 +198,7 @@ fn note_text(
             Ok(message(alloc, module.paint, module.page, first_of(mend), &topic)?)
         }
         None => {
-            let topic = Topic::Replaceable(definition, way_of(mend, other));
+            let topic = topic_of(definition, mend, other);
             Ok(message(alloc, module.paint, module.page, first_of(mend), &topic)?)
         }
     }
@@ -216,9 +222,10 @@ fn no_part_note(alloc: Global) -> PartNote
 }
 
 /// Returns whether the note of a change is before that of the signature in any case: it says what to write.
-fn is_first(mend: &Mend) -> bool {
+fn is_first(mend: &Mend<'_>) -> bool {
     match mend {
-        Mend::Sides(_, _) | Mend::Patterns(_, _) | Mend::Insertion(_, _) => true,
+        Mend::Sides(_, _) | Mend::Patterns(_, _) => true,
+        Mend::Insertion(_, _) | Mend::Wrapped(_, _) => true,
         _ => false,
     }
 }

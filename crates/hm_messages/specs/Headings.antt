@@ -17,7 +17,7 @@ use Rattle.hm_names.specs.declared.namespace.Namespace.TheVariants.{Types, Const
 use Rattle.hm_names.specs.declared.faults.Kind.TheVariants.{NotExported, Duplicate, NoBinding, Unbound, Ambiguous, ExportClash, NotImported, NonLinear, Arity, ClauseLength, Untyped, Recursive}
 use Rattle.hm_names.specs.Faults.Phases.{written_in}
 use Rattle.hm_messages.specs.Notices.{notice_of}
-use Rattle.hm_messages.specs.Subjects.{Subject, fault, replaceable, mistyped, unsigned, faulty, skipped, too_long, lexeme, open_comment, too_deep, syntax_fault, too_many, twice, twin, missing, cycle, exhausted, limit, step, hidden}
+use Rattle.hm_messages.specs.Subjects.{Subject, fault, replaceable, wrapped, mistyped, unsigned, faulty, skipped, too_long, lexeme, open_comment, too_deep, syntax_fault, too_many, twice, twin, missing, cycle, exhausted, limit, step, hidden}
 use Rattle.hm_messages.specs.declared.topic.Way.{Way}
 use Rattle.hm_messages.specs.declared.topic.Way.TheVariants.{Expression, Pattern, Exchange, Removal, Sides, Patterns, Brackets, ListBrackets, Argument, Semicolon, Comma}
 use Rattle.hm_messages.specs.declared.heading.Paint.{Paint}
@@ -173,6 +173,10 @@ replaceable_title x (Argument p) = argument_title x p
 replaceable_title x Semicolon = mark_title x (codes ";")
 replaceable_title x Comma = mark_title x (codes ",")
 
+-- what is said of an expression that ends at this place and gets this constructor
+abbrev pub wrapped_title : List ℕ → List ℕ → Place → List ℕ
+wrapped_title x c p = codes "'" ++ x ++ codes "' has a type with '" ++ c ++ codes "' in front of this (up to " ++ decimal p.line ++ codes ":" ++ decimal p.column ++ codes ")"
+
 -- what is said of a part that ends at this place, with the type that is expected there and the one that it has
 abbrev pub mistyped_title : Place → List ℕ → List ℕ → List ℕ
 mistyped_title p expected actual = codes "this has type '" ++ actual ++ codes "', but '" ++ expected ++ codes "' is expected (up to " ++ decimal p.line ++ codes ":" ++ decimal p.column ++ codes ")"
@@ -188,6 +192,7 @@ hidden_title k x = kind_title k x ++ codes ", whatever the names that aren't in 
 abbrev pub title : Subject → List ℕ
 title (fault k x known other) = fault_title k x known other
 title (replaceable x p) = replaceable_title x p
+title (wrapped x c p) = wrapped_title x c p
 title (mistyped x p expected actual infinite) = mistyped_title p expected actual
 title (unsigned x p own) = unsigned_title x p own
 title (faulty x) = codes "skipped, since '" ++ x ++ codes "' has errors"

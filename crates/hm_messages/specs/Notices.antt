@@ -8,7 +8,7 @@ use Rattle.hm_messages_hints.specs.SyntaxTexts.{syntax_help}
 use Rattle.hm_names.specs.declared.faults.Kind.{Kind}
 use Rattle.hm_verdicts.specs.Reports.{kind_word}
 use Rattle.hm_messages.specs.Sentences.{fault_sentence, types_sentence}
-use Rattle.hm_messages.specs.Subjects.{Subject, fault, replaceable, mistyped, unsigned, faulty, skipped, too_long, lexeme, open_comment, too_deep, syntax_fault, too_many, twice, twin, missing, cycle, exhausted, limit, step, hidden}
+use Rattle.hm_messages.specs.Subjects.{Subject, fault, replaceable, wrapped, mistyped, unsigned, faulty, skipped, too_long, lexeme, open_comment, too_deep, syntax_fault, too_many, twice, twin, missing, cycle, exhausted, limit, step, hidden}
 
 -- its level; the report's word for what is wrong, or the word for a sort of note; the name that it is about, if it is about one; the other place that it
 -- names; the rule that is broken or a hint; the type that is expected at a part, and the type that the part or a definition has
@@ -43,6 +43,7 @@ signature_notice x own = record { level = Note; kind = codes "signature"; name =
 abbrev pub notice_of : Subject → Notice
 notice_of (fault k x known other) = fault_notice k x other
 notice_of (replaceable x p) = note (codes "replaceable") (Some x)
+notice_of (wrapped x c p) = note (codes "replaceable") (Some x)
 notice_of (mistyped x p expected actual infinite) = types_notice x expected actual infinite
 notice_of (unsigned x p own) = signature_notice x own
 notice_of (faulty x) = note (codes "skipped") (Some x)

@@ -1,6 +1,6 @@
 //! The first line of a message, after the name of its file.
 ghost use Rattle.std.specs.Prelude.{◌≡◌, IfOk, string_bytes};
-ghost use Rattle.hm_messages.specs.Headings.{argument_title as argument_title_bytes, begin, brackets_title as brackets_title_bytes, end, exchange_title as exchange_title_bytes, expression_title as expression_title_bytes, heading as heading_bytes, list_brackets_title as list_brackets_title_bytes, mark_title as mark_title_bytes, mistyped_title as mistyped_title_bytes, pattern_title as pattern_title_bytes, patterns_title as patterns_title_bytes, removal_title as removal_title_bytes, replaceable_title as replaceable_title_bytes, sides_title as sides_title_bytes, tag as tag_bytes, title as title_bytes, unsigned_title as unsigned_title_bytes};
+ghost use Rattle.hm_messages.specs.Headings.{argument_title as argument_title_bytes, begin, brackets_title as brackets_title_bytes, end, exchange_title as exchange_title_bytes, expression_title as expression_title_bytes, heading as heading_bytes, list_brackets_title as list_brackets_title_bytes, mark_title as mark_title_bytes, mistyped_title as mistyped_title_bytes, pattern_title as pattern_title_bytes, patterns_title as patterns_title_bytes, removal_title as removal_title_bytes, replaceable_title as replaceable_title_bytes, sides_title as sides_title_bytes, tag as tag_bytes, title as title_bytes, unsigned_title as unsigned_title_bytes, wrapped_title as wrapped_title_bytes};
 ghost use Rattle.hm_messages.specs.Subjects.{subject_of};
 
 use crate::fault_titles::{fault_title, hidden_title};
@@ -156,6 +156,21 @@ fn replaceable_title(alloc: Global, name: &str, way: Way) -> Result<String, Allo
     }
 }
 
+/// Returns the text about an expression that ends at this place and gets a constructor.
+fn wrapped_title(
+    alloc: Global,
+    name: &str,
+    constructor: &str,
+    end: Place,
+) -> Result<String, AllocError>
+    ensures { IfOk result (λ text. string_bytes text ≡ wrapped_title_bytes name.now constructor.now end) }
+{
+    let Place { line, column } = end;
+    format!(in alloc;
+        "'{name}' has a type with '{constructor}' in front of this (up to {line}:{column})"
+    )
+}
+
 /// Returns the text about a part with these two types.
 fn mistyped_title(alloc: Global, types: &BothTypes<'_>) -> Result<String, AllocError>
     ensures { IfOk result (λ text. string_bytes text ≡ mistyped_title_bytes types.now.end types.now.expected.now types.now.actual.now) }
@@ -187,6 +202,7 @@ pub(crate) fn title(alloc: Global, topic: &Topic<'_>) -> Result<String, AllocErr
     match topic {
         Topic::Fault(kind, named) => fault_title(alloc, *kind, named),
         Topic::Replaceable(name, way) => replaceable_title(alloc, name, *way),
+        Topic::Wrapped(name, constructor, end) => wrapped_title(alloc, name, constructor, *end),
         Topic::Mistyped(_, types) => mistyped_title(alloc, types),
         Topic::Unsigned(name, end, own) => unsigned_title(alloc, name, *end, own),
         Topic::Faulty(name) => format!(in alloc; "skipped, since '{name}' has errors"),

@@ -148,6 +148,7 @@ pub(crate) fn notice_of<'a>(topic: &Topic<'a>) -> Notice<'a>
     match topic {
         Topic::Fault(kind, named) => fault_notice(*kind, named),
         Topic::Replaceable(name, _) => note("replaceable", Some(name)),
+        Topic::Wrapped(name, _, _) => note("replaceable", Some(name)),
         Topic::Mistyped(name, types) => types_notice(name, types),
         Topic::Unsigned(name, _, own) => signature_notice(name, own),
         Topic::Faulty(name) => note("skipped", Some(name)),

@@ -61,6 +61,8 @@ pub enum Topic<'a> {
     Fault(Kind, Named<'a>),
     /// A definition has a type with this change.
     Replaceable(&'a str, Way),
+    /// A definition has a type with this constructor in front of an expression, which ends at this place.
+    Wrapped(&'a str, &'a str, Place),
     /// A part of a definition has one type, and another one is expected in its place.
     Mistyped(&'a str, BothTypes<'a>),
     /// A definition has this type without its signature, which ends here.

@@ -1,4 +1,5 @@
 pub mod Blanks
+pub mod Constructors
 pub mod Exchanges
 pub mod Holes
 pub mod Insertions

@@ -1,12 +1,13 @@
 //! Makes the changed sources of trials, whose texts are proved.
 //!
-//! There is a hole, another pattern or an exchange in place of a part, a text around it, a probe in place of a definition, or spaces in place of
+//! There is a hole, another pattern or an exchange in place of a part, a text around it, a constructor in front of it, a probe in place of a definition, or spaces in place of
 //! definitions. Which changes are tried first is a choice.
 #![tactic(auto)]
 
 mod blanks;
 mod candidates;
 mod changes;
+mod constructors;
 mod cutting;
 mod data;
 mod edits;
@@ -26,6 +27,7 @@ mod wildcards;
 pub use crate::blanks::{ScopeChange, changed_by};
 pub use crate::candidates::insertions_in;
 pub use crate::changes::{SmallChange, changes_at, exchanges_at};
+pub use crate::constructors::{Wrapper, constructor_name, with_constructor, wrappers_of};
 pub use crate::cutting::{Cut, cut_of};
 pub use crate::data::{HOLE, Layout, Other, Rebound, SourceRange, Span};
 pub use crate::edits::{Edit, Filling, edited, in_place};

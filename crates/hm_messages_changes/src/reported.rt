@@ -1,5 +1,6 @@
 //! What the search finds, in tokens.
 
+use crate::constructors::Wrapper;
 use crate::insertions::Insertion;
 use hm_messages_outline::Run;
 
@@ -19,6 +20,8 @@ pub enum Reported {
     Patterns(Run, Run),
     /// A text that is put in around an expression, or before it.
     Insertion(Insertion, Run),
+    /// A constructor in front of an expression.
+    Wrapped(Wrapper, Run),
 }
 
 /// Returns the run, as if its token with the first number had the second one.
@@ -60,6 +63,7 @@ impl Reported {
             Reported::Insertion(insertion, run) => {
                 Reported::Insertion(insertion, moved(run, from, to))
             }
+            Reported::Wrapped(wrapper, run) => Reported::Wrapped(wrapper, moved(run, from, to)),
         }
     }
 }

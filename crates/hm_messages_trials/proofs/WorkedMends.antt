@@ -1,6 +1,6 @@
 -- The worked mends.
 use Rattle.std.proofs.Common.{◌≡◌, ℕ, List, get_or, refl, ap, arith}
-use Rattle.hm_messages_trials.specs.Worked.{MendsRow}
+use Rattle.hm_messages_trials.specs.Worked.{MendsRow, WrappedRow}
 
 pub worked_mends_row : MendsRow
 worked_mends_row = record {
@@ -18,4 +18,10 @@ worked_mends_row = record {
   argument = refl;
   semicolon = refl;
   comma = refl;
+}
+
+pub worked_wrapped_row : WrappedRow
+worked_wrapped_row = record {
+  just = refl;
+  plain = λ e. let apart : 40 ≡ 74 = ap (λ (l : List ℕ). get_or l 2 0) e in absurd (omega (arith, apart));
 }

@@ -5,10 +5,11 @@ use Rattle.hm_messages_trials.specs.TypedSources.{HasTypesIn, IsCulprit}
 use Rattle.hm_messages_changes.specs.Holes.{IsPartOf, without}
 use Rattle.hm_messages_changes.specs.declared.data.Frame.{Frame}
 use Rattle.hm_messages_trials.specs.declared.mends.Mend.{Mend}
-use Rattle.hm_messages_trials.specs.declared.mends.Mend.TheVariants.{Expression, Pattern, Exchange, Removal, Sides, Patterns, Insertion as insertion_mend}
+use Rattle.hm_messages_trials.specs.declared.mends.Mend.TheVariants.{Expression, Pattern, Exchange, Removal, Sides, Patterns, Insertion as insertion_mend, Wrapped}
 use Rattle.hm_messages_changes.specs.declared.data.Span.{Span}
 use Rattle.hm_messages_changes.specs.declared.data.SourceRange.{SourceRange}
 use Rattle.hm_messages_changes.specs.Wildcards.{bindings, with_wildcard, IsInside}
+use Rattle.hm_messages_changes.specs.Constructors.{with_constructor}
 use Rattle.hm_messages_changes.specs.Exchanges.{with_exchanged}
 use Rattle.hm_messages_changes.specs.Insertions.{with_insertion}
 use Rattle.hm_messages_changes.specs.declared.insertions.Insertion.{Insertion}
@@ -48,8 +49,14 @@ pub record IsInsertion (source name : List ℕ) (fs : List Interface) (definitio
   pub others : List (List ℕ)
   pub types : HasTypesIn (with_insertion source insertion part) name fs (definition ∷ others)
 
+-- the definition has a type with a constructor of this name in front of the part
+pub record IsWrapped (source name : List ℕ) (fs : List Interface) (definition constructor : List ℕ) (part : SourceRange) : Type 0 where
+  pub part_of : IsPartOf source part
+  pub others : List (List ℕ)
+  pub types : HasTypesIn (with_constructor source constructor part) name fs (definition ∷ others)
+
 -- the definition has a type with another expression or another pattern there, with the two parts exchanged, if the part is left out, or with a text put in
--- around it. The parts that are exchanged are expressions, sides of a `:` or patterns
+-- around it or a constructor in front of it. The parts that are exchanged are expressions, sides of a `:` or patterns
 abbrev pub IsMend : List ℕ → List ℕ → List Interface → List ℕ → Mend → Type 0
 IsMend source name fs definition (Expression part) = IsCulprit source name fs definition part
 IsMend source name fs definition (Pattern part) = IsPatternPart source name fs definition part
@@ -58,3 +65,4 @@ IsMend source name fs definition (Removal part) = IsRemoval source name fs defin
 IsMend source name fs definition (Sides first second) = IsExchange source name fs definition first second
 IsMend source name fs definition (Patterns first second) = IsExchange source name fs definition first second
 IsMend source name fs definition (insertion_mend insertion part) = IsInsertion source name fs definition insertion part
+IsMend source name fs definition (Wrapped constructor part) = IsWrapped source name fs definition constructor.now part

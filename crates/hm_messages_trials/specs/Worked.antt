@@ -13,6 +13,7 @@ use Rattle.hm_verdicts.specs.Worked.{module_A, module_B}
 use Rattle.hm_messages_trials.specs.TypedSources.{AreTyped, HasTypesIn}
 use Rattle.hm_messages_changes.specs.Holes.{IsPartOf, with_hole, without}
 use Rattle.hm_messages_changes.specs.Wildcards.{IsInside, bindings, with_wildcard}
+use Rattle.hm_messages_changes.specs.Constructors.{with_constructor}
 use Rattle.hm_messages_changes.specs.Exchanges.{with_exchanged}
 use Rattle.hm_messages_changes.specs.Insertions.{with_insertion}
 use Rattle.hm_messages_changes.specs.declared.insertions.Insertion.TheVariants.{Brackets, ListBrackets, Argument, Semicolon, Comma}
@@ -77,3 +78,8 @@ pub record MendsRow : Type 0 where
   pub argument : with_insertion (codes "f x") Argument (part 0 3) ≡ codes "(f x (let { h = h } in h))"
   pub semicolon : with_insertion (codes "x y :: T") Semicolon (part 2 3) ≡ codes "x ; y :: T"
   pub comma : with_insertion (codes "[x y]") Comma (part 3 4) ≡ codes "[x , y]"
+
+-- Just in front of x, which is in brackets, and so isn't Just x without brackets
+pub record WrappedRow : Type 0 where
+  pub just : with_constructor (codes "f x") (codes "Just") (part 2 3) ≡ codes "f (Just (x))"
+  pub plain : ¬ (with_constructor (codes "f x") (codes "Just") (part 2 3) ≡ codes "f Just (x)")

@@ -1,5 +1,5 @@
 //! Worked examples: functions with empty bodies, whose contracts have the facts.
-ghost use Rattle.hm_messages_trials.specs.Worked.{HolesRow, MendsRow, PartsRow, TypesRow, VerdictsRow};
+ghost use Rattle.hm_messages_trials.specs.Worked.{HolesRow, MendsRow, PartsRow, TypesRow, VerdictsRow, WrappedRow};
 ghost use Rattle.hm_messages_trials.specs.WorkedHidden.{BeyondRow, DefinitionsRow, HeldRow, LaterRow, ReplacedRow};
 ghost use Rattle.hm_messages_trials.specs.WorkedLimits.{LimitsRow};
 ghost use Rattle.hm_messages_trials.specs.WorkedPartTypes.{ExportsRow, GoodRow, InfiniteRow, OthersRow, ProbesRow, SignaturesRow, TextsRow};
@@ -13,10 +13,11 @@ pub fn worked_holes()
     ensures types { TypesRow }
 {}
 
-/// A source without a pattern, with two parts exchanged, and with a text put in.
-#[tactic(auto, using(crate::proofs::WorkedMends::worked_mends_row))]
+/// A source without a pattern, with two parts exchanged, with a text put in, and with a constructor in front of a part.
+#[tactic(auto, using(crate::proofs::WorkedMends::worked_mends_row, crate::proofs::WorkedMends::worked_wrapped_row))]
 pub fn worked_mends()
-    ensures { MendsRow }
+    ensures mends { MendsRow }
+    ensures wrapped { WrappedRow }
 {}
 
 /// Sources with a function of two types or a definition alone, the texts of two types, a source in which a module exports a variable, sources in which one

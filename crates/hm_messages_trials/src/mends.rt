@@ -2,19 +2,19 @@
 ghost use Rattle.std.specs.Prelude.{◌≡◌, IfOk, map, true};
 ghost use Rattle.std.specs.Arc.{arc_value};
 ghost use Rattle.hm_messages_changes.specs.Holes.{IsPartOf};
-ghost use Rattle.hm_messages_trials.specs.Mends.{HasTypesWithPattern, IsExchange, IsInsertion, IsRemoval};
+ghost use Rattle.hm_messages_trials.specs.Mends.{HasTypesWithPattern, IsExchange, IsInsertion, IsRemoval, IsWrapped};
 
 use crate::culprits::Searched;
 use crate::trial::has_types_in;
 use hm_messages_changes::{
-    Insertion, Rebound, SourceRange, are_inside, bindings, with_exchanged, with_insertion,
-    with_wildcard, without,
+    Insertion, Rebound, SourceRange, are_inside, bindings, with_constructor, with_exchanged,
+    with_insertion, with_wildcard, without,
 };
 use std::alloc::{AllocError, Global};
 
 /// A change that gives a definition a type.
 #[derive(Clone, Copy)]
-pub enum Mend {
+pub enum Mend<'a> {
     /// Another expression in place of this one.
     Expression(SourceRange),
     /// Another pattern in place of this one.
@@ -29,6 +29,8 @@ pub enum Mend {
     Patterns(SourceRange, SourceRange),
     /// This text around an expression, or before it.
     Insertion(Insertion, SourceRange),
+    /// The constructor of this name in front of an expression.
+    Wrapped(&'a str, SourceRange),
 }
 
 /// Returns whether the definition has a type with `_` in place of a part, and with the part's variables bound to the hole.
@@ -117,6 +119,27 @@ pub(crate) fn types_with_insertion(
         (map arc_value searched.now.question.now.imports.now) searched.now.definition.now insertion part) }
 {
     let changed = with_insertion(alloc, searched.question.source, insertion, part)?;
+    Ok(has_types_in(
+        alloc,
+        searched.question,
+        changed.as_slice(),
+        searched.definition,
+        searched.others,
+    )?)
+}
+
+/// Returns whether the definition has a type with a constructor in front of a part.
+pub(crate) fn types_wrapped(
+    alloc: Global,
+    searched: &Searched<'_, '_>,
+    name: &str,
+    part: SourceRange,
+) -> Result<bool, AllocError>
+    requires { IsPartOf searched.now.question.now.source.now part }
+    ensures { IfOk result (λ yes. yes ≡ true → IsWrapped searched.now.question.now.source.now searched.now.question.now.name.now
+        (map arc_value searched.now.question.now.imports.now) searched.now.definition.now name.now part) }
+{
+    let changed = with_constructor(alloc, searched.question.source, name, part)?;
     Ok(has_types_in(
         alloc,
         searched.question,

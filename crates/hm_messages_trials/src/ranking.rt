@@ -2,8 +2,10 @@
 
 use crate::costs::Effort;
 use crate::culprits::{MendingParts, Searched, is_mended_by};
+use crate::trial::has_types_in;
 use hm_messages_changes::{
-    Insertion, Reported, SmallChange, changes_at, exchanges_at, insertions_in, pattern_exchanges_in,
+    Insertion, Reported, SmallChange, Wrapper, changes_at, constructor_name, exchanges_at,
+    insertions_in, part_of, pattern_exchanges_in, with_constructor, wrappers_of,
 };
 use hm_messages_outline::{Outline, Role, Run, TermPart, without_brackets};
 use hm_parse_grammar::Symbol;
@@ -128,8 +130,8 @@ fn first_of(
 }
 
 // Why: docs/DECISIONS.md, "Texts put in".
-/// Returns what is reported of a definition with these right sides: a text that is put in, or else a change of a part, an exchange of patterns, or the likeliest
-/// part. Without a part that mends, patterns of all its clauses are exchanged.
+/// Returns what is reported of a definition with these right sides: a text that is put in, or else a change of a part, an exchange of patterns, a constructor
+/// in front of the likeliest part, or that part. Without a part that mends, patterns of all its clauses are exchanged.
 pub(crate) fn likeliest(
     alloc: Global,
     searched: &Searched<'_, '_>,
@@ -152,8 +154,74 @@ pub(crate) fn likeliest(
     let exchanges = pattern_exchanges_in(alloc, searched.lexed, clauses)?;
     match first_of(alloc, searched, exchanges.as_slice(), effort)? {
         Some(reported) => Ok(Some(reported)),
-        None => Ok(likeliest),
+        None => with_wrapper(alloc, searched, found.least.as_slice(), likeliest, effort),
     }
+}
+
+/// Returns an expression, or the application of which it is the function.
+fn whole_of(outline: &Outline, parts: &[TermPart], run: Run) -> Run {
+    for part in parts {
+        if part.role == Role::Function && without_brackets(outline, part.run) == run {
+            return part.around;
+        }
+    }
+    run
+}
+
+/// Returns a constructor in front of the expression that is reported, if the definition has a type with this one and with no other that is tried. Otherwise
+/// returns what is reported.
+fn with_wrapper(
+    alloc: Global,
+    searched: &Searched<'_, '_>,
+    parts: &[TermPart],
+    reported: Option<Reported>,
+    effort: &mut Effort,
+) -> Result<Option<Reported>, AllocError> {
+    let Some(Reported::Expression(run)) = reported else {
+        return Ok(reported);
+    };
+    let run = whole_of(searched.lexed.outline, parts, run);
+    let mut found = None;
+    for wrapper in &wrappers_of(alloc, searched.lexed, run.start)? {
+        if is_wrapped(alloc, searched, *wrapper, run, effort)? {
+            if found.is_some() {
+                return Ok(reported);
+            }
+            found = Some(Reported::Wrapped(*wrapper, run));
+        }
+    }
+    match found {
+        Some(wrapped) => Ok(Some(wrapped)),
+        None => Ok(reported),
+    }
+}
+
+/// Returns whether the definition has a type with a constructor in front of an expression. Returns `false` if no trial is left.
+fn is_wrapped(
+    alloc: Global,
+    searched: &Searched<'_, '_>,
+    wrapper: Wrapper,
+    run: Run,
+    effort: &mut Effort,
+) -> Result<bool, AllocError> {
+    let lexed = searched.lexed;
+    let Some(name) = constructor_name(alloc, lexed.source, lexed, wrapper, run.start)? else {
+        return Ok(false);
+    };
+    let Some(part) = part_of(lexed.tokens, run, lexed.source) else {
+        return Ok(false);
+    };
+    if !effort.pays(searched.cost) {
+        return Ok(false);
+    }
+    let changed = with_constructor(alloc, lexed.source, name, part)?;
+    has_types_in(
+        alloc,
+        searched.question,
+        changed.as_slice(),
+        searched.definition,
+        searched.others,
+    )
 }
 
 /// Returns what is reported of these parts: of the one with the most points, and of the last of several with as many.

@@ -8,13 +8,15 @@ use crate::costs::{Effort, cost_of};
 use crate::culprits::{Searched, culprits};
 use crate::mends::{
     Mend, types_exchanged, types_if_left_out, types_with_insertion, types_with_pattern,
+    types_wrapped,
 };
 use crate::ranking::likeliest;
 use crate::reading::{TypeFault, read};
 use crate::trial::types_without;
 use hm_lex::Token;
 use hm_messages_changes::{
-    Cut, Insertion, Rebound, Reported, SourceRange, Span, binding_place, cut_of, part_of,
+    Cut, Insertion, Rebound, Reported, SourceRange, Span, Wrapper, binding_place, constructor_name,
+    cut_of, part_of,
 };
 use hm_messages_outline::{Lexed, Run, binding_at, names_in, one, right_sides, signature_of};
 use hm_messages_types::Question;
@@ -86,11 +88,11 @@ fn reported_in(
 }
 
 /// Returns an expression, if the definition has a type with the hole in place of it.
-fn expression_mend(
+fn expression_mend<'q>(
     alloc: Global,
-    searched: &Searched<'_, '_>,
+    searched: &Searched<'_, 'q>,
     run: Run,
-) -> Result<Option<Mend>, AllocError>
+) -> Result<Option<Mend<'q>>, AllocError>
     ensures { IfOk result (λ found. IfSome found (IsMend searched.now.question.now.source.now searched.now.question.now.name.now
         (map arc_value searched.now.question.now.imports.now) searched.now.definition.now)) }
 {
@@ -122,12 +124,12 @@ fn variables_in(alloc: Global, lexed: &Lexed<'_>, pattern: Run) -> Result<Vec<Sp
 
 // Why: docs/DECISIONS.md, "Patterns".
 /// Returns a pattern of a clause, alternative or lambda, if the definition has a type without it.
-fn pattern_mend(
+fn pattern_mend<'q>(
     alloc: Global,
-    searched: &Searched<'_, '_>,
+    searched: &Searched<'_, 'q>,
     pattern: Run,
     around: Run,
-) -> Result<Option<Mend>, AllocError>
+) -> Result<Option<Mend<'q>>, AllocError>
     ensures { IfOk result (λ found. IfSome found (IsMend searched.now.question.now.source.now searched.now.question.now.name.now
         (map arc_value searched.now.question.now.imports.now) searched.now.definition.now)) }
 {
@@ -174,12 +176,12 @@ fn exchanged(
 }
 
 /// Returns two expressions, if the definition has a type with them exchanged.
-fn exchange_mend(
+fn exchange_mend<'q>(
     alloc: Global,
-    searched: &Searched<'_, '_>,
+    searched: &Searched<'_, 'q>,
     first: Run,
     second: Run,
-) -> Result<Option<Mend>, AllocError>
+) -> Result<Option<Mend<'q>>, AllocError>
     ensures { IfOk result (λ found. IfSome found (IsMend searched.now.question.now.source.now searched.now.question.now.name.now
         (map arc_value searched.now.question.now.imports.now) searched.now.definition.now)) }
 {
@@ -190,12 +192,12 @@ fn exchange_mend(
 }
 
 /// Returns the sides of a `:`, if the definition has a type with them exchanged.
-fn sides_mend(
+fn sides_mend<'q>(
     alloc: Global,
-    searched: &Searched<'_, '_>,
+    searched: &Searched<'_, 'q>,
     first: Run,
     second: Run,
-) -> Result<Option<Mend>, AllocError>
+) -> Result<Option<Mend<'q>>, AllocError>
     ensures { IfOk result (λ found. IfSome found (IsMend searched.now.question.now.source.now searched.now.question.now.name.now
         (map arc_value searched.now.question.now.imports.now) searched.now.definition.now)) }
 {
@@ -206,12 +208,12 @@ fn sides_mend(
 }
 
 /// Returns two patterns, if the definition has a type with them exchanged.
-fn patterns_mend(
+fn patterns_mend<'q>(
     alloc: Global,
-    searched: &Searched<'_, '_>,
+    searched: &Searched<'_, 'q>,
     first: Run,
     second: Run,
-) -> Result<Option<Mend>, AllocError>
+) -> Result<Option<Mend<'q>>, AllocError>
     ensures { IfOk result (λ found. IfSome found (IsMend searched.now.question.now.source.now searched.now.question.now.name.now
         (map arc_value searched.now.question.now.imports.now) searched.now.definition.now)) }
 {
@@ -223,12 +225,12 @@ fn patterns_mend(
 
 /// Returns an expression, if the definition has a type with a text put in around it. Otherwise returns the expression, if the definition has a type with the
 /// hole in place of it.
-fn insertion_mend(
+fn insertion_mend<'q>(
     alloc: Global,
-    searched: &Searched<'_, '_>,
+    searched: &Searched<'_, 'q>,
     insertion: Insertion,
     run: Run,
-) -> Result<Option<Mend>, AllocError>
+) -> Result<Option<Mend<'q>>, AllocError>
     ensures { IfOk result (λ found. IfSome found (IsMend searched.now.question.now.source.now searched.now.question.now.name.now
         (map arc_value searched.now.question.now.imports.now) searched.now.definition.now)) }
 {
@@ -243,12 +245,12 @@ fn insertion_mend(
 
 /// Returns an argument, if the definition has a type without it. Otherwise returns an expression around it, if the definition has a type with the hole in
 /// place of that.
-fn removal_mend(
+fn removal_mend<'q>(
     alloc: Global,
-    searched: &Searched<'_, '_>,
+    searched: &Searched<'_, 'q>,
     argument: Run,
     around: Run,
-) -> Result<Option<Mend>, AllocError>
+) -> Result<Option<Mend<'q>>, AllocError>
     ensures { IfOk result (λ found. IfSome found (IsMend searched.now.question.now.source.now searched.now.question.now.name.now
         (map arc_value searched.now.question.now.imports.now) searched.now.definition.now)) }
 {
@@ -261,12 +263,36 @@ fn removal_mend(
     Ok(expression_mend(alloc, searched, around)?)
 }
 
-/// Returns what is reported, if it gives the definition a type.
-fn confirmed(
+/// Returns an expression, if the definition has a type with a constructor in front of it. Otherwise returns the expression, if the definition has a type with
+/// the hole in place of it.
+fn wrapped_mend<'q>(
     alloc: Global,
-    searched: &Searched<'_, '_>,
+    searched: &Searched<'_, 'q>,
+    wrapper: Wrapper,
+    run: Run,
+) -> Result<Option<Mend<'q>>, AllocError>
+    ensures { IfOk result (λ found. IfSome found (IsMend searched.now.question.now.source.now searched.now.question.now.name.now
+        (map arc_value searched.now.question.now.imports.now) searched.now.definition.now)) }
+{
+    let source = searched.question.source;
+    let Some(part) = part_of(searched.lexed.tokens, run, source) else {
+        return Ok(None);
+    };
+    let Some(name) = constructor_name(alloc, source, searched.lexed, wrapper, run.start)? else {
+        return Ok(None);
+    };
+    if types_wrapped(alloc, searched, name, part)? {
+        return Ok(Some(Mend::Wrapped(name, part)));
+    }
+    Ok(expression_mend(alloc, searched, run)?)
+}
+
+/// Returns what is reported, if it gives the definition a type.
+fn confirmed<'q>(
+    alloc: Global,
+    searched: &Searched<'_, 'q>,
     reported: Reported,
-) -> Result<Option<Mend>, AllocError>
+) -> Result<Option<Mend<'q>>, AllocError>
     ensures { IfOk result (λ found. IfSome found (IsMend searched.now.question.now.source.now searched.now.question.now.name.now
         (map arc_value searched.now.question.now.imports.now) searched.now.definition.now)) }
 {
@@ -278,6 +304,7 @@ fn confirmed(
         Reported::Sides(first, second) => Ok(sides_mend(alloc, searched, first, second)?),
         Reported::Patterns(first, second) => Ok(patterns_mend(alloc, searched, first, second)?),
         Reported::Insertion(insertion, run) => Ok(insertion_mend(alloc, searched, insertion, run)?),
+        Reported::Wrapped(wrapper, run) => Ok(wrapped_mend(alloc, searched, wrapper, run)?),
     }
 }
 
@@ -298,12 +325,12 @@ fn names_of<'a>(alloc: Global, faults: &'a [Fault]) -> Result<Vec<&'a str>, Allo
 /// # Errors
 ///
 /// Memory ran out, or a type would have grown past the limits of the question.
-pub fn mend_of(
+pub fn mend_of<'q>(
     alloc: Global,
-    question: &Question<'_>,
+    question: &Question<'q>,
     found: &TypeFault<'_>,
     effort: &mut Effort,
-) -> Result<Option<Mend>, AllocError>
+) -> Result<Option<Mend<'q>>, AllocError>
     ensures mend { IfOk result (λ mend. IfSome mend (IsMend question.now.source.now question.now.name.now (map arc_value question.now.imports.now)
         found.now.fault.now.name)) }
     ensures none { IsUsedUp effort.old → IfOk result (λ mend. mend ≡ None) }
