@@ -10,7 +10,7 @@ out of scope; a type or a value of Prelude declared again; a slip in an expressi
 - a name to write for an ambiguous one: the same; without the import in the named line this name isn't in scope;
 - `import Prelude hiding (x)`: with it the name isn't ambiguous there;
 - two types: they have no common instance, if the definition has no signature;
-- another expression: with a hole there, the definition has a type; an exchange, an argument left out: the same with the changed source;
+- another expression: with a hole there, the definition has a type; an exchange, an argument left out, a text put in: the same with the changed source;
 - a type without a signature: the module without it has this type, if it is good.
 
 Prints how often each was tried, and each claim that is false. Ends with 1 if there is one. The sources are a function of the seed.
@@ -211,6 +211,18 @@ def is_untyped(messages, name):
     return any(it["kind"] == "type" and it["name"] == name for it in messages)
 
 
+def put_around(text):
+    """Returns what a note puts in before a part and after it, or None."""
+    if "with brackets around this" in text:
+        return "(", ")"
+    if "with '[' and ']' around this" in text:
+        return "[", "]"
+    if "with one more argument after this" in text:
+        return "(", f" {HOLE})"
+    found = re.search(r"with '([\w.']+)' in front of this", text)
+    return (f"({found[1]} (", "))") if found else None
+
+
 def changed_part(source, message):
     """Returns the source with the change that a note of a part names, or None."""
     start = offset(source, message["start"])
@@ -220,6 +232,10 @@ def changed_part(source, message):
         return with_text(source, start, last, HOLE)
     if "if this is left out" in message["text"]:
         return with_text(source, start, last, "")
+    if found := re.search(r"with '([;,])' before this$", message["text"]):
+        return with_text(source, start, start, f"{found[1]} ")
+    if around := put_around(message["text"]):
+        return with_text(source, start, last, around[0] + source[start:last] + around[1])
     found = re.search(r"this expression and the one at (\d+):(\d+) exchanged", message["text"])
     if found is None:
         return None
@@ -236,6 +252,8 @@ def try_part(program, source, message):
     after = ask(program, changed)[1]
     if is_untyped(after, message["name"]) or any(it["kind"] in ("syntax", "lexeme") for it in after):
         raise Finding("with the change the definition has no type")
+    if put_around(message["text"]) or " before this" in message["text"]:
+        return "a text put in"
     return "another expression" if HOLE in changed else "an exchange or an argument left out"
 
 
