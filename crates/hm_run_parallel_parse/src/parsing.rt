@@ -12,6 +12,7 @@ use core::thread::Stack;
 use hm_lex::Token;
 use hm_lex::laws::token_texts;
 use hm_parse::parse_run;
+use hm_run_parallel_lex::lex_in_parts;
 use hm_run_sources::{SetError, source_tokens, spelled_modules};
 use hm_syntax::Module;
 use std::alloc::{AllocError, Global};
@@ -96,6 +97,22 @@ fn parsed_in_runs<T: Threads + Wait + Sync>(
     )
 }
 
+/// Returns the tokens of the only source of a set. If it can't be lexed in parts, this thread lexes it. So a fault is the one that `lex` returns.
+fn lone_tokens<T: Threads + Wait + Sync>(
+    rt: &T,
+    alloc: Global,
+    text: &[u8],
+    pool: Pool,
+) -> Result<Vec<Token>, SetError>
+    ensures ok { IfOk result (λ tokens. AreTokensOf text.now tokens.items) }
+    ensures err { IfErr result (IsSourceError 1 text.now) }
+{
+    match lex_in_parts(rt, alloc, text, pool.threads) {
+        Some(tokens) => Ok(tokens),
+        None => Ok(source_tokens(alloc, 1, text)?),
+    }
+}
+
 /// Returns the modules of the only source of a set. If a run spells no modules, for example because of a fault in it, this thread parses all
 /// tokens. So a fault is the one that `parse` returns.
 pub(crate) fn modules_of<T: Threads + Wait + Sync>(
@@ -108,7 +125,7 @@ pub(crate) fn modules_of<T: Threads + Wait + Sync>(
     ensures err { IfErr result (IsSourceError 1 text.now) }
 {
     token_texts();
-    let tokens = match source_tokens(alloc, 1, text) {
+    let tokens = match lone_tokens(rt, alloc, text, pool) {
         Ok(tokens) => tokens,
         Err(fault) => return Err(fault),
     };

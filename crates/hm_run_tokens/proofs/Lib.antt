@@ -1,0 +1,7 @@
+pub mod Items
+pub mod OneLines
+pub mod Seams
+pub mod Joins
+pub mod BracketDepths
+pub mod Lines
+pub mod WorkedParts
