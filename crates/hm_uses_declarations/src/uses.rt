@@ -48,7 +48,7 @@ impl<'a> Model for Use<'a> {
 
 impl<'a> Use<'a> {
     /// Returns the use of a name.
-    pub(crate) fn new(name: &'a Name, kind: NameKind, binds: bool, meaning: Meaning<'a>) -> Use<'a>
+    pub fn new(name: &'a Name, kind: NameKind, binds: bool, meaning: Meaning<'a>) -> Use<'a>
         ensures { result ≡ record { mention = record { name = name.now; kind = kind; binds = binds }; sense = sense_of meaning.entry } }
     {
         Use {
