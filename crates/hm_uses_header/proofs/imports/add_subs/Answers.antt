@@ -1,0 +1,17 @@
+use Rattle.std.specs.Prelude.{option_map}
+use Rattle.std.specs.Borrow.{Bor}
+use Rattle.hm_types.specs.Interfaces.{Exports as Interface}
+use Rattle.hm_syntax.specs.declared.ast.ImportItem.TheVariants as item
+use Rattle.hm_syntax.specs.declared.ast.SubItems.TheVariants as subs
+use Rattle.hm_uses_header.proofs.Steps.{adds_nothing}
+use Rattle.hm_uses_header.proofs.Listed.{Item}
+use Rattle.hm_uses_header.proofs.imports.add_subs.Goals as goal
+
+pub returns-in-None : goal.returns-in-None
+returns-in-None c = rw c.in-None.is (adds_nothing (Item (option_map (λ (f : Bor Interface). f.now) c.args.interface) (item.Con c.args.of.now subs.None)) c.args.found.now.items)
+
+pub returns-in-All : goal.returns-in-All
+returns-in-All c = rw c.in-All.is (adds_nothing (Item (option_map (λ (f : Bor Interface). f.now) c.args.interface) (item.Con c.args.of.now subs.All)) c.args.found.now.items)
+
+pub returns-in_ok-add_parts-in-Some : goal.returns-in_ok-add_parts-in-Some
+returns-in_ok-add_parts-in-Some c = rw c.in-Some.is (rw c.as_slice.ensures at c.in_ok-add_parts-in-Some.ensures)
