@@ -2,6 +2,8 @@
 //!
 //! With enough memory each use has its meaning. If the call itself runs out of memory, its test ends with an error of its own; before the call, the
 //! error is "no memory". The test has no other end.
+mod headers;
+
 // Why: docs/DECISIONS.md, "Refusals of single calls".
 use hm_lex::{LexFault, lex};
 use hm_names::Namespace;
