@@ -106,10 +106,10 @@ module A where { import B ; x = y }
 """
 
 # the same as objects
-OBJECTS = """{"end":{"byte":23,"character":23,"line":1,"utf16":23},"expected":null,"file":"twice.hs","hint":"No types fit this definition and those that refer back to it. All others that it refers to have types or signatures.","kind":"type","level":"error","module":"B","name":"twice","other":null,"start":{"byte":18,"character":18,"line":1,"utf16":18},"text":"type error in 'twice'","type":null}
-{"end":{"byte":31,"character":31,"line":1,"utf16":31},"expected":"a","file":"twice.hs","hint":"No type is both: it would contain itself, and so be infinite.","kind":"mistyped","level":"note","module":"B","name":"twice","other":null,"start":{"byte":30,"character":30,"line":1,"utf16":30},"text":"this has type 'a -> b', but 'a' is expected (up to 1:30)","type":"a -> b"}
-{"end":{"byte":26,"character":26,"line":1,"utf16":26},"expected":null,"file":"user.hs","hint":null,"kind":"skipped","level":"note","module":"C","name":"B","other":null,"start":{"byte":25,"character":25,"line":1,"utf16":25},"text":"skipped, since 'B' has errors","type":null}
-{"errors":1,"level":"end","skipped":1}
+OBJECTS = """{"edits":[],"end":{"byte":23,"character":23,"line":1,"utf16":23},"expected":null,"file":"twice.hs","hint":"No types fit this definition and those that refer back to it. All others that it refers to have types or signatures.","kind":"type","level":"error","module":"B","name":"twice","other":null,"start":{"byte":18,"character":18,"line":1,"utf16":18},"text":"type error in 'twice'","type":null}
+{"edits":[],"end":{"byte":31,"character":31,"line":1,"utf16":31},"expected":"a","file":"twice.hs","hint":"No type is both: it would contain itself, and so be infinite.","kind":"mistyped","level":"note","module":"B","name":"twice","other":null,"start":{"byte":30,"character":30,"line":1,"utf16":30},"text":"this has type 'a -> b', but 'a' is expected (up to 1:30)","type":"a -> b"}
+{"edits":[],"end":{"byte":26,"character":26,"line":1,"utf16":26},"expected":null,"file":"user.hs","hint":null,"kind":"skipped","level":"note","module":"C","name":"B","other":null,"start":{"byte":25,"character":25,"line":1,"utf16":25},"text":"skipped, since 'B' has errors","type":null}
+{"errors":1,"format":1,"level":"end","skipped":1}
 """
 
 def cannot_open(name, why="no such file"):
@@ -178,7 +178,7 @@ ROWS = {
     "messages of a refused plan": (["--plan", "-e", "a.hs"], "", 2, "refused: module A imports missing B\n", MISSING + "errors: 1, skipped modules: 0\n"),
     "messages of a plan of two faulty sources": (["--plan", "-e", "bad.hs", "b.hs", "-"], "module D where { z = # }", 2, "refused: source 1 at 1:18: syntax\n", TWO_FAULTS),
     "messages of a plan, quiet": (["--plan", "-eq", "a.hs"], "", 2, "", MISSING + "errors: 1, skipped modules: 0\n"),
-    "objects of a plan": (["--plan", "--message-format", "json", "a.hs", "b.hs"], "", 0, PLAN, '{"errors":0,"level":"end","skipped":0}\n'),
+    "objects of a plan": (["--plan", "--message-format", "json", "a.hs", "b.hs"], "", 0, PLAN, '{"errors":0,"format":1,"level":"end","skipped":0}\n'),
     "messages of a plan of no such file": (["--plan", "-e", "none.hs"], "", 4, "", cannot_open("none.hs")),
     "messages of no such file": (["--explain", "none.hs"], "", 4, "", cannot_open("none.hs")),
     "a name for standard input": (
@@ -199,14 +199,14 @@ ROWS = {
         TWICE,
         1,
         "faulty B\n  1:18 type twice\n1 modules: 0 good, 1 faulty, 0 skipped\n",
-        "".join(OBJECTS.splitlines(True)[:2]).replace("twice.hs", 'a \\"b\\"\\n\\u001b.hs') + '{"errors":1,"level":"end","skipped":0}\n',
+        "".join(OBJECTS.splitlines(True)[:2]).replace("twice.hs", 'a \\"b\\"\\n\\u001b.hs') + '{"errors":1,"format":1,"level":"end","skipped":0}\n',
     ),
-    "objects of a good set": (["--message-format", "json", "a.hs", "b.hs"], "", 0, REPORT, '{"errors":0,"level":"end","skipped":0}\n'),
+    "objects of a good set": (["--message-format", "json", "a.hs", "b.hs"], "", 0, REPORT, '{"errors":0,"format":1,"level":"end","skipped":0}\n'),
     "messages for readers": (["--message-format", "human", "--explain", "twice.hs", "user.hs", "pair.hs"], "", 1, EXAMPLE, untyped("twice.hs") + BLAMED + "errors: 1, skipped modules: 1\n"),
     "messages by a letter": (["-e", "-j2", "pair.hs", "twice.hs", "user.hs"], "", 1, EXAMPLE, untyped("twice.hs") + BLAMED + "errors: 1, skipped modules: 1\n"),
     "messages with colours": (["--color", "always", "-e", "twice.hs", "pair.hs", "user.hs"], "", 1, EXAMPLE, coloured(untyped("twice.hs") + BLAMED) + "errors: 1, skipped modules: 1\n"),
     "messages without colours": (["--color=never", "-e", "twice.hs", "pair.hs", "user.hs"], "", 1, EXAMPLE, untyped("twice.hs") + BLAMED + "errors: 1, skipped modules: 1\n"),
-    "objects have no colours": (["--color=always", "--message-format", "json", "a.hs", "b.hs"], "", 0, REPORT, '{"errors":0,"level":"end","skipped":0}\n'),
+    "objects have no colours": (["--color=always", "--message-format", "json", "a.hs", "b.hs"], "", 0, REPORT, '{"errors":0,"format":1,"level":"end","skipped":0}\n'),
     "colours at no such time": (["--color", "often", "a.hs"], "", 2, "", None),
     "a quiet check": (["-q", "twice.hs"], "", 1, "", ""),
     "a quiet check with messages": (["--quiet", "-e", "twice.hs"], "", 1, "", untyped("twice.hs") + "errors: 1, skipped modules: 0\n"),

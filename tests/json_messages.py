@@ -45,7 +45,8 @@ def differs(value, schema, root, at="line"):
     if "properties" in schema:
         if lacking := set(schema["required"]) - set(value):
             return f"{at}: no {sorted(lacking)}"
-        if not schema["additionalProperties"] and (more := set(value) - set(schema["properties"])):
+        # The schema allows members that it doesn't name, for programs. hmc writes none.
+        if more := set(value) - set(schema["properties"]):
             return f"{at}: {sorted(more)} besides"
         for name, each in value.items():
             if why := differs(each, schema["properties"][name], root, f"{at}.{name}"):

@@ -277,7 +277,9 @@ def kind_faults():
     faults += [] if len(tables) == 2 and words else ["docs/LANGUAGE.md doesn't have two tables of the kinds of faults"]
     notes = set(re.findall(r'\bnote\(\s*"([\w-]+)"|kind: "([\w-]+)"', notices))
     notes = {one or other for one, other in notes}
-    kinds = words | notes | set(re.findall(r'\berror\(\s*"([\w-]+)"', notices))
+    # Those of changes have a function of their own.
+    ways = set(re.findall(r'Way::\w+(?:\(_\))? => "([\w-]+)"', notices))
+    kinds = words | notes | ways | set(re.findall(r'\berror\(\s*"([\w-]+)"', notices))
     of_schema = re.search(r'"kind": \{\s*"enum": \[(.*?)\]', text("tests/message.schema.json"), re.S)
     differing = kinds ^ set(re.findall(r'"([\w-]+)"', of_schema[1] if of_schema else ""))
     faults += [f"tests/message.schema.json has other kinds of messages than the code: {' '.join(sorted(differing))}"] if differing else []

@@ -1,3 +1,4 @@
 pub mod Listed
 pub mod Listings
 pub mod Refusals
+pub mod Worked

@@ -5,6 +5,7 @@
 
 mod blame;
 mod counts;
+pub mod laws;
 mod listings;
 mod refusals;
 

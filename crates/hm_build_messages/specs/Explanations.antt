@@ -16,11 +16,13 @@ use Rattle.hm_verdicts.specs.Verdicts.{ArePublished, Status, Published, Failed, 
 use Rattle.hm_messages_excerpts.specs.Columns.{AreColumnsAt}
 use Rattle.hm_messages_excerpts.specs.declared.columns.Columns.{Columns}
 use Rattle.hm_messages.specs.Headings.{count_text}
-use Rattle.hm_messages.specs.Messages.{AreEach, IsFaultMessage, IsMessage, reader_place}
+use Rattle.hm_messages.specs.Messages.{AreEach, IsFaultMessage, IsMessage, IsMessageWith, reader_place}
+use Rattle.hm_messages_json.specs.Edits.{Changed}
 use Rattle.hm_messages.specs.Subjects.{Subject, faulty, hidden, limit, mistyped, replaceable, skipped, unsigned, wrapped}
 use Rattle.hm_messages.specs.declared.heading.Paint.{Paint}
 use Rattle.hm_messages.specs.declared.topic.Way.{Way}
 use Rattle.hm_messages.specs.declared.topic.Way.TheVariants as way
+use Rattle.hm_messages_edits.specs.Edits.{HasChanges}
 use Rattle.hm_messages_trials.specs.Hidden.{IsVerdictBeyond}
 use Rattle.hm_messages_trials.specs.Mends.{IsMend}
 use Rattle.hm_messages_trials.specs.ShownTypes.{HasShownTypes}
@@ -97,9 +99,15 @@ ArePartTypes source name fs definition (Patterns first second) expected actual i
 ArePartTypes source name fs definition (insertion_mend insertion part) expected actual infinite = ⊥
 ArePartTypes source name fs definition (Wrapped constructor part) expected actual infinite = ⊥
 
+-- the text tells what gives the definition a type, with this as the other place. A program gets its edits
+pub record IsMendStated (paint : Paint) (file source definition : List ℕ) (mend : Mend) (other : Place) (text : List ℕ) : Type 0 where
+  pub changes : List Changed
+  pub edits : HasChanges source mend changes
+  pub told : IsMessageWith paint file source (first_of mend) (subject_of_mend definition mend other) changes text
+
 -- the text tells what gives the definition a type, or the two types of the part, with this as the other place
 pub data IsStatedOf (paint : Paint) (file source name : List ℕ) (fs : List Interface) (definition : List ℕ) (mend : Mend) (other : Place) (text : List ℕ) : Type 0 where
-  by_mend : IsMessage paint file source (first_of mend) (subject_of_mend definition mend other) text → IsStatedOf paint file source name fs definition mend other text
+  by_mend : IsMendStated paint file source definition mend other text → IsStatedOf paint file source name fs definition mend other text
   by_types : (expected actual : List ℕ) (infinite : Bool) → ArePartTypes source name fs definition mend expected actual infinite
       → IsMessage paint file source (first_of mend) (mistyped definition other expected actual infinite) text → IsStatedOf paint file source name fs definition mend other text
 

@@ -3,16 +3,21 @@ ghost use Rattle.std.specs.Prelude.{◌≡◌, ◌⊎◌, ◌++◌, IfOk, IfSome
 ghost use Rattle.std.specs.Arc.{arc_value};
 ghost use Rattle.hm_messages.specs.Messages.{IsMessage};
 ghost use Rattle.hm_messages.specs.Subjects.{limit, subject_of, unsigned as unsigned_subject};
+ghost use Rattle.hm_messages_edits.specs.Edits.{HasPartsIn};
 ghost use Rattle.hm_messages_trials.specs.Limits.{IsUsedUp};
 ghost use Rattle.hm_messages_trials.specs.Mends.{IsMend};
 ghost use Rattle.hm_messages_trials.specs.Signatures.{IsUnsigned, Leads};
 ghost use Rattle.hm_names.specs.declared.faults.Kind.TheVariants.{Untyped};
-ghost use Rattle.hm_build_messages.specs.Explanations.{AreInTurn, ArePartTypes, AreNotes, IsNote, IsNoted, IsSignatureNote, IsStatedOf, first_of as first_place, insertion_way as stated_insertion, other_of as other_place, subject_of_mend as stated_subject};
+ghost use Rattle.hm_build_messages.specs.Explanations.{AreInTurn, ArePartTypes, AreNotes, IsMendStated, IsNote, IsNoted, IsSignatureNote, IsStatedOf, first_of as first_place, insertion_way as stated_insertion, other_of as other_place, subject_of_mend as stated_subject};
 
 use hm_lex::Place;
-use hm_messages::{BothTypes, Page, Paint, Topic, Way, fault_message, message, reader_place};
+use hm_messages::{
+    BothTypes, Page, Paint, Suggestion, Topic, Way, fault_message, message, message_with,
+    reader_place,
+};
 use hm_messages_changes::Insertion;
 use hm_messages_details::Detail;
+use hm_messages_edits::changes_of;
 use hm_messages_trials::{
     Effort, Mend, PartTypes, Question, Reading, TypeFault, Unsigned, mend_of, part_types_of,
     reading_of, unsigned_of,
@@ -171,6 +176,27 @@ struct FaultyPart<'a> {
     types: Option<PartTypes>,
 }
 
+/// Returns the note of the change that gives the definition a type, with this as the other place.
+fn mend_text(
+    alloc: Global,
+    module: &FaultyModule<'_, '_>,
+    definition: &str,
+    mend: &Mend<'_>,
+    other: Place,
+) -> Result<Vec<u8>, AllocError>
+    requires same { «module».now.question.now.source.now ≡ «module».now.page.now.lines }
+    requires parts { HasPartsIn «module».now.question.now.source.now mend.now }
+    ensures { IfOk result (λ text. IsMendStated «module».now.paint «module».now.page.now.file.now «module».now.page.now.lines definition.now mend.now other text.items) }
+{
+    let changes = changes_of(alloc, module.question.source, mend)?;
+    let suggestion = Suggestion {
+        place: first_of(mend),
+        topic: topic_of(definition, mend, other),
+        changes: changes.as_slice(),
+    };
+    Ok(message_with(alloc, module.paint, module.page, &suggestion)?)
+}
+
 /// Returns the note of the change that gives the definition a type, or of the two types, with this as the other place.
 fn note_text(
     alloc: Global,
@@ -179,7 +205,9 @@ fn note_text(
     part: &FaultyPart<'_>,
     other: Place,
 ) -> Result<Vec<u8>, AllocError>
-    requires { IfSome part.now.types (λ types. ArePartTypes «module».now.page.now.lines «module».now.question.now.name.now
+    requires same { «module».now.question.now.source.now ≡ «module».now.page.now.lines }
+    requires parts { HasPartsIn «module».now.question.now.source.now part.now.mend }
+    requires types { IfSome part.now.types (λ types. ArePartTypes «module».now.page.now.lines «module».now.question.now.name.now
         (map arc_value «module».now.question.now.imports.now) definition.now part.now.mend (string_bytes types.expected) (string_bytes types.actual)
         types.infinite) }
     ensures { IfOk result (λ text. IsStatedOf «module».now.paint «module».now.page.now.file.now «module».now.page.now.lines
@@ -197,10 +225,7 @@ fn note_text(
             let topic = Topic::Mistyped(definition, both);
             Ok(message(alloc, module.paint, module.page, first_of(mend), &topic)?)
         }
-        None => {
-            let topic = topic_of(definition, mend, other);
-            Ok(message(alloc, module.paint, module.page, first_of(mend), &topic)?)
-        }
+        None => Ok(mend_text(alloc, module, definition, mend, other)?),
     }
 }
 

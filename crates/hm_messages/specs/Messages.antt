@@ -4,7 +4,7 @@ use Rattle.std.specs.Str.Lossy.{utf8_lossy}
 use Rattle.hm_lex.specs.declared.token.Place.{Place}
 use Rattle.hm_names.specs.declared.faults.Fault.{Fault}
 use Rattle.hm_messages_details.specs.Details.{Known, nothing, near, of_report, either, first, arguments, lengths, not_from, near_binding, near_local, elsewhere, by_pattern}
-use Rattle.hm_messages_excerpts.specs.Columns.{AreColumnsAt, IsMarkEnd}
+use Rattle.hm_messages_excerpts.specs.Columns.{AreColumnsAt}
 use Rattle.hm_messages_excerpts.specs.Drawing.{excerpt_text}
 use Rattle.hm_messages_excerpts.specs.Escapes.{shown}
 use Rattle.hm_messages_excerpts.specs.Excerpts.{IsExcerptAt, IsPlaceIn}
@@ -13,6 +13,8 @@ use Rattle.hm_messages_excerpts.specs.declared.excerpt.Excerpt.{Excerpt}
 use Rattle.hm_messages_json.specs.Objects.{message_text}
 use Rattle.hm_messages_json.specs.declared.message.Message.{Message}
 use Rattle.hm_messages_json.specs.declared.message.Position.{Position}
+use Rattle.hm_messages_json.specs.Edits.{Changed, HasEdits}
+use Rattle.hm_messages_json.specs.Positions.{IsPositionAt, IsRangeAt}
 use Rattle.hm_messages.specs.Headings.{heading, title}
 use Rattle.hm_messages.specs.ModuleStarts.{IsModuleAt, IsModuleAround, Start}
 use Rattle.hm_messages.specs.Notices.{notice_of}
@@ -64,27 +66,20 @@ pub record IsAbout (subject : Subject) (m : Message) : Type 0 where
   pub actual_is : option_map (λ text. text.now) m.actual ≡ (notice_of subject).actual
   pub hint_is : IsHint (notice_of subject).sentence (option_map (λ hint. hint.now) m.hint)
 
--- the position is the place's
-pub record IsPositionAt (source : List ℕ) (place : Place) (position : Position) : Type 0 where
-  pub line_is : position.line ≡ place.line
-  pub columns_at : AreColumnsAt source place position.columns
-
--- from the place to behind what is marked there
-pub record IsRangeAt (source : List ℕ) (place : Place) (start end : Position) : Type 0 where
-  pub start_at : IsPositionAt source place start
-  pub behind : Place
-  pub marked : IsMarkEnd source place behind
-  pub end_at : IsPositionAt source behind end
-
--- the text is the object of a message that tells the subject at a place: where it begins and ends in the source, which file that is, what is wrong, and
--- perhaps in which module of the source
-pub record IsObject (file source : List ℕ) (place : Place) (subject : Subject) (text : List ℕ) : Type 0 where
+-- the text is the object of a message that tells the subject at a place: where it begins and ends in the source, which file that is, what is wrong, the
+-- changes that it speaks of, and perhaps in which module of the source
+pub record IsObjectWith (file source : List ℕ) (place : Place) (subject : Subject) (changes : List Changed) (text : List ℕ) : Type 0 where
   pub message : Message
   pub file_is : message.file.now ≡ utf8_lossy file
   pub range : IsRangeAt source place message.start message.end
   pub about : IsAbout subject message
+  pub edited : HasEdits source changes message.edits.now
   pub module_is : IsModuleAround source place (option_map (λ name. name.now) message.«module»)
   pub says : text ≡ message_text message
+
+-- the same, without a change
+abbrev pub IsObject : List ℕ → List ℕ → Place → Subject → List ℕ → Type 0
+IsObject file source place subject text = IsObjectWith file source place subject [] text
 
 -- the text is the object of a message that names the module which the place is in among these, or no module if it is in none
 pub record NamesModule (starts : List Start) (place : Place) (text : List ℕ) : Type 0 where
@@ -98,7 +93,13 @@ StatesAt Plain file source place subject text = IsProse Plain file source place 
 StatesAt Coloured file source place subject text = IsProse Coloured file source place subject text
 StatesAt Json file source place subject text = IsObject file source place subject text
 
--- the same, to a reader by the first line alone
+-- the same, with changes that a program gets
+abbrev pub StatesWith : Paint → List ℕ → List ℕ → Place → Subject → List Changed → List ℕ → Type 0
+StatesWith Plain file source place subject changes text = IsProse Plain file source place subject text
+StatesWith Coloured file source place subject changes text = IsProse Coloured file source place subject text
+StatesWith Json file source place subject changes text = IsObjectWith file source place subject changes text
+
+-- the text tells the subject at a place, to a reader by the first line alone
 abbrev pub StatesInLine : Paint → List ℕ → List ℕ → Place → Subject → List ℕ → Type 0
 StatesInLine Plain file source place subject text = IsProseHeading Plain file source place subject text
 StatesInLine Coloured file source place subject text = IsProseHeading Coloured file source place subject text
@@ -108,6 +109,11 @@ StatesInLine Json file source place subject text = IsObject file source place su
 pub data IsMessage (paint : Paint) (file source : List ℕ) (place : Place) (subject : Subject) (text : List ℕ) : Type 0 where
   message_stated : StatesAt paint file source place subject text → IsMessage paint file source place subject text
   message_left_out : text ≡ [] → HasNoMessage paint source place → IsMessage paint file source place subject text
+
+-- the same, of a message with changes
+pub data IsMessageWith (paint : Paint) (file source : List ℕ) (place : Place) (subject : Subject) (changes : List Changed) (text : List ℕ) : Type 0 where
+  with_stated : StatesWith paint file source place subject changes text → IsMessageWith paint file source place subject changes text
+  with_left_out : text ≡ [] → HasNoMessage paint source place → IsMessageWith paint file source place subject changes text
 
 -- the first line of a message, or its object. It is left out by the same rule
 pub data IsHeadingAt (paint : Paint) (file source : List ℕ) (place : Place) (subject : Subject) (text : List ℕ) : Type 0 where

@@ -8,6 +8,8 @@ use Rattle.hm_messages_hints.specs.SyntaxTexts.{syntax_help}
 use Rattle.hm_names.specs.declared.faults.Kind.{Kind}
 use Rattle.hm_verdicts.specs.Reports.{kind_word}
 use Rattle.hm_messages.specs.Sentences.{fault_sentence, types_sentence}
+use Rattle.hm_messages.specs.declared.topic.Way.{Way}
+use Rattle.hm_messages.specs.declared.topic.Way.TheVariants as way
 use Rattle.hm_messages.specs.Subjects.{Subject, fault, replaceable, wrapped, mistyped, unsigned, faulty, skipped, too_long, lexeme, open_comment, too_deep, syntax_fault, too_many, twice, twin, missing, cycle, exhausted, limit, step, hidden}
 
 -- its level; the report's word for what is wrong, or the word for a sort of note; the name that it is about, if it is about one; the other place that it
@@ -40,10 +42,24 @@ types_notice x expected actual infinite =
 abbrev pub signature_notice : List ℕ → List ℕ → Notice
 signature_notice x own = record { level = Note; kind = codes "signature"; name = Some x; other = None; sentence = []; expected = None; actual = Some own }
 
+-- the word for a change that gives a definition a type
+abbrev pub way_kind : Way → List ℕ
+way_kind (way.Expression p) = codes "replaceable"
+way_kind (way.Pattern p) = codes "pattern"
+way_kind (way.Exchange p) = codes "exchange"
+way_kind (way.Removal p) = codes "removal"
+way_kind (way.Sides p) = codes "exchange"
+way_kind (way.Patterns p) = codes "exchange"
+way_kind (way.Brackets p) = codes "brackets"
+way_kind (way.ListBrackets p) = codes "brackets"
+way_kind (way.Argument p) = codes "argument"
+way_kind way.Semicolon = codes "mark"
+way_kind way.Comma = codes "mark"
+
 abbrev pub notice_of : Subject → Notice
 notice_of (fault k x known other) = fault_notice k x other
-notice_of (replaceable x p) = note (codes "replaceable") (Some x)
-notice_of (wrapped x c p) = note (codes "replaceable") (Some x)
+notice_of (replaceable x w) = note (way_kind w) (Some x)
+notice_of (wrapped x c p) = note (codes "constructor") (Some x)
 notice_of (mistyped x p expected actual infinite) = types_notice x expected actual infinite
 notice_of (unsigned x p own) = signature_notice x own
 notice_of (faulty x) = note (codes "skipped") (Some x)

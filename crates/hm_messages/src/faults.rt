@@ -5,11 +5,10 @@ ghost use Rattle.hm_messages.specs.Messages.{IsFaultMessage, IsOther};
 
 use crate::heading::Paint;
 use crate::messages::message;
-use crate::objects::position_at;
 use crate::pages::Page;
 use crate::topic::{Named, Topic};
 use hm_messages_details::Detail;
-use hm_messages_json::Position;
+use hm_messages_json::{Position, position_at};
 use hm_names::Fault;
 use std::alloc::{AllocError, Global};
 
@@ -18,7 +17,7 @@ fn other_at(page: &Page<'_>, detail: &Detail<'_>) -> Option<Position>
     ensures { IsOther page.now.lines (known_of detail.now) result }
 {
     match detail {
-        Detail::First(place) => position_at(page, *place),
+        Detail::First(place) => position_at(&page.lines, *place),
         Detail::Nothing => None,
         Detail::Near(_, _) => None,
         Detail::LeftOut => None,

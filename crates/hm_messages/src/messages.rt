@@ -1,15 +1,16 @@
 //! One message: a file, a place, what is wrong there, a sentence, and the line with a mark.
-ghost use Rattle.std.specs.Prelude.{◌≡◌, ◌⊎◌, ◌++◌, [], IfNone, IfOk, IfSome};
+ghost use Rattle.std.specs.Prelude.{◌≡◌, ◌⊎◌, ◌++◌, [], IfNone, IfOk, IfSome, map};
 ghost use Rattle.hm_messages_excerpts.specs.Columns.{AreColumnsAt};
 ghost use Rattle.hm_messages_excerpts.specs.declared.columns.Columns.{Columns};
 ghost use Rattle.hm_messages_excerpts.specs.Escapes.{shown as shown_bytes};
 ghost use Rattle.hm_messages.specs.Headings.{heading as heading_bytes};
-ghost use Rattle.hm_messages.specs.Messages.{HasNoReaderPlace, IsHeadingAt, IsMessage, IsProse, IsProseHeading, reader_place};
+ghost use Rattle.hm_messages.specs.Messages.{HasNoReaderPlace, IsHeadingAt, IsMessage, IsMessageWith, IsProse, IsProseHeading, reader_place};
+ghost use Rattle.hm_messages_json.specs.Edits.{changed_of};
 ghost use Rattle.hm_messages.specs.Subjects.{subject_of};
 
 use crate::heading::{Paint, heading};
 use crate::notices::notice_of;
-use crate::objects::object;
+use crate::objects::{Suggestion, object, object_with};
 use crate::pages::Page;
 use crate::topic::Topic;
 use hm_lex::Place;
@@ -139,5 +140,24 @@ pub fn message(
         Paint::Plain => Ok(prose(alloc, Paint::Plain, page, place, topic)?),
         Paint::Coloured => Ok(prose(alloc, Paint::Coloured, page, place, topic)?),
         Paint::Json => Ok(object(alloc, page, place, topic)?),
+    }
+}
+
+/// Returns a message with the changes of the source that it speaks of. A reader gets no changes. The text is empty if no message can name the
+/// place.
+pub fn message_with(
+    alloc: Global,
+    paint: Paint,
+    page: &Page<'_>,
+    suggestion: &Suggestion<'_>,
+) -> Result<Vec<u8>, AllocError>
+    ensures { IfOk result (λ text. IsMessageWith paint page.now.file.now page.now.lines suggestion.now.place (subject_of suggestion.now.topic)
+        (map changed_of suggestion.now.changes.now) text.items) }
+{
+    let Suggestion { place, topic, .. } = *suggestion;
+    match paint {
+        Paint::Plain => Ok(prose(alloc, Paint::Plain, page, place, &topic)?),
+        Paint::Coloured => Ok(prose(alloc, Paint::Coloured, page, place, &topic)?),
+        Paint::Json => Ok(object_with(alloc, page, suggestion)?),
     }
 }

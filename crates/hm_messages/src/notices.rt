@@ -1,11 +1,11 @@
 //! What a message says beside its place and its title: one arm for each topic.
 ghost use Rattle.std.specs.Prelude.{◌≡◌, [], None, Some, codes, option_map};
 ghost use Rattle.hm_messages_json.specs.declared.message.Level.TheVariants.{Error, Note};
-ghost use Rattle.hm_messages.specs.Notices.{fault_notice, notice_of, signature_notice, types_notice};
+ghost use Rattle.hm_messages.specs.Notices.{fault_notice, notice_of, signature_notice, types_notice, way_kind};
 ghost use Rattle.hm_messages.specs.Subjects.{subject_of};
 
 use crate::sentences::{fault_sentence, types_sentence};
-use crate::topic::{BothTypes, Named, Topic};
+use crate::topic::{BothTypes, Named, Topic, Way};
 use hm_messages_hints::{lexeme_help, syntax_help};
 use hm_messages_json::{Level, Position};
 use hm_names::Kind;
@@ -134,6 +134,25 @@ fn signature_notice<'a>(name: &'a str, own: &'a str) -> Notice<'a>
     }
 }
 
+/// Returns the word for a change that gives a definition a type.
+fn way_kind(way: Way) -> &'static str
+    ensures { result.now ≡ way_kind way }
+{
+    match way {
+        Way::Expression(_) => "replaceable",
+        Way::Pattern(_) => "pattern",
+        Way::Exchange(_) => "exchange",
+        Way::Removal(_) => "removal",
+        Way::Sides(_) => "exchange",
+        Way::Patterns(_) => "exchange",
+        Way::Brackets(_) => "brackets",
+        Way::ListBrackets(_) => "brackets",
+        Way::Argument(_) => "argument",
+        Way::Semicolon => "mark",
+        Way::Comma => "mark",
+    }
+}
+
 // Why: docs/DECISIONS.md, "Names of files".
 /// Returns what a message says beside its place and its title.
 pub(crate) fn notice_of<'a>(topic: &Topic<'a>) -> Notice<'a>
@@ -147,8 +166,8 @@ pub(crate) fn notice_of<'a>(topic: &Topic<'a>) -> Notice<'a>
 {
     match topic {
         Topic::Fault(kind, named) => fault_notice(*kind, named),
-        Topic::Replaceable(name, _) => note("replaceable", Some(name)),
-        Topic::Wrapped(name, _, _) => note("replaceable", Some(name)),
+        Topic::Replaceable(name, way) => note(way_kind(*way), Some(name)),
+        Topic::Wrapped(name, _, _) => note("constructor", Some(name)),
         Topic::Mistyped(name, types) => types_notice(name, types),
         Topic::Unsigned(name, _, own) => signature_notice(name, own),
         Topic::Faulty(name) => note("skipped", Some(name)),

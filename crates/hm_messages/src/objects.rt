@@ -1,7 +1,8 @@
 //! Messages for programs, as JSON.
-ghost use Rattle.std.specs.Prelude.{◌≡◌, ◌⊎◌, [], IfNone, IfOk, IfSome, option_map, string_bytes};
+ghost use Rattle.std.specs.Prelude.{◌≡◌, ◌⊎◌, [], IfOk, map, option_map, string_bytes};
 ghost use Rattle.hm_messages_excerpts.specs.Excerpts.{IsPlaceIn};
-ghost use Rattle.hm_messages.specs.Messages.{IsHint, IsObject, IsPositionAt, IsRangeAt, NamesModule};
+ghost use Rattle.hm_messages_json.specs.Edits.{changed_of};
+ghost use Rattle.hm_messages.specs.Messages.{IsHint, IsObject, IsObjectWith, NamesModule};
 ghost use Rattle.hm_messages.specs.Subjects.{subject_of};
 
 use crate::heading::title;
@@ -9,41 +10,8 @@ use crate::notices::notice_of;
 use crate::pages::Page;
 use crate::topic::Topic;
 use hm_lex::Place;
-use hm_messages_json::{Message, Position, message_line};
+use hm_messages_json::{Change, Message, Range, edits_of, message_line, range_at};
 use std::alloc::{AllocError, Global};
-
-/// The range from a place to the end of the mark there.
-#[derive(Clone, Copy)]
-struct Range {
-    start: Position,
-    end: Position,
-}
-
-/// Returns the position of a place, if it is in the source.
-pub(crate) fn position_at(page: &Page<'_>, place: Place) -> Option<Position>
-    ensures some { IfSome result (IsPositionAt page.now.lines place) }
-    ensures none { IfNone result (¬ IsPlaceIn page.now.lines place) }
-{
-    let columns = page.lines.columns(place)?;
-    Some(Position {
-        line: place.line as usize,
-        columns,
-    })
-}
-
-/// Returns the range from a place to the end of the mark there, if the place is in the source.
-fn range_at(page: &Page<'_>, place: Place) -> Option<Range>
-    ensures some { IfSome result (λ range. IsRangeAt page.now.lines place range.start range.end) }
-    ensures none { IfNone result (¬ IsPlaceIn page.now.lines place) }
-{
-    let start = position_at(page, place)?;
-    let columns = page.lines.mark_end(place)?;
-    let end = Position {
-        line: start.line,
-        columns,
-    };
-    Some(Range { start, end })
-}
 
 /// Returns a sentence without its line end, or `None` if it is empty.
 fn hint_in(alloc: Global, sentence: &str) -> Result<Option<String>, AllocError>
@@ -56,28 +24,42 @@ fn hint_in(alloc: Global, sentence: &str) -> Result<Option<String>, AllocError>
     }
 }
 
-/// Returns the message of a topic at a place of a source, as an object, or no text if the place isn't in the source.
-pub(crate) fn object(
+/// What a message is about, and the changes of the source that it speaks of.
+#[derive(Clone, Copy)]
+pub struct Suggestion<'a> {
+    pub place: Place,
+    pub topic: Topic<'a>,
+    pub changes: &'a [Change],
+}
+
+/// Returns a message with changes, as an object, or no text if its place isn't in the source.
+pub(crate) fn object_with(
     alloc: Global,
     page: &Page<'_>,
-    place: Place,
-    topic: &Topic<'_>,
+    suggestion: &Suggestion<'_>,
 ) -> Result<Vec<u8>, AllocError>
-    ensures told { IfOk result (λ text. IsObject page.now.file.now page.now.lines place (subject_of topic.now) text.items
-        ⊎ ((text.items ≡ []) × (¬ IsPlaceIn page.now.lines place))) }
-    ensures among { IfOk result (λ text. NamesModule page.now.modules.starts place text.items ⊎ (text.items ≡ [])) }
+    ensures told { IfOk result (λ text. IsObjectWith page.now.file.now page.now.lines suggestion.now.place (subject_of suggestion.now.topic)
+        (map changed_of suggestion.now.changes.now) text.items
+        ⊎ ((text.items ≡ []) × (¬ IsPlaceIn page.now.lines suggestion.now.place))) }
+    ensures among { IfOk result (λ text. NamesModule page.now.modules.starts suggestion.now.place text.items ⊎ (text.items ≡ [])) }
 {
-    let Some(Range { start, end }) = range_at(page, place) else {
+    let Suggestion {
+        place,
+        topic,
+        changes,
+    } = *suggestion;
+    let Some(Range { start, end }) = range_at(&page.lines, place) else {
         return Ok(Vec::new(alloc));
     };
     let file = String::from_utf8_lossy(alloc, page.file)?;
-    let text = title(alloc, topic)?;
-    let notice = notice_of(topic);
+    let text = title(alloc, &topic)?;
+    let notice = notice_of(&topic);
     let hint = hint_in(alloc, notice.sentence)?;
     let hint = match &hint {
         Some(hint) => Some(hint.as_str()),
         None => None,
     };
+    let edits = edits_of(alloc, &page.lines, changes)?;
     let message = Message {
         file: file.as_str(),
         start,
@@ -91,7 +73,28 @@ pub(crate) fn object(
         hint,
         expected: notice.expected,
         actual: notice.actual,
+        edits: edits.as_slice(),
     };
     let line = message_line(alloc, &message)?;
     Ok(Vec::from_slice(alloc, line.as_bytes())?)
+}
+
+/// Returns the message of a topic at a place of a source, as an object, or no text if the place isn't in the source.
+pub(crate) fn object(
+    alloc: Global,
+    page: &Page<'_>,
+    place: Place,
+    topic: &Topic<'_>,
+) -> Result<Vec<u8>, AllocError>
+    ensures told { IfOk result (λ text. IsObject page.now.file.now page.now.lines place (subject_of topic.now) text.items
+        ⊎ ((text.items ≡ []) × (¬ IsPlaceIn page.now.lines place))) }
+    ensures among { IfOk result (λ text. NamesModule page.now.modules.starts place text.items ⊎ (text.items ≡ [])) }
+{
+    let topic = *topic;
+    let suggestion = Suggestion {
+        place,
+        topic,
+        changes: &[],
+    };
+    Ok(object_with(alloc, page, &suggestion)?)
 }

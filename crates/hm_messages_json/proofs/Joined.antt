@@ -4,15 +4,16 @@ use Rattle.serde_json.specs.Data.{Data}
 use Rattle.hm_messages_json.specs.Objects.{joined_data}
 use Rattle.hm_messages_json.specs.declared.message.Message.{Message}
 
-pub joined_same : (m : Message) (end end' expected expected' hint hint' owner owner' name name' other other' start start' actual actual' : Data)
-    → end ≡ end' → expected ≡ expected' → hint ≡ hint' → owner ≡ owner' → name ≡ name' → other ≡ other' → start ≡ start' → actual ≡ actual'
-    → joined_data m end expected hint owner name other start actual ≡ joined_data m end' expected' hint' owner' name' other' start' actual'
-joined_same m end end' expected expected' hint hint' owner owner' name name' other other' start start' actual actual' at_end of_expected of_hint of_owner of_name of_other at_start of_actual =
-    ap (λ d. joined_data m d expected hint owner name other start actual) at_end
-    ∙ (ap (λ d. joined_data m end' d hint owner name other start actual) of_expected
-    ∙ (ap (λ d. joined_data m end' expected' d owner name other start actual) of_hint
-    ∙ (ap (λ d. joined_data m end' expected' hint' d name other start actual) of_owner
-    ∙ (ap (λ d. joined_data m end' expected' hint' owner' d other start actual) of_name
-    ∙ (ap (λ d. joined_data m end' expected' hint' owner' name' d start actual) of_other
-    ∙ (ap (λ d. joined_data m end' expected' hint' owner' name' other' d actual) at_start
-    ∙ ap (λ d. joined_data m end' expected' hint' owner' name' other' start' d) of_actual))))))
+pub joined_same : (m : Message) (edits edits' end end' expected expected' hint hint' owner owner' name name' other other' start start' actual actual' : Data)
+    → edits ≡ edits' → end ≡ end' → expected ≡ expected' → hint ≡ hint' → owner ≡ owner' → name ≡ name' → other ≡ other' → start ≡ start' → actual ≡ actual'
+    → joined_data m edits end expected hint owner name other start actual ≡ joined_data m edits' end' expected' hint' owner' name' other' start' actual'
+joined_same m edits edits' end end' expected expected' hint hint' owner owner' name name' other other' start start' actual actual' of_edits at_end of_expected of_hint of_owner of_name of_other at_start of_actual =
+    ap (λ d. joined_data m d end expected hint owner name other start actual) of_edits
+    ∙ (ap (λ d. joined_data m edits' d expected hint owner name other start actual) at_end
+    ∙ (ap (λ d. joined_data m edits' end' d hint owner name other start actual) of_expected
+    ∙ (ap (λ d. joined_data m edits' end' expected' d owner name other start actual) of_hint
+    ∙ (ap (λ d. joined_data m edits' end' expected' hint' d name other start actual) of_owner
+    ∙ (ap (λ d. joined_data m edits' end' expected' hint' owner' d other start actual) of_name
+    ∙ (ap (λ d. joined_data m edits' end' expected' hint' owner' name' d start actual) of_other
+    ∙ (ap (λ d. joined_data m edits' end' expected' hint' owner' name' other' d actual) at_start
+    ∙ ap (λ d. joined_data m edits' end' expected' hint' owner' name' other' start' d) of_actual)))))))

@@ -1,7 +1,9 @@
 -- The JSON object of a message (RFC 8259): its members, in the order of their names.
-use Rattle.std.specs.Prelude.{ℕ, List, Option, None, Some, ◌++◌, codes, option_map}
+use Rattle.std.specs.Prelude.{ℕ, List, Option, None, Some, ◌++◌, codes, map, option_map}
 use Rattle.serde_json.specs.Written.{compact_text}
-use Rattle.serde_json.specs.Data.{Data, null, number, unsigned, string, object, member, no_members}
+use Rattle.serde_json.specs.Data.{Data, array, boolean, null, number, unsigned, string, object, member, no_members}
+use Rattle.serde_json.specs.View.{items_of}
+use Rattle.hm_messages_json.specs.declared.message.Edit.{Edit}
 use Rattle.hm_messages_json.specs.declared.message.Level.{Level}
 use Rattle.hm_messages_json.specs.declared.message.Level.TheVariants.{Error, Note}
 use Rattle.hm_messages_json.specs.declared.message.Message.{Message}
@@ -28,9 +30,21 @@ abbrev pub optional_data : Option Position → Data
 optional_data None = null
 optional_data (Some p) = position_data p
 
+-- a change of the source: its range, the text that comes there, and whether the checker accepted the changed source
+abbrev pub edit_data : Edit → Data
+edit_data e = object (member (codes "checked") (boolean e.is_checked)
+    (member (codes "end") (position_data e.end)
+    (member (codes "start") (position_data e.start)
+    (member (codes "text") (string e.text.now) no_members))))
+
+-- changes, in order
+abbrev pub edits_data : List Edit → Data
+edits_data es = array (items_of (map edit_data es))
+
 -- the message's object, with the members that aren't texts or may be missing
-abbrev pub joined_data : Message → Data → Data → Data → Data → Data → Data → Data → Data → Data
-joined_data m end expected hint owner name other start actual = object (member (codes "end") end
+abbrev pub joined_data : Message → Data → Data → Data → Data → Data → Data → Data → Data → Data → Data
+joined_data m edits end expected hint owner name other start actual = object (member (codes "edits") edits
+    (member (codes "end") end
     (member (codes "expected") expected
     (member (codes "file") (string m.file.now)
     (member (codes "hint") hint
@@ -41,17 +55,22 @@ joined_data m end expected hint owner name other start actual = object (member (
     (member (codes "other") other
     (member (codes "start") start
     (member (codes "text") (string m.text.now)
-    (member (codes "type") actual no_members))))))))))))
+    (member (codes "type") actual no_members)))))))))))))
 
 abbrev pub message_data : Message → Data
-message_data m = joined_data m (position_data m.end) (text_data (option_map (λ t. t.now) m.expected)) (text_data (option_map (λ t. t.now) m.hint))
+message_data m = joined_data m (edits_data m.edits.now) (position_data m.end) (text_data (option_map (λ t. t.now) m.expected)) (text_data (option_map (λ t. t.now) m.hint))
     (text_data (option_map (λ t. t.now) m.module)) (text_data (option_map (λ t. t.now) m.name)) (optional_data m.other) (position_data m.start)
     (text_data (option_map (λ t. t.now) m.actual))
 
+-- the number of the format of these objects, which grows if a member changes its meaning
+abbrev pub format : ℕ
+format = 1
+
 abbrev pub counts_data : ℕ → ℕ → Data
 counts_data errors skipped = object (member (codes "errors") (count errors)
+    (member (codes "format") (count format)
     (member (codes "level") (string (codes "end"))
-    (member (codes "skipped") (count skipped) no_members)))
+    (member (codes "skipped") (count skipped) no_members))))
 
 -- each object is on its own line
 abbrev pub message_text : Message → List ℕ

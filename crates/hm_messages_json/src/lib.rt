@@ -1,8 +1,12 @@
 //! Writes messages for programs as JSON objects, each on its own line.
 #![tactic(auto)]
 
+mod changes;
 mod message;
 mod objects;
+mod positions;
 
-pub use crate::message::{Level, Message, Position};
+pub use crate::changes::{Change, edits_of};
+pub use crate::message::{Edit, Level, Message, Position};
 pub use crate::objects::{counts_line, message_line};
+pub use crate::positions::{Range, position_at, range_at};

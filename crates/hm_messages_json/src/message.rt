@@ -16,6 +16,18 @@ pub struct Position {
     pub columns: Columns,
 }
 
+/// A change of a source that a message speaks of: a text in place of a range.
+#[derive(Clone, Copy, Debug)]
+pub struct Edit<'a> {
+    pub start: Position,
+    /// The position after the text that goes.
+    pub end: Position,
+    /// The text that comes in its place.
+    pub text: &'a str,
+    /// Whether the checker accepted the source with all edits of the message.
+    pub is_checked: bool,
+}
+
 /// A message about a range of a source.
 #[derive(Clone, Copy, Debug)]
 pub struct Message<'a> {
@@ -41,4 +53,6 @@ pub struct Message<'a> {
     pub expected: Option<&'a str>,
     /// The type that is there, if two types differ.
     pub actual: Option<&'a str>,
+    /// The changes of the source that it speaks of, in order.
+    pub edits: &'a [Edit<'a>],
 }

@@ -1,12 +1,17 @@
 //! Messages as JSON objects.
-ghost use Rattle.std.specs.Prelude.{◌≡◌, ◌++◌, IfOk, codes, false, option_map, string_bytes};
+ghost use Rattle.std.specs.Prelude.{◌≡◌, ◌++◌, IfOk, codes, false, map, option_map, string_bytes};
 ghost use Rattle.serde_json.specs.View.{view};
+ghost use Rattle.serde_json.specs.Data.{array};
+ghost use Rattle.serde_json.specs.View.{items_of};
 ghost use Rattle.serde_json.specs.Written.{compact_text, has_float};
-ghost use Rattle.hm_messages_json.specs.Objects.{counts_data, counts_text, joined_data, level_word, message_data, message_text, optional_data, position_data, text_data};
+ghost use Rattle.hm_messages_json.specs.Objects.{counts_data, counts_text, edit_data, edits_data, joined_data, level_word, message_data, message_text, optional_data, position_data, text_data};
 
-use crate::message::{Level, Message, Position};
+use crate::message::{Edit, Level, Message, Position};
 use serde_json::{Value, json};
 use std::alloc::{AllocError, Global};
+
+/// The number of the format of the objects.
+const FORMAT: u64 = 1;
 
 /// Returns the word of a level.
 fn level_word(level: Level) -> &'static str
@@ -49,9 +54,33 @@ fn optional_value(alloc: Global, position: Option<Position>) -> Result<Value, Al
     }
 }
 
+/// Returns an edit as an object.
+fn edit_value(alloc: Global, edit: &Edit<'_>) -> Result<Value, AllocError>
+    ensures { IfOk result (λ value. view value ≡ edit_data edit.now) }
+{
+    let start = position_value(alloc, edit.start)?;
+    let end = position_value(alloc, edit.end)?;
+    let (start, end) = (&start, &end);
+    let checked = edit.is_checked;
+    let text = edit.text;
+    json!(in alloc; {"checked": checked, "end": end, "start": start, "text": text})
+}
+
+/// Returns edits as an array, in order.
+fn edits_value(alloc: Global, edits: &[Edit<'_>]) -> Result<Value, AllocError>
+    ensures { IfOk result (λ value. view value ≡ edits_data edits.now) }
+{
+    let mut items = Vec::new(alloc);
+    for edit in edits {
+        items.push(edit_value(alloc, edit)?)?;
+    }
+    Ok(Value::Array(items))
+}
+
 /// The members of a message that aren't texts, or may be missing.
 #[derive(Clone, Copy)]
 struct Parts<'a> {
+    edits: &'a Value,
     end: &'a Value,
     expected: &'a Value,
     hint: &'a Value,
@@ -64,7 +93,7 @@ struct Parts<'a> {
 
 /// Returns the object of a message with these members.
 fn joined(alloc: Global, message: &Message<'_>, parts: Parts<'_>) -> Result<Value, AllocError>
-    ensures { IfOk result (λ value. view value ≡ joined_data message.now (view parts.entry.end.now) (view parts.entry.expected.now) (view parts.entry.hint.now)
+    ensures { IfOk result (λ value. view value ≡ joined_data message.now (view parts.entry.edits.now) (view parts.entry.end.now) (view parts.entry.expected.now) (view parts.entry.hint.now)
         (view parts.entry.owner.now) (view parts.entry.name.now) (view parts.entry.other.now) (view parts.entry.start.now) (view parts.entry.actual.now)) }
 {
     let level = level_word(message.level);
@@ -75,6 +104,7 @@ fn joined(alloc: Global, message: &Message<'_>, parts: Parts<'_>) -> Result<Valu
         ..
     } = *message;
     let Parts {
+        edits,
         end,
         expected,
         hint,
@@ -85,6 +115,7 @@ fn joined(alloc: Global, message: &Message<'_>, parts: Parts<'_>) -> Result<Valu
         actual,
     } = parts;
     json!(in alloc; {
+        "edits": edits,
         "end": end,
         "expected": expected,
         "file": file,
@@ -104,6 +135,7 @@ fn joined(alloc: Global, message: &Message<'_>, parts: Parts<'_>) -> Result<Valu
 fn message_value(alloc: Global, message: &Message<'_>) -> Result<Value, AllocError>
     ensures { IfOk result (λ value. view value ≡ message_data message.now) }
 {
+    let edits = edits_value(alloc, message.edits)?;
     let start = position_value(alloc, message.start)?;
     let end = position_value(alloc, message.end)?;
     let expected = text_value(alloc, message.expected)?;
@@ -113,6 +145,7 @@ fn message_value(alloc: Global, message: &Message<'_>) -> Result<Value, AllocErr
     let name = text_value(alloc, message.name)?;
     let other = optional_value(alloc, message.other)?;
     let parts = Parts {
+        edits: &edits,
         end: &end,
         expected: &expected,
         hint: &hint,
@@ -131,7 +164,7 @@ fn counts_value(alloc: Global, errors: usize, skipped: usize) -> Result<Value, A
 {
     let errors = errors as u64;
     let skipped = skipped as u64;
-    json!(in alloc; {"errors": errors, "level": "end", "skipped": skipped})
+    json!(in alloc; {"errors": errors, "format": FORMAT, "level": "end", "skipped": skipped})
 }
 
 // Why: docs/DECISIONS.md, "Objects by serde_json".

@@ -3,6 +3,7 @@ use Rattle.std.specs.Arc.{arc_value}
 use Rattle.hm_lex.specs.declared.token.Place.{Place}
 use Rattle.hm_messages_excerpts.specs.Columns.{AreColumnsAt}
 use Rattle.hm_messages.specs.Messages.{reader_place}
+use Rattle.hm_messages_edits.proofs.Parts.{parts_inside}
 use Rattle.hm_messages_trials.specs.Mends.{IsMend}
 use Rattle.hm_build_messages.specs.Explanations.{IsStatedOf, other_of}
 use Rattle.hm_build_messages.proofs.faulty.note_for.Goals as goal
@@ -28,3 +29,11 @@ returns c =
       columns_at = subst (λ (p : Place). AreColumnsAt page.lines p placed.0) c.other_of.ensures placed.1;
       told = subst (λ (p : Place). IsStatedOf c.args.«module».now.paint page.file.now page.lines name imports fault.name mend (reader_place p placed.0) text) c.other_of.ensures named;
     })
+
+pub note_text-requires-clause-same : goal.note_text-requires-clause-same
+note_text-requires-clause-same c = c.requires
+
+pub note_text-requires-clause-parts : goal.note_text-requires-clause-parts
+note_text-requires-clause-parts c =
+    parts_inside c.args.«module».now.question.now.source.now c.args.«module».now.question.now.name.now (map arc_value c.args.«module».now.question.now.imports.now)
+    c.args.found.now.fault.now.name c.in-Some.mend c.in-Some.ensures.1

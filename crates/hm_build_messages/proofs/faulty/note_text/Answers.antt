@@ -2,7 +2,7 @@ use Rattle.std.proofs.Common.{rules, map, string_bytes}
 use Rattle.std.specs.Arc.{arc_value}
 use Rattle.hm_messages.specs.Messages.{IsMessage}
 use Rattle.hm_messages.specs.Subjects.{mistyped}
-use Rattle.hm_build_messages.specs.Explanations.{ArePartTypes, by_mend, by_types, first_of, subject_of_mend}
+use Rattle.hm_build_messages.specs.Explanations.{ArePartTypes, by_mend, by_types, first_of}
 use Rattle.hm_build_messages.proofs.faulty.note_text.Goals as goal
 
 pub returns-in_ok-message-in-Some : goal.returns-in_ok-message-in-Some
@@ -16,9 +16,5 @@ returns-in_ok-message-in-Some c =
     let says : IsMessage c.args.«module».now.paint page.file.now page.lines (first_of mend) (mistyped c.args.definition.now c.args.other expected actual types.infinite) c.in_ok-message-in-Some.field-0.items = search rules in
     by_types expected actual types.infinite are says
 
-pub returns-in_ok-message-in-None : goal.returns-in_ok-message-in-None
-returns-in_ok-message-in-None c =
-    let page = c.args.«module».now.page.now in
-    let mend = c.args.part.now.mend in
-    let says : IsMessage c.args.«module».now.paint page.file.now page.lines (first_of mend) (subject_of_mend c.args.definition.now mend c.args.other) c.in_ok-message-in-None.field-0.items = search rules in
-    by_mend says
+pub returns-in_ok-mend_text-in-None : goal.returns-in_ok-mend_text-in-None
+returns-in_ok-mend_text-in-None c = by_mend c.in_ok-mend_text-in-None.ensures

@@ -4,8 +4,8 @@ use Rattle.hm_messages.specs.Messages.{IsHint}
 use Rattle.hm_messages.specs.ModuleStarts.{IsModuleAround}
 use Rattle.hm_messages.specs.Notices.{notice_of}
 use Rattle.hm_messages.specs.Subjects.{subject_of}
-use Rattle.hm_messages.proofs.objects.object.Goals as goal
-use Rattle.hm_messages.proofs.objects.object.Goals.{in-Some-hint, in-None}
+use Rattle.hm_messages.proofs.objects.object_with.Goals as goal
+use Rattle.hm_messages.proofs.objects.object_with.Goals.{in-Some-hint, in-None}
 
 pub returns-clause-told : goal.returns-clause-told
 returns-clause-told c =
@@ -22,6 +22,7 @@ returns-clause-told c =
       hint = c.match-hint.hint;
       expected = c.notice_of-notice.result.expected;
       actual = c.notice_of-notice.result.actual;
+      edits = c.as_slice.result;
     } in
     let hint_same : option_map string_bytes c.in_ok-hint.hint ≡ option_map (λ hint. hint.now) c.match-hint.hint = elim c.match-hint.branch [
       | in-Some-hint w ↦ search rules
@@ -39,9 +40,10 @@ returns-clause-told c =
         text_is = search rules;
         expected_is = search rules;
         actual_is = search rules;
-        hint_is = subst (IsHint (notice_of (subject_of c.args.topic.now)).sentence) hint_same (search rules);
+        hint_is = subst (IsHint (notice_of (subject_of c.args.suggestion.now.topic)).sentence) hint_same (search rules);
       };
-      module_is = subst (λ (s : List ℕ). IsModuleAround s c.args.place (option_map (λ name. name.now) c.module_at.result)) c.args.page.now.same c.module_at.ensures.spelled;
+      edited = search rules;
+      module_is = subst (λ (s : List ℕ). IsModuleAround s c.args.suggestion.now.place (option_map (λ name. name.now) c.module_at.result)) c.args.page.now.same c.module_at.ensures.spelled;
       says = search rules;
     })
 
@@ -60,6 +62,7 @@ returns-clause-among c =
       hint = c.match-hint.hint;
       expected = c.notice_of-notice.result.expected;
       actual = c.notice_of-notice.result.actual;
+      edits = c.as_slice.result;
     } in
     inl (record {
       message = told;

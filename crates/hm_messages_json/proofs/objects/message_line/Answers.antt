@@ -1,0 +1,7 @@
+use Rattle.std.proofs.Common.{ap, ◌∙◌}
+use Rattle.serde_json.specs.Written.{has_float}
+use Rattle.hm_messages_json.proofs.Floats.{no_floats}
+use Rattle.hm_messages_json.proofs.objects.message_line.Goals as goal
+
+pub line_of-requires : goal.line_of-requires
+line_of-requires c = ap has_float c.in_ok-value.ensures ∙ no_floats c.args.message.now

@@ -1,0 +1,42 @@
+//! Positions and ranges of a source, for messages to programs.
+ghost use Rattle.std.specs.Prelude.{IfNone, IfSome};
+ghost use Rattle.hm_messages_excerpts.specs.Excerpts.{IsPlaceIn};
+ghost use Rattle.hm_messages_json.specs.Positions.{IsPositionAt, IsRangeAt};
+
+use crate::message::Position;
+use hm_lex::Place;
+use hm_messages_excerpts::SourceLines;
+
+/// The range from a place to the end of the mark there.
+#[derive(Clone, Copy)]
+pub struct Range {
+    pub start: Position,
+    /// The position after the marked text.
+    pub end: Position,
+}
+
+/// Returns the position of a place, if it is in the source.
+pub fn position_at(lines: &SourceLines<'_>, place: Place) -> Option<Position>
+    ensures some { IfSome result (IsPositionAt lines.now place) }
+    ensures none { IfNone result (¬ IsPlaceIn lines.now place) }
+{
+    let columns = lines.columns(place)?;
+    Some(Position {
+        line: place.line as usize,
+        columns,
+    })
+}
+
+/// Returns the range from a place to the end of the mark there, if the place is in the source.
+pub fn range_at(lines: &SourceLines<'_>, place: Place) -> Option<Range>
+    ensures some { IfSome result (λ range. IsRangeAt lines.now place range.start range.end) }
+    ensures none { IfNone result (¬ IsPlaceIn lines.now place) }
+{
+    let start = position_at(lines, place)?;
+    let columns = lines.mark_end(place)?;
+    let end = Position {
+        line: start.line,
+        columns,
+    };
+    Some(Range { start, end })
+}

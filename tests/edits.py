@@ -1,0 +1,110 @@
+#!/usr/bin/env python3
+"""Makes faulty sources out of good ones, and makes the edits of their messages.
+
+`edits.py [--sources N] [--seed N] [PROGRAM]`: without PROGRAM, the proved program beside this folder is run. The good sources are those of
+bench/programs. A slip is made by chance, as bench/slips.py and bench/forgotten.py make them. For each message with edits:
+
+- the edits are in the source, in order, and don't overlap;
+- the source with them can be read, and the definition that the message names is no type fault in it;
+- the sentence says what to write, and each other sentence of a note at a part has no edits.
+
+Prints how often each kind of edit was made. Ends with 1 if something isn't so, or if a kind never occurred. The sources are a function of the seed.
+"""
+# Why: docs/DECISIONS.md, "Edits".
+import argparse
+import collections
+import glob
+import os
+import random
+import sys
+
+sys.dont_write_bytecode = True
+TOP = os.path.dirname(os.path.dirname(os.path.abspath(__file__)))
+sys.path[:0] = [os.path.join(TOP, "bench"), os.path.dirname(os.path.abspath(__file__))]
+import claims  # noqa: E402
+import forgotten  # noqa: E402
+import slips  # noqa: E402
+
+# What sentences with edits say, and those of notes at a part without edits.
+SAYS = {
+    "exchange": " exchanged",
+    "removal": "if this is left out",
+    "brackets": "with brackets around this",
+    "list brackets": "with '[' and ']' around this",
+    "mark": " before this",
+    "constructor": " in front of this",
+}
+# Their words.
+KINDS = ("exchange", "removal", "brackets", "mark", "constructor")
+SILENT = ("with another expression here", "if this pattern is '_'", "with one more argument after this", "this has type '")
+
+
+def edited(source, edits):
+    """Returns the source with the edits, or None if they aren't in it, in order and apart."""
+    ranges = [(claims.offset(source, it["start"]), claims.offset(source, it["end"])) for it in edits]
+    bounds = [0, *(at for each in ranges for at in each), len(source)]
+    if bounds != sorted(bounds):
+        return None
+    for (start, end), edit in reversed(list(zip(ranges, edits))):
+        source = source[:start] + edit["text"] + source[end:]
+    return source
+
+
+def fault_of(program, source, message):
+    """Why the edits of a message don't do what it says, or None."""
+    kinds = [kind for kind, words in SAYS.items() if words in message["text"]]
+    if message["level"] == "note" and any(it in message["text"] for it in SILENT):
+        return "edits of a note that doesn't say what to write" if message["edits"] else None
+    if not message["edits"]:
+        return "no edits" if message["kind"] in KINDS else None
+    if not kinds or not all(it["checked"] for it in message["edits"]):
+        return "edits of another sentence, or unchecked"
+    if (changed := edited(source, message["edits"])) is None:
+        return "edits outside of the source, or out of order"
+    after = claims.ask(program, changed)[1]
+    if any(it["kind"] in ("syntax", "lexeme") for it in after):
+        return "the source with the edits can't be read"
+    if any(it["kind"] == "type" and it["name"] == message["name"] for it in after):
+        return "the definition has no type with the edits"
+    return None
+
+
+def slipped(source, chance):
+    """Returns the source with one slip."""
+    if chance.random() < 0.5:
+        return claims.slipped(source, slips.tokens_of(source), chance)
+    sorts = collections.defaultdict(list)
+    for kind, (start, end), text, _ in forgotten.slips_of(source):
+        sorts[kind].append((start, end, text))
+    start, end, text = chance.choice(sorts[chance.choice(sorted(sorts))])
+    return source[:start] + text + source[end:]
+
+
+def main():
+    parser = argparse.ArgumentParser()
+    parser.add_argument("--sources", type=int, default=500)
+    parser.add_argument("--seed", type=int, default=1)
+    parser.add_argument("program", nargs="?", default=os.path.join(TOP, "crates", "hmc", "out", "hmc"))
+    asked = parser.parse_args()
+    program, chance = os.path.abspath(asked.program), random.Random(asked.seed)
+    good = [open(it, encoding="utf-8").read() for it in sorted(glob.glob(os.path.join(TOP, "bench", "programs", "*.hs")))]
+    good = [it for it in good if it.isascii()]
+    counts, wrong = collections.Counter(), 0
+    for number in range(asked.sources):
+        source = slipped(chance.choice(good), chance)
+        for message in claims.ask(program, source)[1]:
+            counts["messages"] += 1
+            counts["messages with edits"] += bool(message["edits"])
+            counts.update(kind for kind, words in SAYS.items() if message["edits"] and words in message["text"])
+            if why := fault_of(program, source, message):
+                wrong += 1
+                print(f"source {number}, {message['start']['line']}:{message['start']['byte']}: {message['text']}: {why}", flush=True)
+    for what, count in sorted(counts.items()):
+        print(f"{what}: {count}")
+    lacking = sorted(set(SAYS) - set(counts))
+    print(f"{asked.sources} sources, {wrong} wrong{', never: ' + ', '.join(lacking) if lacking else ''}")
+    return 1 if wrong or lacking else 0
+
+
+if __name__ == "__main__":
+    sys.exit(main())
