@@ -941,6 +941,44 @@ KINDS = [
         "                        ^\n"
         "errors: 2, skipped modules: 1\n",
     ),
+    # g has no type that differs from what is expected there: in its group it has another one than beside a hole for f
+    (
+        "module A where { f x = ['c', x, g 1] ; g y = f y }",
+        1,
+        "M.hs:1:18: error: type error in 'f' [type]\n"
+        "No types fit this definition and those that refer back to it. All others that it refers to have types or signatures.\n"
+        "module A where { f x = ['c', x, g 1] ; g y = f y }\n"
+        "                 ^\n"
+        "M.hs:1:33: note: 'f' has a type with another expression here (up to 1:33)\n"
+        "module A where { f x = ['c', x, g 1] ; g y = f y }\n"
+        "                                ^\n"
+        "errors: 1, skipped modules: 0\n",
+    ),
+    (
+        "module A where { f x = h (g x) 1 ; h :: Bool -> Int -> Int ; h a b = b ; g y = f y }",
+        1,
+        "M.hs:1:18: error: type error in 'f' [type]\n"
+        "No types fit this definition and those that refer back to it. All others that it refers to have types or signatures.\n"
+        "module A where { f x = h (g x) 1 ; h :: Bool -> Int -> Int ; h a b = b ; g y = f y }\n"
+        "                 ^\n"
+        "M.hs:1:27: note: 'f' has a type with another expression here (up to 1:27)\n"
+        "module A where { f x = h (g x) 1 ; h :: Bool -> Int -> Int ; h a b = b ; g y = f y }\n"
+        "                          ^\n"
+        "errors: 1, skipped modules: 0\n",
+    ),
+    # a definition that uses itself at another type has its declared type there
+    (
+        "module A where { f :: a -> Int -> Int ; f x n = g (f (fst (1, 2)) n) x ; g :: Int -> Bool -> Int ; g a b = a }",
+        1,
+        "M.hs:1:41: error: type error in 'f' [type]\n"
+        "No types fit this definition and those that refer back to it. All others that it refers to have types or signatures.\n"
+        "module A where { f :: a -> Int -> Int ; f x n = g (f (fst (1, 2)) n) x ; g :: Int -> Bool -> Int ; g a b = a }\n"
+        "                                        ^\n"
+        "M.hs:1:70: note: this has type 'a', but 'Bool' is expected (up to 1:70)\n"
+        "module A where { f :: a -> Int -> Int ; f x n = g (f (fst (1, 2)) n) x ; g :: Int -> Bool -> Int ; g a b = a }\n"
+        "                                                                     ^\n"
+        "errors: 1, skipped modules: 0\n",
+    ),
     # a type fault that the report leaves out
     (
         "module M where { f = y ; g = not 'c' }",
@@ -1368,6 +1406,8 @@ EXCERPTS = [
 # a module of these imports and declarations, with the place of its one fault and the first line of its message
 DETAILS = [
     ("f xs = lenght xs", "1:25", "'lenght' isn't in scope (did you mean 'length'?) [unbound]"),
+    # a name that is ambiguous isn't proposed
+    ("null = 1 ; x = nullP", "1:33", "'nullP' isn't in scope [unbound]"),
     ("filtre = 1 ; f = filter1", "1:35", "'filter1' isn't in scope (did you mean 'filter'?) [unbound]"),
     ("f = Prelude.mpa", "1:22", "'Prelude.mpa' isn't in scope (did you mean 'Prelude.map'?) [unbound]"),
     ("x = true", "1:22", "'true' isn't in scope (did you mean 'True'?) [unbound]"),

@@ -23,7 +23,7 @@ use Rattle.hm_messages.specs.declared.heading.Paint.{Paint}
 use Rattle.hm_messages.specs.declared.topic.Way.{Way}
 use Rattle.hm_messages.specs.declared.topic.Way.TheVariants as way
 use Rattle.hm_messages_edits.specs.Edits.{HasChanges}
-use Rattle.hm_messages_trials.specs.Hidden.{IsVerdictBeyond}
+use Rattle.hm_messages_hidden.specs.Hidden.{IsVerdictBeyond}
 use Rattle.hm_messages_trials.specs.Mends.{IsMend}
 use Rattle.hm_messages_trials.specs.ShownTypes.{HasShownTypes}
 use Rattle.hm_messages_trials.specs.Signatures.{IsUnsigned, Leads}

@@ -52,12 +52,24 @@ pub struct Other<'a> {
     pub to: usize,
 }
 
+/// How a definition is written where it is local.
+#[derive(Clone, Copy)]
+pub struct Local<'a> {
+    /// The name that it has there.
+    pub name: &'a str,
+    /// The names before a part, in order, in whose place this one is written.
+    pub before: &'a [Span],
+    /// The same after the part.
+    pub after: &'a [Span],
+}
+
 /// Where a definition is in a source.
 #[derive(Clone, Copy)]
 pub struct Layout<'a> {
     pub source: &'a [u8],
     /// The name of the definition.
     pub name: &'a str,
+    pub local: Local<'a>,
     /// Where the export list of the module begins, if it has one.
     pub exported: Option<usize>,
     /// The names of types that are added to the export list.

@@ -1,10 +1,10 @@
 //! The sources in which a function takes a value of each of the two types of a part, or a variable has the type of a definition.
-ghost use Rattle.std.specs.Prelude.{◌≡◌, ◌≤◌, ◌++◌, IfOk, IfSome, codes, flat_map, length};
+ghost use Rattle.std.specs.Prelude.{◌≡◌, ◌≤◌, ◌++◌, All, IfOk, IfSome, codes, flat_map, length, true};
 ghost use Rattle.hm_messages_changes.specs.Holes.{hole};
-ghost use Rattle.hm_messages_changes.specs.Layouts.{surroundings_of};
-ghost use Rattle.hm_messages_changes.specs.Probes.{around as around_text, before as before_text, hollow as hollow_text, hollowed as hollowed_text, listed as listed_name, listed_before as listed_text, probe as probe_text, probed_definition as definition_text, probed_part as part_text, with_probe as probed_text, alone as alone_text, with_alone as with_alone_text};
+ghost use Rattle.hm_messages_changes.specs.Layouts.{renaming_of, surroundings_of};
+ghost use Rattle.hm_messages_changes.specs.Probes.{IsWritten, around as around_text, before as before_text, hollow as hollow_text, hollowed as hollowed_text, listed as listed_name, listed_before as listed_text, probe as probe_text, probed_definition as definition_text, probed_part as part_text, renamed as renamed_text, with_probe as probed_text, alone as alone_text, with_alone as with_alone_text};
 
-use crate::data::{HOLE, Layout, Other, SourceRange, Span};
+use crate::data::{HOLE, Layout, Local, Other, SourceRange, Span};
 use crate::edits::joined;
 use std::alloc::{AllocError, Global};
 
@@ -22,23 +22,77 @@ fn probed_part(alloc: Global, part: &[u8]) -> Result<Vec<u8>, AllocError>
     )?)
 }
 
-/// Returns the definition with its part so.
-fn probed_definition(
+/// Returns a text, a name, and another text.
+fn with_name(alloc: Global, front: &[u8], name: &str, after: &[u8]) -> Result<Vec<u8>, AllocError>
+    ensures { IfOk result (λ made. made.items ≡ front.now ++ (name.now ++ after.now)) }
+{
+    Ok(joined(alloc, &[front, name.as_bytes(), after])?)
+}
+
+/// Returns the bytes of a span, with a name in place of others. Returns `None` if these aren't in order there.
+fn renamed(
     alloc: Global,
     source: &[u8],
-    whole: Span,
-    part: SourceRange,
-) -> Result<Vec<u8>, AllocError>
-    requires starts { whole.from ≤ part.from }
-    requires ordered { part.from ≤ part.to }
-    requires ends { part.to ≤ whole.to }
-    requires within { whole.to ≤ length source.now }
-    ensures { IfOk result (λ made. made.items ≡ definition_text source.now whole part) }
+    name: &str,
+    span: Span,
+    others: &[Span],
+) -> Result<Option<Vec<u8>>, AllocError>
+    ensures { IfOk result (λ found. IfSome found (λ made. made.items ≡ renamed_text source.now name.now span.from span.to others.now)) }
 {
+    let Span { from, to } = span;
+    let Some((first, rest)) = others.split_first() else {
+        if from > to || to > source.len() {
+            return Ok(None);
+        }
+        return Ok(Some(Vec::from_slice(alloc, &source[from..to])?));
+    };
+    if from > first.from || first.from > source.len() {
+        return Ok(None);
+    }
+    let behind = Span { from: first.to, to };
+    let Some(after) = renamed(alloc, source, name, behind, rest)? else {
+        return Ok(None);
+    };
+    let front = &source[from..first.from];
+    Ok(Some(with_name(alloc, front, name, after.as_slice())?))
+}
+
+/// Returns the definition with its part so, or `None` if the names that are written anew aren't in order in it.
+fn probed_definition(
+    alloc: Global,
+    layout: &Layout<'_>,
+    part: SourceRange,
+) -> Result<Option<Vec<u8>>, AllocError>
+    requires ordered { part.from ≤ part.to }
+    requires within { part.to ≤ length layout.now.source.now }
+    ensures { IfOk result (λ found. IfSome found (λ made. made.items
+        ≡ definition_text layout.now.source.now layout.now.whole (renaming_of layout.now.local) part)) }
+{
+    let source = layout.source;
+    let Local {
+        name,
+        before,
+        after,
+    } = layout.local;
+    let front = Span {
+        from: layout.whole.from,
+        to: part.from,
+    };
+    let Some(front) = renamed(alloc, source, name, front, before)? else {
+        return Ok(None);
+    };
+    let behind = Span {
+        from: part.to,
+        to: layout.whole.to,
+    };
+    let Some(behind) = renamed(alloc, source, name, behind, after)? else {
+        return Ok(None);
+    };
     let probed = probed_part(alloc, &source[part.from..part.to])?;
-    let front = &source[whole.from..part.from];
-    let after = &source[part.to..whole.to];
-    Ok(joined(alloc, &[front, probed.as_slice(), after])?)
+    Ok(Some(joined(
+        alloc,
+        &[front.as_slice(), probed.as_slice(), behind.as_slice()],
+    )?))
 }
 
 /// Returns the hole in place of a definition, and a second name for it.
@@ -52,9 +106,9 @@ fn hollow(alloc: Global, name: &[u8]) -> Result<Vec<u8>, AllocError>
 }
 
 // Why: docs/DECISIONS.md, "Signatures in a note".
-/// Returns the function of the two values and of one with the type of the definition, which is local in it.
-fn probe(alloc: Global, name: &[u8], definition: &[u8]) -> Result<Vec<u8>, AllocError>
-    ensures { IfOk result (λ made. made.items ≡ probe_text name.now definition.now) }
+/// Returns the function of the two values and of one with the type of the definition, which is local in it under another name.
+fn probe(alloc: Global, name: &[u8], local: &[u8], definition: &[u8]) -> Result<Vec<u8>, AllocError>
+    ensures { IfOk result (λ made. made.items ≡ probe_text name.now local.now definition.now) }
 {
     let hole = hollow(alloc, name)?;
     Ok(joined(
@@ -64,7 +118,7 @@ fn probe(alloc: Global, name: &[u8], definition: &[u8]) -> Result<Vec<u8>, Alloc
             b" ; part'types (part'own, part'expected, part'actual) = case let { ",
             definition,
             b" } in ",
-            name,
+            local,
             b" : part'own : part'declared : [] of { _ -> () }",
         ],
     )?)
@@ -201,7 +255,24 @@ fn around(alloc: Global, layout: &Layout<'_>, text: &[u8]) -> Result<Option<Vec<
     Ok(Some(joined(alloc, &[front.as_slice(), text, after.as_slice()])?))
 }
 
-/// Returns the source with the function in place of the definition, or `None` if the part doesn't lie in that.
+/// Returns whether bytes of a source are a name.
+fn is_written(source: &[u8], name: &[u8], span: Span) -> bool
+    ensures { result ≡ true → IsWritten source.now name.now span }
+{
+    if span.from > span.to || span.to > source.len() {
+        return false;
+    }
+    &source[span.from..span.to] == name
+}
+
+/// Returns whether all of these are a name.
+fn are_written(source: &[u8], name: &[u8], spans: &[Span]) -> bool
+    ensures { result ≡ true → All (IsWritten source.now name.now) spans.now }
+{
+    spans.iter().all(|span| is_written(source, name, *span))
+}
+
+/// Returns the source with the function in place of the definition. Returns `None` if the part doesn't lie in that, or if what is written anew isn't its name.
 pub fn with_probe(
     alloc: Global,
     layout: &Layout<'_>,
@@ -211,6 +282,8 @@ pub fn with_probe(
     ensures ordered { IfOk result (λ found. IfSome found (λ made. part.from ≤ part.to)) }
     ensures ends { IfOk result (λ found. IfSome found (λ made. part.to ≤ layout.now.whole.to)) }
     ensures within { IfOk result (λ found. IfSome found (λ made. layout.now.whole.to ≤ length layout.now.source.now)) }
+    ensures before { IfOk result (λ found. IfSome found (λ made. All (IsWritten layout.now.source.now layout.now.name.now) layout.now.local.before.now)) }
+    ensures after { IfOk result (λ found. IfSome found (λ made. All (IsWritten layout.now.source.now layout.now.name.now) layout.now.local.after.now)) }
     ensures made { IfOk result (λ found. IfSome found (λ made. made.items
         ≡ probed_text layout.now.source.now layout.now.name.now (surroundings_of layout.now) part)) }
 {
@@ -222,8 +295,18 @@ pub fn with_probe(
     if part.to > whole.to || whole.to > source.len() {
         return Ok(None);
     }
-    let definition = probed_definition(alloc, source, whole, part)?;
-    let probe = probe(alloc, layout.name.as_bytes(), definition.as_slice())?;
+    let name = layout.name.as_bytes();
+    if !are_written(source, name, layout.local.before) {
+        return Ok(None);
+    }
+    if !are_written(source, name, layout.local.after) {
+        return Ok(None);
+    }
+    let Some(definition) = probed_definition(alloc, layout, part)? else {
+        return Ok(None);
+    };
+    let local = layout.local.name.as_bytes();
+    let probe = probe(alloc, name, local, definition.as_slice())?;
     Ok(around(alloc, layout, probe.as_slice())?)
 }
 

@@ -88,8 +88,7 @@ fn can_stand(role: Role, space: Namespace) -> bool
     ensures { result ≡ true → CanStand role space }
 {
     match role {
-        Role::Variable => space == Namespace::Values,
-        Role::ExportedVariable => space == Namespace::Values,
+        Role::Variable | Role::ExportedVariable => space == Namespace::Values,
         Role::Constructor => space == Namespace::Constructors,
         Role::TypeConstructor => space == Namespace::Types,
         Role::TypeVariable => false,
@@ -103,9 +102,7 @@ fn can_stand_in_capitals(role: Role, space: Namespace) -> bool
     match role {
         Role::Variable => space == Namespace::Constructors,
         Role::TypeVariable => space == Namespace::Types,
-        Role::ExportedVariable => false,
-        Role::Constructor => false,
-        Role::TypeConstructor => false,
+        Role::ExportedVariable | Role::Constructor | Role::TypeConstructor => false,
     }
 }
 
@@ -130,6 +127,14 @@ fn is_near_pair(
     is_near(alloc, text, pair.text())
 }
 
+/// Returns whether a name without a qualifier means one thing. Any other name counts as one that does.
+fn is_clear(pair: &Binding<'_>, pairs: &[Binding<'_>]) -> bool {
+    match pair.qualifier() {
+        Some(_) => true,
+        None => other_entity_of(pair.text(), pair.space(), pairs, pair.entity()).is_none(),
+    }
+}
+
 // Why: docs/DECISIONS.md, "Near names".
 /// Returns the first of these pairs whose name is near to this one, and can stand where a name with this role stands.
 pub(crate) fn nearest<'r, 'a>(
@@ -141,7 +146,7 @@ pub(crate) fn nearest<'r, 'a>(
     ensures { IfOk result (λ found. IfSome found (λ pair. Contains pairs.entry.now pair.now × IsNearPair role name.now pair.now)) }
 {
     for pair in pairs {
-        if is_near_pair(alloc, name, role, pair)? {
+        if is_near_pair(alloc, name, role, pair)? && is_clear(pair, pairs) {
             return Ok(Some(pair));
         }
     }

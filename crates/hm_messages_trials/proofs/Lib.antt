@@ -1,7 +1,7 @@
 pub mod Elsewhere
 pub mod Found
+pub mod Given
 pub mod TextParts
-pub mod WorkedHidden
 pub mod WorkedHoles
 pub mod WorkedLimits
 pub mod WorkedMends

@@ -1,5 +1,5 @@
 -- The worked types of parts.
-use Rattle.std.proofs.Common.{◌≡◌, ◌∙◌, Bool, true, inl, inr, ℕ, List, [], ◌∷◌, ◌++◌, Contains, length, get_or, refl, sym, ap, subst, arith}
+use Rattle.std.proofs.Common.{◌≡◌, ◌∙◌, Bool, true, false, inl, inr, ℕ, List, [], ◌∷◌, ◌++◌, Contains, length, get_or, refl, sym, ap, subst, arith}
 use Rattle.std.specs.Prelude.{codes, slice_range}
 use Rattle.std.proofs.lemmas.List.Elements.{All-contains, All-cons}
 use Rattle.hm_types.specs.Interfaces.{Exports as Interface}
@@ -7,27 +7,33 @@ use Rattle.hm_types.specs.Monotypes.{Mono, Monos, var}
 use Rattle.hm_types.specs.Schemes.{TypeScheme}
 use Rattle.hm_types.specs.StandardPrelude.{prelude_interface}
 use Rattle.hm_types.specs.Types.{Var as leaf, App as app, done as none, more}
+use Rattle.hm_types.specs.declared.Head.TheVariants as head
 use Rattle.hm_types_display.specs.Texts.{scheme_text_of}
 use Rattle.hm_types.specs.declared.entries.ValueEntry.{ValueEntry}
 use Rattle.hm_syntax.specs.declared.ast.Module.{Module}
 use Rattle.hm_run_sources.specs.SourceModules.{HasModules}
 use Rattle.hm_verdicts.specs.ModuleVerdicts.{Verdict, Good, Faulty, IsVerdict}
+use Rattle.hm_names.specs.Worked.{at, x}
 use Rattle.hm_verdicts.specs.Worked.{module_A, module_B}
 use Rattle.hm_verdicts.specs.WorkedVerdicts.{character, entry_x, fault_Z, interface_A}
 use Rattle.hm_verdicts.proofs.OneModuleVerdict.{one_module_verdict}
 use Rattle.hm_verdicts.proofs.WorkedModules.{faulty_B, good_A}
 use Rattle.hm_messages_changes.specs.Holes.{hole}
+use Rattle.hm_messages_types.specs.CommonInstances.{HaveCommonInstance}
 use Rattle.hm_messages_types.specs.InfiniteTypes.{NeedInfinite}
+use Rattle.hm_messages_types.proofs.NoFiniteType.{no_common_instance}
 use Rattle.hm_messages_trials.specs.PartTypes.{AreTextsOf, ExportsIn}
 use Rattle.hm_messages_changes.specs.Probes.{hollowed}
 use Rattle.hm_messages_trials.specs.Signatures.{IsGood, IsGoodIn}
-use Rattle.hm_messages_trials.specs.WorkedPartTypes.{ExportsRow, GoodRow, OthersRow, ProbesRow, InfiniteRow, SignaturesRow, TextsRow, a, applied_to_itself, b, equal_types, function, tuple, two_variables}
+use Rattle.hm_messages_trials.specs.WorkedPartTypes.{ExportsRow, GoodRow, OthersRow, ProbesRow, InfiniteRow, SignaturesRow, SignedRow, TextsRow, a, applied_to_itself, b, equal_types, function, swapped, tuple, two_variables}
 use Rattle.hm_messages_changes.specs.declared.data.Other.{Other}
+use Rattle.hm_messages_trials.specs.TypedSources.{IsSigned}
 use Rattle.hm_messages_trials.proofs.WorkedHoles.{only_module}
 
 pub worked_probes : ProbesRow
 worked_probes = record {
   argument = refl;
+  signed = refl;
   listed = refl;
   named = refl;
   unlisted = λ e. let other : 102 ≡ 112 = ap (λ (l : List ℕ). get_or l 10 0) e in absurd (omega (arith, other));
@@ -74,30 +80,41 @@ expected_in t = first_of t (last_two t)
 abbrev actual_in : Mono → Mono
 actual_in t = first_of t (rest_of (last_two t))
 
-not_exchanged : (infinite : Bool) → ¬ (AreTextsOf applied_to_itself (codes "a -> b") (codes "a") infinite)
-not_exchanged infinite h =
+not_exchanged : (signed infinite : Bool) → ¬ (AreTextsOf applied_to_itself signed (codes "a -> b") (codes "a") infinite)
+not_exchanged signed infinite h =
     let first : a ≡ h.expected_type = ap expected_in h.three in
     let text : codes "a -> b" ≡ codes "a" = subst (λ (t : Mono). codes "a -> b" ≡ scheme_text_of (record { vars = 2; body = t })) (sym first) h.expected_is in
     absurd (omega (arith, ap length text))
 
-not_equal : (t u : List ℕ) (infinite : Bool) → ¬ (AreTextsOf equal_types t u infinite)
-not_equal t u infinite h = h.apart (sym (ap expected_in h.three) ∙ ap actual_in h.three)
+not_equal : (signed : Bool) (t u : List ℕ) (infinite : Bool) → ¬ (AreTextsOf equal_types signed t u infinite)
+not_equal signed t u infinite h = h.apart (sym (ap expected_in h.three) ∙ ap actual_in h.three)
 
 -- two variables need no infinite type
-not_infinite : (t u : List ℕ) → ¬ (AreTextsOf two_variables t u true)
-not_infinite t u h =
+not_infinite : (signed : Bool) (t u : List ℕ) → ¬ (AreTextsOf two_variables signed t u true)
+not_infinite signed t u h =
     subst (λ (x : Mono). NeedInfinite a x) (sym (ap actual_in h.three)) (subst (λ (x : Mono). NeedInfinite x h.actual_type) (sym (ap expected_in h.three)) (h.contained refl))
 
 a_function : ¬ (a ≡ function a b)
 a_function e = cc
+
+-- with () for both variables (a, b) and (b, a) are equal
+not_agreeing : (t u : List ℕ) (infinite : Bool) → ¬ (AreTextsOf swapped false t u infinite)
+not_agreeing t u infinite h =
+    let units : HaveCommonInstance (tuple b a) (tuple a b) = (λ n. app head.Unit none, refl) in
+    let first : HaveCommonInstance h.expected_type (tuple a b) = subst (λ (x : Mono). HaveCommonInstance x (tuple a b)) (ap expected_in h.three) units in
+    h.clash refl (subst (HaveCommonInstance h.expected_type) (ap actual_in h.three) first)
+
+apart_from_a : ¬ (HaveCommonInstance a (function a b))
+apart_from_a (f, e) = no_common_instance a (function a b) f refl e
 
 swapped_tuples : ¬ (tuple b a ≡ tuple a b)
 swapped_tuples e = cc
 
 pub worked_texts : TextsRow
 worked_texts = record {
-  itself = record { own_type = function a b; expected_type = a; actual_type = function a b; three = refl; apart = a_function; expected_is = refl; actual_is = refl; contained = λ e. refl };
-  lettered = record { own_type = function (tuple a b) (tuple b a); expected_type = tuple b a; actual_type = tuple a b; three = refl; apart = swapped_tuples; expected_is = refl; actual_is = refl; contained = λ e. cc };
+  itself = record { own_type = function a b; expected_type = a; actual_type = function a b; three = refl; apart = a_function; clash = λ e. apart_from_a; expected_is = refl; actual_is = refl; contained = λ e. refl };
+  lettered = record { own_type = function (tuple a b) (tuple b a); expected_type = tuple b a; actual_type = tuple a b; three = refl; apart = swapped_tuples; clash = λ e. cc; expected_is = refl; actual_is = refl; contained = λ e. cc };
+  agreeing = not_agreeing;
   exchanged = not_exchanged;
   equal = not_equal;
   finite = not_infinite;
@@ -160,3 +177,12 @@ not_good source h g =
 
 pub worked_good : GoodRow
 worked_good = record { good = good_here; faulty = not_good }
+
+not_signed : ¬ (IsSigned module_A (codes "x"))
+not_signed s = absurd (omega (arith, s.written.1))
+
+pub worked_signed : SignedRow
+worked_signed = record {
+  signed = record { name = at 18 x; written = (0, omega arith, refl); named = refl };
+  unsigned = not_signed;
+}

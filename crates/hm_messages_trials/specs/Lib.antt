@@ -1,4 +1,3 @@
-pub mod Hidden
 pub mod Limits
 pub mod Mends
 pub mod PartTypes
@@ -6,6 +5,5 @@ pub mod ShownTypes
 pub mod Signatures
 pub mod TypedSources
 pub mod Worked
-pub mod WorkedHidden
 pub mod WorkedLimits
 pub mod WorkedPartTypes

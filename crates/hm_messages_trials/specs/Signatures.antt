@@ -1,5 +1,5 @@
 -- The type that a definition has without its signature, where that is to blame for a type fault.
-use Rattle.std.specs.Prelude.{◌≡◌, ◌≤◌, ℕ, List, ◌∷◌, codes, length}
+use Rattle.std.specs.Prelude.{◌≡◌, ◌≤◌, ◌⊎◌, ℕ, List, ◌∷◌, codes, length}
 use Rattle.hm_types.specs.Interfaces.{Exports as Interface}
 use Rattle.hm_types.specs.Schemes.{TypeScheme}
 use Rattle.hm_types.specs.StandardPrelude.{prelude_interface}
@@ -29,12 +29,18 @@ pub record HasShownTypeAlone (source name : List ℕ) (fs : List Interface) (def
   pub alone : HasTypeAlone source name fs definition whole
   pub shown : IsShown (λ s. with_alone source definition s) name fs whole text
 
--- The definition has a type without this part of the source, and this is the text of the type that it has alone
+-- Without this part of the source the module is good, and exports the definition with a type whose text is shown so
+pub record HasShownTypeThere (source name : List ℕ) (fs : List Interface) (definition : List ℕ) (part : SourceRange) (text : List ℕ) : Type 0 where
+  pub scheme : TypeScheme
+  pub typed : ExportsIn (without source part.from part.to) name fs definition scheme
+  pub shown : IsShown (λ s. without source part.from part.to) name fs (scheme_text_of scheme) text
+
+-- The definition has a type without this part of the source. This is the text of the type with which the module exports it there, or of the type that it has alone
 pub record IsUnsigned (source name : List ℕ) (fs : List Interface) (definition : List ℕ) (part : SourceRange) (text : List ℕ) : Type 0 where
   pub part_of : IsPartOf source part
   pub others : List (List ℕ)
   pub types : HasTypesIn (without source part.from part.to) name fs (definition ∷ others)
-  pub own : HasShownTypeAlone source name fs definition text
+  pub own : HasShownTypeThere source name fs definition part text ⊎ HasShownTypeAlone source name fs definition text
 
 abbrev pub IsGood : Verdict → Type 0
 IsGood (Good f) = Unit {0}

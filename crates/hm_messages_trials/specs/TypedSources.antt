@@ -2,8 +2,11 @@
 use Rattle.std.specs.Prelude.{◌≡◌, ℕ, List, ◌∷◌, All, Contains}
 use Rattle.hm_types.specs.Interfaces.{Exports as Interface}
 use Rattle.hm_types.specs.StandardPrelude.{prelude_interface}
+use Rattle.hm_syntax.specs.Lists.{declarations}
+use Rattle.hm_syntax.specs.Names.{Identifier}
 use Rattle.hm_syntax.specs.declared.ast.Module.{Module}
 use Rattle.hm_run_sources.specs.SourceModules.{HasModules}
+use Rattle.hm_names.specs.Faults.Lists.{signed_names}
 use Rattle.hm_names.specs.Imports.{AreImportsOf}
 use Rattle.hm_names.specs.declared.faults.Fault.{Fault}
 use Rattle.hm_names.specs.declared.faults.Kind.TheVariants.{Untyped}
@@ -26,6 +29,18 @@ pub record IsModuleIn (source : List ℕ) (name : List ℕ) («module» : Module
   pub read : HasModules source modules
   pub among : Contains modules «module»
   pub named : «module».header.name.text ≡ name
+
+-- the module has a signature of the variable (Report 4.4.1)
+pub record IsSigned («module» : Module) (variable : List ℕ) : Type 0 where
+  pub name : Identifier
+  pub written : Contains (signed_names (declarations «module».decls)) name
+  pub named : name.text ≡ variable
+
+-- the source spells a module with this name that has a signature of the variable
+pub record IsSignedIn (source name variable : List ℕ) : Type 0 where
+  pub «module» : Module
+  pub spelled : IsModuleIn source name «module»
+  pub signed : IsSigned «module» variable
 
 -- the source spells a module with this name that needs these interfaces. Its verdict for them and Prelude's is good, or has only type faults with none
 -- of these names

@@ -20,7 +20,7 @@ const COST_OF_COLON: usize = 1 << 5;
 
 // Why: docs/DECISIONS.md, "The cost of :".
 /// Returns the cost of a trial of a source.
-pub(crate) fn cost_of(source: &[u8], outline: &Outline) -> usize {
+pub fn cost_of(source: &[u8], outline: &Outline) -> usize {
     let mut cost = source.len().saturating_add(COST_OF_TRIAL);
     for at in 0..outline.len() {
         if outline.symbol(at).is(Symbol::Colon) {
@@ -58,7 +58,7 @@ impl Effort {
     }
 
     /// Takes off a trial of this cost, and returns whether the effort was enough for it. If it wasn't, nothing is left for the run.
-    pub(crate) fn pays(&mut self, cost: usize) -> bool
+    pub fn pays(&mut self, cost: usize) -> bool
         ensures refused { IsUsedUp self.old → result ≡ false }
         ensures stays { IsUsedUp self.old → IsUsedUp self.new }
     {

@@ -1,8 +1,7 @@
 //! Worked examples: functions with empty bodies, whose contracts have the facts.
 ghost use Rattle.hm_messages_trials.specs.Worked.{HolesRow, MendsRow, PartsRow, TypesRow, VerdictsRow, WrappedRow};
-ghost use Rattle.hm_messages_trials.specs.WorkedHidden.{BeyondRow, DefinitionsRow, HeldRow, LaterRow, ReplacedRow};
 ghost use Rattle.hm_messages_trials.specs.WorkedLimits.{LimitsRow};
-ghost use Rattle.hm_messages_trials.specs.WorkedPartTypes.{ExportsRow, GoodRow, InfiniteRow, OthersRow, ProbesRow, SignaturesRow, TextsRow};
+ghost use Rattle.hm_messages_trials.specs.WorkedPartTypes.{ExportsRow, GoodRow, InfiniteRow, OthersRow, ProbesRow, SignaturesRow, SignedRow, TextsRow};
 
 /// Sources with a hole, parts of a source, verdicts with which a definition has a type, and sources in which it has one.
 #[tactic(auto, using(crate::proofs::WorkedHoles::worked_holes, crate::proofs::WorkedHoles::worked_parts, crate::proofs::WorkedHoles::worked_verdicts, crate::proofs::WorkedHoles::worked_types))]
@@ -21,8 +20,8 @@ pub fn worked_mends()
 {}
 
 /// Sources with a function of two types or a definition alone, the texts of two types, a source in which a module exports a variable, sources in which one
-/// is good and in which it isn't, and types that are equal only as an infinite type.
-#[tactic(auto, using(crate::proofs::WorkedPartTypes::worked_probes, crate::proofs::WorkedPartTypes::worked_texts, crate::proofs::WorkedPartTypes::worked_exports, crate::proofs::WorkedPartTypes::worked_others, crate::proofs::WorkedPartTypes::worked_signatures, crate::proofs::WorkedPartTypes::worked_good, crate::proofs::WorkedPartTypes::worked_infinite))]
+/// is good and in which it isn't, types that are equal only as an infinite type, and modules with and without a signature.
+#[tactic(auto, using(crate::proofs::WorkedPartTypes::worked_probes, crate::proofs::WorkedPartTypes::worked_texts, crate::proofs::WorkedPartTypes::worked_exports, crate::proofs::WorkedPartTypes::worked_others, crate::proofs::WorkedPartTypes::worked_signatures, crate::proofs::WorkedPartTypes::worked_good, crate::proofs::WorkedPartTypes::worked_infinite, crate::proofs::WorkedPartTypes::worked_signed))]
 pub fn worked_part_types()
     ensures probes { ProbesRow }
     ensures texts { TextsRow }
@@ -31,16 +30,7 @@ pub fn worked_part_types()
     ensures signatures { SignaturesRow }
     ensures good { GoodRow }
     ensures infinite { InfiniteRow }
-{}
-
-/// A source with a definition of a name that isn't in scope, one with a replaced definition, faults of later phases, and verdicts beyond a fault of names.
-#[tactic(auto, using(crate::proofs::WorkedHidden::worked_definitions, crate::proofs::WorkedHidden::worked_replaced, crate::proofs::WorkedHidden::worked_held, crate::proofs::WorkedHidden::worked_later, crate::proofs::WorkedHidden::worked_beyond))]
-pub fn worked_hidden()
-    ensures definitions { DefinitionsRow }
-    ensures replaced { ReplacedRow }
-    ensures held { HeldRow }
-    ensures later { LaterRow }
-    ensures beyond { BeyondRow }
+    ensures signed { SignedRow }
 {}
 
 /// An effort that is used up, and one that isn't.

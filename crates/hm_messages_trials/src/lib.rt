@@ -7,7 +7,6 @@
 
 mod costs;
 mod culprits;
-mod hidden;
 pub mod laws;
 mod mends;
 mod part_typing;
@@ -15,13 +14,14 @@ mod ranking;
 mod reading;
 mod search;
 mod signatures;
+mod signed;
 mod trial;
 
-pub use crate::costs::Effort;
-pub use crate::hidden::hidden_of;
+pub use crate::costs::{Effort, cost_of};
 pub use crate::mends::Mend;
 pub use crate::part_typing::{PartTypes, part_types_of};
 pub use crate::reading::{Reading, TypeFault, reading_of};
 pub use crate::search::mend_of;
 pub use crate::signatures::{Unsigned, unsigned_of};
+pub use crate::trial::judged;
 pub use hm_messages_types::Question;

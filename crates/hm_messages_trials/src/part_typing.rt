@@ -1,5 +1,5 @@
 //! The two types of a part of a definition.
-ghost use Rattle.std.specs.Prelude.{◌≡◌, ◌≤◌, ◌++◌, ◌∷◌, [], All, IfOk, IfSome, None, codes, length, map, string_bytes};
+ghost use Rattle.std.specs.Prelude.{◌≡◌, ◌≤◌, ◌++◌, ◌∷◌, [], All, IfOk, IfSome, None, codes, false, length, map, string_bytes, true};
 ghost use Rattle.std.specs.Arc.{arc_value};
 ghost use Rattle.hm_types.specs.Schemes.{HasArities, HasNoRigid};
 ghost use Rattle.hm_types.specs.Shape.{type_of};
@@ -8,15 +8,21 @@ ghost use Rattle.hm_types_display.specs.Texts.{scheme_text_of};
 ghost use Rattle.hm_messages_types.specs.Aliases.{alias_of as named_type};
 ghost use Rattle.hm_messages_trials.specs.PartTypes.{from_pair, AreTextsOf, ExportsIn, IsExported, from_three, text_in};
 ghost use Rattle.hm_messages_trials.specs.Limits.{IsUsedUp};
+ghost use Rattle.hm_messages_types.specs.CommonInstances.{HaveCommonInstance};
 ghost use Rattle.hm_messages_types.specs.Shown.{IsFolded, IsName};
 ghost use Rattle.hm_messages_trials.specs.ShownTypes.{ExportsNames, HasShownTypes};
 
 use crate::costs::{Effort, cost_of};
 use crate::reading::TypeFault;
+use crate::signed::is_signed_in;
 use crate::trial::judged;
-use hm_messages_changes::{Layout, Other, SourceRange, Span, bytes_of, with_probe};
+use hm_messages_changes::{
+    Layout, Local, Other, SourceRange, Span, bytes_of, local_of, signed_heads, with_probe,
+};
 use hm_messages_outline::{Lexed, Run, binding_at, header_of, one};
-use hm_messages_types::{Alias, Question, aliases_in, folded, names_in, need_infinite, text_of};
+use hm_messages_types::{
+    Alias, Question, aliases_in, are_apart, between, folded, names_in, need_infinite, text_of,
+};
 use hm_names::Fault;
 use hm_parse_grammar::Symbol;
 use hm_types::{Head, Interface, Scheme, Ty, Types};
@@ -175,27 +181,6 @@ fn taken_by(alloc: Global, body: &Ty) -> Result<Option<Taken<'_>>, AllocError>
     Ok(None)
 }
 
-/// Returns the text between a beginning and an end of a text.
-fn between(
-    alloc: Global,
-    text: &[u8],
-    front: &[u8],
-    back: &[u8],
-) -> Result<Option<String>, AllocError>
-    ensures { IfOk result (λ found. IfSome found (λ inner. text.now ≡ front.now ++ (string_bytes inner ++ back.now))) }
-{
-    let Some(rest) = text.strip_prefix(front) else {
-        return Ok(None);
-    };
-    let Some(inner) = rest.strip_suffix(back) else {
-        return Ok(None);
-    };
-    match std::str::from_utf8(inner) {
-        Ok(inner) => Ok(Some(String::from_str(alloc, inner)?)),
-        Err(_) => Ok(None),
-    }
-}
-
 /// The texts of a definition's type and of the expected type.
 #[derive(Drop)]
 struct Front {
@@ -249,16 +234,41 @@ fn last_text(
     Ok(between(alloc, whole.as_bytes(), front.as_bytes(), b") -> ()")?)
 }
 
+// Why: docs/DECISIONS.md, "Types that agree".
+/// Returns whether a note may have the two types that a function with this scheme takes after a definition's.
+fn may_have(
+    alloc: Global,
+    scheme: &Scheme,
+    taken: &Taken<'_>,
+    is_signed: bool,
+) -> Result<bool, AllocError>
+    requires { scheme.now.body ≡ from_three (type_of taken.now.own.now) (type_of taken.now.expected.now) (type_of taken.now.actual.now) }
+    ensures { IfOk result (λ may. may ≡ true → is_signed ≡ false → ¬ (HaveCommonInstance (type_of taken.now.expected.now) (type_of taken.now.actual.now))) }
+{
+    if is_signed {
+        return Ok(true);
+    }
+    let _body = scheme.body();
+    Ok(are_apart(alloc, scheme.vars(), taken.expected, taken.actual)?)
+}
+
 // Why: docs/DECISIONS.md, "The text of two types".
-/// Returns the texts of the two types that a function with this scheme takes after a definition's, if they differ.
-fn texts_of(alloc: Global, scheme: &Scheme) -> Result<Option<PartTypes>, AllocError>
-    ensures { IfOk result (λ found. IfSome found (λ types. AreTextsOf scheme.now (string_bytes types.expected) (string_bytes types.actual)
+/// Returns the texts of the two types that a function with this scheme takes after a definition's, if they differ. Without a signature they have no common instance.
+fn texts_of(
+    alloc: Global,
+    scheme: &Scheme,
+    is_signed: bool,
+) -> Result<Option<PartTypes>, AllocError>
+    ensures { IfOk result (λ found. IfSome found (λ types. AreTextsOf scheme.now is_signed (string_bytes types.expected) (string_bytes types.actual)
         types.infinite)) }
 {
     let Some(taken) = taken_by(alloc, scheme.body())? else {
         return Ok(None);
     };
     if taken.expected.is_same(taken.actual) {
+        return Ok(None);
+    }
+    if !may_have(alloc, scheme, &taken, is_signed)? {
         return Ok(None);
     }
     let infinite = need_infinite(taken.expected, taken.actual);
@@ -315,9 +325,11 @@ fn count_before(others: &[Other<'_>], byte: usize) -> usize
     others.iter().take_while(|other| other.from < byte).count()
 }
 
-/// What else is changed where a definition is replaced: the other definitions that are holes, and the names that are added to the export list.
+/// What else is changed where a definition is replaced: how it is written where it is local, the other definitions that are holes, and the names that are added
+/// to the export list.
 #[derive(Clone, Copy)]
 pub(crate) struct Setting<'a> {
+    pub local: Local<'a>,
     pub others: &'a [Other<'a>],
     pub names: &'a [Span],
 }
@@ -339,6 +351,7 @@ pub(crate) fn layout_of<'a>(
     Some(Layout {
         source,
         name: fault.name.as_str(),
+        local: setting.local,
         exported: export_list(lexed, binding.start),
         names: setting.names,
         whole: Span { from, to },
@@ -379,7 +392,8 @@ fn types_for(
     let Some(typed) = typed_in(alloc, question, lexed, changed.as_slice(), FUNCTION)? else {
         return Ok(None);
     };
-    let Some(types) = texts_of(alloc, &typed.scheme)? else {
+    let is_signed = is_signed_in(alloc, question, layout.source, layout.name)?;
+    let Some(types) = texts_of(alloc, &typed.scheme, is_signed)? else {
         return Ok(None);
     };
     Ok(Some(shown_types(alloc, &types, typed.aliases.as_slice())?))
@@ -399,7 +413,9 @@ fn types_at(
     let lexed = found.reading.lexed(question.source);
     let others = others_of(alloc, &lexed, found)?;
     let names = names_in(alloc, &lexed, question.name)?;
+    let heads = signed_heads(alloc, &lexed, binding)?;
     let setting = Setting {
+        local: local_of(found.fault.name.as_str(), heads.as_slice(), part.from),
         others: others.as_slice(),
         names: names.as_slice(),
     };
@@ -413,7 +429,8 @@ fn types_at(
 /// Returns the two types of a part of a definition that is a type fault: the one that it has, and the one that is expected in its place. `effort`
 /// is less by what that costs.
 ///
-/// None if the definition has no type with a value of the expected type in its place, or if the effort doesn't pay for a trial.
+/// None if the definition has no type with a value of the expected type in its place, if it has no signature and the two types have a common instance, or if the
+/// effort doesn't pay for a trial.
 ///
 /// # Errors
 ///

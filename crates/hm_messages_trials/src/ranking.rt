@@ -11,6 +11,9 @@ use hm_messages_outline::{Outline, Role, Run, TermPart, without_brackets};
 use hm_parse_grammar::Symbol;
 use std::alloc::{AllocError, Global};
 
+/// The most that a trial may cost if constructors are tried. There are up to fifteen, and faults of a large module would use up what is left for the run.
+const MOST_COST_OF_WRAPPING: usize = 1 << 14;
+
 /// A part without which a definition has a type.
 #[derive(Clone, Copy)]
 struct Suspect {
@@ -180,6 +183,9 @@ fn with_wrapper(
     let Some(Reported::Expression(run)) = reported else {
         return Ok(reported);
     };
+    if searched.cost > MOST_COST_OF_WRAPPING {
+        return Ok(reported);
+    }
     let run = whole_of(searched.lexed.outline, parts, run);
     let mut found = None;
     for wrapper in &wrappers_of(alloc, searched.lexed, run.start)? {

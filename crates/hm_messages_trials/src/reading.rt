@@ -20,7 +20,7 @@ pub struct Reading {
 
 impl Reading {
     /// Returns the source with its tokens.
-    pub(crate) fn lexed<'a>(&'a self, source: &'a [u8]) -> Lexed<'a>
+    pub fn lexed<'a>(&'a self, source: &'a [u8]) -> Lexed<'a>
         ensures { result.source.now ≡ source.entry.now }
     {
         Lexed {

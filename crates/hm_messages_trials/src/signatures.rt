@@ -1,15 +1,15 @@
 //! The type that a definition has without its signature.
-ghost use Rattle.std.specs.Prelude.{◌≡◌, IfOk, IfSome, None, map, string_bytes, true};
+ghost use Rattle.std.specs.Prelude.{◌≡◌, ◌⊎◌, IfOk, IfSome, None, map, string_bytes, true};
 ghost use Rattle.std.specs.Arc.{arc_value};
 ghost use Rattle.hm_messages_changes.specs.Holes.{IsPartOf};
 ghost use Rattle.hm_messages_trials.specs.Limits.{IsUsedUp};
-ghost use Rattle.hm_messages_trials.specs.Signatures.{HasShownTypeAlone, IsUnsigned, Leads};
+ghost use Rattle.hm_messages_trials.specs.Signatures.{HasShownTypeAlone, HasShownTypeThere, IsUnsigned, Leads};
 
 use crate::costs::{Effort, cost_of};
 use crate::part_typing::{FUNCTION, Setting, layout_of, others_of, typed_in};
 use crate::reading::TypeFault;
 use crate::trial::{has_types_in, is_good_in};
-use hm_messages_changes::{Layout, SourceRange, bytes_of, part_of, with_alone, without};
+use hm_messages_changes::{Layout, SourceRange, bytes_of, own_name, part_of, with_alone, without};
 use hm_messages_outline::{Lexed, Run, binding_at, header_of, signature_of};
 use hm_messages_types::{Question, folded, names_in};
 use hm_parse_grammar::Symbol;
@@ -47,11 +47,55 @@ fn type_alone(
     Ok(Some(folded(alloc, typed.aliases.as_slice(), whole.as_str())?))
 }
 
+/// Returns the text of the type with which the module of a question exports the definition in the source without a part, if it is good there.
+fn type_there(
+    alloc: Global,
+    question: &Question<'_>,
+    lexed: &Lexed<'_>,
+    layout: &Layout<'_>,
+    part: SourceRange,
+) -> Result<Option<String>, AllocError>
+    requires { IsPartOf layout.now.source.now part }
+    ensures { IfOk result (λ found. IfSome found (λ text. HasShownTypeThere layout.now.source.now question.now.name.now (map arc_value question.now.imports.now)
+        layout.now.name.now part (string_bytes text))) }
+{
+    let changed = without(alloc, layout.source, part.from, part.to)?;
+    let Some(typed) = typed_in(alloc, question, lexed, changed.as_slice(), layout.name)? else {
+        return Ok(None);
+    };
+    let whole = scheme_text(alloc, &typed.scheme)?;
+    Ok(Some(folded(alloc, typed.aliases.as_slice(), whole.as_str())?))
+}
+
 /// A signature of a definition, and whether other definitions mention this one.
 #[derive(Clone, Copy)]
 struct Signed {
     signature: SourceRange,
     is_used: bool,
+}
+
+// Why: docs/DECISIONS.md, "Types without a signature".
+/// Returns the text of the type that a definition has without its signature. If other definitions mention it, and the module is good without the signature, it is
+/// the type with which that exports the definition. Otherwise it is the type that the definition has alone.
+fn type_without(
+    alloc: Global,
+    question: &Question<'_>,
+    lexed: &Lexed<'_>,
+    layout: &Layout<'_>,
+    signed: Signed,
+) -> Result<Option<String>, AllocError>
+    requires { IsPartOf layout.now.source.now signed.signature }
+    ensures { IfOk result (λ found. IfSome found (λ text. HasShownTypeThere layout.now.source.now question.now.name.now (map arc_value question.now.imports.now)
+        layout.now.name.now signed.signature (string_bytes text) ⊎ HasShownTypeAlone layout.now.source.now question.now.name.now
+        (map arc_value question.now.imports.now) layout.now.name.now (string_bytes text))) }
+{
+    if !signed.is_used {
+        return Ok(type_alone(alloc, question, lexed, layout)?);
+    }
+    match type_there(alloc, question, lexed, layout, signed.signature)? {
+        Some(own) => Ok(Some(own)),
+        None => Ok(type_alone(alloc, question, lexed, layout)?),
+    }
 }
 
 /// Returns the signature of a definition and the type that the definition has without it, if it has one.
@@ -68,7 +112,7 @@ fn unsigned_in(
     ensures leads { IfOk result (λ found. IfSome found (λ u. u.leads ≡ true → Leads layout.now.source.now question.now.name.now
         (map arc_value question.now.imports.now) u.signature)) }
 {
-    let Some(own) = type_alone(alloc, question, lexed, layout)? else {
+    let Some(own) = type_without(alloc, question, lexed, layout, signed)? else {
         return Ok(None);
     };
     let signature = signed.signature;
@@ -124,6 +168,7 @@ fn unsigned_at(
     let others = others_of(alloc, &lexed, found)?;
     let names = names_in(alloc, &lexed, question.name)?;
     let setting = Setting {
+        local: own_name(found.fault.name.as_str()),
         others: others.as_slice(),
         names: names.as_slice(),
     };
@@ -137,7 +182,7 @@ fn unsigned_at(
 /// Returns the signature of a definition that is a type fault, and the type that the definition has without it. `effort` is less by what that
 /// costs.
 ///
-/// None if the definition has no signature or no type without it, or if the effort doesn't pay for three trials.
+/// None if the definition has no signature or no type without it, or if the effort doesn't pay for four trials.
 ///
 /// # Errors
 ///
@@ -173,7 +218,7 @@ pub fn unsigned_of(
         return Ok(None);
     }
     let cost = cost_of(question.source, lexed.outline);
-    if !effort.pays(cost) || !effort.pays(cost) || !effort.pays(cost) {
+    if !effort.pays(cost) || !effort.pays(cost) || !effort.pays(cost) || !effort.pays(cost) {
         return Ok(None);
     }
     let signed = Signed {

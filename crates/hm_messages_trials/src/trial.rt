@@ -69,7 +69,11 @@ fn first_named(modules: Vec<Module>, name: &str) -> Option<Module>
 }
 
 /// Returns the first module with this name that a source spells.
-fn module_in(alloc: Global, source: &[u8], name: &str) -> Result<Option<Module>, AllocError>
+pub(crate) fn module_in(
+    alloc: Global,
+    source: &[u8],
+    name: &str,
+) -> Result<Option<Module>, AllocError>
     ensures { IfOk result (λ found. IfSome found (IsModuleIn source.now name.now)) }
 {
     match modules_in(alloc, source)? {
@@ -80,7 +84,7 @@ fn module_in(alloc: Global, source: &[u8], name: &str) -> Result<Option<Module>,
 
 /// Returns the outcome of the module of a question in a changed source, or `None` if the source spells no such module, or one with other
 /// imports.
-pub(crate) fn judged(
+pub fn judged(
     alloc: Global,
     question: &Question<'_>,
     changed: &[u8],

@@ -1,3 +1,4 @@
 pub mod Folding
 pub mod NoFiniteType
 pub mod WorkedShown
+pub mod WorkedInstances

@@ -1,5 +1,6 @@
 //! Worked examples, and a law: functions with empty bodies, whose contracts have the facts.
 ghost use Rattle.hm_messages_types.specs.InfiniteTypes.{NoCommonInstance};
+ghost use Rattle.hm_messages_types.specs.WorkedInstances.{InstancesRow};
 ghost use Rattle.hm_messages_types.specs.WorkedShown.{AliasRow, FoldedRow};
 
 /// No substitution makes two types equal that are equal only if a type contains itself.
@@ -12,4 +13,10 @@ pub fn infinite_types()
 pub fn worked_names()
     ensures folded { FoldedRow }
     ensures aliases { AliasRow }
+{}
+
+/// Types that can be the same type, and types that can't.
+#[tactic(auto, using(crate::proofs::WorkedInstances::worked_instances_row))]
+pub fn worked_instances()
+    ensures { InstancesRow }
 {}

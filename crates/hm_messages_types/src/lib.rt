@@ -1,12 +1,16 @@
-//! Makes the texts of types in notes, in which names of synonyms stand for types as in the signatures of the module, and finds types that would be
-//! infinite.
+//! Makes the texts of types in notes, in which names of synonyms stand for types as in the signatures of the module, and finds types that can't be equal and
+//! types that would be infinite.
 #![tactic(auto)]
 
+mod apart;
 mod infinite;
 pub mod laws;
 mod question;
 mod shown;
+mod texts;
 
+pub use crate::apart::are_apart;
 pub use crate::infinite::need_infinite;
 pub use crate::question::Question;
 pub use crate::shown::{Alias, aliases_in, folded, names_in, text_of};
+pub use crate::texts::between;

@@ -2,7 +2,7 @@ use Rattle.std.proofs.Common.{rules, ◌≡◌, List, ℕ, inr, map, subst}
 use Rattle.std.specs.Arc.{arc_value}
 use Rattle.hm_verdicts.specs.ModuleVerdicts.{Verdict}
 use Rattle.hm_verdicts.specs.Outcomes.{verdict_of}
-use Rattle.hm_messages_trials.specs.Hidden.{IsVerdictBeyond}
+use Rattle.hm_messages_hidden.specs.Hidden.{IsVerdictBeyond}
 use Rattle.hm_build_messages.specs.Explanations.{AreHiddenNotes}
 use Rattle.hm_build_messages.proofs.hidden.module_notes.Goals as goal
 

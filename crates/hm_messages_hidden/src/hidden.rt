@@ -4,16 +4,13 @@ ghost use Rattle.std.specs.Arc.{arc_value};
 ghost use Rattle.hm_lex.specs.Places.{IsBefore};
 ghost use Rattle.hm_names.specs.declared.faults.Kind.TheVariants.{Unbound};
 ghost use Rattle.hm_verdicts.specs.Outcomes.{verdict_of};
-ghost use Rattle.hm_messages_trials.specs.Hidden.{AreLater, BeginWith, HaveUnbound, IsLater, IsLaterKind, IsOutOfScope, IsReplaced, IsVerdictBeyond};
+ghost use Rattle.hm_messages_hidden.specs.Hidden.{AreLater, BeginWith, HaveUnbound, IsLater, IsLaterKind, IsOutOfScope, IsReplaced, IsVerdictBeyond};
 ghost use Rattle.hm_messages_trials.specs.Limits.{IsUsedUp};
 
-use crate::costs::{Effort, cost_of};
-use crate::reading::{Reading, reading_of};
-use crate::trial::judged;
 use hm_lex::Place;
 use hm_messages_changes::{Other, ScopeChange, changed_by, place_of_byte, replaced_of};
 use hm_messages_outline::declarations_of;
-use hm_messages_types::Question;
+use hm_messages_trials::{Effort, Question, Reading, cost_of, judged, reading_of};
 use hm_names::{Fault, Kind};
 use hm_verdicts::{Outcome, Verdict};
 use std::alloc::{AllocError, Global};
@@ -29,7 +26,7 @@ const COST_OF_DEFINITION: usize = 1 << 6;
 const BYTES_OF_REPLACED: usize = 1 << 4;
 
 /// Returns whether a text is that of a variable without a qualifier.
-pub(crate) fn is_plain_variable(text: &[u8]) -> bool {
+fn is_plain_variable(text: &[u8]) -> bool {
     match text.first() {
         Some(first) => {
             (first.is_ascii_lowercase() || *first == b'_') && text.iter().all(|byte| *byte != b'.')

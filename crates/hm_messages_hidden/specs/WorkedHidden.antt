@@ -7,7 +7,7 @@ use Rattle.hm_names.specs.declared.faults.Kind.TheVariants.{Unbound, Untyped}
 use Rattle.hm_verdicts.specs.ModuleVerdicts.{Good, Faulty}
 use Rattle.hm_verdicts.specs.Worked.{module_A}
 use Rattle.hm_verdicts.specs.WorkedVerdicts.{interface_A}
-use Rattle.hm_messages_trials.specs.Hidden.{HaveUnbound, IsLater, IsOutOfScope, IsReplaced, IsVerdictBeyond}
+use Rattle.hm_messages_hidden.specs.Hidden.{HaveUnbound, IsLater, IsOutOfScope, IsReplaced, IsVerdictBeyond}
 use Rattle.hm_messages_changes.specs.Blanks.{blank, replaced, with_definitions}
 use Rattle.hm_messages_trials.specs.Worked.{at_column, reported_by}
 use Rattle.hm_messages_changes.specs.declared.data.Other.{Other}

@@ -7,10 +7,10 @@ use Rattle.hm_types.specs.StandardPrelude.{prelude_interface}
 use Rattle.hm_names.specs.Imports.{AreImportsOf}
 use Rattle.hm_verdicts.specs.ModuleVerdicts.{Verdict, IsVerdict}
 use Rattle.hm_verdicts.specs.Outcomes.{verdict_of}
-use Rattle.hm_messages_trials.specs.Hidden.{AreLater, IsOutOfScope, IsReplaced}
+use Rattle.hm_messages_hidden.specs.Hidden.{AreLater, IsOutOfScope, IsReplaced}
 use Rattle.hm_messages_changes.specs.Blanks.{replaced}
 use Rattle.hm_messages_trials.specs.TypedSources.{IsModuleIn}
-use Rattle.hm_messages_trials.proofs.hidden.outcome_with.Goals as goal
+use Rattle.hm_messages_hidden.proofs.hidden.outcome_with.Goals as goal
 
 pub returns : goal.returns
 returns c =

@@ -1,7 +1,7 @@
 use Rattle.std.proofs.Common.{Some}
 use Rattle.std.proofs.lemmas.Bool.Decides.{Decides-eqb}
 use Rattle.std.proofs.lemmas.Slice.Eq.{strip_prefix_is}
-use Rattle.hm_messages_trials.proofs.hidden.begin_with.Goals as goal
+use Rattle.hm_messages_hidden.proofs.hidden.begin_with.Goals as goal
 
 pub returns : goal.returns
 returns c so =

@@ -2,8 +2,8 @@ use Rattle.std.proofs.Common.{rules, take, subst}
 use Rattle.std.specs.Prelude.{slice_range}
 use Rattle.hm_lex.specs.Cut.{place_after}
 use Rattle.hm_lex.specs.declared.token.Place.{Place}
-use Rattle.hm_messages_trials.specs.Hidden.{BeginWith, HaveUnbound}
-use Rattle.hm_messages_trials.proofs.hidden.is_replaced.Goals as goal
+use Rattle.hm_messages_hidden.specs.Hidden.{BeginWith, HaveUnbound}
+use Rattle.hm_messages_hidden.proofs.hidden.is_replaced.Goals as goal
 
 pub returns : goal.returns
 returns c so =

@@ -13,10 +13,10 @@ use Rattle.hm_verdicts.proofs.WorkedModules.{good_A}
 use Rattle.hm_lex.specs.Cut.{place_after}
 use Rattle.hm_lex.specs.Places.{IsBefore}
 use Rattle.hm_lex.specs.declared.token.Place.{Place}
-use Rattle.hm_messages_trials.specs.Hidden.{HaveUnbound, IsOutOfScope, IsReplaced, IsVerdictBeyond}
+use Rattle.hm_messages_hidden.specs.Hidden.{HaveUnbound, IsOutOfScope, IsReplaced, IsVerdictBeyond}
 use Rattle.hm_messages_changes.specs.Blanks.{blank, replaced, with_definitions}
 use Rattle.hm_messages_trials.specs.Worked.{at_column, reported_by}
-use Rattle.hm_messages_trials.specs.WorkedHidden.{BeyondRow, DefinitionsRow, HeldRow, LaterRow, ReplacedRow}
+use Rattle.hm_messages_hidden.specs.WorkedHidden.{BeyondRow, DefinitionsRow, HeldRow, LaterRow, ReplacedRow}
 use Rattle.hm_messages_changes.specs.declared.data.Other.{Other}
 
 pub worked_definitions : DefinitionsRow
