@@ -30,20 +30,20 @@ found_given g x s (e ∷ es) a (inl h) = subst (λ k. IsWellFormed (k.quantified
 found_given g x s (e ∷ es) a (inr h) = found_given g x s es a.1 h.1
 
 -- the innermost scheme tells what a name has
-found_has : (x : Identifier) (s : OpenScheme) (es : List Assumed) (r : ℕ → Monotype) (t : Monotype) → IsSchemeOf x s es → IsInstanceUnder s r t → Has (assumptions_put r (assumptions es)) x t
+pub found_has : (x : Identifier) (s : OpenScheme) (es : List Assumed) (r : ℕ → Monotype) (t : Monotype) → IsSchemeOf x s es → IsInstanceUnder s r t → Has (assumptions_put r (assumptions es)) x t
 found_has x s [] r t h i = absurd h
 found_has x s (e ∷ es) r t (inl h) i =
     inl (sym h.0, (i.0, i.1 ∙ (ap (λ k. put (fill r i.0) (scheme_in k)) (sym h.1) ∙ sym (instance_put r i.0 (scheme_in e.scheme)))))
 found_has x s (e ∷ es) r t (inr h) i = inr ((λ k. h.0 (sym k)), found_has x s es r t h.1 i)
 
-has_found : (x : Identifier) (s : OpenScheme) (es : List Assumed) (r : ℕ → Monotype) (t : Monotype) → IsSchemeOf x s es → Has (assumptions_put r (assumptions es)) x t → IsInstanceUnder s r t
+pub has_found : (x : Identifier) (s : OpenScheme) (es : List Assumed) (r : ℕ → Monotype) (t : Monotype) → IsSchemeOf x s es → Has (assumptions_put r (assumptions es)) x t → IsInstanceUnder s r t
 has_found x s [] r t h i = absurd h
 has_found x s (e ∷ es) r t (inl h) (inl i) = (i.1.0, i.1.1 ∙ (instance_put r i.1.0 (scheme_in e.scheme) ∙ ap (λ k. put (fill r i.1.0) (scheme_in k)) h.1))
 has_found x s (e ∷ es) r t (inl h) (inr i) = absurd (i.0 (sym h.0))
 has_found x s (e ∷ es) r t (inr h) (inl i) = absurd (h.0 (sym i.0))
 has_found x s (e ∷ es) r t (inr h) (inr i) = has_found x s es r t h.1 i.1
 
-has_named : (x : Identifier) (es : List Assumed) (r : ℕ → Monotype) (t : Monotype) → Has (assumptions_put r (assumptions es)) x t → IsOneOf x (assumed_names es)
+pub has_named : (x : Identifier) (es : List Assumed) (r : ℕ → Monotype) (t : Monotype) → Has (assumptions_put r (assumptions es)) x t → IsOneOf x (assumed_names es)
 has_named x [] r t h = h
 has_named x (e ∷ es) r t (inl h) = inl h.0
 has_named x (e ∷ es) r t (inr h) = inr (has_named x es r t h.1)

@@ -17,3 +17,4 @@ pub mod Suffixes
 pub mod Placed
 pub mod ConstructorPlaces
 pub mod ClosedSchemes
+pub mod Inferred

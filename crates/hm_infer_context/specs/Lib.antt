@@ -11,3 +11,4 @@ pub mod VariableKinds
 pub mod ConstructorPlaces
 pub mod Kept
 pub mod Places
+pub mod Inferred

@@ -1,15 +1,17 @@
 //! Instances of schemes.
 
-ghost use Rattle.std.specs.Prelude.{◌≡◌, ◌+◌, ◌<◌, ◌^◌, IfOk};
+ghost use Rattle.std.specs.Prelude.{◌≡◌, ◌+◌, ◌<◌, ◌^◌, IfErr, IfOk};
 ghost use Rattle.hm_types.specs.Shape.{type_of};
 ghost use Rattle.hm_types.specs.Types.{put, Var as leaf};
 ghost use Rattle.hm_typing.specs.Patterns.{Instantiates};
 ghost use Rattle.hm_typing.specs.Programs.{monotype_of};
 ghost use Rattle.hm_unify.specs.WellFormed.{IsWellFormed};
+ghost use Rattle.hm_unify.specs.declared.faults.UnifyFault.TheVariants.{Memory};
 ghost use Rattle.hm_names.specs.Syntax.{constructor_type_of};
 ghost use Rattle.hm_infer_context.specs.Constructors.{known_of};
 ghost use Rattle.hm_infer_context.specs.Problems.{monotype, Answers};
 ghost use Rattle.hm_infer_context.specs.Environments.{opened, quantified_leaf, IsInstanceUnder};
+ghost use Rattle.hm_infer_context.specs.Inferred.{IsInferred};
 ghost use Rattle.hm_infer_context.specs.VariableKinds.{is_rigid};
 
 use crate::constructors::Constructors;
@@ -126,4 +128,42 @@ pub fn check_constructor(
 {
     let scheme = constructors.find(alloc, name)?;
     check_declared(alloc, solver, scheme.as_scheme(), t)
+}
+
+/// Returns an instance of a scheme with new variables.
+pub(crate) fn scheme_instance(
+    alloc: Global,
+    solver: &mut Solver,
+    quantified: usize,
+    body: &Ty,
+) -> Result<Ty, UnifyFault>
+    requires scheme { IsWellFormed (quantified + solver.old.given) (type_of body.now) }
+    ensures inferred { IfOk result (λ t. IsInferred (IsInstanceUnder (record { quantified = quantified; body = type_of body.now })) solver.old solver.new (type_of t)) }
+    ensures given { IfOk result (λ t. IsWellFormed solver.new.given (type_of t)) }
+    ensures refused { IfErr result (λ e. e ≡ Memory) }
+{
+    let base = new_variables(solver, quantified)?;
+    solver.well_formed();
+    Ok(instantiate(alloc, VariableKind::Flexible, quantified, base, body)?)
+}
+
+/// Returns an instance of a constructor's scheme with new variables.
+///
+/// # Errors
+///
+/// `Memory` if memory ran out.
+pub fn constructor_instance(
+    alloc: Global,
+    solver: &mut Solver,
+    constructors: &Constructors,
+    name: &Name,
+) -> Result<Ty, UnifyFault>
+    ensures inferred { IfOk result (λ t. IsInferred (λ r u. Instantiates (constructor_type_of (known_of constructors.now) name.now) u) solver.old
+        solver.new (type_of t)) }
+    ensures given { IfOk result (λ t. IsWellFormed solver.new.given (type_of t)) }
+    ensures refused { IfErr result (λ e. e ≡ Memory) }
+{
+    let scheme = constructors.find(alloc, name)?;
+    let scheme = scheme.as_scheme();
+    scheme_instance(alloc, solver, scheme.vars(), scheme.body())
 }

@@ -20,10 +20,12 @@ pub use crate::constructors::{Constructors, Entry, KnownScheme};
 pub use crate::environment::{AssumedType, Binding, Environment};
 pub use crate::functions::{open_alternative, open_function};
 pub use crate::inference::Inference;
-pub use crate::instances::{VariableKind, check_constructor, check_scheme, instantiate};
-pub use crate::names::{check_name, entity_name, own_text};
-pub use crate::parts::{list_part, tuple_parts};
+pub use crate::instances::{
+    VariableKind, check_constructor, check_scheme, constructor_instance, instantiate,
+};
+pub use crate::names::{check_name, entity_name, name_instance, own_text};
+pub use crate::parts::{FunctionType, list_part, split_function, tuple_parts};
 pub use crate::patterns::{PartTypes, match_pattern};
-pub use crate::shapes::{function_from, literal_type, prelude_type};
+pub use crate::shapes::{literal_type, prelude_type};
 pub use crate::unifying::{equate, new_variables};
 pub use crate::variables::{Variable, Variables};

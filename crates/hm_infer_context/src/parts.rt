@@ -1,18 +1,21 @@
 //! Splits types: makes a type equal to one whose parts are new variables.
 
-ghost use Rattle.std.specs.Prelude.{◌≡◌, ◌+◌, ◌<◌, ◌^◌, IfOk};
+ghost use Rattle.std.specs.Prelude.{◌≡◌, ◌+◌, ◌<◌, ◌^◌, IfErr, IfOk, IsTrue};
 ghost use Rattle.hm_types.specs.Shape.{type_of};
-ghost use Rattle.hm_types.specs.Types.{put};
+ghost use Rattle.hm_types.specs.Types.{App as app, put};
+ghost use Rattle.hm_types.specs.Monotypes.{Monos};
+ghost use Rattle.hm_types.specs.declared.Head.TheVariants as head;
 ghost use Rattle.hm_typing.specs.Patterns.{Instantiates, arrows, tuple, list};
 ghost use Rattle.hm_typing.specs.Problems.{FactsBelow};
 ghost use Rattle.hm_typing.specs.Programs.{monotype_of};
 ghost use Rattle.hm_unify.specs.WellFormed.{IsWellFormed};
-ghost use Rattle.hm_infer_context.specs.Problems.{Answers, monotype, problem, bound, given_more, new_at};
+ghost use Rattle.hm_infer_context.specs.Problems.{Answers, Refuses, monotype, problem, bound, given_more, new_at};
+ghost use Rattle.hm_infer_context.specs.Inferred.{AreParts, IsSomeFunction};
 
 use crate::instances::check_declared;
 use crate::shapes::{function_type, list_type, tuple_type};
 use crate::unifying::{equate, new_variables};
-use hm_types::{Scheme, Ty};
+use hm_types::{Head, Scheme, Ty};
 use hm_unify::{Solver, UnifyFault};
 use std::alloc::Global;
 
@@ -103,4 +106,78 @@ pub fn list_part(alloc: Global, solver: &mut Solver, t: &Ty) -> Result<usize, Un
     let whole = list_type(alloc, first)?;
     equate(solver, t, whole)?;
     Ok(first)
+}
+
+/// The parts of the type of a function.
+#[derive(Drop)]
+pub struct FunctionType {
+    pub argument: Ty,
+    pub outcome: Ty,
+}
+
+impl FunctionType {
+    /// Returns the type of the outcome.
+    pub fn into_outcome(self) -> Ty
+        ensures { result ≡ self.outcome }
+    {
+        let FunctionType {
+            argument: _argument,
+            outcome,
+        } = self;
+        outcome
+    }
+}
+
+/// Returns whether a type is one of functions.
+fn is_function(t: &Ty) -> bool
+    ensures { IsTrue result → (ts : Monos) × (type_of t.now ≡ app head.Arrow ts) }
+{
+    match t {
+        Ty::App(head, _) => head.is_same(&Head::Arrow),
+        _ => false,
+    }
+}
+
+/// Makes a type equal to that of functions from a new variable to another one.
+fn new_parts(alloc: Global, solver: &mut Solver, t: &Ty) -> Result<FunctionType, UnifyFault>
+    requires given { IsWellFormed solver.old.given (type_of t.now) }
+    ensures parts { IfOk result (λ parts. AreParts (type_of t.now) solver.old solver.new (type_of parts.argument) (type_of parts.outcome)) }
+    ensures given { IfOk result (λ parts. IsWellFormed solver.new.given (type_of parts.argument) × IsWellFormed solver.new.given (type_of parts.outcome)) }
+    ensures refused { IfErr result (Refuses (IsSomeFunction (type_of t.now)) solver.old) }
+{
+    let first = new_variables(solver, 2)?;
+    let whole = Ty::function(alloc, Ty::Var(first), Ty::Var(first + 1))?;
+    equate(solver, t, whole)?;
+    Ok(FunctionType {
+        argument: Ty::Var(first),
+        outcome: Ty::Var(first + 1),
+    })
+}
+
+/// Makes a type equal to one of functions, and returns its parts. A type that is one already is taken apart.
+///
+/// # Errors
+///
+/// `Clash` if the type can't be one of functions, and `Memory` if memory ran out.
+pub fn split_function(alloc: Global, solver: &mut Solver, t: Ty) -> Result<FunctionType, UnifyFault>
+    requires given { IsWellFormed solver.old.given (type_of t) }
+    ensures parts { IfOk result (λ parts. AreParts (type_of t) solver.old solver.new (type_of parts.argument) (type_of parts.outcome)) }
+    ensures given { IfOk result (λ parts. IsWellFormed solver.new.given (type_of parts.argument) × IsWellFormed solver.new.given (type_of parts.outcome)) }
+    ensures refused { IfErr result (Refuses (IsSomeFunction (type_of t)) solver.old) }
+{
+    if !is_function(&t) {
+        return new_parts(alloc, solver, &t);
+    }
+    solver.well_formed();
+    let Ty::App(_head, arguments) = t else {
+        return Err(UnifyFault::Memory);
+    };
+    let mut row = arguments.into_vec();
+    let Some(outcome) = row.pop() else {
+        return Err(UnifyFault::Memory);
+    };
+    let Some(argument) = row.pop() else {
+        return Err(UnifyFault::Memory);
+    };
+    Ok(FunctionType { argument, outcome })
 }

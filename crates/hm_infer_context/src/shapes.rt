@@ -3,7 +3,6 @@
 ghost use Rattle.std.specs.Prelude.{◌≡◌, ℕ, ◌+◌, ◌<◌, ◌≤◌, ◌^◌, IfOk, false, codes};
 ghost use Rattle.hm_types.specs.Shape.{type_of};
 ghost use Rattle.hm_typing.specs.Patterns.{arrows, tuple, list};
-ghost use Rattle.hm_typing.specs.Schemes.{arrow};
 ghost use Rattle.hm_typing.specs.Syntax as typed;
 ghost use Rattle.hm_typing.specs.Programs.{monotype_of};
 ghost use Rattle.hm_types.specs.Types.{App as app, done as none, more};
@@ -93,13 +92,4 @@ pub fn literal_type(alloc: Global, literal: &Literal) -> Result<Ty, AllocError>
             Ok(list_of(alloc, letter)?)
         }
     }
-}
-
-/// Returns the type of functions from a variable to a type.
-pub fn function_from(alloc: Global, argument: usize, outcome: &Ty) -> Result<Ty, AllocError>
-    ensures shape { IfOk result (λ t. monotype (type_of t) ≡ arrow (from_number false argument 0) (monotype (type_of outcome.now))) }
-    ensures given { IfOk result (λ t. (g : ℕ) → argument < g → IsWellFormed g (type_of outcome.now) → IsWellFormed g (type_of t)) }
-{
-    let own = outcome.copy(alloc)?;
-    Ok(Ty::function(alloc, Ty::Var(argument), own)?)
 }

@@ -25,3 +25,4 @@ pub mod ClosedGroups
 pub mod JudgedGroups
 pub mod Referring
 pub mod OuterVariables
+pub mod Applied

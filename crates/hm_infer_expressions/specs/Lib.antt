@@ -8,3 +8,4 @@ pub mod PrincipalLists
 pub mod OwnSchemes
 pub mod JudgedGroups
 pub mod Dependences
+pub mod ExpressionTypes

@@ -1,13 +1,13 @@
 //! Checks expressions against types (Damas and Milner 1982, section 6), with their right
 //! sides and alternatives (Haskell 98 Report, section 3.13).
 
-ghost use Rattle.std.specs.Prelude.{◌≡◌, ℕ, ◌+◌, ◌<◌, ◌≤◌, ◌^◌, ◌++◌, List, All, length, cond, OnOk};
+ghost use Rattle.std.specs.Prelude.{◌≡◌, ℕ, ◌+◌, ◌<◌, ◌≤◌, ◌^◌, ◌++◌, List, All, IfErr, IfOk, length, cond, OnOk};
 ghost use Rattle.hm_types.specs.Shape.{type_of};
 ghost use Rattle.hm_types.specs.Types.{Var, put};
 ghost use Rattle.hm_types.specs.Monotypes.{var};
 ghost use Rattle.hm_syntax.specs.Lists.{expressions, body, bodies, alternatives, patterns, declarations};
 ghost use Rattle.hm_graph_components.specs.Digraph.{lists};
-ghost use Rattle.hm_syntax.specs.Trees.{no_bodies, typed_expression, Declarations};
+ghost use Rattle.hm_syntax.specs.Trees.{application, no_bodies, typed_expression, Declarations};
 ghost use Rattle.hm_typing.specs.Assumptions.{assumptions_put};
 ghost use Rattle.hm_typing.specs.Schemes.{arrow, Monotype};
 ghost use Rattle.hm_typing.specs.Syntax.{names, pattern, no_pattern};
@@ -15,7 +15,9 @@ ghost use Rattle.hm_typing.specs.Orders.{AreNumberedGroups};
 ghost use Rattle.hm_typing.specs.Typing.{HasFunction, HasLocal};
 ghost use Rattle.hm_typing.specs.SecondForm.{Derives, DeriveAll, DeriveRightSides, DeriveClauses, DerivedSchemes};
 ghost use Rattle.hm_unify.specs.WellFormed.{IsWellFormed};
-ghost use Rattle.hm_infer_context.specs.Problems.{Answers, monotype};
+ghost use Rattle.hm_infer_context.specs.Problems.{Answers, Refuses, monotype};
+ghost use Rattle.hm_infer_context.specs.Inferred.{IsInferred, IsTyped};
+ghost use Rattle.hm_infer_expressions.specs.ExpressionTypes.{HasType};
 ghost use Rattle.hm_infer_context.specs.Environments.{AreAssumed, Assumed, assumptions, Extends};
 ghost use Rattle.hm_infer_expressions.specs.GroupQuestions.{AreGivenTypes, AreMembers, HaveTypesOf, HaveTypesOfAll, MemberHas, MembersHave, StandBefore, type_at};
 ghost use Rattle.hm_infer_expressions.specs.JudgedGroups.{JudgesGroup};
@@ -38,9 +40,9 @@ use crate::listing::listed_groups;
 use crate::signed::{bind_signed, declared_for, signatures_of};
 use hm_infer_binding_groups::BindingGroups;
 use hm_infer_context::{
-    Constructors, Inference, PartTypes, check_constructor, check_name, equate, function_from,
-    list_part, literal_type, new_variables, open_alternative, open_function, prelude_type,
-    tuple_parts,
+    Constructors, FunctionType, Inference, PartTypes, check_constructor, check_name,
+    constructor_instance, equate, list_part, literal_type, name_instance, new_variables,
+    open_alternative, open_function, prelude_type, split_function, tuple_parts,
 };
 use hm_infer_dependencies::Member;
 use hm_infer_generalisation::{check_instance, declare, forbid_escape, with_rigid_variables};
@@ -103,9 +105,7 @@ pub(crate) fn check_expression<'a>(
             equate(&mut inference.solver, t, own)
         }
         ExprKind::Apply(function, argument) => {
-            let first = new_variables(&mut inference.solver, 1)?;
-            check_function(inference, constructors, function, first, t)?;
-            check_expression(inference, constructors, argument, &Ty::Var(first))
+            check_application(inference, constructors, function, argument, t)
         }
         ExprKind::If(condition, one, other) => {
             let truth = prelude_type(inference.alloc, "Bool")?;
@@ -174,42 +174,110 @@ fn check_typed<'a>(
     check_instance(inference.alloc, &mut inference.solver, &declared, t)
 }
 
-/// Returns whether an expression is a name. The type of a name is compared with another one part by part.
-fn is_name(e: &Expr) -> bool {
-    match &e.kind {
-        ExprKind::Var(_) | ExprKind::Con(_) => true,
-        _ => false,
-    }
-}
-
-/// Checks an expression against the type of functions from the variable `argument` to a type.
-/// Unless it is a name, it is checked against a new variable first. So a function with many
-/// arguments doesn't have its type built again for each of them.
+// Why: docs/DECISIONS.md, "Types of applications".
+/// Checks an application against a type. Takes the type of the function apart. The outcome is made equal to the type before the argument is
+/// checked, because it is smaller then.
 #[cycle(checking)]
-fn check_function<'a>(
+fn check_application<'a>(
     inference: &mut Inference<'a>,
     constructors: &Constructors,
     function: &'a Expr,
-    argument: usize,
+    argument: &'a Expr,
     t: &Ty,
 ) -> Result<(), UnifyFault>
-    requires argument { argument < inference.old.solver.given }
     requires given { IsWellFormed inference.old.solver.given (type_of t.now) }
     requires assumed { AreAssumed inference.old.solver.given inference.old.environment }
-    ensures answers { Answers (λ r. Derives (assumptions_put r (assumptions inference.old.environment))
-        (expression_of (known_of constructors.now) function.now) (put r (arrow (monotype (Var (var argument))) (monotype (type_of t.now)))))
-        inference.old.solver inference.new.solver result }
+    ensures answers { Answers (λ r. HasType (known_of constructors.now) (application function.now argument.now) inference.old.environment r
+        (put r (monotype (type_of t.now)))) inference.old.solver inference.new.solver result }
     ensures same { OnOk result (inference.new.environment ≡ inference.old.environment) }
     ensures kept { Extends inference.old.environment inference.new.environment }
 {
-    if is_name(function) {
-        let wanted = function_from(inference.alloc, argument, t)?;
-        return check_expression(inference, constructors, function, &wanted);
+    let found = infer_function(inference, constructors, function)?;
+    let parts = split_function(inference.alloc, &mut inference.solver, found)?;
+    let FunctionType {
+        argument: own,
+        outcome,
+    } = parts;
+    equate(&mut inference.solver, t, outcome)?;
+    check_expression(inference, constructors, argument, &own)
+}
+
+/// Infers the type of an application. Takes the type of the function apart.
+#[cycle(checking)]
+fn infer_application<'a>(
+    inference: &mut Inference<'a>,
+    constructors: &Constructors,
+    function: &'a Expr,
+    argument: &'a Expr,
+) -> Result<Ty, UnifyFault>
+    requires assumed { AreAssumed inference.old.solver.given inference.old.environment }
+    ensures inferred { IfOk result (λ t. IsInferred (HasType (known_of constructors.now) (application function.now argument.now) inference.old.environment)
+        inference.old.solver inference.new.solver (type_of t)) }
+    ensures given { IfOk result (λ t. IsWellFormed inference.new.solver.given (type_of t)) }
+    ensures refused { IfErr result (Refuses (IsTyped (HasType (known_of constructors.now) (application function.now argument.now) inference.old.environment))
+        inference.old.solver) }
+    ensures same { OnOk result (inference.new.environment ≡ inference.old.environment) }
+    ensures kept { Extends inference.old.environment inference.new.environment }
+{
+    let found = infer_function(inference, constructors, function)?;
+    let parts = split_function(inference.alloc, &mut inference.solver, found)?;
+    check_expression(inference, constructors, argument, &parts.argument)?;
+    Ok(parts.into_outcome())
+}
+
+/// Infers the type of an expression that is applied.
+#[cycle(checking)]
+fn infer_function<'a>(
+    inference: &mut Inference<'a>,
+    constructors: &Constructors,
+    e: &'a Expr,
+) -> Result<Ty, UnifyFault>
+    requires assumed { AreAssumed inference.old.solver.given inference.old.environment }
+    ensures inferred { IfOk result (λ t. IsInferred (HasType (known_of constructors.now) e.now inference.old.environment)
+        inference.old.solver inference.new.solver (type_of t)) }
+    ensures given { IfOk result (λ t. IsWellFormed inference.new.solver.given (type_of t)) }
+    ensures refused { IfErr result (Refuses (IsTyped (HasType (known_of constructors.now) e.now inference.old.environment)) inference.old.solver) }
+    ensures same { OnOk result (inference.new.environment ≡ inference.old.environment) }
+    ensures kept { Extends inference.old.environment inference.new.environment }
+{
+    match &e.kind {
+        ExprKind::Var(name) => name_instance(
+            inference.alloc,
+            &mut inference.solver,
+            &inference.environment,
+            name,
+        ),
+        ExprKind::Con(name) => constructor_instance(
+            inference.alloc,
+            &mut inference.solver,
+            constructors,
+            name,
+        ),
+        ExprKind::Apply(function, argument) => {
+            infer_application(inference, constructors, function, argument)
+        }
+        _ => infer_other(inference, constructors, e),
     }
+}
+
+/// Infers the type of an expression: checks it against a new variable.
+#[cycle(checking)]
+fn infer_other<'a>(
+    inference: &mut Inference<'a>,
+    constructors: &Constructors,
+    e: &'a Expr,
+) -> Result<Ty, UnifyFault>
+    requires assumed { AreAssumed inference.old.solver.given inference.old.environment }
+    ensures inferred { IfOk result (λ t. IsInferred (HasType (known_of constructors.now) e.now inference.old.environment)
+        inference.old.solver inference.new.solver (type_of t)) }
+    ensures given { IfOk result (λ t. IsWellFormed inference.new.solver.given (type_of t)) }
+    ensures refused { IfErr result (Refuses (IsTyped (HasType (known_of constructors.now) e.now inference.old.environment)) inference.old.solver) }
+    ensures same { OnOk result (inference.new.environment ≡ inference.old.environment) }
+    ensures kept { Extends inference.old.environment inference.new.environment }
+{
     let own = new_variables(&mut inference.solver, 1)?;
-    let whole = function_from(inference.alloc, argument, t)?;
-    check_expression(inference, constructors, function, &Ty::Var(own))?;
-    equate(&mut inference.solver, &Ty::Var(own), whole)
+    check_expression(inference, constructors, e, &Ty::Var(own))?;
+    Ok(Ty::Var(own))
 }
 
 /// Checks expressions against their types.

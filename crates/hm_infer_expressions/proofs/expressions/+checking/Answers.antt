@@ -1,4 +1,4 @@
-use Rattle.std.proofs.Common.{◌<◌, suc, ap, sym, ◌∙◌, subst, refl, arith, rules, Ok, Err, Some, None, ◌≡◌, ◌≤◌, length, get_or, ◌+◌, ◌*◌}
+use Rattle.std.proofs.Common.{◌<◌, suc, ap, ap₂, sym, IfOk, IfErr, ◌∙◌, subst, refl, arith, rules, Ok, Err, Some, None, ◌≡◌, ◌≤◌, length, get_or, ◌+◌, ◌*◌}
 use Rattle.hm_types.specs.Shape.{type_of}
 use Rattle.hm_types.specs.Types.{Var}
 use Rattle.hm_types.specs.Monotypes.{var}
@@ -20,7 +20,7 @@ use Rattle.hm_infer_expressions.proofs.OpenedForms.{lambda_answers, lambda_refus
 use Rattle.hm_infer_context.proofs.States.{problem_below}
 use Rattle.hm_infer_context.proofs.Opened.{more_given}
 use Rattle.hm_infer_context.proofs.MatchedForms.{numbers_given, number_given}
-use Rattle.hm_infer_expressions.proofs.Derived.{AnswersExpression, Checks, ChecksFunction, function_alone, function_answers, function_refused, ChecksAll, expression_is, literal_checked, apply_answers, apply_refused, if_answers, if_refused_second, tuple_checked, tuple_unchecked, list_checked, list_unchecked, row_nothing, row_more, row_unchecked, row_all, solved_grows, size_of_item, moved_solved, moved_refused, moved_answers, assumed_at, type_at, given_next, first_given, parts_assumed, refused_by, row_number}
+use Rattle.hm_infer_expressions.proofs.Derived.{AnswersExpression, Checks, ChecksAll, expression_is, literal_checked, if_answers, if_refused_second, tuple_checked, tuple_unchecked, list_checked, list_unchecked, row_nothing, row_more, row_unchecked, row_all, solved_grows, size_of_item, moved_solved, moved_refused, moved_answers, assumed_at, type_at, given_next, first_given, parts_assumed, refused_by, row_number}
 use Rattle.hm_infer_expressions.proofs.Choices.{choices_none, choices_more, choices_refused, choices_all, choices_moved, case_answers, case_refused, expression_positive, size_of_part, size_of_choice}
 use Rattle.hm_infer_dependencies.proofs.Rows.{declaration_falls}
 use Rattle.hm_infer_context.proofs.Outcomes.{SolvedBy, solved_nothing}
@@ -45,103 +45,206 @@ use Rattle.hm_infer_expressions.proofs.SignedForms.{SignedAsks, clause_escapes, 
 use Rattle.hm_infer_expressions.proofs.SignedSteps.{SignedAll, signed_done, signed_nothing, signed_refused, signed_step}
 use Rattle.hm_infer_expressions.proofs.SignedLists.{signed_end, signed_end_refused, signed_start}
 use Rattle.hm_infer_context.proofs.Extended.{extended}
+use Rattle.hm_infer_context.specs.Inferred.{IsInferred, IsTyped}
+use Rattle.hm_infer_context.proofs.Inferred.{refusal_passed}
+use Rattle.hm_infer_expressions.specs.ExpressionTypes.{HasType}
+use Rattle.hm_infer_expressions.proofs.Applied.{application_inferred, argument_unfit, checked_answers, checked_unequal, checked_unfit, checked_unknown, function_unfit, function_unknown, memory_refuses, other_inferred, other_refused}
 use Rattle.hm_infer_expressions.proofs.expressions.+checking.Goals as goal
 
-pub check_expression-check_function-requires : goal.check_expression-check_function-requires
-check_expression-check_function-requires t c =
+pub check_expression-check_application-requires : goal.check_expression-check_application-requires
+check_expression-check_application-requires t c =
     let z = ap expression_size (sym (ap tree_of c.in-Apply.is) ∙ c.e.view_is) in
-    let y = ap expression_size c.deref.ensures in
-    let smaller : 8 * expression_size c.deref.result.now + 1 < 8 * expression_size c.args.e.now = omega (arith, z, y) in
-    let k = given_next c.args.inference.now.solver c.new_variables.new.solver 1 c.in_ok-first-in-Apply.ensures.next in
-    (search rules, (first_given c.args.inference.now.solver c.new_variables.new.solver c.in_ok-first-in-Apply.first c.in_ok-first-in-Apply.ensures.next c.in_ok-first-in-Apply.ensures.first, (more_given c.args.inference.now.solver c.new_variables.new.solver 1 (type_of c.args.t.now) c.in_ok-first-in-Apply.ensures.next c.requires.given, assumed_at c.args.inference.now.solver c.new_variables.new.solver c.args.inference.now.environment c.args.inference.now.environment refl k c.requires.assumed)))
+    let f = ap expression_size c.deref.ensures in
+    let a = ap expression_size c.deref-in-Apply.ensures in
+    let smaller : 8 * expression_size c.deref.result.now + (8 * expression_size c.deref-in-Apply.result.now + 3) < 8 * expression_size c.args.e.now = omega (arith, z, f, a) in
+    (search rules, (c.requires.given, c.requires.assumed))
 
-pub check_expression-returns-in_err-check_function-in-Apply-clause-answers : goal.check_expression-returns-in_err-check_function-in-Apply-clause-answers
-check_expression-returns-in_err-check_function-in-Apply-clause-answers t c =
-    expression_is (known_of c.args.constructors.now) (application c.in-Apply.function.value c.in-Apply.argument.value) c.args.e.now (type_of c.args.t.now) c.args.inference.now.environment c.args.inference.now.solver c.check_function.new.inference.solver c.from_residual-in_err-check_function-in-Apply.result (sym (ap tree_of c.in-Apply.is) ∙ c.e.view_is)
-    (refused_by (Checks (known_of c.args.constructors.now) (application c.in-Apply.function.value c.in-Apply.argument.value) (type_of c.args.t.now) c.args.inference.now.environment) c.args.inference.now.solver c.check_function.new.inference.solver c.from_residual-in_err-check_function-in-Apply.result c.in_err-check_function-in-Apply.field-0.0 c.from_residual-in_err-check_function-in-Apply.ensures.1
-    (apply_refused (known_of c.args.constructors.now) c.in-Apply.function.value c.in-Apply.argument.value (type_of c.args.t.now) c.in_ok-first-in-Apply.first c.args.inference.now.environment c.args.inference.now.solver c.new_variables.new.solver c.in_err-check_function-in-Apply.field-0.0 c.in_ok-first-in-Apply.ensures.below c.requires.assumed c.requires.given c.in_ok-first-in-Apply.ensures.next c.in_ok-first-in-Apply.ensures.first
-    (subst (λ f. Refuses (ChecksFunction (known_of c.args.constructors.now) f c.in_ok-first-in-Apply.first (type_of c.args.t.now) c.args.inference.now.environment) c.new_variables.new.solver c.in_err-check_function-in-Apply.field-0.0) c.deref.ensures c.in_err-check_function-in-Apply.ensures.answers)))
+pub check_expression-returns-in-Apply-clause-answers : goal.check_expression-returns-in-Apply-clause-answers
+check_expression-returns-in-Apply-clause-answers t c =
+    expression_is (known_of c.args.constructors.now) (application c.deref.result.now c.deref-in-Apply.result.now) c.args.e.now (type_of c.args.t.now) c.args.inference.now.environment c.args.inference.now.solver c.check_application.new.inference.solver c.check_application.result (ap₂ application c.deref.ensures c.deref-in-Apply.ensures ∙ (sym (ap tree_of c.in-Apply.is) ∙ c.e.view_is)) c.check_application.ensures.answers
 
-pub check_expression-check_expression-requires : goal.check_expression-check_expression-requires
-check_expression-check_expression-requires t c =
+pub check_application-infer_function-requires : goal.check_application-infer_function-requires
+check_application-infer_function-requires t c =
+    let smaller : 8 * expression_size c.args.function.now + 2 < 8 * expression_size c.args.function.now + (8 * expression_size c.args.argument.now + 3) = omega arith in
+    (search rules, c.requires.assumed)
+
+pub check_application-returns-in_err-found-clause-answers : goal.check_application-returns-in_err-found-clause-answers
+check_application-returns-in_err-found-clause-answers t c =
+    let known = known_of c.args.constructors.now in
+    refused_by (Checks known (application c.args.function.now c.args.argument.now) (type_of c.args.t.now) c.args.inference.now.environment) c.args.inference.now.solver c.infer_function.new.inference.solver c.from_residual.result c.in_err-found.field-0.0 c.from_residual.ensures.1
+    (checked_unknown known c.args.function.now c.args.argument.now (type_of c.args.t.now) c.args.inference.now.environment c.args.inference.now.solver c.requires.assumed c.requires.given c.in_err-found.field-0.0 c.in_err-found.ensures.refused)
+
+pub check_application-returns-in_err-parts-clause-answers : goal.check_application-returns-in_err-parts-clause-answers
+check_application-returns-in_err-parts-clause-answers t c =
+    let known = known_of c.args.constructors.now in
+    refused_by (Checks known (application c.args.function.now c.args.argument.now) (type_of c.args.t.now) c.args.inference.now.environment) c.args.inference.now.solver c.split_function.new.solver c.from_residual-in_err-parts.result c.in_err-parts.field-0.0 c.from_residual-in_err-parts.ensures.1
+    (checked_unfit known c.args.function.now c.args.argument.now (type_of c.args.t.now) c.args.inference.now.environment c.args.inference.now.solver c.requires.assumed c.requires.given (type_of c.in_ok-found.found) c.infer_function.new.inference.solver c.in_ok-found.ensures.inferred c.in_err-parts.field-0.0 c.in_err-parts.ensures.refused)
+
+pub check_application-equate-requires-clause-left : goal.check_application-equate-requires-clause-left
+check_application-equate-requires-clause-left t c =
+    let g = c.in_ok-found.ensures.inferred.grows in
+    let h = c.in_ok-parts.ensures.parts.grows in
+    well_formed_more c.args.inference.now.solver.given c.split_function.new.solver.given (type_of c.args.t.now) (omega (arith, g, h)) c.requires.given
+
+pub check_application-equate-requires-clause-right : goal.check_application-equate-requires-clause-right
+check_application-equate-requires-clause-right t c = c.in_ok-parts.ensures.given.1
+
+pub check_application-returns-in_err-equate-clause-answers : goal.check_application-returns-in_err-equate-clause-answers
+check_application-returns-in_err-equate-clause-answers t c =
+    let known = known_of c.args.constructors.now in
+    refused_by (Checks known (application c.args.function.now c.args.argument.now) (type_of c.args.t.now) c.args.inference.now.environment) c.args.inference.now.solver c.equate.new.solver c.from_residual-in_err-equate.result c.in_err-equate.field-0.0 c.from_residual-in_err-equate.ensures.1
+    (checked_unequal known c.args.function.now c.args.argument.now (type_of c.args.t.now) c.args.inference.now.environment c.args.inference.now.solver c.requires.assumed c.requires.given (type_of c.in_ok-found.found) c.infer_function.new.inference.solver c.in_ok-found.ensures.inferred (type_of c.in_ok-parts.parts.argument) (type_of c.in_ok-parts.parts.outcome) c.split_function.new.solver c.in_ok-parts.ensures.parts c.in_err-equate.field-0.0 c.in_err-equate.ensures.answers)
+
+pub check_application-check_expression-requires : goal.check_application-check_expression-requires
+check_application-check_expression-requires t c =
+    let smaller : 8 * expression_size c.args.argument.now < 8 * expression_size c.args.function.now + (8 * expression_size c.args.argument.now + 3) = omega arith in
+    let g = c.in_ok-found.ensures.inferred.grows in
+    let h = c.in_ok-parts.ensures.parts.grows in
+    let k = solved_grows _ c.split_function.new.solver c.equate.new.solver c.in_ok-equate.ensures.answers in
+    (search rules, (well_formed_more c.split_function.new.solver.given c.equate.new.solver.given (type_of c.in_ok-parts.parts.argument) k c.in_ok-parts.ensures.given.0, assumed_at c.args.inference.now.solver c.equate.new.solver c.args.inference.now.environment c.infer_function.new.inference.environment c.in_ok-found.ensures.same (omega (arith, g, h, k)) c.requires.assumed))
+
+pub check_application-returns-clause-answers : goal.check_application-returns-clause-answers
+check_application-returns-clause-answers t c =
+    let known = known_of c.args.constructors.now in
+    let g = c.in_ok-found.ensures.inferred.grows in
+    let h = c.in_ok-parts.ensures.parts.grows in
+    checked_answers known c.args.function.now c.args.argument.now (type_of c.args.t.now) c.args.inference.now.environment c.args.inference.now.solver c.requires.assumed c.requires.given (type_of c.in_ok-found.found) c.infer_function.new.inference.solver c.in_ok-found.ensures.inferred (type_of c.in_ok-parts.parts.argument) (type_of c.in_ok-parts.parts.outcome) c.split_function.new.solver c.in_ok-parts.ensures.parts c.equate.new.solver
+    (assumed_at c.args.inference.now.solver c.split_function.new.solver c.args.inference.now.environment c.args.inference.now.environment refl (omega (arith, g, h)) c.requires.assumed) c.in_ok-parts.ensures.given.0 c.in_ok-equate.ensures.answers c.check_expression.new.inference.solver c.check_expression.result
+    (moved_answers known c.args.argument.now c.args.argument.now (type_of c.in_ok-parts.parts.argument) c.args.inference.now.environment c.infer_function.new.inference.environment c.equate.new.solver c.check_expression.new.inference.solver c.check_expression.result c.in_ok-found.ensures.same refl c.check_expression.ensures.answers)
+
+pub infer_application-infer_function-requires : goal.infer_application-infer_function-requires
+infer_application-infer_function-requires t c =
+    let smaller : 8 * expression_size c.args.function.now + 2 < 8 * expression_size c.args.function.now + (8 * expression_size c.args.argument.now + 3) = omega arith in
+    (search rules, c.requires.assumed)
+
+pub infer_application-returns-in_err-found-clause-refused : goal.infer_application-returns-in_err-found-clause-refused
+infer_application-returns-in_err-found-clause-refused t c =
+    let known = known_of c.args.constructors.now in
+    refusal_passed (IsTyped (HasType known (application c.args.function.now c.args.argument.now) c.args.inference.now.environment)) c.args.inference.now.solver c.from_residual.result c.in_err-found.field-0.0 c.from_residual.ensures.1
+    (function_unknown known c.args.function.now c.args.argument.now c.args.inference.now.environment c.args.inference.now.solver c.requires.assumed c.in_err-found.field-0.0 c.in_err-found.ensures.refused)
+
+pub infer_application-returns-in_err-parts-clause-refused : goal.infer_application-returns-in_err-parts-clause-refused
+infer_application-returns-in_err-parts-clause-refused t c =
+    let known = known_of c.args.constructors.now in
+    refusal_passed (IsTyped (HasType known (application c.args.function.now c.args.argument.now) c.args.inference.now.environment)) c.args.inference.now.solver c.from_residual-in_err-parts.result c.in_err-parts.field-0.0 c.from_residual-in_err-parts.ensures.1
+    (function_unfit known c.args.function.now c.args.argument.now c.args.inference.now.environment c.args.inference.now.solver c.requires.assumed (type_of c.in_ok-found.found) c.infer_function.new.inference.solver c.in_ok-found.ensures.inferred c.in_err-parts.field-0.0 c.in_err-parts.ensures.refused)
+
+pub infer_application-check_expression-requires : goal.infer_application-check_expression-requires
+infer_application-check_expression-requires t c =
+    let smaller : 8 * expression_size c.args.argument.now < 8 * expression_size c.args.function.now + (8 * expression_size c.args.argument.now + 3) = omega arith in
+    let g = c.in_ok-found.ensures.inferred.grows in
+    let h = c.in_ok-parts.ensures.parts.grows in
+    (search rules, (c.in_ok-parts.ensures.given.0, assumed_at c.args.inference.now.solver c.split_function.new.solver c.args.inference.now.environment c.infer_function.new.inference.environment c.in_ok-found.ensures.same (omega (arith, g, h)) c.requires.assumed))
+
+pub infer_application-returns-in_err-check_expression-clause-refused : goal.infer_application-returns-in_err-check_expression-clause-refused
+infer_application-returns-in_err-check_expression-clause-refused t c =
+    let known = known_of c.args.constructors.now in
+    refusal_passed (IsTyped (HasType known (application c.args.function.now c.args.argument.now) c.args.inference.now.environment)) c.args.inference.now.solver c.from_residual-in_err-check_expression.result c.in_err-check_expression.field-0.0 c.from_residual-in_err-check_expression.ensures.1
+    (argument_unfit known c.args.function.now c.args.argument.now c.args.inference.now.environment c.args.inference.now.solver c.requires.assumed (type_of c.in_ok-found.found) c.infer_function.new.inference.solver c.in_ok-found.ensures.inferred (type_of c.in_ok-parts.parts.argument) (type_of c.in_ok-parts.parts.outcome) c.split_function.new.solver c.in_ok-parts.ensures.parts c.in_err-check_expression.field-0.0
+    (moved_refused known c.args.argument.now c.args.argument.now (type_of c.in_ok-parts.parts.argument) c.args.inference.now.environment c.infer_function.new.inference.environment c.split_function.new.solver c.in_err-check_expression.field-0.0 c.in_ok-found.ensures.same refl c.in_err-check_expression.ensures.answers))
+
+pub infer_application-returns-clause-inferred : goal.infer_application-returns-clause-inferred
+infer_application-returns-clause-inferred t c =
+    let known = known_of c.args.constructors.now in
+    subst (λ u. IsInferred (HasType known (application c.args.function.now c.args.argument.now) c.args.inference.now.environment) c.args.inference.now.solver c.check_expression.new.inference.solver (type_of u)) (sym c.into_outcome.ensures)
+    (application_inferred known c.args.function.now c.args.argument.now c.args.inference.now.environment c.args.inference.now.solver c.requires.assumed (type_of c.in_ok-found.found) c.infer_function.new.inference.solver c.in_ok-found.ensures.inferred (type_of c.in_ok-parts.parts.argument) (type_of c.in_ok-parts.parts.outcome) c.split_function.new.solver c.in_ok-parts.ensures.parts c.check_expression.new.inference.solver c.in_ok-parts.ensures.given.1
+    (moved_solved known c.args.argument.now c.args.argument.now (type_of c.in_ok-parts.parts.argument) c.args.inference.now.environment c.infer_function.new.inference.environment c.split_function.new.solver c.check_expression.new.inference.solver c.in_ok-found.ensures.same refl c.in_ok-check_expression.ensures.answers)
+    )
+
+pub infer_application-returns-clause-given : goal.infer_application-returns-clause-given
+infer_application-returns-clause-given t c =
+    subst (λ u. IsWellFormed c.check_expression.new.inference.solver.given (type_of u)) (sym c.into_outcome.ensures)
+    (well_formed_more c.split_function.new.solver.given c.check_expression.new.inference.solver.given (type_of c.in_ok-parts.parts.outcome) (solved_grows _ c.split_function.new.solver c.check_expression.new.inference.solver c.in_ok-check_expression.ensures.answers) c.in_ok-parts.ensures.given.1
+    )
+
+pub infer_function-infer_application-requires : goal.infer_function-infer_application-requires
+infer_function-infer_application-requires t c =
     let z = ap expression_size (sym (ap tree_of c.in-Apply.is) ∙ c.e.view_is) in
-    let y = ap expression_size c.deref-in-Apply.ensures in
-    let smaller : expression_size c.deref-in-Apply.result.now < expression_size c.args.e.now = omega (arith, z, y) in
-    let l = solved_grows _ c.new_variables.new.solver c.check_function.new.inference.solver c.in_ok-check_function-in-Apply.ensures.answers in
-    let f = first_given c.args.inference.now.solver c.new_variables.new.solver c.in_ok-first-in-Apply.first c.in_ok-first-in-Apply.ensures.next c.in_ok-first-in-Apply.ensures.first in
-    let k = given_next c.args.inference.now.solver c.new_variables.new.solver 1 c.in_ok-first-in-Apply.ensures.next in
-    (search rules, (omega (arith, l, f), assumed_at c.args.inference.now.solver c.check_function.new.inference.solver c.args.inference.now.environment c.check_function.new.inference.environment c.in_ok-check_function-in-Apply.ensures.same (omega (arith, l, k)) c.requires.assumed))
+    let f = ap expression_size c.deref.ensures in
+    let a = ap expression_size c.deref-in-Apply.ensures in
+    let smaller : 8 * expression_size c.deref.result.now + (8 * expression_size c.deref-in-Apply.result.now + 3) < 8 * expression_size c.args.e.now + 2 = omega (arith, z, f, a) in
+    (search rules, c.requires.assumed)
 
-pub check_expression-returns-in_ok-check_function-in-Apply-clause-answers : goal.check_expression-returns-in_ok-check_function-in-Apply-clause-answers
-check_expression-returns-in_ok-check_function-in-Apply-clause-answers t c =
-    expression_is (known_of c.args.constructors.now) (application c.in-Apply.function.value c.in-Apply.argument.value) c.args.e.now (type_of c.args.t.now) c.args.inference.now.environment c.args.inference.now.solver c.check_expression.new.inference.solver c.check_expression.result (sym (ap tree_of c.in-Apply.is) ∙ c.e.view_is)
-    (apply_answers (known_of c.args.constructors.now) c.in-Apply.function.value c.in-Apply.argument.value (type_of c.args.t.now) c.in_ok-first-in-Apply.first c.args.inference.now.environment c.args.inference.now.solver c.new_variables.new.solver c.check_function.new.inference.solver c.check_expression.new.inference.solver c.check_expression.result c.in_ok-first-in-Apply.ensures.below c.requires.assumed c.requires.given c.in_ok-first-in-Apply.ensures.next c.in_ok-first-in-Apply.ensures.first
-    (subst (λ f. SolvedBy (ChecksFunction (known_of c.args.constructors.now) f c.in_ok-first-in-Apply.first (type_of c.args.t.now) c.args.inference.now.environment) c.new_variables.new.solver c.check_function.new.inference.solver) c.deref.ensures c.in_ok-check_function-in-Apply.ensures.answers)
-    (moved_answers (known_of c.args.constructors.now) c.deref-in-Apply.result.now c.in-Apply.argument.value (Var (var c.in_ok-first-in-Apply.first)) c.args.inference.now.environment c.check_function.new.inference.environment c.check_function.new.inference.solver c.check_expression.new.inference.solver c.check_expression.result c.in_ok-check_function-in-Apply.ensures.same c.deref-in-Apply.ensures c.check_expression.ensures.answers))
+pub infer_function-infer_other-requires : goal.infer_function-infer_other-requires
+infer_function-infer_other-requires t c =
+    let smaller : 8 * expression_size c.args.e.now + 1 < 8 * expression_size c.args.e.now + 2 = omega arith in
+    (search rules, c.requires.assumed)
 
-pub check_function-check_expression-requires : goal.check_function-check_expression-requires
-check_function-check_expression-requires t c =
-    let smaller : 8 * expression_size c.args.function.now < 8 * expression_size c.args.function.now + 1 = omega arith in
-    (search rules, (c.in_ok-wanted.ensures.given c.args.inference.now.solver.given c.requires.argument c.requires.given, c.requires.assumed))
+pub infer_function-returns-in-Var-clause-inferred : goal.infer_function-returns-in-Var-clause-inferred
+infer_function-returns-in-Var-clause-inferred t c =
+    subst (λ k. IfOk c.name_instance.result (λ u. IsInferred (HasType (known_of c.args.constructors.now) k c.args.inference.now.environment) c.args.inference.now.solver c.name_instance.new.solver (type_of u))) (sym (ap tree_of c.in-Var.is) ∙ c.e.view_is) c.name_instance.ensures.inferred
 
-pub check_function-returns-then-is_name-clause-answers : goal.check_function-returns-then-is_name-clause-answers
-check_function-returns-then-is_name-clause-answers t c =
-    function_alone (known_of c.args.constructors.now) c.args.function.now c.args.argument (type_of c.args.t.now) (type_of c.in_ok-wanted.wanted) c.args.inference.now.environment c.args.inference.now.solver c.check_expression.new.inference.solver c.check_expression.result c.in_ok-wanted.ensures.shape c.check_expression.ensures.answers
+pub infer_function-returns-in-Var-clause-refused : goal.infer_function-returns-in-Var-clause-refused
+infer_function-returns-in-Var-clause-refused t c =
+    subst (λ k. IfErr c.name_instance.result (Refuses (IsTyped (HasType (known_of c.args.constructors.now) k c.args.inference.now.environment)) c.args.inference.now.solver)) (sym (ap tree_of c.in-Var.is) ∙ c.e.view_is) c.name_instance.ensures.refused
 
-pub check_function-check_expression-requires-2 : goal.check_function-check_expression-requires-2
-check_function-check_expression-requires-2 t c =
+pub infer_function-returns-in-Con-clause-inferred : goal.infer_function-returns-in-Con-clause-inferred
+infer_function-returns-in-Con-clause-inferred t c =
+    subst (λ k. IfOk c.constructor_instance.result (λ u. IsInferred (HasType (known_of c.args.constructors.now) k c.args.inference.now.environment) c.args.inference.now.solver c.constructor_instance.new.solver (type_of u))) (sym (ap tree_of c.in-Con.is) ∙ c.e.view_is) c.constructor_instance.ensures.inferred
+
+pub infer_function-returns-in-Con-clause-refused : goal.infer_function-returns-in-Con-clause-refused
+infer_function-returns-in-Con-clause-refused t c = memory_refuses (IsTyped (HasType (known_of c.args.constructors.now) c.args.e.now c.args.inference.now.environment)) c.args.inference.now.solver c.constructor_instance.result c.constructor_instance.ensures.refused
+
+pub infer_function-returns-in-Apply-clause-inferred : goal.infer_function-returns-in-Apply-clause-inferred
+infer_function-returns-in-Apply-clause-inferred t c =
+    subst (λ k. IfOk c.infer_application.result (λ u. IsInferred (HasType (known_of c.args.constructors.now) k c.args.inference.now.environment) c.args.inference.now.solver c.infer_application.new.inference.solver (type_of u))) (ap₂ application c.deref.ensures c.deref-in-Apply.ensures ∙ (sym (ap tree_of c.in-Apply.is) ∙ c.e.view_is)) c.infer_application.ensures.inferred
+
+pub infer_function-returns-in-Apply-clause-refused : goal.infer_function-returns-in-Apply-clause-refused
+infer_function-returns-in-Apply-clause-refused t c =
+    subst (λ k. IfErr c.infer_application.result (Refuses (IsTyped (HasType (known_of c.args.constructors.now) k c.args.inference.now.environment)) c.args.inference.now.solver)) (ap₂ application c.deref.ensures c.deref-in-Apply.ensures ∙ (sym (ap tree_of c.in-Apply.is) ∙ c.e.view_is)) c.infer_application.ensures.refused
+
+pub infer_other-check_expression-requires : goal.infer_other-check_expression-requires
+infer_other-check_expression-requires t c =
     let f = first_given c.args.inference.now.solver c.new_variables.new.solver c.in_ok-own.own c.in_ok-own.ensures.next c.in_ok-own.ensures.first in
     let k = given_next c.args.inference.now.solver c.new_variables.new.solver 1 c.in_ok-own.ensures.next in
-    let smaller : 8 * expression_size c.args.function.now < 8 * expression_size c.args.function.now + 1 = omega arith in
+    let smaller : 8 * expression_size c.args.e.now < 8 * expression_size c.args.e.now + 1 = omega arith in
     (search rules, (f, assumed_at c.args.inference.now.solver c.new_variables.new.solver c.args.inference.now.environment c.args.inference.now.environment refl k c.requires.assumed))
 
-pub check_function-returns-in_err-check_expression-clause-answers : goal.check_function-returns-in_err-check_expression-clause-answers
-check_function-returns-in_err-check_expression-clause-answers t c =
-    refused_by (ChecksFunction (known_of c.args.constructors.now) c.args.function.now c.args.argument (type_of c.args.t.now) c.args.inference.now.environment) c.args.inference.now.solver c.check_expression-2.new.inference.solver c.from_residual-in_err-check_expression.result c.in_err-check_expression.field-0.0 c.from_residual-in_err-check_expression.ensures.1
-    (function_refused (known_of c.args.constructors.now) c.args.function.now c.args.argument (type_of c.args.t.now) (type_of c.in_ok-whole.whole) c.in_ok-own.own c.args.inference.now.environment c.args.inference.now.solver c.new_variables.new.solver c.in_err-check_expression.field-0.0 c.in_ok-own.ensures.below c.requires.assumed
-    (c.in_ok-whole.ensures.given c.args.inference.now.solver.given c.requires.argument c.requires.given) c.in_ok-own.ensures.next c.in_ok-own.ensures.first c.in_ok-whole.ensures.shape c.in_err-check_expression.ensures.answers)
+pub infer_other-returns-in_err-check_expression-clause-refused : goal.infer_other-returns-in_err-check_expression-clause-refused
+infer_other-returns-in_err-check_expression-clause-refused t c =
+    let known = known_of c.args.constructors.now in
+    refusal_passed (IsTyped (HasType known c.args.e.now c.args.inference.now.environment)) c.args.inference.now.solver c.from_residual-in_err-check_expression.result c.in_err-check_expression.field-0.0 c.from_residual-in_err-check_expression.ensures.1
+    (other_refused known c.args.e.now c.in_ok-own.own c.args.inference.now.environment c.args.inference.now.solver c.new_variables.new.solver c.in_err-check_expression.field-0.0 c.in_ok-own.ensures.below c.requires.assumed c.in_ok-own.ensures.next c.in_ok-own.ensures.first c.in_err-check_expression.ensures.answers)
 
-pub check_function-equate-requires-clause-right : goal.check_function-equate-requires-clause-right
-check_function-equate-requires-clause-right t c =
-    let l = solved_grows _ c.new_variables.new.solver c.check_expression-2.new.inference.solver c.in_ok-check_expression.ensures.answers in
-    let k = given_next c.args.inference.now.solver c.new_variables.new.solver 1 c.in_ok-own.ensures.next in
-    let h = c.requires.argument in
-    c.in_ok-whole.ensures.given c.check_expression-2.new.inference.solver.given (omega (arith, l, k, h)) (well_formed_more c.args.inference.now.solver.given c.check_expression-2.new.inference.solver.given (type_of c.args.t.now) (omega (arith, l, k)) c.requires.given)
+pub infer_other-returns-clause-inferred : goal.infer_other-returns-clause-inferred
+infer_other-returns-clause-inferred t c =
+    other_inferred (known_of c.args.constructors.now) c.args.e.now c.in_ok-own.own c.args.inference.now.environment c.args.inference.now.solver c.new_variables.new.solver c.check_expression.new.inference.solver c.in_ok-own.ensures.below c.requires.assumed c.in_ok-own.ensures.next c.in_ok-own.ensures.first c.in_ok-check_expression.ensures.answers
 
-pub check_function-returns-clause-answers : goal.check_function-returns-clause-answers
-check_function-returns-clause-answers t c =
-    function_answers (known_of c.args.constructors.now) c.args.function.now c.args.argument (type_of c.args.t.now) (type_of c.in_ok-whole.whole) c.in_ok-own.own c.args.inference.now.environment c.args.inference.now.solver c.new_variables.new.solver c.check_expression-2.new.inference.solver c.equate.new.solver c.equate.result c.in_ok-own.ensures.below c.requires.assumed
-    (c.in_ok-whole.ensures.given c.args.inference.now.solver.given c.requires.argument c.requires.given) c.in_ok-own.ensures.next c.in_ok-own.ensures.first c.in_ok-whole.ensures.shape c.in_ok-check_expression.ensures.answers c.equate.ensures.answers
+pub infer_other-returns-clause-given : goal.infer_other-returns-clause-given
+infer_other-returns-clause-given t c =
+    let f = first_given c.args.inference.now.solver c.new_variables.new.solver c.in_ok-own.own c.in_ok-own.ensures.next c.in_ok-own.ensures.first in
+    let l = solved_grows _ c.new_variables.new.solver c.check_expression.new.inference.solver c.in_ok-check_expression.ensures.answers in
+    omega (arith, f, l)
+
+pub check_expression-check_expression-requires-in-If : goal.check_expression-check_expression-requires-in-If
+check_expression-check_expression-requires-in-If t c =
+    let z = ap expression_size (sym (ap tree_of c.in-If.is) ∙ c.e.view_is) in
+    let y = ap expression_size c.deref-in-If-2.ensures in
+    let smaller : expression_size c.deref-in-If-2.result.now < expression_size c.args.e.now = omega (arith, z, y) in
+    let l = solved_grows _ c.args.inference.now.solver c.check_expression.new.inference.solver c.in_ok-check_expression-in-If.ensures.answers in
+    (search rules, (type_at c.args.inference.now.solver c.check_expression.new.inference.solver (type_of c.args.t.now) l c.requires.given, assumed_at c.args.inference.now.solver c.check_expression.new.inference.solver c.args.inference.now.environment c.check_expression.new.inference.environment c.in_ok-check_expression-in-If.ensures.same l c.requires.assumed))
+
+pub check_expression-returns-in_err-check_expression-in-If-2-clause-answers : goal.check_expression-returns-in_err-check_expression-in-If-2-clause-answers
+check_expression-returns-in_err-check_expression-in-If-2-clause-answers t c =
+    expression_is (known_of c.args.constructors.now) (if_expression c.in-If.condition.value c.in-If.one.value c.in-If.other.value) c.args.e.now (type_of c.args.t.now) c.args.inference.now.environment c.args.inference.now.solver c.check_expression-in-If.new.inference.solver c.from_residual-in_err-check_expression-in-If-2.result (sym (ap tree_of c.in-If.is) ∙ c.e.view_is)
+    (refused_by (Checks (known_of c.args.constructors.now) (if_expression c.in-If.condition.value c.in-If.one.value c.in-If.other.value) (type_of c.args.t.now) c.args.inference.now.environment) c.args.inference.now.solver c.check_expression-in-If.new.inference.solver c.from_residual-in_err-check_expression-in-If-2.result c.in_err-check_expression-in-If-2.field-0.0 c.from_residual-in_err-check_expression-in-If-2.ensures.1
+    (if_refused_second (known_of c.args.constructors.now) c.in-If.condition.value c.in-If.one.value c.in-If.other.value (type_of c.args.t.now) (type_of c.in_ok-truth-in-If.truth) c.args.inference.now.environment c.args.inference.now.solver c.check_expression.new.inference.solver c.in_err-check_expression-in-If-2.field-0.0 c.requires.assumed c.requires.given (ap monotype c.in_ok-truth-in-If.ensures) (moved_solved (known_of c.args.constructors.now) c.deref-in-If.result.now c.in-If.condition.value (type_of c.in_ok-truth-in-If.truth) c.args.inference.now.environment c.args.inference.now.environment c.args.inference.now.solver c.check_expression.new.inference.solver refl c.deref-in-If.ensures c.in_ok-check_expression-in-If.ensures.answers)
+    (moved_refused (known_of c.args.constructors.now) c.deref-in-If-2.result.now c.in-If.one.value (type_of c.args.t.now) c.args.inference.now.environment c.check_expression.new.inference.environment c.check_expression.new.inference.solver c.in_err-check_expression-in-If-2.field-0.0 c.in_ok-check_expression-in-If.ensures.same c.deref-in-If-2.ensures c.in_err-check_expression-in-If-2.ensures.answers)))
 
 pub check_expression-check_expression-requires-in-If-2 : goal.check_expression-check_expression-requires-in-If-2
 check_expression-check_expression-requires-in-If-2 t c =
     let z = ap expression_size (sym (ap tree_of c.in-If.is) ∙ c.e.view_is) in
-    let y = ap expression_size c.deref-in-If-2.ensures in
-    let smaller : expression_size c.deref-in-If-2.result.now < expression_size c.args.e.now = omega (arith, z, y) in
-    let l = solved_grows _ c.args.inference.now.solver c.check_expression-in-If.new.inference.solver c.in_ok-check_expression-in-If.ensures.answers in
-    (search rules, (type_at c.args.inference.now.solver c.check_expression-in-If.new.inference.solver (type_of c.args.t.now) l c.requires.given, assumed_at c.args.inference.now.solver c.check_expression-in-If.new.inference.solver c.args.inference.now.environment c.check_expression-in-If.new.inference.environment c.in_ok-check_expression-in-If.ensures.same l c.requires.assumed))
-
-pub check_expression-returns-in_err-check_expression-in-If-2-clause-answers : goal.check_expression-returns-in_err-check_expression-in-If-2-clause-answers
-check_expression-returns-in_err-check_expression-in-If-2-clause-answers t c =
-    expression_is (known_of c.args.constructors.now) (if_expression c.in-If.condition.value c.in-If.one.value c.in-If.other.value) c.args.e.now (type_of c.args.t.now) c.args.inference.now.environment c.args.inference.now.solver c.check_expression-in-If-2.new.inference.solver c.from_residual-in_err-check_expression-in-If-2.result (sym (ap tree_of c.in-If.is) ∙ c.e.view_is)
-    (refused_by (Checks (known_of c.args.constructors.now) (if_expression c.in-If.condition.value c.in-If.one.value c.in-If.other.value) (type_of c.args.t.now) c.args.inference.now.environment) c.args.inference.now.solver c.check_expression-in-If-2.new.inference.solver c.from_residual-in_err-check_expression-in-If-2.result c.in_err-check_expression-in-If-2.field-0.0 c.from_residual-in_err-check_expression-in-If-2.ensures.1
-    (if_refused_second (known_of c.args.constructors.now) c.in-If.condition.value c.in-If.one.value c.in-If.other.value (type_of c.args.t.now) (type_of c.in_ok-truth-in-If.truth) c.args.inference.now.environment c.args.inference.now.solver c.check_expression-in-If.new.inference.solver c.in_err-check_expression-in-If-2.field-0.0 c.requires.assumed c.requires.given (ap monotype c.in_ok-truth-in-If.ensures) (moved_solved (known_of c.args.constructors.now) c.deref-in-If.result.now c.in-If.condition.value (type_of c.in_ok-truth-in-If.truth) c.args.inference.now.environment c.args.inference.now.environment c.args.inference.now.solver c.check_expression-in-If.new.inference.solver refl c.deref-in-If.ensures c.in_ok-check_expression-in-If.ensures.answers)
-    (moved_refused (known_of c.args.constructors.now) c.deref-in-If-2.result.now c.in-If.one.value (type_of c.args.t.now) c.args.inference.now.environment c.check_expression-in-If.new.inference.environment c.check_expression-in-If.new.inference.solver c.in_err-check_expression-in-If-2.field-0.0 c.in_ok-check_expression-in-If.ensures.same c.deref-in-If-2.ensures c.in_err-check_expression-in-If-2.ensures.answers)))
-
-pub check_expression-check_expression-requires-in-If-3 : goal.check_expression-check_expression-requires-in-If-3
-check_expression-check_expression-requires-in-If-3 t c =
-    let z = ap expression_size (sym (ap tree_of c.in-If.is) ∙ c.e.view_is) in
     let y = ap expression_size c.deref-in-If-3.ensures in
     let smaller : expression_size c.deref-in-If-3.result.now < expression_size c.args.e.now = omega (arith, z, y) in
-    let l = solved_grows _ c.args.inference.now.solver c.check_expression-in-If.new.inference.solver c.in_ok-check_expression-in-If.ensures.answers in
-    let k = solved_grows _ c.check_expression-in-If.new.inference.solver c.check_expression-in-If-2.new.inference.solver c.in_ok-check_expression-in-If-2.ensures.answers in
-    (search rules, (type_at c.args.inference.now.solver c.check_expression-in-If-2.new.inference.solver (type_of c.args.t.now) (omega (arith, l, k)) c.requires.given, assumed_at c.args.inference.now.solver c.check_expression-in-If-2.new.inference.solver c.args.inference.now.environment c.check_expression-in-If-2.new.inference.environment (c.in_ok-check_expression-in-If-2.ensures.same ∙ c.in_ok-check_expression-in-If.ensures.same) (omega (arith, l, k)) c.requires.assumed))
+    let l = solved_grows _ c.args.inference.now.solver c.check_expression.new.inference.solver c.in_ok-check_expression-in-If.ensures.answers in
+    let k = solved_grows _ c.check_expression.new.inference.solver c.check_expression-in-If.new.inference.solver c.in_ok-check_expression-in-If-2.ensures.answers in
+    (search rules, (type_at c.args.inference.now.solver c.check_expression-in-If.new.inference.solver (type_of c.args.t.now) (omega (arith, l, k)) c.requires.given, assumed_at c.args.inference.now.solver c.check_expression-in-If.new.inference.solver c.args.inference.now.environment c.check_expression-in-If.new.inference.environment (c.in_ok-check_expression-in-If-2.ensures.same ∙ c.in_ok-check_expression-in-If.ensures.same) (omega (arith, l, k)) c.requires.assumed))
 
 pub check_expression-returns-in_ok-check_expression-in-If-2-clause-answers : goal.check_expression-returns-in_ok-check_expression-in-If-2-clause-answers
 check_expression-returns-in_ok-check_expression-in-If-2-clause-answers t c =
-    expression_is (known_of c.args.constructors.now) (if_expression c.in-If.condition.value c.in-If.one.value c.in-If.other.value) c.args.e.now (type_of c.args.t.now) c.args.inference.now.environment c.args.inference.now.solver c.check_expression-in-If-3.new.inference.solver c.check_expression-in-If-3.result (sym (ap tree_of c.in-If.is) ∙ c.e.view_is)
-    (if_answers (known_of c.args.constructors.now) c.in-If.condition.value c.in-If.one.value c.in-If.other.value (type_of c.args.t.now) (type_of c.in_ok-truth-in-If.truth) c.args.inference.now.environment c.args.inference.now.solver c.check_expression-in-If.new.inference.solver c.check_expression-in-If-2.new.inference.solver c.check_expression-in-If-3.new.inference.solver c.check_expression-in-If-3.result c.requires.assumed c.requires.given (ap monotype c.in_ok-truth-in-If.ensures) (solved_grows _ c.args.inference.now.solver c.check_expression-in-If.new.inference.solver c.in_ok-check_expression-in-If.ensures.answers) (moved_solved (known_of c.args.constructors.now) c.deref-in-If.result.now c.in-If.condition.value (type_of c.in_ok-truth-in-If.truth) c.args.inference.now.environment c.args.inference.now.environment c.args.inference.now.solver c.check_expression-in-If.new.inference.solver refl c.deref-in-If.ensures c.in_ok-check_expression-in-If.ensures.answers) (moved_solved (known_of c.args.constructors.now) c.deref-in-If-2.result.now c.in-If.one.value (type_of c.args.t.now) c.args.inference.now.environment c.check_expression-in-If.new.inference.environment c.check_expression-in-If.new.inference.solver c.check_expression-in-If-2.new.inference.solver c.in_ok-check_expression-in-If.ensures.same c.deref-in-If-2.ensures c.in_ok-check_expression-in-If-2.ensures.answers)
-    (moved_answers (known_of c.args.constructors.now) c.deref-in-If-3.result.now c.in-If.other.value (type_of c.args.t.now) c.args.inference.now.environment c.check_expression-in-If-2.new.inference.environment c.check_expression-in-If-2.new.inference.solver c.check_expression-in-If-3.new.inference.solver c.check_expression-in-If-3.result (c.in_ok-check_expression-in-If-2.ensures.same ∙ c.in_ok-check_expression-in-If.ensures.same) c.deref-in-If-3.ensures c.check_expression-in-If-3.ensures.answers))
+    expression_is (known_of c.args.constructors.now) (if_expression c.in-If.condition.value c.in-If.one.value c.in-If.other.value) c.args.e.now (type_of c.args.t.now) c.args.inference.now.environment c.args.inference.now.solver c.check_expression-in-If-2.new.inference.solver c.check_expression-in-If-2.result (sym (ap tree_of c.in-If.is) ∙ c.e.view_is)
+    (if_answers (known_of c.args.constructors.now) c.in-If.condition.value c.in-If.one.value c.in-If.other.value (type_of c.args.t.now) (type_of c.in_ok-truth-in-If.truth) c.args.inference.now.environment c.args.inference.now.solver c.check_expression.new.inference.solver c.check_expression-in-If.new.inference.solver c.check_expression-in-If-2.new.inference.solver c.check_expression-in-If-2.result c.requires.assumed c.requires.given (ap monotype c.in_ok-truth-in-If.ensures) (solved_grows _ c.args.inference.now.solver c.check_expression.new.inference.solver c.in_ok-check_expression-in-If.ensures.answers) (moved_solved (known_of c.args.constructors.now) c.deref-in-If.result.now c.in-If.condition.value (type_of c.in_ok-truth-in-If.truth) c.args.inference.now.environment c.args.inference.now.environment c.args.inference.now.solver c.check_expression.new.inference.solver refl c.deref-in-If.ensures c.in_ok-check_expression-in-If.ensures.answers) (moved_solved (known_of c.args.constructors.now) c.deref-in-If-2.result.now c.in-If.one.value (type_of c.args.t.now) c.args.inference.now.environment c.check_expression.new.inference.environment c.check_expression.new.inference.solver c.check_expression-in-If.new.inference.solver c.in_ok-check_expression-in-If.ensures.same c.deref-in-If-2.ensures c.in_ok-check_expression-in-If-2.ensures.answers)
+    (moved_answers (known_of c.args.constructors.now) c.deref-in-If-3.result.now c.in-If.other.value (type_of c.args.t.now) c.args.inference.now.environment c.check_expression-in-If.new.inference.environment c.check_expression-in-If.new.inference.solver c.check_expression-in-If-2.new.inference.solver c.check_expression-in-If-2.result (c.in_ok-check_expression-in-If-2.ensures.same ∙ c.in_ok-check_expression-in-If.ensures.same) c.deref-in-If-3.ensures c.check_expression-in-If-2.ensures.answers))
 
 pub check_expression-returns-in_err-first-in-Tuple-clause-answers : goal.check_expression-returns-in_err-first-in-Tuple-clause-answers
 check_expression-returns-in_err-first-in-Tuple-clause-answers t c =
@@ -398,14 +501,14 @@ check_expression-check_expression-requires-in-Case t c =
     let z = ap expression_size (sym (ap tree_of c.in-Case.is) ∙ c.e.view_is) in
     let y = ap expression_size c.deref-in-Case.ensures in
     let smaller : expression_size c.deref-in-Case.result.now < expression_size c.args.e.now = omega (arith, z, y) in
-    let f = first_given c.args.inference.now.solver c.new_variables-in-Case.new.solver c.in_ok-first-in-Case.first c.in_ok-first-in-Case.ensures.next c.in_ok-first-in-Case.ensures.first in
-    (search rules, (f, assumed_at c.args.inference.now.solver c.new_variables-in-Case.new.solver c.args.inference.now.environment c.args.inference.now.environment refl (given_next c.args.inference.now.solver c.new_variables-in-Case.new.solver 1 c.in_ok-first-in-Case.ensures.next) c.requires.assumed))
+    let f = first_given c.args.inference.now.solver c.new_variables.new.solver c.in_ok-first-in-Case.first c.in_ok-first-in-Case.ensures.next c.in_ok-first-in-Case.ensures.first in
+    (search rules, (f, assumed_at c.args.inference.now.solver c.new_variables.new.solver c.args.inference.now.environment c.args.inference.now.environment refl (given_next c.args.inference.now.solver c.new_variables.new.solver 1 c.in_ok-first-in-Case.ensures.next) c.requires.assumed))
 
 pub check_expression-returns-in_err-check_expression-in-Case-clause-answers : goal.check_expression-returns-in_err-check_expression-in-Case-clause-answers
 check_expression-returns-in_err-check_expression-in-Case-clause-answers t c =
     expression_is (known_of c.args.constructors.now) (case_expression c.in-Case.inner.value (alternatives c.in-Case.choices.items)) c.args.e.now (type_of c.args.t.now) c.args.inference.now.environment c.args.inference.now.solver c.check_expression-in-Case.new.inference.solver c.from_residual-in_err-check_expression-in-Case.result (sym (ap tree_of c.in-Case.is) ∙ c.e.view_is)
     (refused_by (Checks (known_of c.args.constructors.now) (case_expression c.in-Case.inner.value (alternatives c.in-Case.choices.items)) (type_of c.args.t.now) c.args.inference.now.environment) c.args.inference.now.solver c.check_expression-in-Case.new.inference.solver c.from_residual-in_err-check_expression-in-Case.result c.in_err-check_expression-in-Case.field-0.0 c.from_residual-in_err-check_expression-in-Case.ensures.1
-    (case_refused (known_of c.args.constructors.now) c.in-Case.inner.value c.in-Case.choices.items (type_of c.args.t.now) c.in_ok-first-in-Case.first c.args.inference.now.environment c.args.inference.now.solver c.new_variables-in-Case.new.solver c.in_err-check_expression-in-Case.field-0.0 c.in_ok-first-in-Case.ensures.below c.requires.assumed c.requires.given c.in_ok-first-in-Case.ensures.next c.in_ok-first-in-Case.ensures.first (moved_refused (known_of c.args.constructors.now) c.deref-in-Case.result.now c.in-Case.inner.value (Var (var c.in_ok-first-in-Case.first)) c.args.inference.now.environment c.args.inference.now.environment c.new_variables-in-Case.new.solver c.in_err-check_expression-in-Case.field-0.0 refl c.deref-in-Case.ensures c.in_err-check_expression-in-Case.ensures.answers)))
+    (case_refused (known_of c.args.constructors.now) c.in-Case.inner.value c.in-Case.choices.items (type_of c.args.t.now) c.in_ok-first-in-Case.first c.args.inference.now.environment c.args.inference.now.solver c.new_variables.new.solver c.in_err-check_expression-in-Case.field-0.0 c.in_ok-first-in-Case.ensures.below c.requires.assumed c.requires.given c.in_ok-first-in-Case.ensures.next c.in_ok-first-in-Case.ensures.first (moved_refused (known_of c.args.constructors.now) c.deref-in-Case.result.now c.in-Case.inner.value (Var (var c.in_ok-first-in-Case.first)) c.args.inference.now.environment c.args.inference.now.environment c.new_variables.new.solver c.in_err-check_expression-in-Case.field-0.0 refl c.deref-in-Case.ensures c.in_err-check_expression-in-Case.ensures.answers)))
 
 pub check_expression-check_alternatives-requires : goal.check_expression-check_alternatives-requires
 check_expression-check_alternatives-requires t c =
@@ -413,16 +516,16 @@ check_expression-check_alternatives-requires t c =
     let y = ap (λ bs. alternatives_size (alternatives bs)) c.deref-in-Case-2.ensures.value in
     let p = expression_positive c.in-Case.inner.value in
     let smaller : suc (alternatives_size (alternatives c.deref-in-Case-2.result.now)) < expression_size c.args.e.now = omega (arith, z, y, p) in
-    let l = solved_grows _ c.new_variables-in-Case.new.solver c.check_expression-in-Case.new.inference.solver c.in_ok-check_expression-in-Case.ensures.answers in
-    let f = first_given c.args.inference.now.solver c.new_variables-in-Case.new.solver c.in_ok-first-in-Case.first c.in_ok-first-in-Case.ensures.next c.in_ok-first-in-Case.ensures.first in
-    let k = given_next c.args.inference.now.solver c.new_variables-in-Case.new.solver 1 c.in_ok-first-in-Case.ensures.next in
+    let l = solved_grows _ c.new_variables.new.solver c.check_expression-in-Case.new.inference.solver c.in_ok-check_expression-in-Case.ensures.answers in
+    let f = first_given c.args.inference.now.solver c.new_variables.new.solver c.in_ok-first-in-Case.first c.in_ok-first-in-Case.ensures.next c.in_ok-first-in-Case.ensures.first in
+    let k = given_next c.args.inference.now.solver c.new_variables.new.solver 1 c.in_ok-first-in-Case.ensures.next in
     (search rules, (omega (arith, l, f), (type_at c.args.inference.now.solver c.check_expression-in-Case.new.inference.solver (type_of c.args.t.now) (omega (arith, l, k)) c.requires.given, assumed_at c.args.inference.now.solver c.check_expression-in-Case.new.inference.solver c.args.inference.now.environment c.check_expression-in-Case.new.inference.environment c.in_ok-check_expression-in-Case.ensures.same (omega (arith, l, k)) c.requires.assumed)))
 
 pub check_expression-returns-in_ok-check_expression-in-Case-clause-answers : goal.check_expression-returns-in_ok-check_expression-in-Case-clause-answers
 check_expression-returns-in_ok-check_expression-in-Case-clause-answers t c =
     expression_is (known_of c.args.constructors.now) (case_expression c.in-Case.inner.value (alternatives c.in-Case.choices.items)) c.args.e.now (type_of c.args.t.now) c.args.inference.now.environment c.args.inference.now.solver c.check_alternatives.new.inference.solver c.check_alternatives.result (sym (ap tree_of c.in-Case.is) ∙ c.e.view_is)
-    (case_answers (known_of c.args.constructors.now) c.in-Case.inner.value c.in-Case.choices.items (type_of c.args.t.now) c.in_ok-first-in-Case.first c.args.inference.now.environment c.args.inference.now.solver c.new_variables-in-Case.new.solver c.check_expression-in-Case.new.inference.solver c.check_alternatives.new.inference.solver c.check_alternatives.result c.in_ok-first-in-Case.ensures.below c.requires.assumed c.requires.given c.in_ok-first-in-Case.ensures.next c.in_ok-first-in-Case.ensures.first
-    (moved_solved (known_of c.args.constructors.now) c.deref-in-Case.result.now c.in-Case.inner.value (Var (var c.in_ok-first-in-Case.first)) c.args.inference.now.environment c.args.inference.now.environment c.new_variables-in-Case.new.solver c.check_expression-in-Case.new.inference.solver refl c.deref-in-Case.ensures c.in_ok-check_expression-in-Case.ensures.answers)
+    (case_answers (known_of c.args.constructors.now) c.in-Case.inner.value c.in-Case.choices.items (type_of c.args.t.now) c.in_ok-first-in-Case.first c.args.inference.now.environment c.args.inference.now.solver c.new_variables.new.solver c.check_expression-in-Case.new.inference.solver c.check_alternatives.new.inference.solver c.check_alternatives.result c.in_ok-first-in-Case.ensures.below c.requires.assumed c.requires.given c.in_ok-first-in-Case.ensures.next c.in_ok-first-in-Case.ensures.first
+    (moved_solved (known_of c.args.constructors.now) c.deref-in-Case.result.now c.in-Case.inner.value (Var (var c.in_ok-first-in-Case.first)) c.args.inference.now.environment c.args.inference.now.environment c.new_variables.new.solver c.check_expression-in-Case.new.inference.solver refl c.deref-in-Case.ensures c.in_ok-check_expression-in-Case.ensures.answers)
     (choices_moved (known_of c.args.constructors.now) c.deref-in-Case-2.result.now c.in-Case.choices.items c.in_ok-first-in-Case.first (type_of c.args.t.now) c.args.inference.now.environment c.check_expression-in-Case.new.inference.environment c.check_expression-in-Case.new.inference.solver c.check_alternatives.new.inference.solver c.check_alternatives.result c.in_ok-check_expression-in-Case.ensures.same c.deref-in-Case-2.ensures.value c.check_alternatives.ensures.answers))
 
 pub check_expression-check_typed-requires : goal.check_expression-check_typed-requires

@@ -20,8 +20,17 @@ use Rattle.hm_infer_expressions.proofs.expressions.+checking.Given as goal
 abbrev pub decreases-check_expression : goal.decreases-check_expression
 decreases-check_expression l = 8 * expression_size l.e.now
 
-abbrev pub decreases-check_function : goal.decreases-check_function
-decreases-check_function l = 8 * expression_size l.function.now + 1
+abbrev pub decreases-check_application : goal.decreases-check_application
+decreases-check_application l = 8 * expression_size l.function.now + (8 * expression_size l.argument.now + 3)
+
+abbrev pub decreases-infer_application : goal.decreases-infer_application
+decreases-infer_application l = 8 * expression_size l.function.now + (8 * expression_size l.argument.now + 3)
+
+abbrev pub decreases-infer_function : goal.decreases-infer_function
+decreases-infer_function l = 8 * expression_size l.e.now + 2
+
+abbrev pub decreases-infer_other : goal.decreases-infer_other
+decreases-infer_other l = 8 * expression_size l.e.now + 1
 
 abbrev pub decreases-check_typed : goal.decreases-check_typed
 decreases-check_typed l = 8 * expression_size l.inner.now + 1
