@@ -93,7 +93,6 @@ pub(crate) fn interface_value(alloc: Global, interface: &Interface) -> Result<Va
     let synonyms = array_of(alloc, interface.synonyms())?;
     let types = array_of(alloc, interface.types())?;
     let values = array_of(alloc, interface.values())?;
-    let (constructors, synonyms, types, values) = (&constructors, &synonyms, &types, &values);
     json!(in alloc; {
         "constructors": constructors,
         "synonyms": synonyms,

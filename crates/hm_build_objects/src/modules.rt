@@ -87,17 +87,14 @@ fn defines_value(alloc: Global, decls: &[Decl]) -> Result<Value, AllocError>
 {
     let types = types_value(alloc, decls)?;
     let values = values_value(alloc, decls)?;
-    let (types, values) = (&types, &values);
     json!(in alloc; {"types": types, "values": values})
 }
 
-/// The members of a module's object that aren't texts.
+/// The members of a module's object that are short lists.
 #[derive(Clone, Copy)]
-struct Parts<'a> {
-    defines: &'a Value,
+struct Lists<'a> {
     faults: &'a Value,
     imports: &'a Value,
-    interface: &'a Value,
     blamed: &'a Value,
 }
 
@@ -109,29 +106,34 @@ struct Words<'a> {
     verdict: &'a str,
 }
 
+// Why: docs/DECISIONS.md, "Reports as objects".
 /// Returns the object of a module with these members.
-fn joined(alloc: Global, words: Words<'_>, parts: Parts<'_>) -> Result<Value, AllocError>
+fn joined(
+    alloc: Global,
+    words: Words<'_>,
+    lists: Lists<'_>,
+    defines: Value,
+    interface: Value,
+) -> Result<Value, AllocError>
     ensures { IfOk result (λ value. view value ≡ joined_data words.entry.file.now words.entry.name.now words.entry.verdict.now
-        (view parts.entry.defines.now) (view parts.entry.faults.now) (view parts.entry.imports.now) (view parts.entry.interface.now) (view parts.entry.blamed.now)) }
+        (view defines) (view lists.entry.faults.now) (view lists.entry.imports.now) (view interface) (view lists.entry.blamed.now)) }
 {
     let Words {
         file,
         name,
         verdict,
     } = words;
-    let Parts {
-        defines,
+    let Lists {
         faults,
         imports,
-        interface,
         blamed,
-    } = parts;
+    } = lists;
     json!(in alloc; {
+        "interface": interface,
         "defines": defines,
         "faults": faults,
         "file": file,
         "imports": imports,
-        "interface": interface,
         "kind": "module",
         "module": name,
         "skippedBy": blamed,
@@ -148,24 +150,22 @@ fn module_value(
 ) -> Result<Value, AllocError>
     ensures { IfOk result (λ value. view value ≡ module_data file.now program.now (status_of stated.entry) (names_of stated.entry)) }
 {
-    let defines = defines_value(alloc, program.decls.as_slice())?;
-    let faults = faults_value(alloc, stated)?;
-    let imports = array_of(alloc, program.header.imports.as_slice())?;
-    let interface = interface_or_null(alloc, stated)?;
-    let blamed = blame_value(alloc, stated)?;
-    let parts = Parts {
-        defines: &defines,
-        faults: &faults,
-        imports: &imports,
-        interface: &interface,
-        blamed: &blamed,
-    };
     let words = Words {
         file,
         name: program.header.name.as_str(),
         verdict: verdict_word(stated),
     };
-    joined(alloc, words, parts)
+    let faults = faults_value(alloc, stated)?;
+    let imports = array_of(alloc, program.header.imports.as_slice())?;
+    let blamed = blame_value(alloc, stated)?;
+    let lists = Lists {
+        faults: &faults,
+        imports: &imports,
+        blamed: &blamed,
+    };
+    let defines = defines_value(alloc, program.decls.as_slice())?;
+    let interface = interface_or_null(alloc, stated)?;
+    joined(alloc, words, lists, defines, interface)
 }
 
 // Why: docs/DECISIONS.md, "Reports as objects".
