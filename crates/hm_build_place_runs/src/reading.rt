@@ -1,0 +1,47 @@
+//! Reads sources and checks them. Writing the result is left to the callers.
+ghost use Rattle.std.specs.Prelude.{◌≡◌, ◌<◌, ◌⊎◌, ◌↔◌, ℕ, List, All, Any, IfOk, IfErr, IsErrOf, OnOk, map, string_bytes};
+ghost use Rattle.hm_build_place_runs.specs.Runs.{IsPlaceRun};
+ghost use Rattle.hm_run_io.specs.Sources.{AreReadUp, Stops, StopsAtFault, Tell, held_of};
+ghost use Rattle.hm_run_io.specs.Watching.{device_of, failures_of, HasReadFault, IsFresh, IsReadWithin};
+
+use crate::answers::AskedPlace;
+use crate::stacks::answer_on_thread;
+use hm_build_reports::may_work;
+use hm_run_io::{RunFault, Watched, read_all};
+use hm_run_sources::Answer;
+use std::alloc::Global;
+use std::io::Read;
+use std::sync::Wait;
+use std::thread::Threads;
+
+/// Reads the sources and checks their modules. Returns the text for a place and its status. The clauses are those of `run_place` about readers.
+pub(crate) fn read_and_answer<T: Threads + Wait + Sync, R: Read>(
+    rt: &T,
+    alloc: Global,
+    readers: &mut [Watched<R>],
+    asked: AskedPlace,
+) -> Result<Answer, RunFault>
+    requires readers { All IsFresh readers.old }
+    ensures ok { IfOk result (λ a. (sources : List (List ℕ)) → Tell (λ r. R.remaining (device_of r)) readers.old sources
+        → IsPlaceRun (map (λ n. n.items) asked.question.names.items) (map held_of sources)
+        (record { source = asked.question.source; line = asked.question.line; column = asked.question.column }) a.status (string_bytes a.text)) }
+    ensures unread { IsErrOf result RunFault.Workers → readers.new ≡ readers.old }
+    ensures read_up { OnOk result (AreReadUp (λ r. R.remaining (device_of r)) readers.old readers.new) }
+    ensures read_up_before_a_build { (IsErrOf result RunFault.NoWorker ⊎ IsErrOf result RunFault.Mixed)
+        → AreReadUp (λ r. R.remaining (device_of r)) readers.old readers.new }
+    ensures stops { IsErrOf result RunFault.Read → StopsAtFault (λ r. R.remaining (device_of r)) readers.old readers.new }
+    ensures in_order { IsErrOf result RunFault.Memory → AreReadUp (λ r. R.remaining (device_of r)) readers.old readers.new ⊎ Stops (λ r.
+        R.remaining (device_of r)) readers.old readers.new }
+    ensures within { All IsReadWithin readers.new }
+    ensures failed { IsErrOf result RunFault.Read ⊎ All (λ r. failures_of r ≡ 0) readers.new }
+    ensures workers { IsErrOf result RunFault.Workers ↔ ((asked.options.workers ≡ 0) ⊎ (16 < asked.options.workers)) }
+    ensures read { IsErrOf result RunFault.Read → Any HasReadFault readers.new }
+    ensures others { IfErr result (λ e. (e ≡ RunFault.Workers)
+        ⊎ ((e ≡ RunFault.Read) ⊎ ((e ≡ RunFault.Memory) ⊎ ((e ≡ RunFault.NoWorker) ⊎ (e ≡ RunFault.Mixed))))) }
+{
+    if !may_work(asked.options.workers) {
+        return Err(RunFault::Workers);
+    }
+    let sources = read_all(alloc, readers)?;
+    Ok(answer_on_thread(rt, alloc, sources, asked)?)
+}

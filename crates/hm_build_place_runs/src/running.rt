@@ -1,0 +1,87 @@
+//! Runs that write what is at a place.
+ghost use Rattle.std.specs.Prelude.{◌≡◌, ◌<◌, ◌⊎◌, ◌↔◌, ℕ, List, All, Any, IfOk, IfErr, IsErrOf, OnErr, OnOk, map};
+ghost use Rattle.std.specs.Io.KnownBytes.{Appends};
+ghost use Rattle.hm_build_place_runs.specs.Runs.{IsPlaceRun};
+ghost use Rattle.hm_run_io.specs.Sources.{AreReadUp, Stops, StopsAtFault, Tell, WritesPrefix, held_of};
+ghost use Rattle.hm_run_sources.specs.declared.status.Status.{Status};
+ghost use Rattle.hm_run_io.specs.Watching.{device_of, failures_of, HasReadFault, HasWriteFault, IsFlushedBehind, IsFresh, IsReadWithin, IsWritten, IsWrittenOnce};
+
+use crate::AskedPlace;
+use crate::reading::read_and_answer;
+use hm_run_io::{RunFault, Watched, write_text};
+use hm_run_sources::Status;
+use std::alloc::Global;
+use std::io::{Read, Write};
+use std::sync::Wait;
+use std::thread::Threads;
+
+// Why: docs/DECISIONS.md, "Places".
+/// Reads the sources, checks their modules with the given number of workers, and writes what the name at a place means: its kind and where it is bound.
+///
+/// The status is `Good` if a name is there, and `Faulty` if none is. If the sources are refused, one line says why.
+///
+/// # Errors
+///
+/// - `Workers` if the number of workers is 0 or above 16. Nothing is read then.
+/// - `Read` at the first reader that fails.
+/// - `Memory` if memory ran out, and `NoWorker` if no thread could start.
+/// - `Mixed` if the workers contradict the store.
+/// - `Write` if the writer fails. A part of the text may be written then.
+pub fn run_place<T: Threads + Wait + Sync, R: Read, W: Write>(
+    rt: &T,
+    alloc: Global,
+    readers: &mut [Watched<R>],
+    writer: &mut Watched<W>,
+    asked: AskedPlace,
+) -> Result<Status, RunFault>
+    requires readers { All IsFresh readers.old }
+    requires writer { IsFresh writer.old }
+
+    // If readers and writer report their bytes exactly, the text for the place or the refusal is written, and nothing else.
+    ensures ok { IfOk result (λ status. (sources : List (List ℕ)) → Tell (λ r. R.remaining (device_of r)) readers.old sources
+        → (text : List ℕ) × IsPlaceRun (map (λ n. n.items) asked.question.names.items) (map held_of sources)
+        (record { source = asked.question.source; line = asked.question.line; column = asked.question.column }) status text
+        × Appends (W.contents (device_of writer.old)) (W.contents (device_of writer.new)) text) }
+    // The writer was flushed once, after that text.
+    ensures flushed { OnOk result (IsFlushedBehind writer.new) }
+    // If the writer failed, it got a prefix of that text.
+    ensures prefix { IsErrOf result RunFault.Write → (sources : List (List ℕ)) → Tell (λ r. R.remaining (device_of r)) readers.old sources
+        → (status : Status) × (text : List ℕ) × IsPlaceRun (map (λ n. n.items) asked.question.names.items) (map held_of sources)
+        (record { source = asked.question.source; line = asked.question.line; column = asked.question.column }) status text
+        × WritesPrefix (W.contents (device_of writer.old)) (W.contents (device_of writer.new)) text }
+    // After any other fault nothing was written.
+    ensures nothing { OnErr result ((writer.new ≡ writer.old) ⊎ IsErrOf result RunFault.Write) }
+
+    // If the number of workers is refused, nothing was read.
+    ensures unread { IsErrOf result RunFault.Workers → readers.new ≡ readers.old }
+    // If there is a text, each reader was read to its end or, if its source is too long, just past the limit.
+    ensures read_up { OnOk result (AreReadUp (λ r. R.remaining (device_of r)) readers.old readers.new) }
+    ensures read_up_before_a_write { IsErrOf result RunFault.Write → AreReadUp (λ r. R.remaining (device_of r)) readers.old readers.new }
+    // The same holds if the workers were started.
+    ensures read_up_before_a_build { (IsErrOf result RunFault.NoWorker ⊎ IsErrOf result RunFault.Mixed)
+        → AreReadUp (λ r. R.remaining (device_of r)) readers.old readers.new }
+    // If a reader failed, the readers before it were read like that, and those after it not at all.
+    ensures stops { IsErrOf result RunFault.Read → StopsAtFault (λ r. R.remaining (device_of r)) readers.old readers.new }
+    // If memory ran out, all readers were read like that, or reading stopped at one of them.
+    ensures in_order { IsErrOf result RunFault.Memory → AreReadUp (λ r. R.remaining (device_of r)) readers.old readers.new ⊎ Stops (λ r.
+        R.remaining (device_of r)) readers.old readers.new }
+
+    // There is a bound on the reads of each reader, and none follows a failure. A failed read makes the run fail.
+    ensures within { All IsReadWithin readers.new }
+    ensures failed { IsErrOf result RunFault.Read ⊎ All (λ r. failures_of r ≡ 0) readers.new }
+
+    // Nothing is written after the writer failed, and it is flushed at most once. A failed write or flush makes the run fail.
+    ensures once { IsWrittenOnce writer.new }
+    ensures written { IsErrOf result RunFault.Write ⊎ IsWritten writer.new }
+
+    // Each fault has its cause.
+    ensures workers { IsErrOf result RunFault.Workers ↔ ((asked.options.workers ≡ 0) ⊎ (16 < asked.options.workers)) }
+    ensures read { IsErrOf result RunFault.Read → Any HasReadFault readers.new }
+    ensures write { IsErrOf result RunFault.Write → HasWriteFault writer.new }
+    ensures others { IfErr result (λ e. (e ≡ RunFault.Workers)
+        ⊎ ((e ≡ RunFault.Read) ⊎ ((e ≡ RunFault.Write) ⊎ ((e ≡ RunFault.Memory) ⊎ ((e ≡ RunFault.NoWorker) ⊎ (e ≡ RunFault.Mixed)))))) }
+{
+    let answer = read_and_answer(rt, alloc, readers, asked)?;
+    write_text(writer, answer.text.as_bytes())?;
+    Ok(answer.status)
+}

@@ -1,0 +1,3 @@
+mod Looked
+mod Texts
+pub mod WorkedPlaces

@@ -1,0 +1,62 @@
+-- The worked examples.
+use Rattle.std.proofs.Common.{◌≡◌, ℕ, List, [], ◌∷◌, ◌++◌, true, false, get_or, refl, ap, ◌∙◌, codes, arith}
+use Rattle.hm_names.specs.Entities.{named}
+use Rattle.hm_uses.specs.declared.name_kind.NameKind.TheVariants.{Variable}
+use Rattle.hm_messages_excerpts.specs.Excerpts.{IsRestOfLine}
+use Rattle.hm_build_places.specs.Answers.{EntityLine, IsFound, declared, elsewhere, elsewhere_line, line_start, no_line, on_line, undeclared}
+use Rattle.hm_build_places.specs.Worked.{BoundRow, ByteRow, HeadingRow, NothingRow, TextsRow, nothing}
+
+head_or : ℕ → List ℕ → ℕ
+head_or d [] = d
+head_or d (x ∷ xs) = x
+
+at : ℕ → List ℕ → ℕ
+at n xs = get_or xs n 0
+
+pub worked_headings : HeadingRow
+unfolding at
+worked_headings = record {
+  variable = refl;
+  not_bare = λ e. let z : 77 ≡ 120 = ap (at 9) e in absurd (omega (arith, z));
+}
+
+pub worked_bytes : ByteRow
+worked_bytes = record {
+  second = record { within = omega arith; starts = λ _. refl; counted = λ _. refl; ends = λ e. let z : 2 ≡ 3 = e in absurd (omega (arith, z)) };
+  not_within = λ h. let z : false ≡ true = h.starts (omega arith) in absurd (cc);
+  past = record { within = omega arith; starts = λ l. absurd (omega (arith, l)); counted = λ l. absurd (omega (arith, l)); ends = λ _. omega arith };
+}
+
+pub worked_texts : TextsRow
+unfolding head_or
+worked_texts = record {
+  in_order = (1 ∷ [], (2 ∷ [], (refl, ((2 ∷ [], ([], (refl, (refl, refl)))), refl))));
+  not_turned = λ h. let z : 2 ≡ 1 = ap (head_or 0) (h.1.1.1.1 ∙ ap (λ l. l ++ h.1.0) h.1.1.0) in absurd (omega (arith, z));
+}
+
+-- a line of Prelude
+not_in_a : (text : List ℕ) → EntityLine nothing Variable (named (codes "Prelude") (codes "not")) text → text ≡ elsewhere_line (codes "Prelude")
+not_in_a text (declared number at line) = absurd (omega (arith, number.inside))
+not_in_a text (undeclared number at is) = absurd (omega (arith, number.inside))
+not_in_a text (elsewhere none is) = is
+
+pub worked_bound : BoundRow
+unfolding at
+worked_bound = record {
+  prelude = elsewhere (λ i l. absurd (omega (arith, l))) refl;
+  not_elsewhere = λ h. let z : 65 ≡ 80 = ap (at 11) (not_in_a (codes "  bound in A\n") h) in absurd (omega (arith, z));
+  not_unbound = λ h. let z : 105 ≡ 110 = ap (at 8) h in absurd (omega (arith, z));
+}
+
+no_text : (text : List ℕ) → IsFound nothing 0 1 1 text → text ≡ []
+no_text text (on_line rest byte texts) = texts
+no_text text (no_line outside is) = is
+
+empty_line : IsRestOfLine [] (line_start 1) []
+empty_line = ([], record { before = []; after = []; whole = refl; placed = refl; begins = refl; ends = λ l. absurd (omega (arith, l)); front_plain = λ k d l. absurd (omega (arith, l)); back_plain = λ k d l. absurd (omega (arith, l)) })
+
+pub worked_nothing : NothingRow
+worked_nothing = record {
+  faulty = (on_line {rest = []} {bytes = 0} empty_line (record { within = omega arith; starts = λ l. absurd (omega (arith, l)); counted = λ l. absurd (omega (arith, l)); ends = λ _. omega arith }) refl, refl);
+  not_good = λ text h. h.1 (no_text text h.0);
+}

@@ -1,0 +1,14 @@
+use Rattle.std.proofs.Common.{rules, string_bytes}
+use Rattle.hm_verdicts.specs.Sets.{module_at}
+use Rattle.hm_build_places.specs.Answers.{IsBoundLine, given, place_of}
+use Rattle.hm_build_places.specs.Known.{IsNumberOf, origin_of}
+use Rattle.hm_build_places.specs.Views.{known_of}
+use Rattle.hm_build_places.proofs.bound.module_line.Goals as goal
+
+pub returns : goal.returns
+returns c =
+    let k = known_of c.args.view.now in
+    let i = c.in-Some.number in
+    let named : IsNumberOf k c.args.name.now i = search rules in
+    let line : IsBoundLine k (origin_of k i) (place_of (module_at k.set i).header.name) (string_bytes c.in_ok-bound_line.field-0) = search rules in
+    given named line

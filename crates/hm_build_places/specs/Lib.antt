@@ -1,0 +1,4 @@
+pub mod Known
+pub mod Answers
+pub mod Views
+pub mod Worked
