@@ -6,10 +6,10 @@ _hmc() {
     --message-format) COMPREPLY=($(compgen -W 'human json' -- "$word")); return ;;
     --report-format) COMPREPLY=($(compgen -W 'text json' -- "$word")); return ;;
     --color) COMPREPLY=($(compgen -W 'auto always never' -- "$word")); return ;;
-    --jobs|-j|--stdin-name) return ;;
+    --jobs|-j|--at|--stdin-name) return ;;
   esac
   case $word in
-    -*) COMPREPLY=($(compgen -W '--jobs --journal --plan --explain --message-format --report-format --color --quiet --stdin-name --help --version -j -e -q -h -V' -- "$word")) ;;
+    -*) COMPREPLY=($(compgen -W '--jobs --journal --plan --at --explain --message-format --report-format --color --quiet --stdin-name --help --version -j -e -q -h -V' -- "$word")) ;;
     *) COMPREPLY=($(compgen -f -X '!*.hs' -- "$word") $(compgen -d -- "$word")) ;;
   esac
 }

@@ -2,6 +2,7 @@
 complete -c hmc -s j -l jobs -x -d 'How many workers check modules at the same time, 1 to 16; 4 if it isn'\''t given'
 complete -c hmc -l journal -d 'Print the journal of the build after the report'
 complete -c hmc -l plan -d 'Print the import plan and check nothing'
+complete -c hmc -l at -x -d 'Print no report, but what the name at PLACE means and where it is bound; PLACE is FILE:LINE:COLUMN, of a FILE that is read'
 complete -c hmc -s e -l explain -d 'Write to standard error, for each fault, FILE:LINE:COLUMN, what is wrong in plain words, and the line with a mark'
 complete -c hmc -l message-format -x -a 'human json' -d 'How messages are written: human, or json, a JSON object on a line each; json implies --explain'
 complete -c hmc -l report-format -x -a 'text json' -d 'How the report is written: text, or json, a JSON object for each module on a line each; json leaves the journal out'

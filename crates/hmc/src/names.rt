@@ -2,6 +2,7 @@
 //!
 //! A folder stands for its files `*.hs`, and `@FILE` for the names in a file. Any other word is the name of a source.
 
+use hmc_words::Asked;
 use std::alloc::{AllocError, AllocFailed};
 use std::fmt::{Display, Formatter};
 use std::fs::{DirEntry, File, FileType};
@@ -234,5 +235,13 @@ pub(crate) fn name_of<'a>(name: &'a str, stdin_name: Option<&'a str>) -> &'a str
         stdin_name.unwrap_or("<stdin>")
     } else {
         name
+    }
+}
+
+/// Returns the name of standard input in messages, if it has one.
+pub(crate) fn stdin_name(asked: &Asked) -> Option<&str> {
+    match &asked.stdin_name {
+        Some(name) => Some(name.as_str()),
+        None => None,
     }
 }

@@ -18,6 +18,8 @@ pub struct Asked {
     pub journal: bool,
     /// Whether to print the import plan and check nothing.
     pub plan: bool,
+    /// The place FILE:LINE:COLUMN whose name is explained in place of a report, if one is given.
+    pub at: Option<String>,
     /// Whether to write messages that explain the report to standard error.
     pub explain: bool,
     /// Whether these messages are JSON objects.
@@ -82,8 +84,8 @@ What is printed, with status 1:
   3 modules: 1 good, 1 faulty, 1 skipped
 
 Exit statuses:
-  0  all modules are good, or a plan, the help or the version was printed
-  1  a module is faulty or skipped
+  0  all modules are good, or a plan, what a place has, the help or the version was printed
+  1  a module is faulty or skipped, or no name is at the place of --at
   2  the sources or the words of the command line are refused
   3  no memory
   4  a source can't be found or read, or the output can't be written
@@ -185,6 +187,12 @@ fn command<'a>(alloc: Global) -> Result<Command<'a>, AllocError> {
             "Print the journal of the build after the report",
         ))?
         .arg(flag(alloc, "plan", "Print the import plan and check nothing"))?
+        .arg(valued(
+            alloc,
+            "at",
+            "PLACE",
+            "Print no report, but what the name at PLACE means and where it is bound; PLACE is FILE:LINE:COLUMN, of a FILE that is read",
+        ))?
         .arg(lettered(
             alloc,
             'e',
@@ -223,8 +231,13 @@ fn files(alloc: Global, matches: &ArgMatches<'_>) -> Result<Vec<String>, AllocEr
     Ok(files)
 }
 
-fn stdin_name(alloc: Global, matches: &ArgMatches<'_>) -> Result<Option<String>, AllocError> {
-    match matches.get_str("stdin-name") {
+/// Returns the value of an option, if it is given.
+fn value_of(
+    alloc: Global,
+    matches: &ArgMatches<'_>,
+    name: &str,
+) -> Result<Option<String>, AllocError> {
+    match matches.get_str(name) {
         Some(name) => Ok(Some(String::from_str(alloc, name)?)),
         None => Ok(None),
     }
@@ -267,12 +280,13 @@ pub fn command_line(alloc: Global, words: &[String]) -> Result<Asked, Error>
         workers: workers(&matches),
         journal: matches.get_flag("journal"),
         plan: matches.get_flag("plan"),
+        at: value_of(alloc, &matches, "at")?,
         explain: json || matches.get_flag("explain"),
         json,
         listed,
         colour: colour_of(&matches),
         quiet: matches.get_flag("quiet"),
-        stdin_name: stdin_name(alloc, &matches)?,
+        stdin_name: value_of(alloc, &matches, "stdin-name")?,
         files: files(alloc, &matches)?,
         names_files: matches.contains_id("FILE"),
     })
