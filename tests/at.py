@@ -1,6 +1,6 @@
 #!/usr/bin/env python3
 """Asks the program by `--at` what is at places of the programs of bench/programs and of random sets, and compares its texts with a reading of names in
-Python (name_reading.py).
+Python (name_reading.py). The types of names are compared with those of the report.
 
 `at.py [PROGRAM [SEED N]]`: without a word, the script `hmc` beside this folder is run. N random sets are made by the seed, 40 by seed 1 if these words
 aren't given. Ends with 1 where a text differs, or if fewer places were asked for than the programs have names.
@@ -24,6 +24,40 @@ SEED, SETS = (sys.argv[2], int(sys.argv[3])) if len(sys.argv) > 3 else ("1", 40)
 MOST_ASKED = 12
 LEAST_PLACES = 3000
 IMPORT = re.compile(r"\bimport\s+(?:qualified\s+)?([A-Z][\w.']*)")
+BLOCK = re.compile(r"^(module|faulty|skipped) (\S+)$|^  (val|con) \S+ = (\S+) :: (.*)$", re.M)
+KINDS = {"val": "variable", "con": "constructor"}
+PRELUDE = "module Types_of_Prelude ( module Prelude ) where { import Prelude }"
+
+
+class Report:
+    """What a report says: the verdict of each module, and the type of each entity that its own module exports."""
+
+    def __init__(self, text):
+        self.verdicts, self.types = {}, {}
+        for verdict, name, word, entity, of_type in BLOCK.findall(text):
+            if name:
+                self.verdicts[name] = verdict
+                home = name
+            elif entity.rpartition(".")[0] in (home, "Prelude"):
+                self.types[KINDS[word], entity] = of_type
+
+
+def report_of(texts):
+    """The report of the modules of these texts, or none if they are refused. The types of Prelude are in it."""
+    ran = subprocess.run([PROGRAM], input="\n".join([*texts, PRELUDE]), capture_output=True, text=True)
+    return Report(ran.stdout) if ran.returncode < 2 else None
+
+
+def type_line(use, report):
+    """The line of the type of a name, if a module declares it."""
+    word, _, entity = use.meaning.partition(" ")
+    if word != "entity" or use.kind not in KINDS.values():
+        return ""
+    home = entity.rpartition(".")[0]
+    if report.verdicts.get(home, "module") != "module":
+        return f"  no type: module {home} isn't good\n"
+    found = report.types.get((use.kind, entity))
+    return f"  type {found}\n" if found else f"  no type: module {home} doesn't export it\n"
 
 
 def bound_line(use, files, binders):
@@ -38,7 +72,7 @@ def bound_line(use, files, binders):
     return {"prefix": "  a prefix of qualified names\n", "unbound": "  bound nowhere\n", "ambiguous": "  ambiguous\n"}[word]
 
 
-def expected(uses, files):
+def expected(uses, files, report):
     """What is printed for each place on a name, by its file, line and column. `hiding (C)` has two names at one place."""
     binders = {}
     for use in uses:
@@ -46,7 +80,7 @@ def expected(uses, files):
             binders.setdefault((use.module, use.kind, use.meaning), f"{use.line}:{use.column}")
     texts = {}
     for use in uses:
-        text = f"{use.kind} {use.text}\n" + bound_line(use, files, binders)
+        text = f"{use.kind} {use.text}\n" + bound_line(use, files, binders) + type_line(use, report)
         for column in range(use.column, use.column + len(use.text)):
             place = files[use.module], use.line, column
             texts[place] = texts.get(place, "") + text
@@ -85,17 +119,11 @@ def compare(pool, sources, texts, whole=False):
     return len(asked), [it for it in answers if it]
 
 
-def judged(texts):
-    """The modules of a set that the program finds good, faulty and skipped, or none if it refuses the set."""
-    ran = subprocess.run([PROGRAM], input="\n".join(texts), capture_output=True, text=True)
-    return {name: word for word, name in re.findall(r"^(module|faulty|skipped) (\S+)$", ran.stdout, re.M)} if ran.returncode < 2 else None
-
-
 def random_texts(number):
     """The sources of a random set, and what is to be printed for their places. Names of skipped modules aren't read."""
     texts = RandomSet(random.Random(f"{SEED} {number}"), number).texts
-    words = judged(texts.values())
-    if not words or any(word == "skipped" for word in words.values()):
+    report = report_of(texts.values())
+    if not report or "skipped" in report.verdicts.values():
         return None
     order, left = [], list(texts)
     while left:
@@ -103,7 +131,7 @@ def random_texts(number):
         order, left = order + ready, [it for it in left if it not in ready]
     sources = {f"{name}.hs": text for name, text in texts.items()}
     found = [use for name in order for use in uses_of_one(name, order, texts)]
-    return sources, expected(found, {name: f"{name}.hs" for name in texts})
+    return sources, expected(found, {name: f"{name}.hs" for name in texts}, report)
 
 
 def uses_of_one(name, order, texts):
@@ -128,7 +156,7 @@ def main():
         for path in sorted((TOP / "bench" / "programs").glob("*.hs")):
             text = path.read_text()
             uses = uses_of([text])
-            asked, differ = compare(pool, {path.name: text}, expected(uses, {use.module: path.name for use in uses}), True)
+            asked, differ = compare(pool, {path.name: text}, expected(uses, {use.module: path.name for use in uses}, report_of([text])), True)
             count, faults = count + asked, faults + differ
         in_programs = count
         for number in range(SETS):

@@ -16,7 +16,8 @@ use std::sync::Wait;
 use std::thread::Threads;
 
 // Why: docs/DECISIONS.md, "Places".
-/// Reads the sources, checks their modules with the given number of workers, and writes what the name at a place means: its kind and where it is bound.
+/// Reads the sources, checks their modules with the given number of workers, and writes what the name at a place means: its kind, where it is bound,
+/// and its type.
 ///
 /// The status is `Good` if a name is there, and `Faulty` if none is. If the sources are refused, one line says why.
 ///

@@ -4,7 +4,8 @@ use Rattle.hm_names.specs.Entities.{named}
 use Rattle.hm_uses.specs.declared.name_kind.NameKind.TheVariants.{Variable}
 use Rattle.hm_messages_excerpts.specs.Excerpts.{IsRestOfLine}
 use Rattle.hm_build_places.specs.Answers.{EntityLine, IsFound, declared, elsewhere, elsewhere_line, line_start, no_line, on_line, undeclared}
-use Rattle.hm_build_places.specs.Worked.{BoundRow, ByteRow, HeadingRow, NothingRow, TextsRow, nothing}
+use Rattle.hm_build_places.specs.Typed.{TypeLine, hidden, hidden_line, no_module, shown, type_line, unaccepted, unaccepted_line}
+use Rattle.hm_build_places.specs.Worked.{BoundRow, ByteRow, HeadingRow, NothingRow, TextsRow, TypedRow, nothing}
 
 head_or : ℕ → List ℕ → ℕ
 head_or d [] = d
@@ -46,6 +47,19 @@ worked_bound = record {
   prelude = elsewhere (λ i l. absurd (omega (arith, l))) refl;
   not_elsewhere = λ h. let z : 65 ≡ 80 = ap (at 11) (not_in_a (codes "  bound in A\n") h) in absurd (omega (arith, z));
   not_unbound = λ h. let z : 105 ≡ 110 = ap (at 8) h in absurd (omega (arith, z));
+}
+
+untyped : TypeLine nothing Variable (named (codes "A") (codes "x")) [] → ⊥
+untyped (shown {s = s} of has is) = let z : [] ≡ type_line s = is in absurd (cc)
+untyped (hidden of none is) = let z : [] ≡ hidden_line (codes "A") = is in absurd (cc)
+untyped (unaccepted none is) = let z : [] ≡ unaccepted_line (codes "A") = is in absurd (cc)
+
+pub worked_typed : TypedRow
+worked_typed = record {
+  unaccepted = unaccepted (no_module (λ i l. absurd (omega (arith, l)))) refl;
+  not_empty = untyped;
+  local = refl;
+  not_local = λ e. let z : codes "  no type: module A isn't good\n" ≡ [] = e in absurd (cc);
 }
 
 no_text : (text : List ℕ) → IsFound nothing 0 1 1 text → text ≡ []

@@ -18,6 +18,7 @@ use Rattle.hm_uses_places.specs.Declarations.{Declares, IsDeclaredAt}
 use Rattle.hm_uses_places.specs.Places.{is_on}
 use Rattle.hm_verdicts.specs.Reports.{name_of_module}
 use Rattle.hm_verdicts.specs.Sets.{module_at}
+use Rattle.hm_build_places.specs.Typed.{IsTypeText}
 use Rattle.hm_build_places.specs.Known.{HasNoNumber, HasNoUses, HasUses, IsNumberOf, IsSpotText, Known, file_text, origin_of, text_of}
 
 -- The heading of a name
@@ -89,7 +90,9 @@ IsBoundText k i kind ambiguous text = text ≡ codes "  ambiguous\n"
 pub record IsUseText (k : Known) (i : ℕ) (u : UseOf) (text : List ℕ) : Type 0 where
   pub bound : List ℕ
   pub is_bound : IsBoundText k i u.mention.kind u.sense bound
-  pub whole : text ≡ heading u.mention ++ bound
+  pub typed : List ℕ
+  pub is_typed : IsTypeText k u.mention.kind u.sense typed
+  pub whole : text ≡ heading u.mention ++ (bound ++ typed)
 
 -- the texts of the elements of a list, one after the other
 abbrev pub AreTexts : {X : Type 0} → (X → List ℕ → Type 0) → List X → List ℕ → Type 0

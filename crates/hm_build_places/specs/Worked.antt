@@ -1,13 +1,14 @@
--- Worked examples: the heading of a name, the byte of a character, texts in a row, where a name of Prelude is bound, and a place without a name.
+-- Worked examples: the heading of a name, the byte of a character, texts in a row, where a name of Prelude is bound, names without a type, and a place without a name.
 use Rattle.std.specs.Prelude.{◌≡◌, ℕ, false, List, [], ◌∷◌, codes, Some}
 use Rattle.hm_names.specs.Entities.{named}
 use Rattle.hm_run_sources.specs.declared.status.Status.TheVariants.{Good, Faulty}
 use Rattle.hm_uses.specs.Mentions.{Mention}
-use Rattle.hm_uses.specs.Uses.{an_entity, unbound}
+use Rattle.hm_uses.specs.Uses.{an_entity, local_variable, unbound}
 use Rattle.hm_uses.specs.declared.name_kind.NameKind.TheVariants.{Variable}
 use Rattle.hm_verdicts.specs.Verdicts.{Skipped}
 use Rattle.hm_build_places.specs.Answers.{AreTexts, IsBoundText, IsByteOf, IsPlaceAnswer, heading, nothing_text}
 use Rattle.hm_build_places.specs.Known.{Known, file_text}
+use Rattle.hm_build_places.specs.Typed.{IsTypeText}
 
 -- the variable M.x
 abbrev pub qualified : Mention
@@ -44,6 +45,13 @@ pub record BoundRow : Type 0 where
   pub prelude : IsBoundText nothing 0 Variable (an_entity (named (codes "Prelude") (codes "not"))) (codes "  bound in Prelude\n")
   pub not_elsewhere : ¬ (IsBoundText nothing 0 Variable (an_entity (named (codes "Prelude") (codes "not"))) (codes "  bound in A\n"))
   pub not_unbound : ¬ (IsBoundText nothing 0 Variable unbound (codes "  bound in Prelude\n"))
+
+-- the type of a name of no good module isn't printed, and the text says so. A local variable has no such line
+pub record TypedRow : Type 0 where
+  pub unaccepted : IsTypeText nothing Variable (an_entity (named (codes "A") (codes "x"))) (codes "  no type: module A isn't good\n")
+  pub not_empty : ¬ (IsTypeText nothing Variable (an_entity (named (codes "A") (codes "x"))) [])
+  pub local : IsTypeText nothing Variable (local_variable 1 1) []
+  pub not_local : ¬ (IsTypeText nothing Variable (local_variable 1 1) (codes "  no type: module A isn't good\n"))
 
 -- no name is at the first place of no source
 pub record NothingRow : Type 0 where

@@ -1,4 +1,4 @@
-//! Writes what the name at a place of a build's sources means: its kind, and where it is bound.
+//! Writes what the name at a place of a build's sources means: its kind, where it is bound, and its type.
 #![tactic(auto)]
 
 mod answers;
@@ -8,6 +8,7 @@ mod columns;
 mod entities;
 pub mod laws;
 mod module_texts;
+mod typed;
 mod use_texts;
 mod views;
 

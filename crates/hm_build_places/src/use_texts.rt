@@ -4,6 +4,7 @@ ghost use Rattle.hm_build_places.specs.Answers.{AreTexts, IsUseText, heading, ki
 ghost use Rattle.hm_build_places.specs.Views.{known_of};
 
 use crate::bound::bound_text;
+use crate::typed::type_text;
 use crate::views::View;
 use hm_syntax::Name;
 use hm_types::Text;
@@ -58,7 +59,9 @@ fn use_text(
 {
     let mut text = heading(alloc, one.kind(), one.name())?;
     let bound = bound_text(alloc, view, number, one.kind(), one.meaning())?;
+    let typed = type_text(alloc, view, one.kind(), one.meaning())?;
     text.push_str(bound.as_str())?;
+    text.push_str(typed.as_str())?;
     Ok(text)
 }
 
