@@ -209,7 +209,7 @@ def byte_at(source, line, column):
     return sum(len(it) + 1 for it in lines[:line - 1]) + column - 1
 
 
-NOTE = re.compile(r"^<stdin>:(\d+):(\d+): note: .* (?:(?:(?:another expression here|this pattern is '_' and its variables have every type|this is left out|is expected|without this signature|around this|in front of this|argument after this) \(up to|the one (at)) (\d+):(\d+)(?:\)| exchanged)|with '[;,]' before this)$", re.M)
+NOTE = re.compile(r"^<stdin>:(\d+):(\d+): note: .* (?:(?:(?:another expression here|this pattern is '_' and its variables have every type|this is left out|is expected|without this signature|around this|in front of this|argument after this|expressions both here) \(up to|the one (at)) (\d+):(\d+)(?:\)(?: and at \d+:\d+)?| exchanged)|with '[;,]' before this)$", re.M)
 
 
 def notes_in(source, tokens, messages):

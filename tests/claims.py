@@ -10,6 +10,7 @@ out of scope; a type or a value of Prelude declared again; a slip in an expressi
 - a name to write for an ambiguous one: the same; without the import in the named line this name isn't in scope;
 - `import Prelude hiding (x)`: with it the name isn't ambiguous there;
 - two types: they have no common instance, if the definition has no signature;
+- two expressions: with holes in both the definition has a type, with a hole in one of them it has none;
 - another expression: with a hole there, the definition has a type; an exchange, an argument left out, a text put in: the same with the changed source;
 - a type without a signature: the module without it has this type, if it is good.
 
@@ -257,6 +258,25 @@ def try_part(program, source, message):
     return "another expression" if HOLE in changed else "an exchange or an argument left out"
 
 
+def try_both(program, source, message):
+    named = re.search(r"expressions both here \(up to \d+:\d+\) and at (\d+):(\d+)$", message["text"])
+    if named is None:
+        return None
+    ends = {}
+    for other in ask(program, source)[1]:
+        if other["kind"] == "both" and other["name"] == message["name"]:
+            end = UP_TO.search(other["text"])
+            ends[offset(source, other["start"])] = offset(source, {"line": int(end[1]), "byte": int(end[2])}) + 1
+    here, there = offset(source, message["start"]), offset(source, {"line": int(named[1]), "byte": int(named[2])})
+    if not is_untyped(ask(program, with_text(source, here, ends[here], HOLE))[1], message["name"]):
+        raise Finding("with a hole in one of two expressions the definition has a type")
+    first, second = sorted((here, there))
+    changed = with_text(with_text(source, second, ends[second], HOLE), first, ends[first], HOLE)
+    if is_untyped(ask(program, changed)[1], message["name"]):
+        raise Finding("with holes in both expressions the definition has no type")
+    return "two expressions"
+
+
 def try_signature(program, source, message):
     if message["kind"] != "signature" or "without this signature" not in message["text"]:
         return None
@@ -271,7 +291,7 @@ def try_signature(program, source, message):
     return "a type without a signature"
 
 
-CLAIMS = [try_change, try_near, try_written, try_types, try_part, try_signature]
+CLAIMS = [try_change, try_near, try_written, try_types, try_part, try_both, try_signature]
 
 
 # Faults
@@ -315,7 +335,12 @@ def slipped(source, tokens, chance):
     return with_text(source, start, end, text)
 
 
-FAULTS = [of_tokens, of_lines, misspelt, declared_again, slipped, slipped]
+def slipped_twice(source, tokens, chance):
+    changed = slipped(source, tokens, chance)
+    return slipped(changed, slips.tokens_of(changed), chance)
+
+
+FAULTS = [of_tokens, of_lines, misspelt, declared_again, slipped, slipped, slipped_twice, slipped_twice]
 
 
 def tried(work):

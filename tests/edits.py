@@ -36,7 +36,7 @@ SAYS = {
 }
 # Their words.
 KINDS = ("exchange", "removal", "brackets", "mark", "constructor")
-SILENT = ("with another expression here", "if this pattern is '_'", "with one more argument after this", "this has type '")
+SILENT = ("with another expression here", "with other expressions both here", "if this pattern is '_'", "with one more argument after this", "this has type '")
 
 
 def edited(source, edits):

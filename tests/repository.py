@@ -278,7 +278,7 @@ def kind_faults():
     notes = set(re.findall(r'\bnote\(\s*"([\w-]+)"|kind: "([\w-]+)"', notices))
     notes = {one or other for one, other in notes}
     # Those of changes have a function of their own.
-    ways = set(re.findall(r'Way::\w+(?:\(_\))? => "([\w-]+)"', notices))
+    ways = set(re.findall(r'Way::\w+(?:\((?:_, )*_\))? => "([\w-]+)"', notices))
     kinds = words | notes | ways | set(re.findall(r'\berror\(\s*"([\w-]+)"', notices))
     of_schema = re.search(r'"kind": \{\s*"enum": \[(.*?)\]', text("tests/message.schema.json"), re.S)
     differing = kinds ^ set(re.findall(r'"([\w-]+)"', of_schema[1] if of_schema else ""))

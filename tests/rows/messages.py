@@ -344,7 +344,7 @@ KINDS = [
         "                 ^\n"
         "errors: 1, skipped modules: 0\n",
     ),
-    # no part alone is to blame
+    # no part alone is to blame, but two are
     (
         "module M where { f x = not 'c' ; f y = not 'd' }",
         1,
@@ -352,6 +352,12 @@ KINDS = [
         "No types fit this definition and those that refer back to it. All others that it refers to have types or signatures.\n"
         "module M where { f x = not 'c' ; f y = not 'd' }\n"
         "                 ^\n"
+        "M.hs:1:28: note: 'f' has a type with other expressions both here (up to 1:30) and at 1:44\n"
+        "module M where { f x = not 'c' ; f y = not 'd' }\n"
+        "                           ^^^\n"
+        "M.hs:1:44: note: 'f' has a type with other expressions both here (up to 1:46) and at 1:28\n"
+        "module M where { f x = not 'c' ; f y = not 'd' }\n"
+        "                                           ^^^\n"
         "errors: 1, skipped modules: 0\n",
     ),
     # an imported variable
@@ -964,6 +970,67 @@ KINDS = [
         "M.hs:1:27: note: 'f' has a type with another expression here (up to 1:27)\n"
         "module A where { f x = h (g x) 1 ; h :: Bool -> Int -> Int ; h a b = b ; g y = f y }\n"
         "                          ^\n"
+        "errors: 1, skipped modules: 0\n",
+    ),
+    # two parts: neither is enough by itself. The second one is the application, because its function has too few arguments
+    (
+        "module A where { f :: Bool -> [Bool] -> [Bool] ; f b [] = b ; f b (x : xs) = not x : f xs }",
+        1,
+        "M.hs:1:50: error: type error in 'f' [type]\n"
+        "No types fit this definition and those that refer back to it. All others that it refers to have types or signatures.\n"
+        "module A where { f :: Bool -> [Bool] -> [Bool] ; f b [] = b ; f b (x : xs) = not x : f xs }\n"
+        "                                                 ^\n"
+        "M.hs:1:59: note: 'f' has a type with other expressions both here (up to 1:59) and at 1:86\n"
+        "module A where { f :: Bool -> [Bool] -> [Bool] ; f b [] = b ; f b (x : xs) = not x : f xs }\n"
+        "                                                          ^\n"
+        "M.hs:1:86: note: 'f' has a type with other expressions both here (up to 1:89) and at 1:59\n"
+        "...e A where { f :: Bool -> [Bool] -> [Bool] ; f b [] = b ; f b (x : xs) = not x : f xs }\n"
+        "                                                                                   ^\n"
+        "errors: 1, skipped modules: 0\n",
+    ),
+    # two wrong right sides may be a wrong signature, which is reported first
+    (
+        "module A where { f :: Bool -> Bool ; f True = 'a' ; f False = 'b' }",
+        1,
+        "M.hs:1:38: error: type error in 'f' [type]\n"
+        "No types fit this definition and those that refer back to it. All others that it refers to have types or signatures.\n"
+        "module A where { f :: Bool -> Bool ; f True = 'a' ; f False = 'b' }\n"
+        "                                     ^\n"
+        "M.hs:1:18: note: 'f' has type 'Bool -> Char' without this signature (up to 1:34)\n"
+        "module A where { f :: Bool -> Bool ; f True = 'a' ; f False = 'b' }\n"
+        "                 ^\n"
+        "M.hs:1:47: note: 'f' has a type with other expressions both here (up to 1:49) and at 1:63\n"
+        "module A where { f :: Bool -> Bool ; f True = 'a' ; f False = 'b' }\n"
+        "                                              ^^^\n"
+        "M.hs:1:63: note: 'f' has a type with other expressions both here (up to 1:65) and at 1:47\n"
+        "module A where { f :: Bool -> Bool ; f True = 'a' ; f False = 'b' }\n"
+        "                                                              ^^^\n"
+        "errors: 1, skipped modules: 0\n",
+    ),
+    # columns are counted in characters
+    (
+        "module A where { g x = 'é' : x ; f :: Bool -> [Char] ; f True = g 'ö' ; f False = 'ü' }",
+        1,
+        "M.hs:1:56: error: type error in 'f' [type]\n"
+        "No types fit this definition and those that refer back to it. All others that it refers to have types or signatures.\n"
+        "module A where { g x = 'é' : x ; f :: Bool -> [Char] ; f True = g 'ö' ; f False = 'ü' }\n"
+        "                                                       ^\n"
+        "M.hs:1:67: note: 'f' has a type with other expressions both here (up to 1:69) and at 1:83\n"
+        "module A where { g x = 'é' : x ; f :: Bool -> [Char] ; f True = g 'ö' ; f False = 'ü' }\n"
+        "                                                                  ^\n"
+        "M.hs:1:83: note: 'f' has a type with other expressions both here (up to 1:85) and at 1:67\n"
+        "...le A where { g x = 'é' : x ; f :: Bool -> [Char] ; f True = g 'ö' ; f False = 'ü' }\n"
+        "                                                                                 ^\n"
+        "errors: 1, skipped modules: 0\n",
+    ),
+    # three wrong right sides have no note
+    (
+        "module A where { f :: Bool -> Bool -> Bool ; f True True = 'a' ; f True False = () ; f False y = [y] }",
+        1,
+        "M.hs:1:46: error: type error in 'f' [type]\n"
+        "No types fit this definition and those that refer back to it. All others that it refers to have types or signatures.\n"
+        "module A where { f :: Bool -> Bool -> Bool ; f True True = 'a' ; f True False = () ; f False y = [y] }\n"
+        "                                             ^\n"
         "errors: 1, skipped modules: 0\n",
     ),
     # a definition that uses itself at another type has its declared type there

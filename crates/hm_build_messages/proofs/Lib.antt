@@ -3,6 +3,7 @@ pub mod Blamed
 pub mod Called
 pub mod Detailed
 pub mod Further
+pub mod Jointly
 pub mod Starting
 pub mod Told
 pub mod Turns

@@ -34,6 +34,7 @@ use Rattle.hm_messages_changes.specs.declared.insertions.Insertion.TheVariants.{
 use Rattle.hm_messages_changes.specs.declared.data.SourceRange.{SourceRange}
 use Rattle.hm_run_sources.specs.Names.{name_below}
 use Rattle.hm_run_sources.specs.Origins.{IsSpelledBy}
+use Rattle.hm_build_messages.specs.Jointly.{AreJointNotes}
 use Rattle.hm_build_messages.specs.declared.explaining.Blame.{Blame}
 use Rattle.hm_build_messages.specs.declared.explaining.NumberedName.{NumberedName}
 
@@ -131,14 +132,17 @@ pub record IsSignatureNote (paint : Paint) (file source name : List ℕ) (fs : L
   pub columns_at : AreColumnsAt source signature.end columns
   pub told : IsMessage paint file source signature.start (unsigned f.name (reader_place signature.end columns) own) text
 
--- the notes of a type fault: that of its part and that of its signature, or one of them, or none. That of the signature is first if it leads
+-- the notes of a type fault: that of its part, that of its signature and those of two parts, or some of them, or none. That of the signature is before that of
+-- the part if it leads. Those of two parts are last, and only if there is none of one part
 pub record AreNotes (paint : Paint) (file source name : List ℕ) (fs : List Interface) (f : Fault) (text : List ℕ) : Type 0 where
   pub note : List ℕ
   pub signed : List ℕ
+  pub both : List ℕ
   pub leads : Bool
   pub noted : (note ≡ []) ⊎ IsNote paint file source name fs f note
   pub signature : (signed ≡ []) ⊎ IsSignatureNote paint file source name fs f leads signed
-  pub whole : text ≡ cond leads (signed ++ note) (note ++ signed)
+  pub jointly : (both ≡ []) ⊎ ((note ≡ []) × AreJointNotes paint file source name fs f both)
+  pub whole : text ≡ cond leads (signed ++ note) (note ++ signed) ++ both
 
 -- the last note of a fault tells that the limit on trials is reached, or it is no text. The first truth value says whether a note told it before the fault,
 -- the second whether one has told it behind the fault. So it is told once

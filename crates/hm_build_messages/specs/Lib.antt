@@ -1,4 +1,5 @@
 pub mod Explained
 pub mod Explanations
 pub mod FurtherStated
+pub mod Jointly
 pub mod WorkedLimits

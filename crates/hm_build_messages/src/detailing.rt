@@ -14,8 +14,8 @@ ghost use Rattle.hm_build_messages.specs.Explanations.{AreFaultsStated, IsDetail
 ghost use Rattle.hm_verdicts.specs.Sets.{IsLawfulSet, module_at};
 ghost use Rattle.hm_verdicts.specs.Verdicts.{ArePublished};
 
-use crate::faulty::{Allowance, FaultyModule, noted_messages};
-use crate::view::{BuildView, Faulty};
+use crate::faulty::{Allowance, noted_messages};
+use crate::view::{BuildView, Faulty, FaultyModule};
 use hm_messages::{Page, Paint, fault_message};
 use hm_messages_details::{Detail, Site, detail_of};
 use hm_messages_trials::Question;

@@ -8,31 +8,24 @@ ghost use Rattle.hm_messages_trials.specs.Limits.{IsUsedUp};
 ghost use Rattle.hm_messages_trials.specs.Mends.{IsMend};
 ghost use Rattle.hm_messages_trials.specs.Signatures.{IsUnsigned, Leads};
 ghost use Rattle.hm_names.specs.declared.faults.Kind.TheVariants.{Untyped};
+ghost use Rattle.hm_build_messages.specs.Jointly.{AreJointNotes};
 ghost use Rattle.hm_build_messages.specs.Explanations.{AreInTurn, ArePartTypes, AreNotes, IsMendStated, IsNote, IsNoted, IsSignatureNote, IsStatedOf, first_of as first_place, insertion_way as stated_insertion, other_of as other_place, subject_of_mend as stated_subject};
 
+use crate::joint::joint_notes;
+use crate::view::FaultyModule;
 use hm_lex::Place;
 use hm_messages::{
-    BothTypes, Page, Paint, Suggestion, Topic, Way, fault_message, message, message_with,
-    reader_place,
+    BothTypes, Suggestion, Topic, Way, fault_message, message, message_with, reader_place,
 };
 use hm_messages_changes::Insertion;
 use hm_messages_details::Detail;
 use hm_messages_edits::changes_of;
 use hm_messages_trials::{
-    Effort, Mend, PartTypes, Question, Reading, TypeFault, Unsigned, mend_of, part_types_of,
-    reading_of, unsigned_of,
+    Effort, Mend, PartTypes, Reading, TypeFault, Unsigned, mend_of, part_types_of, reading_of,
+    unsigned_of,
 };
 use hm_names::{Fault, Kind};
 use std::alloc::{AllocError, Global};
-
-/// A module whose faults are reported: the page of its source, the data of its trials, and its faults.
-#[derive(Clone, Copy)]
-pub(crate) struct FaultyModule<'f, 'p> {
-    pub paint: Paint,
-    pub page: &'f Page<'p>,
-    pub question: &'f Question<'f>,
-    pub faults: &'f [Fault],
-}
 
 /// What is left for the notes of a run, and whether one of them said that nothing is.
 #[derive(Clone, Copy)]
@@ -397,7 +390,35 @@ fn reading_for(
     }
 }
 
-// Why: docs/DECISIONS.md, "The order of notes".
+/// Returns whether notes of two parts are wanted: there is none of one part, and that of the signature doesn't lead.
+fn are_two_wanted(note: &PartNote, signed: &SignatureNote) -> bool
+    ensures { result ≡ true → note.now.text.items ≡ [] }
+{
+    if signed.leads {
+        return false;
+    }
+    note.text.is_empty()
+}
+
+/// Returns the notes of two parts, or no text.
+fn notes_of_two(
+    alloc: Global,
+    module: &FaultyModule<'_, '_>,
+    found: &TypeFault<'_>,
+    is_wanted: bool,
+    effort: &mut Effort,
+) -> Result<Vec<u8>, AllocError>
+    requires { «module».now.question.now.source.now ≡ «module».now.page.now.lines }
+    ensures { IfOk result (λ text. (text.items ≡ []) ⊎ ((is_wanted ≡ true) × AreJointNotes «module».now.paint «module».now.page.now.file.now
+        «module».now.page.now.lines «module».now.question.now.name.now (map arc_value «module».now.question.now.imports.now) found.now.fault.now text.items)) }
+{
+    if !is_wanted {
+        return Ok(Vec::new(alloc));
+    }
+    Ok(joint_notes(alloc, module, found, effort)?)
+}
+
+// Why: docs/DECISIONS.md, "The order of notes", "Two slips".
 /// Returns the notes of a fault, one after the other.
 fn notes_of(
     alloc: Global,
@@ -411,12 +432,16 @@ fn notes_of(
 {
     let note = note_for(alloc, module, found, effort)?;
     let signed = signature_note(alloc, module, found, note.is_first, effort)?;
-    Ok(in_order(
+    let is_wanted = are_two_wanted(&note, &signed);
+    let both = notes_of_two(alloc, module, found, is_wanted, effort)?;
+    let mut text = in_order(
         alloc,
         note.text.as_slice(),
         signed.text.as_slice(),
         signed.leads,
-    )?)
+    )?;
+    text.extend_from_slice(both.as_slice())?;
+    Ok(text)
 }
 
 /// Returns the notes of a fault, or no text without a reading of the module's source.

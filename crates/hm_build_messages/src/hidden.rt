@@ -11,8 +11,8 @@ ghost use Rattle.hm_verdicts.specs.Outcomes.{verdict_of};
 ghost use Rattle.hm_verdicts.specs.Sets.{IsLawfulSet};
 
 use crate::detailing::{faulty_messages, published};
-use crate::faulty::{Allowance, FaultyModule};
-use crate::view::{BuildView, Faulty};
+use crate::faulty::Allowance;
+use crate::view::{BuildView, Faulty, FaultyModule};
 use hm_messages::{Page, Paint, Topic, message};
 use hm_messages_hidden::hidden_of;
 use hm_messages_trials::{Effort, Question};

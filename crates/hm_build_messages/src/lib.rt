@@ -6,6 +6,7 @@ mod exhausted;
 mod explaining;
 mod faulty;
 mod hidden;
+mod joint;
 pub mod laws;
 mod options;
 mod refused;

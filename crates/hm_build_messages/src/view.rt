@@ -2,7 +2,8 @@
 
 use hm_build_reports::Settled;
 use hm_graph::Plan;
-use hm_messages::Pages;
+use hm_messages::{Page, Pages, Paint};
+use hm_messages_trials::Question;
 use hm_names::Fault;
 use hm_store::Store;
 use hm_syntax::Module;
@@ -27,5 +28,14 @@ pub struct BuildView<'t, 'p, 'm> {
 pub(crate) struct Faulty<'f> {
     pub number: usize,
     pub source: usize,
+    pub faults: &'f [Fault],
+}
+
+/// A module whose faults are reported: the page of its source, the data of its trials, and its faults.
+#[derive(Clone, Copy)]
+pub(crate) struct FaultyModule<'f, 'p> {
+    pub paint: Paint,
+    pub page: &'f Page<'p>,
+    pub question: &'f Question<'f>,
     pub faults: &'f [Fault],
 }

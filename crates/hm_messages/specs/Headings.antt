@@ -19,7 +19,7 @@ use Rattle.hm_names.specs.Faults.Phases.{written_in}
 use Rattle.hm_messages.specs.Notices.{notice_of}
 use Rattle.hm_messages.specs.Subjects.{Subject, fault, replaceable, wrapped, mistyped, unsigned, faulty, skipped, too_long, lexeme, open_comment, too_deep, syntax_fault, too_many, twice, twin, missing, cycle, exhausted, limit, step, hidden}
 use Rattle.hm_messages.specs.declared.topic.Way.{Way}
-use Rattle.hm_messages.specs.declared.topic.Way.TheVariants.{Expression, Pattern, Exchange, Removal, Sides, Patterns, Brackets, ListBrackets, Argument, Semicolon, Comma}
+use Rattle.hm_messages.specs.declared.topic.Way.TheVariants.{Expression, Pattern, Exchange, Removal, Sides, Patterns, Brackets, ListBrackets, Argument, Semicolon, Comma, Both}
 use Rattle.hm_messages.specs.declared.heading.Paint.{Paint}
 use Rattle.hm_messages.specs.declared.heading.Paint.TheVariants.{Plain, Coloured, Json}
 
@@ -159,6 +159,10 @@ argument_title x p = codes "'" ++ x ++ codes "' has a type with one more argumen
 abbrev pub mark_title : List ℕ → List ℕ → List ℕ
 mark_title x mark = codes "'" ++ x ++ codes "' has a type with '" ++ mark ++ codes "' before this"
 
+-- what is said of an expression that ends at this place, and another one that begins at the second
+abbrev pub expressions_title : List ℕ → Place → Place → List ℕ
+expressions_title x p q = codes "'" ++ x ++ codes "' has a type with other expressions both here (up to " ++ decimal p.line ++ codes ":" ++ decimal p.column ++ codes ") and at " ++ decimal q.line ++ codes ":" ++ decimal q.column
+
 -- in which way a definition has a type
 abbrev pub replaceable_title : List ℕ → Way → List ℕ
 replaceable_title x (Expression p) = expression_title x p
@@ -172,6 +176,7 @@ replaceable_title x (ListBrackets p) = list_brackets_title x p
 replaceable_title x (Argument p) = argument_title x p
 replaceable_title x Semicolon = mark_title x (codes ";")
 replaceable_title x Comma = mark_title x (codes ",")
+replaceable_title x (Both p q) = expressions_title x p q
 
 -- what is said of an expression that ends at this place and gets this constructor
 abbrev pub wrapped_title : List ℕ → List ℕ → Place → List ℕ

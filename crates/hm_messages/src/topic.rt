@@ -39,6 +39,8 @@ pub enum Way {
     Semicolon,
     /// A `,` before the expression.
     Comma,
+    /// Other expressions, here up to the first place, and where one begins at the second.
+    Both(Place, Place),
 }
 
 /// The two types of a part of a definition.

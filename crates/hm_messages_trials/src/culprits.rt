@@ -12,7 +12,7 @@ const SPLIT: usize = 6;
 
 /// A search: a definition of a source, and the data of its trials.
 #[derive(Clone, Copy)]
-pub(crate) struct Searched<'a, 'q> {
+pub struct Searched<'a, 'q> {
     pub question: &'a Question<'q>,
     pub lexed: &'a Lexed<'a>,
     pub definition: &'a str,
@@ -24,7 +24,7 @@ pub(crate) struct Searched<'a, 'q> {
 }
 
 /// Returns whether a definition has a type with these edits. Returns `false` if no trial is left.
-pub(crate) fn is_mended_by(
+pub fn is_mended_by(
     alloc: Global,
     searched: &Searched<'_, '_>,
     edits: &[Edit],

@@ -40,7 +40,7 @@ pub struct TypeFault<'a> {
 }
 
 /// Returns the tokens of a source with their outline, if it has tokens.
-pub(crate) fn read(alloc: Global, source: &[u8]) -> Result<Option<Reading>, AllocError> {
+pub fn read(alloc: Global, source: &[u8]) -> Result<Option<Reading>, AllocError> {
     let tokens = match lex(alloc, source) {
         Ok(tokens) => tokens,
         Err(LexFault::Memory) => return Err(AllocError),

@@ -25,7 +25,7 @@ use hm_parse_grammar::Symbol;
 use std::alloc::{AllocError, Global};
 
 /// Returns the number of the token that begins at a byte, or of the first one after it.
-fn token_at(tokens: &[Token], byte: usize) -> usize {
+pub fn token_at(tokens: &[Token], byte: usize) -> usize {
     tokens
         .iter()
         .take_while(|token| (token.start as usize) < byte)
@@ -309,7 +309,7 @@ fn confirmed<'q>(
 }
 
 /// Returns the names of faults.
-fn names_of<'a>(alloc: Global, faults: &'a [Fault]) -> Result<Vec<&'a str>, AllocError> {
+pub fn names_of<'a>(alloc: Global, faults: &'a [Fault]) -> Result<Vec<&'a str>, AllocError> {
     let mut names = Vec::with_capacity(alloc, faults.len())?;
     for fault in faults {
         names.push(fault.name.as_str())?;

@@ -152,7 +152,7 @@ fn are_typed(verdict: &Verdict, definition: &str, others: &[&str]) -> bool
 
 /// Returns whether the module is good in a changed source, or has only type faults, none of them with the name of the definition or of the
 /// others. Returns `false` if the source can't be read.
-pub(crate) fn has_types_in(
+pub fn has_types_in(
     alloc: Global,
     question: &Question<'_>,
     changed: &[u8],

@@ -1,0 +1,79 @@
+//! The notes of two parts of a definition that together are to blame for a type fault.
+ghost use Rattle.std.specs.Prelude.{◌≡◌, ◌⊎◌, IfOk, IfSome, [], map};
+ghost use Rattle.std.specs.Arc.{arc_value};
+ghost use Rattle.hm_names.specs.declared.faults.Kind.TheVariants.{Untyped};
+ghost use Rattle.hm_messages_joint.specs.Joints.{HasTypeWithBoth, NeedsBoth};
+ghost use Rattle.hm_build_messages.specs.Jointly.{AreJointNotes, IsJointNote};
+
+use crate::view::FaultyModule;
+use hm_messages::{Topic, Way, message, reader_place};
+use hm_messages_changes::SourceRange;
+use hm_messages_joint::{Joint, joint_of};
+use hm_messages_trials::{Effort, TypeFault};
+use hm_names::Kind;
+use std::alloc::{AllocError, Global};
+
+/// Returns two parts that together are to blame for a type fault, if they are found. Returns `None` if memory or the effort doesn't suffice for the search.
+fn joint_for(
+    alloc: Global,
+    module: &FaultyModule<'_, '_>,
+    found: &TypeFault<'_>,
+    effort: &mut Effort,
+) -> Option<Joint>
+    ensures untyped { IfSome result (λ joint. found.now.fault.now.kind ≡ Untyped) }
+    ensures suffices { IfSome result (λ joint. HasTypeWithBoth «module».now.question.now.source.now «module».now.question.now.name.now
+        (map arc_value «module».now.question.now.imports.now) found.now.fault.now.name joint.first joint.second) }
+    ensures needed { IfSome result (λ joint. NeedsBoth «module».now.question.now.source.now «module».now.question.now.name.now
+        (map arc_value «module».now.question.now.imports.now) found.now.fault.now.name joint.first joint.second) }
+{
+    if found.fault.kind != Kind::Untyped {
+        return None;
+    }
+    match joint_of(alloc, module.question, found, effort) {
+        Ok(joint) => joint,
+        Err(AllocError) => None,
+    }
+}
+
+/// Returns the note of one part, which names the place of the other one, or no text.
+fn part_note(
+    alloc: Global,
+    module: &FaultyModule<'_, '_>,
+    definition: &str,
+    part: SourceRange,
+    other: SourceRange,
+) -> Result<Vec<u8>, AllocError>
+    ensures { IfOk result (λ text. (text.items ≡ []) ⊎ IsJointNote «module».now.paint «module».now.page.now.file.now «module».now.page.now.lines
+        definition.now part other text.items) }
+{
+    let Some(end) = reader_place(module.page, part.end) else {
+        return Ok(Vec::new(alloc));
+    };
+    let Some(start) = reader_place(module.page, other.start) else {
+        return Ok(Vec::new(alloc));
+    };
+    let topic = Topic::Replaceable(definition, Way::Both(end, start));
+    Ok(message(alloc, module.paint, module.page, part.start, &topic)?)
+}
+
+// Why: docs/DECISIONS.md, "Two slips".
+/// Returns the notes of two parts that together are to blame for a type fault, or no text.
+pub(crate) fn joint_notes(
+    alloc: Global,
+    module: &FaultyModule<'_, '_>,
+    found: &TypeFault<'_>,
+    effort: &mut Effort,
+) -> Result<Vec<u8>, AllocError>
+    requires { «module».now.question.now.source.now ≡ «module».now.page.now.lines }
+    ensures { IfOk result (λ text. (text.items ≡ []) ⊎ AreJointNotes «module».now.paint «module».now.page.now.file.now «module».now.page.now.lines
+        «module».now.question.now.name.now (map arc_value «module».now.question.now.imports.now) found.now.fault.now text.items) }
+{
+    let Some(joint) = joint_for(alloc, module, found, effort) else {
+        return Ok(Vec::new(alloc));
+    };
+    let definition = found.fault.name.as_str();
+    let mut text = part_note(alloc, module, definition, joint.first, joint.second)?;
+    let second = part_note(alloc, module, definition, joint.second, joint.first)?;
+    text.extend_from_slice(second.as_slice())?;
+    Ok(text)
+}

@@ -1,0 +1,207 @@
+//! Two parts of a definition that together are to blame.
+ghost use Rattle.std.specs.Prelude.{◌≡◌, ◌≤◌, IfOk, IfSome, None, map, true};
+ghost use Rattle.std.specs.Arc.{arc_value};
+ghost use Rattle.hm_messages_changes.specs.Holes.{IsPartOf};
+ghost use Rattle.hm_messages_joint.specs.Joints.{AreApart, HasTypeWithBoth, NeedsBoth};
+ghost use Rattle.hm_messages_trials.specs.Limits.{IsUsedUp};
+
+use crate::judging::is_untyped_without;
+use crate::least::least_set;
+use hm_messages_changes::{Cut, SourceRange, cut_of, part_of, with_hole};
+use hm_messages_outline::{Run, binding_at, names_in, signature_of};
+use hm_messages_trials::{
+    Effort, Question, Searched, TypeFault, cost_of, has_types_in, names_of, read, token_at,
+};
+use std::alloc::{AllocError, Global};
+
+/// The most that a trial may cost if two parts are searched. A search has some 25 trials, and faults of a large module would use up what is left for the run.
+const MOST_COST_OF_SEARCH: usize = 1 << 14;
+
+/// The number of trials of the whole source.
+const TRIALS_OF_WHOLE: usize = 3;
+
+/// Two parts of a definition, in order.
+#[derive(Clone, Copy)]
+pub struct Joint {
+    pub first: SourceRange,
+    pub second: SourceRange,
+}
+
+/// Returns the run, as if its token with the first number had the second one.
+fn moved(run: Run, from: usize, to: usize) -> Run {
+    Run {
+        start: run.start.saturating_sub(from).saturating_add(to),
+        end: run.end.saturating_sub(from).saturating_add(to),
+    }
+}
+
+/// Returns two parts of a definition by a search in this smaller source, as tokens of the whole one.
+fn runs_in_cut(
+    alloc: Global,
+    searched: &Searched<'_, '_>,
+    cut: &Cut,
+    definition: Run,
+    effort: &mut Effort,
+) -> Result<Option<(Run, Run)>, AllocError> {
+    let source = cut.text.as_slice();
+    let Some(reading) = read(alloc, source)? else {
+        return Ok(None);
+    };
+    let lexed = reading.lexed(source);
+    let smaller = Searched {
+        question: searched.question,
+        lexed: &lexed,
+        definition: searched.definition,
+        others: searched.others,
+        is_signed: searched.is_signed,
+        cost: cost_of(source, lexed.outline),
+    };
+    if smaller.cost > MOST_COST_OF_SEARCH {
+        return Ok(None);
+    }
+    let start = token_at(lexed.tokens, cut.definition);
+    let run = moved(definition, definition.start, start);
+    let Some(set) = least_set(alloc, &smaller, run, effort)? else {
+        return Ok(None);
+    };
+    if set.len() != 2 {
+        return Ok(None);
+    }
+    let first = moved(set[0].run, start, definition.start);
+    let second = moved(set[1].run, start, definition.start);
+    Ok(Some((first, second)))
+}
+
+/// Returns whether the definition has a type with holes in place of both parts.
+fn is_typed_with_both(
+    alloc: Global,
+    searched: &Searched<'_, '_>,
+    joint: Joint,
+) -> Result<bool, AllocError>
+    requires { AreApart searched.now.question.now.source.now joint.first joint.second }
+    ensures { IfOk result (λ yes. yes ≡ true → HasTypeWithBoth searched.now.question.now.source.now searched.now.question.now.name.now
+        (map arc_value searched.now.question.now.imports.now) searched.now.definition.now joint.first joint.second) }
+{
+    let question = searched.question;
+    let Joint { first, second } = joint;
+    let changed = with_hole(alloc, question.source, second.from, second.to)?;
+    if first.to > changed.len() {
+        return Ok(false);
+    }
+    let both = with_hole(alloc, changed.as_slice(), first.from, first.to)?;
+    Ok(has_types_in(
+        alloc,
+        question,
+        both.as_slice(),
+        searched.definition,
+        searched.others,
+    )?)
+}
+
+/// Returns whether the definition has no type with a hole in place of one part alone.
+fn needs_both(alloc: Global, searched: &Searched<'_, '_>, joint: Joint) -> Result<bool, AllocError>
+    requires { AreApart searched.now.question.now.source.now joint.first joint.second }
+    ensures { IfOk result (λ yes. yes ≡ true → NeedsBoth searched.now.question.now.source.now searched.now.question.now.name.now
+        (map arc_value searched.now.question.now.imports.now) searched.now.definition.now joint.first joint.second) }
+{
+    let question = searched.question;
+    let definition = searched.definition;
+    if !is_untyped_without(alloc, question, joint.first, definition)? {
+        return Ok(false);
+    }
+    Ok(is_untyped_without(alloc, question, joint.second, definition)?)
+}
+
+/// Returns two parts of a source with these tokens, if the second one comes after the first.
+fn joint_at(searched: &Searched<'_, '_>, first: Run, second: Run) -> Option<Joint>
+    ensures { IfSome result (λ joint. AreApart searched.now.question.now.source.now joint.first joint.second) }
+{
+    let tokens = searched.lexed.tokens;
+    let source = searched.question.source;
+    let first = part_of(tokens, first, source)?;
+    let second = part_of(tokens, second, source)?;
+    if first.to > second.from {
+        return None;
+    }
+    Some(Joint { first, second })
+}
+
+/// Returns these parts, if trials in the whole source say that they are to blame together.
+fn confirmed(
+    alloc: Global,
+    searched: &Searched<'_, '_>,
+    first: Run,
+    second: Run,
+) -> Result<Option<Joint>, AllocError>
+    ensures apart { IfOk result (λ found. IfSome found (λ joint. AreApart searched.now.question.now.source.now joint.first joint.second)) }
+    ensures suffices { IfOk result (λ found. IfSome found (λ joint. HasTypeWithBoth searched.now.question.now.source.now
+        searched.now.question.now.name.now (map arc_value searched.now.question.now.imports.now) searched.now.definition.now joint.first joint.second)) }
+    ensures needed { IfOk result (λ found. IfSome found (λ joint. NeedsBoth searched.now.question.now.source.now
+        searched.now.question.now.name.now (map arc_value searched.now.question.now.imports.now) searched.now.definition.now joint.first joint.second)) }
+{
+    let Some(joint) = joint_at(searched, first, second) else {
+        return Ok(None);
+    };
+    if !is_typed_with_both(alloc, searched, joint)? {
+        return Ok(None);
+    }
+    if !needs_both(alloc, searched, joint)? {
+        return Ok(None);
+    }
+    Ok(Some(joint))
+}
+
+// Why: docs/DECISIONS.md, "Two slips".
+/// Returns two parts of the definition of a type fault. With holes in place of both it has a type, and with a hole in place of one of them it has none.
+/// `effort` is less by what the search costs. It has the trials that `mend_of` left for this fault.
+///
+/// Returns `None` if nothing is found or the effort doesn't pay for a trial, and for a definition that mentions more than 256 names.
+///
+/// # Errors
+///
+/// Memory ran out, or a type would have grown past the limits of the question.
+pub fn joint_of(
+    alloc: Global,
+    question: &Question<'_>,
+    found: &TypeFault<'_>,
+    effort: &mut Effort,
+) -> Result<Option<Joint>, AllocError>
+    ensures apart { IfOk result (λ joint. IfSome joint (λ joint. AreApart question.now.source.now joint.first joint.second)) }
+    ensures suffices { IfOk result (λ joint. IfSome joint (λ joint. HasTypeWithBoth question.now.source.now question.now.name.now
+        (map arc_value question.now.imports.now) found.now.fault.now.name joint.first joint.second)) }
+    ensures needed { IfOk result (λ joint. IfSome joint (λ joint. NeedsBoth question.now.source.now question.now.name.now
+        (map arc_value question.now.imports.now) found.now.fault.now.name joint.first joint.second)) }
+    ensures none { IsUsedUp effort.old → IfOk result (λ joint. joint ≡ None) }
+    ensures stays { IsUsedUp effort.old → IsUsedUp effort.new }
+{
+    if !effort.pays(question.source.len()) {
+        return Ok(None);
+    }
+    let fault = found.fault;
+    let lexed = found.reading.lexed(question.source);
+    let Some(binding) = binding_at(lexed.source, lexed.tokens, lexed.outline, fault.place) else {
+        return Ok(None);
+    };
+    let faulty = names_of(alloc, found.faults)?;
+    let Some(others) = names_in(alloc, &lexed, binding, faulty.as_slice())? else {
+        return Ok(None);
+    };
+    let searched = Searched {
+        question,
+        lexed: &lexed,
+        definition: fault.name.as_str(),
+        others: others.as_slice(),
+        is_signed: signature_of(&lexed, binding.start).is_some(),
+        cost: cost_of(question.source, lexed.outline),
+    };
+    let Some(cut) = cut_of(alloc, &lexed, binding)? else {
+        return Ok(None);
+    };
+    let Some((first, second)) = runs_in_cut(alloc, &searched, &cut, binding, effort)? else {
+        return Ok(None);
+    };
+    if !effort.pays(searched.cost.saturating_mul(TRIALS_OF_WHOLE)) {
+        return Ok(None);
+    }
+    confirmed(alloc, &searched, first, second)
+}

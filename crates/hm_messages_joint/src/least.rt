@@ -1,0 +1,220 @@
+//! The search for a least set of parts. It is proved only that it ends: two more trials test what is found.
+
+use crate::leaves::{expressions, expressions_below, leaves_of};
+use hm_messages_changes::{Filling, HOLE, edited, in_place};
+use hm_messages_outline::{Role, Run, TermPart, right_sides};
+use hm_messages_trials::{Effort, Searched, is_mended_by};
+use std::alloc::{AllocError, Global};
+
+/// The most parts of a set.
+const MOST_PARTS: usize = 2;
+
+/// The most rounds in which a part is added to a set, or in which it is found to be one.
+const MOST_ROUNDS: usize = 3;
+
+/// The most steps of a search, each of which costs a trial.
+const MOST_STEPS: usize = 200;
+
+/// Returns whether the definition has a type with holes in place of all these parts. Returns `false` if no trial is left.
+fn is_typed_with(
+    alloc: Global,
+    searched: &Searched<'_, '_>,
+    kept: &[TermPart],
+    more: &[TermPart],
+    effort: &mut Effort,
+) -> Result<bool, AllocError> {
+    let mut edits = Vec::new(alloc);
+    for part in kept {
+        edits.push(in_place(searched.lexed, part.run, Filling::Text(HOLE)))?;
+    }
+    for part in more {
+        edits.push(in_place(searched.lexed, part.run, Filling::Text(HOLE)))?;
+    }
+    edits.sort_by_key(|edit| edit.from)?;
+    let holes = edits.len().saturating_mul(HOLE.len());
+    let dearer = Searched {
+        question: searched.question,
+        lexed: searched.lexed,
+        definition: searched.definition,
+        others: searched.others,
+        is_signed: searched.is_signed,
+        cost: searched.cost.saturating_add(holes),
+    };
+    is_mended_by(alloc, &dearer, edits.as_slice(), effort)
+}
+
+/// Returns the parts from a number on.
+fn rest_of(parts: &[TermPart], start: usize) -> &[TermPart] {
+    if start <= parts.len() {
+        &parts[start..]
+    } else {
+        &parts[..0]
+    }
+}
+
+/// Returns the number of the first of these parts that has to be a hole, if those after it and the kept ones are holes.
+fn first_needed(
+    alloc: Global,
+    searched: &Searched<'_, '_>,
+    kept: &[TermPart],
+    parts: &[TermPart],
+    effort: &mut Effort,
+) -> Result<usize, AllocError> {
+    let mut low = 0usize;
+    let mut high = parts.len();
+    for _ in 0..MOST_STEPS {
+        let between = high.saturating_sub(low);
+        if between <= 1 {
+            return Ok(low);
+        }
+        let middle = low.saturating_add(between / 2);
+        if is_typed_with(alloc, searched, kept, rest_of(parts, middle), effort)? {
+            low = middle;
+        } else {
+            high = middle;
+        }
+    }
+    Ok(low)
+}
+
+/// Returns the kept parts and those of the others that have to be holes beside them, or `None` if these are too many together.
+fn with_needed(
+    alloc: Global,
+    searched: &Searched<'_, '_>,
+    kept: &[TermPart],
+    parts: &[TermPart],
+    effort: &mut Effort,
+) -> Result<Option<Vec<TermPart>>, AllocError> {
+    let mut set = Vec::from_slice(alloc, kept)?;
+    let mut start = 0usize;
+    for _ in 0..MOST_ROUNDS {
+        if is_typed_with(alloc, searched, set.as_slice(), &[], effort)? {
+            return Ok(Some(set));
+        }
+        let rest = rest_of(parts, start);
+        if set.len() >= MOST_PARTS || rest.is_empty() {
+            return Ok(None);
+        }
+        let at = first_needed(alloc, searched, set.as_slice(), rest, effort)?;
+        if at < rest.len() {
+            set.push(rest[at])?;
+        }
+        start = start.saturating_add(at).saturating_add(1);
+    }
+    Ok(None)
+}
+
+/// Returns these parts without the one with a number.
+fn except(alloc: Global, parts: &[TermPart], number: usize) -> Result<Vec<TermPart>, AllocError> {
+    let mut rest = Vec::new(alloc);
+    for at in 0..parts.len() {
+        if at != number {
+            rest.push(parts[at])?;
+        }
+    }
+    Ok(rest)
+}
+
+/// Returns the kept parts with some of these, if that gives a set.
+fn set_inside(
+    alloc: Global,
+    searched: &Searched<'_, '_>,
+    kept: &[TermPart],
+    inside: &[TermPart],
+    effort: &mut Effort,
+) -> Result<Option<Vec<TermPart>>, AllocError> {
+    if inside.is_empty() || !is_typed_with(alloc, searched, kept, inside, effort)? {
+        return Ok(None);
+    }
+    with_needed(alloc, searched, kept, inside, effort)
+}
+
+/// Returns the set with parts inside one of its parts in place of that one, if that gives a set.
+fn narrowed(
+    alloc: Global,
+    searched: &Searched<'_, '_>,
+    set: &[TermPart],
+    number: usize,
+    effort: &mut Effort,
+) -> Result<Option<Vec<TermPart>>, AllocError> {
+    if number >= set.len() {
+        return Ok(None);
+    }
+    let outline = searched.lexed.outline;
+    let others = except(alloc, set, number)?;
+    let others = others.as_slice();
+    let leaves = leaves_of(alloc, outline, set[number])?;
+    match set_inside(alloc, searched, others, leaves.as_slice(), effort)? {
+        Some(found) => return Ok(Some(found)),
+        None => {}
+    }
+    let below = expressions_below(alloc, outline, set[number])?;
+    set_inside(alloc, searched, others, below.as_slice(), effort)
+}
+
+/// Returns a set that has no smaller parts, of the parts of this one and of those inside them.
+fn narrowest(
+    alloc: Global,
+    searched: &Searched<'_, '_>,
+    set: Vec<TermPart>,
+    effort: &mut Effort,
+) -> Result<Vec<TermPart>, AllocError> {
+    let mut set = set;
+    let mut done = 0usize;
+    for _ in 0..MOST_STEPS {
+        if done >= set.len() {
+            break;
+        }
+        match narrowed(alloc, searched, set.as_slice(), done, effort)? {
+            Some(narrower) => set = narrower,
+            None => done = done.saturating_add(1),
+        }
+    }
+    Ok(set)
+}
+
+/// Returns the application that a part is the function of, if no other part of the set is in it, or else the part. Often the arguments are too many or too few.
+fn whole_of(set: &[TermPart], part: TermPart) -> TermPart {
+    if part.role != Role::Function {
+        return part;
+    }
+    let mut inside = 0usize;
+    for other in set {
+        if part.around.has(other.run.start) {
+            inside = inside.saturating_add(1);
+        }
+    }
+    if inside > 1 {
+        return part;
+    }
+    TermPart {
+        run: part.around,
+        role: Role::Body,
+        around: part.around,
+    }
+}
+
+/// Returns a least set of expressions of a definition, in order: it has a type with holes in place of all of them. If the trials run out, the set may not be
+/// least.
+pub(crate) fn least_set(
+    alloc: Global,
+    searched: &Searched<'_, '_>,
+    definition: Run,
+    effort: &mut Effort,
+) -> Result<Option<Vec<TermPart>>, AllocError> {
+    let sides = right_sides(alloc, searched.lexed.outline, definition)?;
+    let sides = expressions(alloc, sides.as_slice())?;
+    if !is_typed_with(alloc, searched, &[], sides.as_slice(), effort)? {
+        return Ok(None);
+    }
+    let Some(set) = with_needed(alloc, searched, &[], sides.as_slice(), effort)? else {
+        return Ok(None);
+    };
+    let set = narrowest(alloc, searched, set, effort)?;
+    let mut wholes = Vec::new(alloc);
+    for part in &set {
+        wholes.push(whole_of(set.as_slice(), *part))?;
+    }
+    wholes.sort_by_key(|part| part.run.start)?;
+    Ok(Some(wholes))
+}
