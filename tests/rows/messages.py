@@ -1023,6 +1023,34 @@ KINDS = [
         "                                                                                 ^\n"
         "errors: 1, skipped modules: 0\n",
     ),
+    # two slips in a right side of more than 40 bytes, and in a shorter one
+    (
+        "module A where { f x = if not x then (not 'a', not True) else (x, not 'b') }",
+        1,
+        "M.hs:1:18: error: type error in 'f' [type]\n"
+        "No types fit this definition and those that refer back to it. All others that it refers to have types or signatures.\n"
+        "module A where { f x = if not x then (not 'a', not True) else (x, not 'b') }\n"
+        "                 ^\n"
+        "M.hs:1:43: note: 'f' has a type with other expressions both here (up to 1:45) and at 1:71\n"
+        "module A where { f x = if not x then (not 'a', not True) else (x, not 'b') }\n"
+        "                                          ^^^\n"
+        "M.hs:1:71: note: 'f' has a type with other expressions both here (up to 1:73) and at 1:43\n"
+        "module A where { f x = if not x then (not 'a', not True) else (x, not 'b') }\n"
+        "                                                                      ^^^\n"
+        "errors: 1, skipped modules: 0\n",
+    ),
+    (
+        "module A where { f = (not 'a', not True, not 'b') }",
+        1,
+        "M.hs:1:18: error: type error in 'f' [type]\n"
+        "No types fit this definition and those that refer back to it. All others that it refers to have types or signatures.\n"
+        "module A where { f = (not 'a', not True, not 'b') }\n"
+        "                 ^\n"
+        "M.hs:1:22: note: 'f' has a type with another expression here (up to 1:49)\n"
+        "module A where { f = (not 'a', not True, not 'b') }\n"
+        "                     ^\n"
+        "errors: 1, skipped modules: 0\n",
+    ),
     # three wrong right sides have no note
     (
         "module A where { f :: Bool -> Bool -> Bool ; f True True = 'a' ; f True False = () ; f False y = [y] }",

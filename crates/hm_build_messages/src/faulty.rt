@@ -17,7 +17,7 @@ use hm_lex::Place;
 use hm_messages::{
     BothTypes, Suggestion, Topic, Way, fault_message, message, message_with, reader_place,
 };
-use hm_messages_changes::Insertion;
+use hm_messages_changes::{Insertion, SourceRange};
 use hm_messages_details::Detail;
 use hm_messages_edits::changes_of;
 use hm_messages_trials::{
@@ -26,6 +26,9 @@ use hm_messages_trials::{
 };
 use hm_names::{Fault, Kind};
 use std::alloc::{AllocError, Global};
+
+/// The number of bytes from which on an expression is wide.
+const WIDE: usize = 40;
 
 /// What is left for the notes of a run, and whether one of them said that nothing is.
 #[derive(Clone, Copy)]
@@ -227,6 +230,8 @@ fn note_text(
 struct PartNote {
     text: Vec<u8>,
     is_first: bool,
+    /// The part, if it is so wide that two parts inside it say more.
+    wide: Option<SourceRange>,
 }
 
 /// Returns no note of a change.
@@ -236,6 +241,15 @@ fn no_part_note(alloc: Global) -> PartNote
     PartNote {
         text: Vec::new(alloc),
         is_first: false,
+        wide: None,
+    }
+}
+
+/// Returns the expression that is replaced, if it is wide.
+fn wide_part(mend: &Mend<'_>) -> Option<SourceRange> {
+    match mend {
+        Mend::Expression(part) if part.to.saturating_sub(part.from) >= WIDE => Some(*part),
+        _ => None,
     }
 }
 
@@ -268,9 +282,14 @@ fn note_for(
     };
     let types = types_for(alloc, module, found, &mend, effort);
     let is_first = is_first(&mend);
+    let wide = wide_part(&mend);
     let part = FaultyPart { mend, types };
     let text = note_text(alloc, module, found.fault.name.as_str(), &part, place)?;
-    Ok(PartNote { text, is_first })
+    Ok(PartNote {
+        text,
+        is_first,
+        wide,
+    })
 }
 
 /// Returns the type that the definition of a type fault has without its signature, if it is found.
@@ -390,32 +409,55 @@ fn reading_for(
     }
 }
 
-/// Returns whether notes of two parts are wanted: there is none of one part, and that of the signature doesn't lead.
-fn are_two_wanted(note: &PartNote, signed: &SignatureNote) -> bool
-    ensures { result ≡ true → note.now.text.items ≡ [] }
-{
-    if signed.leads {
-        return false;
-    }
-    note.text.is_empty()
+/// Where two parts are searched.
+#[derive(Clone, Copy)]
+enum Wanted {
+    Nothing,
+    InDefinition,
+    InPart(SourceRange),
 }
 
-/// Returns the notes of two parts, or no text.
+/// Returns where two parts are searched, beside these notes.
+fn wanted_beside(note: &PartNote, signed: &SignatureNote) -> Wanted {
+    if signed.leads {
+        return Wanted::Nothing;
+    }
+    if let Some(part) = note.wide {
+        return Wanted::InPart(part);
+    }
+    if note.text.is_empty() {
+        return Wanted::InDefinition;
+    }
+    Wanted::Nothing
+}
+
+/// Returns the notes of two parts, or no text. They are wanted if there is no note of one part or that is wide, and if the note of the signature doesn't lead.
 fn notes_of_two(
     alloc: Global,
     module: &FaultyModule<'_, '_>,
     found: &TypeFault<'_>,
-    is_wanted: bool,
+    wanted: Wanted,
     effort: &mut Effort,
 ) -> Result<Vec<u8>, AllocError>
     requires { «module».now.question.now.source.now ≡ «module».now.page.now.lines }
-    ensures { IfOk result (λ text. (text.items ≡ []) ⊎ ((is_wanted ≡ true) × AreJointNotes «module».now.paint «module».now.page.now.file.now
-        «module».now.page.now.lines «module».now.question.now.name.now (map arc_value «module».now.question.now.imports.now) found.now.fault.now text.items)) }
+    ensures { IfOk result (λ text. (text.items ≡ []) ⊎ AreJointNotes «module».now.paint «module».now.page.now.file.now
+        «module».now.page.now.lines «module».now.question.now.name.now (map arc_value «module».now.question.now.imports.now) found.now.fault.now text.items) }
 {
-    if !is_wanted {
-        return Ok(Vec::new(alloc));
+    match wanted {
+        Wanted::Nothing => Ok(Vec::new(alloc)),
+        Wanted::InDefinition => Ok(joint_notes(alloc, module, found, None, effort)?),
+        Wanted::InPart(part) => Ok(joint_notes(alloc, module, found, Some(part), effort)?),
     }
-    Ok(joint_notes(alloc, module, found, effort)?)
+}
+
+/// Returns a note, or no text if there are notes in place of it.
+fn kept(alloc: Global, note: Vec<u8>, others: &[u8]) -> Vec<u8>
+    ensures { ((result.items ≡ note.items) × (others.now ≡ [])) ⊎ (result.items ≡ []) }
+{
+    if others.is_empty() {
+        return note;
+    }
+    Vec::new(alloc)
 }
 
 // Why: docs/DECISIONS.md, "The order of notes", "Two slips".
@@ -432,14 +474,10 @@ fn notes_of(
 {
     let note = note_for(alloc, module, found, effort)?;
     let signed = signature_note(alloc, module, found, note.is_first, effort)?;
-    let is_wanted = are_two_wanted(&note, &signed);
-    let both = notes_of_two(alloc, module, found, is_wanted, effort)?;
-    let mut text = in_order(
-        alloc,
-        note.text.as_slice(),
-        signed.text.as_slice(),
-        signed.leads,
-    )?;
+    let wanted = wanted_beside(&note, &signed);
+    let both = notes_of_two(alloc, module, found, wanted, effort)?;
+    let note = kept(alloc, note.text, both.as_slice());
+    let mut text = in_order(alloc, note.as_slice(), signed.text.as_slice(), signed.leads)?;
     text.extend_from_slice(both.as_slice())?;
     Ok(text)
 }

@@ -18,6 +18,7 @@ fn joint_for(
     alloc: Global,
     module: &FaultyModule<'_, '_>,
     found: &TypeFault<'_>,
+    part: Option<SourceRange>,
     effort: &mut Effort,
 ) -> Option<Joint>
     ensures untyped { IfSome result (λ joint. found.now.fault.now.kind ≡ Untyped) }
@@ -29,7 +30,7 @@ fn joint_for(
     if found.fault.kind != Kind::Untyped {
         return None;
     }
-    match joint_of(alloc, module.question, found, effort) {
+    match joint_of(alloc, module.question, found, part, effort) {
         Ok(joint) => joint,
         Err(AllocError) => None,
     }
@@ -62,13 +63,14 @@ pub(crate) fn joint_notes(
     alloc: Global,
     module: &FaultyModule<'_, '_>,
     found: &TypeFault<'_>,
+    part: Option<SourceRange>,
     effort: &mut Effort,
 ) -> Result<Vec<u8>, AllocError>
     requires { «module».now.question.now.source.now ≡ «module».now.page.now.lines }
     ensures { IfOk result (λ text. (text.items ≡ []) ⊎ AreJointNotes «module».now.paint «module».now.page.now.file.now «module».now.page.now.lines
         «module».now.question.now.name.now (map arc_value «module».now.question.now.imports.now) found.now.fault.now text.items) }
 {
-    let Some(joint) = joint_for(alloc, module, found, effort) else {
+    let Some(joint) = joint_for(alloc, module, found, part, effort) else {
         return Ok(Vec::new(alloc));
     };
     let definition = found.fault.name.as_str();

@@ -6,7 +6,8 @@ ghost use Rattle.hm_messages_joint.specs.Joints.{AreApart, HasTypeWithBoth, Need
 ghost use Rattle.hm_messages_trials.specs.Limits.{IsUsedUp};
 
 use crate::judging::is_untyped_without;
-use crate::least::least_set;
+use crate::least::{Sought, least_set, moved};
+use hm_lex::Token;
 use hm_messages_changes::{Cut, SourceRange, cut_of, part_of, with_hole};
 use hm_messages_outline::{Run, binding_at, names_in, signature_of};
 use hm_messages_trials::{
@@ -27,20 +28,12 @@ pub struct Joint {
     pub second: SourceRange,
 }
 
-/// Returns the run, as if its token with the first number had the second one.
-fn moved(run: Run, from: usize, to: usize) -> Run {
-    Run {
-        start: run.start.saturating_sub(from).saturating_add(to),
-        end: run.end.saturating_sub(from).saturating_add(to),
-    }
-}
-
 /// Returns two parts of a definition by a search in this smaller source, as tokens of the whole one.
 fn runs_in_cut(
     alloc: Global,
     searched: &Searched<'_, '_>,
     cut: &Cut,
-    definition: Run,
+    sought: Sought,
     effort: &mut Effort,
 ) -> Result<Option<(Run, Run)>, AllocError> {
     let source = cut.text.as_slice();
@@ -60,15 +53,16 @@ fn runs_in_cut(
         return Ok(None);
     }
     let start = token_at(lexed.tokens, cut.definition);
-    let run = moved(definition, definition.start, start);
-    let Some(set) = least_set(alloc, &smaller, run, effort)? else {
+    let whole = sought.definition.start;
+    let sought = sought.moved(whole, start);
+    let Some(set) = least_set(alloc, &smaller, sought, effort)? else {
         return Ok(None);
     };
     if set.len() != 2 {
         return Ok(None);
     }
-    let first = moved(set[0].run, start, definition.start);
-    let second = moved(set[1].run, start, definition.start);
+    let first = moved(set[0].run, start, whole);
+    let second = moved(set[1].run, start, whole);
     Ok(Some((first, second)))
 }
 
@@ -151,8 +145,17 @@ fn confirmed(
     Ok(Some(joint))
 }
 
+/// Returns the tokens of a part.
+fn run_of(tokens: &[Token], part: Option<SourceRange>) -> Option<Run> {
+    let part = part?;
+    Some(Run {
+        start: token_at(tokens, part.from),
+        end: token_at(tokens, part.to),
+    })
+}
+
 // Why: docs/DECISIONS.md, "Two slips".
-/// Returns two parts of the definition of a type fault. With holes in place of both it has a type, and with a hole in place of one of them it has none.
+/// Returns two parts of the definition of a type fault, inside a part that is to blame by itself, if there is one. With holes in place of both it has a type, and with a hole in place of one of them it has none.
 /// `effort` is less by what the search costs. It has the trials that `mend_of` left for this fault.
 ///
 /// Returns `None` if nothing is found or the effort doesn't pay for a trial, and for a definition that mentions more than 256 names.
@@ -164,6 +167,7 @@ pub fn joint_of(
     alloc: Global,
     question: &Question<'_>,
     found: &TypeFault<'_>,
+    part: Option<SourceRange>,
     effort: &mut Effort,
 ) -> Result<Option<Joint>, AllocError>
     ensures apart { IfOk result (λ joint. IfSome joint (λ joint. AreApart question.now.source.now joint.first joint.second)) }
@@ -197,7 +201,11 @@ pub fn joint_of(
     let Some(cut) = cut_of(alloc, &lexed, binding)? else {
         return Ok(None);
     };
-    let Some((first, second)) = runs_in_cut(alloc, &searched, &cut, binding, effort)? else {
+    let sought = Sought {
+        definition: binding,
+        part: run_of(lexed.tokens, part),
+    };
+    let Some((first, second)) = runs_in_cut(alloc, &searched, &cut, sought, effort)? else {
         return Ok(None);
     };
     if !effort.pays(searched.cost.saturating_mul(TRIALS_OF_WHOLE)) {

@@ -15,6 +15,35 @@ const MOST_ROUNDS: usize = 3;
 /// The most steps of a search, each of which costs a trial.
 const MOST_STEPS: usize = 200;
 
+/// The tokens in which a set is searched.
+#[derive(Clone, Copy)]
+pub(crate) struct Sought {
+    pub definition: Run,
+    /// A part of the definition that is a set by itself. If there is one, its insides are searched.
+    pub part: Option<Run>,
+}
+
+impl Sought {
+    /// Returns the same, as if the token with the first number had the second one.
+    pub fn moved(self, from: usize, to: usize) -> Sought {
+        Sought {
+            definition: moved(self.definition, from, to),
+            part: match self.part {
+                Some(run) => Some(moved(run, from, to)),
+                None => None,
+            },
+        }
+    }
+}
+
+/// Returns the run, as if its token with the first number had the second one.
+pub(crate) fn moved(run: Run, from: usize, to: usize) -> Run {
+    Run {
+        start: run.start.saturating_sub(from).saturating_add(to),
+        end: run.end.saturating_sub(from).saturating_add(to),
+    }
+}
+
 /// Returns whether the definition has a type with holes in place of all these parts. Returns `false` if no trial is left.
 fn is_typed_with(
     alloc: Global,
@@ -194,9 +223,8 @@ fn whole_of(set: &[TermPart], part: TermPart) -> TermPart {
     }
 }
 
-/// Returns a least set of expressions of a definition, in order: it has a type with holes in place of all of them. If the trials run out, the set may not be
-/// least.
-pub(crate) fn least_set(
+/// Returns a least set of right sides of a definition: it has a type with holes in place of all of them.
+fn least_sides(
     alloc: Global,
     searched: &Searched<'_, '_>,
     definition: Run,
@@ -204,10 +232,33 @@ pub(crate) fn least_set(
 ) -> Result<Option<Vec<TermPart>>, AllocError> {
     let sides = right_sides(alloc, searched.lexed.outline, definition)?;
     let sides = expressions(alloc, sides.as_slice())?;
-    if !is_typed_with(alloc, searched, &[], sides.as_slice(), effort)? {
-        return Ok(None);
-    }
-    let Some(set) = with_needed(alloc, searched, &[], sides.as_slice(), effort)? else {
+    set_inside(alloc, searched, &[], sides.as_slice(), effort)
+}
+
+/// Returns the set of one expression.
+fn set_of(alloc: Global, run: Run) -> Result<Vec<TermPart>, AllocError> {
+    let mut set = Vec::new(alloc);
+    set.push(TermPart {
+        run,
+        role: Role::Body,
+        around: run,
+    })?;
+    Ok(set)
+}
+
+/// Returns a least set of expressions of a definition, or of those inside an expression that is one by itself, in order: it has a type with holes in place of all
+/// of them. If the trials run out, the set may not be least.
+pub(crate) fn least_set(
+    alloc: Global,
+    searched: &Searched<'_, '_>,
+    sought: Sought,
+    effort: &mut Effort,
+) -> Result<Option<Vec<TermPart>>, AllocError> {
+    let found = match sought.part {
+        Some(run) => Some(set_of(alloc, run)?),
+        None => least_sides(alloc, searched, sought.definition, effort)?,
+    };
+    let Some(set) = found else {
         return Ok(None);
     };
     let set = narrowest(alloc, searched, set, effort)?;
