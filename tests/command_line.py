@@ -422,15 +422,15 @@ def refused_check(folder):
 
 
 def many_messages(folder):
-    """A message of four lines for each of 10,000 faults, of modules that are skipped in a chain too."""
+    """A message of four lines for each of 10,000 faults, and notes of the first of the modules that are skipped in a chain."""
     text = "module A where { " + " ; ".join(f"f{n} = y" for n in range(10_000)) + " }"
     text += "".join(f"\nmodule M{n} where {{ import {f'M{n - 1}' if n else 'A'} }}" for n in range(1000))
     ran = run(folder, ["--explain"], text)
     report, messages = ran.stdout.decode().splitlines(), ran.stderr.decode().splitlines()
     ran.stdout = f"{len(report)} lines, {report[-1]}".encode()
     errors, notes = (sum(word in line for line in messages) for word in (": error: 'y' isn't in scope [unbound]", ": note: skipped, since "))
-    ran.stderr = f"{errors} errors and {notes} notes in {len(messages)} lines, {messages[-1]}".encode()
-    wanted = "12002 lines, 1001 modules: 0 good, 1 faulty, 1000 skipped", "10000 errors and 1000 notes in 43001 lines, errors: 10000, skipped modules: 1000"
+    ran.stderr = f"{errors} errors and {notes} notes in {len(messages)} lines, {', '.join(messages[-2:])}".encode()
+    wanted = "12002 lines, 1001 modules: 0 good, 1 faulty, 1000 skipped", "10000 errors and 8 notes in 40026 lines, note: further skipped modules: 992; the report lists them, errors: 10000, skipped modules: 1000"
     yield "ten thousand faults and a thousand skipped modules", ran, (1, *wanted)
 
 

@@ -85,6 +85,11 @@ def vim(room, program):
     return [characters(row) for row in shown(words, room, PROGRAM=program)]
 
 
+def first_in_vim(room, program):
+    """The entry that Vim jumps to is the error, and not the note of a module that is skipped for it."""
+    return vim(room, program)[:1]
+
+
 def vim_without_program(room, _):
     """A run without a result leaves the list alone, and says so."""
     (room / "run.vim").write_text(
@@ -108,6 +113,7 @@ def emacs(room, program):
 
 CASES = (
     ("vim", "Vim's list", vim, WANTED),
+    ("vim", "Vim's first entry", first_in_vim, WANTED[1:]),
     ("vim", "Vim without the program", vim_without_program, [["", 0, 0, 0, "kept and said"]]),
     ("nvim", "Neovim's diagnostics", neovim, WANTED),
     ("emacs", "Emacs's diagnostics", emacs, WANTED),

@@ -4,6 +4,7 @@ and with the messages of `--explain`.
 
 `json_messages.py [PROGRAM]`: without a word, the script `hmc` beside this folder is run. Ends with 1 where a line differs.
 """
+import collections
 import json
 import os
 import re
@@ -17,6 +18,9 @@ TOP = os.path.dirname(os.path.dirname(os.path.abspath(__file__)))
 PROGRAM = os.path.abspath(sys.argv[1]) if len(sys.argv) > 1 else os.path.join(TOP, "hmc")
 FILE = "M.hs"
 HEADING = re.compile(r"^(?P<file>[^:\n]*):(?P<line>\d+):(?P<column>\d+): (?P<level>error|note): (?P<text>.*?)(?: \[(?P<kind>[a-z-]+)\])?$", re.MULTILINE)
+FURTHER = re.compile(r"^note: further skipped modules: (\d+); the report lists them$", re.MULTILINE)
+# How many skipped modules, and how many imports of each, have notes for a reader.
+MOST_NOTED = 8
 # More type faults than a run has trials for.
 LIMIT = "module M where {\n" + " ;\n".join(f"f{n} = not 'c'" for n in range(2000)) + "\n}\n"
 TYPES = {"object": dict, "array": list, "string": str, "integer": int, "boolean": bool, "null": type(None)}
@@ -72,6 +76,16 @@ def module_at(source, position):
     return starts[-1].group(1).decode() if starts else None
 
 
+def for_readers(values):
+    """The messages without the notes that only programs get: of the first skipped modules each the first notes."""
+    notes = collections.defaultdict(list)
+    for value in values:
+        if value["kind"] == "skipped":
+            notes[value["module"]].append(value)
+    shown = [value for its in list(notes.values())[:MOST_NOTED] for value in its[:MOST_NOTED]]
+    return [value for value in values if value["kind"] != "skipped"] + shown
+
+
 def row_fault(source, status, run, schema):
     """What is wrong with a run on a row's source, or nothing."""
     objects, plain = run("--message-format", "json"), run("--explain")
@@ -87,6 +101,14 @@ def row_fault(source, status, run, schema):
     if not values or values[-1]["level"] != "end" or any(value["level"] == "end" for value in values[:-1]):
         return "no end"
     last = values.pop()
+    if len({value["module"] for value in values if value["kind"] == "skipped"}) != last["skipped"]:
+        return "notes of other modules than those that are skipped"
+    further = max(0, last["skipped"] - MOST_NOTED)
+    if FURTHER.findall(plain.stderr.decode()) != ([str(further)] if further else []):
+        return f"another number than {further} of further skipped modules"
+    if sorted(values, key=lambda value: value["kind"] == "skipped") != values:
+        return "a note of a skipped module before another message"
+    values = for_readers(values)
     told = list(HEADING.finditer(plain.stderr.decode()))
     if [value["level"] for value in values] != [each["level"] for each in told]:
         return "other levels than those of the messages"

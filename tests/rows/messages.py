@@ -947,6 +947,59 @@ KINDS = [
         "                        ^\n"
         "errors: 2, skipped modules: 1\n",
     ),
+    # the notes of A come after the error of Z, for which it is skipped
+    (
+        "module A where { import Z }\n"
+        "module Z where { z = x }",
+        1,
+        "M.hs:2:22: error: 'x' isn't in scope [unbound]\n"
+        "No declaration, import or parameter gives this name a meaning here.\n"
+        "module Z where { z = x }\n"
+        "                     ^\n"
+        "M.hs:1:25: note: skipped, since 'Z' has errors\n"
+        "module A where { import Z }\n"
+        "                        ^\n"
+        "errors: 1, skipped modules: 1\n",
+    ),
+    # of eight skipped modules all have notes, and of nine the first eight
+    *(
+        (
+            "module B where { b = x }\n" + "".join(f"module C{n} where {{ import B }}\n" for n in range(count)),
+            1,
+            "M.hs:1:22: error: 'x' isn't in scope [unbound]\n"
+            "No declaration, import or parameter gives this name a meaning here.\n"
+            "module B where { b = x }\n"
+            "                     ^\n"
+            + "".join(
+                f"M.hs:{n + 2}:26: note: skipped, since 'B' has errors\n"
+                f"module C{n} where {{ import B }}\n"
+                "                         ^\n"
+                for n in range(8)
+            )
+            + further
+            + f"errors: 1, skipped modules: {count}\n",
+        )
+        for count, further in ((8, ""), (9, "note: further skipped modules: 1; the report lists them\n"))
+    ),
+    # a module that is skipped for nine imports has notes at the first eight
+    (
+        "module D where {\n" + "".join(f"  import E{n} ;\n" for n in range(9)) + "}\n" + "".join(f"module E{n} where {{ e = x }}\n" for n in range(9)),
+        1,
+        "".join(
+            f"M.hs:{n + 12}:23: error: 'x' isn't in scope [unbound]\n"
+            "No declaration, import or parameter gives this name a meaning here.\n"
+            f"module E{n} where {{ e = x }}\n"
+            "                      ^\n"
+            for n in range(9)
+        )
+        + "".join(
+            f"M.hs:{n + 2}:10: note: skipped, since 'E{n}' has errors\n"
+            f"  import E{n} ;\n"
+            "         ^^\n"
+            for n in range(8)
+        )
+        + "errors: 9, skipped modules: 1\n",
+    ),
     # g has no type that differs from what is expected there: in its group it has another one than beside a hole for f
     (
         "module A where { f x = ['c', x, g 1] ; g y = f y }",

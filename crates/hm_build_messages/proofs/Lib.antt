@@ -7,3 +7,4 @@ pub mod Jointly
 pub mod Starting
 pub mod Told
 pub mod Turns
+pub mod WorkedOrder

@@ -1,26 +1,30 @@
 -- Messages of modules, in order.
-use Rattle.std.proofs.Common.{◌≡◌, Bool, false, ℕ, ◌+◌, ◌-◌, ◌^◌, ◌<◌, List, ◌++◌, length, map, take, get_or, min, sym, ap, subst, ◌∙◌, arith}
+use Rattle.std.proofs.Common.{◌≡◌, Bool, false, true, ℕ, ◌+◌, ◌-◌, ◌^◌, ◌<◌, List, [], ◌∷◌, ◌++◌, cond, filter, length, map, take, get_or, min, refl, sym, ap, ap₂, subst, ◌∙◌, arith}
 use Rattle.std.specs.List.Sorted.{IsPermutation, IsSortedBy}
-use Rattle.std.proofs.lemmas.List.{map_more, length-map, get_or-map}
-use Rattle.std.proofs.lemmas.List.Elements.{Contains-get_or}
+use Rattle.std.proofs.lemmas.List.{map_more, length-map, get_or-map, take-map}
+use Rattle.std.proofs.lemmas.List.Elements.{Contains-get_or, filter_more}
 use Rattle.std.proofs.lemmas.List.Sorted.{Contains-permutation, IsPermutation-map, IsPermutation-sym}
 use Rattle.std.specs.Arc.{arc_value}
 use Rattle.std.specs.declared.alloc.Global.{Global}
 use Rattle.std.specs.declared.sync.Arc.{Arc}
-use Rattle.hm_messages.specs.Headings.{count_text}
+use Rattle.hm_messages.specs.Headings.{count_text, further_text}
 use Rattle.hm_messages.specs.Messages.{AreEach}
 use Rattle.hm_messages.specs.declared.heading.Paint.{Paint}
-use Rattle.hm_messages.proofs.InOrder.{each_more}
+use Rattle.hm_messages.proofs.InOrder.{each_mapped, each_more}
 use Rattle.hm_run_sources.specs.Names.{name_below}
 use Rattle.hm_run_sources.proofs.Ordering.{sorted_map}
 use Rattle.hm_store.specs.Builds.{Build, set_of}
 use Rattle.hm_store.specs.Settlements.{settlement}
 use Rattle.hm_syntax.specs.declared.ast.Module.{Module}
 use Rattle.hm_verdicts.specs.Reports.{is_skipped, tally}
+use Rattle.hm_verdicts.specs.Sets.{ModuleSet}
 use Rattle.hm_verdicts.specs.Verdicts.{Status}
-use Rattle.hm_build_messages.specs.Explanations.{AreInTurn, AreNumbered, IsModuleStated, IsTold, Numbered, fault_count, named_of}
-use Rattle.hm_build_reports.specs.Settling.{module_set}
+use Rattle.hm_build_messages.specs.Explanations.{AreErrorsStated, AreInTurn, AreNumbered, AreSkipsStated, IsSkippedStated, IsTold, Numbered, fault_count, named_of, noted_of, skipped_among}
+use Rattle.hm_build_reports.specs.Settling.{module_set, status_of, statuses_of}
+use Rattle.hm_build_reports.specs.declared.statuses.Settled.{Settled}
+use Rattle.hm_build_reports.specs.declared.statuses.Settled.TheVariants.{Skipped}
 use Rattle.hm_build_messages.specs.declared.explaining.NumberedName.{NumberedName}
+use Rattle.hm_build_messages.proofs.Blamed.{same_read}
 use Rattle.hm_build_messages.proofs.Turns.{viewed_turn}
 use Rattle.hm_build_reports.proofs.Reporting.{same_set}
 
@@ -47,12 +51,52 @@ number_here modules rows sorted items numbered same is i d within =
     subst (λ n. (get_or items i d).number < n) (length-map modules arc_value)
     (subst (λ l. (get_or l i d).number < length (map arc_value modules)) (sym is) (number_inside (map arc_value modules) rows sorted numbered same i d (subst (λ l. i < length l) is within)))
 
+-- one more row, if its module is skipped
+pub skipped_more : (settled : List Settled) (rows : List NumberedName) (i : ℕ) (d : NumberedName) (s : Settled) (old new : List NumberedName) → i < length rows → (get_or rows i d).number < length settled
+    → s ≡ get_or settled (get_or rows i d).number s → old ≡ filter (λ r. is_skipped (statuses_of settled r.number)) (take i rows) → new ≡ old ++ cond (is_skipped (status_of s)) (get_or rows i d ∷ []) []
+    → new ≡ filter (λ r. is_skipped (statuses_of settled r.number)) (take (i + 1) rows)
+skipped_more settled rows i d s old new within inside is before after =
+    let row : NumberedName = get_or rows i d in
+    let same : s ≡ get_or settled row.number Skipped = is ∙ same_read settled row.number s Skipped inside in
+    after ∙ (ap₂ (λ (l : List NumberedName) (w : Settled). l ++ cond (is_skipped (status_of w)) (row ∷ []) []) before same ∙ sym (filter_more (λ r. is_skipped (statuses_of settled r.number)) rows i d within))
+
+onto : (b : Bool) (r : NumberedName) (us : List NumberedName) (vs : List Numbered) → vs ≡ map named_of us → cond b (named_of r ∷ vs) vs ≡ map named_of (cond b (r ∷ us) us)
+onto true r us vs e = ap (λ l. named_of r ∷ l) e
+onto false r us vs e = e
+
+-- the skipped modules are the same, seen through the view
+pub skipped_through : (status : ℕ → Status) (rows : List NumberedName) → skipped_among status (map named_of rows) ≡ map named_of (filter (λ r. is_skipped (status r.number)) rows)
+skipped_through status [] = refl
+skipped_through status (r ∷ rs) = onto (is_skipped (status r.number)) r (filter (λ r. is_skipped (status r.number)) rs) (skipped_among status (map named_of rs)) (skipped_through status rs)
+
+-- the first few, seen through a view
+pub first_viewed : {X Y : Type 0} (view : X → Y) (paint : Paint) (xs first : List X) (shown : ℕ) → first ≡ take shown xs → shown ≡ noted_of paint (length xs)
+    → map view first ≡ take (noted_of paint (length (map view xs))) (map view xs)
+first_viewed view paint xs first shown is many =
+    ap (map view) (is ∙ ap (λ n. take n xs) (many ∙ ap (noted_of paint) (sym (length-map xs view)))) ∙ sym (take-map view (noted_of paint (length (map view xs))) xs)
+
+-- the notes of the first few skipped modules, and how many others there are
+pub skips_stated : (paint : Paint) (files texts : List (List ℕ)) (p : ModuleSet) (status : ℕ → Status) (rows kept first : List NumberedName) (shown : ℕ) (notes further text : List ℕ)
+    → kept ≡ filter (λ r. is_skipped (status r.number)) rows → first ≡ take shown kept → shown ≡ noted_of paint (length kept)
+    → AreEach (λ r m. IsSkippedStated paint files texts p status r.number m) first notes → further ≡ further_text paint (length kept - shown) → text ≡ notes ++ further
+    → AreSkipsStated paint files texts p status (skipped_among status (map named_of rows)) text
+skips_stated paint files texts p status rows kept first shown notes further text all some many each other whole =
+    let seen : skipped_among status (map named_of rows) ≡ map named_of kept = skipped_through status rows ∙ ap (map named_of) (sym all) in
+    let long : length kept ≡ length (map named_of kept) = sym (length-map kept named_of) in
+    let tells = λ (r : Numbered) (m : List ℕ). IsSkippedStated paint files texts p status r.number m in
+    subst (λ l. AreSkipsStated paint files texts p status l text) (sym seen) (record {
+      notes = notes;
+      noted = subst (λ l. AreEach tells l notes) (first_viewed named_of paint kept first shown some many) (each_mapped named_of tells first notes each);
+      whole = whole ∙ ap (λ l. notes ++ l) (other ∙ ap₂ (λ (m n : ℕ). further_text paint (m - n)) long (many ∙ ap (noted_of paint) long));
+    })
+
 -- what is told of modules is told of the set that they are
-pub stated_set : (paint : Paint) (files texts : List (List ℕ)) (modules : List (Arc Module Global)) (plan : List (List ℕ)) (status : ℕ → Status) (rows sorted : List NumberedName) (count : ℕ) (limited : Bool) (messages text : List ℕ)
+pub stated_set : (paint : Paint) (files texts : List (List ℕ)) (modules : List (Arc Module Global)) (plan : List (List ℕ)) (status : ℕ → Status) (rows sorted : List NumberedName) (count : ℕ) (limited : Bool) (errors notes text : List ℕ)
     → AreNumbered (map arc_value modules) (map named_of rows) → IsPermutation rows sorted → IsSortedBy (λ x y. name_below x.name.now y.name.now) sorted
-    → AreInTurn (λ r before after m. IsModuleStated paint files texts (module_set modules plan) status r.number before after m) sorted false limited messages → count ≡ length modules
-    → text ≡ messages ++ count_text paint (min (fault_count status count) (2 ^ 64 - 1)) (tally is_skipped status count) → IsTold paint files texts (module_set modules plan) status text
-stated_set paint files texts modules plan status rows sorted count limited messages text numbered same ordered told long whole =
+    → AreInTurn (λ r before after m. AreErrorsStated paint files texts (module_set modules plan) status r.number before after m) sorted false limited errors
+    → AreSkipsStated paint files texts (module_set modules plan) status (skipped_among status (map named_of sorted)) notes → count ≡ length modules
+    → text ≡ errors ++ notes ++ count_text paint (min (fault_count status count) (2 ^ 64 - 1)) (tally is_skipped status count) → IsTold paint files texts (module_set modules plan) status text
+stated_set paint files texts modules plan status rows sorted count limited errors notes text numbered same ordered told noted long whole =
     let size : count ≡ length (map arc_value modules) = long ∙ sym (length-map modules arc_value) in
     record {
       rows = map named_of rows;
@@ -60,10 +104,12 @@ stated_set paint files texts modules plan status rows sorted count limited messa
       order = map named_of sorted;
       same = IsPermutation-map named_of rows sorted same;
       ordered = sorted_map named_of (λ x y. name_below x.name y.name) sorted ordered;
-      messages = messages;
+      errors = errors;
       limited = limited;
-      told = viewed_turn named_of (λ r before after m. IsModuleStated paint files texts (module_set modules plan) status r.number before after m) sorted false limited messages told;
-      whole = whole ∙ ap (λ n. messages ++ count_text paint (min (fault_count status n) (2 ^ 64 - 1)) (tally is_skipped status n)) size;
+      told = viewed_turn named_of (λ r before after m. AreErrorsStated paint files texts (module_set modules plan) status r.number before after m) sorted false limited errors told;
+      notes = notes;
+      noted = noted;
+      whole = whole ∙ ap (λ n. errors ++ notes ++ count_text paint (min (fault_count status n) (2 ^ 64 - 1)) (tally is_skipped status n)) size;
     }
 
 -- and of the build that has these modules

@@ -1,5 +1,5 @@
--- The messages of a build: what is told of each module, in the order of the report.
-use Rattle.std.specs.Prelude.{◌≡◌, ◌⊎◌, Bool, false, true, ℕ, zero, suc, ◌+◌, ◌-◌, ◌^◌, ◌<◌, All, Contains, List, [], ◌∷◌, ◌++◌, cond, length, map, min, slice_index_or}
+-- The messages of a build: what is told of the faulty modules, in the order of the report, and behind it what is told of the skipped ones.
+use Rattle.std.specs.Prelude.{◌≡◌, ◌⊎◌, Bool, false, true, ℕ, zero, suc, ◌+◌, ◌-◌, ◌^◌, ◌<◌, All, Contains, List, [], ◌∷◌, ◌++◌, cond, filter, length, map, min, slice_index_or, take}
 use Rattle.std.specs.List.Sorted.{IsPermutation, IsSortedBy}
 use Rattle.hm_messages_details.specs.Details.{IsKnown, Known, nothing}
 use Rattle.hm_lex.specs.declared.token.Place.{Place}
@@ -15,11 +15,12 @@ use Rattle.hm_verdicts.specs.Sets.{ModuleSet, imports_of, module_at, no_module}
 use Rattle.hm_verdicts.specs.Verdicts.{ArePublished, Status, Published, Failed, Skipped}
 use Rattle.hm_messages_excerpts.specs.Columns.{AreColumnsAt}
 use Rattle.hm_messages_excerpts.specs.declared.columns.Columns.{Columns}
-use Rattle.hm_messages.specs.Headings.{count_text}
+use Rattle.hm_messages.specs.Headings.{count_text, further_text}
 use Rattle.hm_messages.specs.Messages.{AreEach, IsFaultMessage, IsMessage, IsMessageWith, reader_place}
 use Rattle.hm_messages_json.specs.Edits.{Changed}
 use Rattle.hm_messages.specs.Subjects.{Subject, faulty, hidden, limit, mistyped, replaceable, skipped, unsigned, wrapped}
 use Rattle.hm_messages.specs.declared.heading.Paint.{Paint}
+use Rattle.hm_messages.specs.declared.heading.Paint.TheVariants.{Plain, Coloured, Json}
 use Rattle.hm_messages.specs.declared.topic.Way.{Way}
 use Rattle.hm_messages.specs.declared.topic.Way.TheVariants as way
 use Rattle.hm_messages_edits.specs.Edits.{HasChanges}
@@ -246,27 +247,40 @@ IsBlamed p status i b = IsBlamedBy p.modules status (imports_of p i) (module_at 
 abbrev pub IsBlameMessage : Paint → List ℕ → List ℕ → Blamed → List ℕ → Type 0
 IsBlameMessage paint file source b text = IsMessage paint file source b.place b.subject text
 
--- a message for each name that the report blames, in order, at an import of the module that has it
+-- how many notes or modules a reader is shown at most
+abbrev pub most_noted : ℕ
+most_noted = 8
+
+-- how many of so many are shown: as JSON all
+abbrev pub noted_of : Paint → ℕ → ℕ
+noted_of Plain n = min n most_noted
+noted_of Coloured n = min n most_noted
+noted_of Json n = n
+
+-- a message for each name that the report blames, in order, at an import of the module that has it. A reader is shown the first few
 pub record AreBlamesStated (paint : Paint) (files texts : List (List ℕ)) (source : ℕ) (p : ModuleSet) (status : ℕ → Status) (i : ℕ) (text : List ℕ) : Type 0 where
   pub blames : List Blamed
   pub blamed : AreBlamed p status i (map (λ b. b.name) blames)
   pub right : All (IsBlamed p status i) blames
-  pub told : AreEach (IsBlameMessage paint (slice_index_or files source []) (slice_index_or texts source [])) blames text
+  pub told : AreEach (IsBlameMessage paint (slice_index_or files source []) (slice_index_or texts source [])) (take (noted_of paint (length blames)) blames) text
 
 abbrev pub blamed_of : Blame → Blamed
 blamed_of b = record { name = b.name.now; place = b.place; subject = cond b.is_faulty (faulty b.name.now) (skipped b.name.now) }
 
--- nothing is told of a good module; of another one a message for each of its lines in the report, from the source that spells it. The truth values say
+-- what is told of a faulty module: a message for each of its faults, from the source that spells it. Nothing is told of another module. The truth values say
 -- whether the limit was told before the module, and whether it was told behind it
 abbrev pub IsStatedAs : Paint → List (List ℕ) → List (List ℕ) → ModuleSet → (ℕ → Status) → ℕ → Bool → Bool → List ℕ → Status → Type 0
 IsStatedAs paint files texts p status i before after text (Published f) = (after ≡ before) × (text ≡ [])
 IsStatedAs paint files texts p status i before after text (Failed found) =
     (source : ℕ) × IsSpelledBy texts i source × IsFaultyStated paint files texts source p status i found before after text
-IsStatedAs paint files texts p status i before after text Skipped =
-    (after ≡ before) × (source : ℕ) × IsSpelledBy texts i source × AreBlamesStated paint files texts source p status i text
+IsStatedAs paint files texts p status i before after text Skipped = (after ≡ before) × (text ≡ [])
 
-abbrev pub IsModuleStated : Paint → List (List ℕ) → List (List ℕ) → ModuleSet → (ℕ → Status) → ℕ → Bool → Bool → List ℕ → Type 0
-IsModuleStated paint files texts p status i before after text = IsStatedAs paint files texts p status i before after text (status i)
+abbrev pub AreErrorsStated : Paint → List (List ℕ) → List (List ℕ) → ModuleSet → (ℕ → Status) → ℕ → Bool → Bool → List ℕ → Type 0
+AreErrorsStated paint files texts p status i before after text = IsStatedAs paint files texts p status i before after text (status i)
+
+-- what is told of a skipped module: a note for each of its lines in the report, from the source that spells it
+abbrev pub IsSkippedStated : Paint → List (List ℕ) → List (List ℕ) → ModuleSet → (ℕ → Status) → ℕ → List ℕ → Type 0
+IsSkippedStated paint files texts p status i text = (source : ℕ) × IsSpelledBy texts i source × AreBlamesStated paint files texts source p status i text
 
 -- a module's name and its number
 pub record Numbered : Type 0 where
@@ -285,6 +299,10 @@ pub record AreNumbered (modules : List Module) (rows : List Numbered) : Type 0 w
   pub many : length rows ≡ length modules
   pub each : (k : ℕ) (d : Numbered) → k < length rows → IsRowOf modules k (slice_index_or rows k d)
 
+-- the skipped modules among these, in order
+abbrev pub skipped_among : (ℕ → Status) → List Numbered → List Numbered
+skipped_among status rows = filter (λ r. is_skipped (status r.number)) rows
+
 -- how many faults the first n modules have
 abbrev pub faults_in : Status → ℕ
 faults_in (Published f) = 0
@@ -295,15 +313,23 @@ abbrev pub fault_count : (ℕ → Status) → ℕ → ℕ
 fault_count status zero = 0
 fault_count status (suc n) = fault_count status n + faults_in (status n)
 
--- what is told of a set: each module once, in the order of the names, as the report's blocks stand; and behind it the counts. `limited` says whether the
--- limit on trials was told, which it wasn't before the first module
+-- what is told of these skipped modules: a reader is shown the notes of the first few, and how many others there are
+pub record AreSkipsStated (paint : Paint) (files texts : List (List ℕ)) (p : ModuleSet) (status : ℕ → Status) (skips : List Numbered) (text : List ℕ) : Type 0 where
+  pub notes : List ℕ
+  pub noted : AreEach (λ r m. IsSkippedStated paint files texts p status r.number m) (take (noted_of paint (length skips)) skips) notes
+  pub whole : text ≡ notes ++ further_text paint (length skips - noted_of paint (length skips))
+
+-- what is told of a set: of each faulty module, in the order of the names, as the report's blocks stand; behind it of the skipped modules, in the same order;
+-- and behind it the counts. `limited` says whether the limit on trials was told, which it wasn't before the first module
 pub record IsTold (paint : Paint) (files texts : List (List ℕ)) (p : ModuleSet) (status : ℕ → Status) (text : List ℕ) : Type 0 where
   pub rows : List Numbered
   pub all : AreNumbered p.modules rows
   pub order : List Numbered
   pub same : IsPermutation rows order
   pub ordered : IsSortedBy (λ x y. name_below x.name y.name) order
-  pub messages : List ℕ
+  pub errors : List ℕ
   pub limited : Bool
-  pub told : AreInTurn (λ r before after m. IsModuleStated paint files texts p status r.number before after m) order false limited messages
-  pub whole : text ≡ messages ++ count_text paint (min (fault_count status (length p.modules)) (2 ^ 64 - 1)) (tally is_skipped status (length p.modules))
+  pub told : AreInTurn (λ r before after m. AreErrorsStated paint files texts p status r.number before after m) order false limited errors
+  pub notes : List ℕ
+  pub noted : AreSkipsStated paint files texts p status (skipped_among status order) notes
+  pub whole : text ≡ errors ++ notes ++ count_text paint (min (fault_count status (length p.modules)) (2 ^ 64 - 1)) (tally is_skipped status (length p.modules))

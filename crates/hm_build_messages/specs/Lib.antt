@@ -3,3 +3,4 @@ pub mod Explanations
 pub mod FurtherStated
 pub mod Jointly
 pub mod WorkedLimits
+pub mod WorkedOrder

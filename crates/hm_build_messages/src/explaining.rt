@@ -1,6 +1,6 @@
-//! The messages of a build. Each module, in the order of the report, has one for each of its faults, or one for each import because of which it
-//! is skipped.
-ghost use Rattle.std.specs.Prelude.{◌≡◌, ◌<◌, ◌++◌, ◌-◌, ◌^◌, All, Contains, IfOk, IfSome, OnOk, false, length, map, min, option_to_list, slice_index_or, true};
+//! The messages of a build. In the order of the report, each faulty module has one for each of its faults. After them, in the same order, each
+//! skipped module has a note for each import because of which it is skipped. A reader is shown the first few.
+ghost use Rattle.std.specs.Prelude.{Bool, ◌≡◌, ◌≤◌, ◌<◌, ◌∷◌, ◌++◌, ◌-◌, ◌^◌, [], All, Contains, IfOk, IfSome, OnOk, cond, false, filter, length, map, min, option_to_list, slice_index_or, true};
 ghost use Rattle.std.specs.Arc.{arc_value};
 ghost use Rattle.hm_messages.specs.Messages.{AreEach};
 ghost use Rattle.hm_messages.specs.Pages.{files_in, texts_in};
@@ -8,7 +8,7 @@ ghost use Rattle.hm_run_sources.specs.Origins.{HaveOrigins, IsSpelledBy};
 ghost use Rattle.hm_verdicts.specs.Sets.{IsLawfulSet, no_module};
 ghost use Rattle.hm_verdicts.specs.Reports.{is_skipped, tally};
 ghost use Rattle.hm_syntax.specs.declared.ast.Import.{Import as ImportTree};
-ghost use Rattle.hm_build_messages.specs.Explanations.{AreBlamesStated, AreNumbered, IsBlameMessage, IsBlamedBy, IsModuleStated, IsTold, IsStatedBy, blamed_of, fault_count, named_of};
+ghost use Rattle.hm_build_messages.specs.Explanations.{AreBlamesStated, AreErrorsStated, AreInTurn, AreNumbered, IsBlameMessage, IsBlamedBy, AreSkipsStated, IsSkippedStated, IsTold, IsStatedBy, blamed_of, fault_count, named_of, noted_of as noted_bytes, skipped_among};
 ghost use Rattle.hm_store.specs.Settlements.{settlement as build_settlement};
 ghost use Rattle.hm_build_reports.specs.ReportBlocks.{all_blamed, blamed};
 ghost use Rattle.hm_build_reports.specs.Settling.{module_set, status_of as settlement, statuses_of};
@@ -18,10 +18,25 @@ use crate::hidden::all_messages;
 use crate::view::{BuildView, Faulty};
 use hm_build_reports::Settled;
 use hm_lex::Place;
-use hm_messages::{Page, Pages, Topic, count_text, message};
+use hm_messages::{Page, Pages, Paint, Topic, count_text, further_text, message};
 use hm_syntax::{Import, Module};
 use std::alloc::{AllocError, Global};
 use std::sync::Arc;
+
+/// How many skipped modules, and how many imports of each, have notes for a reader.
+const MOST_NOTED: usize = 8;
+
+// Why: docs/DECISIONS.md, "Many skipped modules".
+/// Returns how many of so many are shown.
+fn noted_of(paint: Paint, count: usize) -> usize
+    ensures number { result ≡ noted_bytes paint count }
+    ensures within { result ≤ count }
+{
+    match paint {
+        Paint::Plain | Paint::Coloured => count.min(MOST_NOTED),
+        Paint::Json => count,
+    }
+}
 
 /// An import because of which a module is skipped.
 #[derive(Clone, Copy)]
@@ -204,11 +219,13 @@ fn skipped_messages(
     let mut blames = blames_of(alloc, told.modules, told.settled, row, imports)?;
     blames.sort_by_key(|blame| blame.name)?;
     let page = &told.pages.items[source];
-    Ok(blame_messages(alloc, told.pages, page, blames.as_slice())?)
+    let shown = noted_of(told.pages.paint, blames.len());
+    let first = &blames.as_slice()[..shown];
+    Ok(blame_messages(alloc, told.pages, page, first)?)
 }
 
-/// Returns the messages of one module.
-fn module_messages(
+/// Returns the messages of a module if it is faulty.
+fn errors_of(
     alloc: Global,
     told: &BuildView<'_, '_, '_>,
     number: usize,
@@ -219,7 +236,7 @@ fn module_messages(
     requires number { number < length told.now.modules.now }
     requires origins { HaveOrigins (texts_in told.now.pages.now.items.items) (length told.now.modules.now) told.now.origins.now }
     requires settled { statuses_of told.now.settled.now ≡ build_settlement told.now.store.now }
-    ensures { IfOk result (λ text. IsModuleStated told.now.pages.now.paint (files_in told.now.pages.now.items.items) (texts_in told.now.pages.now.items.items)
+    ensures { IfOk result (λ text. AreErrorsStated told.now.pages.now.paint (files_in told.now.pages.now.items.items) (texts_in told.now.pages.now.items.items)
         (module_set told.now.modules.now told.now.plan.now) (statuses_of told.now.settled.now) number allowance.old.is_limit_stated
         allowance.new.is_limit_stated text.items) }
 {
@@ -235,10 +252,7 @@ fn module_messages(
             };
             Ok(all_messages(alloc, told, faulty, allowance)?)
         }
-        Settled::Skipped => {
-            let source = source_of(told, number);
-            Ok(skipped_messages(alloc, told, number, source)?)
-        }
+        Settled::Skipped => Ok(Vec::new(alloc)),
     }
 }
 
@@ -277,7 +291,110 @@ fn errors_in(settled: &[Settled<'_>]) -> usize
     errors
 }
 
-/// Returns the messages of all modules, in the order of their names, and the counts.
+/// Appends the row of a module if it is skipped.
+fn add_skipped<'a>(
+    kept: &mut Vec<NumberedName<'a>>,
+    row: NumberedName<'a>,
+    settled: &Settled<'_>,
+) -> Result<(), AllocError>
+    ensures { OnOk result (kept.new.items ≡ kept.old.items ++ cond (is_skipped (settlement settled.now)) (row.entry ∷ []) []) }
+{
+    match settled {
+        Settled::Published(_) => Ok(()),
+        Settled::Failed(_) => Ok(()),
+        Settled::Skipped => Ok(kept.push(row)?),
+    }
+}
+
+/// Returns the rows of the skipped modules, in order.
+fn skipped_rows<'a>(
+    alloc: Global,
+    settled: &[Settled<'_>],
+    rows: &[NumberedName<'a>],
+) -> Result<Vec<NumberedName<'a>>, AllocError>
+    requires { All (λ r. r.number < length settled.now) rows.now }
+    ensures { IfOk result (λ kept. kept.items ≡ filter (λ r. is_skipped (statuses_of settled.now r.number)) rows.entry.now) }
+{
+    let mut kept = Vec::new(alloc);
+    for row in rows {
+        add_skipped(&mut kept, *row, &settled[row.number])?;
+    }
+    Ok(kept)
+}
+
+/// Returns the messages of the faulty modules among these, in order.
+fn error_messages(
+    alloc: Global,
+    told: &BuildView<'_, '_, '_>,
+    rows: &[NumberedName<'_>],
+) -> Result<Vec<u8>, AllocError>
+    requires lawful { IsLawfulSet (module_set told.now.modules.now told.now.plan.now) }
+    requires len { length told.now.settled.now ≡ length told.now.modules.now }
+    requires origins { HaveOrigins (texts_in told.now.pages.now.items.items) (length told.now.modules.now) told.now.origins.now }
+    requires settled { statuses_of told.now.settled.now ≡ build_settlement told.now.store.now }
+    requires rows { All (λ r. r.number < length told.now.modules.now) rows.now }
+    ensures { IfOk result (λ text. (limited : Bool) × AreInTurn (λ r before after m. AreErrorsStated told.now.pages.now.paint
+        (files_in told.now.pages.now.items.items) (texts_in told.now.pages.now.items.items) (module_set told.now.modules.now told.now.plan.now)
+        (statuses_of told.now.settled.now) r.number before after m) rows.now false limited text.items) }
+{
+    let mut allowance = Allowance::of_run();
+    let mut text = Vec::new(alloc);
+    for row in rows {
+        let messages = errors_of(alloc, told, row.number, &mut allowance)?;
+        text.extend_from_slice(messages.as_slice())?;
+    }
+    Ok(text)
+}
+
+/// Returns the notes of these skipped modules, in order.
+fn skipped_notes(
+    alloc: Global,
+    told: &BuildView<'_, '_, '_>,
+    rows: &[NumberedName<'_>],
+) -> Result<Vec<u8>, AllocError>
+    requires lawful { IsLawfulSet (module_set told.now.modules.now told.now.plan.now) }
+    requires len { length told.now.settled.now ≡ length told.now.modules.now }
+    requires origins { HaveOrigins (texts_in told.now.pages.now.items.items) (length told.now.modules.now) told.now.origins.now }
+    requires rows { All (λ r. r.number < length told.now.modules.now) rows.now }
+    ensures { IfOk result (λ text. AreEach (λ r m. IsSkippedStated told.now.pages.now.paint (files_in told.now.pages.now.items.items)
+        (texts_in told.now.pages.now.items.items) (module_set told.now.modules.now told.now.plan.now) (statuses_of told.now.settled.now) r.number m)
+        rows.now text.items) }
+{
+    let mut text = Vec::new(alloc);
+    for row in rows {
+        let source = source_of(told, row.number);
+        let notes = skipped_messages(alloc, told, row.number, source)?;
+        text.extend_from_slice(notes.as_slice())?;
+    }
+    Ok(text)
+}
+
+/// Returns the notes of the skipped modules among these, in order, and the line about those that have none.
+fn all_notes(
+    alloc: Global,
+    told: &BuildView<'_, '_, '_>,
+    rows: &[NumberedName<'_>],
+) -> Result<Vec<u8>, AllocError>
+    requires lawful { IsLawfulSet (module_set told.now.modules.now told.now.plan.now) }
+    requires len { length told.now.settled.now ≡ length told.now.modules.now }
+    requires origins { HaveOrigins (texts_in told.now.pages.now.items.items) (length told.now.modules.now) told.now.origins.now }
+    requires rows { All (λ r. r.number < length told.now.modules.now) rows.now }
+    ensures { IfOk result (λ text. AreSkipsStated told.now.pages.now.paint (files_in told.now.pages.now.items.items) (texts_in told.now.pages.now.items.items)
+        (module_set told.now.modules.now told.now.plan.now) (statuses_of told.now.settled.now)
+        (skipped_among (statuses_of told.now.settled.now) (map named_of rows.now)) text.items) }
+{
+    let paint = told.pages.paint;
+    let skips = skipped_rows(alloc, told.settled, rows)?;
+    let shown = noted_of(paint, skips.len());
+    let first = &skips.as_slice()[..shown];
+    let mut text = skipped_notes(alloc, told, first)?;
+    let further = further_text(alloc, paint, skips.len() - shown)?;
+    text.extend_from_slice(further.as_bytes())?;
+    Ok(text)
+}
+
+// Why: docs/DECISIONS.md, "Errors first".
+/// Returns the messages of all faulty modules, in the order of their names, then the notes of the skipped modules in the same order, and the counts.
 pub fn explanation(
     alloc: Global,
     told: &BuildView<'_, '_, '_>,
@@ -293,12 +410,10 @@ pub fn explanation(
 {
     let mut rows = numbered(alloc, told.modules)?;
     rows.sort_by_key(|row| row.name)?;
-    let mut allowance = Allowance::of_run();
-    let mut text = Vec::new(alloc);
-    for row in &rows {
-        let messages = module_messages(alloc, told, row.number, &mut allowance)?;
-        text.extend_from_slice(messages.as_slice())?;
-    }
+    let order = rows.as_slice();
+    let mut text = error_messages(alloc, told, order)?;
+    let notes = all_notes(alloc, told, order)?;
+    text.extend_from_slice(notes.as_slice())?;
     let counts = count_text(alloc, told.pages.paint, errors_in(told.settled), skipped)?;
     text.extend_from_slice(counts.as_bytes())?;
     Ok(text)

@@ -10,3 +10,4 @@ mod InModules
 pub mod WorkedFaults
 pub mod WorkedMessages
 pub mod WorkedPlaces
+pub mod WorkedTexts

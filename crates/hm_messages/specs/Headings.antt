@@ -227,6 +227,16 @@ heading paint p subject =
     codes ":" ++ decimal p.line ++ codes ":" ++ decimal p.column ++ codes ": " ++ begin paint (notice_of subject).level ++ end paint ++ codes ": "
     ++ shown (title subject) ++ tag (notice_of subject).level (notice_of subject).kind ++ codes "\n"
 
+abbrev pub further_counts : ℕ → List ℕ
+further_counts n = codes ": further skipped modules: " ++ decimal n ++ codes "; the report lists them\n"
+
+-- the line about the skipped modules that have no notes. There is none if all have notes
+abbrev pub some_further : Paint → ℕ → List ℕ
+some_further paint n = begin paint Note ++ end paint ++ further_counts n
+
+abbrev pub further_text : Paint → ℕ → List ℕ
+further_text paint n = if n == 0 then [] else some_further paint n
+
 abbrev pub some_counts : ℕ → ℕ → List ℕ
 some_counts errors skips = codes "errors: " ++ decimal errors ++ codes ", skipped modules: " ++ decimal skips ++ codes "\n"
 

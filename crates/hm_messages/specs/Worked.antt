@@ -1,6 +1,7 @@
--- Worked examples: messages that are left out, faults that aren't of these sources, the first faults of further sources, modules of one name, the module of a
+-- Worked examples: counts, messages that are left out, faults that aren't of these sources, the first faults of further sources, modules of one name, the module of a
 -- message, and the places of refusals.
-use Rattle.std.specs.Prelude.{◌≡◌, ℕ, List, [], ◌∷◌, Some, None, codes}
+use Rattle.std.specs.Prelude.{◌≡◌, ℕ, List, [], ◌∷◌, ◌++◌, Some, None, codes}
+use Rattle.std.specs.Fmt.{decimal}
 use Rattle.hm_lex.specs.Faults.{IsRefusal}
 use Rattle.hm_lex.specs.declared.token.Place.{Place}
 use Rattle.hm_lex.specs.declared.token.LexFault.TheVariants.{Lexeme}
@@ -10,12 +11,14 @@ use Rattle.hm_run_sources.specs.SourceModules.{HasModules}
 use Rattle.hm_run_sources.specs.declared.located.Located.{Located}
 use Rattle.hm_messages.specs.Foreign.{IsForeign}
 use Rattle.hm_messages.specs.FurtherFaults.{AreFirstFaults}
+use Rattle.hm_messages.specs.Headings.{further_text}
 use Rattle.hm_messages.specs.Messages.{IsMessage}
 use Rattle.hm_messages.specs.ModuleStarts.{IsModuleAround, module_start}
 use Rattle.hm_messages.specs.Refused.{IsNamedAt, IsRefusedAt, place_of}
 use Rattle.hm_messages.specs.Subjects.{Subject}
 use Rattle.hm_messages.specs.Twins.{IsTwinOf}
 use Rattle.hm_messages.specs.declared.heading.Paint.{Paint}
+use Rattle.hm_messages.specs.declared.heading.Paint.TheVariants.{Plain}
 
 -- an empty source has one place, and a message there isn't empty. A message at another place is left out
 pub record MessageRow : Type 0 where
@@ -32,6 +35,12 @@ pub record ForeignRow : Type 0 where
 pub record FurtherRow : Type 0 where
   pub third : (s t : List ℕ) (modules : List Module) (p : Place) → HasModules s modules → IsRefusal t (Lexeme p) → AreFirstFaults 2 (s ∷ t ∷ []) (lex 3 (Lexeme p) ∷ [])
   pub none_left : (p : Place) → ¬ (AreFirstFaults 2 [] (lex 2 (Lexeme p) ∷ []))
+
+-- a line about other skipped modules is there if there is one, and only then
+pub record FurtherCountRow : Type 0 where
+  pub some : further_text Plain 892 ≡ codes "note" ++ (codes ": further skipped modules: " ++ decimal 892 ++ codes "; the report lists them\n")
+  pub none : further_text Plain 0 ≡ []
+  pub not_none : ¬ (further_text Plain 1 ≡ [])
 
 -- after the modules A and B, a second B has the twin B, and not A. A module C has none
 pub record TwinRow : Type 0 where

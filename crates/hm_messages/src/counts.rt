@@ -1,9 +1,9 @@
-//! The line of counts after messages.
+//! The lines of counts after messages.
 ghost use Rattle.std.specs.Prelude.{◌≡◌, IfOk, string_bytes};
-ghost use Rattle.hm_messages.specs.Headings.{count_text as count_bytes, prose_counts as prose_bytes, some_counts as some_bytes};
+ghost use Rattle.hm_messages.specs.Headings.{count_text as count_bytes, further_counts as further_counts_bytes, further_text as further_bytes, prose_counts as prose_bytes, some_counts as some_bytes, some_further as some_further_bytes};
 
-use crate::heading::Paint;
-use hm_messages_json::counts_line;
+use crate::heading::{Paint, begin, end};
+use hm_messages_json::{Level, counts_line};
 use std::alloc::{AllocError, Global};
 
 /// Returns the line of counts for a reader.
@@ -41,4 +41,32 @@ pub fn count_text(
         Paint::Plain | Paint::Coloured => prose_counts(alloc, errors, skipped),
         Paint::Json => counts_line(alloc, errors, skipped),
     }
+}
+
+/// Returns what the line about so many skipped modules without notes says of them.
+fn further_counts(alloc: Global, count: usize) -> Result<String, AllocError>
+    ensures { IfOk result (λ text. string_bytes text ≡ further_counts_bytes count) }
+{
+    format!(in alloc; ": further skipped modules: {count}; the report lists them\n")
+}
+
+/// Returns the line about so many skipped modules that have no notes.
+fn some_further(alloc: Global, paint: Paint, count: usize) -> Result<String, AllocError>
+    ensures { IfOk result (λ text. string_bytes text ≡ some_further_bytes paint count) }
+{
+    let mut text = String::from_str(alloc, begin(paint, Level::Note))?;
+    text.push_str(end(paint))?;
+    text.push_str(further_counts(alloc, count)?.as_str())?;
+    Ok(text)
+}
+
+// Why: docs/DECISIONS.md, "Many skipped modules".
+/// Returns the line about the skipped modules that have no notes, or no text if there are none.
+pub fn further_text(alloc: Global, paint: Paint, count: usize) -> Result<String, AllocError>
+    ensures { IfOk result (λ text. string_bytes text ≡ further_bytes paint count) }
+{
+    if count != 0 {
+        return some_further(alloc, paint, count);
+    }
+    Ok(String::new(alloc))
 }

@@ -23,7 +23,7 @@ pub enum Paint {
 }
 
 /// Returns the word of a level, after the escape that begins its colour.
-fn begin(paint: Paint, level: Level) -> &'static str
+pub(crate) fn begin(paint: Paint, level: Level) -> &'static str
     ensures { result.now ≡ begin paint level }
 {
     match paint {
@@ -39,7 +39,7 @@ fn begin(paint: Paint, level: Level) -> &'static str
 }
 
 /// Returns the escape that ends a colour.
-fn end(paint: Paint) -> &'static str
+pub(crate) fn end(paint: Paint) -> &'static str
     ensures { result.now ≡ end paint }
 {
     match paint {

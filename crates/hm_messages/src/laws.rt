@@ -1,6 +1,6 @@
 //! Laws and worked examples: functions with an empty body, whose contracts have the facts.
 ghost use Rattle.hm_messages.specs.Laws.{HasNoForeignRefusal};
-ghost use Rattle.hm_messages.specs.Worked.{ForeignRow, FurtherRow, MessageRow, ModuleRow, PlaceRow, TwinRow};
+ghost use Rattle.hm_messages.specs.Worked.{ForeignRow, FurtherCountRow, FurtherRow, MessageRow, ModuleRow, PlaceRow, TwinRow};
 
 /// The refusal of sources isn't foreign to them.
 #[tactic(auto, using(crate::proofs::OfSources::refusals_are_theirs))]
@@ -18,6 +18,12 @@ pub fn worked_faults()
 #[tactic(auto, using(crate::proofs::WorkedMessages::worked_messages))]
 pub fn worked_messages()
     ensures { MessageRow }
+{}
+
+/// The line about skipped modules without notes, and a count without it.
+#[tactic(auto, using(crate::proofs::WorkedTexts::worked_further))]
+pub fn worked_further()
+    ensures { FurtherCountRow }
 {}
 
 /// Faults of sources that aren't there, and of one that is.

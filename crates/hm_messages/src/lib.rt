@@ -18,7 +18,7 @@ mod sentences;
 mod starts;
 mod topic;
 
-pub use crate::counts::count_text;
+pub use crate::counts::{count_text, further_text};
 pub use crate::faults::fault_message;
 pub use crate::files::pages_of;
 pub use crate::heading::Paint;

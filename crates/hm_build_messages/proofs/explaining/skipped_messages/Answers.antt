@@ -1,4 +1,4 @@
-use Rattle.std.proofs.Common.{rules, ◌∙◌, ◌<◌, ◌≡◌, All, List, [], ℕ, map, sym, ap, subst, get_or}
+use Rattle.std.proofs.Common.{rules, ◌∙◌, ◌<◌, ◌≡◌, All, List, [], ℕ, length, map, sym, take, ap, subst, get_or}
 use Rattle.std.specs.Arc.{arc_value}
 use Rattle.std.specs.List.Sorted.{IsPermutation}
 use Rattle.std.proofs.lemmas.List.Sorted.{IsPermutation-map, answers_always}
@@ -9,13 +9,14 @@ use Rattle.hm_messages.proofs.AtPage.{file_is, text_is}
 use Rattle.hm_run_sources.specs.Names.{name_below}
 use Rattle.std.proofs.lemmas.List.Elements.{All-map}
 use Rattle.hm_verdicts.specs.Reports.{AreBlamed}
-use Rattle.hm_build_messages.specs.Explanations.{IsBlameMessage, IsBlamed, IsBlamedBy, blamed_of}
+use Rattle.hm_build_messages.specs.Explanations.{IsBlameMessage, IsBlamed, IsBlamedBy, blamed_of, noted_of}
 use Rattle.std.proofs.lemmas.List.{get_or-map}
 use Rattle.std.proofs.lemmas.List.Sorted.{All-permutation}
 use Rattle.hm_syntax.specs.declared.ast.Module.{Module}
 use Rattle.hm_verdicts.specs.Sets.{imports_of, module_at, no_module}
 use Rattle.hm_build_messages.proofs.Blamed.{named_through}
 use Rattle.hm_build_messages.proofs.Called.{imported_in_row}
+use Rattle.hm_build_messages.proofs.Told.{first_viewed}
 use Rattle.hm_build_reports.specs.ReportBlocks.{all_blamed}
 use Rattle.hm_build_reports.specs.Settling.{module_set, statuses_of}
 use Rattle.hm_build_reports.proofs.Blame.{are_blamed}
@@ -54,7 +55,11 @@ returns c =
     let text = c.in_ok-blame_messages.field-0.items in
     let page : Page = c.index-page.result.now in
     let is : page ≡ get_or pages c.args.source page = search rules in
-    let here : AreEach (IsBlameMessage paint page.file.now page.lines) blames text = subst (λ l. AreEach (IsBlameMessage paint page.file.now page.lines) (map blamed_of l) text) c.as_slice.ensures.value c.in_ok-blame_messages.ensures in
+    let first = take c.noted_of-shown.result c.as_slice.result.now in
+    let some : first ≡ take c.noted_of-shown.result sorted = ap (take c.noted_of-shown.result) c.as_slice.ensures.value in
+    let many : c.noted_of-shown.result ≡ noted_of paint (length sorted) = search rules in
+    let here : AreEach (IsBlameMessage paint page.file.now page.lines) (take (noted_of paint (length blames)) blames) text =
+    subst (λ l. AreEach (IsBlameMessage paint page.file.now page.lines) l text) (first_viewed blamed_of paint sorted first c.noted_of-shown.result some many) c.in_ok-blame_messages.ensures in
     let found = c.in_ok-blames.blames.items in
     let program : c.deref.result.now ≡ module_at p c.args.number = c.deref.ensures ∙ sym (get_or-map arc_value told.modules.now c.args.number c.index-told-number.result no_module c.requires.number) in
     let imports : c.as_slice-imports.result.now ≡ (module_at p c.args.number).header.imports = c.as_slice-imports.ensures ∙ ap (λ (m : Module). m.header.imports) program in
@@ -71,6 +76,6 @@ returns c =
           (IsPermutation-map (λ b. b.name.now) _ _ c.in_ok-sort_by_key.ensures.permutation))
           (sorted_map (λ b. b.name.now) name_below _ (c.in_ok-sort_by_key.ensures.sorted (λ b. b.name) (answers_always _ (λ a r. r ≡ a.0.now.name) _ (λ f a r q k. search rules)))));
       right = All-map (IsBlamed p status c.args.number) blamed_of sorted right;
-      told = subst (λ (s : List ℕ). AreEach (IsBlameMessage paint (get_or (files_in pages) c.args.source []) s) blames text) (text_is pages c.args.source page c.requires.source is)
-          (subst (λ (f : List ℕ). AreEach (IsBlameMessage paint f page.lines) blames text) (file_is pages c.args.source page c.requires.source is) here);
+      told = subst (λ (s : List ℕ). AreEach (IsBlameMessage paint (get_or (files_in pages) c.args.source []) s) (take (noted_of paint (length blames)) blames) text) (text_is pages c.args.source page c.requires.source is)
+          (subst (λ (f : List ℕ). AreEach (IsBlameMessage paint f page.lines) (take (noted_of paint (length blames)) blames) text) (file_is pages c.args.source page c.requires.source is) here);
     }

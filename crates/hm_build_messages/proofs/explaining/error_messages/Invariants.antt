@@ -1,0 +1,10 @@
+use Rattle.std.proofs.Common.{false, take}
+use Rattle.hm_messages.specs.Pages.{files_in, texts_in}
+use Rattle.hm_build_messages.specs.Explanations.{AreErrorsStated, AreInTurn}
+use Rattle.hm_build_reports.specs.Settling.{module_set, statuses_of}
+use Rattle.hm_build_messages.proofs.explaining.error_messages.Given as goal
+
+abbrev pub invariant-loop-row : goal.invariant-loop-row
+invariant-loop-row l =
+    AreInTurn (λ r before after text. AreErrorsStated l.told.pages.now.paint (files_in l.told.pages.now.items.items) (texts_in l.told.pages.now.items.items) (module_set l.told.modules.now l.told.plan.now) (statuses_of l.told.settled.now) r.number before after text)
+    (take l.row-index l.rows) false l.allowance.is_limit_stated l.text.items
