@@ -39,8 +39,6 @@ CHANGES = [
     ("left out", re.compile(r"unexpected '()(.+)'")),
 ]
 UP_TO = re.compile(r"\(up to (\d+):(\d+)\)")
-# How many tokens before the mark the changed one is searched.
-FAR = 60
 
 
 class Finding(Exception):
@@ -139,23 +137,24 @@ def have_common_instance(one, other):
 def try_change(program, source, message):
     if message["kind"] != "syntax":
         return None
-    found = next(((way, it) for way, regex in CHANGES if (it := regex.fullmatch(message["text"]))), None)
+    text = message["text"]
+    if other := message["other"]:
+        text = text.removesuffix(f" at {other['line']}:{other['character']}")
+    found = next(((way, it) for way, regex in CHANGES if (it := regex.fullmatch(text))), None)
     if found is None or not (message["hint"] or "").endswith("t this can be read."):
         return None
     way, names = found
     at = offset(source, message["start"])
-    tokens = slips.tokens_of(source)
-    here = next((number for number, it in enumerate(tokens) if it.start >= at), len(tokens))
-    candidates = [it for it in tokens[max(0, here - FAR) : here + 1] if it.text == names[2]]
-    if names[2] == "the end" or not candidates:
-        return None
-    for token in reversed(candidates):
-        start, end, text = token.start, token.end, names[1]
-        changed = {"put in": with_text(source, start, start, f" {text} "), "replaced": with_text(source, start, end, text), "left out": with_text(source, start, end, "")}[way]
-        after = ask(program, changed)[1]
-        syntax = [it for it in after if it["kind"] in ("syntax", "lexeme") and it["level"] == "error"]
-        if not syntax or offset(changed, syntax[0]["start"]) > at + len(changed) - len(source):
-            return f"a token {way}"
+    place = offset(source, other) if other else at
+    token = next((it for it in slips.tokens_of(source) if it.start == place), None)
+    if token is None or token.text != names[2]:
+        raise Finding(f"'{names[2]}' isn't where the message has it")
+    start, end, text = token.start, token.end, names[1]
+    changed = {"put in": with_text(source, start, start, f" {text} "), "replaced": with_text(source, start, end, text), "left out": with_text(source, start, end, "")}[way]
+    after = ask(program, changed)[1]
+    syntax = [it for it in after if it["kind"] in ("syntax", "lexeme") and it["level"] == "error"]
+    if not syntax or offset(changed, syntax[0]["start"]) > at + len(changed) - len(source):
+        return f"a token {way}" + (" elsewhere" if other else "")
     raise Finding("the change doesn't make this readable")
 
 

@@ -16,7 +16,7 @@ WANTED = """\
 ada          as wanted
 bob          other names or types   6:3 type error in 'c1'
 cyd          other names or types   6:3 type error in 'c1'
-dan          can't be read          3:16 expected ';' before 'backwards'
+dan          can't be read          3:16 expected ';' before 'backwards' at 3:3
 eve          other names or types   6:8 'Reverse.backwards' isn't in scope
 fay          not graded (status 3)  1:8 there is no memory to check module 'Reverse'
 """

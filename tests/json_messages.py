@@ -128,7 +128,8 @@ def row_fault(source, status, run, schema):
         if other := value["other"]:
             if why := position_fault(source, other):
                 return why
-            if not value["text"].endswith(f": the first is at {other['line']}:{other['character']}"):
+            said = " at" if value["kind"] == "syntax" else ": the first is at"
+            if not value["text"].endswith(f"{said} {other['line']}:{other['character']}"):
                 return f"another first place: {value}"
         if value["hint"] is not None and value["hint"] + "\n" not in plain.stderr.decode():
             return f"another hint: {value}"

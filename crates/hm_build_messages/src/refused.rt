@@ -27,6 +27,7 @@ use std::alloc::{AllocError, Global};
 const NO_ADVICE: Advice<'static> = Advice {
     hint: SyntaxHint::Unexpected,
     text: "",
+    elsewhere: None,
 };
 
 // Why: docs/DECISIONS.md, "Further sources".
@@ -41,7 +42,7 @@ fn advice_on<'a>(
     search: Search,
 ) -> Result<Advice<'a>, AllocError>
     requires { IsNumbered (map (λ s. s.items) sources.now) fault.now }
-    ensures { IfOk result (λ a. IsAdvised (map (λ s. s.items) sources.entry.now) fault.now a.hint a.text.now) }
+    ensures { IfOk result (λ a. IsAdvised (map (λ s. s.items) sources.entry.now) fault.now a.hint a.text.now a.elsewhere) }
 {
     let SetFaultKind::Parse { source, fault } = &fault.kind else {
         return Ok(NO_ADVICE);
@@ -160,7 +161,7 @@ fn own_messages(
 ) -> Result<Messages, AllocError>
     requires because { IsRefusalOf (texts_in pages.now.items.items) refused.now.fault }
     requires headers { AreHeadersFor (texts_in pages.now.items.items) refused.now.fault refused.now.located.items }
-    requires advised { IsAdvised (texts_in pages.now.items.items) refused.now.fault advice.hint advice.text.now }
+    requires advised { IsAdvised (texts_in pages.now.items.items) refused.now.fault advice.hint advice.text.now advice.elsewhere }
     ensures { IfOk result (λ told. AreRefusalMessages pages.now.paint (files_in pages.now.items.items) (texts_in pages.now.items.items)
         refused.now.fault told.errors told.text.items) }
 {

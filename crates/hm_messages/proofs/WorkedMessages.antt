@@ -1,5 +1,6 @@
 -- The worked examples of messages that are left out, and of faults that aren't of these sources.
-use Rattle.std.proofs.Common.{rules, ◌≡◌, ℕ, suc, ◌+◌, List, [], ◌∷◌, ◌++◌, arith, ap, length, length-append, refl, ◌∙◌}
+use Rattle.std.proofs.Common.{rules, ◌≡◌, true, false, is_some, sym, ℕ, suc, ◌+◌, List, [], ◌∷◌, ◌++◌, arith, ap, length, length-append, refl, ◌∙◌}
+use Rattle.std.proofs.lemmas.Bool.{false≢true}
 use Rattle.hm_lex.specs.Cut.{place_after}
 use Rattle.hm_lex.specs.declared.token.Place.{Place}
 use Rattle.hm_messages_excerpts.specs.Columns.{AreColumnsAt, characters}
@@ -11,7 +12,7 @@ use Rattle.hm_messages.specs.Headings.{heading}
 use Rattle.hm_messages.specs.Messages.{HasNoMessage, HasNoReaderPlace, IsMessage, StatesAt, message_left_out, message_stated, reader_place}
 use Rattle.hm_messages.specs.Notices.{notice_of}
 use Rattle.hm_messages.specs.Subjects.{Subject}
-use Rattle.hm_messages.specs.Worked.{ForeignRow, MessageRow}
+use Rattle.hm_messages.specs.Worked.{ForeignRow, MessageRow, PositionRow}
 use Rattle.hm_messages.specs.declared.heading.Paint.{Paint}
 use Rattle.hm_messages.specs.declared.heading.Paint.TheVariants.{Plain, Coloured, Json}
 
@@ -95,6 +96,13 @@ pub worked_messages : MessageRow
 worked_messages = record {
   outside = λ paint file s. message_left_out refl (isnt_stated paint);
   inside = isnt_left_out;
+}
+
+pub worked_positions : PositionRow
+worked_positions = record {
+  none = λ s. refl;
+  not_named = λ s q e. let said : true ≡ false = ap is_some e in false≢true (sym said);
+  not_left_out = λ h. h is_first;
 }
 
 pub worked_foreign : ForeignRow

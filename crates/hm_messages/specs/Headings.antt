@@ -194,6 +194,11 @@ unsigned_title x p own = codes "'" ++ x ++ codes "' has type '" ++ own ++ codes 
 abbrev pub hidden_title : Kind → List ℕ → List ℕ
 hidden_title k x = kind_title k x ++ codes ", whatever the names that aren't in scope mean"
 
+-- where the token is that a hint is about, its column in characters
+abbrev pub token_place_text : Option Position → List ℕ
+token_place_text None = []
+token_place_text (Some p) = codes " at " ++ decimal p.line ++ codes ":" ++ decimal p.columns.characters
+
 abbrev pub title : Subject → List ℕ
 title (fault k x known other) = fault_title k x known other
 title (replaceable x p) = replaceable_title x p
@@ -206,7 +211,7 @@ title too_long = codes "the source is too long"
 title (lexeme h x) = lexeme_text h x
 title open_comment = codes "this comment isn't closed"
 title too_deep = codes "too many open brackets"
-title (syntax_fault h x) = syntax_text h x
+title (syntax_fault h x other) = syntax_text h x ++ token_place_text other
 title too_many = codes "too many modules"
 title (twice x) = codes "the module name '" ++ x ++ codes "' is taken"
 title (twin x) = codes "this module has the name '" ++ x ++ codes "' too"

@@ -5,6 +5,7 @@ use Rattle.hm_messages_json.specs.declared.message.Level.TheVariants.{Error, Not
 use Rattle.hm_messages_json.specs.declared.message.Position.{Position}
 use Rattle.hm_messages_hints.specs.LexemeTexts.{lexeme_help}
 use Rattle.hm_messages_hints.specs.SyntaxTexts.{syntax_help}
+use Rattle.hm_messages_hints.specs.declared.syntax_hints.SyntaxHint.{SyntaxHint}
 use Rattle.hm_names.specs.declared.faults.Kind.{Kind}
 use Rattle.hm_verdicts.specs.Reports.{kind_word}
 use Rattle.hm_messages.specs.Sentences.{fault_sentence, types_sentence}
@@ -32,6 +33,10 @@ note kind name = record { level = Note; kind = kind; name = name; other = None; 
 -- a fault of a module
 abbrev pub fault_notice : Kind → List ℕ → Option Position → Notice
 fault_notice k x other = record { level = Error; kind = kind_word k; name = Some x; other = other; sentence = fault_sentence k; expected = None; actual = None }
+
+-- a fault of syntax
+abbrev pub syntax_notice : SyntaxHint → Option Position → Notice
+syntax_notice h other = record { level = Error; kind = codes "syntax"; name = None; other = other; sentence = syntax_help h; expected = None; actual = None }
 
 -- a part with two types
 abbrev pub types_notice : List ℕ → List ℕ → List ℕ → Bool → Notice
@@ -69,7 +74,7 @@ notice_of too_long = error (codes "too-long") None (codes "A source has at most 
 notice_of (lexeme h x) = error (codes "lexeme") None (lexeme_help h x)
 notice_of open_comment = error (codes "open-comment") None (codes "A comment ends with `-}`; a `{-` within it begins another one.\n")
 notice_of too_deep = error (codes "too-deep") None (codes "At most 200 brackets may be open at once.\n")
-notice_of (syntax_fault h x) = error (codes "syntax") None (syntax_help h)
+notice_of (syntax_fault h x other) = syntax_notice h other
 notice_of too_many = error (codes "too-many-modules") None (codes "A set has at most 4,096 modules.\n")
 notice_of (twice x) = error (codes "twice") (Some x) (codes "Each module of a set has a name of its own, and `Prelude` is built in.\n")
 notice_of (twin x) = note (codes "twice") (Some x)

@@ -8,6 +8,8 @@ use Rattle.hm_messages_hints.specs.declared.lexeme_hints.LexemeHint.{LexemeHint}
 use Rattle.hm_messages_hints.specs.declared.lexeme_hints.LexemeHint.TheVariants.{ByteOrderMark}
 use Rattle.hm_messages_hints.specs.declared.syntax_hints.SyntaxHint.{SyntaxHint}
 use Rattle.hm_lex.specs.declared.token.Place.{Place}
+use Rattle.hm_messages_json.specs.Positions.{IsPositionAt}
+use Rattle.hm_messages_json.specs.declared.message.Position.{Position}
 use Rattle.hm_syntax.specs.Names.{Identifier}
 use Rattle.hm_syntax.specs.declared.ast.Import.{Import}
 use Rattle.hm_lex.specs.declared.token.LexFault.TheVariants as lexing
@@ -43,6 +45,16 @@ pub record IsLexemeHintAt (source : List ℕ) (p : Place) (hint : LexemeHint) (n
 abbrev pub MayHint : List ℕ → Place → LexemeHint → List ℕ → Type 0
 MayHint source p hint name = IsPlaceIn source p → IsLexemeHintAt source p hint name
 
+-- the position of the place, if there is one and it is in the source
+abbrev pub IsPositionOf : List ℕ → Option Place → Option Position → Type 0
+IsPositionOf source None other = other ≡ None
+IsPositionOf source (Some p) None = ¬ IsPlaceIn source p
+IsPositionOf source (Some p) (Some position) = IsPositionAt source p position
+
+-- the hint holds at the place, and these are the text of the token that it is about and its position, if it is another token than the one at the place
+abbrev pub IsPlacedAdvice : List ℕ → Place → SyntaxHint → List ℕ → Option Position → Type 0
+IsPlacedAdvice source p hint text other = (elsewhere : Option Place) × IsAdviceAt source p hint text elsewhere × IsPositionOf source elsewhere other
+
 -- the subject of the message of a refusal. A set isn't refused if memory ran out
 abbrev pub IsRefusedSubject : List (List ℕ) → Refusal → Subject → Type 0
 IsRefusedSubject sources (lex n lexing.TooLong) s = s ≡ too_long
@@ -50,7 +62,8 @@ IsRefusedSubject sources (lex n (lexing.Lexeme p)) s = (hint : LexemeHint) × (n
 IsRefusedSubject sources (lex n (lexing.OpenComment p)) s = s ≡ open_comment
 IsRefusedSubject sources (lex n (lexing.TooDeep p)) s = s ≡ too_deep
 IsRefusedSubject sources (lex n lexing.Memory) s = s ≡ too_long
-IsRefusedSubject sources (parse n (parsing.Syntax p)) s = (hint : SyntaxHint) × (text : List ℕ) × (s ≡ syntax_fault hint text) × IsAdviceAt (slice_index_or sources (n - 1) []) p hint text
+IsRefusedSubject sources (parse n (parsing.Syntax p)) s =
+    (hint : SyntaxHint) × (text : List ℕ) × (other : Option Position) × (s ≡ syntax_fault hint text other) × IsPlacedAdvice (slice_index_or sources (n - 1) []) p hint text other
 IsRefusedSubject sources (parse n parsing.Memory) s = s ≡ too_long
 IsRefusedSubject sources (plan planning.TooMany m i) s = s ≡ too_many
 IsRefusedSubject sources (plan (planning.Duplicate k) m i) s = s ≡ twice m
@@ -59,11 +72,11 @@ IsRefusedSubject sources (plan (planning.Cycle k) m i) s = s ≡ cycle m
 IsRefusedSubject sources (plan planning.Memory m i) s = s ≡ too_long
 
 -- the advice for a fault of syntax holds. That for another refusal may be any
-abbrev pub IsAdvised : List (List ℕ) → Refusal → SyntaxHint → List ℕ → Type 0
-IsAdvised sources (lex n fault) hint text = ⊤
-IsAdvised sources (parse n (parsing.Syntax p)) hint text = IsAdviceAt (slice_index_or sources (n - 1) []) p hint text
-IsAdvised sources (parse n parsing.Memory) hint text = ⊤
-IsAdvised sources (plan fault m i) hint text = ⊤
+abbrev pub IsAdvised : List (List ℕ) → Refusal → SyntaxHint → List ℕ → Option Place → Type 0
+IsAdvised sources (lex n fault) hint text elsewhere = ⊤
+IsAdvised sources (parse n (parsing.Syntax p)) hint text elsewhere = IsAdviceAt (slice_index_or sources (n - 1) []) p hint text elsewhere
+IsAdvised sources (parse n parsing.Memory) hint text elsewhere = ⊤
+IsAdvised sources (plan fault m i) hint text elsewhere = ⊤
 
 -- the place of an identifier
 abbrev pub place_of : Identifier → Place

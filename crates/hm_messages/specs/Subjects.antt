@@ -12,7 +12,8 @@ use Rattle.hm_messages.specs.declared.topic.Topic.TheVariants as topic
 
 -- a fault of a module, with what is known of it and another place that this names; a way in which a definition has a type; a constructor with which it has one in front of an expression up to a place; a part of a definition up to
 -- a place, with the type that is expected there and the one that it has, and whether no type is both because it would contain itself; a signature up to a
--- place, with the type that its definition has without it; a module is skipped for a faulty import, or for a skipped one; why a set is refused; a module
+-- place, with the type that its definition has without it; a module is skipped for a faulty import, or for a skipped one; why a set is refused, of a syntax fault with the place of another token that the hint
+-- is about; a module
 -- with the name of a later one; a module that there is no memory to check; the trials of a run are used up; a step of a cycle; a fault that the report leaves out, because names aren't in
 -- scope
 pub data Subject : Type 0 where
@@ -27,7 +28,7 @@ pub data Subject : Type 0 where
   lexeme : LexemeHint → List ℕ → Subject
   open_comment : Subject
   too_deep : Subject
-  syntax_fault : SyntaxHint → List ℕ → Subject
+  syntax_fault : SyntaxHint → List ℕ → Option Position → Subject
   too_many : Subject
   twice : List ℕ → Subject
   twin : List ℕ → Subject
@@ -50,7 +51,7 @@ subject_of topic.TooLong = too_long
 subject_of (topic.Lexeme h x) = lexeme h x.now
 subject_of topic.OpenComment = open_comment
 subject_of topic.TooDeep = too_deep
-subject_of (topic.Syntax a) = syntax_fault a.hint a.text.now
+subject_of (topic.Syntax a) = syntax_fault a.hint a.text.now a.other
 subject_of topic.TooMany = too_many
 subject_of (topic.Twice x) = twice x.now
 subject_of (topic.Twin x) = twin x.now

@@ -9,12 +9,13 @@ use Rattle.hm_syntax.specs.declared.ast.Module.{Module}
 use Rattle.hm_run_sources.specs.Refusals.{lex}
 use Rattle.hm_run_sources.specs.SourceModules.{HasModules}
 use Rattle.hm_run_sources.specs.declared.located.Located.{Located}
+use Rattle.hm_messages_json.specs.declared.message.Position.{Position}
 use Rattle.hm_messages.specs.Foreign.{IsForeign}
 use Rattle.hm_messages.specs.FurtherFaults.{AreFirstFaults}
 use Rattle.hm_messages.specs.Headings.{further_text}
 use Rattle.hm_messages.specs.Messages.{IsMessage}
 use Rattle.hm_messages.specs.ModuleStarts.{IsModuleAround, module_start}
-use Rattle.hm_messages.specs.Refused.{IsNamedAt, IsRefusedAt, place_of}
+use Rattle.hm_messages.specs.Refused.{IsNamedAt, IsPositionOf, IsRefusedAt, place_of}
 use Rattle.hm_messages.specs.Subjects.{Subject}
 use Rattle.hm_messages.specs.Twins.{IsTwinOf}
 use Rattle.hm_messages.specs.declared.heading.Paint.{Paint}
@@ -35,6 +36,12 @@ pub record ForeignRow : Type 0 where
 pub record FurtherRow : Type 0 where
   pub third : (s t : List ℕ) (modules : List Module) (p : Place) → HasModules s modules → IsRefusal t (Lexeme p) → AreFirstFaults 2 (s ∷ t ∷ []) (lex 3 (Lexeme p) ∷ [])
   pub none_left : (p : Place) → ¬ (AreFirstFaults 2 [] (lex 2 (Lexeme p) ∷ []))
+
+-- without a place no position is named. The place of the first byte of an empty source has one, so its position isn't left out
+pub record PositionRow : Type 0 where
+  pub none : (source : List ℕ) → IsPositionOf source None None
+  pub not_named : (source : List ℕ) (q : Position) → ¬ (IsPositionOf source None (Some q))
+  pub not_left_out : ¬ (IsPositionOf [] (Some (record { line = 1; column = 1 })) None)
 
 -- a line about other skipped modules is there if there is one, and only then
 pub record FurtherCountRow : Type 0 where

@@ -1,15 +1,15 @@
 //! The first line of a message, after the name of its file.
 ghost use Rattle.std.specs.Prelude.{◌≡◌, IfOk, string_bytes};
-ghost use Rattle.hm_messages.specs.Headings.{argument_title as argument_title_bytes, begin, brackets_title as brackets_title_bytes, end, exchange_title as exchange_title_bytes, expression_title as expression_title_bytes, expressions_title as expressions_title_bytes, heading as heading_bytes, list_brackets_title as list_brackets_title_bytes, mark_title as mark_title_bytes, mistyped_title as mistyped_title_bytes, pattern_title as pattern_title_bytes, patterns_title as patterns_title_bytes, removal_title as removal_title_bytes, replaceable_title as replaceable_title_bytes, sides_title as sides_title_bytes, tag as tag_bytes, title as title_bytes, unsigned_title as unsigned_title_bytes, wrapped_title as wrapped_title_bytes};
-ghost use Rattle.hm_messages.specs.Subjects.{subject_of};
+ghost use Rattle.hm_messages.specs.Headings.{argument_title as argument_title_bytes, begin, brackets_title as brackets_title_bytes, end, exchange_title as exchange_title_bytes, expression_title as expression_title_bytes, expressions_title as expressions_title_bytes, heading as heading_bytes, list_brackets_title as list_brackets_title_bytes, mark_title as mark_title_bytes, mistyped_title as mistyped_title_bytes, pattern_title as pattern_title_bytes, patterns_title as patterns_title_bytes, removal_title as removal_title_bytes, replaceable_title as replaceable_title_bytes, sides_title as sides_title_bytes, tag as tag_bytes, title as title_bytes, token_place_text as token_place_bytes, unsigned_title as unsigned_title_bytes, wrapped_title as wrapped_title_bytes};
+ghost use Rattle.hm_messages.specs.Subjects.{subject_of, syntax_fault};
 
 use crate::fault_titles::{fault_title, hidden_title};
 use crate::notices::notice_of;
-use crate::topic::{BothTypes, Topic, Way};
+use crate::topic::{BothTypes, PlacedAdvice, Topic, Way};
 use hm_lex::Place;
 use hm_messages_excerpts::shown;
 use hm_messages_hints::{lexeme_text, syntax_text};
-use hm_messages_json::Level;
+use hm_messages_json::{Level, Position};
 use std::alloc::{AllocError, Global};
 
 /// How messages are written.
@@ -46,6 +46,30 @@ pub(crate) fn end(paint: Paint) -> &'static str
         Paint::Plain | Paint::Json => "",
         Paint::Coloured => "\x1b[0m",
     }
+}
+
+/// Returns the text about the place of a token.
+fn token_place_text(alloc: Global, other: Option<Position>) -> Result<String, AllocError>
+    ensures { IfOk result (λ text. string_bytes text ≡ token_place_bytes other) }
+{
+    match other {
+        Some(position) => {
+            let line = position.line;
+            let column = position.columns.characters;
+            format!(in alloc; " at {line}:{column}")
+        }
+        None => Ok(String::new(alloc)),
+    }
+}
+
+// Why: docs/DECISIONS.md, "Where a change is".
+/// Returns the hint at a fault of syntax, with the position of the token that it is about, if that is another one than at the fault.
+fn syntax_title(alloc: Global, advice: &PlacedAdvice<'_>) -> Result<String, AllocError>
+    ensures { IfOk result (λ text. string_bytes text ≡ title_bytes (syntax_fault advice.now.hint advice.now.text.now advice.now.other)) }
+{
+    let mut text = syntax_text(alloc, advice.hint, advice.text)?;
+    text.push_str(token_place_text(alloc, advice.other)?.as_str())?;
+    Ok(text)
 }
 
 /// Returns the text about an expression that ends at this place.
@@ -231,7 +255,7 @@ pub(crate) fn title(alloc: Global, topic: &Topic<'_>) -> Result<String, AllocErr
         Topic::Lexeme(hint, name) => lexeme_text(alloc, *hint, name),
         Topic::OpenComment => String::from_str(alloc, "this comment isn't closed"),
         Topic::TooDeep => String::from_str(alloc, "too many open brackets"),
-        Topic::Syntax(advice) => syntax_text(alloc, advice.hint, advice.text),
+        Topic::Syntax(advice) => syntax_title(alloc, advice),
         Topic::TooMany => String::from_str(alloc, "too many modules"),
         Topic::Twice(name) => format!(in alloc; "the module name '{name}' is taken"),
         Topic::Twin(name) => format!(in alloc; "this module has the name '{name}' too"),

@@ -1,6 +1,6 @@
 //! Laws and worked examples: functions with an empty body, whose contracts have the facts.
 ghost use Rattle.hm_messages.specs.Laws.{HasNoForeignRefusal};
-ghost use Rattle.hm_messages.specs.Worked.{ForeignRow, FurtherCountRow, FurtherRow, MessageRow, ModuleRow, PlaceRow, TwinRow};
+ghost use Rattle.hm_messages.specs.Worked.{ForeignRow, FurtherCountRow, FurtherRow, MessageRow, ModuleRow, PlaceRow, PositionRow, TwinRow};
 
 /// The refusal of sources isn't foreign to them.
 #[tactic(auto, using(crate::proofs::OfSources::refusals_are_theirs))]
@@ -24,6 +24,12 @@ pub fn worked_messages()
 #[tactic(auto, using(crate::proofs::WorkedTexts::worked_further))]
 pub fn worked_further()
     ensures { FurtherCountRow }
+{}
+
+/// The position of no place, and that of a place in an empty source.
+#[tactic(auto, using(crate::proofs::WorkedMessages::worked_positions))]
+pub fn worked_positions()
+    ensures { PositionRow }
 {}
 
 /// Faults of sources that aren't there, and of one that is.

@@ -27,4 +27,4 @@ pub use crate::objects::Suggestion;
 pub use crate::pages::{Page, Pages};
 pub use crate::refusals::{Messages, refusal_messages, source_message};
 pub use crate::starts::{ModuleStart, SourceModules};
-pub use crate::topic::{BothTypes, Named, Topic, Way};
+pub use crate::topic::{BothTypes, Named, PlacedAdvice, Topic, Way};

@@ -1,11 +1,11 @@
 //! What a message says beside its place and its title: one arm for each topic.
 ghost use Rattle.std.specs.Prelude.{◌≡◌, [], None, Some, codes, option_map};
 ghost use Rattle.hm_messages_json.specs.declared.message.Level.TheVariants.{Error, Note};
-ghost use Rattle.hm_messages.specs.Notices.{fault_notice, notice_of, signature_notice, types_notice, way_kind};
+ghost use Rattle.hm_messages.specs.Notices.{fault_notice, notice_of, signature_notice, syntax_notice, types_notice, way_kind};
 ghost use Rattle.hm_messages.specs.Subjects.{subject_of};
 
 use crate::sentences::{fault_sentence, types_sentence};
-use crate::topic::{BothTypes, Named, Topic, Way};
+use crate::topic::{BothTypes, Named, PlacedAdvice, Topic, Way};
 use hm_messages_hints::{lexeme_help, syntax_help};
 use hm_messages_json::{Level, Position};
 use hm_names::Kind;
@@ -90,6 +90,21 @@ fn fault_notice<'a>(kind: Kind, named: &Named<'a>) -> Notice<'a>
         expected: None,
         actual: None,
     }
+}
+
+/// Returns the notice of a fault of syntax.
+fn syntax_notice<'a>(advice: &PlacedAdvice<'a>) -> Notice<'a>
+    ensures level { result.level ≡ Error }
+    ensures kind { result.kind.now ≡ codes "syntax" }
+    ensures name { option_map (λ x. x.now) result.name ≡ None }
+    ensures other { result.other ≡ advice.now.other }
+    ensures sentence { result.sentence.now ≡ (syntax_notice advice.now.hint advice.now.other).sentence }
+    ensures expected { option_map (λ x. x.now) result.expected ≡ None }
+    ensures actual { option_map (λ x. x.now) result.actual ≡ None }
+{
+    let mut notice = error("syntax", None, syntax_help(advice.hint));
+    notice.other = advice.other;
+    notice
 }
 
 /// Returns the note of a part with two types.
@@ -185,7 +200,7 @@ pub(crate) fn notice_of<'a>(topic: &Topic<'a>) -> Notice<'a>
             None,
             "At most 200 brackets may be open at once.\n",
         ),
-        Topic::Syntax(advice) => error("syntax", None, syntax_help(advice.hint)),
+        Topic::Syntax(advice) => syntax_notice(advice),
         Topic::TooMany => error(
             "too-many-modules",
             None,

@@ -8,18 +8,19 @@ ghost use Rattle.hm_messages.specs.Foreign.{HasNoMissing, HasSource, IsForeign, 
 ghost use Rattle.hm_messages.specs.Pages.{files_in, texts_in};
 ghost use Rattle.hm_messages.specs.Messages.{AreEach};
 ghost use Rattle.hm_messages.specs.Missing.{import_of};
-ghost use Rattle.hm_messages.specs.Refused.{Way, AreFurtherStated, AreMessagesOf, AreRefusalMessages, HasTwinStated, IsAdvised, IsMessageAt, IsNamedAt, IsMissingStated, IsTwinStated, IsWayStated, MayHint, first_place};
+ghost use Rattle.hm_messages.specs.Refused.{Way, AreFurtherStated, AreMessagesOf, AreRefusalMessages, HasTwinStated, IsAdvised, IsMessageAt, IsNamedAt, IsMissingStated, IsPositionOf, IsTwinStated, IsWayStated, MayHint, first_place};
 ghost use Rattle.hm_messages.specs.Subjects.{cycle, missing, subject_of, twice};
 ghost use Rattle.hm_messages.specs.Twins.{IsTwinOf};
 
 use crate::cycles::{Step, cycle_of};
 use crate::messages::{MessageFault, heading_at, message};
 use crate::missing::{MissingImport, missing_imports};
-use crate::pages::Pages;
-use crate::topic::Topic;
+use crate::pages::{Page, Pages};
+use crate::topic::{PlacedAdvice, Topic};
 use hm_graph::PlanFault;
 use hm_lex::{LexFault, Place};
 use hm_messages_hints::{Advice, LexemeHint, lexeme_hint, operator_in};
+use hm_messages_json::{Position, position_at};
 use hm_parse_grammar::ParseFault;
 use hm_run_sources::{Located, SetFault, SetFaultKind};
 use std::alloc::{AllocError, Global};
@@ -177,6 +178,16 @@ fn lex_messages(
     }
 }
 
+/// Returns the position of a place, if there is one and it is in the source.
+fn position_of(page: &Page<'_>, place: Option<Place>) -> Option<Position>
+    ensures { IsPositionOf page.now.lines place result }
+{
+    match place {
+        Some(place) => position_at(&page.lines, place),
+        None => None,
+    }
+}
+
 /// Returns the message of the syntax fault of a source, counted from 1.
 fn parse_messages(
     alloc: Global,
@@ -186,18 +197,17 @@ fn parse_messages(
     advice: Advice<'_>,
 ) -> Result<Vec<u8>, AllocError>
     requires inside { HasSource (texts_in pages.now.items.items) source }
-    requires advised { IsAdvised (texts_in pages.now.items.items) (parse source fault) advice.hint advice.text.now }
+    requires advised { IsAdvised (texts_in pages.now.items.items) (parse source fault) advice.hint advice.text.now advice.elsewhere }
     ensures { IfOk result (λ text. AreRefusalMessages pages.now.paint (files_in pages.now.items.items) (texts_in pages.now.items.items)
         (parse source fault) 1 text.items) }
 {
     match fault {
-        ParseFault::Syntax(place) => Ok(source_messages(
-            alloc,
-            pages,
-            source,
-            place,
-            &Topic::Syntax(advice),
-        )?),
+        ParseFault::Syntax(place) => {
+            let other = position_of(&pages.items[source - 1], advice.elsewhere);
+            let Advice { hint, text, .. } = advice;
+            let topic = Topic::Syntax(PlacedAdvice { hint, text, other });
+            Ok(source_messages(alloc, pages, source, place, &topic)?)
+        }
         ParseFault::Memory => Err(AllocError),
     }
 }
@@ -489,7 +499,7 @@ pub fn source_message(
     fault: &SetFault,
     advice: Advice<'_>,
 ) -> Result<Vec<u8>, MessageFault>
-    requires advised { IsAdvised (texts_in pages.now.items.items) fault.now advice.hint advice.text.now }
+    requires advised { IsAdvised (texts_in pages.now.items.items) fault.now advice.hint advice.text.now advice.elsewhere }
     ensures ok { IfOk result (λ text. AreRefusalMessages pages.now.paint (files_in pages.now.items.items) (texts_in pages.now.items.items)
         fault.now 1 text.items) }
     ensures foreign { IsErrOf result MessageFault.Foreign → IsOfNoSource (texts_in pages.now.items.items) fault.now }
@@ -527,7 +537,7 @@ pub fn refusal_messages(
     fault: &SetFault,
     advice: Advice<'_>,
 ) -> Result<Messages, MessageFault>
-    requires advised { IsAdvised (texts_in pages.now.items.items) fault.now advice.hint advice.text.now }
+    requires advised { IsAdvised (texts_in pages.now.items.items) fault.now advice.hint advice.text.now advice.elsewhere }
     requires headers { AreHeadersFor (texts_in pages.now.items.items) fault.now located.now }
     ensures ok { IfOk result (λ told. AreRefusalMessages pages.now.paint (files_in pages.now.items.items) (texts_in pages.now.items.items)
         fault.now told.errors told.text.items) }

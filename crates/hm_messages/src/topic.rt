@@ -1,7 +1,7 @@
 //! The topics of messages.
 use hm_lex::Place;
 use hm_messages_details::Detail;
-use hm_messages_hints::{Advice, LexemeHint};
+use hm_messages_hints::{LexemeHint, SyntaxHint};
 use hm_messages_json::Position;
 use hm_names::Kind;
 
@@ -11,6 +11,16 @@ pub struct Named<'a> {
     pub name: &'a str,
     pub detail: Detail<'a>,
     /// The position of the place that the detail names, if it names one.
+    pub other: Option<Position>,
+}
+
+/// The advice for a fault of syntax.
+#[derive(Clone, Copy)]
+pub struct PlacedAdvice<'a> {
+    pub hint: SyntaxHint,
+    /// The text of the token that the hint is about.
+    pub text: &'a str,
+    /// The position of that token, if it isn't the one at the fault.
     pub other: Option<Position>,
 }
 
@@ -81,8 +91,8 @@ pub enum Topic<'a> {
     OpenComment,
     /// Too many brackets are open.
     TooDeep,
-    /// The tokens spell no modules. The advice is about the place of the fault.
-    Syntax(Advice<'a>),
+    /// The tokens spell no modules.
+    Syntax(PlacedAdvice<'a>),
     /// A set has too many modules.
     TooMany,
     /// A module has a name that is taken.

@@ -1,5 +1,5 @@
 -- The advice for a fault of syntax at a place of a source.
-use Rattle.std.specs.Prelude.{◌≡◌, ℕ, zero, suc, List, [], ◌∷◌, map, take}
+use Rattle.std.specs.Prelude.{◌≡◌, ◌≢◌, ◌⊎◌, ◌≤◌, ◌<◌, ℕ, zero, suc, List, [], ◌∷◌, Option, None, Some, length, map, take}
 use Rattle.hm_lex.specs.declared.token.Place.{Place}
 use Rattle.hm_lex.specs.declared.token.Token.{Token}
 use Rattle.hm_lex.specs.Faults.{AreTokensOf}
@@ -63,11 +63,17 @@ abbrev pub IsSo : List ℕ → List Token → ℕ → SyntaxHint → Type 0
 IsSo source ts k (Repaired r) = IsRepair source ts r
 IsSo source ts k hint = IsSyntaxHint (map (symbol_in source) (take k ts)) (symbol_at source ts k) (text_at source ts k) hint
 
--- the hint holds at the source's token at the place, and the text is that of the token that it is about
-pub record IsAdviceAt (source : List ℕ) (place : Place) (hint : SyntaxHint) (text : List ℕ) : Type 0 where
+-- the place of the token with number `at`, if it isn't token number k. The end of the source has no token
+abbrev pub IsElsewhere : List Token → ℕ → ℕ → Option Place → Type 0
+IsElsewhere tokens k at None = (at ≡ k) ⊎ (length tokens ≤ at)
+IsElsewhere tokens k at (Some p) = (at ≢ k) × (at < length tokens) × IsAt tokens p at
+
+-- the hint holds at the source's token at the place, the text is that of the token that it is about, and its place is named if it is another one
+pub record IsAdviceAt (source : List ℕ) (place : Place) (hint : SyntaxHint) (text : List ℕ) (elsewhere : Option Place) : Type 0 where
   pub tokens : List Token
   pub read : AreTokensOf source tokens
   pub number : ℕ
   pub at : IsAt tokens place number
   pub holds : IsSo source tokens number hint
   pub text_is : text ≡ text_at source tokens (about hint number)
+  pub elsewhere_is : IsElsewhere tokens number (about hint number) elsewhere

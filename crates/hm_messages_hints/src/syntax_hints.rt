@@ -12,6 +12,7 @@ use crate::contexts::{
     right_newtype_begins, right_type_begins, type_begins, without_else, without_then,
 };
 use crate::features::{Feature, feature_of};
+use hm_lex::Place;
 use hm_messages_outline::open_bracket;
 use hm_parse_grammar::Symbol;
 
@@ -88,6 +89,8 @@ pub enum SyntaxHint {
 pub struct Advice<'a> {
     pub hint: SyntaxHint,
     pub text: &'a str,
+    /// The place of that token, if it isn't the one at the fault.
+    pub elsewhere: Option<Place>,
 }
 
 /// Returns whether `{` follows this in every source.

@@ -1,4 +1,5 @@
 mod Facts
 mod Numbered
 mod Trials
+mod WorkedElsewhere
 mod WorkedHints

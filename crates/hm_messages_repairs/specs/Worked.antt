@@ -1,9 +1,11 @@
 -- Worked examples of hints and changes.
-use Rattle.std.specs.Prelude.{List, [], ◌∷◌, codes}
+use Rattle.std.specs.Prelude.{List, [], ◌∷◌, None, Some, codes}
+use Rattle.hm_lex.specs.declared.token.Place.{Place}
 use Rattle.hm_lex.specs.declared.token.Token.{Token}
 use Rattle.hm_parse_grammar.specs.declared.symbol.Symbol.{Symbol}
 use Rattle.hm_parse_grammar.specs.declared.symbol.Symbol.TheVariants.{Bar, Close, CloseSquare, Comma, Con, Equals, Import, Integer, LeftBrace, Module, Open, OpenSquare, Semicolon, Var, Where}
 use Rattle.hm_messages_outline.specs.Brackets.{IsInnermost, IsOpen}
+use Rattle.hm_messages_hints.specs.Advice.{IsElsewhere}
 use Rattle.hm_messages_hints.specs.Marks.{IsMarkIn}
 use Rattle.hm_messages_hints.specs.Repairs.{IsRepair}
 use Rattle.hm_messages_hints.specs.SyntaxHints.{IsSyntaxHint}
@@ -51,6 +53,14 @@ pub record NeighboursRow : Type 0 where
   pub no_number : ¬ (IsSyntaxHint (Var ∷ []) Comma (codes ",") NumberComma)
   pub late : IsSyntaxHint (Import ∷ Con ∷ []) Var (codes "qualified") LateQualified
   pub no_import : ¬ (IsSyntaxHint (Module ∷ Con ∷ []) Var (codes "qualified") LateQualified)
+
+-- if a hint at the second of two tokens is about the first, the place of the first is named, and it isn't left out. If a hint at the first is about this
+-- token itself, no place is named
+pub record ElsewhereRow : Type 0 where
+  pub other : (a b : Token) → IsElsewhere (a ∷ b ∷ []) 1 0 (Some a.place)
+  pub not_left_out : (a b : Token) → ¬ (IsElsewhere (a ∷ b ∷ []) 1 0 None)
+  pub same : (a b : Token) → IsElsewhere (a ∷ b ∷ []) 0 0 None
+  pub not_named : (a b : Token) (p : Place) → ¬ (IsElsewhere (a ∷ b ∷ []) 0 0 (Some p))
 
 abbrev pub without_first : Repair
 without_first = record { at = 0; change = Remove; scope = Whole }

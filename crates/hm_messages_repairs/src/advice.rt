@@ -2,7 +2,7 @@
 ghost use Rattle.std.specs.Prelude.{◌≡◌, ◌≤◌, All, IfOk, length, map, take};
 ghost use Rattle.hm_lex.specs.Texts.{LiesIn};
 ghost use Rattle.hm_messages_hints.specs.SyntaxHints.{IsSyntaxHint};
-ghost use Rattle.hm_messages_hints.specs.Advice.{IsAdviceAt, IsSo, about, symbol_at, text_at};
+ghost use Rattle.hm_messages_hints.specs.Advice.{IsAdviceAt, IsElsewhere, IsSo, about, symbol_at, text_at};
 ghost use Rattle.hm_messages_outline.specs.Tokens.{symbol_in};
 
 use crate::search::repair_at;
@@ -58,6 +58,19 @@ fn about(hint: SyntaxHint, number: usize) -> usize
         SyntaxHint::Repaired(repair) => repair.at,
         _ => number,
     }
+}
+
+/// Returns the place of the token with number `at`, if there is one and it isn't the token at the fault.
+fn elsewhere(tokens: &[Token], fault: usize, at: usize) -> Option<Place>
+    ensures { IsElsewhere tokens.now fault at result }
+{
+    if at == fault {
+        return None;
+    }
+    if at >= tokens.len() {
+        return None;
+    }
+    Some(tokens[at].place)
 }
 
 /// Returns a fact about the token with this number.
@@ -154,13 +167,19 @@ pub fn advice_at<'a>(
     place: Place,
     search: Search,
 ) -> Result<Advice<'a>, AllocError>
-    ensures { IfOk result (λ advice. IsAdviceAt source.entry.now place advice.hint advice.text.now) }
+    ensures { IfOk result (λ advice. IsAdviceAt source.entry.now place advice.hint advice.text.now advice.elsewhere) }
 {
     let Ok(tokens) = lex(alloc, source) else {
         return Err(AllocError);
     };
     let number = number_at(tokens.as_slice(), place);
     let hint = hint_at(alloc, source, tokens.as_slice(), number, search)?;
-    let text = text_at(source, tokens.as_slice(), about(hint, number));
-    Ok(Advice { hint, text })
+    let at = about(hint, number);
+    let text = text_at(source, tokens.as_slice(), at);
+    let elsewhere = elsewhere(tokens.as_slice(), number, at);
+    Ok(Advice {
+        hint,
+        text,
+        elsewhere,
+    })
 }
