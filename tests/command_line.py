@@ -112,6 +112,26 @@ OBJECTS = """{"edits":[],"end":{"byte":23,"character":23,"line":1,"utf16":23},"e
 {"errors":1,"format":1,"level":"end","skipped":1}
 """
 
+# names after `data`, in a message for a reader and in one for a program
+def small_name(told):
+    return f"""<stdin>:1:23: error: {told} [syntax]
+The names of modules, types and constructors begin with a capital letter, and no others do.
+module A where {{ data {"b" * 80}...
+{" " * 22}{"^" * 80}
+errors: 1, skipped modules: 0
+"""
+
+
+LONG_NAME = small_name("'" + "b" * 499 + "..." + "b" * 461 + "' must begin with a capital letter here")
+WHOLE_NAME = small_name("'" + "b" * 960 + "' must begin with a capital letter here")
+LONG_OBJECT = (
+    '{"edits":[],"end":{"byte":2023,"character":2023,"line":1,"utf16":2023},"expected":null,"file":"<stdin>","hint":"The names of modules, types and constructors'
+    ' begin with a capital letter, and no others do.","kind":"syntax","level":"error","module":null,"name":null,"other":null,"start":{"byte":23,"character":23,"line":1,"utf16":23},"text":"\''
+    + "b" * 2000
+    + '\' must begin with a capital letter here","type":null}\n{"errors":1,"format":1,"level":"end","skipped":0}\n'
+)
+
+
 def cannot_open(name, why="no such file"):
     return f"hmc: cannot open {name}\nhmc: {name}: {why}\n"
 
@@ -158,6 +178,9 @@ ROWS = {
         MISSING + "errors: 1, skipped modules: 0\n",
     ),
     "messages of two faulty sources": (["--explain", "bad.hs", "b.hs", "-"], "module D where { z = # }", 2, "refused: source 1 at 1:18: syntax\n", TWO_FAULTS),
+    "a long name in a message": (["--explain"], f"module A where {{ data {'b' * 2000} }}", 2, "refused: source 1 at 1:23: syntax\n", LONG_NAME),
+    "a name in a text of 1,000 bytes": (["--explain"], f"module A where {{ data {'b' * 960} }}", 2, "refused: source 1 at 1:23: syntax\n", WHOLE_NAME),
+    "a long name in an object": (["--message-format", "json"], f"module A where {{ data {'b' * 2000} }}", 2, "refused: source 1 at 1:23: syntax\n", LONG_OBJECT),
     "messages of a source that is too long": (["--explain"], "x" * 1_048_577, 2, "refused: source 1 too long\n", TOO_LONG),
     "messages of too many modules": (
         ["--explain"],

@@ -17,6 +17,7 @@ use Rattle.hm_names.specs.declared.namespace.Namespace.TheVariants.{Types, Const
 use Rattle.hm_names.specs.declared.faults.Kind.TheVariants.{NotExported, Duplicate, NoBinding, Unbound, Ambiguous, ExportClash, NotImported, NonLinear, Arity, ClauseLength, Untyped, Recursive}
 use Rattle.hm_names.specs.Faults.Phases.{written_in}
 use Rattle.hm_messages.specs.Notices.{notice_of}
+use Rattle.hm_messages.specs.Cuts.{shortened}
 use Rattle.hm_messages.specs.Subjects.{Subject, fault, replaceable, wrapped, mistyped, unsigned, faulty, skipped, too_long, lexeme, open_comment, too_deep, syntax_fault, too_many, twice, twin, missing, cycle, exhausted, limit, step, hidden}
 use Rattle.hm_messages.specs.declared.topic.Way.{Way}
 use Rattle.hm_messages.specs.declared.topic.Way.TheVariants.{Expression, Pattern, Exchange, Removal, Sides, Patterns, Brackets, ListBrackets, Argument, Semicolon, Comma, Both}
@@ -227,10 +228,11 @@ abbrev pub tag : Level → List ℕ → List ℕ
 tag Error kind = codes " [" ++ kind ++ codes "]"
 tag Note kind = []
 
+-- a long text is cut
 abbrev pub heading : Paint → Place → Subject → List ℕ
 heading paint p subject =
     codes ":" ++ decimal p.line ++ codes ":" ++ decimal p.column ++ codes ": " ++ begin paint (notice_of subject).level ++ end paint ++ codes ": "
-    ++ shown (title subject) ++ tag (notice_of subject).level (notice_of subject).kind ++ codes "\n"
+    ++ shown (shortened (title subject)) ++ tag (notice_of subject).level (notice_of subject).kind ++ codes "\n"
 
 abbrev pub further_counts : ℕ → List ℕ
 further_counts n = codes ": further skipped modules: " ++ decimal n ++ codes "; the report lists them\n"

@@ -1,3 +1,4 @@
+pub mod Cuts
 pub mod Foreign
 pub mod FurtherFaults
 pub mod Headings

@@ -1,6 +1,6 @@
--- Worked examples: counts, messages that are left out, faults that aren't of these sources, the first faults of further sources, modules of one name, the module of a
+-- Worked examples: long texts, counts, messages that are left out, faults that aren't of these sources, the first faults of further sources, modules of one name, the module of a
 -- message, and the places of refusals.
-use Rattle.std.specs.Prelude.{◌≡◌, ℕ, List, [], ◌∷◌, ◌++◌, Some, None, codes}
+use Rattle.std.specs.Prelude.{◌≡◌, ◌≤◌, ◌<◌, ℕ, List, [], ◌∷◌, ◌++◌, Some, None, codes, length}
 use Rattle.std.specs.Fmt.{decimal}
 use Rattle.hm_lex.specs.Faults.{IsRefusal}
 use Rattle.hm_lex.specs.declared.token.Place.{Place}
@@ -10,6 +10,7 @@ use Rattle.hm_run_sources.specs.Refusals.{lex}
 use Rattle.hm_run_sources.specs.SourceModules.{HasModules}
 use Rattle.hm_run_sources.specs.declared.located.Located.{Located}
 use Rattle.hm_messages_json.specs.declared.message.Position.{Position}
+use Rattle.hm_messages.specs.Cuts.{shortened}
 use Rattle.hm_messages.specs.Foreign.{IsForeign}
 use Rattle.hm_messages.specs.FurtherFaults.{AreFirstFaults}
 use Rattle.hm_messages.specs.Headings.{further_text}
@@ -42,6 +43,12 @@ pub record PositionRow : Type 0 where
   pub none : (source : List ℕ) → IsPositionOf source None None
   pub not_named : (source : List ℕ) (q : Position) → ¬ (IsPositionOf source None (Some q))
   pub not_left_out : ¬ (IsPositionOf [] (Some (record { line = 1; column = 1 })) None)
+
+-- a text of up to 1,000 bytes is shown whole. Of a longer one at most 1,006 bytes are shown, so one that is longer than that isn't shown whole
+pub record CutRow : Type 0 where
+  pub whole : (text : List ℕ) → length text ≤ 1000 → shortened text ≡ text
+  pub bounded : (text : List ℕ) → length (shortened text) ≤ 1006
+  pub not_whole : (text : List ℕ) → 1006 < length text → ¬ (shortened text ≡ text)
 
 -- a line about other skipped modules is there if there is one, and only then
 pub record FurtherCountRow : Type 0 where

@@ -3,6 +3,7 @@ ghost use Rattle.std.specs.Prelude.{◌≡◌, IfOk, string_bytes};
 ghost use Rattle.hm_messages.specs.Headings.{argument_title as argument_title_bytes, begin, brackets_title as brackets_title_bytes, end, exchange_title as exchange_title_bytes, expression_title as expression_title_bytes, expressions_title as expressions_title_bytes, heading as heading_bytes, list_brackets_title as list_brackets_title_bytes, mark_title as mark_title_bytes, mistyped_title as mistyped_title_bytes, pattern_title as pattern_title_bytes, patterns_title as patterns_title_bytes, removal_title as removal_title_bytes, replaceable_title as replaceable_title_bytes, sides_title as sides_title_bytes, tag as tag_bytes, title as title_bytes, token_place_text as token_place_bytes, unsigned_title as unsigned_title_bytes, wrapped_title as wrapped_title_bytes};
 ghost use Rattle.hm_messages.specs.Subjects.{subject_of, syntax_fault};
 
+use crate::cutting::shortened;
 use crate::fault_titles::{fault_title, hidden_title};
 use crate::notices::notice_of;
 use crate::topic::{BothTypes, PlacedAdvice, Topic, Way};
@@ -291,7 +292,8 @@ pub(crate) fn heading(
     ensures { IfOk result (λ text. string_bytes text ≡ heading_bytes paint place (subject_of topic.now)) }
 {
     let title = title(alloc, topic)?;
-    let says = shown(alloc, title.as_bytes())?;
+    let short = shortened(alloc, title.as_bytes())?;
+    let says = shown(alloc, short.as_slice())?;
     let says = says.as_str();
     let notice = notice_of(topic);
     let tag = tag(alloc, notice.level, notice.kind)?;

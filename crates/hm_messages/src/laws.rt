@@ -1,6 +1,6 @@
 //! Laws and worked examples: functions with an empty body, whose contracts have the facts.
 ghost use Rattle.hm_messages.specs.Laws.{HasNoForeignRefusal};
-ghost use Rattle.hm_messages.specs.Worked.{ForeignRow, FurtherCountRow, FurtherRow, MessageRow, ModuleRow, PlaceRow, PositionRow, TwinRow};
+ghost use Rattle.hm_messages.specs.Worked.{CutRow, ForeignRow, FurtherCountRow, FurtherRow, MessageRow, ModuleRow, PlaceRow, PositionRow, TwinRow};
 
 /// The refusal of sources isn't foreign to them.
 #[tactic(auto, using(crate::proofs::OfSources::refusals_are_theirs))]
@@ -18,6 +18,12 @@ pub fn worked_faults()
 #[tactic(auto, using(crate::proofs::WorkedMessages::worked_messages))]
 pub fn worked_messages()
     ensures { MessageRow }
+{}
+
+/// Long texts that are cut, and shorter ones that aren't.
+#[tactic(auto, using(crate::proofs::WorkedTexts::worked_cuts))]
+pub fn worked_cuts()
+    ensures { CutRow }
 {}
 
 /// The line about skipped modules without notes, and a count without it.

@@ -2,6 +2,7 @@
 #![tactic(auto)]
 
 mod counts;
+mod cutting;
 mod cycles;
 mod fault_titles;
 mod faults;
