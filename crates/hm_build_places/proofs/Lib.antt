@@ -1,3 +1,4 @@
 mod Looked
+pub mod SkippedModules
 mod Texts
 pub mod WorkedPlaces

@@ -3,3 +3,4 @@ pub mod Typed
 pub mod Answers
 pub mod Views
 pub mod Worked
+pub mod Laws

@@ -1,5 +1,12 @@
-//! Worked examples, in functions with an empty body, whose contracts have them.
+//! A law of the text of a place, and worked examples, in functions with an empty body, whose contracts have them.
+ghost use Rattle.hm_build_places.specs.Laws.{SkippedHaveNoUses};
 ghost use Rattle.hm_build_places.specs.Worked.{BoundRow, ByteRow, HeadingRow, NothingRow, TextsRow, TypedRow};
+
+/// In a settled set a module has no uses exactly if it is skipped.
+#[tactic(auto, using(crate::proofs::SkippedModules::skipped_have_no_uses))]
+pub fn skipped_modules_have_no_uses()
+    ensures { SkippedHaveNoUses }
+{}
 
 /// The heading of a name, the byte of a character, and texts in a row.
 #[tactic(auto, using(crate::proofs::WorkedPlaces::worked_headings, crate::proofs::WorkedPlaces::worked_bytes, crate::proofs::WorkedPlaces::worked_texts))]
