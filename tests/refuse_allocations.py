@@ -38,6 +38,7 @@ skipped D
 """
 IMPORTED = b"module A where { import B ; x = y }\nmodule B where { y = 'c' }\n"
 IMPORTED_REPORT = b"module A\n  val x = A.x :: Char\nmodule B\n  val y = B.y :: Char\n2 modules: 2 good, 0 faulty, 0 skipped\n"
+IMPORTED_PLACE = b"variable y\n  bound at <stdin>:2:18\n  type Char\n"
 FAULTY = b"""module A where { twice f = f f }
 module B where { n = lenght [] }
 module C where { import A }
@@ -160,6 +161,7 @@ def refuse_in_program(refusing, program):
         ("skipped", [], SKIPPED, 1, SKIPPED_REPORT, False),
         ("doubling", [], DOUBLING, 0, doubling_report(), True),
         ("objects", ["--report-format", "json"], SKIPPED, 1, None, False),
+        ("a place", ["--at", "<stdin>:1:33"], IMPORTED, 0, IMPORTED_PLACE, False),
     ]
     well = True
     for name, more, source, status, report, doubles in sets:

@@ -2,7 +2,7 @@
 ghost use Rattle.std.specs.Prelude.{All};
 ghost use Rattle.hm_run_io.specs.Watching.{IsFresh};
 
-use crate::names::{name_of, stdin_name};
+use crate::names::name_of;
 use crate::quiet::Output;
 use hm_build::Options;
 use hm_build_place_runs::{AskedPlace, PlaceQuestion, run_place};
@@ -61,8 +61,8 @@ fn source_in(sources: &[String], stdin_name: Option<&str>, file: &str) -> Option
     None
 }
 
-/// Returns the question for the place in a word FILE:LINE:COLUMN.
-fn question_in(
+/// Returns the question for the place in a word FILE:LINE:COLUMN. `names` are those of the sources in messages.
+pub(crate) fn question_in(
     names: Vec<Vec<u8>>,
     sources: &[String],
     stdin_name: Option<&str>,
@@ -86,19 +86,6 @@ fn question_in(
         line,
         column: column as usize,
     })
-}
-
-/// Returns the question of a command line, if it has one for a place. `names` are those of the sources in messages.
-pub(crate) fn question_of(
-    sources: &[String],
-    names: Vec<Vec<u8>>,
-    asked: &Asked,
-) -> Result<Option<PlaceQuestion>, PlaceFault> {
-    let Some(word) = &asked.at else {
-        return Ok(None);
-    };
-    let question = question_in(names, sources, stdin_name(asked), word.as_str())?;
-    Ok(Some(question))
 }
 
 /// Prints what is at a place of the sources of these readers, or why they are refused.
