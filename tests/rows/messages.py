@@ -1104,6 +1104,22 @@ KINDS = [
         "                     ^\n"
         "errors: 1, skipped modules: 0\n",
     ),
+    # `()` clashes with both right sides after it, and is the slip
+    (
+        "module A where { f 0 = not 'a' ; f 1 = () ; f 2 = True ; f _ = False }",
+        1,
+        "M.hs:1:18: error: type error in 'f' [type]\n"
+        "No types fit this definition and those that refer back to it. All others that it refers to have types or signatures.\n"
+        "module A where { f 0 = not 'a' ; f 1 = () ; f 2 = True ; f _ = False }\n"
+        "                 ^\n"
+        "M.hs:1:28: note: 'f' has a type with other expressions both here (up to 1:30) and at 1:40\n"
+        "module A where { f 0 = not 'a' ; f 1 = () ; f 2 = True ; f _ = False }\n"
+        "                           ^^^\n"
+        "M.hs:1:40: note: 'f' has a type with other expressions both here (up to 1:41) and at 1:28\n"
+        "module A where { f 0 = not 'a' ; f 1 = () ; f 2 = True ; f _ = False }\n"
+        "                                       ^\n"
+        "errors: 1, skipped modules: 0\n",
+    ),
     # three wrong right sides have no note
     (
         "module A where { f :: Bool -> Bool -> Bool ; f True True = 'a' ; f True False = () ; f False y = [y] }",

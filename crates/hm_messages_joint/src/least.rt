@@ -223,7 +223,17 @@ fn whole_of(set: &[TermPart], part: TermPart) -> TermPart {
     }
 }
 
-/// Returns a least set of right sides of a definition: it has a type with holes in place of all of them.
+/// Returns the parts, the last one first.
+fn backwards(alloc: Global, parts: &[TermPart]) -> Result<Vec<TermPart>, AllocError> {
+    let mut found = Vec::with_capacity(alloc, parts.len())?;
+    for back in 0..parts.len() {
+        found.push(parts[parts.len() - 1 - back])?;
+    }
+    Ok(found)
+}
+
+/// Returns a least set of right sides of a definition: it has a type with holes in place of all of them. If one clashes with several others, it stays a hole
+/// instead of those only if it is put back after them. So both orders are tried.
 fn least_sides(
     alloc: Global,
     searched: &Searched<'_, '_>,
@@ -232,7 +242,12 @@ fn least_sides(
 ) -> Result<Option<Vec<TermPart>>, AllocError> {
     let sides = right_sides(alloc, searched.lexed.outline, definition)?;
     let sides = expressions(alloc, sides.as_slice())?;
-    set_inside(alloc, searched, &[], sides.as_slice(), effort)
+    match set_inside(alloc, searched, &[], sides.as_slice(), effort)? {
+        Some(set) => return Ok(Some(set)),
+        None => {}
+    }
+    let last_first = backwards(alloc, sides.as_slice())?;
+    set_inside(alloc, searched, &[], last_first.as_slice(), effort)
 }
 
 /// Returns the set of one expression.
