@@ -12,7 +12,7 @@ sys.path.insert(0, os.path.join(os.path.dirname(os.path.dirname(os.path.abspath(
 from measuring import SCRIPT, measured  # noqa: E402
 from sets import layered  # noqa: E402
 
-RUNS = 7
+RUNS = 21
 DECLARATIONS = 36
 
 
