@@ -8,6 +8,7 @@ pub mod Opened
 pub mod Matching
 pub mod Taken
 pub mod MatchedForms
+pub mod ConstructorParts
 pub mod FoundNames
 pub mod OpenedFunctions
 pub mod Entered

@@ -5,26 +5,24 @@ use Rattle.hm_types.specs.declared.Head.TheVariants as head
 use Rattle.hm_types.specs.Types.{Var, App, put}
 use Rattle.hm_types.specs.Monotypes.{Mono, var}
 use Rattle.hm_syntax.specs.Names.{Identifier as Name, LiteralTree}
-use Rattle.hm_syntax.specs.Trees.{Pattern, bound_pattern, constructor_pattern, literal_pattern, tuple_pattern, list_pattern, Patterns}
+use Rattle.hm_syntax.specs.Trees.{Pattern, bound_pattern, literal_pattern, tuple_pattern, list_pattern, Patterns}
 use Rattle.hm_syntax.specs.Lists.{patterns}
 use Rattle.hm_syntax.specs.Sizes.{pattern_size, patterns_size}
-use Rattle.hm_types.specs.Schemes.{TypeScheme}
 use Rattle.hm_typing.specs.Names.{Identifier}
 use Rattle.hm_typing.specs.Schemes.{Monotype}
 use Rattle.hm_typing.specs.Syntax.{pattern_names, patterns_names, pattern_count, literal_type}
-use Rattle.hm_typing.specs.Patterns.{Matches, MatchesAll, Instantiates, arrows, tuple, list}
-use Rattle.hm_typing.specs.Programs.{monotype_of}
+use Rattle.hm_typing.specs.Patterns.{Matches, MatchesAll, tuple, list}
 use Rattle.hm_typing.specs.Problems.{FactsBelow}
 use Rattle.hm_typing.proofs.Put.{put-lit}
 use Rattle.hm_typing.proofs.Solve.{put-below}
-use Rattle.hm_typing.proofs.Local.{Matches-agree, MatchesAll-agree, arrows-agree, arguments-agree}
+use Rattle.hm_typing.proofs.Local.{Matches-agree, MatchesAll-agree, arguments-agree}
 use Rattle.hm_unify.specs.Solving.{Solving}
 use Rattle.hm_unify.specs.WellFormed.{IsWellFormed}
 use Rattle.hm_unify.specs.declared.faults.UnifyFault.{UnifyFault}
 use Rattle.hm_unify.specs.declared.faults.UnifyFault.TheVariants.{Clash, Memory}
 use Rattle.hm_infer_context.specs.Problems.{number, monotype, problem, bound, Answers, Refuses, given_more, new_at}
 use Rattle.hm_infer_context.specs.Patterns.{Variable, HaveTypes, AreGiven, IsMatched, RefusesMatch, Matched, from_number}
-use Rattle.hm_names.specs.Syntax.{Known, name_of, literal_of, pattern_of, patterns_of, constructor_type_of}
+use Rattle.hm_names.specs.Syntax.{Known, name_of, literal_of, pattern_of, patterns_of}
 use Rattle.hm_infer_context.proofs.Leaves.{monotype-below}
 use Rattle.hm_infer_context.proofs.States.{Makes}
 use Rattle.hm_infer_context.proofs.Outcomes.{SolvedBy, solved_same, pass_on, IsLocalIn}
@@ -154,41 +152,6 @@ row_answers : {X : Type 0} (known : Known) (ps : Patterns) (g first : ℕ) (ys :
     Matched (AsksAll known ps false first 0) ys s1 vs s2 vs2 outcome → Matched (λ ρ r. MatchesAll ρ (patterns_of known ps) (new_at g r) 0) ys s1 vs s2 vs2 outcome
 row_answers known ps g first ys s1 vs s2 vs2 outcome e m = subst (λ k. Matched (λ ρ r. MatchesAll ρ (patterns_of known ps) (new_at k r) 0) ys s1 vs s2 vs2 outcome) e m
 
--- a constructor
-
-constructor_asked : Known → Name → ℕ → Mono → (ℕ → Monotype) → (ℕ → Monotype) → Type 0
-constructor_asked known n k t r us = Instantiates (constructor_type_of known n) (arrows k us 0 (put r (monotype t)))
-
-constructor_local : (known : Known) (n : Name) (k : ℕ) (t : Mono) (s : Solving) → IsWellFormed s.given t → IsLocalIn (bound s) k (constructor_asked known n k t)
-unfolding constructor_asked
-constructor_local known n k t s w r q us ws f d p =
-    (p.0, arrows-agree k ws us 0 (put q (monotype t)) (λ j l h. d j (omega arith)) ∙ (ap (arrows k us 0) (sym (type_local s t r q w f)) ∙ p.1))
-
-pub constructor_answers : {X : Type 0} (known : Known) (n : Name) (ps : List Pattern) (first : ℕ) (t : Mono) (s : Solving) (vs : List Variable) (s1 s2 : Solving) (vs2 : List Variable) (outcome : Result X UnifyFault) →
-    FactsBelow (bound s) (problem s) → AreGiven s.given vs → IsWellFormed s.given t → first ≡ s.given →
-    SolvedBy (λ r. Instantiates (constructor_type_of known n) (arrows (length ps) (new_at s.given r) 0 (put r (monotype t)))) (given_more s (length ps)) s1 →
-    Matched (AsksAll known (patterns ps) false first 0) (patterns_names (patterns_of known (patterns ps))) s1 vs s2 vs2 outcome → AnswersPattern known (constructor_pattern n (patterns ps)) t s vs s2 vs2 outcome
-unfolding constructor_asked
-constructor_answers known n ps first t s vs s1 s2 vs2 outcome b a w e i m =
-    let k = length ps in
-    let c = count_is known ps in
-    answers_same (Parted (constructor_asked known n k t) (λ ρ us. MatchesAll ρ (patterns_of known (patterns ps)) us 0)) (Asks known (constructor_pattern n (patterns ps)) t) _ s vs s2 vs2 outcome
-    (λ ρ r p. (p.0, (subst (λ j. Instantiates (constructor_type_of known n) (arrows j p.0 0 (put r (monotype t)))) (sym c) p.1.0, p.1.1)))
-    (λ ρ r p. (p.0, (subst (λ j. Instantiates (constructor_type_of known n) (arrows j p.0 0 (put r (monotype t)))) c p.1.0, p.1.1)))
-    (parted_answers (constructor_asked known n k t) (λ ρ us. MatchesAll ρ (patterns_of known (patterns ps)) us 0) _ s k vs s1 s2 vs2 outcome b a (constructor_local known n k t s w) (all_local known (patterns ps) k (sym c)) i (row_answers known (patterns ps) s.given first _ s1 vs s2 vs2 outcome e m))
-
-pub constructor_refused : (known : Known) (n : Name) (ps : List Pattern) (t : Mono) (s : Solving) (vs : List Variable) (e : UnifyFault) →
-    FactsBelow (bound s) (problem s) → AreGiven s.given vs → IsWellFormed s.given t →
-    Refuses (λ r. Instantiates (constructor_type_of known n) (arrows (length ps) (new_at s.given r) 0 (put r (monotype t)))) (given_more s (length ps)) e →
-    (τ : Identifier → Monotype) → HaveTypes τ vs → RefusesMatch (Asks known (constructor_pattern n (patterns ps)) t) s vs τ e
-unfolding constructor_asked
-constructor_refused known n ps t s vs e b a w i τ h =
-    let k = length ps in
-    let c = count_is known ps in
-    refused_same (Parted (constructor_asked known n k t) (λ ρ us. MatchesAll ρ (patterns_of known (patterns ps)) us 0)) (Asks known (constructor_pattern n (patterns ps)) t) s vs τ e
-    (λ ρ r p. (p.0, (subst (λ j. Instantiates (constructor_type_of known n) (arrows j p.0 0 (put r (monotype t)))) c p.1.0, p.1.1)))
-    (parted_refused (constructor_asked known n k t) (λ ρ us. MatchesAll ρ (patterns_of known (patterns ps)) us 0) s k vs e b a (constructor_local known n k t s w) (all_local known (patterns ps) k (sym c)) i τ h)
-
 -- a tuple
 
 tuple_asked : ℕ → Mono → (ℕ → Monotype) → (ℕ → Monotype) → Type 0
@@ -288,12 +251,12 @@ row_step_refused known p rest same first i s vs s1 vs1 e l m n τ h =
     (refused_then A (Asks known p t) (patterns_names (patterns_of known (patterns rest))) s vs τ s1 vs1 j.0 e (λ r q ρ f d. subst (Matches ρ (pattern_of known p)) (sym (f (number (var (cond same first (first + i)))) (omega arith))) d) j.1 (n j.0 j.1.typed))
 
 -- the rest of a row is asked for where the row is
-rest_asked : (known : Known) (ps : List Pattern) (ρ : Identifier → Monotype) (ts : ℕ → Monotype) (i k : ℕ) → MatchesAll ρ (patterns_of known (patterns ps)) ts i → MatchesAll ρ (patterns_of known (patterns (drop k ps))) ts (i + k)
+pub rest_asked : (known : Known) (ps : List Pattern) (ρ : Identifier → Monotype) (ts : ℕ → Monotype) (i k : ℕ) → MatchesAll ρ (patterns_of known (patterns ps)) ts i → MatchesAll ρ (patterns_of known (patterns (drop k ps))) ts (i + k)
 rest_asked known ps ρ ts i zero m = subst (MatchesAll ρ (patterns_of known (patterns ps)) ts) (omega arith) m
 rest_asked known [] ρ ts i (suc k) m = tt
 rest_asked known (p ∷ ps) ρ ts i (suc k) m = subst (MatchesAll ρ (patterns_of known (patterns (drop k ps))) ts) (omega arith) (rest_asked known ps ρ ts (suc i) k m.1)
 
-one_back : (ps : List Pattern) (j : ℕ) (d : Pattern) → 0 < j → j ≤ length ps → d ≡ get_or ps (j - 1) d → drop (j - 1) ps ≡ d ∷ drop j ps
+pub one_back : (ps : List Pattern) (j : ℕ) (d : Pattern) → 0 < j → j ≤ length ps → d ≡ get_or ps (j - 1) d → drop (j - 1) ps ≡ d ∷ drop j ps
 one_back ps j d h l e =
     let k : suc (j - 1) ≡ j = omega arith in
     drop-cons ps (j - 1) d (omega arith) ∙ (ap (λ x. x ∷ drop (suc (j - 1)) ps) (sym e) ∙ ap (λ n. d ∷ drop n ps) k)
@@ -332,23 +295,6 @@ pub later_given : (s s1 : Solving) (t : Mono) → s.given ≤ s1.given → IsWel
 later_given s s1 t l w = Rattle.hm_unify.proofs.WellFormed.well_formed_more s.given s1.given t l w
 
 -- In the states of the program
-
-pub constructor_answers_at : {X : Type 0} (known : Known) (n : Name) (ps qs : List Pattern) (scheme : TypeScheme) (count first : ℕ) (t : Mono) (s : Solving) (vs : List Variable) (s1 s2 : Solving) (vs2 : List Variable) (outcome : Result X UnifyFault) →
-    scheme ≡ known.scheme n → count ≡ length ps → qs ≡ ps → FactsBelow (bound s) (problem s) → AreGiven s.given vs → IsWellFormed s.given t → first ≡ s.given →
-    SolvedBy (λ r. Instantiates (monotype_of scheme.body) (arrows count (new_at s.given r) 0 (put r (monotype t)))) (given_more s count) s1 →
-    Matched (AsksAll known (patterns qs) false first 0) (patterns_names (patterns_of known (patterns qs))) s1 vs s2 vs2 outcome → AnswersPattern known (constructor_pattern n (patterns ps)) t s vs s2 vs2 outcome
-constructor_answers_at known n ps qs scheme count first t s vs s1 s2 vs2 outcome e f g b a w h i m =
-    constructor_answers known n ps first t s vs s1 s2 vs2 outcome b a w h
-    (subst (λ c. SolvedBy (λ r. Instantiates (constructor_type_of known n) (arrows c (new_at s.given r) 0 (put r (monotype t)))) (given_more s c) s1) f (subst (λ z. SolvedBy (λ r. Instantiates (monotype_of z.body) (arrows count (new_at s.given r) 0 (put r (monotype t)))) (given_more s count) s1) e i))
-    (subst (λ k. Matched (AsksAll known (patterns k) false first 0) (patterns_names (patterns_of known (patterns k))) s1 vs s2 vs2 outcome) g m)
-
-pub constructor_refused_at : (known : Known) (n : Name) (ps : List Pattern) (scheme : TypeScheme) (count : ℕ) (t : Mono) (s : Solving) (vs : List Variable) (k : UnifyFault) → scheme ≡ known.scheme n → count ≡ length ps →
-    FactsBelow (bound s) (problem s) → AreGiven s.given vs → IsWellFormed s.given t →
-    Refuses (λ r. Instantiates (monotype_of scheme.body) (arrows count (new_at s.given r) 0 (put r (monotype t)))) (given_more s count) k →
-    (τ : Identifier → Monotype) → HaveTypes τ vs → RefusesMatch (Asks known (constructor_pattern n (patterns ps)) t) s vs τ k
-constructor_refused_at known n ps scheme count t s vs k e f b a w i =
-    constructor_refused known n ps t s vs k b a w
-    (subst (λ c. Refuses (λ r. Instantiates (constructor_type_of known n) (arrows c (new_at s.given r) 0 (put r (monotype t)))) (given_more s c) k) f (subst (λ z. Refuses (λ r. Instantiates (monotype_of z.body) (arrows count (new_at s.given r) 0 (put r (monotype t)))) (given_more s count) k) e i))
 
 pub tuple_answers_at : {X : Type 0} (known : Known) (ps qs : List Pattern) (count first : ℕ) (t : Mono) (s : Solving) (vs : List Variable) (s1 s2 : Solving) (vs2 : List Variable) (outcome : Result X UnifyFault) →
     count ≡ length ps → qs ≡ ps → FactsBelow (bound s) (problem s) → AreGiven s.given vs → IsWellFormed s.given t → first ≡ s.given →

@@ -7,6 +7,7 @@ pub mod Constructors
 pub mod KnownSchemes
 pub mod AssumedTypes
 pub mod PartTypes
+pub mod ConstructorParts
 pub mod VariableKinds
 pub mod ConstructorPlaces
 pub mod Kept

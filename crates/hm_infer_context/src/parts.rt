@@ -1,45 +1,24 @@
 //! Splits types: makes a type equal to one whose parts are new variables.
 
-ghost use Rattle.std.specs.Prelude.{◌≡◌, ◌+◌, ◌<◌, ◌^◌, IfErr, IfOk, IsTrue};
+ghost use Rattle.std.specs.Prelude.{◌≡◌, ◌+◌, ◌<◌, ◌^◌, IfErr, IfOk, IsTrue, length};
 ghost use Rattle.hm_types.specs.Shape.{type_of};
 ghost use Rattle.hm_types.specs.Types.{App as app, put};
 ghost use Rattle.hm_types.specs.Monotypes.{Monos};
 ghost use Rattle.hm_types.specs.declared.Head.TheVariants as head;
-ghost use Rattle.hm_typing.specs.Patterns.{Instantiates, arrows, tuple, list};
+ghost use Rattle.hm_typing.specs.Patterns.{arrows, tuple, list};
 ghost use Rattle.hm_typing.specs.Problems.{FactsBelow};
 ghost use Rattle.hm_typing.specs.Programs.{monotype_of};
 ghost use Rattle.hm_unify.specs.WellFormed.{IsWellFormed};
 ghost use Rattle.hm_infer_context.specs.Problems.{Answers, Refuses, monotype, problem, bound, given_more, new_at};
-ghost use Rattle.hm_infer_context.specs.Inferred.{AreParts, IsSomeFunction};
+ghost use Rattle.hm_infer_context.specs.Inferred.{AreParts, IsFound, IsSomeFunction};
+ghost use Rattle.hm_infer_context.specs.ConstructorParts.{AreGivenTypes, HasArguments, IsConstructed, put_types};
 
-use crate::instances::check_declared;
+use crate::instances::scheme_instance;
 use crate::shapes::{function_type, list_type, tuple_type};
 use crate::unifying::{equate, new_variables};
 use hm_types::{Head, Scheme, Ty};
 use hm_unify::{Solver, UnifyFault};
 use std::alloc::Global;
-
-/// Makes an instance of a constructor's scheme equal to the type of functions from `count` new
-/// variables to `t`. Returns the number of the first.
-pub(crate) fn constructor_parts(
-    alloc: Global,
-    solver: &mut Solver,
-    scheme: &Scheme,
-    count: usize,
-    t: &Ty,
-) -> Result<usize, UnifyFault>
-    requires { IsWellFormed solver.old.given (type_of t.now) }
-    ensures first { IfOk result (λ n. n ≡ solver.old.given) }
-    ensures fits { IfOk result (λ n. n + count < 2 ^ 64) }
-    ensures below { FactsBelow (bound solver.old) (problem solver.old) }
-    ensures answers { Answers (λ r. Instantiates (monotype_of scheme.now.body)
-        (arrows count (new_at solver.old.given r) 0 (put r (monotype (type_of t.now))))) (given_more solver.old count) solver.new result }
-{
-    let first = new_variables(solver, count)?;
-    let whole = function_type(alloc, first, count, t)?;
-    check_declared(alloc, solver, scheme, &whole)?;
-    Ok(first)
-}
 
 /// Makes a type equal to that of functions from `count` new variables to another new one, which
 /// comes last. Returns the number of the first.
@@ -180,4 +159,31 @@ pub fn split_function(alloc: Global, solver: &mut Solver, t: Ty) -> Result<Funct
         return Err(UnifyFault::Memory);
     };
     Ok(FunctionType { argument, outcome })
+}
+
+// Why: docs/DECISIONS.md, "Types of patterns".
+/// Takes an instance of a constructor's scheme apart: into the types of `count` arguments and the outcome, which is made equal to `t`. Returns the
+/// types of the arguments.
+pub(crate) fn constructor_parts(
+    alloc: Global,
+    solver: &mut Solver,
+    scheme: &Scheme,
+    count: usize,
+    t: &Ty,
+) -> Result<Vec<Ty>, UnifyFault>
+    requires { IsWellFormed solver.old.given (type_of t.now) }
+    ensures found { IfOk result (λ ts. IsFound (HasArguments (monotype_of scheme.now.body) count (type_of t.now)) solver.old solver.new (λ r. put_types r ts.items)) }
+    ensures len { IfOk result (λ ts. length ts.items ≡ count) }
+    ensures given { IfOk result (λ ts. AreGivenTypes solver.new.given ts.items) }
+    ensures refused { IfErr result (Refuses (IsConstructed (monotype_of scheme.now.body) count (type_of t.now)) solver.old) }
+{
+    let mut rest = scheme_instance(alloc, solver, scheme.vars(), scheme.body())?;
+    let mut arguments = Vec::with_capacity(alloc, count)?;
+    'arguments: for _ in 0..count {
+        let FunctionType { argument, outcome } = split_function(alloc, solver, rest)?;
+        arguments.push(argument)?;
+        rest = outcome;
+    }
+    equate(solver, t, rest)?;
+    Ok(arguments)
 }

@@ -13,6 +13,7 @@ ghost use Rattle.hm_infer_context.specs.Problems.{monotype, Answers};
 ghost use Rattle.hm_typing.specs.Names.{Identifier};
 ghost use Rattle.hm_typing.specs.Schemes.{Monotype};
 ghost use Rattle.hm_infer_context.specs.PartTypes.{is_one, first_of};
+ghost use Rattle.hm_infer_context.specs.ConstructorParts.{AreGivenTypes, put_types, type_among};
 ghost use Rattle.hm_infer_context.specs.Patterns.{Matched, AreGiven, HaveTypes, from_number};
 ghost use Rattle.hm_names.specs.Syntax.{name_of, pattern_of, patterns_of};
 ghost use Rattle.hm_infer_context.specs.Constructors.{known_of};
@@ -106,14 +107,8 @@ pub fn match_pattern<'a>(
         }
         PatKind::Con(name, parts) => {
             let scheme = constructors.find(alloc, name)?;
-            let first = constructor_parts(alloc, solver, scheme.as_scheme(), parts.len(), t)?;
-            match_patterns(
-                solver,
-                constructors,
-                variables,
-                parts,
-                PartTypes::Row(first),
-            )
+            let types = constructor_parts(alloc, solver, scheme.as_scheme(), parts.len(), t)?;
+            match_row(solver, constructors, variables, parts, &types)
         }
         PatKind::Literal(literal) => {
             let own = literal_type(alloc, literal)?;
@@ -166,6 +161,31 @@ pub(crate) fn match_patterns<'a>(
         j -= 1;
         let number = types.at(j);
         match_pattern(solver, constructors, variables, &parts[j], &Ty::Var(number))?;
+    }
+    Ok(())
+}
+
+/// Matches as many patterns against types, the last first, and adds their variables.
+#[cycle(matching)]
+fn match_row<'a>(
+    solver: &mut Solver,
+    constructors: &Constructors,
+    variables: &mut Variables<'a>,
+    parts: &'a [Pat],
+    types: &[Ty],
+) -> Result<(), UnifyFault>
+    requires len { length types.now ≡ length parts.now }
+    requires given { AreGivenTypes solver.old.given types.now }
+    requires variables { AreGiven solver.old.given variables.old }
+    requires typed { (τ : Identifier → Monotype) × HaveTypes τ variables.old }
+    ensures { let ps = patterns_of (known_of constructors.now) (patterns parts.now) in
+        Matched (λ ρ r. MatchesAll ρ ps (type_among (put_types r types.now)) 0) (patterns_names ps) solver.old variables.old solver.new variables.new result }
+{
+    solver.well_formed();
+    let mut j = parts.len();
+    'parts: while j > 0 {
+        j -= 1;
+        match_pattern(solver, constructors, variables, &parts[j], &types[j])?;
     }
     Ok(())
 }

@@ -1,22 +1,69 @@
-use Rattle.std.proofs.Common.{ap, arith}
+use Rattle.std.proofs.Common.{◌≡◌, ◌+◌, suc, length, ap, subst, sym, arith}
 use Rattle.hm_types.specs.Shape.{type_of}
-use Rattle.hm_types.specs.Types.{put}
-use Rattle.hm_typing.specs.Patterns.{Instantiates, arrows}
 use Rattle.hm_typing.specs.Programs.{monotype_of}
-use Rattle.hm_infer_context.specs.Problems.{monotype, given_more, new_at}
-use Rattle.hm_infer_context.proofs.Opened.{more_given}
-use Rattle.hm_infer_context.proofs.Taken.{reworded, reworded_refusal, constructor_turn}
+use Rattle.hm_unify.proofs.WellFormed.{well_formed_more}
+use Rattle.hm_infer_context.specs.ConstructorParts.{AreGivenTypes, IsConstructed}
+use Rattle.hm_infer_context.proofs.ConstructorParts.{all_given_later, all_given_pushed, closed_refused, front_closed, front_none, front_pushed, front_refused, one_longer, IsFrontFound}
+use Rattle.hm_infer_context.proofs.Inferred.{declared_inferred, refusal_passed}
+use Rattle.hm_infer_context.proofs.Opened.{declared_given}
 use Rattle.hm_infer_context.proofs.parts.constructor_parts.Goals as goal
 
-pub check_declared-requires : goal.check_declared-requires
-check_declared-requires c = c.in_ok-whole.ensures.given c.new_variables.new.solver.given (omega (arith, c.in_ok-first.ensures.first, ap (λ z. z.given) c.in_ok-first.ensures.next)) (more_given c.args.solver.now c.new_variables.new.solver c.args.count _ c.in_ok-first.ensures.next c.requires)
+pub scheme_instance-requires : goal.scheme_instance-requires
+scheme_instance-requires c = record { scheme = declared_given c.args.solver.now c.args.scheme.now _ _ c.body.ensures.valid c.vars.ensures c.body.ensures.value }
 
-pub returns-in_err-check_declared-clause-answers : goal.returns-in_err-check_declared-clause-answers
-returns-in_err-check_declared-clause-answers c =
-    let turn = constructor_turn (monotype_of c.args.scheme.now.body) c.args.solver.now.given c.in_ok-first.first c.args.count (type_of c.args.t.now) (type_of c.in_ok-whole.whole) c.in_ok-first.ensures.first c.in_ok-whole.ensures.shape in
-    reworded_refusal (λ r. Instantiates (monotype_of c.args.scheme.now.body) (put r (monotype (type_of c.in_ok-whole.whole)))) (λ r. Instantiates (monotype_of c.args.scheme.now.body) (arrows c.args.count (new_at c.args.solver.now.given r) 0 (put r (monotype (type_of c.args.t.now))))) c.new_variables.new.solver (given_more c.args.solver.now c.args.count) c.check_declared.new.solver c.from_residual-in_err-check_declared.result c.in_err-check_declared.field-0.0 c.in_ok-first.ensures.next c.from_residual-in_err-check_declared.ensures.1 turn.1 c.in_err-check_declared.ensures
+pub arguments-init : goal.arguments-init
+arguments-init c =
+    let a = declared_inferred c.args.solver.now c.scheme_instance.new.solver c.args.scheme.now _ _ (type_of c.in_ok-rest.rest) c.body.ensures.valid c.vars.ensures c.body.ensures.value c.in_ok-rest.ensures.inferred in
+    record {
+      len = ap length c.in_ok-arguments.ensures.items;
+      within = omega arith;
+      grows = a.grows;
+      rest = c.in_ok-rest.ensures.given;
+      given = subst (AreGivenTypes c.scheme_instance.new.solver.given) (sym c.in_ok-arguments.ensures.items) tt;
+      found = front_none (monotype_of c.args.scheme.now.body) c.args.solver.now c.scheme_instance.new.solver c.in_ok-arguments.arguments.items (type_of c.in_ok-rest.rest) c.in_ok-arguments.ensures.items a;
+    }
 
-pub returns-clause-answers : goal.returns-clause-answers
-returns-clause-answers c =
-    let turn = constructor_turn (monotype_of c.args.scheme.now.body) c.args.solver.now.given c.in_ok-first.first c.args.count (type_of c.args.t.now) (type_of c.in_ok-whole.whole) c.in_ok-first.ensures.first c.in_ok-whole.ensures.shape in
-    reworded (λ r. Instantiates (monotype_of c.args.scheme.now.body) (put r (monotype (type_of c.in_ok-whole.whole)))) (λ r. Instantiates (monotype_of c.args.scheme.now.body) (arrows c.args.count (new_at c.args.solver.now.given r) 0 (put r (monotype (type_of c.args.t.now))))) c.new_variables.new.solver (given_more c.args.solver.now c.args.count) c.check_declared.new.solver c.in_ok-first.ensures.next turn.0 turn.1 c.in_ok-check_declared.ensures
+pub split_function-requires : goal.split_function-requires
+split_function-requires c = record { given = c.arguments.invariant.rest }
+
+pub returns-in_err-argument-clause-refused : goal.returns-in_err-argument-clause-refused
+returns-in_err-argument-clause-refused c =
+    refusal_passed (IsConstructed (monotype_of c.args.scheme.now.body) c.args.count (type_of c.args.t.now)) c.args.solver.now c.from_residual-in_err-argument.result c.in_err-argument.field-0.0 c.from_residual-in_err-argument.ensures.1
+    (front_refused (monotype_of c.args.scheme.now.body) c.arguments.counter c.args.count c.args.solver.now c.arguments.solver c.arguments.arguments.items (type_of c.arguments.rest) (type_of c.args.t.now) c.in_err-argument.field-0.0 c.arguments-test.true c.arguments.invariant.found c.in_err-argument.ensures.refused)
+
+pub arguments-preserved : goal.arguments-preserved
+arguments-preserved c =
+    let g = c.in_ok-argument.ensures.parts.grows in
+    record {
+      len = one_longer c.arguments.arguments.items c.push.new.self.items c.in_ok-argument.field-0.argument c.arguments.counter c.in_ok-push.ensures.items c.arguments.invariant.len;
+      within = omega arith;
+      grows = (let h = c.arguments.invariant.grows in omega (arith, g, h));
+      rest = c.in_ok-argument.ensures.given.1;
+      given = all_given_pushed c.split_function.new.solver.given c.arguments.arguments.items c.push.new.self.items c.in_ok-argument.field-0.argument c.in_ok-push.ensures.items (all_given_later c.arguments.solver.given c.split_function.new.solver.given c.arguments.arguments.items g c.arguments.invariant.given) c.in_ok-argument.ensures.given.0;
+      found = front_pushed (monotype_of c.args.scheme.now.body) c.arguments.counter (c.arguments.counter + 1) c.args.solver.now c.arguments.solver c.split_function.new.solver c.arguments.arguments.items c.push.new.self.items (type_of c.arguments.rest) c.in_ok-argument.field-0.argument (type_of c.in_ok-argument.field-0.outcome) c.in_ok-push.ensures.items (let z : c.arguments.counter + 1 ≡ suc c.arguments.counter = omega arith in z) c.arguments.invariant.given c.arguments.invariant.found c.in_ok-argument.ensures.parts;
+    }
+
+pub equate-requires-clause-left : goal.equate-requires-clause-left
+equate-requires-clause-left c = well_formed_more c.args.solver.now.given c.arguments.solver.given (type_of c.args.t.now) c.arguments.invariant.grows c.requires
+
+pub equate-requires-clause-right : goal.equate-requires-clause-right
+equate-requires-clause-right c = c.arguments.invariant.rest
+
+pub returns-in_err-equate-clause-refused : goal.returns-in_err-equate-clause-refused
+returns-in_err-equate-clause-refused c =
+    let n : c.arguments.counter ≡ c.args.count = (let w = c.arguments.invariant.within in omega (arith, w, c.arguments-test.false)) in
+    refusal_passed (IsConstructed (monotype_of c.args.scheme.now.body) c.args.count (type_of c.args.t.now)) c.args.solver.now c.from_residual-in_err-equate.result c.in_err-equate.field-0.0 c.from_residual-in_err-equate.ensures.1
+    (closed_refused (monotype_of c.args.scheme.now.body) c.args.count c.args.solver.now c.arguments.solver c.arguments.arguments.items (type_of c.arguments.rest) (type_of c.args.t.now) c.in_err-equate.field-0.0 c.requires
+    (subst (λ k. IsFrontFound (monotype_of c.args.scheme.now.body) k c.args.solver.now c.arguments.solver c.arguments.arguments.items (type_of c.arguments.rest)) n c.arguments.invariant.found) c.in_err-equate.ensures.answers)
+
+pub returns-clause-found : goal.returns-clause-found
+returns-clause-found c =
+    let n : c.arguments.counter ≡ c.args.count = (let w = c.arguments.invariant.within in omega (arith, w, c.arguments-test.false)) in
+    front_closed (monotype_of c.args.scheme.now.body) c.args.count c.args.solver.now c.arguments.solver c.equate.new.solver c.arguments.arguments.items (type_of c.arguments.rest) (type_of c.args.t.now) c.requires c.arguments.invariant.given
+    (subst (λ k. IsFrontFound (monotype_of c.args.scheme.now.body) k c.args.solver.now c.arguments.solver c.arguments.arguments.items (type_of c.arguments.rest)) n c.arguments.invariant.found) c.in_ok-equate.ensures.answers
+
+pub returns-clause-len : goal.returns-clause-len
+returns-clause-len c = let w = c.arguments.invariant.within in let l = c.arguments.invariant.len in omega (arith, w, l, c.arguments-test.false)
+
+pub returns-clause-given : goal.returns-clause-given
+returns-clause-given c = all_given_later c.arguments.solver.given c.equate.new.solver.given c.arguments.arguments.items (let g = c.in_ok-equate.ensures.given in omega (arith, g)) c.arguments.invariant.given

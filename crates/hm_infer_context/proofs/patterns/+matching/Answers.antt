@@ -1,4 +1,4 @@
-use Rattle.std.proofs.Common.{ap, sym, ◌∙◌, subst, refl, arith, rules, ◌<◌, ◌-◌, Ok}
+use Rattle.std.proofs.Common.{◌≡◌, ap, sym, ◌∙◌, subst, refl, arith, rules, ◌<◌, ◌-◌, length, Ok}
 use Rattle.hm_types.specs.Shape.{type_of}
 use Rattle.hm_syntax.specs.Lists.{patterns}
 use Rattle.hm_syntax.specs.Sizes.{pattern_size, patterns_size}
@@ -11,9 +11,13 @@ use Rattle.hm_infer_context.specs.Patterns.{HaveTypes, RefusesMatch, IsMatched}
 use Rattle.hm_names.specs.Syntax.{pattern_of}
 use Rattle.hm_infer_context.specs.Constructors.{known_of}
 use Rattle.hm_infer_context.specs.PartTypes.{is_one, first_of}
+use Rattle.hm_typing.specs.Programs.{monotype_of}
+use Rattle.hm_infer_context.specs.ConstructorParts.{AreGivenTypes, HasArguments, put_types}
+use Rattle.hm_infer_context.specs.Inferred.{IsFound}
 use Rattle.hm_infer_context.proofs.States.{problem_below}
-use Rattle.hm_infer_context.proofs.Matching.{match_passed, matched_nothing}
-use Rattle.hm_infer_context.proofs.MatchedForms.{Asks, AsksAll, pattern_is, bound_answers, bound_refused, literal_answers, constructor_answers_at, constructor_refused_at, tuple_answers_at, tuple_refused_at, list_answers_at, list_refused, row_empty, row_back_at, row_refused_at, row_whole, size_at, later_number, parts_given, numbers_given, number_given, later_given}
+use Rattle.hm_infer_context.proofs.Matching.{given_later, match_passed, matched_nothing}
+use Rattle.hm_infer_context.proofs.MatchedForms.{Asks, AsksAll, pattern_is, bound_answers, bound_refused, literal_answers, tuple_answers_at, tuple_refused_at, list_answers_at, list_refused, row_empty, row_back_at, row_refused_at, row_whole, size_at, later_number, parts_given, numbers_given, number_given, later_given}
+use Rattle.hm_infer_context.proofs.ConstructorParts.{AsksTypes, constructor_answers, constructor_refused, given_at, types_back, types_empty, types_refused, types_whole}
 use Rattle.hm_infer_context.proofs.patterns.+matching.Goals as goal
 
 pub match_pattern-returns-in_err-match_pattern-in-Bound : goal.match_pattern-returns-in_err-match_pattern-in-Bound
@@ -57,22 +61,25 @@ match_pattern-returns-in-Lazy t c =
     pattern_is (known_of c.args.constructors.now) (lazy_pattern p) c.args.pattern.now (type_of c.args.t.now) c.args.solver.now c.args.variables.now c.match_pattern-in-Lazy.new.solver c.match_pattern-in-Lazy.new.variables c.match_pattern-in-Lazy.result (sym (ap tree_of c.in-Lazy.is) ∙ c.pattern.view_is)
     (pattern_is (known_of c.args.constructors.now) c.deref-in-Lazy.result.now p (type_of c.args.t.now) c.args.solver.now c.args.variables.now c.match_pattern-in-Lazy.new.solver c.match_pattern-in-Lazy.new.variables c.match_pattern-in-Lazy.result c.deref-in-Lazy.ensures c.match_pattern-in-Lazy.ensures)
 
-pub match_pattern-returns-in_err-first-in-Con : goal.match_pattern-returns-in_err-first-in-Con
-match_pattern-returns-in_err-first-in-Con t c =
-    pattern_is (known_of c.args.constructors.now) (constructor_pattern c.in-Con.name (patterns c.in-Con.parts.items)) c.args.pattern.now (type_of c.args.t.now) c.args.solver.now c.args.variables.now c.constructor_parts.new.solver c.args.variables.now c.from_residual-in_err-first-in-Con.result (sym (ap tree_of c.in-Con.is) ∙ c.pattern.view_is)
-    (match_passed (Asks (known_of c.args.constructors.now) (constructor_pattern c.in-Con.name (patterns c.in-Con.parts.items)) (type_of c.args.t.now)) _ c.args.solver.now c.args.variables.now c.constructor_parts.new.solver c.args.variables.now c.from_residual-in_err-first-in-Con.result c.in_err-first-in-Con.field-0.0 c.from_residual-in_err-first-in-Con.ensures.1 (constructor_refused_at (known_of c.args.constructors.now) c.in-Con.name c.in-Con.parts.items c.as_scheme.result.now c.len.result (type_of c.args.t.now) c.args.solver.now c.args.variables.now c.in_err-first-in-Con.field-0.0 (c.as_scheme.ensures ∙ c.in_ok-scheme-in-Con.ensures) (omega (arith, c.len.ensures, c.in-Con.parts.ok.0)) c.in_err-first-in-Con.ensures.below c.requires.variables c.requires.given c.in_err-first-in-Con.ensures.answers))
+pub match_pattern-returns-in_err-types-in-Con : goal.match_pattern-returns-in_err-types-in-Con
+match_pattern-returns-in_err-types-in-Con t c =
+    pattern_is (known_of c.args.constructors.now) (constructor_pattern c.in-Con.name (patterns c.in-Con.parts.items)) c.args.pattern.now (type_of c.args.t.now) c.args.solver.now c.args.variables.now c.constructor_parts.new.solver c.args.variables.now c.from_residual-in_err-types-in-Con.result (sym (ap tree_of c.in-Con.is) ∙ c.pattern.view_is)
+    (match_passed (Asks (known_of c.args.constructors.now) (constructor_pattern c.in-Con.name (patterns c.in-Con.parts.items)) (type_of c.args.t.now)) _ c.args.solver.now c.args.variables.now c.constructor_parts.new.solver c.args.variables.now c.from_residual-in_err-types-in-Con.result c.in_err-types-in-Con.field-0.0 c.from_residual-in_err-types-in-Con.ensures.1
+    (constructor_refused (known_of c.args.constructors.now) c.in-Con.name c.in-Con.parts.items c.as_scheme.result.now c.len.result (type_of c.args.t.now) c.args.solver.now c.args.variables.now c.in_err-types-in-Con.field-0.0 (c.as_scheme.ensures ∙ c.in_ok-scheme-in-Con.ensures) (omega (arith, c.len.ensures, c.in-Con.parts.ok.0)) c.in_err-types-in-Con.ensures.refused))
 
-pub match_pattern-returns-in_ok-first-in-Con : goal.match_pattern-returns-in_ok-first-in-Con
-match_pattern-returns-in_ok-first-in-Con t c =
-    pattern_is (known_of c.args.constructors.now) (constructor_pattern c.in-Con.name (patterns c.in-Con.parts.items)) c.args.pattern.now (type_of c.args.t.now) c.args.solver.now c.args.variables.now c.match_patterns.new.solver c.match_patterns.new.variables c.match_patterns.result (sym (ap tree_of c.in-Con.is) ∙ c.pattern.view_is)
-    (constructor_answers_at (known_of c.args.constructors.now) c.in-Con.name c.in-Con.parts.items c.deref-in-Con.result.now c.as_scheme.result.now c.len.result c.in_ok-first-in-Con.first (type_of c.args.t.now) c.args.solver.now c.args.variables.now c.constructor_parts.new.solver c.match_patterns.new.solver c.match_patterns.new.variables c.match_patterns.result (c.as_scheme.ensures ∙ c.in_ok-scheme-in-Con.ensures) (omega (arith, c.len.ensures, c.in-Con.parts.ok.0)) c.deref-in-Con.ensures.value c.in_ok-first-in-Con.ensures.below c.requires.variables c.requires.given c.in_ok-first-in-Con.ensures.first c.in_ok-first-in-Con.ensures.answers c.match_patterns.ensures)
+pub match_pattern-returns-in_ok-types-in-Con : goal.match_pattern-returns-in_ok-types-in-Con
+match_pattern-returns-in_ok-types-in-Con t c =
+    pattern_is (known_of c.args.constructors.now) (constructor_pattern c.in-Con.name (patterns c.in-Con.parts.items)) c.args.pattern.now (type_of c.args.t.now) c.args.solver.now c.args.variables.now c.match_row.new.solver c.match_row.new.variables c.match_row.result (sym (ap tree_of c.in-Con.is) ∙ c.pattern.view_is)
+    (constructor_answers (known_of c.args.constructors.now) c.in-Con.name c.in-Con.parts.items c.deref-in-Con.result.now c.as_scheme.result.now c.len.result c.deref-in-Con-2.result.now (type_of c.args.t.now) c.args.solver.now c.args.variables.now c.constructor_parts.new.solver c.match_row.new.solver c.match_row.new.variables c.match_row.result (c.as_scheme.ensures ∙ c.in_ok-scheme-in-Con.ensures) (omega (arith, c.len.ensures, c.in-Con.parts.ok.0)) c.deref-in-Con.ensures.value c.requires.variables
+    (subst (λ z. IsFound (HasArguments (monotype_of c.as_scheme.result.now.body) c.len.result (type_of c.args.t.now)) c.args.solver.now c.constructor_parts.new.solver (λ r. put_types r z)) (sym c.deref-in-Con-2.ensures.value) c.in_ok-types-in-Con.ensures.found) c.match_row.ensures)
 
-pub match_pattern-match_patterns-requires : goal.match_pattern-match_patterns-requires
-match_pattern-match_patterns-requires t c =
+pub match_pattern-match_row-requires : goal.match_pattern-match_row-requires
+match_pattern-match_row-requires t c =
     let z = ap pattern_size (sym (ap tree_of c.in-Con.is) ∙ c.pattern.view_is) in
     let y = ap (λ ps. patterns_size (patterns ps)) c.deref-in-Con.ensures.value in
     let smaller : patterns_size (patterns c.deref-in-Con.result.now) < pattern_size c.args.pattern.now = omega (arith, z, y) in
-    (search rules, ((λ j h. numbers_given _ c.args.solver.now c.constructor_parts.new.solver c.len.result c.in_ok-first-in-Con.first c.in_ok-first-in-Con.ensures.answers c.in_ok-first-in-Con.ensures.first j (omega (arith, h, c.deref-in-Con.ensures.len, c.len.ensures))), (omega (arith, c.in_ok-first-in-Con.ensures.fits, c.deref-in-Con.ensures.len, c.len.ensures), (parts_given _ c.args.solver.now c.constructor_parts.new.solver c.len.result c.args.variables.now c.in_ok-first-in-Con.ensures.answers c.requires.variables, c.requires.typed))))
+    let counted : length c.deref-in-Con-2.result.now ≡ length c.deref-in-Con.result.now = ap length c.deref-in-Con-2.ensures.value ∙ (c.in_ok-types-in-Con.ensures.len ∙ (let w : c.len.result ≡ length c.in-Con.parts.items = omega (arith, c.len.ensures, c.in-Con.parts.ok.0) in w ∙ sym (ap length c.deref-in-Con.ensures.value))) in
+    (search rules, (counted, (subst (AreGivenTypes c.constructor_parts.new.solver.given) (sym c.deref-in-Con-2.ensures.value) c.in_ok-types-in-Con.ensures.given, (given_later c.args.solver.now.given c.constructor_parts.new.solver.given c.args.variables.now c.in_ok-types-in-Con.ensures.found.grows c.requires.variables, c.requires.typed))))
 
 pub match_pattern-returns-in_err-first-in-Tuple : goal.match_pattern-returns-in_err-first-in-Tuple
 match_pattern-returns-in_err-first-in-Tuple t c =
@@ -81,11 +88,11 @@ match_pattern-returns-in_err-first-in-Tuple t c =
 
 pub match_pattern-returns-in_ok-first-in-Tuple : goal.match_pattern-returns-in_ok-first-in-Tuple
 match_pattern-returns-in_ok-first-in-Tuple t c =
-    pattern_is (known_of c.args.constructors.now) (tuple_pattern (patterns c.in-Tuple.parts.items)) c.args.pattern.now (type_of c.args.t.now) c.args.solver.now c.args.variables.now c.match_patterns-in-Tuple.new.solver c.match_patterns-in-Tuple.new.variables c.match_patterns-in-Tuple.result (sym (ap tree_of c.in-Tuple.is) ∙ c.pattern.view_is)
-    (tuple_answers_at (known_of c.args.constructors.now) c.in-Tuple.parts.items c.deref-in-Tuple.result.now c.len-in-Tuple.result c.in_ok-first-in-Tuple.first (type_of c.args.t.now) c.args.solver.now c.args.variables.now c.tuple_parts.new.solver c.match_patterns-in-Tuple.new.solver c.match_patterns-in-Tuple.new.variables c.match_patterns-in-Tuple.result (omega (arith, c.len-in-Tuple.ensures, c.in-Tuple.parts.ok.0)) c.deref-in-Tuple.ensures.value c.in_ok-first-in-Tuple.ensures.below c.requires.variables c.requires.given c.in_ok-first-in-Tuple.ensures.first c.in_ok-first-in-Tuple.ensures.answers c.match_patterns-in-Tuple.ensures)
+    pattern_is (known_of c.args.constructors.now) (tuple_pattern (patterns c.in-Tuple.parts.items)) c.args.pattern.now (type_of c.args.t.now) c.args.solver.now c.args.variables.now c.match_patterns.new.solver c.match_patterns.new.variables c.match_patterns.result (sym (ap tree_of c.in-Tuple.is) ∙ c.pattern.view_is)
+    (tuple_answers_at (known_of c.args.constructors.now) c.in-Tuple.parts.items c.deref-in-Tuple.result.now c.len-in-Tuple.result c.in_ok-first-in-Tuple.first (type_of c.args.t.now) c.args.solver.now c.args.variables.now c.tuple_parts.new.solver c.match_patterns.new.solver c.match_patterns.new.variables c.match_patterns.result (omega (arith, c.len-in-Tuple.ensures, c.in-Tuple.parts.ok.0)) c.deref-in-Tuple.ensures.value c.in_ok-first-in-Tuple.ensures.below c.requires.variables c.requires.given c.in_ok-first-in-Tuple.ensures.first c.in_ok-first-in-Tuple.ensures.answers c.match_patterns.ensures)
 
-pub match_pattern-match_patterns-requires-in-Tuple : goal.match_pattern-match_patterns-requires-in-Tuple
-match_pattern-match_patterns-requires-in-Tuple t c =
+pub match_pattern-match_patterns-requires : goal.match_pattern-match_patterns-requires
+match_pattern-match_patterns-requires t c =
     let z = ap pattern_size (sym (ap tree_of c.in-Tuple.is) ∙ c.pattern.view_is) in
     let y = ap (λ ps. patterns_size (patterns ps)) c.deref-in-Tuple.ensures.value in
     let smaller : patterns_size (patterns c.deref-in-Tuple.result.now) < pattern_size c.args.pattern.now = omega (arith, z, y) in
@@ -135,3 +142,34 @@ match_patterns-parts-preserved t c = record {
 
 pub match_patterns-returns : goal.match_patterns-returns
 match_patterns-returns t c = row_whole (known_of c.args.constructors.now) c.args.parts.now c.parts.j (is_one c.args.types) (first_of c.args.types) c.args.solver.now c.args.variables.now c.parts.solver c.parts.variables (omega arith) c.parts.invariant.matched
+
+pub match_row-parts-init : goal.match_row-parts-init
+match_row-parts-init t c = record {
+  in_range = omega arith;
+  matched = types_empty (known_of c.args.constructors.now) c.args.parts.now c.args.types.now _ c.args.solver.now c.args.variables.now refl (problem_below c.args.solver.now c.well_formed-2.ensures) c.requires.variables;
+}
+
+pub match_row-match_pattern-requires : goal.match_row-match_pattern-requires
+match_row-match_pattern-requires t c =
+    let m = c.parts.invariant.matched c.requires.typed.0 c.requires.typed.1 in
+    let n = c.requires.len in
+    let k = c.parts.invariant.in_range in
+    let smaller : pattern_size c.index-parts-j.result < patterns_size (patterns c.args.parts.now) = size_at c.args.parts.now (c.parts.j - 1) c.index-parts-j.result (omega arith) c.index-parts-j.is in
+    let w = given_at c.args.solver.now.given c.args.types.now (c.parts.j - 1) c.index-types-j.result (omega (arith, n, k, c.parts-test.true)) c.index-types-j.is c.requires.given in
+    (search rules, (later_given c.args.solver.now c.parts.solver (type_of c.index-types-j.result) m.1.grows w, (m.1.given, (m.0, m.1.typed))))
+
+pub match_row-returns-in_err-match_pattern : goal.match_row-returns-in_err-match_pattern
+match_row-returns-in_err-match_pattern t c =
+    match_passed (AsksTypes (known_of c.args.constructors.now) c.args.parts.now c.args.types.now 0) _ c.args.solver.now c.args.variables.now c.match_pattern.new.solver c.match_pattern.new.variables c.from_residual.result c.in_err-match_pattern.field-0.0 c.from_residual.ensures.1
+    (types_refused (known_of c.args.constructors.now) c.args.parts.now c.args.types.now c.parts.j c.index-parts-j.result c.index-types-j.result c.args.solver.now c.args.variables.now c.parts.solver c.parts.variables c.in_err-match_pattern.field-0.0 c.requires.len c.parts-test.true c.parts.invariant.in_range c.index-parts-j.is c.index-types-j.is c.requires.given c.parts.invariant.matched
+    c.in_err-match_pattern.ensures)
+
+pub match_row-parts-preserved : goal.match_row-parts-preserved
+match_row-parts-preserved t c = record {
+  in_range = omega arith;
+  matched = types_back {X = Unit {0}} (known_of c.args.constructors.now) c.args.parts.now c.args.types.now c.parts.j c.index-parts-j.result c.index-types-j.result c.args.solver.now c.args.variables.now c.parts.solver c.parts.variables c.match_pattern.new.solver c.match_pattern.new.variables tt c.requires.len c.parts-test.true c.parts.invariant.in_range c.index-parts-j.is c.index-types-j.is c.requires.given c.parts.invariant.matched
+      c.in_ok-match_pattern.ensures;
+}
+
+pub match_row-returns : goal.match_row-returns
+match_row-returns t c = types_whole (known_of c.args.constructors.now) c.args.parts.now c.args.types.now c.parts.j c.args.solver.now c.args.variables.now c.parts.solver c.parts.variables (omega arith) c.parts.invariant.matched
