@@ -1,5 +1,5 @@
 -- More is assumed, inside what was.
-use Rattle.std.proofs.Common.{◌≡◌, ◌+◌, List, [], ◌++◌, sym, ap, ◌∙◌, append_assoc}
+use Rattle.std.proofs.Common.{◌≡◌, List, [], ◌++◌, sym, ap, ◌∙◌, append_assoc}
 use Rattle.hm_infer_context.specs.Environments.{Assumed, Extends}
 
 pub extended : (es es1 es2 : List Assumed) → Extends es es1 → Extends es1 es2 → Extends es es2

@@ -1,5 +1,5 @@
 -- Steps that find the most general type with a property.
-use Rattle.std.proofs.Common.{◌≡◌, ℕ, zero, suc, ◌+◌, ◌<◌, ◌≤◌, ◌++◌, ◌∷◌, [], false, length, List, Result, Ok, Err, IfOk, IfErr, IsErrAnd, refl, sym, ap, ap₂, ◌∙◌, subst, arith}
+use Rattle.std.proofs.Common.{◌≡◌, ℕ, zero, suc, ◌+◌, ◌≤◌, ◌++◌, ◌∷◌, [], false, length, List, Result, Ok, Err, IfOk, IfErr, IsErrAnd, refl, sym, ap, ap₂, ◌∙◌, subst, arith}
 use Rattle.std.proofs.lemmas.List.{map-append}
 use Rattle.hm_types.specs.declared.Head.{Head}
 use Rattle.hm_types.specs.declared.Head.TheVariants as head
@@ -19,10 +19,9 @@ use Rattle.hm_types.specs.Schemes.{TypeScheme, IsScheme}
 use Rattle.hm_unify.specs.WellFormed.{IsWellFormed, EquationsAreWellFormed}
 use Rattle.hm_unify.specs.Solving.{Solving}
 use Rattle.hm_unify.specs.declared.faults.UnifyFault.{UnifyFault}
-use Rattle.hm_unify.specs.declared.faults.UnifyFault.TheVariants.{Clash, Memory}
-use Rattle.hm_infer_context.specs.Problems.{number, monotype, problem, bound, Answers, Refuses, given_more, new_at}
+use Rattle.hm_infer_context.specs.Problems.{number, monotype, problem, bound, Refuses, given_more, new_at}
 use Rattle.hm_infer_context.specs.Environments.{Assumed, IsSchemeOf, assumptions, scheme_in, opened, IsInstanceUnder}
-use Rattle.hm_infer_context.specs.Inferred.{IsFound, IsInferred, IsTyped, IsFunction, AreParts, IsSomeFunction}
+use Rattle.hm_infer_context.specs.Inferred.{IsFound, IsInferred, AreParts, IsSomeFunction}
 use Rattle.hm_infer_context.proofs.FoundNames.{found_has, has_found}
 use Rattle.hm_infer_context.proofs.Leaves.{monotype-below}
 use Rattle.hm_infer_context.proofs.Opened.{opened_filled, free_below, quantified_below, scheme_given, closed_instance, instance_closed}

@@ -16,6 +16,7 @@ pub mod SpecialTypes
 pub mod Extended
 pub mod Suffixes
 pub mod Placed
+pub mod PlacedFirst
 pub mod ConstructorPlaces
 pub mod ClosedSchemes
 pub mod Inferred

@@ -8,7 +8,7 @@ use Rattle.hm_syntax.specs.Lists.{patterns}
 use Rattle.hm_typing.specs.Names.{Identifier, IsOneOf}
 use Rattle.hm_typing.specs.Schemes.{Monotype, Free, Quantified, monomorphic}
 use Rattle.hm_typing.specs.Assumptions.{bind, bind_all}
-use Rattle.hm_typing.specs.Syntax.{Patterns, patterns_names, pattern_count, bool, names}
+use Rattle.hm_typing.specs.Syntax.{Patterns, patterns_names, pattern_count, bool}
 use Rattle.hm_typing.specs.Patterns.{arrows, MatchesAll}
 use Rattle.hm_typing.specs.Problems.{Unifies, FactsBelow}
 use Rattle.hm_typing.proofs.Types.{put-agree, put-put}

@@ -1,12 +1,12 @@
 //! Assumptions: the schemes of names.
 
-ghost use Rattle.std.specs.Prelude.{◌≡◌, ℕ, ◌≤◌, ◌-◌, ◌∷◌, ◌++◌, [], List, None, cond, length, take, IfOk, MatchOption, OnErr, OnOk};
+ghost use Rattle.std.specs.Prelude.{◌≡◌, ℕ, ◌≤◌, ◌<◌, ◌+◌, ◌-◌, ◌∷◌, ◌++◌, [], List, None, cond, drop, length, take, IfOk, MatchOption, OnErr, OnOk};
 ghost use Rattle.hm_types.specs.Shape.{type_of};
 ghost use Rattle.hm_typing.specs.Names.{IsOneOf};
 ghost use Rattle.hm_infer_context.specs.Environments.{Extends, Assumed, IsSchemeOf, assumed_names, monomorphic_entries};
 ghost use Rattle.hm_infer_context.specs.AssumedTypes.{type_in};
 ghost use Rattle.hm_infer_context.specs.Kept.{entries_of};
-ghost use Rattle.hm_infer_context.specs.Places.{IsPlaced};
+ghost use Rattle.hm_infer_context.specs.Places.{ArePlaced, IsInnermost, IsLastPlace, IsPlaced};
 ghost use Rattle.hm_names_keys.specs.Keys.{number_of, same_variable, variable_of_key};
 ghost use Rattle.hm_names_keys.specs.Variables.{Variable, identifier};
 ghost use Rattle.hm_names.specs.Syntax.{name_of};
@@ -18,6 +18,10 @@ use hm_types::Ty;
 use indexmap::IndexMap;
 use std::alloc::{AllocError, Global};
 use std::marker::Model;
+
+// Why: docs/DECISIONS.md, "Few names".
+/// The number of innermost assumptions that may be without a place in the table. They are searched one by one, because most of them are soon removed.
+const FEW: usize = 8;
 
 /// A borrowed scheme. The variables of `body` below `quantified` are quantified, and each other
 /// one stands for the variable whose number is less by `quantified`.
@@ -47,7 +51,7 @@ impl<'a> AssumedType<'a> {
     }
 }
 
-/// A name with its scheme, and the place of the assumption about this name that it hides, if any.
+/// A name with its scheme. In the table, the place of the assumption about this name that it hides, if any.
 #[derive(Drop)]
 pub struct Binding<'a> {
     pub name: LentName<'a>,
@@ -59,9 +63,10 @@ pub struct Binding<'a> {
 /// The assumptions about names. The names are borrowed from the trees and interfaces of a core.
 ///
 /// Contracts see a list, the innermost assumption first. A table has the place of the innermost
-/// assumption about each name.
+/// assumption about each name, except for the last few assumptions.
 pub struct Environment<'a> {
     items: Vec<Binding<'a>>,
+    placed: usize,
     innermost: IndexMap<LentName<'a>, usize>,
 }
 
@@ -69,6 +74,7 @@ impl Drop for Environment<'_> {
     fn drop(self) {
         let Environment {
             items: _items,
+            placed: _,
             innermost: _innermost,
         } = self;
     }
@@ -87,9 +93,9 @@ impl<'a> Model for Environment<'a> {
 
     ghost view = { λ s. entries_of s.items.items };
 
-    ghost use Rattle.hm_infer_context.specs.Places.{IsPlaced};
+    ghost use Rattle.hm_infer_context.specs.Places.{ArePlaced};
 
-    ghost invariant = { λ s. IsPlaced s.items.items s.innermost };
+    ghost invariant = { λ s. ArePlaced s.items.items s.placed s.innermost };
 }
 
 impl<'a> Environment<'a> {
@@ -99,6 +105,7 @@ impl<'a> Environment<'a> {
     {
         Environment {
             items: Vec::new(alloc),
+            placed: 0,
             innermost: IndexMap::new(alloc),
         }
     }
@@ -163,28 +170,39 @@ impl<'a> Environment<'a> {
             { name = identifier (variable_of_key name.entry); scheme = record { quantified = quantified; body = type_in body.entry } } ∷ self.old)) }
         ensures same { OnErr result (self.new ≡ self.old) }
     {
-        self.items.reserve(1)?;
-        let place = self.items.len();
-        let Ok(hidden) = self.innermost.insert(name, place) else {
-            return Err(AllocError);
-        };
-        let added = self.items.push(Binding {
+        self.place_if_many()?;
+        self.items.push(Binding {
             name,
             quantified,
             body,
-            hidden,
-        });
-        match added {
-            Ok(()) => Ok(()),
-            Err(_) => unreachable!(),
+            hidden: None,
+        })?;
+        Ok(())
+    }
+
+    /// Gives an assumption its place in the table if many have none.
+    fn place_if_many(&mut self) -> Result<(), AllocError>
+        ensures { self.new ≡ self.old }
+    {
+        if self.items.len() - self.placed < FEW {
+            return Ok(());
         }
+        place_next(&mut self.items, &mut self.innermost, self.placed)?;
+        self.placed += 1;
+        Ok(())
     }
 
     /// Removes all assumptions except the outermost `depth`.
     pub fn truncate(&mut self, depth: usize)
         ensures { (added base : List Assumed) → self.old ≡ added ++ base → length base ≡ depth → self.new ≡ base }
     {
+        if self.placed <= depth {
+            self.items.truncate(depth);
+            return;
+        }
+        self.items.truncate(self.placed);
         forget_from(&mut self.items, &mut self.innermost, depth);
+        self.placed = depth;
     }
 
     /// Returns the scheme of the innermost assumption about a name, if there is one.
@@ -192,9 +210,7 @@ impl<'a> Environment<'a> {
         ensures { MatchOption result (¬ (IsOneOf (name_of name.now) (assumed_names self.now))) (λ s.
             IsSchemeOf (name_of name.now) (record { quantified = s.quantified; body = type_of s.body.now }) self.now) }
     {
-        let Some(place) = place_of(&self.innermost, &key_of(name)) else {
-            return None;
-        };
+        let place = innermost_place(&self.items, self.placed, &self.innermost, &key_of(name))?;
         let item = &self.items[place];
         Some(Scheme {
             quantified: item.quantified,
@@ -227,6 +243,60 @@ pub(crate) fn place_of(places: &IndexMap<LentName<'_>, usize>, name: &LentName<'
         Some(place) => Some(*place),
         None => None,
     }
+}
+
+/// Returns the place of the last assumption about a name from a place on, if there is one.
+fn place_among_last(items: &[Binding<'_>], from: usize, key: &LentName<'_>) -> Option<usize>
+    requires { from ≤ length items.now }
+    ensures { MatchOption result (¬ (IsOneOf (identifier (variable_of_key key.now)) (assumed_names (entries_of (drop from items.now)))))
+        (IsLastPlace items.now (variable_of_key key.now)) }
+{
+    let mut place = items.len();
+    'items: while place > from {
+        place -= 1;
+        let item = &items[place];
+        if item.name == *key {
+            return Some(place);
+        }
+    }
+    None
+}
+
+/// Returns the place of the innermost assumption about a name, if there is one. The first `placed` assumptions are in the table.
+fn innermost_place(
+    items: &[Binding<'_>],
+    placed: usize,
+    table: &IndexMap<LentName<'_>, usize>,
+    key: &LentName<'_>,
+) -> Option<usize>
+    requires { ArePlaced items.now placed table.now }
+    ensures { MatchOption result (¬ (IsOneOf (identifier (variable_of_key key.now)) (assumed_names (entries_of items.now))))
+        (IsInnermost items.now (variable_of_key key.now)) }
+{
+    match place_among_last(items, placed, key) {
+        Some(place) => Some(place),
+        None => place_of(table, key),
+    }
+}
+
+/// Gives the first assumption without a place in the table its place.
+fn place_next<'a>(
+    items: &mut Vec<Binding<'a>>,
+    table: &mut IndexMap<LentName<'a>, usize>,
+    place: usize,
+) -> Result<(), AllocError>
+    requires within { place < length items.old.items }
+    ensures entries { entries_of items.new.items ≡ entries_of items.old.items }
+    ensures len { length items.new.items ≡ length items.old.items }
+    ensures placed { OnOk result (ArePlaced items.old.items place table.old → ArePlaced items.new.items (place + 1) table.new) }
+    ensures kept { OnErr result (ArePlaced items.old.items place table.old → ArePlaced items.new.items place table.new) }
+{
+    let item = &mut items[place];
+    let Ok(hidden) = table.insert(item.name, place) else {
+        return Err(AllocError);
+    };
+    item.hidden = hidden;
+    Ok(())
 }
 
 /// Gives a name its hidden place back, or removes the name if there is none. The name must have a

@@ -8,7 +8,8 @@ use Rattle.hm_names_keys.specs.declared.lent_names.LentName.{LentName}
 use Rattle.hm_names_keys.specs.Keys.{Table, number_of, same_variable, variable_of_key}
 use Rattle.hm_names_keys.proofs.SameVariables.{same_variable-refl, differ}
 use Rattle.hm_names_keys.proofs.Pushed.{get-push_old, get-push_new, get-push_cases, some_injective}
-use Rattle.hm_infer_dependencies.specs.Numberings.{nodes_of, few, IsNode, IsNumbering}
+use Rattle.hm_infer_dependencies.specs.declared.numbers.Qualifiers.{Qualifiers}
+use Rattle.hm_infer_dependencies.specs.Numberings.{nodes_of, few, IsNode, IsNumbering, MayHave}
 
 pub nodes_of-push : (ks : List (Option LentName)) (k : Option LentName) → nodes_of (ks ++ k ∷ []) ≡ nodes_of ks ++ option_map variable_of_key k ∷ []
 nodes_of-push [] k = refl
@@ -125,3 +126,20 @@ IsNumbering-same nodes nodes' old new so e u = subst (λ ns. IsNumbering ns new)
   none = λ x h. so.none x (sym (u x) ∙ h);
   once = so.once;
 })
+
+-- The qualifiers of nodes
+
+abbrev pub AreQualified : List (Option Variable) → Qualifiers → Type 0
+AreQualified nodes qualifiers = (x : Variable) → IsNode nodes x → MayHave qualifiers x.qualifier
+
+pub more_qualified : (nodes : List (Option Variable)) (old new : Qualifiers) → AreQualified nodes old → ((q : Option (List ℕ)) → MayHave old q → MayHave new q) → AreQualified nodes new
+more_qualified nodes old new a f y node = f y.qualifier (a y node)
+
+pub pushed_qualified : (nodes : List (Option Variable)) (old new : Qualifiers) (x y : Variable) → AreQualified nodes old → ((q : Option (List ℕ)) → MayHave old q → MayHave new q) → y ≡ x → MayHave new y.qualifier → AreQualified (nodes ++ Some x ∷ []) new
+pushed_qualified nodes old new x y a f e m z node = ⊎_elim
+    (λ there. f z.qualifier (a z there))
+    (λ last. subst (λ (v : Variable). MayHave new v.qualifier) (e ∙ some_injective last) m)
+    (pushed_node nodes (Some x) z node)
+
+pub pattern_qualified : (nodes : List (Option Variable)) (qualifiers : Qualifiers) → AreQualified nodes qualifiers → AreQualified (nodes ++ None ∷ []) qualifiers
+pattern_qualified nodes qualifiers a z node = ⊎_elim (λ there. a z there) (λ last. let h : None ≡ Some z = last in cc) (pushed_node nodes None z node)

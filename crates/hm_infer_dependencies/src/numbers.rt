@@ -1,9 +1,9 @@
 //! The numbers of a declaration list's nodes.
 
-ghost use Rattle.std.specs.Prelude.{◌≡◌, ℕ, ◌∷◌, [], ◌++◌, Some, None, IfOk, OnOk, OnErr, IfSome, IfNone, IsTrue, MatchOption, ◌↔◌, ◌<◌, option_map, length, take};
+ghost use Rattle.std.specs.Prelude.{◌≡◌, ℕ, ◌∷◌, [], ◌++◌, Some, None, IfOk, OnOk, OnErr, IfSome, IfNone, IsFalse, IsTrue, List, Option, MatchOption, ◌↔◌, ◌<◌, option_map, length, take};
 ghost use Rattle.std.specs.List.{slice_get};
 ghost use Rattle.hm_names_keys.specs.Variables.{Variable, variable_of};
-ghost use Rattle.hm_infer_dependencies.specs.Numberings.{IsNode, few, nodes_of};
+ghost use Rattle.hm_infer_dependencies.specs.Numberings.{IsNode, MayHave, few, nodes_of};
 ghost use Rattle.hm_names_keys.specs.Keys.{variable_of_key};
 
 use crate::faults::GroupFault;
@@ -18,11 +18,55 @@ use std::marker::Model;
 /// nodes, and filling a table costs more than searching a few names.
 const FEW: usize = 6;
 
+/// The qualifiers of the variables among some nodes. The variables of a list outside all others have the qualifier of their module, and those of
+/// other lists have none. So most look-ups need no more than this.
+#[derive(Clone, Copy)]
+pub(crate) enum Qualifiers<'a> {
+    /// There is no variable.
+    Nothing,
+    /// All variables have this one, or none.
+    One(Option<&'a str>),
+    /// Not all variables have the same.
+    Several,
+}
+
+impl<'a> Qualifiers<'a> {
+    /// Returns the qualifiers of one variable more.
+    fn with(self, qualifier: Option<&'a str>) -> Qualifiers<'a>
+        ensures old { (q : Option (List ℕ)) → MayHave self.entry q → MayHave result q }
+        ensures new { MayHave result (option_map (λ t. t.now) qualifier.entry) }
+    {
+        match self {
+            Qualifiers::Nothing => Qualifiers::One(qualifier),
+            Qualifiers::One(own) => {
+                if own == qualifier {
+                    self
+                } else {
+                    Qualifiers::Several
+                }
+            }
+            Qualifiers::Several => self,
+        }
+    }
+
+    /// Returns whether a variable may have this qualifier.
+    fn may_have(self, qualifier: Option<&str>) -> bool
+        ensures { IsFalse result → ¬ (MayHave self.entry (option_map (λ t. t.now) qualifier.entry)) }
+    {
+        match self {
+            Qualifiers::Nothing => false,
+            Qualifiers::One(own) => own == qualifier,
+            Qualifiers::Several => true,
+        }
+    }
+}
+
 /// The nodes of a declaration list, in order: its variables without signatures, and its pattern bindings, which have no name in a source.
 /// Contracts see a list in which a pattern binding is `None`. A table has the number of each variable after the first few nodes.
 pub struct Numbers<'a> {
     nodes: Vec<Option<LentName<'a>>>,
     table: IndexMap<LentName<'a>, usize>,
+    qualifiers: Qualifiers<'a>,
 }
 
 impl Drop for Numbers<'_> {
@@ -30,6 +74,7 @@ impl Drop for Numbers<'_> {
         let Numbers {
             nodes: _nodes,
             table: _table,
+            qualifiers: _,
         } = self;
     }
 }
@@ -37,13 +82,13 @@ impl Drop for Numbers<'_> {
 impl<'a> Model for Numbers<'a> {
     ghost use Rattle.std.specs.Prelude.{List, Option};
     ghost use Rattle.hm_names_keys.specs.Variables.{Variable};
-    ghost use Rattle.hm_infer_dependencies.specs.Numberings.{nodes_of, IsNumbering};
+    ghost use Rattle.hm_infer_dependencies.specs.Numberings.{nodes_of, AreNumbered};
 
     ghost Value = { List (Option Variable) };
 
     ghost view = { λ n. nodes_of n.nodes.items };
 
-    ghost invariant = { λ n. IsNumbering (nodes_of n.nodes.items) n.table };
+    ghost invariant = { λ n. AreNumbered (nodes_of n.nodes.items) n.table n.qualifiers };
 }
 
 impl<'a> Numbers<'a> {
@@ -54,6 +99,7 @@ impl<'a> Numbers<'a> {
         Numbers {
             nodes: Vec::new(alloc),
             table: IndexMap::new(alloc),
+            qualifiers: Qualifiers::Nothing,
         }
     }
 
@@ -86,6 +132,9 @@ impl<'a> Numbers<'a> {
         ensures once { (x : Variable) (j k : ℕ) → slice_get self.now j ≡ Some (Some x) → slice_get self.now k ≡ Some (Some x) → j ≡ k }
     {
         let key = key_of(name);
+        if !self.qualifiers.may_have(key.qualifier) {
+            return None;
+        }
         match place_among_few(&self.nodes, &key) {
             Some(number) => return Some(number),
             None => {}
@@ -110,6 +159,7 @@ impl<'a> Numbers<'a> {
         };
         let key = key_of(name);
         let number = self.nodes.len();
+        self.qualifiers = self.qualifiers.with(key.qualifier);
         self.nodes.push(Some(key))?;
         if number < FEW {
             return Ok(());
