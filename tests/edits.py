@@ -2,11 +2,14 @@
 """Makes faulty sources out of good ones, and makes the edits of their messages.
 
 `edits.py [--sources N] [--seed N] [PROGRAM]`: without PROGRAM, the proved program beside this folder is run. The good sources are those of
-bench/programs. A slip is made by chance, as bench/slips.py and bench/forgotten.py make them. For each message with edits:
+bench/programs. A slip is made by chance: one of tests/claims.py in a name or a token, or one of bench/slips.py or bench/forgotten.py. For each message with edits:
 
 - the edits are in the source, in order, and don't overlap;
-- the source with them can be read, and the definition that the message names is no type fault in it;
-- the sentence says what to write, and each other sentence of a note at a part has no edits.
+- of a note at a part: the source with them can be read, and the definition that the message names is no type fault in it;
+- of a near name: its place has no fault of a name that isn't in scope or without clauses;
+- of a token: the fault of syntax is gone, or further on;
+- the checker accepted those of notes at parts, and no others;
+- the sentence says what to write, and each other sentence has no edits.
 
 Prints how often each kind of edit was made. Ends with 1 if something isn't so, or if a kind never occurred. The sources are a function of the seed.
 """
@@ -34,8 +37,13 @@ SAYS = {
     "mark": " before this",
     "constructor": " in front of this",
 }
-# Their words.
-KINDS = ("exchange", "removal", "brackets", "mark", "constructor")
+# What sentences say whose edits the checker hasn't accepted.
+UNCHECKED = {
+    "near name": "(did you mean '",
+    "token put in": " before ",
+    "token replaced": "', found '",
+    "token left out": "unexpected '",
+}
 SILENT = ("with another expression here", "with other expressions both here", "if this pattern is '_'", "with one more argument after this", "this has type '")
 
 
@@ -50,29 +58,70 @@ def edited(source, edits):
     return source
 
 
-def fault_of(program, source, message):
-    """Why the edits of a message don't do what it says, or None."""
-    kinds = [kind for kind, words in SAYS.items() if words in message["text"]]
-    if message["level"] == "note" and any(it in message["text"] for it in SILENT):
-        return "edits of a note that doesn't say what to write" if message["edits"] else None
-    if not message["edits"]:
-        return "no edits" if message["kind"] in KINDS else None
-    if not kinds or not all(it["checked"] for it in message["edits"]):
-        return "edits of another sentence, or unchecked"
-    if (changed := edited(source, message["edits"])) is None:
-        return "edits outside of the source, or out of order"
-    after = claims.ask(program, changed)[1]
-    if any(it["kind"] in ("syntax", "lexeme") for it in after):
+def kind_of(message):
+    """Returns the kind of the edits of a message, or None if its sentence says nothing to write."""
+    text = message["text"]
+    if message["kind"] == "syntax":
+        if not (message["hint"] or "").endswith("t this can be read."):
+            return None
+        return next(kind for kind, words in UNCHECKED.items() if kind.startswith("token") and words in text)
+    table = UNCHECKED if message["level"] == "error" else SAYS
+    return next((kind for kind, words in table.items() if not kind.startswith("token") and words in text), None)
+
+
+def is_read(messages):
+    return not any(it["kind"] in ("syntax", "lexeme") for it in messages)
+
+
+def part_fault(message, after):
+    """Why the edits of a note don't give the definition a type, or None."""
+    if not is_read(after):
         return "the source with the edits can't be read"
     if any(it["kind"] == "type" and it["name"] == message["name"] for it in after):
         return "the definition has no type with the edits"
     return None
 
 
+def name_fault(message, after):
+    """Why a near name is no better, or None."""
+    start = message["start"]
+    if any(it["start"] == start and it["kind"] in ("unbound", "no-binding", "ambiguous") for it in after):
+        return "the near name is a fault too"
+    return None
+
+
+def token_fault(source, changed, message, after):
+    """Why the change of a token is none, or None."""
+    faults = [it for it in after if not is_read([it])]
+    if faults and claims.offset(changed, faults[0]["start"]) <= claims.offset(source, message["start"]) + len(changed) - len(source):
+        return "the source with the edit can't be read further"
+    return None
+
+
+def fault_of(program, source, message):
+    """Why the edits of a message don't do what it says, or None."""
+    kind, edits = kind_of(message), message["edits"]
+    if message["level"] == "note" and any(it in message["text"] for it in SILENT):
+        return "edits of a note that doesn't say what to write" if edits else None
+    if not edits:
+        return "no edits" if kind else None
+    if kind is None or any(it["checked"] != (kind in SAYS) for it in edits):
+        return "edits of another sentence, unchecked, or checked"
+    if (changed := edited(source, edits)) is None:
+        return "edits outside of the source, or out of order"
+    after = claims.ask(program, changed)[1]
+    if kind == "near name":
+        return name_fault(message, after)
+    if kind.startswith("token"):
+        return token_fault(source, changed, message, after)
+    return part_fault(message, after)
+
+
 def slipped(source, chance):
     """Returns the source with one slip."""
-    if chance.random() < 0.5:
-        return claims.slipped(source, slips.tokens_of(source), chance)
+    slip = chance.choice([claims.misspelt, claims.of_tokens, claims.slipped, claims.slipped, None, None])
+    if slip is not None:
+        return slip(source, slips.tokens_of(source), chance)
     sorts = collections.defaultdict(list)
     for kind, (start, end), text, _ in forgotten.slips_of(source):
         sorts[kind].append((start, end, text))
@@ -95,13 +144,13 @@ def main():
         for message in claims.ask(program, source)[1]:
             counts["messages"] += 1
             counts["messages with edits"] += bool(message["edits"])
-            counts.update(kind for kind, words in SAYS.items() if message["edits"] and words in message["text"])
+            counts.update([kind_of(message)] if message["edits"] else [])
             if why := fault_of(program, source, message):
                 wrong += 1
                 print(f"source {number}, {message['start']['line']}:{message['start']['byte']}: {message['text']}: {why}", flush=True)
     for what, count in sorted(counts.items()):
         print(f"{what}: {count}")
-    lacking = sorted(set(SAYS) - set(counts))
+    lacking = sorted({*SAYS, *UNCHECKED} - set(counts))
     print(f"{asked.sources} sources, {wrong} wrong{', never: ' + ', '.join(lacking) if lacking else ''}")
     return 1 if wrong or lacking else 0
 

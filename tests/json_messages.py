@@ -18,11 +18,26 @@ TOP = os.path.dirname(os.path.dirname(os.path.abspath(__file__)))
 PROGRAM = os.path.abspath(sys.argv[1]) if len(sys.argv) > 1 else os.path.join(TOP, "hmc")
 FILE = "M.hs"
 HEADING = re.compile(r"^(?P<file>[^:\n]*):(?P<line>\d+):(?P<column>\d+): (?P<level>error|note): (?P<text>.*?)(?: \[(?P<kind>[a-z-]+)\])?$", re.MULTILINE)
-FURTHER = re.compile(r"^note: further skipped modules: (\d+); the report lists them$", re.MULTILINE)
+FURTHER = re.compile(r"^note: further skipped modules: (\d+); they have no notes$", re.MULTILINE)
 # How many skipped modules, and how many imports of each, have notes for a reader.
 MOST_NOTED = 8
 # More type faults than a run has trials for.
 LIMIT = "module M where {\n" + " ;\n".join(f"f{n} = not 'c'" for n in range(2000)) + "\n}\n"
+# Sources, and what the edits of each message that has some make of them. The checker hasn't accepted these edits.
+EDITED = [
+    ("module M where { f xs = lenght xs }", ["module M where { f xs = length xs }"]),
+    ("module M where { f = Prelude.mpa }", ["module M where { f = Prelude.map }"]),
+    ("module M where { f = let { more = 1 } in moer }", ["module M where { f = let { more = 1 } in more }"]),
+    ("module M where { foo :: Int ; fop = 1 }", ["module M where { fop :: Int ; fop = 1 }"]),
+    ("module M where { f = nothing }", ["module M where { f = Nothing }"]),
+    ("module M where { f = (1 ; g = 2 }", ["module M where { f = (1 ); g = 2 }"]),
+    ("module M where { f x = case x { y -> y } }", ["module M where { f x = case x  of { y -> y } }"]),
+    ("module M where { f : Int ; f = 1 }", ["module M where { f  ::  Int ; f = 1 }"]),
+    ("module M where { f = 1) ; g = 2 }", ["module M where { f = 1 ; g = 2 }"]),
+    ("module M where { f = 1 -- one", ["module M where { f = 1 -- one\n}"]),
+    ("module M where { f = xyzzy }", []),
+    ("module M where { f = 1 + 2 }", []),
+]
 TYPES = {"object": dict, "array": list, "string": str, "integer": int, "boolean": bool, "null": type(None)}
 
 
@@ -66,6 +81,22 @@ def position_fault(source, position):
     before = line[: position["byte"] - 1].decode()
     wanted = {"character": len(before) + 1, "utf16": len(before.encode("utf-16-le")) // 2 + 1}
     return None if all(position[name] == count for name, count in wanted.items()) else f"{position}, wanted {wanted}"
+
+
+def at(source, position):
+    """The number of bytes before a position."""
+    return sum(len(line) + 1 for line in source.split(b"\n")[: position["line"] - 1]) + position["byte"] - 1
+
+
+def range_fault(source, value):
+    """Why the parts and the edits of a message aren't ranges of the source, or those that its kind has, or nothing."""
+    for each in (*filter(None, (value["part"], value["second"])), *value["edits"]):
+        for position in (each["start"], each["end"]):
+            if why := position_fault(source, position):
+                return why
+        if at(source, each["end"]) < at(source, each["start"]):
+            return f"an end before its start: {each}"
+    return None
 
 
 def module_at(source, position):
@@ -121,6 +152,8 @@ def row_fault(source, status, run, schema):
         for position in (start, value["end"]):
             if why := position_fault(source, position):
                 return why
+        if why := range_fault(source, value):
+            return why
         if (value["end"]["line"], value["end"]["byte"]) < (start["line"], start["byte"]):
             return f"an end before its start: {value}"
         if value["module"] != (None if status == 2 else module_at(source, start)):
@@ -135,6 +168,19 @@ def row_fault(source, status, run, schema):
             return f"another hint: {value}"
     errors = sum(value["level"] == "error" for value in values)
     return None if last["errors"] == errors else f"{last}, with {errors} errors"
+
+
+def edited_fault(source, wanted, run):
+    """Why the edits of the messages of a source make something else of it, or nothing."""
+    made = []
+    for value in map(json.loads, run("--message-format", "json").stderr.decode().splitlines()):
+        changed = source.encode()
+        for edit in reversed(value.get("edits", [])):
+            if edit["checked"]:
+                return f"a checked edit: {value}"
+            changed = changed[: at(source.encode(), edit["start"])] + edit["text"].encode() + changed[at(source.encode(), edit["end"]) :]
+        made += [changed.decode()] if value.get("edits") else []
+    return None if made == wanted else f"the edits make {made}"
 
 
 def limit_fault(run):
@@ -161,7 +207,14 @@ def main():
             if why:
                 failed += 1
                 print(f"{source[:200]!r}: {why}")
-    print(f"json messages: {len(rows) - failed} of {len(rows)} as wanted")
+        for source, wanted in EDITED:
+            with open(os.path.join(folder, FILE), "wb") as it:
+                it.write(source.encode())
+            if why := edited_fault(source, wanted, run):
+                failed += 1
+                print(f"{source!r}: {why}")
+    count = len(rows) + len(EDITED)
+    print(f"json messages: {count - failed} of {count} as wanted")
     sys.exit(1 if failed else 0)
 
 

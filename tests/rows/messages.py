@@ -979,7 +979,7 @@ KINDS = [
             + further
             + f"errors: 1, skipped modules: {count}\n",
         )
-        for count, further in ((8, ""), (9, "note: further skipped modules: 1; the report lists them\n"))
+        for count, further in ((8, ""), (9, "note: further skipped modules: 1; they have no notes\n"))
     ),
     # a module that is skipped for nine imports has notes at the first eight
     (

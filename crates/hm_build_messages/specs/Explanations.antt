@@ -16,7 +16,7 @@ use Rattle.hm_verdicts.specs.Verdicts.{ArePublished, Status, Published, Failed, 
 use Rattle.hm_messages_excerpts.specs.Columns.{AreColumnsAt}
 use Rattle.hm_messages_excerpts.specs.declared.columns.Columns.{Columns}
 use Rattle.hm_messages.specs.Headings.{count_text, further_text}
-use Rattle.hm_messages.specs.Messages.{AreEach, IsFaultMessage, IsMessage, IsMessageWith, reader_place}
+use Rattle.hm_messages.specs.Messages.{AreEach, IsFaultMessage, IsMessage, IsMessageWith, changes_alone, reader_place}
 use Rattle.hm_messages_json.specs.Edits.{Changed}
 use Rattle.hm_messages.specs.Subjects.{Subject, faulty, hidden, limit, mistyped, replaceable, skipped, unsigned, wrapped}
 use Rattle.hm_messages.specs.declared.heading.Paint.{Paint}
@@ -105,7 +105,7 @@ ArePartTypes source name fs definition (Wrapped constructor part) expected actua
 pub record IsMendStated (paint : Paint) (file source definition : List ℕ) (mend : Mend) (other : Place) (text : List ℕ) : Type 0 where
   pub changes : List Changed
   pub edits : HasChanges source mend changes
-  pub told : IsMessageWith paint file source (first_of mend) (subject_of_mend definition mend other) changes text
+  pub told : IsMessageWith paint file source (first_of mend) (subject_of_mend definition mend other) (changes_alone changes) text
 
 -- the text tells what gives the definition a type, or the two types of the part, with this as the other place
 pub data IsStatedOf (paint : Paint) (file source name : List ℕ) (fs : List Interface) (definition : List ℕ) (mend : Mend) (other : Place) (text : List ℕ) : Type 0 where

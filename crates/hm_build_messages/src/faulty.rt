@@ -189,6 +189,8 @@ fn mend_text(
         place: first_of(mend),
         topic: topic_of(definition, mend, other),
         changes: changes.as_slice(),
+        part: None,
+        second: None,
     };
     Ok(message_with(alloc, module.paint, module.page, &suggestion)?)
 }

@@ -84,7 +84,7 @@ isnt_empty Plain file s h =
 isnt_empty Coloured file s h =
     let colon : 0 ≡ 58 = ap first_byte (no_line (shown file) (heading Coloured (reader_place first_place h.columns) s) (notice_of s).sentence (excerpt_text h.excerpt) h.says) in
     omega (arith, colon)
-isnt_empty Json file s h = let says = h.says in search (rules, some_bytes)
+isnt_empty Json file s h = let says = h.object.says in search (rules, some_bytes)
 
 isnt_left_out : (paint : Paint) (file : List ℕ) (s : Subject) → ¬ (IsMessage paint file [] first_place s [])
 isnt_left_out paint file s m = elim m [

@@ -235,7 +235,7 @@ heading paint p subject =
     ++ shown (shortened (title subject)) ++ tag (notice_of subject).level (notice_of subject).kind ++ codes "\n"
 
 abbrev pub further_counts : ℕ → List ℕ
-further_counts n = codes ": further skipped modules: " ++ decimal n ++ codes "; the report lists them\n"
+further_counts n = codes ": further skipped modules: " ++ decimal n ++ codes "; they have no notes\n"
 
 -- the line about the skipped modules that have no notes. There is none if all have notes
 abbrev pub some_further : Paint → ℕ → List ℕ

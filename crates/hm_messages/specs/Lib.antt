@@ -1,4 +1,6 @@
+pub mod Changes
 pub mod Cuts
+pub mod Extras
 pub mod Foreign
 pub mod FurtherFaults
 pub mod Headings

@@ -14,7 +14,9 @@ use Rattle.hm_messages_json.specs.Objects.{message_text}
 use Rattle.hm_messages_json.specs.declared.message.Message.{Message}
 use Rattle.hm_messages_json.specs.declared.message.Position.{Position}
 use Rattle.hm_messages_json.specs.Edits.{Changed, HasEdits}
-use Rattle.hm_messages_json.specs.Positions.{IsPositionAt, IsRangeAt}
+use Rattle.hm_messages_json.specs.Positions.{IsPositionAt, IsRangeAt, IsRangeOf}
+use Rattle.hm_messages_json.specs.declared.positions.Span.{Span}
+use Rattle.hm_messages.specs.Changes.{AreSaid}
 use Rattle.hm_messages.specs.Headings.{heading, title}
 use Rattle.hm_messages.specs.ModuleStarts.{IsModuleAt, IsModuleAround, Start}
 use Rattle.hm_messages.specs.Notices.{notice_of}
@@ -66,20 +68,33 @@ pub record IsAbout (subject : Subject) (m : Message) : Type 0 where
   pub actual_is : option_map (λ text. text.now) m.actual ≡ (notice_of subject).actual
   pub hint_is : IsHint (notice_of subject).sentence (option_map (λ hint. hint.now) m.hint)
 
+-- what a message for a program has beside its subject: the changes of the source that it speaks of, the part of the source that it is about, and a second one
+pub record Extras : Type 0 where
+  pub changes : List Changed
+  pub part : Option Span
+  pub second : Option Span
+
+abbrev pub changes_alone : List Changed → Extras
+changes_alone changes = record { changes = changes; part = None; second = None }
+
 -- the text is the object of a message that tells the subject at a place: where it begins and ends in the source, which file that is, what is wrong, the
--- changes that it speaks of, and perhaps in which module of the source
-pub record IsObjectWith (file source : List ℕ) (place : Place) (subject : Subject) (changes : List Changed) (text : List ℕ) : Type 0 where
+-- changes and the parts that it speaks of, and perhaps in which module of the source
+pub record IsObjectWith (file source : List ℕ) (place : Place) (subject : Subject) (extras : Extras) (text : List ℕ) : Type 0 where
   pub message : Message
   pub file_is : message.file.now ≡ utf8_lossy file
   pub range : IsRangeAt source place message.start message.end
   pub about : IsAbout subject message
-  pub edited : HasEdits source changes message.edits.now
+  pub edited : HasEdits source extras.changes message.edits.now
+  pub part_is : IsRangeOf source extras.part message.part
+  pub second_is : IsRangeOf source extras.second message.second
   pub module_is : IsModuleAround source place (option_map (λ name. name.now) message.«module»)
   pub says : text ≡ message_text message
 
--- the same, without a change
-abbrev pub IsObject : List ℕ → List ℕ → Place → Subject → List ℕ → Type 0
-IsObject file source place subject text = IsObjectWith file source place subject [] text
+-- the same, with the changes that a message of the subject says
+pub record IsObject (file source : List ℕ) (place : Place) (subject : Subject) (text : List ℕ) : Type 0 where
+  pub changes : List Changed
+  pub said : AreSaid source place subject changes
+  pub object : IsObjectWith file source place subject (changes_alone changes) text
 
 -- the text is the object of a message that names the module which the place is in among these, or no module if it is in none
 pub record NamesModule (starts : List Start) (place : Place) (text : List ℕ) : Type 0 where
@@ -93,11 +108,11 @@ StatesAt Plain file source place subject text = IsProse Plain file source place 
 StatesAt Coloured file source place subject text = IsProse Coloured file source place subject text
 StatesAt Json file source place subject text = IsObject file source place subject text
 
--- the same, with changes that a program gets
-abbrev pub StatesWith : Paint → List ℕ → List ℕ → Place → Subject → List Changed → List ℕ → Type 0
-StatesWith Plain file source place subject changes text = IsProse Plain file source place subject text
-StatesWith Coloured file source place subject changes text = IsProse Coloured file source place subject text
-StatesWith Json file source place subject changes text = IsObjectWith file source place subject changes text
+-- the same, with extras that a program gets
+abbrev pub StatesWith : Paint → List ℕ → List ℕ → Place → Subject → Extras → List ℕ → Type 0
+StatesWith Plain file source place subject extras text = IsProse Plain file source place subject text
+StatesWith Coloured file source place subject extras text = IsProse Coloured file source place subject text
+StatesWith Json file source place subject extras text = IsObjectWith file source place subject extras text
 
 -- the text tells the subject at a place, to a reader by the first line alone
 abbrev pub StatesInLine : Paint → List ℕ → List ℕ → Place → Subject → List ℕ → Type 0
@@ -110,10 +125,10 @@ pub data IsMessage (paint : Paint) (file source : List ℕ) (place : Place) (sub
   message_stated : StatesAt paint file source place subject text → IsMessage paint file source place subject text
   message_left_out : text ≡ [] → HasNoMessage paint source place → IsMessage paint file source place subject text
 
--- the same, of a message with changes
-pub data IsMessageWith (paint : Paint) (file source : List ℕ) (place : Place) (subject : Subject) (changes : List Changed) (text : List ℕ) : Type 0 where
-  with_stated : StatesWith paint file source place subject changes text → IsMessageWith paint file source place subject changes text
-  with_left_out : text ≡ [] → HasNoMessage paint source place → IsMessageWith paint file source place subject changes text
+-- the same, of a message with extras
+pub data IsMessageWith (paint : Paint) (file source : List ℕ) (place : Place) (subject : Subject) (extras : Extras) (text : List ℕ) : Type 0 where
+  with_stated : StatesWith paint file source place subject extras text → IsMessageWith paint file source place subject extras text
+  with_left_out : text ≡ [] → HasNoMessage paint source place → IsMessageWith paint file source place subject extras text
 
 -- the first line of a message, or its object. It is left out by the same rule
 pub data IsHeadingAt (paint : Paint) (file source : List ℕ) (place : Place) (subject : Subject) (text : List ℕ) : Type 0 where

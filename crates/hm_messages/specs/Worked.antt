@@ -52,7 +52,7 @@ pub record CutRow : Type 0 where
 
 -- a line about other skipped modules is there if there is one, and only then
 pub record FurtherCountRow : Type 0 where
-  pub some : further_text Plain 892 ≡ codes "note" ++ (codes ": further skipped modules: " ++ decimal 892 ++ codes "; the report lists them\n")
+  pub some : further_text Plain 892 ≡ codes "note" ++ (codes ": further skipped modules: " ++ decimal 892 ++ codes "; they have no notes\n")
   pub none : further_text Plain 0 ≡ []
   pub not_none : ¬ (further_text Plain 1 ≡ [])
 

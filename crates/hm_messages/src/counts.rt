@@ -47,7 +47,7 @@ pub fn count_text(
 fn further_counts(alloc: Global, count: usize) -> Result<String, AllocError>
     ensures { IfOk result (λ text. string_bytes text ≡ further_counts_bytes count) }
 {
-    format!(in alloc; ": further skipped modules: {count}; the report lists them\n")
+    format!(in alloc; ": further skipped modules: {count}; they have no notes\n")
 }
 
 /// Returns the line about so many skipped modules that have no notes.

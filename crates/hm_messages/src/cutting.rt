@@ -1,8 +1,8 @@
 //! Cuts long texts to their first and their last bytes.
 ghost use Rattle.std.specs.Prelude.{◌≡◌, ◌≤◌, ◌<◌, IfOk, length};
-ghost use Rattle.hm_messages_excerpts.specs.Excerpts.{continues};
 ghost use Rattle.hm_messages.specs.Cuts.{cut_text as cut_bytes, shortened as shortened_bytes, whole_at as whole_place};
 
+use hm_messages_excerpts::continues;
 use std::alloc::{AllocError, Global};
 
 /// The number of bytes that are shown at the front of a longer text, and at its end.
@@ -10,13 +10,6 @@ const MOST_SHOWN: usize = 500;
 
 /// The number of bytes of the longest text that is shown whole.
 const LONGEST: usize = 1000;
-
-/// Returns whether a byte is inside a character of UTF-8, after its first byte.
-fn continues(byte: u8) -> bool
-    ensures { result ≡ continues byte }
-{
-    matches!(byte, 0x80..=0xBF)
-}
 
 /// Returns this place, or one at most three bytes before it, at which no character is cut.
 fn whole_at(text: &[u8], place: usize) -> usize

@@ -1,6 +1,7 @@
 //! Writes messages that editors can jump to: a file, a place in it, what is wrong in plain words, and the line of the source.
 #![tactic(auto)]
 
+mod changes;
 mod counts;
 mod cutting;
 mod cycles;

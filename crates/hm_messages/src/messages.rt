@@ -5,7 +5,7 @@ ghost use Rattle.hm_messages_excerpts.specs.declared.columns.Columns.{Columns};
 ghost use Rattle.hm_messages_excerpts.specs.Escapes.{shown as shown_bytes};
 ghost use Rattle.hm_messages.specs.Headings.{heading as heading_bytes};
 ghost use Rattle.hm_messages.specs.Messages.{HasNoReaderPlace, IsHeadingAt, IsMessage, IsMessageWith, IsProse, IsProseHeading, reader_place};
-ghost use Rattle.hm_messages_json.specs.Edits.{changed_of};
+ghost use Rattle.hm_messages.specs.Extras.{extras_of};
 ghost use Rattle.hm_messages.specs.Subjects.{subject_of};
 
 use crate::heading::{Paint, heading};
@@ -143,7 +143,7 @@ pub fn message(
     }
 }
 
-/// Returns a message with the changes of the source that it speaks of. A reader gets no changes. The text is empty if no message can name the
+/// Returns a message with the changes and the parts of the source that it speaks of. A reader gets neither. The text is empty if no message can name the
 /// place.
 pub fn message_with(
     alloc: Global,
@@ -152,7 +152,7 @@ pub fn message_with(
     suggestion: &Suggestion<'_>,
 ) -> Result<Vec<u8>, AllocError>
     ensures { IfOk result (λ text. IsMessageWith paint page.now.file.now page.now.lines suggestion.now.place (subject_of suggestion.now.topic)
-        (map changed_of suggestion.now.changes.now) text.items) }
+        (extras_of suggestion.now) text.items) }
 {
     let Suggestion { place, topic, .. } = *suggestion;
     match paint {

@@ -2,15 +2,17 @@
 ghost use Rattle.std.specs.Prelude.{◌≡◌, ◌⊎◌, [], IfOk, map, option_map, string_bytes};
 ghost use Rattle.hm_messages_excerpts.specs.Excerpts.{IsPlaceIn};
 ghost use Rattle.hm_messages_json.specs.Edits.{changed_of};
+ghost use Rattle.hm_messages.specs.Extras.{extras_of};
 ghost use Rattle.hm_messages.specs.Messages.{IsHint, IsObject, IsObjectWith, NamesModule};
 ghost use Rattle.hm_messages.specs.Subjects.{subject_of};
 
+use crate::changes::said_changes;
 use crate::heading::title;
 use crate::notices::notice_of;
 use crate::pages::Page;
 use crate::topic::Topic;
 use hm_lex::Place;
-use hm_messages_json::{Change, Message, Range, edits_of, message_line, range_at};
+use hm_messages_json::{Change, Message, Range, Span, edits_of, message_line, range_at, range_of};
 use std::alloc::{AllocError, Global};
 
 /// Returns a sentence without its line end, or `None` if it is empty.
@@ -24,12 +26,16 @@ fn hint_in(alloc: Global, sentence: &str) -> Result<Option<String>, AllocError>
     }
 }
 
-/// What a message is about, and the changes of the source that it speaks of.
+/// What a message is about, and what only programs get: the changes of the source that it speaks of, and parts of the source.
 #[derive(Clone, Copy)]
 pub struct Suggestion<'a> {
     pub place: Place,
     pub topic: Topic<'a>,
     pub changes: &'a [Change],
+    /// The part that it is about, if it is about one.
+    pub part: Option<Span>,
+    /// The other part that it is about, if there are two.
+    pub second: Option<Span>,
 }
 
 /// Returns a message with changes, as an object, or no text if its place isn't in the source.
@@ -39,7 +45,7 @@ pub(crate) fn object_with(
     suggestion: &Suggestion<'_>,
 ) -> Result<Vec<u8>, AllocError>
     ensures told { IfOk result (λ text. IsObjectWith page.now.file.now page.now.lines suggestion.now.place (subject_of suggestion.now.topic)
-        (map changed_of suggestion.now.changes.now) text.items
+        (extras_of suggestion.now) text.items
         ⊎ ((text.items ≡ []) × (¬ IsPlaceIn page.now.lines suggestion.now.place))) }
     ensures among { IfOk result (λ text. NamesModule page.now.modules.starts suggestion.now.place text.items ⊎ (text.items ≡ [])) }
 {
@@ -47,6 +53,8 @@ pub(crate) fn object_with(
         place,
         topic,
         changes,
+        part,
+        second,
     } = *suggestion;
     let Some(Range { start, end }) = range_at(&page.lines, place) else {
         return Ok(Vec::new(alloc));
@@ -69,6 +77,8 @@ pub(crate) fn object_with(
         module: page.modules.module_at(place),
         name: notice.name,
         other: notice.other,
+        part: range_of(&page.lines, part),
+        second: range_of(&page.lines, second),
         text: text.as_str(),
         hint,
         expected: notice.expected,
@@ -90,11 +100,14 @@ pub(crate) fn object(
         ⊎ ((text.items ≡ []) × (¬ IsPlaceIn page.now.lines place))) }
     ensures among { IfOk result (λ text. NamesModule page.now.modules.starts place text.items ⊎ (text.items ≡ [])) }
 {
+    let changes = said_changes(alloc, &page.lines, place, topic)?;
     let topic = *topic;
     let suggestion = Suggestion {
         place,
         topic,
-        changes: &[],
+        changes: changes.as_slice(),
+        part: None,
+        second: None,
     };
     Ok(object_with(alloc, page, &suggestion)?)
 }

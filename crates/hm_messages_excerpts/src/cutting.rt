@@ -11,7 +11,7 @@ const MOST_SHOWN: usize = 80;
 const LONGEST_REST: usize = 3;
 
 /// Returns whether a byte is inside a character of UTF-8, after its first byte.
-fn continues(byte: u8) -> bool
+pub fn continues(byte: u8) -> bool
     ensures { result ≡ continues byte }
 {
     matches!(byte, 0x80..=0xBF)

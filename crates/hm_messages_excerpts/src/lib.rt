@@ -11,6 +11,7 @@ mod lines;
 mod marks;
 
 pub use crate::columns::Columns;
+pub use crate::cutting::continues;
 pub use crate::drawing::add_excerpt;
 pub use crate::escapes::shown;
 pub use crate::excerpt::Excerpt;

@@ -1,7 +1,7 @@
 -- The object of a message with members that are equal.
 use Rattle.std.proofs.Common.{◌≡◌, ◌∙◌, ap}
 use Rattle.serde_json.specs.Data.{Data}
-use Rattle.hm_messages_json.specs.Objects.{joined_data}
+use Rattle.hm_messages_json.specs.Objects.{joined_data, ranged}
 use Rattle.hm_messages_json.specs.declared.message.Message.{Message}
 
 pub joined_same : (m : Message) (edits edits' end end' expected expected' hint hint' owner owner' name name' other other' start start' actual actual' : Data)
@@ -17,3 +17,7 @@ joined_same m edits edits' end end' expected expected' hint hint' owner owner' n
     ∙ (ap (λ d. joined_data m edits' end' expected' hint' owner' name' d start actual) of_other
     ∙ (ap (λ d. joined_data m edits' end' expected' hint' owner' name' other' d actual) at_start
     ∙ ap (λ d. joined_data m edits' end' expected' hint' owner' name' other' start' d) of_actual)))))))
+
+pub ranged_same : (base base' part part' second second' : Data) → base ≡ base' → part ≡ part' → second ≡ second' → ranged base part second ≡ ranged base' part' second'
+ranged_same base base' part part' second second' of_base of_part of_second =
+    ap (λ d. ranged d part second) of_base ∙ (ap (λ d. ranged base' d second) of_part ∙ ap (λ d. ranged base' part' d) of_second)

@@ -1,13 +1,14 @@
 -- The JSON object of a message (RFC 8259): its members, in the order of their names.
 use Rattle.std.specs.Prelude.{ℕ, List, Option, None, Some, ◌++◌, codes, map, option_map}
 use Rattle.serde_json.specs.Written.{compact_text}
-use Rattle.serde_json.specs.Data.{Data, array, boolean, null, number, unsigned, string, object, member, no_members}
+use Rattle.serde_json.specs.Data.{Data, array, boolean, null, number, unsigned, string, object, member, no_members, put}
 use Rattle.serde_json.specs.View.{items_of}
 use Rattle.hm_messages_json.specs.declared.message.Edit.{Edit}
 use Rattle.hm_messages_json.specs.declared.message.Level.{Level}
 use Rattle.hm_messages_json.specs.declared.message.Level.TheVariants.{Error, Note}
 use Rattle.hm_messages_json.specs.declared.message.Message.{Message}
 use Rattle.hm_messages_json.specs.declared.message.Position.{Position}
+use Rattle.hm_messages_json.specs.declared.message.Range.{Range}
 
 abbrev pub level_word : Level → List ℕ
 level_word Error = codes "error"
@@ -30,6 +31,13 @@ abbrev pub optional_data : Option Position → Data
 optional_data None = null
 optional_data (Some p) = position_data p
 
+abbrev pub range_data : Range → Data
+range_data r = object (member (codes "end") (position_data r.end) (member (codes "start") (position_data r.start) no_members))
+
+abbrev pub optional_range : Option Range → Data
+optional_range None = null
+optional_range (Some r) = range_data r
+
 -- a change of the source: its range, the text that comes there, and whether the checker accepted the changed source
 abbrev pub edit_data : Edit → Data
 edit_data e = object (member (codes "checked") (boolean e.is_checked)
@@ -41,7 +49,7 @@ edit_data e = object (member (codes "checked") (boolean e.is_checked)
 abbrev pub edits_data : List Edit → Data
 edits_data es = array (items_of (map edit_data es))
 
--- the message's object, with the members that aren't texts or may be missing
+-- the message's object without ranges, with the members that aren't texts or may be missing
 abbrev pub joined_data : Message → Data → Data → Data → Data → Data → Data → Data → Data → Data → Data
 joined_data m edits end expected hint owner name other start actual = object (member (codes "edits") edits
     (member (codes "end") end
@@ -57,10 +65,17 @@ joined_data m edits end expected hint owner name other start actual = object (me
     (member (codes "text") (string m.text.now)
     (member (codes "type") actual no_members)))))))))))))
 
+-- an object with two ranges among its members, in the order of their names
+abbrev pub ranged : Data → Data → Data → Data
+ranged (object members) part second = object (put (codes "second") second (put (codes "part") part members))
+ranged other part second = other
+
 abbrev pub message_data : Message → Data
-message_data m = joined_data m (edits_data m.edits.now) (position_data m.end) (text_data (option_map (λ t. t.now) m.expected)) (text_data (option_map (λ t. t.now) m.hint))
+message_data m = ranged
+    (joined_data m (edits_data m.edits.now) (position_data m.end) (text_data (option_map (λ t. t.now) m.expected)) (text_data (option_map (λ t. t.now) m.hint))
     (text_data (option_map (λ t. t.now) m.module)) (text_data (option_map (λ t. t.now) m.name)) (optional_data m.other) (position_data m.start)
-    (text_data (option_map (λ t. t.now) m.actual))
+    (text_data (option_map (λ t. t.now) m.actual)))
+    (optional_range m.part) (optional_range m.second)
 
 -- the number of the format of these objects, which grows if a member changes its meaning
 abbrev pub format : ℕ

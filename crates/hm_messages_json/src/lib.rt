@@ -7,6 +7,6 @@ mod objects;
 mod positions;
 
 pub use crate::changes::{Change, edits_of};
-pub use crate::message::{Edit, Level, Message, Position};
+pub use crate::message::{Edit, Level, Message, Position, Range};
 pub use crate::objects::{counts_line, message_line};
-pub use crate::positions::{Range, position_at, range_at};
+pub use crate::positions::{Span, position_at, range_at, range_of};

@@ -16,6 +16,14 @@ pub struct Position {
     pub columns: Columns,
 }
 
+/// A range of a source.
+#[derive(Clone, Copy, Debug, PartialEq, Eq)]
+pub struct Range {
+    pub start: Position,
+    /// The position after the range.
+    pub end: Position,
+}
+
 /// A change of a source that a message speaks of: a text in place of a range.
 #[derive(Clone, Copy, Debug)]
 pub struct Edit<'a> {
@@ -45,6 +53,10 @@ pub struct Message<'a> {
     pub name: Option<&'a str>,
     /// The position of another place that the text names, if it names one.
     pub other: Option<Position>,
+    /// The whole part of a definition that it is about, if it is about one.
+    pub part: Option<Range>,
+    /// The other part that it is about, if there are two.
+    pub second: Option<Range>,
     /// What is wrong, in a few words.
     pub text: &'a str,
     /// The broken rule, or something that may help, if there is more to say.

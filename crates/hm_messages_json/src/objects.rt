@@ -1,13 +1,12 @@
 //! Messages as JSON objects.
-ghost use Rattle.std.specs.Prelude.{◌≡◌, ◌++◌, IfOk, codes, false, map, option_map, string_bytes};
-ghost use Rattle.serde_json.specs.View.{view};
-ghost use Rattle.serde_json.specs.Data.{array};
-ghost use Rattle.serde_json.specs.View.{items_of};
+ghost use Rattle.std.specs.Prelude.{◌≡◌, ◌++◌, IfOk, OnOk, codes, false, map, option_map, string_bytes};
+ghost use Rattle.serde_json.specs.Data.{array, put};
+ghost use Rattle.serde_json.specs.View.{items_of, members_view, view};
 ghost use Rattle.serde_json.specs.Written.{compact_text, has_float};
-ghost use Rattle.hm_messages_json.specs.Objects.{counts_data, counts_text, edit_data, edits_data, joined_data, level_word, message_data, message_text, optional_data, position_data, text_data};
+ghost use Rattle.hm_messages_json.specs.Objects.{counts_data, counts_text, edit_data, edits_data, joined_data, level_word, message_data, message_text, optional_data, optional_range, position_data, range_data, ranged, text_data};
 
-use crate::message::{Edit, Level, Message, Position};
-use serde_json::{Value, json};
+use crate::message::{Edit, Level, Message, Position, Range};
+use serde_json::{Map, Value, json, put};
 use std::alloc::{AllocError, Global};
 
 /// The number of the format of the objects.
@@ -50,6 +49,26 @@ fn optional_value(alloc: Global, position: Option<Position>) -> Result<Value, Al
 {
     match position {
         Some(position) => Ok(position_value(alloc, position)?),
+        None => Ok(Value::Null),
+    }
+}
+
+/// Returns a range as an object.
+fn range_value(alloc: Global, range: &Range) -> Result<Value, AllocError>
+    ensures { IfOk result (λ value. view value ≡ range_data range.now) }
+{
+    let start = position_value(alloc, range.start)?;
+    let end = position_value(alloc, range.end)?;
+    let (start, end) = (&start, &end);
+    json!(in alloc; {"end": end, "start": start})
+}
+
+/// Returns a range as an object, or null if there is none.
+fn optional_range(alloc: Global, range: &Option<Range>) -> Result<Value, AllocError>
+    ensures { IfOk result (λ value. view value ≡ optional_range range.now) }
+{
+    match range {
+        Some(range) => Ok(range_value(alloc, range)?),
         None => Ok(Value::Null),
     }
 }
@@ -131,6 +150,41 @@ fn joined(alloc: Global, message: &Message<'_>, parts: Parts<'_>) -> Result<Valu
     })
 }
 
+/// Adds two ranges to members.
+fn add_ranges(
+    alloc: Global,
+    members: &mut Map<String, Value>,
+    part: Value,
+    second: Value,
+) -> Result<(), AllocError>
+    ensures { OnOk result (members_view members.new.entries ≡ put (codes "second") (view second) (put (codes "part") (view part) (members_view members.old.entries))) }
+{
+    put(members, alloc, "part", part)?;
+    Ok(put(members, alloc, "second", second)?)
+}
+
+/// Returns an object with two ranges.
+fn with_ranges(
+    alloc: Global,
+    object: Value,
+    part: Value,
+    second: Value,
+) -> Result<Value, AllocError>
+    ensures { IfOk result (λ value. view value ≡ ranged (view object) (view part) (view second)) }
+{
+    match object {
+        Value::Object(mut members) => {
+            add_ranges(alloc, &mut members, part, second)?;
+            Ok(Value::Object(members))
+        }
+        Value::Null => Ok(Value::Null),
+        Value::Bool(boolean) => Ok(Value::Bool(boolean)),
+        Value::Number(number) => Ok(Value::Number(number)),
+        Value::String(text) => Ok(Value::String(text)),
+        Value::Array(items) => Ok(Value::Array(items)),
+    }
+}
+
 /// Returns a message as an object.
 fn message_value(alloc: Global, message: &Message<'_>) -> Result<Value, AllocError>
     ensures { IfOk result (λ value. view value ≡ message_data message.now) }
@@ -155,7 +209,10 @@ fn message_value(alloc: Global, message: &Message<'_>) -> Result<Value, AllocErr
         start: &start,
         actual: &actual,
     };
-    joined(alloc, message, parts)
+    let object = joined(alloc, message, parts)?;
+    let part = optional_range(alloc, &message.part)?;
+    let second = optional_range(alloc, &message.second)?;
+    with_ranges(alloc, object, part, second)
 }
 
 /// Returns the counts as an object.

@@ -18,6 +18,8 @@ returns-clause-told c =
       «module» = c.module_at.result;
       name = c.notice_of-notice.result.name;
       other = c.notice_of-notice.result.other;
+      part = c.range_of.result;
+      second = c.range_of-2.result;
       text = c.as_str-3.result;
       hint = c.match-hint.hint;
       expected = c.notice_of-notice.result.expected;
@@ -43,6 +45,8 @@ returns-clause-told c =
         hint_is = subst (IsHint (notice_of (subject_of c.args.suggestion.now.topic)).sentence) hint_same (search rules);
       };
       edited = search rules;
+      part_is = search rules;
+      second_is = search rules;
       module_is = subst (λ (s : List ℕ). IsModuleAround s c.args.suggestion.now.place (option_map (λ name. name.now) c.module_at.result)) c.args.page.now.same c.module_at.ensures.spelled;
       says = search rules;
     })
@@ -58,6 +62,8 @@ returns-clause-among c =
       «module» = c.module_at.result;
       name = c.notice_of-notice.result.name;
       other = c.notice_of-notice.result.other;
+      part = c.range_of.result;
+      second = c.range_of-2.result;
       text = c.as_str-3.result;
       hint = c.match-hint.hint;
       expected = c.notice_of-notice.result.expected;

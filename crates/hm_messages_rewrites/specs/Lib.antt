@@ -1,0 +1,4 @@
+pub mod Rewrites
+pub mod Names
+pub mod Tokens
+pub mod Worked
