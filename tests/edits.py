@@ -43,6 +43,7 @@ UNCHECKED = {
     "token put in": " before ",
     "token replaced": "', found '",
     "token left out": "unexpected '",
+    "signature": "' without this signature",
 }
 SILENT = ("with another expression here", "with other expressions both here", "if this pattern is '_'", "with one more argument after this", "this has type '")
 
@@ -65,7 +66,7 @@ def kind_of(message):
         if not (message["hint"] or "").endswith("t this can be read."):
             return None
         return next(kind for kind, words in UNCHECKED.items() if kind.startswith("token") and words in text)
-    table = UNCHECKED if message["level"] == "error" else SAYS
+    table = UNCHECKED if message["level"] == "error" or message["kind"] == "signature" else SAYS
     return next((kind for kind, words in table.items() if not kind.startswith("token") and words in text), None)
 
 
@@ -104,7 +105,7 @@ def fault_of(program, source, message):
     if message["level"] == "note" and any(it in message["text"] for it in SILENT):
         return "edits of a note that doesn't say what to write" if edits else None
     if not edits:
-        return "no edits" if kind else None
+        return "no edits" if kind and kind != "signature" else None
     if kind is None or any(it["checked"] != (kind in SAYS) for it in edits):
         return "edits of another sentence, unchecked, or checked"
     if (changed := edited(source, edits)) is None:

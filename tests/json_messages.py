@@ -21,6 +21,10 @@ HEADING = re.compile(r"^(?P<file>[^:\n]*):(?P<line>\d+):(?P<column>\d+): (?P<lev
 FURTHER = re.compile(r"^note: further skipped modules: (\d+); they have no notes$", re.MULTILINE)
 # How many skipped modules, and how many imports of each, have notes for a reader.
 MOST_NOTED = 8
+# The kinds of notes that are about a part, and those that are about two.
+PARTS = {"replaceable", "both", "pattern", "exchange", "removal", "brackets", "argument", "mark", "constructor", "mistyped", "signature"}
+PAIRS = {"both", "exchange"}
+UP_TO = re.compile(r"\(up to (\d+):(\d+)\)")
 # More type faults than a run has trials for.
 LIMIT = "module M where {\n" + " ;\n".join(f"f{n} = not 'c'" for n in range(2000)) + "\n}\n"
 # Sources, and what the edits of each message that has some make of them. The checker hasn't accepted these edits.
@@ -35,6 +39,8 @@ EDITED = [
     ("module M where { f : Int ; f = 1 }", ["module M where { f  ::  Int ; f = 1 }"]),
     ("module M where { f = 1) ; g = 2 }", ["module M where { f = 1 ; g = 2 }"]),
     ("module M where { f = 1 -- one", ["module M where { f = 1 -- one\n}"]),
+    ("module M where { f :: Int -> Int ; f x = not x }", ["module M where { f :: Bool -> Bool ; f x = not x }"]),
+    ("module M where { f  :: Int -> Int ; f x = not x }", []),
     ("module M where { f = xyzzy }", []),
     ("module M where { f = 1 + 2 }", []),
 ]
@@ -96,6 +102,13 @@ def range_fault(source, value):
                 return why
         if at(source, each["end"]) < at(source, each["start"]):
             return f"an end before its start: {each}"
+    is_note = value["level"] == "note"
+    if (value["part"] is not None) != (is_note and value["kind"] in PARTS) or (value["second"] is not None) != (is_note and value["kind"] in PAIRS):
+        return f"other parts than those of its kind: {value}"
+    if value["part"] and value["part"]["start"] != value["start"]:
+        return f"a part elsewhere: {value}"
+    if (end := UP_TO.search(value["text"])) and (int(end[1]), int(end[2]) + 1) != (value["part"]["end"]["line"], value["part"]["end"]["character"]):
+        return f"another end of the part: {value}"
     return None
 
 

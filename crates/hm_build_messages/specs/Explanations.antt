@@ -1,5 +1,5 @@
 -- The messages of a build: what is told of the faulty modules, in the order of the report, and behind it what is told of the skipped ones.
-use Rattle.std.specs.Prelude.{◌≡◌, ◌⊎◌, Bool, false, true, ℕ, zero, suc, ◌+◌, ◌-◌, ◌^◌, ◌<◌, All, Contains, List, [], ◌∷◌, ◌++◌, cond, filter, length, map, min, slice_index_or, take}
+use Rattle.std.specs.Prelude.{◌≡◌, ◌⊎◌, Bool, false, true, ℕ, zero, suc, ◌+◌, ◌-◌, ◌^◌, ◌<◌, All, Contains, List, [], ◌∷◌, ◌++◌, None, cond, filter, length, map, min, slice_index_or, take}
 use Rattle.std.specs.List.Sorted.{IsPermutation, IsSortedBy}
 use Rattle.hm_messages_details.specs.Details.{IsKnown, Known, nothing}
 use Rattle.hm_lex.specs.declared.token.Place.{Place}
@@ -16,7 +16,7 @@ use Rattle.hm_verdicts.specs.Verdicts.{ArePublished, Status, Published, Failed, 
 use Rattle.hm_messages_excerpts.specs.Columns.{AreColumnsAt}
 use Rattle.hm_messages_excerpts.specs.declared.columns.Columns.{Columns}
 use Rattle.hm_messages.specs.Headings.{count_text, further_text}
-use Rattle.hm_messages.specs.Messages.{AreEach, IsFaultMessage, IsMessage, IsMessageWith, changes_alone, reader_place}
+use Rattle.hm_messages.specs.Messages.{AreEach, IsFaultMessage, IsMessage, reader_place}
 use Rattle.hm_messages_json.specs.Edits.{Changed}
 use Rattle.hm_messages.specs.Subjects.{Subject, faulty, hidden, limit, mistyped, replaceable, skipped, unsigned, wrapped}
 use Rattle.hm_messages.specs.declared.heading.Paint.{Paint}
@@ -24,6 +24,8 @@ use Rattle.hm_messages.specs.declared.heading.Paint.TheVariants.{Plain, Coloured
 use Rattle.hm_messages.specs.declared.topic.Way.{Way}
 use Rattle.hm_messages.specs.declared.topic.Way.TheVariants as way
 use Rattle.hm_messages_edits.specs.Edits.{HasChanges}
+use Rattle.hm_messages_edits.specs.Signatures.{IsRetyped}
+use Rattle.hm_messages_edits.specs.Spans.{first_part, second_part}
 use Rattle.hm_messages_hidden.specs.Hidden.{IsVerdictBeyond}
 use Rattle.hm_messages_trials.specs.Mends.{IsMend}
 use Rattle.hm_messages_trials.specs.ShownTypes.{HasShownTypes}
@@ -36,6 +38,7 @@ use Rattle.hm_messages_changes.specs.declared.data.SourceRange.{SourceRange}
 use Rattle.hm_run_sources.specs.Names.{name_below}
 use Rattle.hm_run_sources.specs.Origins.{IsSpelledBy}
 use Rattle.hm_build_messages.specs.Jointly.{AreJointNotes}
+use Rattle.hm_build_messages.specs.PartMessages.{IsPartMessage}
 use Rattle.hm_build_messages.specs.declared.explaining.Blame.{Blame}
 use Rattle.hm_build_messages.specs.declared.explaining.NumberedName.{NumberedName}
 
@@ -48,17 +51,6 @@ pub record IsDetailed (paint : Paint) (file source : List ℕ) (IsSo : Fault →
 -- what is known of a fault of module number i, if anything is, is so for Prelude and the interfaces of what the module imports
 abbrev pub IsKnownIn : ModuleSet → (ℕ → Status) → ℕ → Fault → Known → Type 0
 IsKnownIn p status i f known = (known ≡ nothing) ⊎ ((fs : List Interface) × ArePublished status (imports_of p i) fs × IsKnown (module_at p i) (prelude_interface ∷ fs) f known)
-
--- where what is told begins
-abbrev pub first_of : Mend → Place
-first_of (Expression part) = part.start
-first_of (Pattern part) = part.start
-first_of (Exchange first second) = first.start
-first_of (Removal part) = part.start
-first_of (Sides first second) = first.start
-first_of (Patterns first second) = first.start
-first_of (insertion_mend insertion part) = part.start
-first_of (Wrapped constructor part) = part.start
 
 -- the other place that is told: where it ends, or where the second part begins
 abbrev pub other_of : Mend → Place
@@ -105,13 +97,13 @@ ArePartTypes source name fs definition (Wrapped constructor part) expected actua
 pub record IsMendStated (paint : Paint) (file source definition : List ℕ) (mend : Mend) (other : Place) (text : List ℕ) : Type 0 where
   pub changes : List Changed
   pub edits : HasChanges source mend changes
-  pub told : IsMessageWith paint file source (first_of mend) (subject_of_mend definition mend other) (changes_alone changes) text
+  pub told : IsPartMessage paint file source (first_part mend) (second_part mend) (subject_of_mend definition mend other) changes text
 
 -- the text tells what gives the definition a type, or the two types of the part, with this as the other place
 pub data IsStatedOf (paint : Paint) (file source name : List ℕ) (fs : List Interface) (definition : List ℕ) (mend : Mend) (other : Place) (text : List ℕ) : Type 0 where
   by_mend : IsMendStated paint file source definition mend other text → IsStatedOf paint file source name fs definition mend other text
   by_types : (expected actual : List ℕ) (infinite : Bool) → ArePartTypes source name fs definition mend expected actual infinite
-      → IsMessage paint file source (first_of mend) (mistyped definition other expected actual infinite) text → IsStatedOf paint file source name fs definition mend other text
+      → IsPartMessage paint file source (first_part mend) None (mistyped definition other expected actual infinite) [] text → IsStatedOf paint file source name fs definition mend other text
 
 -- the note of a type fault tells what gives its definition a type, or the two types of the part, with places as readers count
 pub record IsNote (paint : Paint) (file source name : List ℕ) (fs : List Interface) (f : Fault) (text : List ℕ) : Type 0 where
@@ -122,7 +114,8 @@ pub record IsNote (paint : Paint) (file source name : List ℕ) (fs : List Inter
   pub columns_at : AreColumnsAt source (other_of mend) columns
   pub told : IsStatedOf paint file source name fs f.name mend (reader_place (other_of mend) columns) text
 
--- the note of a signature tells the type that the definition of a type fault has without it. If the note leads, the module is good without the signature
+-- the note of a signature tells the type that the definition of a type fault has without it. A program gets the edit that writes this type in its place. If
+-- the note leads, the module is good without the signature
 pub record IsSignatureNote (paint : Paint) (file source name : List ℕ) (fs : List Interface) (f : Fault) (leads : Bool) (text : List ℕ) : Type 0 where
   pub untyped : f.kind ≡ Untyped
   pub signature : SourceRange
@@ -131,7 +124,9 @@ pub record IsSignatureNote (paint : Paint) (file source name : List ℕ) (fs : L
   pub led : leads ≡ true → Leads source name fs signature
   pub columns : Columns
   pub columns_at : AreColumnsAt source signature.end columns
-  pub told : IsMessage paint file source signature.start (unsigned f.name (reader_place signature.end columns) own) text
+  pub changes : List Changed
+  pub retyped : IsRetyped source f.name signature own changes
+  pub told : IsPartMessage paint file source signature None (unsigned f.name (reader_place signature.end columns) own) changes text
 
 -- the notes of a type fault: that of its part, that of its signature and those of two parts, or some of them, or none. That of the signature is before that of
 -- the part if it leads. Those of two parts are last, and only if there is none of one part

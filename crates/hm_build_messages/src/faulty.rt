@@ -1,25 +1,28 @@
 //! The messages of a module with type faults: one for each fault, and after it a note of the change that gives the definition a type.
-ghost use Rattle.std.specs.Prelude.{◌≡◌, ◌⊎◌, ◌++◌, IfOk, IfSome, OnOk, [], cond, false, map, string_bytes, true};
+ghost use Rattle.std.specs.Prelude.{◌≡◌, ◌⊎◌, ◌++◌, IfOk, IfSome, List, None, OnOk, [], cond, false, map, string_bytes, true};
 ghost use Rattle.std.specs.Arc.{arc_value};
 ghost use Rattle.hm_messages.specs.Messages.{IsMessage};
 ghost use Rattle.hm_messages.specs.Subjects.{limit, subject_of, unsigned as unsigned_subject};
+ghost use Rattle.hm_messages_changes.specs.Holes.{IsPartOf};
 ghost use Rattle.hm_messages_edits.specs.Edits.{HasPartsIn};
+ghost use Rattle.hm_messages_edits.specs.Signatures.{IsRetyped};
+ghost use Rattle.hm_messages_json.specs.Edits.{Changed};
+ghost use Rattle.hm_build_messages.specs.PartMessages.{IsPartMessage};
 ghost use Rattle.hm_messages_trials.specs.Limits.{IsUsedUp};
 ghost use Rattle.hm_messages_trials.specs.Mends.{IsMend};
 ghost use Rattle.hm_messages_trials.specs.Signatures.{IsUnsigned, Leads};
 ghost use Rattle.hm_names.specs.declared.faults.Kind.TheVariants.{Untyped};
 ghost use Rattle.hm_build_messages.specs.Jointly.{AreJointNotes};
-ghost use Rattle.hm_build_messages.specs.Explanations.{AreInTurn, ArePartTypes, AreNotes, IsMendStated, IsNote, IsNoted, IsSignatureNote, IsStatedOf, first_of as first_place, insertion_way as stated_insertion, other_of as other_place, subject_of_mend as stated_subject};
+ghost use Rattle.hm_build_messages.specs.Explanations.{AreInTurn, ArePartTypes, AreNotes, IsMendStated, IsNote, IsNoted, IsSignatureNote, IsStatedOf, insertion_way as stated_insertion, other_of as other_place, subject_of_mend as stated_subject};
 
 use crate::joint::joint_notes;
+use crate::parts::{NotedPart, part_message};
 use crate::view::FaultyModule;
 use hm_lex::Place;
-use hm_messages::{
-    BothTypes, Suggestion, Topic, Way, fault_message, message, message_with, reader_place,
-};
+use hm_messages::{BothTypes, Topic, Way, fault_message, message, reader_place};
 use hm_messages_changes::{Insertion, SourceRange};
 use hm_messages_details::Detail;
-use hm_messages_edits::changes_of;
+use hm_messages_edits::{changes_of, first_part, second_part, signature_changes};
 use hm_messages_trials::{
     Effort, Mend, PartTypes, Reading, TypeFault, Unsigned, mend_of, part_types_of, reading_of,
     unsigned_of,
@@ -66,22 +69,6 @@ fn mend_for<'f>(
     match mend_of(alloc, module.question, found, effort) {
         Ok(mend) => mend,
         Err(AllocError) => None,
-    }
-}
-
-/// Returns where the part begins.
-fn first_of(mend: &Mend<'_>) -> Place
-    ensures { result ≡ first_place mend.now }
-{
-    match mend {
-        Mend::Expression(part) => part.start,
-        Mend::Pattern(part) => part.start,
-        Mend::Exchange(first, _) => first.start,
-        Mend::Removal(part) => part.start,
-        Mend::Sides(first, _) => first.start,
-        Mend::Patterns(first, _) => first.start,
-        Mend::Insertion(_, part) => part.start,
-        Mend::Wrapped(_, part) => part.start,
     }
 }
 
@@ -185,14 +172,13 @@ fn mend_text(
     ensures { IfOk result (λ text. IsMendStated «module».now.paint «module».now.page.now.file.now «module».now.page.now.lines definition.now mend.now other text.items) }
 {
     let changes = changes_of(alloc, module.question.source, mend)?;
-    let suggestion = Suggestion {
-        place: first_of(mend),
+    let noted = NotedPart {
+        part: first_part(mend),
+        second: second_part(mend),
         topic: topic_of(definition, mend, other),
         changes: changes.as_slice(),
-        part: None,
-        second: None,
     };
-    Ok(message_with(alloc, module.paint, module.page, &suggestion)?)
+    Ok(part_message(alloc, module, &noted)?)
 }
 
 /// Returns the note of the change that gives the definition a type, or of the two types, with this as the other place.
@@ -220,8 +206,13 @@ fn note_text(
                 actual: types.actual.as_str(),
                 infinite: types.infinite,
             };
-            let topic = Topic::Mistyped(definition, both);
-            Ok(message(alloc, module.paint, module.page, first_of(mend), &topic)?)
+            let noted = NotedPart {
+                part: first_part(mend),
+                second: None,
+                topic: Topic::Mistyped(definition, both),
+                changes: &[],
+            };
+            Ok(part_message(alloc, module, &noted)?)
         }
         None => Ok(mend_text(alloc, module, definition, mend, other)?),
     }
@@ -340,17 +331,22 @@ fn signature_text(
     unsigned: &Unsigned,
     end: Place,
 ) -> Result<Vec<u8>, AllocError>
-    ensures { IfOk result (λ text. IsMessage «module».now.paint «module».now.page.now.file.now «module».now.page.now.lines unsigned.now.signature.start
-        (unsigned_subject definition.now end (string_bytes unsigned.now.own)) text.items) }
+    requires same { «module».now.question.now.source.now ≡ «module».now.page.now.lines }
+    requires part { IsPartOf «module».now.question.now.source.now unsigned.now.signature }
+    ensures { IfOk result (λ text. (changes : List Changed) × IsRetyped «module».now.page.now.lines definition.now unsigned.now.signature (string_bytes unsigned.now.own) changes
+        × IsPartMessage «module».now.paint «module».now.page.now.file.now «module».now.page.now.lines unsigned.now.signature None
+        (unsigned_subject definition.now end (string_bytes unsigned.now.own)) changes text.items) }
 {
-    let topic = Topic::Unsigned(definition, end, unsigned.own.as_str());
-    Ok(message(
-        alloc,
-        module.paint,
-        module.page,
-        unsigned.signature.start,
-        &topic,
-    )?)
+    let own = unsigned.own.as_str();
+    let source = module.question.source;
+    let changes = signature_changes(alloc, source, definition, unsigned.signature, own)?;
+    let noted = NotedPart {
+        part: unsigned.signature,
+        second: None,
+        topic: Topic::Unsigned(definition, end, own),
+        changes: changes.as_slice(),
+    };
+    Ok(part_message(alloc, module, &noted)?)
 }
 
 /// Returns whether the note of a signature that leads is first, if that of the part may be first in any case.

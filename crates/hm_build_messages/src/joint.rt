@@ -5,8 +5,9 @@ ghost use Rattle.hm_names.specs.declared.faults.Kind.TheVariants.{Untyped};
 ghost use Rattle.hm_messages_joint.specs.Joints.{HasTypeWithBoth, NeedsBoth};
 ghost use Rattle.hm_build_messages.specs.Jointly.{AreJointNotes, IsJointNote};
 
+use crate::parts::{NotedPart, part_message};
 use crate::view::FaultyModule;
-use hm_messages::{Topic, Way, message, reader_place};
+use hm_messages::{Topic, Way, reader_place};
 use hm_messages_changes::SourceRange;
 use hm_messages_joint::{Joint, joint_of};
 use hm_messages_trials::{Effort, TypeFault};
@@ -53,8 +54,13 @@ fn part_note(
     let Some(start) = reader_place(module.page, other.start) else {
         return Ok(Vec::new(alloc));
     };
-    let topic = Topic::Replaceable(definition, Way::Both(end, start));
-    Ok(message(alloc, module.paint, module.page, part.start, &topic)?)
+    let noted = NotedPart {
+        part,
+        second: Some(other),
+        topic: Topic::Replaceable(definition, Way::Both(end, start)),
+        changes: &[],
+    };
+    Ok(part_message(alloc, module, &noted)?)
 }
 
 // Why: docs/DECISIONS.md, "Two slips".

@@ -9,6 +9,7 @@ mod hidden;
 mod joint;
 pub mod laws;
 mod options;
+mod parts;
 mod refused;
 mod starts;
 mod view;

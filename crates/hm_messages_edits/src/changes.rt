@@ -12,7 +12,7 @@ use hm_messages_trials::Mend;
 use std::alloc::{AllocError, Global};
 
 /// The length from which on a source may have a place of more than 32 bits.
-const TOO_LONG: usize = 4_294_967_295;
+pub(crate) const TOO_LONG: usize = 4_294_967_295;
 
 /// A text in place of the bytes from one number up to another.
 #[derive(Clone, Copy)]

@@ -1,6 +1,6 @@
 //! Laws and worked examples: functions with an empty body, whose contracts have the facts.
 ghost use Rattle.hm_messages_edits.specs.Edits.{EditsMend};
-ghost use Rattle.hm_messages_edits.specs.Worked.{EditsRow};
+ghost use Rattle.hm_messages_edits.specs.Worked.{EditsRow, SignatureRow};
 
 /// With the edits of a mend the definition has a type.
 #[tactic(auto, using(crate::proofs::Mending::edits_mend))]
@@ -12,4 +12,10 @@ pub fn edits_mend()
 #[tactic(auto, using(crate::proofs::Worked::worked_edits))]
 pub fn worked_edits()
     ensures { EditsRow }
+{}
+
+/// A signature with another type, its part, and a signature of two variables.
+#[tactic(auto, using(crate::proofs::Worked::worked_signatures))]
+pub fn worked_signatures()
+    ensures { SignatureRow }
 {}
