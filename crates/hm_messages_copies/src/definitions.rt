@@ -1,0 +1,140 @@
+//! The definitions that a token is in. It is proved only that each walk ends.
+
+use hm_messages_outline::{
+    Lexed, Outline, Run, binding_from, declaration_end, has_clause, is_clause_of, name_at,
+    past_semicolons,
+};
+use hm_parse_grammar::Symbol;
+use std::alloc::{AllocError, Global};
+
+/// A declaration: all clauses of a function, a pattern binding, or another one. `list` is the list of declarations that it is in.
+#[derive(Clone, Copy)]
+pub struct Declared {
+    pub list: Run,
+    pub run: Run,
+}
+
+/// Returns the declaration of a list that a token is in.
+pub fn declared_in(lexed: &Lexed<'_>, list: Run, token: usize) -> Option<Declared> {
+    let mut at = list.start;
+    for _ in list.start..list.end {
+        at = past_semicolons(lexed.outline, at);
+        if at >= list.end {
+            return None;
+        }
+        let run = binding_from(lexed.source, lexed.tokens, lexed.outline, at);
+        if run.has(token) {
+            return Some(Declared { list, run });
+        }
+        at = run.end.max(at.saturating_add(1));
+    }
+    None
+}
+
+/// Returns whether a list of declarations begins after a brace here, and has a token.
+fn is_list_around(outline: &Outline, brace: usize, token: usize) -> bool {
+    if !outline.symbol(brace).is(Symbol::LeftBrace) || outline.closing(brace) <= token {
+        return false;
+    }
+    match outline.symbol(brace.saturating_sub(1)) {
+        Symbol::Let | Symbol::Where => true,
+        _ => false,
+    }
+}
+
+/// Returns the declarations that a token is in, each inside of the one before.
+pub fn declarations_around(
+    alloc: Global,
+    lexed: &Lexed<'_>,
+    body: Run,
+    token: usize,
+) -> Result<Vec<Declared>, AllocError> {
+    let mut found = Vec::new(alloc);
+    let Some(first) = declared_in(lexed, body, token) else {
+        return Ok(found);
+    };
+    found.push(first)?;
+    for brace in first.run.start..token {
+        if is_list_around(lexed.outline, brace, token) {
+            let list = Run {
+                start: brace.saturating_add(1),
+                end: lexed.outline.closing(brace),
+            };
+            match declared_in(lexed, list, token) {
+                Some(declared) => found.push(declared)?,
+                None => return Ok(found),
+            }
+        }
+    }
+    Ok(found)
+}
+
+/// Returns whether a declaration is a definition.
+pub fn is_definition(outline: &Outline, run: Run) -> bool {
+    match outline.symbol(run.start) {
+        Symbol::Data | Symbol::Newtype | Symbol::TypeWord | Symbol::Import => false,
+        _ => outline.find(run.start, run.end, Symbol::Equals).is_some(),
+    }
+}
+
+/// Returns whether a definition is that of a function or a variable, and not a pattern binding.
+pub(crate) fn has_name(lexed: &Lexed<'_>, run: Run) -> bool {
+    is_clause_of(
+        lexed.source,
+        lexed.tokens,
+        lexed.outline,
+        run.start,
+        run.start,
+    )
+}
+
+/// Returns the name of a definition, or `()` for a pattern binding.
+pub fn name_of<'a>(lexed: &Lexed<'a>, run: Run) -> &'a str {
+    if !has_name(lexed, run) || run.start >= lexed.tokens.len() {
+        return "()";
+    }
+    name_at(lexed.source, &lexed.tokens[run.start])
+}
+
+/// Returns whether the list of a definition has a signature of it.
+pub fn is_signed(lexed: &Lexed<'_>, declared: Declared) -> bool {
+    let Declared { list, run } = declared;
+    let mut at = list.start;
+    for _ in list.start..list.end {
+        at = past_semicolons(lexed.outline, at);
+        if at >= list.end {
+            return false;
+        }
+        let end = declaration_end(lexed.outline, at);
+        let after = lexed.outline.symbol(at.saturating_add(1));
+        let signature = Run { start: at, end };
+        if lexed.outline.symbol(at).is(Symbol::Var)
+            && after.begins_signature()
+            && has_clause(lexed, signature, run.start)
+        {
+            return true;
+        }
+        at = end.max(at.saturating_add(1));
+    }
+    false
+}
+
+/// Returns the clause of a definition that a token is in.
+pub(crate) fn clause_with(outline: &Outline, run: Run, token: usize) -> Option<Run> {
+    let mut at = run.start;
+    for _ in run.start..run.end {
+        at = past_semicolons(outline, at);
+        if at >= run.end {
+            return None;
+        }
+        let clause = Run {
+            start: at,
+            end: declaration_end(outline, at),
+        };
+        if clause.has(token) {
+            return Some(clause);
+        }
+        at = clause.end.max(at.saturating_add(1));
+    }
+    None
+}

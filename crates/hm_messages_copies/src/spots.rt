@@ -1,0 +1,198 @@
+//! Where the type of a name is read.
+ghost use Rattle.std.specs.Prelude.{◌≡◌, IfSome};
+ghost use Rattle.hm_messages_copies.specs.Changes.{part_of};
+
+use crate::data::{Asked, Copied, Point, Scoped};
+use crate::definitions::{Declared, clause_with, has_name, is_definition, is_signed, name_of};
+use hm_messages_changes::{Span, bytes_of, local_of, own_name};
+use hm_messages_outline::{Lexed, Outline, Run, declaration_end, one, past_semicolons};
+use hm_parse_grammar::Symbol;
+use std::alloc::{AllocError, Global};
+
+/// Where the type of a name is read, and in copies of how many definitions.
+#[derive(Clone, Copy)]
+pub struct Spot {
+    pub point: Point,
+    pub depth: usize,
+    /// Where the name begins.
+    pub byte: usize,
+}
+
+/// Returns the first of these tokens with one of two symbols, outside brackets that open among them.
+fn first_of(outline: &Outline, run: Run, one: Symbol, other: Symbol) -> usize {
+    let first = outline.find(run.start, run.end, one);
+    let second = outline.find(run.start, run.end, other);
+    first.unwrap_or(run.end).min(second.unwrap_or(run.end))
+}
+
+/// Returns whether a token is where a declaration has the names that it declares.
+fn is_declared_name(lexed: &Lexed<'_>, declared: Declared, token: usize) -> bool {
+    let run = declared.run;
+    if !is_definition(lexed.outline, run) {
+        return true;
+    }
+    let Some(clause) = clause_with(lexed.outline, run, token) else {
+        return false;
+    };
+    if has_name(lexed, run) {
+        return clause.start == token;
+    }
+    token < first_of(lexed.outline, clause, Symbol::Equals, Symbol::Bar)
+}
+
+/// Where a declaration is put in.
+#[derive(Clone, Copy)]
+struct Room {
+    at: usize,
+    scoped: Scoped,
+}
+
+/// Returns where a declaration is in the scope of the patterns of a clause or an alternative.
+fn room_of(lexed: &Lexed<'_>, run: Run) -> Room {
+    match lexed.outline.find(run.start, run.end, Symbol::Where) {
+        Some(word) => Room {
+            at: lexed.end(one(word.saturating_add(1))),
+            scoped: Scoped::Front,
+        },
+        None => Room {
+            at: lexed.end(run),
+            scoped: Scoped::Where,
+        },
+    }
+}
+
+/// Returns where a declaration is in the scope of a token's pattern, if the lambda or the alternatives that begin here have it.
+fn room_in(lexed: &Lexed<'_>, at: usize, run: Run, token: usize) -> Option<Room> {
+    let outline = lexed.outline;
+    let next = at.saturating_add(1);
+    if outline.symbol(at).is(Symbol::Backslash) {
+        let arrow = outline.find(next, run.end, Symbol::Arrow)?;
+        if arrow < token {
+            return None;
+        }
+        return Some(Room {
+            at: lexed.start(arrow.saturating_add(1)),
+            scoped: Scoped::Let,
+        });
+    }
+    if !outline.symbol(at).is(Symbol::Of) || outline.closing(next) <= token {
+        return None;
+    }
+    let list = Run {
+        start: next.saturating_add(1),
+        end: outline.closing(next),
+    };
+    let alternative = clause_with(outline, list, token)?;
+    if first_of(outline, alternative, Symbol::Arrow, Symbol::Bar) < token {
+        return None;
+    }
+    Some(room_of(lexed, alternative))
+}
+
+/// Returns where a declaration is in the scope of the pattern of a definition that a token is in.
+fn room_around(lexed: &Lexed<'_>, run: Run, token: usize) -> Option<Room> {
+    for at in run.start..token {
+        if let Some(room) = room_in(lexed, at, run, token) {
+            return Some(room);
+        }
+    }
+    let clause = clause_with(lexed.outline, run, token)?;
+    if first_of(lexed.outline, clause, Symbol::Equals, Symbol::Bar) < token {
+        return None;
+    }
+    Some(room_of(lexed, clause))
+}
+
+/// Returns where the type of a name is read, by the declarations that its token is in.
+pub fn spot_of(lexed: &Lexed<'_>, around: &[Declared], token: usize, asked: Asked) -> Option<Spot>
+    ensures { IfSome result (λ s. part_of s.point ≡ asked.part) }
+{
+    let last = around.last()?;
+    let run = last.run;
+    let depth = around.len();
+    let byte = asked.part.from;
+    if asked.binds || !is_definition(lexed.outline, run) {
+        if is_declared_name(lexed, *last, token) {
+            return Some(Spot {
+                point: Point::Variable(asked.part, lexed.end(run), Scoped::After),
+                depth: depth.saturating_sub(1),
+                byte,
+            });
+        }
+        let room = room_around(lexed, run, token)?;
+        return Some(Spot {
+            point: Point::Variable(asked.part, room.at, room.scoped),
+            depth,
+            byte,
+        });
+    }
+    Some(Spot {
+        point: Point::Expression(asked.part),
+        depth,
+        byte,
+    })
+}
+
+/// Returns the names at the beginnings of the clauses of a definition, if it has a signature.
+fn heads_of(alloc: Global, lexed: &Lexed<'_>, declared: Declared) -> Result<Vec<Span>, AllocError> {
+    let mut heads = Vec::new(alloc);
+    if !is_signed(lexed, declared) {
+        return Ok(heads);
+    }
+    let run = declared.run;
+    let mut at = run.start;
+    for _ in run.start..run.end {
+        if at >= run.end {
+            return Ok(heads);
+        }
+        heads.push(Span {
+            from: lexed.start(at),
+            to: lexed.end(one(at)),
+        })?;
+        at = past_semicolons(lexed.outline, declaration_end(lexed.outline, at));
+    }
+    Ok(heads)
+}
+
+/// Returns the names at the beginnings of the clauses of those of these definitions that have signatures.
+pub fn all_heads(
+    alloc: Global,
+    lexed: &Lexed<'_>,
+    definitions: &[Declared],
+) -> Result<Vec<Vec<Span>>, AllocError> {
+    let mut all = Vec::new(alloc);
+    for declared in definitions {
+        all.push(heads_of(alloc, lexed, *declared)?)?;
+    }
+    Ok(all)
+}
+
+/// Returns how the copies of these definitions are written, around a part that begins at a byte. Returns `None` if one of them isn't in the source.
+pub fn copies_of<'a>(
+    alloc: Global,
+    lexed: &Lexed<'a>,
+    definitions: &[Declared],
+    heads: &'a [Vec<Span>],
+    byte: usize,
+) -> Result<Option<Vec<Copied<'a>>>, AllocError> {
+    let mut copies = Vec::new(alloc);
+    for number in 0..definitions.len().min(heads.len()) {
+        let run = definitions[number].run;
+        let Some((from, to)) = bytes_of(lexed.tokens, run, lexed.source) else {
+            return Ok(None);
+        };
+        let name = name_of(lexed, run);
+        let own = heads[number].as_slice();
+        copies.push(Copied {
+            whole: Span { from, to },
+            name,
+            value: name,
+            local: if own.is_empty() {
+                own_name(name)
+            } else {
+                local_of(name, own, byte)
+            },
+        })?;
+    }
+    Ok(Some(copies))
+}
