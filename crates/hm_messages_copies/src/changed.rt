@@ -67,7 +67,7 @@ fn within(
 fn function_of(
     alloc: Global,
     source: &[u8],
-    inside: &Inside<'_>,
+    inside: &Inside<'_, '_, '_>,
 ) -> Result<Option<Vec<u8>>, AllocError>
     ensures { IfOk result (λ found. IfSome found (λ made. made.items
         ≡ function_text source.now (definition_of inside.now.first) (definitions_of inside.now.others.now) inside.now.point)) }
@@ -214,7 +214,7 @@ fn with_declaration(
 }
 
 /// Returns whether the definitions are inside of each other in a source, and what is written anew in a copy is the name of its definition.
-fn is_proper(source: &[u8], inside: &Inside<'_>) -> bool
+fn is_proper(source: &[u8], inside: &Inside<'_, '_, '_>) -> bool
     ensures { result ≡ true → AreNested source.now 0 (length source.now) (definition_of inside.now.first ∷ definitions_of inside.now.others.now) inside.now.point }
 {
     let first = &inside.first;
@@ -232,7 +232,7 @@ fn is_proper(source: &[u8], inside: &Inside<'_>) -> bool
 pub fn with_function(
     alloc: Global,
     target: &Target<'_>,
-    inside: &Inside<'_>,
+    inside: &Inside<'_, '_, '_>,
 ) -> Result<Option<Vec<u8>>, AllocError>
     ensures nested { IfOk result (λ found. IfSome found (λ made. AreNested target.now.source.now 0 (length target.now.source.now)
         (definition_of inside.now.first ∷ definitions_of inside.now.others.now) inside.now.point)) }

@@ -48,9 +48,9 @@ pub struct Copied<'a> {
 
 /// A part inside of definitions, each of which is inside of the one before.
 #[derive(Clone, Copy)]
-pub struct Inside<'a> {
-    pub first: Copied<'a>,
-    pub others: &'a [Copied<'a>],
+pub struct Inside<'f, 'o, 'c> {
+    pub first: Copied<'f>,
+    pub others: &'o [Copied<'c>],
     pub point: Point,
 }
 

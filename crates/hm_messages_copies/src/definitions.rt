@@ -88,12 +88,12 @@ pub(crate) fn has_name(lexed: &Lexed<'_>, run: Run) -> bool {
     )
 }
 
-/// Returns the name of a definition, or `()` for a pattern binding.
-pub fn name_of<'a>(lexed: &Lexed<'a>, run: Run) -> &'a str {
+/// Returns the name of a definition of a source, or `()` for a pattern binding.
+pub fn name_of<'a>(source: &'a [u8], lexed: &Lexed<'_>, run: Run) -> &'a str {
     if !has_name(lexed, run) || run.start >= lexed.tokens.len() {
         return "()";
     }
-    name_at(lexed.source, &lexed.tokens[run.start])
+    name_at(source, &lexed.tokens[run.start])
 }
 
 /// Returns whether the list of a definition has a signature of it.

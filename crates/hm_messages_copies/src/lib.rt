@@ -16,4 +16,4 @@ pub use crate::data::{Asked, Copied, Inside, Point, Scoped, Target};
 pub use crate::definitions::{
     Declared, declarations_around, declared_in, is_definition, is_signed, name_of,
 };
-pub use crate::spots::{Spot, all_heads, copies_of, spot_of};
+pub use crate::spots::{Headed, Spot, copies_of, spot_of, with_heads};

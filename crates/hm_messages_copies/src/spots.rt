@@ -4,7 +4,7 @@ ghost use Rattle.hm_messages_copies.specs.Changes.{part_of};
 
 use crate::data::{Asked, Copied, Point, Scoped};
 use crate::definitions::{Declared, clause_with, has_name, is_definition, is_signed, name_of};
-use hm_messages_changes::{Span, bytes_of, local_of, own_name};
+use hm_messages_changes::{Span, bytes_of, local_of};
 use hm_messages_outline::{Lexed, Outline, Run, declaration_end, one, past_semicolons};
 use hm_parse_grammar::Symbol;
 use std::alloc::{AllocError, Global};
@@ -154,44 +154,49 @@ fn heads_of(alloc: Global, lexed: &Lexed<'_>, declared: Declared) -> Result<Vec<
     Ok(heads)
 }
 
-/// Returns the names at the beginnings of the clauses of those of these definitions that have signatures.
-pub fn all_heads(
+/// A definition, with the names at the beginnings of its clauses if it has a signature.
+#[derive(Drop)]
+pub struct Headed {
+    run: Run,
+    heads: Vec<Span>,
+}
+
+/// Returns definitions with the names at the beginnings of the clauses of those that have signatures.
+pub fn with_heads(
     alloc: Global,
     lexed: &Lexed<'_>,
     definitions: &[Declared],
-) -> Result<Vec<Vec<Span>>, AllocError> {
+) -> Result<Vec<Headed>, AllocError> {
     let mut all = Vec::new(alloc);
     for declared in definitions {
-        all.push(heads_of(alloc, lexed, *declared)?)?;
+        let heads = heads_of(alloc, lexed, *declared)?;
+        all.push(Headed {
+            run: declared.run,
+            heads,
+        })?;
     }
     Ok(all)
 }
 
-/// Returns how the copies of these definitions are written, around a part that begins at a byte. Returns `None` if one of them isn't in the source.
+/// Returns how the copies of these definitions of a source are written, around a part that begins at a byte. Returns `None` if one of them isn't in the source.
 pub fn copies_of<'a>(
     alloc: Global,
-    lexed: &Lexed<'a>,
-    definitions: &[Declared],
-    heads: &'a [Vec<Span>],
+    source: &'a [u8],
+    lexed: &Lexed<'_>,
+    definitions: &'a [Headed],
     byte: usize,
 ) -> Result<Option<Vec<Copied<'a>>>, AllocError> {
     let mut copies = Vec::new(alloc);
-    for number in 0..definitions.len().min(heads.len()) {
-        let run = definitions[number].run;
-        let Some((from, to)) = bytes_of(lexed.tokens, run, lexed.source) else {
+    for definition in definitions {
+        let Some((from, to)) = bytes_of(lexed.tokens, definition.run, source) else {
             return Ok(None);
         };
-        let name = name_of(lexed, run);
-        let own = heads[number].as_slice();
+        let name = name_of(source, lexed, definition.run);
         copies.push(Copied {
             whole: Span { from, to },
             name,
             value: name,
-            local: if own.is_empty() {
-                own_name(name)
-            } else {
-                local_of(name, own, byte)
-            },
+            local: local_of(name, definition.heads.as_slice(), byte),
         })?;
     }
     Ok(Some(copies))

@@ -1,0 +1,2 @@
+pub mod TypesHere
+pub mod Worked

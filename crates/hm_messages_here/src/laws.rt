@@ -1,0 +1,10 @@
+//! Worked examples: functions with empty bodies, whose contracts have the facts.
+ghost use Rattle.hm_messages_here.specs.Worked.{TextsRow, TypesRow, WithoutRow};
+
+/// The texts of two types, a source in which a module exports no variable for a type, and sources without definitions.
+#[tactic(auto, using(crate::proofs::WorkedHere::worked_texts, crate::proofs::WorkedHere::worked_types, crate::proofs::WorkedHere::worked_without))]
+pub fn worked_types_here()
+    ensures texts { TextsRow }
+    ensures types { TypesRow }
+    ensures without { WithoutRow }
+{}
