@@ -1,6 +1,8 @@
 #!/usr/bin/env python3
 """Asks the program by `--at` what is at places of the programs of bench/programs and of random sets, and compares its texts with a reading of names in
-Python (name_reading.py). The types of names are compared with those of the report.
+Python (name_reading.py). The types of declared names are compared with those of the report, for names that aren't exported with that of their module
+without its export list. Types of uses are to be instances of these. A type without variables is tried: with it after the use the report is the same,
+and with another type it isn't.
 
 `at.py [PROGRAM [SEED N]]`: without a word, the script `hmc` beside this folder is run. N random sets are made by the seed, 40 by seed 1 if these words
 aren't given. Ends with 1 where a text differs, or if fewer places were asked for than the programs have names.
@@ -16,47 +18,85 @@ import tempfile
 
 from haskell_sets.modules import RandomSet
 from name_reading import uses_of
+from type_texts import has_variables, is_instance
 
 TOP = pathlib.Path(__file__).resolve().parent.parent
 PROGRAM = os.path.abspath(sys.argv[1]) if len(sys.argv) > 1 else str(TOP / "hmc")
 SEED, SETS = (sys.argv[2], int(sys.argv[3])) if len(sys.argv) > 3 else ("1", 40)
 # Names of each random set that are asked for.
 MOST_ASKED = 12
+# Types of each program or set that are tried.
+MOST_TRIED = 120
 LEAST_PLACES = 3000
+LEAST_TRIED = 300
 IMPORT = re.compile(r"\bimport\s+(?:qualified\s+)?([A-Z][\w.']*)")
-BLOCK = re.compile(r"^(module|faulty|skipped) (\S+)$|^  (val|con) \S+ = (\S+) :: (.*)$", re.M)
+HEADER = re.compile(r"\bmodule\s+[A-Z][\w.']*\s*\(")
+BLOCK = re.compile(r"^(module|faulty|skipped) (\S+)$|^  (val|con|syn) \S+ = (\S+) :: (.*)$", re.M)
 KINDS = {"val": "variable", "con": "constructor"}
 PRELUDE = "module Types_of_Prelude ( module Prelude ) where { import Prelude }"
 
 
 class Report:
-    """What a report says: the verdict of each module, and the type of each entity that its own module exports."""
+    """What a report says: the verdict of each module, the type of each entity that its own module exports, and what its synonyms stand for."""
 
     def __init__(self, text):
-        self.verdicts, self.types = {}, {}
+        self.verdicts, self.types, self.synonyms = {}, {}, {}
         for verdict, name, word, entity, of_type in BLOCK.findall(text):
             if name:
                 self.verdicts[name] = verdict
                 home = name
+            elif word == "syn":
+                self.synonyms[entity] = of_type
             elif entity.rpartition(".")[0] in (home, "Prelude"):
                 self.types[KINDS[word], entity] = of_type
 
 
+def report_text(texts):
+    """The report of the modules of these texts, or none if they are refused."""
+    ran = subprocess.run([PROGRAM], input="\n".join(texts), capture_output=True, text=True)
+    return ran.stdout if ran.returncode < 2 else None
+
+
 def report_of(texts):
-    """The report of the modules of these texts, or none if they are refused. The types of Prelude are in it."""
-    ran = subprocess.run([PROGRAM], input="\n".join([*texts, PRELUDE]), capture_output=True, text=True)
-    return Report(ran.stdout) if ran.returncode < 2 else None
+    """What the report of these texts says, with the types of Prelude, and with those of names that aren't exported."""
+    texts = list(texts)
+    text = report_text([*texts, PRELUDE])
+    if text is None:
+        return None
+    report = Report(text)
+    for number, it in enumerate(texts):
+        for head in HEADER.finditer(it):
+            more = report_text([*texts[:number], without_list(it, head.end() - 1), *texts[number + 1:]])
+            if more:
+                report.types = {**Report(more).types, **report.types}
+                report.synonyms = {**Report(more).synonyms, **report.synonyms}
+    return report
+
+
+def expanded(of_type, module, report):
+    """A type with what the synonyms of its module stand for."""
+    return re.sub(r"(?<![\w.'])[A-Z][\w']*(?![\w.'])", lambda it: f"({report.synonyms[key]})" if (key := f"{module}.{it[0]}") in report.synonyms else it[0], of_type)
+
+
+def without_list(text, start):
+    """A text without the list in brackets that starts here."""
+    depth = 0
+    for at in range(start, len(text)):
+        depth += {"(": 1, ")": -1}.get(text[at], 0)
+        if not depth:
+            return text[:start] + text[at + 1:]
+    return text
 
 
 def type_line(use, report):
-    """The line of the type of a name, if a module declares it."""
+    """The line of the type of a name, if a module declares it. It may be another one in a module that isn't good, and is none then."""
     word, _, entity = use.meaning.partition(" ")
     if word != "entity" or use.kind not in KINDS.values():
         return ""
     home = entity.rpartition(".")[0]
-    if report.verdicts.get(home, "module") != "module":
-        return f"  no type: module {home} isn't good\n"
     found = report.types.get((use.kind, entity))
+    if report.verdicts.get(home, "module") != "module":
+        return f"  type {found}\n" if found else None
     return f"  type {found}\n" if found else f"  no type: module {home} doesn't export it\n"
 
 
@@ -73,17 +113,18 @@ def bound_line(use, files, binders):
 
 
 def expected(uses, files, report):
-    """What is printed for each place on a name, by its file, line and column. `hiding (C)` has two names at one place."""
+    """What is printed for each place on a name, by its file, line and column: the name, where it is bound and its type, and the use. `hiding (C)` has two names at one
+    place."""
     binders = {}
     for use in uses:
         if use.binds:
             binders.setdefault((use.module, use.kind, use.meaning), f"{use.line}:{use.column}")
     texts = {}
     for use in uses:
-        text = f"{use.kind} {use.text}\n" + bound_line(use, files, binders) + type_line(use, report)
+        text = f"{use.kind} {use.text}\n" + bound_line(use, files, binders)
         for column in range(use.column, use.column + len(use.text)):
             place = files[use.module], use.line, column
-            texts[place] = texts.get(place, "") + text
+            texts[place] = [*texts.get(place, []), (text, type_line(use, report), use)]
     return texts
 
 
@@ -99,24 +140,91 @@ def asked_of(texts, sources, whole):
     return [(it, texts.get(it)) for it in places]
 
 
-def ask(folder, files, place, text):
-    """The difference at a place, or none. Where no name is, the status is 1."""
+def take(lines, start):
+    """The rest of the first of these lines, which is taken away, if it begins so."""
+    return lines.pop(0)[len(start):] if lines and lines[0].startswith(start) else None
+
+
+def difference(lines, names, report, types, must_have):
+    """What differs between the lines that are printed and the names at a place. `types` gets the type of each use. Local variables have a type if they must."""
+    for text, of_type, use in names:
+        home = use.meaning.partition(" ")[2].rpartition(".")[0]
+        count = text.count("\n")
+        if "".join(f"{it}\n" for it in lines[:count]) != text:
+            return f"wanted was {text!r}"
+        del lines[:count]
+        is_local = use.meaning.startswith("local ")
+        scheme = None if is_local else take(lines, "  type ")
+        if scheme is None and of_type:
+            return f"wanted was {of_type!r}"
+        if not is_local and of_type is not None and (f"  type {scheme}\n" if scheme else "") != shown(of_type, scheme, expanded(scheme or "", home, report)):
+            return f"wanted was {of_type!r}"
+        take(lines, "  no type: ")
+        here = take(lines, "  type " if is_local else "  here ")
+        if is_local and here is None and (take(lines, "  no type is found") is None or must_have):
+            return "a local variable has no type"
+        definition = take(lines, "  in ")
+        if here is not None and scheme is not None and not is_instance(expanded(here, use.module, report), expanded(scheme, home, report)):
+            return f"{here} is no instance of {scheme}"
+        if definition:
+            name, _, own = definition.partition(" :: ")
+            wanted = report.types.get(("variable", f"{use.module}.{name}"))
+            own = expanded(own, use.module, report)
+            if wanted and not (is_instance(own, wanted) and is_instance(wanted, own)):
+                return f"{name} has the type {wanted}"
+        if here is not None:
+            types.append((use, here))
+    return f"more lines: {lines}" if lines else None
+
+
+def shown(of_type, scheme, meant):
+    """The line that is wanted, or that of the scheme if this has names of synonyms and means the same type."""
+    wanted = of_type[len("  type "):-1]
+    same = scheme and of_type.startswith("  type ") and is_instance(meant, wanted) and is_instance(wanted, meant)
+    return f"  type {scheme}\n" if same else of_type
+
+
+def ask(folder, sources, report, place, names):
+    """The difference at a place, or none, and the types of the uses. Where no name is, the status is 1."""
     spot = ":".join(map(str, place))
-    ran = subprocess.run([PROGRAM, "--at", spot, *files], cwd=folder, capture_output=True, text=True)
-    wanted = (0, text) if text else (1, f"{spot}: no name is here\n")
-    if (ran.returncode, ran.stdout) == wanted and not ran.stderr:
-        return None
-    return f"{spot}: {ran.returncode} {ran.stdout!r} {ran.stderr!r}, and wanted was {wanted}"
+    ran = subprocess.run([PROGRAM, "--at", spot, *sources], cwd=folder, capture_output=True, text=True)
+    types = []
+    if names:
+        # In `(\x -> x) :: a -> a` the type of x is a constant of the signature, which no other type may have.
+        must_have = report.verdicts.get(names[0][2].module) == "module" and not re.search(r"\) :: [^;]*\b[a-z]\w*\b", sources[place[0]].split("\n")[place[1] - 1])
+        differs = "status" if ran.returncode or ran.stderr else difference(ran.stdout.splitlines(), names, report, types, must_have)
+    else:
+        differs = None if (ran.returncode, ran.stdout, ran.stderr) == (1, f"{spot}: no name is here\n", "") else "no name is here"
+    return (f"{spot}: {ran.returncode} {ran.stdout!r} {ran.stderr!r}: {differs}" if differs else None), types
 
 
-def compare(pool, sources, texts, whole=False):
-    """Asks for places of sources, and returns how many were asked for and the differences."""
+def try_type(sources, use, of_type):
+    """Whether a type of a use was tried, and what was wrong with it. With the type after the use the report is the same, and with a list of it the module is faulty."""
+    file = next(it for it, text in sources.items() if re.search(rf"\bmodule\s+{re.escape(use.module)}\b", text))
+    rows = sources[file].split("\n")
+    row, at = rows[use.line - 1], use.column - 1
+    reports = []
+    for it in (of_type, f"[{of_type}]"):
+        rows[use.line - 1] = f"{row[:at]}({use.text} :: {it}){row[at + len(use.text):]}"
+        reports.append(report_text({**sources, file: "\n".join(rows)}.values()))
+    before = report_text(sources.values())
+    if reports[0] is None or re.search(r"^  \d+:\d+ (unbound|ambiguous) ", reports[0], re.M):
+        return False, None
+    right = reports[0] == before and reports[1] != before
+    return True, None if right else f"{file}:{use.line}:{use.column}: {use.text} :: {of_type} isn't the type there"
+
+
+def compare(pool, sources, texts, report, whole=False):
+    """Asks for places of sources, and returns how many were asked for, the differences, and how many types were tried."""
     with tempfile.TemporaryDirectory() as folder:
         for file, text in sources.items():
             pathlib.Path(folder, file).write_text(text)
         asked = asked_of(texts, sources, whole)
-        answers = list(pool.map(lambda it: ask(folder, list(sources), *it), asked))
-    return len(asked), [it for it in answers if it]
+        answers = list(pool.map(lambda it: ask(folder, sources, report, *it), asked))
+    uses = dict.fromkeys((use, it) for _, types in answers for use, it in types if not use.binds and not has_variables(it))
+    uses = random.Random(f"{SEED} {sorted(sources)}").sample(list(uses), min(len(uses), MOST_TRIED))
+    tried = list(pool.map(lambda it: try_type(sources, *it), uses))
+    return len(asked), [it for it, _ in [*answers, *((wrong, done) for done, wrong in tried)] if it], sum(done for done, _ in tried)
 
 
 def random_texts(number):
@@ -131,7 +239,7 @@ def random_texts(number):
         order, left = order + ready, [it for it in left if it not in ready]
     sources = {f"{name}.hs": text for name, text in texts.items()}
     found = [use for name in order for use in uses_of_one(name, order, texts)]
-    return sources, expected(found, {name: f"{name}.hs" for name in texts}, report)
+    return sources, expected(found, {name: f"{name}.hs" for name in texts}, report), report
 
 
 def uses_of_one(name, order, texts):
@@ -151,23 +259,24 @@ def moved(meaning, above):
 
 
 def main():
-    count, faults = 0, []
+    count, tried, faults = 0, 0, []
     with concurrent.futures.ThreadPoolExecutor(4) as pool:
         for path in sorted((TOP / "bench" / "programs").glob("*.hs")):
             text = path.read_text()
-            uses = uses_of([text])
-            asked, differ = compare(pool, {path.name: text}, expected(uses, {use.module: path.name for use in uses}, report_of([text])), True)
-            count, faults = count + asked, faults + differ
+            uses, report = uses_of([text]), report_of([text])
+            texts = expected(uses, {use.module: path.name for use in uses}, report)
+            asked, differ, done = compare(pool, {path.name: text}, texts, report, True)
+            count, tried, faults = count + asked, tried + done, faults + differ
         in_programs = count
         for number in range(SETS):
             made = random_texts(number)
             if made:
-                asked, differ = compare(pool, *made)
-                count, faults = count + asked, faults + differ
+                asked, differ, done = compare(pool, *made)
+                count, tried, faults = count + asked, tried + done, faults + differ
     for it in faults:
         print(it)
-    print(f"{count} places, {in_programs} of them of programs: {len(faults)} differ")
-    return 1 if faults or in_programs < LEAST_PLACES else 0
+    print(f"{count} places, {in_programs} of them of programs, {tried} types tried: {len(faults)} differ")
+    return 1 if faults or in_programs < LEAST_PLACES or tried < LEAST_TRIED else 0
 
 
 if __name__ == "__main__":

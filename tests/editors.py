@@ -100,6 +100,17 @@ def vim_without_program(room, _):
     return shown(words, room)
 
 
+def vim_at(room, program):
+    """The type of the name under the cursor, which is after a character outside ASCII."""
+    (room / "C.hs").write_text("module C where {\n  f x y = {- \u00e4 -} x\n}\n", encoding="utf-8")
+    (room / "run.vim").write_text(
+        'set encoding=utf-8\nlet g:hmc_program = $PROGRAM\ncompiler! hmc\nedit C.hs\ncall cursor(2, 20)\n'
+        'call writefile([json_encode([["C.hs", 2, 20, 20, join(HmcAt([]), ";")]])], "shown")\nqall!\n'
+    )
+    words = ["vim", "-N", "-u", "NONE", "-i", "NONE", "-es", "--cmd", f"set runtimepath^={EDITORS}/vim", "-S", "run.vim"]
+    return shown(words, room, PROGRAM=program)
+
+
 def neovim(room, program):
     (room / "run.lua").write_text(NVIM)
     words = ["nvim", "--headless", "-u", "NONE", "-n", "--cmd", f"set runtimepath^={EDITORS}/nvim", "-c", "luafile run.lua"]
@@ -115,6 +126,7 @@ CASES = (
     ("vim", "Vim's list", vim, WANTED),
     ("vim", "Vim's first entry", first_in_vim, WANTED[1:]),
     ("vim", "Vim without the program", vim_without_program, [["", 0, 0, 0, "kept and said"]]),
+    ("vim", "Vim's type under the cursor", vim_at, [["C.hs", 2, 20, 20, "variable x;  bound at C.hs:2:5;  type a;  in f :: a -> b -> a"]]),
     ("nvim", "Neovim's diagnostics", neovim, WANTED),
     ("emacs", "Emacs's diagnostics", emacs, WANTED),
 )

@@ -11,7 +11,7 @@ import subprocess
 import sys
 import tempfile
 
-from rows import messages, plans, reports
+from rows import messages, places, plans, reports
 
 TOP = os.path.dirname(os.path.dirname(os.path.abspath(__file__)))
 PROGRAM = os.path.abspath(sys.argv[1]) if len(sys.argv) > 1 else os.path.join(TOP, "hmc")
@@ -134,6 +134,13 @@ def long_scheme():
     yield [], [source], GOOD, "module A\n" + "".join(lines) + "1 modules: 1 good, 0 faulty, 0 skipped\n"
 
 
+def typed_places():
+    """The lines of types at the places of the table, after those of a name and of where it is bound."""
+    for marked, types in places.TYPED:
+        column = marked.index("^") + 1
+        yield ["--at", f"<stdin>:1:{column}"], [marked.replace("^", "")], GOOD, re.compile(r"[a-z]+ \S+\n  bound [^\n]*\n" + re.escape(types))
+
+
 def run(folder, words, given):
     """Runs the program on sources: one alone is its standard input, and several are files."""
     given = [it.encode() if isinstance(it, str) else it for it in given]
@@ -169,7 +176,7 @@ def is_explained(alone, told, status, wanted):
 def main():
     differing, count = [], 0
     with tempfile.TemporaryDirectory() as folder:
-        for made in (tables, hostile, bounds, sources, workers, long_scheme):
+        for made in (tables, hostile, bounds, sources, workers, long_scheme, typed_places):
             for words, given, status, wanted in made():
                 done, count = run(folder, words, given), count + 1
                 if not is_wanted(done, status, wanted):

@@ -38,7 +38,7 @@ skipped D
 """
 IMPORTED = b"module A where { import B ; x = y }\nmodule B where { y = 'c' }\n"
 IMPORTED_REPORT = b"module A\n  val x = A.x :: Char\nmodule B\n  val y = B.y :: Char\n2 modules: 2 good, 0 faulty, 0 skipped\n"
-IMPORTED_PLACE = b"variable y\n  bound at <stdin>:2:18\n  type Char\n"
+IMPORTED_PLACE = b"variable y\n  bound at <stdin>:2:18\n  type Char\n  here Char\n  in x :: Char\n"
 FAULTY = b"""module A where { twice f = f f }
 module B where { n = lenght [] }
 module C where { import A }

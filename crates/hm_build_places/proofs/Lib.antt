@@ -2,3 +2,4 @@ mod Looked
 pub mod SkippedModules
 mod Texts
 pub mod WorkedPlaces
+mod TypesFound

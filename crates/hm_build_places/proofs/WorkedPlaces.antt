@@ -1,11 +1,12 @@
 -- The worked examples.
-use Rattle.std.proofs.Common.{◌≡◌, ℕ, List, [], ◌∷◌, ◌++◌, true, false, get_or, refl, ap, ◌∙◌, codes, arith}
+use Rattle.std.proofs.Common.{◌≡◌, ℕ, List, [], ◌∷◌, ◌++◌, true, false, get_or, length, refl, ap, ◌∙◌, codes, arith}
 use Rattle.hm_names.specs.Entities.{named}
 use Rattle.hm_uses.specs.declared.name_kind.NameKind.TheVariants.{Variable}
 use Rattle.hm_messages_excerpts.specs.Excerpts.{IsRestOfLine}
 use Rattle.hm_build_places.specs.Answers.{EntityLine, IsFound, declared, elsewhere, elsewhere_line, line_start, no_line, on_line, undeclared}
 use Rattle.hm_build_places.specs.Typed.{TypeLine, hidden, hidden_line, no_module, shown, type_line, unaccepted, unaccepted_line}
-use Rattle.hm_build_places.specs.Worked.{BoundRow, ByteRow, HeadingRow, NothingRow, TextsRow, TypedRow, nothing}
+use Rattle.hm_build_places.specs.TypesAt.{DefinitionLine, found, not_found, of_name, of_pattern, unknown}
+use Rattle.hm_build_places.specs.Worked.{BoundRow, ByteRow, HeadingRow, HereRow, NothingRow, TextsRow, TypedRow, nothing}
 
 head_or : ℕ → List ℕ → ℕ
 head_or d [] = d
@@ -51,15 +52,32 @@ worked_bound = record {
 
 untyped : TypeLine nothing Variable (named (codes "A") (codes "x")) [] → ⊥
 untyped (shown {s = s} of has is) = let z : [] ≡ type_line s = is in absurd (cc)
-untyped (hidden of none is) = let z : [] ≡ hidden_line (codes "A") = is in absurd (cc)
-untyped (unaccepted none is) = let z : [] ≡ unaccepted_line (codes "A") = is in absurd (cc)
+untyped (hidden of none (found has is)) = absurd (omega (arith, ap length is))
+untyped (hidden of none (not_found is)) = let z : [] ≡ hidden_line (codes "A") = is in absurd (cc)
+untyped (unaccepted none (found has is)) = absurd (omega (arith, ap length is))
+untyped (unaccepted none (not_found is)) = let z : [] ≡ unaccepted_line (codes "A") = is in absurd (cc)
 
 pub worked_typed : TypedRow
 worked_typed = record {
-  unaccepted = unaccepted (no_module (λ i l. absurd (omega (arith, l)))) refl;
+  unaccepted = unaccepted (no_module (λ i l. absurd (omega (arith, l)))) (not_found refl);
   not_empty = untyped;
   local = refl;
   not_local = λ e. let z : codes "  no type: module A isn't good\n" ≡ [] = e in absurd (cc);
+}
+
+not_f : ¬ (codes "f" ≡ codes "()")
+not_f e = absurd (omega (arith, ap length e))
+
+no_pattern : ¬ (DefinitionLine (codes "()") (codes "()") (codes "  in () :: ()\n"))
+no_pattern (of_name n e) = n refl
+no_pattern (of_pattern n e) = absurd (omega (arith, ap length e))
+
+pub worked_here : HereRow
+worked_here = record {
+  local = unknown refl;
+  unbound_none = λ e. let z : codes "  no type is found\n" ≡ [] = e in absurd (cc);
+  named = of_name not_f refl;
+  pattern = no_pattern;
 }
 
 no_text : (text : List ℕ) → IsFound nothing 0 1 1 text → text ≡ []

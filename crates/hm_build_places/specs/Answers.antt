@@ -1,5 +1,5 @@
 -- The text of a place: what the names at it mean, where they are bound, and their types.
-use Rattle.std.specs.Prelude.{◌≡◌, ℕ, zero, suc, ◌+◌, ◌-◌, ◌<◌, ◌≤◌, ◌⊎◌, true, List, [], ◌∷◌, ◌++◌, All, Option, Some, None, codes, length, slice_index, take}
+use Rattle.std.specs.Prelude.{◌≡◌, ℕ, zero, suc, ◌+◌, ◌-◌, ◌<◌, ◌≤◌, ◌⊎◌, true, List, [], ◌∷◌, ◌++◌, All, codes, length, slice_index, take}
 use Rattle.std.specs.Fmt.{decimal, is_char_start}
 use Rattle.std.specs.List.{filter}
 use Rattle.hm_lex.specs.declared.token.Place.{Place}
@@ -7,7 +7,6 @@ use Rattle.hm_messages_excerpts.specs.Columns.{characters}
 use Rattle.hm_messages_excerpts.specs.Excerpts.{IsPlaceIn, IsRestOfLine}
 use Rattle.hm_run_sources.specs.declared.status.Status.{Status}
 use Rattle.hm_run_sources.specs.declared.status.Status.TheVariants.{Good, Faulty, Refused}
-use Rattle.hm_syntax.specs.Names.{Identifier}
 use Rattle.hm_types.specs.declared.Entity.{Entity}
 use Rattle.hm_types.specs.StandardPrelude.{prelude_interface}
 use Rattle.hm_uses.specs.Mentions.{Mention}
@@ -19,6 +18,7 @@ use Rattle.hm_uses_places.specs.Places.{is_on}
 use Rattle.hm_verdicts.specs.Reports.{name_of_module}
 use Rattle.hm_verdicts.specs.Sets.{module_at}
 use Rattle.hm_build_places.specs.Typed.{IsTypeText}
+use Rattle.hm_build_places.specs.TypesAt.{IsHereText, place_of, qualifier_text}
 use Rattle.hm_build_places.specs.Known.{HasNoNumber, HasNoUses, HasUses, IsNumberOf, IsSpotText, Known, file_text, origin_of, text_of}
 
 -- The heading of a name
@@ -29,10 +29,6 @@ kind_text Constructor = codes "constructor"
 kind_text TypeVariable = codes "type variable"
 kind_text TypeConstructor = codes "type"
 kind_text ModuleName = codes "module"
-
-abbrev pub qualifier_text : Option (List ℕ) → List ℕ
-qualifier_text None = []
-qualifier_text (Some q) = q ++ codes "."
 
 -- the kind of a name, and the name as it is written
 abbrev pub heading : Mention → List ℕ
@@ -67,9 +63,6 @@ pub data EntityLine (k : Known) (kind : NameKind) (e : Entity) (text : List ℕ)
   undeclared : {i : ℕ} → IsNumberOf k e.«module» i → DeclaresNowhere k kind e i → text ≡ elsewhere_line e.«module» → EntityLine k kind e text
   elsewhere : HasNoNumber k e.«module» → text ≡ elsewhere_line e.«module» → EntityLine k kind e text
 
-abbrev pub place_of : Identifier → Place
-place_of n = record { line = n.line; column = n.column }
-
 -- a module is bound at the name in its header
 pub data ModuleLine (k : Known) (x : List ℕ) (text : List ℕ) : Type 0 where
   given : {i : ℕ} → IsNumberOf k x i → IsBoundLine k (origin_of k i) (place_of (module_at k.set i).header.name) text → ModuleLine k x text
@@ -92,7 +85,9 @@ pub record IsUseText (k : Known) (i : ℕ) (u : UseOf) (text : List ℕ) : Type 
   pub is_bound : IsBoundText k i u.mention.kind u.sense bound
   pub typed : List ℕ
   pub is_typed : IsTypeText k u.mention.kind u.sense typed
-  pub whole : text ≡ heading u.mention ++ (bound ++ typed)
+  pub here : List ℕ
+  pub is_here : IsHereText k i u.mention u.sense here
+  pub whole : text ≡ heading u.mention ++ (bound ++ (typed ++ here))
 
 -- the texts of the elements of a list, one after the other
 abbrev pub AreTexts : {X : Type 0} → (X → List ℕ → Type 0) → List X → List ℕ → Type 0

@@ -1,4 +1,5 @@
 pub mod Known
+pub mod TypesAt
 pub mod Typed
 pub mod Answers
 pub mod Views

@@ -1,4 +1,4 @@
--- The type of a declared name, as the interface of its module has it.
+-- The type of a declared name: as the interface of its module has it, or by a variable of its module.
 use Rattle.std.specs.Prelude.{◌≡◌, ℕ, List, [], ◌++◌, Contains, codes}
 use Rattle.hm_names.specs.Scope.{prelude_name}
 use Rattle.hm_types.specs.declared.Entity.{Entity}
@@ -13,6 +13,7 @@ use Rattle.hm_uses.specs.declared.name_kind.NameKind.{NameKind}
 use Rattle.hm_uses.specs.declared.name_kind.NameKind.TheVariants.{Variable, Constructor, TypeVariable, TypeConstructor, ModuleName}
 use Rattle.hm_verdicts.specs.Verdicts.{Published}
 use Rattle.hm_build_places.specs.Known.{HasNoNumber, IsNumberOf, Known}
+use Rattle.hm_build_places.specs.TypesAt.{OwnLine}
 
 -- the interface of the module with this name: that of Prelude, or of a good module of the set
 pub data IsInterfaceOf (k : Known) (x : List ℕ) (f : Interface) : Type 0 where
@@ -32,18 +33,19 @@ pub data HasScheme (f : Interface) (e : Entity) (s : TypeScheme) : NameKind → 
 abbrev pub type_line : TypeScheme → List ℕ
 type_line s = codes "  type " ++ (scheme_text_of s ++ codes "\n")
 
--- a name that isn't exported has no scheme in a verdict
+-- the line of a name that isn't exported, and of which no type is found
 abbrev pub hidden_line : List ℕ → List ℕ
 hidden_line name = codes "  no type: module " ++ (name ++ codes " doesn't export it\n")
 
+-- the line of a name in a module that isn't good, and of which no type is found
 abbrev pub unaccepted_line : List ℕ → List ℕ
 unaccepted_line name = codes "  no type: module " ++ (name ++ codes " isn't good\n")
 
 -- the line of the type of an entity
 pub data TypeLine (k : Known) (kind : NameKind) (e : Entity) (text : List ℕ) : Type 0 where
   shown : {f : Interface} {s : TypeScheme} → IsInterfaceOf k e.«module» f → HasScheme f e s kind → text ≡ type_line s → TypeLine k kind e text
-  hidden : {f : Interface} → IsInterfaceOf k e.«module» f → ((s : TypeScheme) → ¬ (HasScheme f e s kind)) → text ≡ hidden_line e.«module» → TypeLine k kind e text
-  unaccepted : HasNoInterface k e.«module» → text ≡ unaccepted_line e.«module» → TypeLine k kind e text
+  hidden : {f : Interface} → IsInterfaceOf k e.«module» f → ((s : TypeScheme) → ¬ (HasScheme f e s kind)) → OwnLine k e (hidden_line e.«module») text → TypeLine k kind e text
+  unaccepted : HasNoInterface k e.«module» → OwnLine k e (unaccepted_line e.«module») text → TypeLine k kind e text
 
 -- variables and constructors have types
 abbrev pub IsEntityType : Known → NameKind → Entity → List ℕ → Type 0

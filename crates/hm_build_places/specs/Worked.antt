@@ -9,6 +9,7 @@ use Rattle.hm_verdicts.specs.Verdicts.{Skipped}
 use Rattle.hm_build_places.specs.Answers.{AreTexts, IsBoundText, IsByteOf, IsPlaceAnswer, heading, nothing_text}
 use Rattle.hm_build_places.specs.Known.{Known, file_text}
 use Rattle.hm_build_places.specs.Typed.{IsTypeText}
+use Rattle.hm_build_places.specs.TypesAt.{DefinitionLine, IsHereText}
 
 -- the variable M.x
 abbrev pub qualified : Mention
@@ -52,6 +53,13 @@ pub record TypedRow : Type 0 where
   pub not_empty : ¬ (IsTypeText nothing Variable (an_entity (named (codes "A") (codes "x"))) [])
   pub local : IsTypeText nothing Variable (local_variable 1 1) []
   pub not_local : ¬ (IsTypeText nothing Variable (local_variable 1 1) (codes "  no type: module A isn't good\n"))
+
+-- the place of M.x, where nothing is known of it
+pub record HereRow : Type 0 where
+  pub local : IsHereText nothing 0 qualified (local_variable 1 1) (codes "  no type is found\n")
+  pub unbound_none : ¬ (IsHereText nothing 0 qualified unbound (codes "  no type is found\n"))
+  pub named : DefinitionLine (codes "f") (codes "a -> a") (codes "  in f :: a -> a\n")
+  pub pattern : ¬ (DefinitionLine (codes "()") (codes "()") (codes "  in () :: ()\n"))
 
 -- no name is at the first place of no source
 pub record NothingRow : Type 0 where

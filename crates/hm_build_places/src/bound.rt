@@ -1,8 +1,9 @@
 //! Where a name is bound.
 ghost use Rattle.std.specs.Prelude.{◌≡◌, ◌<◌, IfOk, codes, length, string_bytes};
 ghost use Rattle.hm_uses_declarations.specs.Senses.{sense_of};
-ghost use Rattle.hm_build_places.specs.Answers.{EntityLine, IsBoundLine, IsBoundText, ModuleLine, elsewhere_line, place_of};
+ghost use Rattle.hm_build_places.specs.Answers.{EntityLine, IsBoundLine, IsBoundText, ModuleLine, elsewhere_line};
 ghost use Rattle.hm_build_places.specs.Known.{IsSpotText};
+ghost use Rattle.hm_build_places.specs.TypesAt.{place_of};
 ghost use Rattle.hm_build_places.specs.Views.{known_of};
 
 use crate::entities::declared_in;
@@ -75,7 +76,7 @@ fn entity_line(
 }
 
 /// Returns the place of a name.
-fn place_of(name: &Name) -> Place
+pub(crate) fn place_of(name: &Name) -> Place
     ensures { result ≡ place_of name.now }
 {
     name.place

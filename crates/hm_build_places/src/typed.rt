@@ -1,13 +1,16 @@
 //! The types of declared names.
-ghost use Rattle.std.specs.Prelude.{◌≡◌, All, Contains, IfNone, IfOk, IfSome, string_bytes};
+ghost use Rattle.std.specs.Prelude.{◌≡◌, ◌++◌, All, Contains, IfNone, IfOk, IfSome, codes, string_bytes};
 ghost use Rattle.hm_types.specs.declared.entries.ConstructorEntry.{ConstructorEntry as Constructor};
 ghost use Rattle.hm_types.specs.declared.entries.ValueEntry.{ValueEntry as Value};
 ghost use Rattle.hm_types.specs.Schemes.{TypeScheme};
 ghost use Rattle.hm_uses_declarations.specs.Senses.{sense_of};
 ghost use Rattle.hm_build_places.specs.Typed.{HasNoInterface, HasScheme, IsEntityType, IsInterfaceOf, IsTypeText, TypeLine, hidden_line, type_line, unaccepted_line};
+ghost use Rattle.hm_build_places.specs.TypesAt.{HasOwnScheme, OwnLine};
 ghost use Rattle.hm_build_places.specs.Views.{known_of};
 
+use crate::read::{question_of, read_of};
 use crate::views::{View, number_of};
+use hm_messages_here::scheme_here;
 use hm_scope_tables::EntityRef;
 use hm_types::{ConstructorEntry, Interface, Scheme, ValueEntry};
 use hm_types_display::scheme_text;
@@ -99,6 +102,57 @@ fn unaccepted_line(alloc: Global, name: &str) -> Result<String, AllocError>
     format!(in alloc; "  no type: module {name} isn't good\n")
 }
 
+/// Returns a name with its module.
+fn qualified(alloc: Global, home: &str, name: &str) -> Result<String, AllocError>
+    ensures { IfOk result (λ text. string_bytes text ≡ home.now ++ (codes "." ++ name.now)) }
+{
+    format!(in alloc; "{home}.{name}")
+}
+
+/// Returns the line of a type with this text.
+fn shown_line(alloc: Global, scheme: &str) -> Result<String, AllocError>
+    ensures { IfOk result (λ text. string_bytes text ≡ codes "  type " ++ (scheme.now ++ codes "\n")) }
+{
+    format!(in alloc; "  type {scheme}\n")
+}
+
+/// Returns the text of the scheme that an entity has in the source of its module, if one is found.
+fn own_scheme(
+    alloc: Global,
+    view: &View<'_>,
+    entity: &EntityRef<'_>,
+) -> Result<Option<String>, AllocError>
+    ensures { IfOk result (λ found. IfSome found (λ text. HasOwnScheme (known_of view.now) entity.now (string_bytes text))) }
+{
+    let Some(number) = number_of(view, entity.module()) else {
+        return Ok(None);
+    };
+    let Some(read) = read_of(alloc, view, number)? else {
+        return Ok(None);
+    };
+    if read.whole.hides_name(entity.name()) {
+        return Ok(None);
+    }
+    let variable = qualified(alloc, entity.module(), entity.name())?;
+    let question = question_of(view, number, &read);
+    Ok(scheme_here(alloc, &question, variable.as_str())?)
+}
+
+/// Returns the line of the type of an entity in the source of its module, or the line that says why it has none.
+fn own_line(
+    alloc: Global,
+    view: &View<'_>,
+    entity: &EntityRef<'_>,
+    unknown: &str,
+) -> Result<String, AllocError>
+    ensures { IfOk result (λ text. OwnLine (known_of view.now) entity.now unknown.now (string_bytes text)) }
+{
+    match own_scheme(alloc, view, entity)? {
+        Some(scheme) => Ok(shown_line(alloc, scheme.as_str())?),
+        None => Ok(String::from_str(alloc, unknown)?),
+    }
+}
+
 /// Returns the line of the type of an entity.
 fn entity_type(
     alloc: Global,
@@ -109,11 +163,15 @@ fn entity_type(
     ensures { IfOk result (λ text. TypeLine (known_of view.now) kind entity.now (string_bytes text)) }
 {
     let Some(interface) = interface_of(view, entity.module()) else {
-        return Ok(unaccepted_line(alloc, entity.module())?);
+        let unknown = unaccepted_line(alloc, entity.module())?;
+        return Ok(own_line(alloc, view, entity, unknown.as_str())?);
     };
     match scheme_in(interface, kind, entity) {
         Some(scheme) => Ok(type_line(alloc, scheme)?),
-        None => Ok(hidden_line(alloc, entity.module())?),
+        None => {
+            let unknown = hidden_line(alloc, entity.module())?;
+            Ok(own_line(alloc, view, entity, unknown.as_str())?)
+        }
     }
 }
 

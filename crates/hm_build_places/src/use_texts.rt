@@ -1,13 +1,14 @@
 //! The texts of uses.
-ghost use Rattle.std.specs.Prelude.{◌≡◌, Bool, IfOk, map, string_bytes};
-ghost use Rattle.hm_build_places.specs.Answers.{AreTexts, IsUseText, heading, kind_text, qualifier_text};
+ghost use Rattle.std.specs.Prelude.{◌≡◌, ◌<◌, Bool, IfOk, length, map, string_bytes};
+ghost use Rattle.hm_build_places.specs.Answers.{AreTexts, IsUseText, heading, kind_text};
 ghost use Rattle.hm_build_places.specs.Views.{known_of};
 
 use crate::bound::bound_text;
+use crate::here::here_text;
+use crate::names::qualifier_text;
 use crate::typed::type_text;
 use crate::views::View;
 use hm_syntax::Name;
-use hm_types::Text;
 use hm_uses::NameKind;
 use hm_uses_declarations::Use;
 use std::alloc::{AllocError, Global};
@@ -22,19 +23,6 @@ fn kind_text(kind: NameKind) -> &'static str
         NameKind::TypeVariable => "type variable",
         NameKind::TypeConstructor => "type",
         NameKind::ModuleName => "module",
-    }
-}
-
-/// Returns a qualifier with the dot after it.
-fn qualifier_text(alloc: Global, qualifier: &Option<Text>) -> Result<String, AllocError>
-    ensures { IfOk result (λ text. string_bytes text ≡ qualifier_text qualifier.now) }
-{
-    match qualifier {
-        None => Ok(String::new(alloc)),
-        Some(text) => {
-            let text = text.as_str();
-            format!(in alloc; "{text}.")
-        }
     }
 }
 
@@ -55,13 +43,16 @@ fn use_text(
     number: usize,
     one: &Use<'_>,
 ) -> Result<String, AllocError>
+    requires { number < length view.now.store.now.modules }
     ensures { IfOk result (λ text. IsUseText (known_of view.now) number one.now (string_bytes text)) }
 {
     let mut text = heading(alloc, one.kind(), one.name())?;
     let bound = bound_text(alloc, view, number, one.kind(), one.meaning())?;
     let typed = type_text(alloc, view, one.kind(), one.meaning())?;
     text.push_str(bound.as_str())?;
+    let here = here_text(alloc, view, number, one, one.meaning())?;
     text.push_str(typed.as_str())?;
+    text.push_str(here.as_str())?;
     Ok(text)
 }
 
@@ -72,6 +63,7 @@ pub(crate) fn use_texts(
     number: usize,
     uses: &[&Use<'_>],
 ) -> Result<String, AllocError>
+    requires { number < length view.now.store.now.modules }
     ensures { IfOk result (λ text. AreTexts (IsUseText (known_of view.now) number) (map (λ u. u.now) uses.now) (string_bytes text)) }
 {
     let mut text = String::new(alloc);

@@ -1,6 +1,7 @@
 use Rattle.std.proofs.Common.{rules, string_bytes}
 use Rattle.hm_verdicts.specs.Sets.{module_at}
-use Rattle.hm_build_places.specs.Answers.{IsBoundLine, given, place_of}
+use Rattle.hm_build_places.specs.Answers.{IsBoundLine, given}
+use Rattle.hm_build_places.specs.TypesAt.{place_of}
 use Rattle.hm_build_places.specs.Known.{IsNumberOf, origin_of}
 use Rattle.hm_build_places.specs.Views.{known_of}
 use Rattle.hm_build_places.proofs.bound.module_line.Goals as goal
