@@ -1,0 +1,9 @@
+mod Ends
+mod Fields
+mod Looks
+mod Numbers
+mod Parts
+mod Pendings
+mod Readings
+mod WorkedFrames
+mod Written

@@ -1,0 +1,5 @@
+mod Applying
+mod Returns
+mod Starts
+mod Sums
+mod WorkedPositions

@@ -1,0 +1,5 @@
+pub mod Changes
+pub mod Lines
+pub mod Positions
+pub mod Units
+pub mod Worked

@@ -1,0 +1,110 @@
+//! Changes of a text (Language Server Protocol 3.17, `TextDocumentContentChangeEvent`).
+ghost use Rattle.std.specs.Prelude.{◌≡◌, ◌≤◌, ◌++◌, IfErr, IfOk, IsErrOf, drop, length, take};
+ghost use Rattle.hm_lsp_positions.specs.Changes.{AreApplied, IsApplied, IsReversed};
+
+use crate::positions::{Position, offset_of};
+use crate::units::Encoding;
+use std::alloc::{AllocError, Global};
+use thiserror::Error;
+
+/// A range of a text, without the place at its end.
+#[derive(Clone, Copy, Debug, PartialEq, Eq)]
+pub struct Range {
+    pub start: Position,
+    pub end: Position,
+}
+
+/// A change of a text: the new text of a range, or of all if there is no range.
+#[derive(Drop)]
+pub struct Change {
+    pub range: Option<Range>,
+    pub text: Vec<u8>,
+}
+
+/// Why a change isn't applied.
+#[derive(Clone, Copy, Debug, PartialEq, Eq, Drop, Error)]
+pub enum ChangeFault {
+    /// A range ends before it starts.
+    #[error("a range ends before it starts")]
+    Reversed,
+    /// Memory ran out.
+    #[error("no memory")]
+    Memory,
+}
+
+impl From<AllocError> for ChangeFault {
+    ghost use Rattle.std.specs.Prelude.{◌≡◌};
+    ghost use Rattle.hm_lsp_positions.specs.declared.changes.ChangeFault.TheVariants.{Memory};
+
+    ghost from_gives = { λ _ fault. fault ≡ Memory };
+
+    fn from(_error: AllocError) -> ChangeFault {
+        ChangeFault::Memory
+    }
+}
+
+/// Returns a text with other bytes in place of some.
+fn replaced(
+    alloc: Global,
+    text: &[u8],
+    from: usize,
+    to: usize,
+    filling: &[u8],
+) -> Result<Vec<u8>, ChangeFault>
+    requires ordered { from ≤ to }
+    requires within { to ≤ length text.now }
+    ensures made { IfOk result (λ made. made.items ≡ take from text.now ++ (filling.now ++ drop to text.now)) }
+    ensures err { IfErr result (λ e. e ≡ ChangeFault.Memory) }
+{
+    let mut made = Vec::from_slice(alloc, &text[..from])?;
+    made.extend_from_slice(filling)?;
+    made.extend_from_slice(&text[to..])?;
+    Ok(made)
+}
+
+/// Returns a text after a change.
+///
+/// # Errors
+///
+/// `Reversed` if the range ends before it starts, and `Memory` if memory runs out.
+pub fn changed(
+    alloc: Global,
+    encoding: Encoding,
+    text: &[u8],
+    change: &Change,
+) -> Result<Vec<u8>, ChangeFault>
+    ensures made { IfOk result (λ made. IsApplied encoding text.now change.now made.items) }
+    ensures reversed { IsErrOf result ChangeFault.Reversed → IsReversed encoding text.now change.now }
+{
+    match change.range {
+        None => Ok(Vec::from_slice(alloc, change.text.as_slice())?),
+        Some(range) => {
+            let from = offset_of(encoding, text, range.start);
+            let to = offset_of(encoding, text, range.end);
+            if to < from {
+                return Err(ChangeFault::Reversed);
+            }
+            Ok(replaced(alloc, text, from, to, change.text.as_slice())?)
+        }
+    }
+}
+
+/// Returns a text after changes, each of the text after those before it.
+///
+/// # Errors
+///
+/// `Reversed` if a range ends before it starts, and `Memory` if memory runs out.
+pub fn all_changed(
+    alloc: Global,
+    encoding: Encoding,
+    text: &[u8],
+    changes: &[Change],
+) -> Result<Vec<u8>, ChangeFault>
+    ensures { IfOk result (λ made. AreApplied encoding text.now changes.now made.items) }
+{
+    let mut made = Vec::from_slice(alloc, text)?;
+    'changes: for change in changes {
+        made = changed(alloc, encoding, made.as_slice(), change)?;
+    }
+    Ok(made)
+}

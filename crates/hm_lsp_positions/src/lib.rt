@@ -1,0 +1,12 @@
+//! Finds the bytes of a position and the position of a byte, and changes texts by ranges.
+#![tactic(auto)]
+
+mod changes;
+pub mod laws;
+mod lines;
+mod positions;
+mod units;
+
+pub use crate::changes::{Change, ChangeFault, Range, all_changed, changed};
+pub use crate::positions::{Position, offset_of, position_of};
+pub use crate::units::Encoding;
