@@ -1,0 +1,3 @@
+mod Holding
+mod Taking
+mod WorkedDecisions

@@ -1,0 +1,61 @@
+-- Replies (Language Server Protocol 3.17, "Response Message"), and the message that each belongs to.
+use Rattle.std.specs.Prelude.{◌≡◌, ℕ, List, Option, None, Some, codes, option_and_then}
+use Rattle.std.specs.Str.{IsUtf8}
+use Rattle.serde_json.specs.Data.{Data, null}
+use Rattle.serde_json.specs.Find.{as_str, get}
+use Rattle.serde_json.specs.Read.{read}
+use Rattle.serde_json.specs.View.{view}
+use Rattle.hm_lsp_session.specs.declared.session.Outcome.{Outcome}
+use Rattle.hm_lsp_session.specs.declared.session.Outcome.TheVariants.{Ask, Changed, Ended, Nothing, Reply}
+
+-- a reply with this identifier
+abbrev pub IsReplyTo : Data → Data → Type 0
+IsReplyTo id reply = get (codes "id") reply ≡ Some id
+
+-- the one reply to a request has its identifier. It is made now, or it is that of the service to the request
+abbrev pub AnswersRequest : Data → Data → Outcome → Type 0
+AnswersRequest request id (Reply reply) = IsReplyTo id (view reply)
+AnswersRequest request id (Ask asked) = view asked ≡ request
+AnswersRequest request id Changed = ⊥
+AnswersRequest request id Nothing = ⊥
+AnswersRequest request id (Ended status) = ⊥
+
+-- a notification has no reply
+abbrev pub TakesNotification : Outcome → Type 0
+TakesNotification (Reply reply) = ⊥
+TakesNotification (Ask asked) = ⊥
+TakesNotification Changed = Unit {0}
+TakesNotification Nothing = Unit {0}
+TakesNotification (Ended status) = Unit {0}
+
+-- what isn't a message has a reply without an identifier
+abbrev pub RefusesMessage : Outcome → Type 0
+RefusesMessage (Reply reply) = IsReplyTo null (view reply)
+RefusesMessage (Ask asked) = ⊥
+RefusesMessage Changed = ⊥
+RefusesMessage Nothing = ⊥
+RefusesMessage (Ended status) = ⊥
+
+-- the name of a message's method
+abbrev pub method_of : Data → Option (List ℕ)
+method_of message = option_and_then as_str (get (codes "method") message)
+
+-- what has no method is no message, or a reply of the client
+abbrev pub TakesOther : Option Data → Outcome → Type 0
+TakesOther None (Reply reply) = IsReplyTo null (view reply)
+TakesOther (Some id) (Reply reply) = IsReplyTo id (view reply)
+TakesOther id (Ask asked) = ⊥
+TakesOther id Changed = ⊥
+TakesOther id Nothing = Unit {0}
+TakesOther id (Ended status) = ⊥
+
+-- a request has a method and an identifier, and a notification has a method alone
+abbrev pub Takes : Data → Option (List ℕ) → Option Data → Outcome → Type 0
+Takes message None id outcome = TakesOther id outcome
+Takes message (Some name) None outcome = TakesNotification outcome
+Takes message (Some name) (Some id) outcome = AnswersRequest message id outcome
+
+-- what the body of a frame leads to. One that isn't UTF-8 or isn't JSON is refused
+pub data TakesBody (body : List ℕ) (outcome : Outcome) : Type 0 where
+  unread : (IsUtf8 body → read body ≡ None) → RefusesMessage outcome → TakesBody body outcome
+  understood : {message : Data} → read body ≡ Some message → Takes message (method_of message) (get (codes "id") message) outcome → TakesBody body outcome

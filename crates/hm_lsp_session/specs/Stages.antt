@@ -1,0 +1,79 @@
+-- What a server does with a message, by how far its session is (Language Server Protocol 3.17, "Server lifecycle" and "Error Codes").
+use Rattle.std.specs.Prelude.{ℤ, negsuc}
+use Rattle.hm_lsp_session.specs.declared.stages.Decision.{Decision}
+use Rattle.hm_lsp_session.specs.declared.stages.Decision.TheVariants.{End, Go, Ignore, Refuse}
+use Rattle.hm_lsp_session.specs.declared.stages.Method.{Method}
+use Rattle.hm_lsp_session.specs.declared.stages.Method.TheVariants.{CodeAction, Definition, DidChange, DidClose, DidOpen, Exit, Hover, Initialize, Shutdown, Unknown}
+use Rattle.hm_lsp_session.specs.declared.stages.Refusal.{Refusal}
+use Rattle.hm_lsp_session.specs.declared.stages.Refusal.TheVariants.{InvalidParams, InvalidRequest, MethodNotFound, NotInitialized, ParseError}
+use Rattle.hm_lsp_session.specs.declared.stages.Stage.{Stage}
+use Rattle.hm_lsp_session.specs.declared.stages.Stage.TheVariants.{New, Ready, ShutDown}
+
+-- the codes of errors
+abbrev pub code_of : Refusal → ℤ
+code_of ParseError = negsuc 32699
+code_of InvalidRequest = negsuc 32599
+code_of MethodNotFound = negsuc 32600
+code_of InvalidParams = negsuc 32601
+code_of NotInitialized = negsuc 32001
+
+-- a request: before `initialize` all others are refused, and after `shutdown` all are. `initialize` comes once
+abbrev pub request_decision : Stage → Method → Decision
+request_decision New Initialize = Go
+request_decision New Shutdown = Refuse NotInitialized
+request_decision New Exit = Refuse NotInitialized
+request_decision New DidOpen = Refuse NotInitialized
+request_decision New DidChange = Refuse NotInitialized
+request_decision New DidClose = Refuse NotInitialized
+request_decision New Hover = Refuse NotInitialized
+request_decision New Definition = Refuse NotInitialized
+request_decision New CodeAction = Refuse NotInitialized
+request_decision New Unknown = Refuse NotInitialized
+request_decision Ready Initialize = Refuse InvalidRequest
+request_decision Ready Shutdown = Go
+request_decision Ready Hover = Go
+request_decision Ready Definition = Go
+request_decision Ready CodeAction = Go
+request_decision Ready Exit = Refuse MethodNotFound
+request_decision Ready DidOpen = Refuse MethodNotFound
+request_decision Ready DidChange = Refuse MethodNotFound
+request_decision Ready DidClose = Refuse MethodNotFound
+request_decision Ready Unknown = Refuse MethodNotFound
+request_decision ShutDown m = Refuse InvalidRequest
+
+-- the exit status is 0 only after `shutdown`
+abbrev pub exit_decision : Stage → Decision
+exit_decision New = End 1
+exit_decision Ready = End 1
+exit_decision ShutDown = End 0
+
+-- a notification while the session is ready: others than these are ignored
+abbrev pub ready_decision : Method → Decision
+ready_decision DidOpen = Go
+ready_decision DidChange = Go
+ready_decision DidClose = Go
+ready_decision Initialize = Ignore
+ready_decision Shutdown = Ignore
+ready_decision Exit = End 1
+ready_decision Hover = Ignore
+ready_decision Definition = Ignore
+ready_decision CodeAction = Ignore
+ready_decision Unknown = Ignore
+
+-- a notification: before `initialize` and after `shutdown` all are ignored but `exit`
+abbrev pub idle_decision : Stage → Method → Decision
+idle_decision stage Exit = exit_decision stage
+idle_decision stage Initialize = Ignore
+idle_decision stage Shutdown = Ignore
+idle_decision stage DidOpen = Ignore
+idle_decision stage DidChange = Ignore
+idle_decision stage DidClose = Ignore
+idle_decision stage Hover = Ignore
+idle_decision stage Definition = Ignore
+idle_decision stage CodeAction = Ignore
+idle_decision stage Unknown = Ignore
+
+abbrev pub notification_decision : Stage → Method → Decision
+notification_decision New m = idle_decision New m
+notification_decision Ready m = ready_decision m
+notification_decision ShutDown m = idle_decision ShutDown m

@@ -1,0 +1,8 @@
+//! Worked examples. Each is a function with an empty body, and its contract states the example.
+ghost use Rattle.hm_lsp_session.specs.Worked.{DecisionsRow};
+
+/// What a server does with a message.
+#[tactic(auto, using(crate::proofs::WorkedDecisions::worked_decisions))]
+pub fn worked_decisions()
+    ensures { DecisionsRow }
+{}

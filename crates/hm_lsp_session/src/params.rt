@@ -1,0 +1,76 @@
+//! Parameters of messages.
+ghost use Rattle.std.specs.Prelude.{◌≡◌, option_map};
+ghost use Rattle.serde_json.specs.View.{view};
+ghost use Rattle.hm_lsp_session.specs.Effects.{string_at};
+
+use hm_lsp_positions::{Change, Position, Range};
+use serde_json::Value;
+use std::alloc::{AllocError, Global};
+
+/// The largest line or column of a position (`uinteger`).
+const MOST: u64 = 2_147_483_647;
+
+/// Returns the text at a path of a value.
+pub fn text_at<'v>(value: &'v Value, path: &str) -> Option<&'v str>
+    ensures { option_map (λ text. text.now) result ≡ string_at path.now (view value.now) }
+{
+    match value.pointer(path) {
+        Some(found) => found.as_str(),
+        None => None,
+    }
+}
+
+/// Returns the line or column under a key.
+fn number_in(value: &Value, key: &str) -> Option<usize> {
+    let number = value.get(key)?.as_u64()?;
+    Some(number.min(MOST) as usize)
+}
+
+/// Returns a position (`Position`).
+pub fn position_in(value: &Value) -> Option<Position> {
+    Some(Position {
+        line: number_in(value, "line")?,
+        column: number_in(value, "character")?,
+    })
+}
+
+/// Returns a range (`Range`).
+pub fn range_in(value: &Value) -> Option<Range> {
+    Some(Range {
+        start: position_in(value.get("start")?)?,
+        end: position_in(value.get("end")?)?,
+    })
+}
+
+/// Returns a change (`TextDocumentContentChangeEvent`), or `None` if the value isn't one.
+fn change_in(alloc: Global, value: &Value) -> Result<Option<Change>, AllocError> {
+    let Some(text) = text_at(value, "/text") else {
+        return Ok(None);
+    };
+    let range = match value.get("range") {
+        None => None,
+        Some(range) => match range_in(range) {
+            None => return Ok(None),
+            Some(range) => Some(range),
+        },
+    };
+    Ok(Some(Change {
+        range,
+        text: Vec::from_slice(alloc, text.as_bytes())?,
+    }))
+}
+
+/// Returns changes, or `None` if the value isn't a list of changes.
+pub fn changes_in(alloc: Global, value: &Value) -> Result<Option<Vec<Change>>, AllocError> {
+    let Some(values) = value.as_array() else {
+        return Ok(None);
+    };
+    let mut changes = Vec::new(alloc);
+    'changes: for value in values {
+        match change_in(alloc, value)? {
+            None => return Ok(None),
+            Some(change) => changes.push(change)?,
+        }
+    }
+    Ok(Some(changes))
+}

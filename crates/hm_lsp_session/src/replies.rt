@@ -1,0 +1,28 @@
+//! Messages to the client (JSON-RPC 2.0).
+ghost use Rattle.std.specs.Prelude.{IfOk};
+ghost use Rattle.serde_json.specs.View.{view};
+ghost use Rattle.hm_lsp_session.specs.Replies.{IsReplyTo};
+
+use crate::stages::Refusal;
+use serde_json::{Value, json};
+use std::alloc::{AllocError, Global};
+
+/// Returns the reply with this result to a request.
+pub fn reply(alloc: Global, id: &Value, answer: Value) -> Result<Value, AllocError>
+    ensures { IfOk result (λ made. IsReplyTo (view id.now) (view made)) }
+{
+    json!(in alloc; {"id": id, "jsonrpc": "2.0", "result": answer})
+}
+
+/// Returns the reply to a request that is refused.
+pub fn refusal(alloc: Global, id: &Value, refusal: Refusal, text: &str) -> Result<Value, AllocError>
+    ensures { IfOk result (λ made. IsReplyTo (view id.now) (view made)) }
+{
+    let code = refusal.code();
+    json!(in alloc; {"error": {"code": code, "message": text}, "id": id, "jsonrpc": "2.0"})
+}
+
+/// Returns a notification of the server.
+pub fn notice(alloc: Global, method: &str, params: Value) -> Result<Value, AllocError> {
+    json!(in alloc; {"jsonrpc": "2.0", "method": method, "params": params})
+}

@@ -1,0 +1,343 @@
+//! A session: how far it is, the documents of the client, and what each message does.
+ghost use Rattle.std.specs.Prelude.{◌≡◌, Some, IfOk, IfSome, IsSome, OnErr, codes};
+ghost use Rattle.serde_json.specs.Data.{Data};
+ghost use Rattle.serde_json.specs.Find.{get};
+ghost use Rattle.serde_json.specs.View.{view};
+ghost use Rattle.hm_lsp_session.specs.Documents.{SameTexts};
+ghost use Rattle.hm_lsp_session.specs.Effects.{documents_of, encoding_of, HasEffect, HasSomeEffect, IsAppliedTo, IsChanged, IsClosed, IsOpened, TextsAre};
+ghost use Rattle.hm_lsp_session.specs.Replies.{method_of, AnswersRequest, IsReplyTo, RefusesMessage, Takes, TakesBody, TakesNotification, TakesOther};
+
+use crate::documents::Documents;
+use crate::params::{changes_in, text_at};
+use crate::replies::{refusal, reply};
+use crate::stages::{Decision, Method, Refusal, Stage, notification_decision, request_decision};
+use hm_lsp_positions::{Change, ChangeFault, Encoding, all_changed};
+use serde_json::{Value, json};
+use std::alloc::{AllocError, Global};
+
+/// What a message of the client leads to. No message has more than one reply.
+#[derive(Drop)]
+pub enum Outcome {
+    /// A reply for the client.
+    Reply(Value),
+    /// The service makes the reply to this request.
+    Ask(Value),
+    /// The texts changed.
+    Changed,
+    /// Nothing.
+    Nothing,
+    /// The server ends with this exit status.
+    Ended(u8),
+}
+
+// Why: docs/DECISIONS.md, "Sessions without a service".
+/// The state of a server, without what is found in the texts.
+#[derive(Drop)]
+pub struct Session {
+    alloc: Global,
+    stage: Stage,
+    encoding: Encoding,
+    documents: Documents,
+}
+
+/// Returns the encoding of columns: UTF-8 if the client offers it, or else UTF-16, which each client has.
+fn offered_encoding(params: &Value) -> Encoding {
+    let Some(offered) = params.pointer("/capabilities/general/positionEncodings") else {
+        return Encoding::Utf16;
+    };
+    let Some(offered) = offered.as_array() else {
+        return Encoding::Utf16;
+    };
+    'offers: for offer in offered {
+        if offer.as_str() == Some("utf-8") {
+            return Encoding::Utf8;
+        }
+    }
+    Encoding::Utf16
+}
+
+/// Returns the result of `initialize`: the capabilities of the server.
+fn capabilities(alloc: Global, encoding: Encoding) -> Result<Value, AllocError> {
+    let encoding = match encoding {
+        Encoding::Utf8 => "utf-8",
+        Encoding::Utf16 => "utf-16",
+        Encoding::Utf32 => "utf-32",
+    };
+    let capabilities = json!(in alloc; {
+        "codeActionProvider": true,
+        "definitionProvider": true,
+        "hoverProvider": true,
+        "positionEncoding": encoding,
+        "textDocumentSync": {"change": 2, "openClose": true}
+    })?;
+    json!(in alloc; {"capabilities": capabilities, "serverInfo": {"name": "hmc"}})
+}
+
+/// Returns the version of a document in the parameters of a notification.
+fn version_in(params: &Value) -> i64 {
+    match params.pointer("/textDocument/version") {
+        Some(version) => version.as_i64().unwrap_or(0),
+        None => 0,
+    }
+}
+
+impl Session {
+    /// Returns a session before its first message.
+    pub fn new(alloc: Global) -> Session {
+        Session {
+            alloc,
+            stage: Stage::New,
+            encoding: Encoding::Utf16,
+            documents: Documents::new(alloc),
+        }
+    }
+
+    /// Returns the documents of the client.
+    pub fn documents(&self) -> &Documents {
+        &self.documents
+    }
+
+    /// Returns what the columns of positions count.
+    pub fn encoding(&self) -> Encoding {
+        self.encoding
+    }
+
+    /// Acts on a request that isn't refused.
+    fn go(
+        &mut self,
+        method: Method,
+        id: &Value,
+        params: &Value,
+    ) -> Result<Option<Value>, AllocError>
+        ensures made { IfOk result (λ made. IfSome made (λ reply. IsReplyTo (view id.now) (view reply))) }
+        ensures kept { self.new.documents ≡ self.old.documents }
+    {
+        match method {
+            Method::Initialize => {
+                let encoding = offered_encoding(params);
+                let made = reply(self.alloc, id, capabilities(self.alloc, encoding)?)?;
+                self.encoding = encoding;
+                self.stage = Stage::Ready;
+                Ok(Some(made))
+            }
+            Method::Shutdown => {
+                let made = reply(self.alloc, id, Value::Null)?;
+                self.stage = Stage::ShutDown;
+                Ok(Some(made))
+            }
+            _ => Ok(None),
+        }
+    }
+
+    /// Opens a document.
+    fn open(&mut self, params: &Value) -> Result<Outcome, AllocError>
+        ensures silent { IfOk result (λ out. TakesNotification out) }
+        ensures texts { IfOk result (λ out. TextsAre out (IsOpened (view params.now) self.old.documents self.new.documents) self.old.documents self.new.documents) }
+        ensures err { OnErr result (SameTexts self.old.documents self.new.documents) }
+    {
+        let Some(uri) = text_at(params, "/textDocument/uri") else {
+            return Ok(Outcome::Nothing);
+        };
+        let Some(text) = text_at(params, "/textDocument/text") else {
+            return Ok(Outcome::Nothing);
+        };
+        let text = Vec::from_slice(self.alloc, text.as_bytes())?;
+        self.documents
+            .set(self.alloc, uri, version_in(params), Some(text))?;
+        Ok(Outcome::Changed)
+    }
+
+    /// Gives a document the text after changes.
+    fn apply(&mut self, uri: &str, version: i64, changes: &[Change]) -> Result<Outcome, AllocError>
+        ensures silent { IfOk result (λ out. TakesNotification out) }
+        ensures texts { IfOk result (λ out. TextsAre out (IsAppliedTo self.old.encoding uri.now changes.now self.old.documents self.new.documents) self.old.documents self.new.documents) }
+        ensures err { OnErr result (SameTexts self.old.documents self.new.documents) }
+    {
+        let Some(text) = self.documents.text_of(uri) else {
+            return Ok(Outcome::Nothing);
+        };
+        match all_changed(self.alloc, self.encoding, text, changes) {
+            Ok(text) => {
+                self.documents.set(self.alloc, uri, version, Some(text))?;
+                Ok(Outcome::Changed)
+            }
+            Err(ChangeFault::Memory) => Err(AllocError),
+            Err(ChangeFault::Reversed) => Ok(Outcome::Nothing),
+        }
+    }
+
+    /// Changes a document.
+    fn change(&mut self, params: &Value) -> Result<Outcome, AllocError>
+        ensures silent { IfOk result (λ out. TakesNotification out) }
+        ensures texts { IfOk result (λ out. TextsAre out (IsChanged self.old.encoding (view params.now) self.old.documents self.new.documents) self.old.documents self.new.documents) }
+        ensures err { OnErr result (SameTexts self.old.documents self.new.documents) }
+    {
+        let Some(uri) = text_at(params, "/textDocument/uri") else {
+            return Ok(Outcome::Nothing);
+        };
+        let Some(changes) = params.get("contentChanges") else {
+            return Ok(Outcome::Nothing);
+        };
+        let Some(changes) = changes_in(self.alloc, changes)? else {
+            return Ok(Outcome::Nothing);
+        };
+        Ok(self.apply(uri, version_in(params), changes.as_slice())?)
+    }
+
+    /// Closes a document.
+    fn close(&mut self, params: &Value) -> Result<Outcome, AllocError>
+        ensures silent { IfOk result (λ out. TakesNotification out) }
+        ensures texts { IfOk result (λ out. TextsAre out (IsClosed (view params.now) self.old.documents self.new.documents) self.old.documents self.new.documents) }
+        ensures err { OnErr result (SameTexts self.old.documents self.new.documents) }
+    {
+        let Some(uri) = text_at(params, "/textDocument/uri") else {
+            return Ok(Outcome::Nothing);
+        };
+        if self.documents.text_of(uri).is_none() {
+            return Ok(Outcome::Nothing);
+        }
+        self.documents.set(self.alloc, uri, 0, None)?;
+        Ok(Outcome::Changed)
+    }
+
+    /// Acts on a notification.
+    fn edit(&mut self, method: Method, params: &Value) -> Result<Outcome, AllocError>
+        ensures silent { IfOk result (λ out. TakesNotification out) }
+        ensures texts { IfOk result (λ out. TextsAre out (HasEffect method (view params.now) self.old.encoding self.old.documents self.new.documents) self.old.documents self.new.documents) }
+        ensures err { OnErr result (SameTexts self.old.documents self.new.documents) }
+    {
+        match method {
+            Method::DidOpen => Ok(self.open(params)?),
+            Method::DidChange => Ok(self.change(params)?),
+            Method::DidClose => Ok(self.close(params)?),
+            _ => Ok(Outcome::Nothing),
+        }
+    }
+}
+
+/// Returns whether a message without a method is a reply of the client.
+fn is_reply(message: &Value) -> bool {
+    message.get("result").is_some() || message.get("error").is_some()
+}
+
+impl Session {
+    /// Takes a request, and returns its reply or leaves it to the service.
+    fn request(&mut self, method: Method, message: Value) -> Result<Outcome, AllocError>
+        requires { IsSome (get (codes "id") (view message)) }
+        ensures one { IfOk result (λ out. (id : Data) → get (codes "id") (view message) ≡ Some id → AnswersRequest (view message) id out) }
+        ensures kept { self.new.documents ≡ self.old.documents }
+    {
+        let null = Value::Null;
+        let Some(id) = message.get("id") else {
+            return Ok(Outcome::Nothing);
+        };
+        match request_decision(self.stage, method) {
+            Decision::Go => {
+                let params = message.get("params").unwrap_or(&null);
+                match self.go(method, id, params)? {
+                    Some(made) => Ok(Outcome::Reply(made)),
+                    None => Ok(Outcome::Ask(message)),
+                }
+            }
+            Decision::Refuse(why) => Ok(Outcome::Reply(refusal(
+                self.alloc,
+                id,
+                why,
+                text_of(why),
+            )?)),
+            Decision::Ignore | Decision::End(_) => Ok(Outcome::Ask(message)),
+        }
+    }
+
+    /// Takes a notification.
+    fn notified(&mut self, method: Method, message: &Value) -> Result<Outcome, AllocError>
+        ensures silent { IfOk result (λ out. TakesNotification out) }
+        ensures texts { IfOk result (λ out. TextsAre out (HasSomeEffect self.old.encoding self.old.documents self.new.documents) self.old.documents self.new.documents) }
+        ensures err { OnErr result (SameTexts self.old.documents self.new.documents) }
+    {
+        match notification_decision(self.stage, method) {
+            Decision::End(status) => Ok(Outcome::Ended(status)),
+            Decision::Ignore | Decision::Refuse(_) => Ok(Outcome::Nothing),
+            Decision::Go => match message.get("params") {
+                None => Ok(Outcome::Nothing),
+                Some(params) => Ok(self.edit(method, params)?),
+            },
+        }
+    }
+}
+
+/// Returns the text of a refusal.
+fn text_of(why: Refusal) -> &'static str {
+    match why {
+        Refusal::ParseError => "this isn't JSON",
+        Refusal::InvalidRequest => "this request isn't valid now",
+        Refusal::MethodNotFound => "this method isn't supported",
+        Refusal::InvalidParams => "these parameters aren't valid",
+        Refusal::NotInitialized => "the server isn't initialized",
+    }
+}
+
+impl Session {
+    /// Takes what isn't a message, or is a reply of the client.
+    fn unnamed(&self, message: &Value) -> Result<Outcome, AllocError>
+        ensures { IfOk result (λ out. TakesOther (get (codes "id") (view message.now)) out) }
+    {
+        if is_reply(message) {
+            return Ok(Outcome::Nothing);
+        }
+        let why = Refusal::InvalidRequest;
+        match message.get("id") {
+            Some(id) => Ok(Outcome::Reply(refusal(self.alloc, id, why, text_of(why))?)),
+            None => Ok(Outcome::Reply(refusal(self.alloc, &Value::Null, why, text_of(why))?)),
+        }
+    }
+
+    /// Refuses a body that can't be read.
+    fn unread(&self) -> Result<Outcome, AllocError>
+        ensures { IfOk result (λ out. RefusesMessage out) }
+    {
+        let why = Refusal::ParseError;
+        Ok(Outcome::Reply(refusal(self.alloc, &Value::Null, why, text_of(why))?))
+    }
+
+    /// Takes a message.
+    fn take_message(&mut self, message: Value) -> Result<Outcome, AllocError>
+        ensures texts { IfOk result (λ out. TextsAre out (HasSomeEffect self.old.encoding self.old.documents self.new.documents) self.old.documents self.new.documents) }
+        ensures err { OnErr result (SameTexts self.old.documents self.new.documents) }
+        ensures takes { IfOk result (λ out. Takes (view message) (method_of (view message)) (get (codes "id") (view message)) out) }
+    {
+        let method = match message.get("method").and_then(Value::as_str) {
+            Some(name) => Method::of(name),
+            None => return Ok(self.unnamed(&message)?),
+        };
+        if message.get("id").is_some() {
+            return Ok(self.request(method, message)?);
+        }
+        Ok(self.notified(method, &message)?)
+    }
+
+    /// Takes the body of a frame.
+    ///
+    /// # Errors
+    ///
+    /// If memory runs out. The texts of all documents are as before then.
+    pub fn take(&mut self, body: &[u8]) -> Result<Outcome, AllocError>
+        ensures takes { IfOk result (λ out. TakesBody body.now out) }
+        ensures texts { IfOk result (λ out. TextsAre out (HasSomeEffect (encoding_of self.old) (documents_of self.old) (documents_of self.new)) (documents_of self.old) (documents_of self.new)) }
+        ensures err { OnErr result (SameTexts (documents_of self.old) (documents_of self.new)) }
+    {
+        let text = match std::str::from_utf8(body) {
+            Ok(text) => text,
+            Err(_) => return Ok(self.unread()?),
+        };
+        match Value::from_str(self.alloc, text) {
+            Ok(message) => Ok(self.take_message(message)?),
+            Err(fault) => {
+                if fault.is_memory() {
+                    return Err(AllocError);
+                }
+                Ok(self.unread()?)
+            }
+        }
+    }
+}

@@ -1,0 +1,142 @@
+//! What a server does with a message, by how far its session is.
+ghost use Rattle.std.specs.Prelude.{◌≡◌};
+ghost use Rattle.hm_lsp_session.specs.Stages.{code_of, notification_decision, request_decision};
+
+/// How far a session is.
+#[derive(Clone, Copy, Debug, PartialEq, Eq)]
+pub enum Stage {
+    /// Before `initialize`.
+    New,
+    /// Between `initialize` and `shutdown`.
+    Ready,
+    /// After `shutdown`.
+    ShutDown,
+}
+
+/// The methods that a server acts on.
+#[derive(Clone, Copy, Debug, PartialEq, Eq)]
+pub enum Method {
+    Initialize,
+    Shutdown,
+    Exit,
+    DidOpen,
+    DidChange,
+    DidClose,
+    Hover,
+    Definition,
+    CodeAction,
+    /// All others.
+    Unknown,
+}
+
+/// Why a request is refused.
+#[derive(Clone, Copy, Debug, PartialEq, Eq)]
+pub enum Refusal {
+    ParseError,
+    InvalidRequest,
+    MethodNotFound,
+    InvalidParams,
+    NotInitialized,
+}
+
+/// What a server does with a message.
+#[derive(Clone, Copy, Debug, PartialEq, Eq)]
+pub enum Decision {
+    /// It acts on the message.
+    Go,
+    /// It replies with an error.
+    Refuse(Refusal),
+    /// It does nothing.
+    Ignore,
+    /// It ends with this exit status.
+    End(u8),
+}
+
+impl Refusal {
+    /// Returns the code of the error.
+    pub fn code(self) -> i64
+        ensures { result ≡ code_of self }
+    {
+        match self {
+            Refusal::ParseError => -32700,
+            Refusal::InvalidRequest => -32600,
+            Refusal::MethodNotFound => -32601,
+            Refusal::InvalidParams => -32602,
+            Refusal::NotInitialized => -32002,
+        }
+    }
+}
+
+impl Method {
+    /// Returns the method with this name.
+    pub fn of(name: &str) -> Method {
+        match name {
+            "initialize" => Method::Initialize,
+            "shutdown" => Method::Shutdown,
+            "exit" => Method::Exit,
+            "textDocument/didOpen" => Method::DidOpen,
+            "textDocument/didChange" => Method::DidChange,
+            "textDocument/didClose" => Method::DidClose,
+            "textDocument/hover" => Method::Hover,
+            "textDocument/definition" => Method::Definition,
+            "textDocument/codeAction" => Method::CodeAction,
+            _ => Method::Unknown,
+        }
+    }
+}
+
+/// Returns what a server does with a request.
+pub fn request_decision(stage: Stage, method: Method) -> Decision
+    ensures { result ≡ request_decision stage method }
+{
+    match stage {
+        Stage::New => match method {
+            Method::Initialize => Decision::Go,
+            Method::Shutdown
+            | Method::Exit
+            | Method::DidOpen
+            | Method::DidChange
+            | Method::DidClose
+            | Method::Hover
+            | Method::Definition
+            | Method::CodeAction
+            | Method::Unknown => Decision::Refuse(Refusal::NotInitialized),
+        },
+        Stage::Ready => match method {
+            Method::Initialize => Decision::Refuse(Refusal::InvalidRequest),
+            Method::Shutdown | Method::Hover | Method::Definition | Method::CodeAction => {
+                Decision::Go
+            }
+            Method::Exit
+            | Method::DidOpen
+            | Method::DidChange
+            | Method::DidClose
+            | Method::Unknown => Decision::Refuse(Refusal::MethodNotFound),
+        },
+        Stage::ShutDown => Decision::Refuse(Refusal::InvalidRequest),
+    }
+}
+
+/// Returns what a server does with a notification.
+pub fn notification_decision(stage: Stage, method: Method) -> Decision
+    ensures { result ≡ notification_decision stage method }
+{
+    match method {
+        Method::Exit => match stage {
+            Stage::ShutDown => Decision::End(0),
+            Stage::New | Stage::Ready => Decision::End(1),
+        },
+        Method::DidOpen | Method::DidChange | Method::DidClose => match stage {
+            Stage::Ready => Decision::Go,
+            Stage::New | Stage::ShutDown => Decision::Ignore,
+        },
+        Method::Initialize
+        | Method::Shutdown
+        | Method::Hover
+        | Method::Definition
+        | Method::CodeAction
+        | Method::Unknown => match stage {
+            Stage::New | Stage::Ready | Stage::ShutDown => Decision::Ignore,
+        },
+    }
+}
