@@ -1,8 +1,8 @@
 -- From a place to its position and back.
-use Rattle.std.proofs.Common.{◌≡◌, ℕ, ◌+◌, ◌-◌, ◌<◌, ◌≤◌, Bool, true, false, nat_lt, ◌&&◌, List, Option, Some, None, MatchOption, length, take, drop, get_or, sym, ap, subst, ◌∙◌, arith, ⊎_elim}
+use Rattle.std.proofs.Common.{◌≡◌, ℕ, ◌+◌, ◌-◌, ◌<◌, ◌≤◌, true, false, nat_lt, ◌&&◌, List, Option, MatchOption, length, take, drop, get_or, sym, ap, subst, ◌∙◌, arith, ⊎_elim}
 use Rattle.std.proofs.lemmas.Bool.{and_parts, cases_lt, false_from_ne_true, false≢true, ltb-true}
 use Rattle.std.proofs.lemmas.List.{length-take, take-take}
-use Rattle.hm_lsp_positions.specs.Lines.{first_line, line_length, line_start}
+use Rattle.hm_lsp_positions.specs.Lines.{first_line, line_length}
 use Rattle.hm_lsp_positions.specs.Positions.{IsBetween, IsColumn, IsOffsetOf, IsPlace, IsPositionOf, is_inside}
 use Rattle.hm_lsp_positions.specs.Units.{continues, units}
 use Rattle.hm_lsp_positions.specs.declared.positions.Position.{Position}

@@ -1,5 +1,5 @@
 -- Starts of lines.
-use Rattle.std.proofs.Common.{◌≡◌, ℕ, zero, suc, ◌+◌, ◌-◌, ◌<◌, ◌≤◌, Bool, true, false, nat_eq, nat_lt, ◌||◌, ◌&&◌, List, Option, Some, None, length, take, drop, get_or, refl, sym, ap, subst, ◌∙◌, arith, ⊎_elim, if◌then◌else◌}
+use Rattle.std.proofs.Common.{◌≡◌, ℕ, zero, suc, ◌+◌, ◌-◌, ◌<◌, ◌≤◌, Bool, true, false, nat_eq, ◌&&◌, List, Option, Some, None, length, take, drop, get_or, refl, sym, ap, subst, ◌∙◌, arith, ⊎_elim, if◌then◌else◌}
 use Rattle.std.specs.Prelude.{IfSome, option_map}
 use Rattle.std.proofs.lemmas.Bool.{and_from, and_parts, cases_lt, cond-false, cond-true, eq-eqb, eqb-true, false_from_ne_true, false≢true, lt-ltb, ltb-true}
 use Rattle.std.proofs.lemmas.List.{drop-drop, get_or_past, take_rest}

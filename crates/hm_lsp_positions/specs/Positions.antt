@@ -1,5 +1,5 @@
 -- Positions in a text (Language Server Protocol 3.17, "Position"): a line, and a number of units before a place in the line. Both are counted from 0.
-use Rattle.std.specs.Prelude.{◌≡◌, ℕ, ◌+◌, ◌-◌, ◌<◌, ◌≤◌, nat_lt, Bool, ◌&&◌, false, List, Option, Some, IfSome, MatchOption, length, take, drop, slice_index}
+use Rattle.std.specs.Prelude.{◌≡◌, ℕ, ◌+◌, ◌-◌, ◌<◌, ◌≤◌, nat_lt, Bool, ◌&&◌, false, List, Some, IfSome, MatchOption, length, take, drop, slice_index}
 use Rattle.hm_lsp_positions.specs.Lines.{first_line, line_start}
 use Rattle.hm_lsp_positions.specs.Units.{continues, units}
 use Rattle.hm_lsp_positions.specs.declared.positions.Position.{Position}

@@ -1,5 +1,5 @@
 -- The units of a text (Language Server Protocol 3.17, "Position", `PositionEncodingKind`). Texts are bytes of UTF-8.
-use Rattle.std.specs.Prelude.{ℕ, nat_le, Bool, ◌||◌, ◌&&◌, not, List, if◌then◌else◌}
+use Rattle.std.specs.Prelude.{ℕ, nat_le, Bool, List, if◌then◌else◌}
 use Rattle.std.specs.Int.{is_in_range}
 use Rattle.std.specs.List.{sum_by}
 use Rattle.hm_lsp_positions.specs.declared.units.Encoding.{Encoding}
