@@ -1,3 +1,4 @@
+mod Going
 mod Holding
 mod Taking
 mod WorkedDecisions

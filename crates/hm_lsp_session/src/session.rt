@@ -5,6 +5,8 @@ ghost use Rattle.serde_json.specs.Find.{get};
 ghost use Rattle.serde_json.specs.View.{view};
 ghost use Rattle.hm_lsp_session.specs.Documents.{SameTexts};
 ghost use Rattle.hm_lsp_session.specs.Effects.{documents_of, encoding_of, HasEffect, HasSomeEffect, IsAppliedTo, IsChanged, IsClosed, IsOpened, TextsAre};
+ghost use Rattle.hm_lsp_session.specs.Stages.{request_decision};
+ghost use Rattle.hm_lsp_session.specs.Steps.{stage_of, GoesOn, IsEdit, IsStep};
 ghost use Rattle.hm_lsp_session.specs.Replies.{method_of, AnswersRequest, IsReplyTo, RefusesMessage, Takes, TakesBody, TakesNotification, TakesOther};
 
 use crate::documents::Documents;
@@ -109,6 +111,8 @@ impl Session {
         id: &Value,
         params: &Value,
     ) -> Result<Option<Value>, AllocError>
+        requires { request_decision self.old.stage method ≡ Decision.Go }
+        ensures step { IfOk result (λ made. GoesOn self.old.stage made self.new.stage) }
         ensures made { IfOk result (λ made. IfSome made (λ reply. IsReplyTo (view id.now) (view reply))) }
         ensures kept { self.new.documents ≡ self.old.documents }
     {
@@ -132,6 +136,8 @@ impl Session {
     /// Opens a document.
     fn open(&mut self, params: &Value) -> Result<Outcome, AllocError>
         ensures silent { IfOk result (λ out. TakesNotification out) }
+        ensures stage { self.new.stage ≡ self.old.stage }
+        ensures edits { IfOk result (λ out. IsEdit out) }
         ensures texts { IfOk result (λ out. TextsAre out (IsOpened (view params.now) self.old.documents self.new.documents) self.old.documents self.new.documents) }
         ensures err { OnErr result (SameTexts self.old.documents self.new.documents) }
     {
@@ -150,6 +156,8 @@ impl Session {
     /// Gives a document the text after changes.
     fn apply(&mut self, uri: &str, version: i64, changes: &[Change]) -> Result<Outcome, AllocError>
         ensures silent { IfOk result (λ out. TakesNotification out) }
+        ensures stage { self.new.stage ≡ self.old.stage }
+        ensures edits { IfOk result (λ out. IsEdit out) }
         ensures texts { IfOk result (λ out. TextsAre out (IsAppliedTo self.old.encoding uri.now changes.now self.old.documents self.new.documents) self.old.documents self.new.documents) }
         ensures err { OnErr result (SameTexts self.old.documents self.new.documents) }
     {
@@ -169,6 +177,8 @@ impl Session {
     /// Changes a document.
     fn change(&mut self, params: &Value) -> Result<Outcome, AllocError>
         ensures silent { IfOk result (λ out. TakesNotification out) }
+        ensures stage { self.new.stage ≡ self.old.stage }
+        ensures edits { IfOk result (λ out. IsEdit out) }
         ensures texts { IfOk result (λ out. TextsAre out (IsChanged self.old.encoding (view params.now) self.old.documents self.new.documents) self.old.documents self.new.documents) }
         ensures err { OnErr result (SameTexts self.old.documents self.new.documents) }
     {
@@ -187,6 +197,8 @@ impl Session {
     /// Closes a document.
     fn close(&mut self, params: &Value) -> Result<Outcome, AllocError>
         ensures silent { IfOk result (λ out. TakesNotification out) }
+        ensures stage { self.new.stage ≡ self.old.stage }
+        ensures edits { IfOk result (λ out. IsEdit out) }
         ensures texts { IfOk result (λ out. TextsAre out (IsClosed (view params.now) self.old.documents self.new.documents) self.old.documents self.new.documents) }
         ensures err { OnErr result (SameTexts self.old.documents self.new.documents) }
     {
@@ -203,6 +215,8 @@ impl Session {
     /// Acts on a notification.
     fn edit(&mut self, method: Method, params: &Value) -> Result<Outcome, AllocError>
         ensures silent { IfOk result (λ out. TakesNotification out) }
+        ensures stage { self.new.stage ≡ self.old.stage }
+        ensures edits { IfOk result (λ out. IsEdit out) }
         ensures texts { IfOk result (λ out. TextsAre out (HasEffect method (view params.now) self.old.encoding self.old.documents self.new.documents) self.old.documents self.new.documents) }
         ensures err { OnErr result (SameTexts self.old.documents self.new.documents) }
     {
@@ -224,6 +238,7 @@ impl Session {
     /// Takes a request, and returns its reply or leaves it to the service.
     fn request(&mut self, method: Method, message: Value) -> Result<Outcome, AllocError>
         requires { IsSome (get (codes "id") (view message)) }
+        ensures step { IfOk result (λ out. IsStep self.old.stage out self.new.stage) }
         ensures one { IfOk result (λ out. (id : Data) → get (codes "id") (view message) ≡ Some id → AnswersRequest (view message) id out) }
         ensures kept { self.new.documents ≡ self.old.documents }
     {
@@ -245,13 +260,17 @@ impl Session {
                 why,
                 text_of(why),
             )?)),
-            Decision::Ignore | Decision::End(_) => Ok(Outcome::Ask(message)),
+            Decision::Ignore | Decision::End(_) => {
+                let why = Refusal::InvalidRequest;
+                Ok(Outcome::Reply(refusal(self.alloc, id, why, text_of(why))?))
+            }
         }
     }
 
     /// Takes a notification.
     fn notified(&mut self, method: Method, message: &Value) -> Result<Outcome, AllocError>
         ensures silent { IfOk result (λ out. TakesNotification out) }
+        ensures step { IfOk result (λ out. IsStep self.old.stage out self.new.stage) }
         ensures texts { IfOk result (λ out. TextsAre out (HasSomeEffect self.old.encoding self.old.documents self.new.documents) self.old.documents self.new.documents) }
         ensures err { OnErr result (SameTexts self.old.documents self.new.documents) }
     {
@@ -302,6 +321,7 @@ impl Session {
 
     /// Takes a message.
     fn take_message(&mut self, message: Value) -> Result<Outcome, AllocError>
+        ensures step { IfOk result (λ out. IsStep self.old.stage out self.new.stage) }
         ensures texts { IfOk result (λ out. TextsAre out (HasSomeEffect self.old.encoding self.old.documents self.new.documents) self.old.documents self.new.documents) }
         ensures err { OnErr result (SameTexts self.old.documents self.new.documents) }
         ensures takes { IfOk result (λ out. Takes (view message) (method_of (view message)) (get (codes "id") (view message)) out) }
@@ -323,6 +343,7 @@ impl Session {
     /// If memory runs out. The texts of all documents are as before then.
     pub fn take(&mut self, body: &[u8]) -> Result<Outcome, AllocError>
         ensures takes { IfOk result (λ out. TakesBody body.now out) }
+        ensures step { IfOk result (λ out. IsStep (stage_of self.old) out (stage_of self.new)) }
         ensures texts { IfOk result (λ out. TextsAre out (HasSomeEffect (encoding_of self.old) (documents_of self.old) (documents_of self.new)) (documents_of self.old) (documents_of self.new)) }
         ensures err { OnErr result (SameTexts (documents_of self.old) (documents_of self.new)) }
     {
