@@ -1,0 +1,15 @@
+//! Reads the messages of a run, which are JSON objects on lines of their own, as values.
+#![tactic(auto)]
+
+mod choosing;
+mod diagnostic;
+mod members;
+mod parsing;
+mod reading;
+mod writing;
+
+pub use crate::choosing::{actions_in, diagnostics_in};
+pub use crate::diagnostic::{Diagnostic, Edit, Told};
+pub use crate::reading::{ReadingFault, told_in};
+pub use hm_messages_excerpts::Columns;
+pub use hm_messages_json::{Level, Position};

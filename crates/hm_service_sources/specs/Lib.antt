@@ -1,0 +1,5 @@
+pub mod Standing
+pub mod LeftOut
+pub mod Laws
+pub mod Steps
+pub mod Worked
