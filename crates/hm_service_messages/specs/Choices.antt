@@ -1,5 +1,5 @@
 -- The diagnostics whose edits are offered for a range.
-use Rattle.std.specs.Prelude.{◌≡◌, ℕ, ◌<◌, ◌⊎◌, All, List, [], ◌∷◌, true}
+use Rattle.std.specs.Prelude.{◌≡◌, ◌<◌, ◌⊎◌, All, List, [], ◌∷◌, true}
 use Rattle.hm_messages_json.specs.declared.message.Position.{Position}
 use Rattle.hm_service_messages.specs.declared.diagnostic.Diagnostic.{Diagnostic}
 

@@ -6,10 +6,12 @@ mod diagnostic;
 mod members;
 mod parsing;
 mod reading;
+mod spots;
 mod writing;
 
 pub use crate::choosing::{actions_in, diagnostics_in};
 pub use crate::diagnostic::{Diagnostic, Edit, Told};
 pub use crate::reading::{ReadingFault, told_in};
+pub use crate::spots::{Bound, bound_in};
 pub use hm_messages_excerpts::Columns;
 pub use hm_messages_json::{Level, Position};

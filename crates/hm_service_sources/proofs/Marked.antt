@@ -1,5 +1,5 @@
 -- Marks of numbers, and numbers without a mark.
-use Rattle.std.proofs.Common.{◌≡◌, ℕ, zero, suc, replicate, ◌+◌, ◌<◌, ◌≤◌, Bool, true, false, List, [], ◌∷◌, ◌++◌, length, get_or, Contains, ◌⊎◌, ◌↔◌, inl, inr, refl, sym, ◌∙◌, subst, arith, length-append}
+use Rattle.std.proofs.Common.{◌≡◌, ℕ, ◌+◌, ◌<◌, ◌≤◌, Bool, true, false, List, [], ◌∷◌, ◌++◌, length, get_or, Contains, ◌⊎◌, ◌↔◌, inl, inr, refl, sym, ◌∙◌, subst, arith, length-append}
 use Rattle.std.specs.List.Sorted.{IsStrictlyIncreasing}
 use Rattle.std.proofs.lemmas.Bool.{cases_Bool, cases_eq, cases_lt, both_ways}
 use Rattle.std.proofs.lemmas.List.{get_or_append_left, get_or_push, get_or-map, length-map}
@@ -94,21 +94,8 @@ unmarked_end marks i numbers low high so_far k = (
   λ h. let below = h.0 in (so_far.members k).1 (omega (arith, below, low), h.1),
 )
 
--- marks that are all clear
-pub none_set : (marks : List Bool) (count : ℕ) (numbers : List ℕ) → length marks ≡ count → ((k : ℕ) → ¬ (IsMarked marks k)) → ((k : ℕ) → Contains numbers k ↔ ((k < length marks) × ¬ (IsMarked marks k))) → (k : ℕ) → Contains numbers k ↔ (k < count)
-none_set marks count numbers size none are k = (
-  λ c. let below = ((are k).0 c).0 in omega (arith, below, size),
-  λ below. (are k).1 (omega (arith, below, size), none k),
-)
-
 pub same_members : (located : List Located) (sources : ℕ) (marks : List Bool) (numbers : List ℕ) → length marks ≡ sources → ((s : ℕ) → IsMarked marks s ↔ IsLeftOut located s) → ((k : ℕ) → Contains numbers k ↔ ((k < length marks) × ¬ (IsMarked marks k))) → (s : ℕ) → Contains numbers s ↔ ((s < sources) × ¬ (IsLeftOut located s))
 same_members located sources marks numbers size are members s = (
   λ c. let h = (members s).0 c in let below = h.0 in (omega (arith, below, size), λ out. h.1 ((are s).1 out)),
   λ h. let below = h.0 in (members s).1 (omega (arith, below, size), λ mark. h.1 ((are s).0 mark)),
 )
-
--- marks that were never set
-pub clear_marks : (n k : ℕ) → ¬ (IsMarked (replicate n false) k)
-clear_marks zero k mark = both_ways false refl mark
-clear_marks (suc n) zero mark = both_ways false refl mark
-clear_marks (suc n) (suc k) mark = clear_marks n k mark

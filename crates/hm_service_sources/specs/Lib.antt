@@ -3,3 +3,4 @@ pub mod LeftOut
 pub mod Laws
 pub mod Steps
 pub mod Worked
+pub mod HeldSets

@@ -4,6 +4,7 @@ ghost use Rattle.std.specs.List.Sorted.{IsStrictlyIncreasing};
 ghost use Rattle.hm_graph_components.specs.Closure.{Closure};
 ghost use Rattle.hm_graph_components.specs.Digraph.{lists};
 ghost use Rattle.hm_graph_components.specs.Marks.{IsMarked};
+ghost use Rattle.hm_service_sources.specs.HeldSets.{AreAll};
 ghost use Rattle.hm_service_sources.specs.LeftOut.{ImportsFirst, IsInTheWay, IsLeftOut, outlines_of, source_at};
 ghost use Rattle.hm_service_sources.specs.Steps.{AddsRow, AreFirsts, AreImportRows, AreOwnMarks, AreSourceEdges, AreWayMarks};
 
@@ -147,7 +148,7 @@ fn left_out_marks(
 }
 
 /// Returns the numbers without a mark, ascending.
-pub fn unmarked(alloc: Global, marks: &[bool]) -> Result<Vec<usize>, AllocError>
+pub(crate) fn unmarked(alloc: Global, marks: &[bool]) -> Result<Vec<usize>, AllocError>
     ensures ascending { IfOk result (λ numbers. IsStrictlyIncreasing numbers.items) }
     ensures members { IfOk result (λ numbers. (k : ℕ) → Contains numbers.items k ↔ ((k < length marks.now) × ¬ (IsMarked marks.now k))) }
 {
@@ -160,13 +161,14 @@ pub fn unmarked(alloc: Global, marks: &[bool]) -> Result<Vec<usize>, AllocError>
     Ok(numbers)
 }
 
-/// Returns the first numbers, ascending.
+/// Returns the numbers below this one, in order.
 pub fn all_numbers(alloc: Global, count: usize) -> Result<Vec<usize>, AllocError>
-    ensures ascending { IfOk result (λ numbers. IsStrictlyIncreasing numbers.items) }
-    ensures members { IfOk result (λ numbers. (k : ℕ) → Contains numbers.items k ↔ (k < count)) }
+    ensures { IfOk result (λ numbers. AreAll count numbers.items) }
 {
-    let marks = vec![in alloc; false; count]?;
-    let numbers = unmarked(alloc, marks.as_slice())?;
+    let mut numbers = Vec::new(alloc);
+    'numbers: for number in 0..count {
+        numbers.push(number)?;
+    }
     Ok(numbers)
 }
 

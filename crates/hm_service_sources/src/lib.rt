@@ -7,7 +7,9 @@ mod imports;
 pub mod laws;
 mod left_out;
 mod names;
+mod texts;
 
 pub use crate::changing::{ChangeFault, change};
 pub use crate::held::HeldSource;
-pub use crate::left_out::{all_numbers, checkable, unmarked};
+pub use crate::left_out::{all_numbers, checkable};
+pub use crate::texts::{HeldTexts, copies, held_texts, texts_at};

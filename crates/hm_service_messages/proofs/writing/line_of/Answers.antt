@@ -1,4 +1,4 @@
-use Rattle.std.proofs.Common.{rules, ◌≡◌, ◌∙◌, ap, map, option_map, string_bytes, refl}
+use Rattle.std.proofs.Common.{rules, ◌≡◌, ◌∙◌, ap, map, string_bytes, refl}
 use Rattle.std.specs.Fmt.{decimal}
 use Rattle.hm_messages_json.specs.declared.message.Message.{Message}
 use Rattle.hm_service_messages.specs.Lines.{edit_of, lent_of}

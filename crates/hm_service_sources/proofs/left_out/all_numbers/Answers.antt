@@ -1,11 +1,12 @@
-use Rattle.std.proofs.Common.{◌≡◌, ◌∙◌, ap, false, length, replicate, rules, subst, sym}
-use Rattle.hm_graph_components.specs.Marks.{IsMarked}
-use Rattle.hm_service_sources.proofs.Marked.{clear_marks, none_set}
+use Rattle.std.proofs.Common.{◌≡◌, ◌<◌, ◌≤◌, arith, subst}
+use Rattle.hm_service_sources.specs.HeldSets.{AreAll}
+use Rattle.hm_service_sources.proofs.Numbers.{all_more}
 use Rattle.hm_service_sources.proofs.left_out.all_numbers.Goals as goal
 
-pub returns-clause-members : goal.returns-clause-members
-returns-clause-members c =
-    let marks = c.as_slice.result.now in
-    let is : marks ≡ replicate c.args.count false = search rules in
-    let size : length marks ≡ c.args.count = search rules in
-    none_set marks c.args.count c.in_ok-numbers.numbers.items size (λ k mark. clear_marks c.args.count k (subst (λ l. IsMarked l k) is mark)) c.in_ok-numbers.ensures.members
+pub numbers-preserved : goal.numbers-preserved
+numbers-preserved c = rw c.in_ok-push.ensures.items (all_more c.numbers.number c.numbers.numbers.items c.numbers.invariant)
+
+pub returns : goal.returns
+returns c =
+    let last : c.numbers.number ≡ c.args.count = omega (arith, c.numbers-test.false, c.numbers.auto.number-end) in
+    subst (λ n. AreAll n c.numbers.numbers.items) last c.numbers.invariant
