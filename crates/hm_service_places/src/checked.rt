@@ -1,0 +1,20 @@
+//! The result of a check.
+use hm_build_stages::Finished;
+use hm_service_messages::Told;
+
+/// The result of a check of a held set. Sources are named by their numbers in the set.
+#[derive(Drop)]
+pub struct Checked {
+    /// The numbers of the sources that can be checked, ascending.
+    pub part: Vec<usize>,
+    /// The texts that stand for them.
+    pub texts: Vec<Vec<u8>>,
+    /// The messages of a run of the sources that can't be read, if there are any: their first faults.
+    pub unread: Option<Told>,
+    /// The messages of a run of the texts that stand for all sources, if they are no lawful set.
+    pub refused: Option<Told>,
+    /// The messages of a run of the sources that can be checked.
+    pub told: Told,
+    /// The build of these sources.
+    pub build: Finished,
+}
