@@ -1,0 +1,13 @@
+use Rattle.std.proofs.Common.{refl}
+use Rattle.hm_messages.specs.declared.heading.Paint.TheVariants.{Json}
+use Rattle.hm_service_runs.proofs.messages.options_for.Goals as goal
+
+pub returns : goal.returns
+returns c = record {
+  workers_are = refl;
+  no_journal = refl;
+  explain = record { names = c.in_ok-names.names; paint = Json };
+  is = refl;
+  paint = refl;
+  names = c.in_ok-names.ensures;
+}
