@@ -36,6 +36,8 @@ pub record IsMessageOf (d : Diagnostic) (m : Message) : Type 0 where
   pub other_place : m.other ≡ d.other
   pub expected : option_map (λ t. t.now) m.expected ≡ option_map string_bytes d.expected
   pub actual : option_map (λ t. t.now) m.actual ≡ option_map string_bytes d.actual
+  pub part_is : m.part ≡ d.part
+  pub second_is : m.second ≡ d.second
   pub edits : map lent_of m.edits.now ≡ map edit_of d.edits.items
 
 -- the line of the diagnostic's message

@@ -1,5 +1,5 @@
 //! Messages of a run as values.
-use hm_messages_json::{Level, Position};
+use hm_messages_json::{Level, Position, Range};
 
 /// A change of a source that a diagnostic speaks of: a text in place of a range.
 #[derive(Debug, Drop)]
@@ -38,6 +38,10 @@ pub struct Diagnostic {
     pub expected: Option<String>,
     /// The type that is there, if two types differ.
     pub actual: Option<String>,
+    /// The whole part of a definition that it is about, if it is about one.
+    pub part: Option<Range>,
+    /// The other part that it is about, if there are two.
+    pub second: Option<Range>,
     /// The changes of the source that it speaks of, in order.
     pub edits: Vec<Edit>,
 }

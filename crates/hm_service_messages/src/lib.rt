@@ -14,4 +14,4 @@ pub use crate::diagnostic::{Diagnostic, Edit, Told};
 pub use crate::reading::{ReadingFault, told_in};
 pub use crate::spots::{Bound, bound_in};
 pub use hm_messages_excerpts::Columns;
-pub use hm_messages_json::{Level, Position};
+pub use hm_messages_json::{Level, Position, Range};

@@ -1,6 +1,6 @@
 //! Members of JSON objects.
 use hm_messages_excerpts::Columns;
-use hm_messages_json::{Level, Position};
+use hm_messages_json::{Level, Position, Range};
 use serde_json::Value;
 use std::alloc::{AllocError, Global};
 
@@ -47,4 +47,13 @@ pub(crate) fn level_of(object: &Value) -> Option<Level> {
 pub(crate) fn source_of(object: &Value) -> Option<usize> {
     let file = object.get("file").and_then(Value::as_str)?;
     file.parse::<usize>().ok()
+}
+
+/// Returns the range of a member.
+pub(crate) fn range_of(object: &Value, member: &str) -> Option<Range> {
+    let range = object.get(member)?;
+    Some(Range {
+        start: position_of(range, "start")?,
+        end: position_of(range, "end")?,
+    })
 }

@@ -1,6 +1,6 @@
 //! Parses lines as diagnostics. Nothing is promised of the result: it is written again and compared.
 use crate::diagnostic::{Diagnostic, Edit, Told};
-use crate::members::{count_of, level_of, position_of, source_of, text_of};
+use crate::members::{count_of, level_of, position_of, range_of, source_of, text_of};
 use hm_messages_json::{Level, Position};
 use serde_json::Value;
 use std::alloc::{AllocError, Global};
@@ -88,6 +88,8 @@ fn diagnostic_at(alloc: Global, object: &Value, place: Place) -> Result<Diagnost
         other: position_of(object, "other"),
         expected: text_of(alloc, object, "expected")?,
         actual: text_of(alloc, object, "type")?,
+        part: range_of(object, "part"),
+        second: range_of(object, "second"),
         edits: edits_of(alloc, object)?,
     })
 }

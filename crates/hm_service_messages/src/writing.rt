@@ -52,6 +52,8 @@ fn line_of(alloc: Global, diagnostic: &Diagnostic) -> Result<String, AllocError>
         hint: lent(&diagnostic.hint),
         expected: lent(&diagnostic.expected),
         actual: lent(&diagnostic.actual),
+        part: diagnostic.part,
+        second: diagnostic.second,
         edits: edits.as_slice(),
     };
     let line = message_line(alloc, &message)?;

@@ -20,6 +20,8 @@ returns c =
       hint = c.lent-3.result;
       expected = c.lent-4.result;
       actual = c.lent-5.result;
+      part = d.part;
+      second = d.second;
       edits = c.as_slice-2.result;
     } in
     let file : c.as_str.result.now ≡ decimal d.source = search rules in
@@ -42,6 +44,8 @@ returns c =
           other_place = refl;
           expected = c.lent-4.ensures;
           actual = c.lent-5.ensures;
+          part_is = refl;
+          second_is = refl;
           edits = edits;
         },
         c.in_ok-line.ensures,
