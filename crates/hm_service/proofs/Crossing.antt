@@ -1,0 +1,34 @@
+-- What a thread of a check returns may cross threads.
+use denote.Param.Send.{IsSend, sendable}
+use Rattle.std.proofs.Crossing.{crosses}
+use Rattle.hm_build.proofs.Crossing.{records_field_send, store_send}
+use Rattle.hm_build_stages.specs.contracts.finished_build.Finished as Finished
+use Rattle.hm_run_parallel_parse.proofs.Crossing.{module_send, module_sync}
+use Rattle.hm_service_messages.specs.contracts.diagnostic.Diagnostic as Diagnostic
+use Rattle.hm_service_messages.specs.contracts.diagnostic.Edit as Edit
+use Rattle.hm_service_messages.specs.contracts.diagnostic.Told as Told
+use Rattle.hm_service_places.specs.contracts.checked.Checked as Checked
+
+finished_field_send : IsSend Finished.the_field.row
+finished_field_send = search (store_send, module_send, module_sync, records_field_send, crosses, sendable) depth 30 fits 5000
+
+edit_send : IsSend Edit.the_row
+edit_send = search (crosses, sendable) depth 30 fits 5000
+
+edit_field_send : IsSend Edit.the_field.row
+edit_field_send = search (crosses, sendable) depth 30 fits 5000
+
+diagnostic_send : IsSend Diagnostic.the_row
+diagnostic_send = search (edit_send, edit_field_send, crosses, sendable) depth 30 fits 5000
+
+diagnostic_field_send : IsSend Diagnostic.the_field.row
+diagnostic_field_send = search (edit_send, edit_field_send, crosses, sendable) depth 30 fits 5000
+
+told_send : IsSend Told.the_row
+told_send = search (diagnostic_send, diagnostic_field_send, crosses, sendable) depth 30 fits 5000
+
+told_field_send : IsSend Told.the_field.row
+told_field_send = search (diagnostic_send, diagnostic_field_send, crosses, sendable) depth 30 fits 5000
+
+pub checked_send : IsSend Checked.the_row
+checked_send = search (finished_field_send, told_send, told_field_send, crosses, sendable) depth 30 fits 5000

@@ -1,0 +1,8 @@
+use Rattle.std.proofs.Common.{◌<◌, ◌≤◌, arith, inl, inr, rules}
+use Rattle.hm_service.proofs.checking.check.Goals as goal
+
+pub returns-in_err-checked-clause-workers : goal.returns-in_err-checked-clause-workers
+returns-in_err-checked-clause-workers g c = λ bad.
+    let low : 0 < c.args.workers = search rules in
+    let high : c.args.workers ≤ 16 = search rules in
+    elim bad [ inl none ↦ absurd (omega (arith, low, none)) | inr more ↦ absurd (omega (arith, high, more)) ]
