@@ -25,8 +25,10 @@ import sources  # noqa: E402
 import unproved  # noqa: E402
 
 OUT = sources.TOP / "out"
-PROVED = sources.TOP / "crates" / "hmc" / "out" / "hmc"
-UNPROVED = OUT / "unproved" / "hmc"
+# The crate of the program, who speaks of it, and its files. server.py sets others.
+NAME, SPEAKER = "hmc", "hmc"
+PROVED = sources.TOP / "crates" / NAME / "out" / NAME
+UNPROVED = OUT / "unproved" / NAME
 # The folders of a crate that decide what the proved program is and promises, and what the unproved one is: its compiler reads no file of specs/.
 OF_PROVED, OF_UNPROVED = ("src", "specs"), ("src",)
 # What a proof reads.
@@ -40,8 +42,8 @@ NOT_PROVED_OBJECT = f'{{"level":"program","proved":false,"text":"{NOT_PROVED}"}}
 TICK = 10
 
 
-def say(text, who="hmc"):
-    print(f"{who}: {text}", file=sys.stderr, flush=True)
+def say(text, who=None):
+    print(f"{who or SPEAKER}: {text}", file=sys.stderr, flush=True)
 
 
 def are_objects(arguments):
@@ -103,13 +105,13 @@ def note(program, then, *lines):
 
 def proof_checksum(top=sources.TOP):
     """Returns a checksum of all that the proof of the program reads."""
-    return sources.checksum("hmc", OF_PROOF, top) + sources.kit_checksum(*OF_KIT)
+    return sources.checksum(NAME, OF_PROOF, top) + sources.kit_checksum(*OF_KIT)
 
 
 def has_changed_since(then):
     """Returns whether a file that the proved program is built from was changed, made or removed since then."""
     watched = [sources.TOP / "crates.txt", sources.TOP / "HANDLES"]
-    for crate in sources.crates_of("hmc"):
+    for crate in sources.crates_of(NAME):
         for part in OF_PROOF:
             for at, _, names in os.walk(sources.TOP / "crates" / crate / part):
                 watched += [at, *(os.path.join(at, it) for it in names)]
@@ -136,16 +138,16 @@ def program():
     OUT.mkdir(exist_ok=True)
     with locked(OUT / "lock", "waiting for another build"):
         then = now()
-        wanted = sources.checksum("hmc", OF_PROVED)
+        wanted = sources.checksum(NAME, OF_PROVED)
         if is_of(PROVED, wanted, then) or is_by_gate(wanted, then):
             return PROVED
-        wanted = sources.checksum("hmc", OF_UNPROVED)
+        wanted = sources.checksum(NAME, OF_UNPROVED)
         if not is_of(UNPROVED, wanted, then):
             say("building the program without a proof, which takes one to two minutes")
             begun = time.monotonic()
             UNPROVED.parent.mkdir(exist_ok=True)
             with ticking("building"):
-                unproved.build(UNPROVED)
+                unproved.build(UNPROVED, NAME)
             note(UNPROVED, then, wanted)
             say(f"built in {time.monotonic() - begun:.0f} seconds")
         return UNPROVED

@@ -99,6 +99,11 @@ impl Session {
         &self.documents
     }
 
+    /// Returns how far the session is.
+    pub fn stage(&self) -> Stage {
+        self.stage
+    }
+
     /// Returns what the columns of positions count.
     pub fn encoding(&self) -> Encoding {
         self.encoding

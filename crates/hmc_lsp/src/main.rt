@@ -1,0 +1,150 @@
+//! The program `hmc_lsp`, a server of the Language Server Protocol on standard input and standard output.
+//!
+//! It reads what waits on the input, takes all messages of it in order, and checks the texts when no byte of a message is left.
+#![tactic(auto)]
+
+mod disk;
+
+use crate::disk::sources_below;
+use hm_lsp_frames::{Frame, Frames, framed};
+use hm_lsp_server::{Server, Taken};
+use serde_json::{Value, json};
+use std::alloc::{AllocError, Global};
+use std::env;
+use std::io::{Read, Write};
+use std::process::ExitCode;
+use std::slice;
+use std::sync::Wait;
+use std::thread::Threads;
+
+/// Writes messages as frames. Returns whether all could be written.
+fn send(rt: &HostRuntime, sent: &[Value]) -> bool {
+    let mut stdout = rt.stdout();
+    for value in sent {
+        let Ok(text) = value.to_string(rt.alloc()) else {
+            return false;
+        };
+        let Ok(frame) = framed(rt.alloc(), text.as_bytes()) else {
+            return false;
+        };
+        if stdout.write_all(&frame).is_err() {
+            return false;
+        }
+    }
+    stdout.flush().is_ok()
+}
+
+/// Returns the reply to what is no message.
+fn protocol_error(alloc: Global, code: i64, text: &str) -> Result<Value, AllocError> {
+    json!(in alloc; {"error": {"code": code, "message": text}, "id": null, "jsonrpc": "2.0"})
+}
+
+/// Takes a frame.
+fn take_frame<T: Threads + Wait + Sync>(
+    rt: &T,
+    alloc: Global,
+    server: &mut Server,
+    frame: Frame,
+) -> Result<Taken, AllocError> {
+    let reply = match frame {
+        Frame::Body(body) => return server.take(rt, &body),
+        Frame::TooLong => protocol_error(alloc, -32600, "this message is too long")?,
+        Frame::Malformed => protocol_error(alloc, -32700, "this is no header")?,
+    };
+    Ok(Taken {
+        reply: Some(reply),
+        status: None,
+    })
+}
+
+/// Takes all frames that are whole. Returns the exit status if the server ends.
+fn take_all<T: Threads + Wait + Sync>(
+    rt: &T,
+    host: &HostRuntime,
+    server: &mut Server,
+    frames: &mut Frames,
+) -> Result<Option<u8>, AllocError> {
+    for _ in 0..u64::MAX {
+        let Some(frame) = frames.next()? else {
+            return Ok(None);
+        };
+        let taken = take_frame(rt, host.alloc(), server, frame)?;
+        if let Some(reply) = &taken.reply {
+            if !send(host, slice::from_ref(reply)) {
+                return Ok(Some(4));
+            }
+        }
+        if taken.status.is_some() {
+            return Ok(taken.status);
+        }
+    }
+    Ok(None)
+}
+
+/// Takes what was read, and sends the diagnostics if no byte of a message is left. Returns the exit status if the server ends.
+fn take_bytes<T: Threads + Wait + Sync>(
+    rt: &T,
+    host: &HostRuntime,
+    server: &mut Server,
+    frames: &mut Frames,
+    bytes: &[u8],
+) -> Result<Option<u8>, AllocError> {
+    frames.add(bytes)?;
+    if let Some(status) = take_all(rt, host, server, frames)? {
+        return Ok(Some(status));
+    }
+    if !frames.is_empty() {
+        return Ok(None);
+    }
+    let mut sent = Vec::new(host.alloc());
+    server.publish(rt, &mut sent)?;
+    Ok(if send(host, &sent) { None } else { Some(4) })
+}
+
+/// Returns the folder that the command line names, if it names one.
+fn folder(host: &HostRuntime) -> Result<Option<String>, AllocError> {
+    let Ok(words) = env::args(host) else {
+        return Ok(None);
+    };
+    let Ok(mut words) = words.collect(host.alloc()) else {
+        return Err(AllocError);
+    };
+    let words: &mut Vec<String> = &mut words;
+    if words.len() < 2 {
+        return Ok(None);
+    }
+    Ok(words.pop())
+}
+
+// Why: docs/DECISIONS.md, "One loop".
+/// Serves one client until it ends the server or the input ends. Returns the exit status.
+fn serve<T: Threads + Wait + Sync>(rt: &T, host: &HostRuntime) -> Result<u8, AllocError> {
+    let alloc = host.alloc();
+    let files = match folder(host)? {
+        Some(folder) => sources_below(host, alloc, folder.as_str())?,
+        None => Vec::new(alloc),
+    };
+    let mut server = Server::new(rt, alloc, files)?;
+    let mut frames = Frames::new(alloc);
+    let mut stdin = host.stdin();
+    let mut buffer = [0u8; 65536];
+    for _ in rt.forever() {
+        let Ok(count) = stdin.read(&mut buffer) else {
+            return Ok(1);
+        };
+        if count == 0 {
+            return Ok(1);
+        }
+        if let Some(status) = take_bytes(rt, host, &mut server, &mut frames, &buffer[..count])? {
+            return Ok(status);
+        }
+    }
+    Ok(1)
+}
+
+fn main(rt: HostRuntime) -> ExitCode {
+    match serve(&rt, &rt) {
+        Ok(status) => ExitCode::from(status),
+        Err(AllocError) => ExitCode::from(3),
+    }
+}

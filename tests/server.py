@@ -1,0 +1,162 @@
+#!/usr/bin/env python3
+"""Talks to the language server as an editor does, and compares what it sends with what the protocol and the language say.
+
+`server.py [PROGRAM]`: without PROGRAM, the proved program is run. Ends with 1 where a row differs.
+"""
+import json
+import os
+import subprocess
+import sys
+import tempfile
+
+TOP = os.path.dirname(os.path.dirname(os.path.abspath(__file__)))
+PROVED = os.path.join(TOP, "crates", "hmc_lsp", "out", "hmc_lsp")
+A = "module A where { f x = x ; g = f 1 }\n"
+B = "module B where { import A ; h :: Char -> Bool -> Char ; h c b = c ; k = h True 'c' ; m = g }\n"
+TYPED = "p = case f 1 of { 0 -> True ; _ -> False } ; "
+
+
+class Client:
+    """A client of a server that is started for a folder with A.hs and B.hs."""
+
+    def __init__(self, program, folder):
+        self.folder, self.last, self.rows, self.wrong = folder, 0, 0, 0
+        self.server = subprocess.Popen([program, folder], stdin=subprocess.PIPE, stdout=subprocess.PIPE)
+
+    def uri(self, name):
+        return f"file://{self.folder}/{name}"
+
+    def write(self, data):
+        self.server.stdin.write(data)
+        self.server.stdin.flush()
+
+    def send(self, message):
+        body = json.dumps({"jsonrpc": "2.0", **message}).encode()
+        self.write(b"Content-Length: %d\r\n\r\n%s" % (len(body), body))
+
+    def receive(self):
+        size = None
+        while (line := self.server.stdout.readline()) not in (b"\r\n", b""):
+            name, _, value = line.partition(b":")
+            size = int(value) if name.lower() == b"content-length" else size
+        return json.loads(self.server.stdout.read(size)) if size is not None else None
+
+    def reply(self):
+        """Returns the next reply, and passes over notifications."""
+        while (message := self.receive()) and "method" in message:
+            pass
+        return message or {}
+
+    def ask(self, method, **params):
+        """Sends a request, and returns its reply."""
+        self.last += 1
+        self.send({"id": self.last, "method": method, "params": params})
+        reply = self.reply()
+        self.row(f"{method} has one reply", reply.get("id"), self.last)
+        return reply
+
+    def notify(self, method, **params):
+        self.send({"method": method, "params": params})
+
+    def published(self, count):
+        """Returns the diagnostics of the next notifications, by the name of the file."""
+        found = {}
+        for _ in range(count):
+            message = self.receive()
+            self.row("a notification has no id", message and (message["method"], "id" in message), ("textDocument/publishDiagnostics", False))
+            found[message["params"]["uri"].rpartition("/")[2]] = message["params"]["diagnostics"]
+        return found
+
+    def row(self, what, found, wanted):
+        self.rows += 1
+        if found != wanted:
+            self.wrong += 1
+            print(f"{what}: {found!r} in place of {wanted!r}")
+
+
+def position(text, part, after=0):
+    return {"line": 0, "character": text.index(part) + after}
+
+
+def between(text, part):
+    return {"start": position(text, part), "end": position(text, part, len(part))}
+
+
+def codes(diagnostics):
+    return [it["code"] for it in diagnostics if it["severity"] == 1]
+
+
+def start_and_check(it):
+    it.row("before initialize", it.ask("textDocument/hover")["error"]["code"], -32002)
+    made = it.ask("initialize", capabilities={"general": {"positionEncodings": ["utf-16"]}})["result"]["capabilities"]
+    it.row("encoding", made["positionEncoding"], "utf-16")
+    it.notify("initialized")
+    found = it.published(1)
+    it.row("diagnostics of the folder", codes(found["B.hs"]), ["type"])
+    it.row("the marked name", found["B.hs"][0]["range"]["start"], position(B, "k ="))
+
+
+def look(it):
+    doc = {"uri": it.uri("B.hs")}
+    it.notify("textDocument/didOpen", textDocument={**doc, "languageId": "haskell", "version": 1, "text": B})
+    hover = it.ask("textDocument/hover", textDocument=doc, position=position(B, "m = g", 4))["result"]
+    it.row("a hover names its kind", "variable" in hover["contents"]["value"], True)
+    place = it.ask("textDocument/definition", textDocument=doc, position=position(B, "m = g", 4))["result"]
+    it.row("a definition in another file", (place["uri"], place["range"]["start"]), (it.uri("A.hs"), position(A, "g =")))
+    it.row("nothing at a bracket", it.ask("textDocument/hover", textDocument=doc, position=position(B, "{"))["result"], None)
+    it.row("no such document", it.ask("textDocument/hover", textDocument={"uri": it.uri("C.hs")}, position=position(B, "{"))["error"]["code"], -32602)
+    it.row("an unknown method", it.ask("textDocument/rename")["error"]["code"], -32601)
+
+
+def mend(it):
+    """Makes the edits of an action, after which no fault is left."""
+    doc = {"uri": it.uri("B.hs")}
+    actions = it.ask("textDocument/codeAction", textDocument=doc, range=between(B, "h True 'c'"), context={"diagnostics": []})["result"]
+    it.row("an action", len(actions) > 0, True)
+    edits = actions[0]["edit"]["changes"][it.uri("B.hs")]
+    changes = [{"range": e["range"], "text": e["newText"]} for e in reversed(edits)]
+    it.notify("textDocument/didChange", textDocument={**doc, "version": 2}, contentChanges=changes)
+    it.row("nothing is left", it.published(1), {"B.hs": []})
+
+
+def type_letters(it):
+    """Types a definition letter by letter into A. B keeps its own state, whether or not A can be read."""
+    doc = {"uri": it.uri("A.hs")}
+    it.notify("textDocument/didOpen", textDocument={**doc, "languageId": "haskell", "version": 1, "text": A})
+    for number, letter in enumerate(TYPED):
+        at = position(A, "g =", number)
+        it.notify("textDocument/didChange", textDocument={**doc, "version": 2 + number}, contentChanges=[{"range": {"start": at, "end": at}, "text": letter}])
+    hover = it.ask("textDocument/hover", textDocument=doc, position=position(A, "g =", len(TYPED)))["result"]
+    it.row("the name after what was typed", hover is not None, True)
+
+
+def bad_input(it):
+    it.write(b"Content-Length: 1\r\nContent-Length: 2\r\n\r\n")
+    it.row("two lengths", it.reply()["error"]["code"], -32700)
+    it.write(b"Content-Length: 1\r\n\r\n{")
+    it.row("no JSON", it.reply()["error"]["code"], -32700)
+    it.write(b"Content-Length: 2\r\n\r\n[]")
+    it.row("no message", it.reply()["error"]["code"], -32600)
+
+
+def finish(it):
+    it.row("shutdown", it.ask("shutdown")["result"], None)
+    it.row("after shutdown", it.ask("textDocument/hover")["error"]["code"], -32600)
+    it.notify("exit")
+    it.row("exit status", it.server.wait(timeout=60), 0)
+
+
+def main(program=PROVED):
+    with tempfile.TemporaryDirectory() as folder:
+        for name, text in (("A.hs", A), ("B.hs", B)):
+            with open(os.path.join(folder, name), "w", encoding="utf-8") as file:
+                file.write(text)
+        it = Client(os.path.abspath(program), folder)
+        for part in (start_and_check, look, mend, type_letters, bad_input, finish):
+            part(it)
+    print(f"{it.rows - it.wrong} of {it.rows} rows as wanted")
+    return 1 if it.wrong else 0
+
+
+if __name__ == "__main__":
+    sys.exit(main(*sys.argv[1:]))
