@@ -3,6 +3,8 @@ use denote.Param.Send.{IsSend, sendable}
 use Rattle.std.proofs.Crossing.{crosses}
 use Rattle.hm_build.proofs.Crossing.{records_field_send, store_send}
 use Rattle.hm_build_stages.specs.contracts.finished_build.Finished as Finished
+use Rattle.hm_messages_json.specs.contracts.message.Position as Position
+use Rattle.hm_messages_json.specs.contracts.message.Range as Range
 use Rattle.hm_run_parallel_parse.proofs.Crossing.{module_send, module_sync}
 use Rattle.hm_service_messages.specs.contracts.diagnostic.Diagnostic as Diagnostic
 use Rattle.hm_service_messages.specs.contracts.diagnostic.Edit as Edit
@@ -12,17 +14,29 @@ use Rattle.hm_service_places.specs.contracts.checked.Checked as Checked
 finished_field_send : IsSend Finished.the_field.row
 finished_field_send = search (store_send, module_send, module_sync, records_field_send, crosses, sendable) depth 30 fits 5000
 
+position_send : IsSend Position.the_row
+position_send = search (crosses, sendable) depth 30 fits 5000
+
+position_field_send : IsSend Position.the_field.row
+position_field_send = search (crosses, sendable) depth 30 fits 5000
+
+range_send : IsSend Range.the_row
+range_send = search (position_send, position_field_send, crosses, sendable) depth 30 fits 5000
+
+range_field_send : IsSend Range.the_field.row
+range_field_send = search (position_send, position_field_send, crosses, sendable) depth 30 fits 5000
+
 edit_send : IsSend Edit.the_row
-edit_send = search (crosses, sendable) depth 30 fits 5000
+edit_send = search (position_send, position_field_send, crosses, sendable) depth 30 fits 5000
 
 edit_field_send : IsSend Edit.the_field.row
-edit_field_send = search (crosses, sendable) depth 30 fits 5000
+edit_field_send = search (position_send, position_field_send, crosses, sendable) depth 30 fits 5000
 
 diagnostic_send : IsSend Diagnostic.the_row
-diagnostic_send = search (edit_send, edit_field_send, crosses, sendable) depth 30 fits 5000
+diagnostic_send = search (position_send, position_field_send, range_send, range_field_send, edit_send, edit_field_send, crosses, sendable) depth 30 fits 5000
 
 diagnostic_field_send : IsSend Diagnostic.the_field.row
-diagnostic_field_send = search (edit_send, edit_field_send, crosses, sendable) depth 30 fits 5000
+diagnostic_field_send = search (position_send, position_field_send, range_send, range_field_send, edit_send, edit_field_send, crosses, sendable) depth 30 fits 5000
 
 told_send : IsSend Told.the_row
 told_send = search (diagnostic_send, diagnostic_field_send, crosses, sendable) depth 30 fits 5000
