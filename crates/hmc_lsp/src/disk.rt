@@ -48,7 +48,11 @@ fn add_sources(
 
 // Why: docs/DECISIONS.md, "Files beside documents".
 /// Returns the sources below a folder, by their paths.
-pub(crate) fn sources_below(rt: &HostRuntime, alloc: Global, folder: &str) -> Result<Vec<SourceFile>, AllocError> {
+pub(crate) fn sources_below(
+    rt: &HostRuntime,
+    alloc: Global,
+    folder: &str,
+) -> Result<Vec<SourceFile>, AllocError> {
     let mut found = Vec::new(alloc);
     add_sources(rt, alloc, folder, 0, &mut found)?;
     found.sort_by(|a, b| a.path.as_str().cmp(b.path.as_str()))?;

@@ -10,12 +10,11 @@ use hm_lsp_frames::{Frame, Frames, framed};
 use hm_lsp_server::{Server, Taken};
 use serde_json::{Value, json};
 use std::alloc::{AllocError, Global};
-use std::env;
 use std::io::{Read, Write};
 use std::process::ExitCode;
-use std::slice;
 use std::sync::Wait;
 use std::thread::Threads;
+use std::{env, slice};
 
 /// Writes messages as frames. Returns whether all could be written.
 fn send(rt: &HostRuntime, sent: &[Value]) -> bool {
