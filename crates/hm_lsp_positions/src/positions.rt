@@ -1,5 +1,5 @@
 //! Positions in a text.
-ghost use Rattle.std.specs.Prelude.{◌≡◌, ℕ, ◌+◌, ◌<◌, ◌≤◌, true, Some, IfSome, length, take};
+ghost use Rattle.std.specs.Prelude.{◌≡◌, ℕ, ◌+◌, ◌*◌, ◌<◌, ◌≤◌, true, Some, IfSome, length, take};
 ghost use Rattle.hm_lsp_positions.specs.Lines.{line_start};
 ghost use Rattle.hm_lsp_positions.specs.Positions.{is_inside, IsBetween, IsColumn, IsOffsetOf, IsPositionOf};
 ghost use Rattle.hm_lsp_positions.specs.Units.{units};
@@ -91,6 +91,7 @@ fn line_at(text: &[u8], offset: usize) -> LineAt
     requires { offset ≤ length text.now }
     ensures starts { line_start result.line text.now ≡ Some result.start }
     ensures after { result.start ≤ offset }
+    ensures line { result.line ≤ result.start }
     ensures last { IfSome (line_start (result.line + 1) text.now) (λ next. offset < next) }
 {
     let mut start = 0;
@@ -108,7 +109,9 @@ fn line_at(text: &[u8], offset: usize) -> LineAt
 /// Returns the position of the place after so many bytes.
 pub fn position_of(encoding: Encoding, text: &[u8], offset: usize) -> Position
     requires { offset ≤ length text.now }
-    ensures { IsPositionOf encoding text.now offset result }
+    ensures place { IsPositionOf encoding text.now offset result }
+    ensures line { result.line ≤ offset }
+    ensures column { result.column ≤ 2 * offset }
 {
     let found = line_at(text, offset);
     Position {

@@ -39,7 +39,8 @@ pub(crate) fn unit_of(encoding: Encoding, byte: u8) -> usize
 
 /// Returns the number of units of a text.
 pub(crate) fn units(encoding: Encoding, text: &[u8]) -> usize
-    ensures { result ≡ units encoding text.now }
+    ensures units { result ≡ units encoding text.now }
+    ensures few { result ≤ 2 * length text.now }
 {
     let mut sum = 0;
     for byte in text {

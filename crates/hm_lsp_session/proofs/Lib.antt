@@ -1,4 +1,6 @@
 mod Going
 mod Holding
+mod Reading
 mod Taking
+mod WorkedChanges
 mod WorkedDecisions

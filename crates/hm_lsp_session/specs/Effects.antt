@@ -1,11 +1,15 @@
 -- What a notification does to the texts of documents (Language Server Protocol 3.17, "Text Document Synchronization").
-use Rattle.std.specs.Prelude.{◌≡◌, ℕ, List, Option, None, Some, codes, option_and_then}
-use Rattle.serde_json.specs.Data.{Data}
-use Rattle.serde_json.specs.Find.{as_str, pointer}
+use Rattle.std.specs.Prelude.{◌≡◌, ℕ, List, None, Some, codes}
+use Rattle.serde_json.specs.Data.{Data, Items}
+use Rattle.serde_json.specs.Find.{as_array, get}
+use Rattle.serde_json.specs.Read.{read}
 use Rattle.hm_lsp_positions.specs.Changes.{AreApplied}
 use Rattle.hm_lsp_positions.specs.declared.changes.Change.{Change}
 use Rattle.hm_lsp_positions.specs.declared.units.Encoding.{Encoding}
 use Rattle.hm_lsp_session.specs.Documents.{IsHeldNow, SameTexts, held_text}
+use Rattle.hm_lsp_session.specs.Params.{AreChangesIn, string_at}
+use Rattle.hm_lsp_session.specs.Replies.{method_of}
+use Rattle.hm_lsp_session.specs.Stages.{method_named}
 use Rattle.hm_lsp_session.specs.declared.documents.Documents.{Documents}
 use Rattle.hm_lsp_session.specs.declared.session.Outcome.{Outcome}
 use Rattle.hm_lsp_session.specs.declared.session.Outcome.TheVariants.{Ask, Changed, Ended, Nothing, Reply}
@@ -18,10 +22,6 @@ documents_of s = s.documents
 
 abbrev pub encoding_of : Session → Encoding
 encoding_of s = s.encoding
-
--- the string at a path of a message's parameters
-abbrev pub string_at : List ℕ → Data → Option (List ℕ)
-string_at path params = option_and_then as_str (pointer path params)
 
 -- `didOpen`: the document has the text of the message
 pub record IsOpened (params : Data) (before after : Documents) : Type 0 where
@@ -39,11 +39,16 @@ pub record IsAppliedTo (encoding : Encoding) (uri : List ℕ) (changes : List Ch
   pub applied : AreApplied encoding old changes new
   pub held : IsHeldNow before after uri (Some new)
 
--- `didChange`: the text of the document is that after changes
+-- `didChange`: the text of the document is that after the changes of the message
 pub record IsChanged (encoding : Encoding) (params : Data) (before after : Documents) : Type 0 where
   pub uri : List ℕ
+  pub list : Data
+  pub items : Items
   pub changes : List Change
   pub named : string_at (codes "/textDocument/uri") params ≡ Some uri
+  pub given : get (codes "contentChanges") params ≡ Some list
+  pub listed : as_array list ≡ Some items
+  pub read : AreChangesIn items changes
   pub applied : IsAppliedTo encoding uri changes before after
 
 -- `didClose`: the document has no text
@@ -65,11 +70,24 @@ HasEffect Definition params encoding before after = ⊥
 HasEffect CodeAction params encoding before after = ⊥
 HasEffect Unknown params encoding before after = ⊥
 
--- one of them
-pub record HasSomeEffect (encoding : Encoding) (before after : Documents) : Type 0 where
-  pub method : Method
+-- what a notification with this method does
+pub record HasParamsEffect (method : Method) (message : Data) (encoding : Encoding) (before after : Documents) : Type 0 where
   pub params : Data
+  pub given : get (codes "params") message ≡ Some params
   pub effect : HasEffect method params encoding before after
+
+-- what a message without an identifier does
+pub record HasMessageEffect (message : Data) (encoding : Encoding) (before after : Documents) : Type 0 where
+  pub name : List ℕ
+  pub named : method_of message ≡ Some name
+  pub notified : get (codes "id") message ≡ None
+  pub effect : HasParamsEffect (method_named name) message encoding before after
+
+-- what the body of a frame does
+pub record HasBodyEffect (body : List ℕ) (encoding : Encoding) (before after : Documents) : Type 0 where
+  pub message : Data
+  pub is_read : read body ≡ Some message
+  pub effect : HasMessageEffect message encoding before after
 
 -- the texts change only if the outcome says so, and then like this
 abbrev pub TextsAre : Outcome → Type 0 → Documents → Documents → Type 0

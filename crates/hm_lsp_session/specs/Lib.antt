@@ -1,5 +1,6 @@
 pub mod Documents
 pub mod Effects
+pub mod Params
 pub mod Replies
 pub mod Stages
 pub mod Steps

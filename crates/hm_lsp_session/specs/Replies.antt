@@ -1,12 +1,32 @@
 -- Replies (Language Server Protocol 3.17, "Response Message"), and the message that each belongs to.
-use Rattle.std.specs.Prelude.{◌≡◌, ℕ, List, Option, None, Some, codes, option_and_then}
+use Rattle.std.specs.Prelude.{◌≡◌, ℕ, ℤ, List, Option, None, Some, codes, option_and_then, true}
 use Rattle.std.specs.Str.{IsUtf8}
-use Rattle.serde_json.specs.Data.{Data, null}
-use Rattle.serde_json.specs.Find.{as_str, get}
+use Rattle.serde_json.specs.Data.{Data, member, no_members, null, number, object, string}
+use Rattle.serde_json.specs.Find.{as_str, get, of_integer}
 use Rattle.serde_json.specs.Read.{read}
 use Rattle.serde_json.specs.View.{view}
+use Rattle.hm_lsp_session.specs.Stages.{is_for_service, method_named}
 use Rattle.hm_lsp_session.specs.declared.session.Outcome.{Outcome}
 use Rattle.hm_lsp_session.specs.declared.session.Outcome.TheVariants.{Ask, Changed, Ended, Nothing, Reply}
+use Rattle.hm_lsp_session.specs.declared.stages.Stage.{Stage}
+use Rattle.hm_lsp_session.specs.declared.stages.Stage.TheVariants.{Ready}
+
+-- a reply with a result, one with an error, and a notification of the server
+abbrev pub reply_data : Data → Data → Data
+reply_data id result = object (member (codes "id") id (member (codes "jsonrpc") (string (codes "2.0")) (member (codes "result") result no_members)))
+
+abbrev pub error_data : ℤ → List ℕ → Data
+error_data code text = object (member (codes "code") (number (of_integer code)) (member (codes "message") (string text) no_members))
+
+abbrev pub refusal_data : Data → ℤ → List ℕ → Data
+refusal_data id code text = object (member (codes "error") (error_data code text) (member (codes "id") id (member (codes "jsonrpc") (string (codes "2.0")) no_members)))
+
+abbrev pub notice_data : List ℕ → Data → Data
+notice_data method params = object (member (codes "jsonrpc") (string (codes "2.0")) (member (codes "method") (string method) (member (codes "params") params no_members)))
+
+-- the name of a message's method
+abbrev pub method_of : Data → Option (List ℕ)
+method_of message = option_and_then as_str (get (codes "method") message)
 
 -- a reply with this identifier
 abbrev pub IsReplyTo : Data → Data → Type 0
@@ -19,6 +39,18 @@ AnswersRequest request id (Ask asked) = view asked ≡ request
 AnswersRequest request id Changed = ⊥
 AnswersRequest request id Nothing = ⊥
 AnswersRequest request id (Ended status) = ⊥
+
+-- the service has to reply to this request
+abbrev pub IsAsked : Data → Outcome → Type 0
+IsAsked request (Reply reply) = ⊥
+IsAsked request (Ask asked) = view asked ≡ request
+IsAsked request Changed = ⊥
+IsAsked request Nothing = ⊥
+IsAsked request (Ended status) = ⊥
+
+-- while the session is ready, the requests about what texts mean are left to the service
+abbrev pub IsLeft : Stage → Data → Outcome → Type 0
+IsLeft stage message outcome = (name : List ℕ) (id : Data) → method_of message ≡ Some name → get (codes "id") message ≡ Some id → stage ≡ Ready → is_for_service (method_named name) ≡ true → IsAsked message outcome
 
 -- a notification has no reply
 abbrev pub TakesNotification : Outcome → Type 0
@@ -35,10 +67,6 @@ RefusesMessage (Ask asked) = ⊥
 RefusesMessage Changed = ⊥
 RefusesMessage Nothing = ⊥
 RefusesMessage (Ended status) = ⊥
-
--- the name of a message's method
-abbrev pub method_of : Data → Option (List ℕ)
-method_of message = option_and_then as_str (get (codes "method") message)
 
 -- what has no method is no message, or a reply of the client
 abbrev pub TakesOther : Option Data → Outcome → Type 0
@@ -59,3 +87,6 @@ Takes message (Some name) (Some id) outcome = AnswersRequest message id outcome
 pub data TakesBody (body : List ℕ) (outcome : Outcome) : Type 0 where
   unread : (IsUtf8 body → read body ≡ None) → RefusesMessage outcome → TakesBody body outcome
   understood : {message : Data} → read body ≡ Some message → Takes message (method_of message) (get (codes "id") message) outcome → TakesBody body outcome
+
+abbrev pub IsLeftOf : List ℕ → Stage → Outcome → Type 0
+IsLeftOf body stage outcome = (message : Data) → IsUtf8 body → read body ≡ Some message → IsLeft stage message outcome

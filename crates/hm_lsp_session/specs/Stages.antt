@@ -1,5 +1,6 @@
 -- What a server does with a message, by how far its session is (Language Server Protocol 3.17, "Server lifecycle" and "Error Codes").
-use Rattle.std.specs.Prelude.{ℤ, negsuc}
+use Rattle.std.specs.Prelude.{ℕ, ℤ, negsuc, Bool, false, true, List, codes, if◌then◌else◌}
+use Rattle.std.specs.Str.{bytes_eq}
 use Rattle.hm_lsp_session.specs.declared.stages.Decision.{Decision}
 use Rattle.hm_lsp_session.specs.declared.stages.Decision.TheVariants.{End, Go, Ignore, Refuse}
 use Rattle.hm_lsp_session.specs.declared.stages.Method.{Method}
@@ -8,6 +9,20 @@ use Rattle.hm_lsp_session.specs.declared.stages.Refusal.{Refusal}
 use Rattle.hm_lsp_session.specs.declared.stages.Refusal.TheVariants.{InvalidParams, InvalidRequest, MethodNotFound, NotInitialized, ParseError}
 use Rattle.hm_lsp_session.specs.declared.stages.Stage.{Stage}
 use Rattle.hm_lsp_session.specs.declared.stages.Stage.TheVariants.{New, Ready, ShutDown}
+
+-- the names of methods
+abbrev pub method_named : List ℕ → Method
+method_named name =
+    if bytes_eq name (codes "initialize") then Initialize
+    else (if bytes_eq name (codes "shutdown") then Shutdown
+    else (if bytes_eq name (codes "exit") then Exit
+    else (if bytes_eq name (codes "textDocument/didOpen") then DidOpen
+    else (if bytes_eq name (codes "textDocument/didChange") then DidChange
+    else (if bytes_eq name (codes "textDocument/didClose") then DidClose
+    else (if bytes_eq name (codes "textDocument/hover") then Hover
+    else (if bytes_eq name (codes "textDocument/definition") then Definition
+    else (if bytes_eq name (codes "textDocument/codeAction") then CodeAction
+    else Unknown))))))))
 
 -- the codes of errors
 abbrev pub code_of : Refusal → ℤ
@@ -40,6 +55,19 @@ request_decision Ready DidChange = Refuse MethodNotFound
 request_decision Ready DidClose = Refuse MethodNotFound
 request_decision Ready Unknown = Refuse MethodNotFound
 request_decision ShutDown m = Refuse InvalidRequest
+
+-- the requests about what texts mean
+abbrev pub is_for_service : Method → Bool
+is_for_service Hover = true
+is_for_service Definition = true
+is_for_service CodeAction = true
+is_for_service Initialize = false
+is_for_service Shutdown = false
+is_for_service Exit = false
+is_for_service DidOpen = false
+is_for_service DidChange = false
+is_for_service DidClose = false
+is_for_service Unknown = false
 
 -- the exit status is 0 only after `shutdown`
 abbrev pub exit_decision : Stage → Decision

@@ -1,7 +1,11 @@
 //! Parameters of messages.
-ghost use Rattle.std.specs.Prelude.{◌≡◌, option_map};
+ghost use Rattle.std.specs.Prelude.{◌≡◌, IfNone, IfOk, IfSome, Some, ℕ, option_map};
+ghost use Rattle.serde_json.specs.Data.{Items};
+ghost use Rattle.serde_json.specs.Find.{as_array};
 ghost use Rattle.serde_json.specs.View.{view};
-ghost use Rattle.hm_lsp_session.specs.Effects.{string_at};
+ghost use Rattle.hm_lsp_positions.specs.declared.changes.Range.{Range};
+ghost use Rattle.hm_lsp_positions.specs.declared.positions.Position.{Position};
+ghost use Rattle.hm_lsp_session.specs.Params.{AreChangesIn, IsChangeIn, IsNumberUnder, IsPositionIn, IsRangeIn, string_at};
 
 use hm_lsp_positions::{Change, Position, Range};
 use serde_json::Value;
@@ -21,29 +25,46 @@ pub fn text_at<'v>(value: &'v Value, path: &str) -> Option<&'v str>
 }
 
 /// Returns the line or column under a key.
-fn number_in(value: &Value, key: &str) -> Option<usize> {
+fn number_in(value: &Value, key: &str) -> Option<usize>
+    ensures some { IfSome result (λ n. IsNumberUnder key.now (view value.now) n) }
+    ensures none { IfNone result ((n : ℕ) → ¬ (IsNumberUnder key.now (view value.now) n)) }
+{
     let number = value.get(key)?.as_u64()?;
     Some(number.min(MOST) as usize)
 }
 
 /// Returns a position (`Position`).
-pub fn position_in(value: &Value) -> Option<Position> {
-    Some(Position {
-        line: number_in(value, "line")?,
-        column: number_in(value, "character")?,
-    })
+pub fn position_in(value: &Value) -> Option<Position>
+    ensures some { IfSome result (λ p. IsPositionIn (view value.now) p) }
+    ensures none { IfNone result ((p : Position) → ¬ (IsPositionIn (view value.now) p)) }
+{
+    let Some(line) = number_in(value, "line") else {
+        return None;
+    };
+    let Some(column) = number_in(value, "character") else {
+        return None;
+    };
+    Some(Position { line, column })
 }
 
 /// Returns a range (`Range`).
-pub fn range_in(value: &Value) -> Option<Range> {
-    Some(Range {
-        start: position_in(value.get("start")?)?,
-        end: position_in(value.get("end")?)?,
-    })
+pub fn range_in(value: &Value) -> Option<Range>
+    ensures some { IfSome result (λ r. IsRangeIn (view value.now) r) }
+    ensures none { IfNone result ((r : Range) → ¬ (IsRangeIn (view value.now) r)) }
+{
+    let Some(start) = position_in(value.get("start")?) else {
+        return None;
+    };
+    let Some(end) = position_in(value.get("end")?) else {
+        return None;
+    };
+    Some(Range { start, end })
 }
 
 /// Returns a change (`TextDocumentContentChangeEvent`), or `None` if the value isn't one.
-fn change_in(alloc: Global, value: &Value) -> Result<Option<Change>, AllocError> {
+fn change_in(alloc: Global, value: &Value) -> Result<Option<Change>, AllocError>
+    ensures { IfOk result (λ found. IfSome found (λ change. IsChangeIn (view value.now) change)) }
+{
     let Some(text) = text_at(value, "/text") else {
         return Ok(None);
     };
@@ -61,7 +82,9 @@ fn change_in(alloc: Global, value: &Value) -> Result<Option<Change>, AllocError>
 }
 
 /// Returns changes, or `None` if the value isn't a list of changes.
-pub fn changes_in(alloc: Global, value: &Value) -> Result<Option<Vec<Change>>, AllocError> {
+pub fn changes_in(alloc: Global, value: &Value) -> Result<Option<Vec<Change>>, AllocError>
+    ensures { IfOk result (λ found. IfSome found (λ changes. (items : Items) × (as_array (view value.now) ≡ Some items) × AreChangesIn items changes.items)) }
+{
     let Some(values) = value.as_array() else {
         return Ok(None);
     };

@@ -1,13 +1,13 @@
 //! A session: how far it is, the documents of the client, and what each message does.
-ghost use Rattle.std.specs.Prelude.{◌≡◌, Some, IfOk, IfSome, IsSome, OnErr, codes};
+ghost use Rattle.std.specs.Prelude.{◌≡◌, None, Some, IfOk, IfSome, IsSome, OnErr, codes, true};
 ghost use Rattle.serde_json.specs.Data.{Data};
 ghost use Rattle.serde_json.specs.Find.{get};
 ghost use Rattle.serde_json.specs.View.{view};
 ghost use Rattle.hm_lsp_session.specs.Documents.{SameTexts};
-ghost use Rattle.hm_lsp_session.specs.Effects.{documents_of, encoding_of, HasEffect, HasSomeEffect, IsAppliedTo, IsChanged, IsClosed, IsOpened, TextsAre};
-ghost use Rattle.hm_lsp_session.specs.Stages.{request_decision};
+ghost use Rattle.hm_lsp_session.specs.Effects.{documents_of, encoding_of, HasBodyEffect, HasEffect, HasMessageEffect, HasParamsEffect, IsAppliedTo, IsChanged, IsClosed, IsOpened, TextsAre};
+ghost use Rattle.hm_lsp_session.specs.Stages.{is_for_service, request_decision};
 ghost use Rattle.hm_lsp_session.specs.Steps.{stage_of, GoesOn, IsEdit, IsStep};
-ghost use Rattle.hm_lsp_session.specs.Replies.{method_of, AnswersRequest, IsReplyTo, RefusesMessage, Takes, TakesBody, TakesNotification, TakesOther};
+ghost use Rattle.hm_lsp_session.specs.Replies.{method_of, AnswersRequest, IsAsked, IsLeft, IsLeftOf, IsReplyTo, RefusesMessage, Takes, TakesBody, TakesNotification, TakesOther};
 
 use crate::documents::Documents;
 use crate::params::{changes_in, text_at};
@@ -95,17 +95,23 @@ impl Session {
     }
 
     /// Returns the documents of the client.
-    pub fn documents(&self) -> &Documents {
+    pub fn documents(&self) -> &Documents
+        ensures { result.now ≡ documents_of self.now }
+    {
         &self.documents
     }
 
     /// Returns how far the session is.
-    pub fn stage(&self) -> Stage {
+    pub fn stage(&self) -> Stage
+        ensures { result ≡ stage_of self.now }
+    {
         self.stage
     }
 
     /// Returns what the columns of positions count.
-    pub fn encoding(&self) -> Encoding {
+    pub fn encoding(&self) -> Encoding
+        ensures { result ≡ encoding_of self.now }
+    {
         self.encoding
     }
 
@@ -118,6 +124,7 @@ impl Session {
     ) -> Result<Option<Value>, AllocError>
         requires { request_decision self.old.stage method ≡ Decision.Go }
         ensures step { IfOk result (λ made. GoesOn self.old.stage made self.new.stage) }
+        ensures left { IfOk result (λ made. is_for_service method ≡ true → made ≡ None) }
         ensures made { IfOk result (λ made. IfSome made (λ reply. IsReplyTo (view id.now) (view reply))) }
         ensures kept { self.new.documents ≡ self.old.documents }
     {
@@ -245,6 +252,7 @@ impl Session {
         requires { IsSome (get (codes "id") (view message)) }
         ensures step { IfOk result (λ out. IsStep self.old.stage out self.new.stage) }
         ensures one { IfOk result (λ out. (id : Data) → get (codes "id") (view message) ≡ Some id → AnswersRequest (view message) id out) }
+        ensures left { IfOk result (λ out. self.old.stage ≡ Stage.Ready → is_for_service method ≡ true → IsAsked (view message) out) }
         ensures kept { self.new.documents ≡ self.old.documents }
     {
         let null = Value::Null;
@@ -276,7 +284,7 @@ impl Session {
     fn notified(&mut self, method: Method, message: &Value) -> Result<Outcome, AllocError>
         ensures silent { IfOk result (λ out. TakesNotification out) }
         ensures step { IfOk result (λ out. IsStep self.old.stage out self.new.stage) }
-        ensures texts { IfOk result (λ out. TextsAre out (HasSomeEffect self.old.encoding self.old.documents self.new.documents) self.old.documents self.new.documents) }
+        ensures texts { IfOk result (λ out. TextsAre out (HasParamsEffect method (view message.now) self.old.encoding self.old.documents self.new.documents) self.old.documents self.new.documents) }
         ensures err { OnErr result (SameTexts self.old.documents self.new.documents) }
     {
         match notification_decision(self.stage, method) {
@@ -327,8 +335,9 @@ impl Session {
     /// Takes a message.
     fn take_message(&mut self, message: Value) -> Result<Outcome, AllocError>
         ensures step { IfOk result (λ out. IsStep self.old.stage out self.new.stage) }
-        ensures texts { IfOk result (λ out. TextsAre out (HasSomeEffect self.old.encoding self.old.documents self.new.documents) self.old.documents self.new.documents) }
+        ensures texts { IfOk result (λ out. TextsAre out (HasMessageEffect (view message) self.old.encoding self.old.documents self.new.documents) self.old.documents self.new.documents) }
         ensures err { OnErr result (SameTexts self.old.documents self.new.documents) }
+        ensures left { IfOk result (λ out. IsLeft self.old.stage (view message) out) }
         ensures takes { IfOk result (λ out. Takes (view message) (method_of (view message)) (get (codes "id") (view message)) out) }
     {
         let method = match message.get("method").and_then(Value::as_str) {
@@ -348,8 +357,9 @@ impl Session {
     /// If memory runs out. The texts of all documents are as before then.
     pub fn take(&mut self, body: &[u8]) -> Result<Outcome, AllocError>
         ensures takes { IfOk result (λ out. TakesBody body.now out) }
+        ensures left { IfOk result (λ out. IsLeftOf body.now (stage_of self.old) out) }
         ensures step { IfOk result (λ out. IsStep (stage_of self.old) out (stage_of self.new)) }
-        ensures texts { IfOk result (λ out. TextsAre out (HasSomeEffect (encoding_of self.old) (documents_of self.old) (documents_of self.new)) (documents_of self.old) (documents_of self.new)) }
+        ensures texts { IfOk result (λ out. TextsAre out (HasBodyEffect body.now (encoding_of self.old) (documents_of self.old) (documents_of self.new)) (documents_of self.old) (documents_of self.new)) }
         ensures err { OnErr result (SameTexts (documents_of self.old) (documents_of self.new)) }
     {
         let text = match std::str::from_utf8(body) {

@@ -1,6 +1,6 @@
 //! What a server does with a message, by how far its session is.
 ghost use Rattle.std.specs.Prelude.{◌≡◌};
-ghost use Rattle.hm_lsp_session.specs.Stages.{code_of, notification_decision, request_decision};
+ghost use Rattle.hm_lsp_session.specs.Stages.{code_of, method_named, notification_decision, request_decision};
 
 /// How far a session is.
 #[derive(Clone, Copy, Debug, PartialEq, Eq)]
@@ -69,7 +69,9 @@ impl Refusal {
 
 impl Method {
     /// Returns the method with this name.
-    pub fn of(name: &str) -> Method {
+    pub fn of(name: &str) -> Method
+        ensures { result ≡ method_named name.now }
+    {
         match name {
             "initialize" => Method::Initialize,
             "shutdown" => Method::Shutdown,

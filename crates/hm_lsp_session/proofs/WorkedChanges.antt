@@ -1,0 +1,31 @@
+-- Worked examples of changes, by computing.
+use Rattle.std.proofs.Common.{◌≡◌, ℕ, List, Option, Some, None, codes, get_or, refl, sym, ap, subst, ◌∙◌, arith}
+use Rattle.serde_json.specs.Find.{get}
+use Rattle.serde_json.proofs.OnLiterals.{serde_json_on_literals}
+use Rattle.hm_lsp_positions.specs.declared.changes.Change.{Change}
+use Rattle.hm_lsp_session.specs.Params.{IsChangeIn, IsRangeGiven, string_at}
+use Rattle.hm_lsp_session.specs.Worked.{ChangesRow, whole_text}
+
+text_is : string_at (codes "/text") whole_text ≡ Some (codes "x")
+unfolding serde_json_on_literals
+text_is = refl
+
+no_range : get (codes "range") whole_text ≡ None
+unfolding serde_json_on_literals
+no_range = refl
+
+first_of : Option (List ℕ) → ℕ
+first_of None = 0
+first_of (Some text) = get_or text 0 0
+
+other : (change : Change) → change.text.items ≡ codes "y" → IsChangeIn whole_text change → ⊥
+unfolding first_of
+other change is h = let same : 120 ≡ 121 = ap first_of (sym text_is ∙ h.text) ∙ ap (λ (l : List ℕ). get_or l 0 0) is in omega (arith, same)
+
+pub worked_changes : ChangesRow
+worked_changes =
+    record {
+      whole = λ change none is. (record { text = text_is ∙ ap Some (sym is); range = subst (λ r. IsRangeGiven r change.range) (sym no_range) (subst (IsRangeGiven None) (sym none) tt) }, tt);
+      not_other = λ change is h. other change is h.0;
+      not_missing = λ h. h;
+    }
