@@ -39,3 +39,8 @@ pub data AreApplied (encoding : Encoding) : List ℕ → List Change → List �
   unchanged : {text : List ℕ} → AreApplied encoding text [] text
   after : {text next made : List ℕ} {change : Change} {changes : List Change} → IsApplied encoding text change next → AreApplied encoding next changes made
       → AreApplied encoding text (change ∷ changes) made
+
+-- the range of one of the changes ends before it starts, in the text after the changes before it
+pub data HasReversed (encoding : Encoding) : List ℕ → List Change → Type 0 where
+  at_first : {text : List ℕ} {change : Change} {changes : List Change} → IsReversed encoding text change → HasReversed encoding text (change ∷ changes)
+  later : {text next : List ℕ} {change : Change} {changes : List Change} → IsApplied encoding text change next → HasReversed encoding next changes → HasReversed encoding text (change ∷ changes)

@@ -1,6 +1,6 @@
 //! Changes of a text (Language Server Protocol 3.17, `TextDocumentContentChangeEvent`).
 ghost use Rattle.std.specs.Prelude.{◌≡◌, ◌≤◌, ◌++◌, IfErr, IfOk, IsErrOf, drop, length, take};
-ghost use Rattle.hm_lsp_positions.specs.Changes.{AreApplied, IsApplied, IsReversed};
+ghost use Rattle.hm_lsp_positions.specs.Changes.{AreApplied, HasReversed, IsApplied, IsReversed};
 
 use crate::positions::{Position, offset_of};
 use crate::units::Encoding;
@@ -100,11 +100,15 @@ pub fn all_changed(
     text: &[u8],
     changes: &[Change],
 ) -> Result<Vec<u8>, ChangeFault>
-    ensures { IfOk result (λ made. AreApplied encoding text.now changes.now made.items) }
+    ensures made { IfOk result (λ made. AreApplied encoding text.now changes.now made.items) }
+    ensures reversed { IsErrOf result ChangeFault.Reversed → HasReversed encoding text.now changes.now }
 {
     let mut made = Vec::from_slice(alloc, text)?;
     'changes: for change in changes {
-        made = changed(alloc, encoding, made.as_slice(), change)?;
+        match changed(alloc, encoding, made.as_slice(), change) {
+            Ok(next) => made = next,
+            Err(fault) => return Err(fault),
+        }
     }
     Ok(made)
 }

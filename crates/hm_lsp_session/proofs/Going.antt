@@ -1,7 +1,14 @@
 -- What follows from the tables of decisions.
-use Rattle.std.proofs.Common.{◌≡◌, Bool, true, false, refl, ap}
+use Rattle.std.proofs.Common.{◌≡◌, ℕ, List, Option, None, Some, codes, inl, inr, Bool, true, false, refl, sym, ap, subst, ◌∙◌}
 use Rattle.std.proofs.lemmas.Bool.{false≢true}
-use Rattle.hm_lsp_session.specs.Stages.{notification_decision}
+use Rattle.serde_json.specs.Data.{Data}
+use Rattle.serde_json.specs.Find.{get}
+use Rattle.hm_lsp_positions.specs.declared.changes.Change.{Change}
+use Rattle.hm_lsp_positions.specs.declared.units.Encoding.{Encoding}
+use Rattle.hm_lsp_session.specs.Effects.{HasNoChange, IsIgnored, IsIgnoredIn, IsNotApplied, IsNothingOnlyFor, closed, reversed}
+use Rattle.hm_lsp_session.specs.Params.{AreListedIn, string_at}
+use Rattle.hm_lsp_session.specs.Stages.{notification_decision, ready_decision}
+use Rattle.hm_lsp_session.specs.declared.documents.Documents.{Documents}
 use Rattle.hm_lsp_session.specs.Steps.{IsEdit, IsStep}
 use Rattle.hm_lsp_session.specs.declared.session.Outcome.{Outcome}
 use Rattle.hm_lsp_session.specs.declared.session.Outcome.TheVariants.{Ask, Changed, Ended, Nothing, Reply}
@@ -9,6 +16,7 @@ use Rattle.hm_lsp_session.specs.declared.stages.Decision.{Decision}
 use Rattle.hm_lsp_session.specs.declared.stages.Decision.TheVariants.{End, Go, Ignore, Refuse}
 use Rattle.hm_lsp_session.specs.declared.stages.Method.{Method}
 use Rattle.hm_lsp_session.specs.declared.stages.Method.TheVariants.{CodeAction, Definition, DidChange, DidClose, DidOpen, Exit, Hover, Initialize, Shutdown, Unknown}
+use Rattle.hm_lsp_session.specs.declared.stages.Refusal.{Refusal}
 use Rattle.hm_lsp_session.specs.declared.stages.Stage.{Stage}
 use Rattle.hm_lsp_session.specs.declared.stages.Stage.TheVariants.{New, Ready, ShutDown}
 
@@ -48,3 +56,72 @@ edit_step before after (Ask request) ready same h = absurd h
 edit_step before after Changed ready same h = (ready, same)
 edit_step before after Nothing ready same h = same
 edit_step before after (Ended status) ready same h = absurd h
+
+is_ignore : Decision → Bool
+is_ignore Go = false
+is_ignore (Refuse why) = false
+is_ignore Ignore = true
+is_ignore (End status) = false
+
+ignoring : (m : Method) → ready_decision m ≡ Ignore → (params : Data) (encoding : Encoding) (before : Documents) → IsIgnored m params encoding before
+unfolding is_ignore
+ignoring DidOpen h params encoding before = absurd (false≢true (ap is_ignore h))
+ignoring DidChange h params encoding before = absurd (false≢true (ap is_ignore h))
+ignoring DidClose h params encoding before = absurd (false≢true (ap is_ignore h))
+ignoring Initialize h params encoding before = tt
+ignoring Shutdown h params encoding before = tt
+ignoring Exit h params encoding before = tt
+ignoring Hover h params encoding before = tt
+ignoring Definition h params encoding before = tt
+ignoring CodeAction h params encoding before = tt
+ignoring Unknown h params encoding before = tt
+
+with_params : (m : Method) (message : Data) (encoding : Encoding) (before : Documents) (found : Option Data) → get (codes "params") message ≡ found → ((params : Data) → IsIgnored m params encoding before)
+    → IsIgnoredIn m message encoding before
+with_params m message encoding before None is each = inl is
+with_params m message encoding before (Some params) is each = inr (params, (is, each params))
+
+-- while the session is ready, a notification that is ignored by the tables has no effect in any case
+pub ignored : (s : Stage) (m : Method) (message : Data) (encoding : Encoding) (before : Documents) → s ≡ Ready → notification_decision s m ≡ Ignore → IsIgnoredIn m message encoding before
+ignored s m message encoding before ready is =
+    with_params m message encoding before (get (codes "params") message) refl
+    (λ params. ignoring m (subst (λ x. notification_decision x m ≡ Ignore) ready is) params encoding before)
+
+-- another reason
+pub only_for : (why other : Type 0) (out : Outcome) → (why → other) → IsNothingOnlyFor why out → IsNothingOnlyFor other out
+only_for why other (Reply reply) f h = tt
+only_for why other (Ask asked) f h = tt
+only_for why other Changed f h = tt
+only_for why other Nothing f h = f h
+only_for why other (Ended status) f h = tt
+
+pub no_change : (encoding : Encoding) (params : Data) (before : Documents) (uri : List ℕ) (changes : List Change) → string_at (codes "/textDocument/uri") params ≡ Some uri → AreListedIn params changes
+    → IsNotApplied encoding uri changes before → HasNoChange encoding params before
+no_change encoding params before uri changes named listed h = elim h [
+  | inl none ↦ closed named none
+  | inr w ↦ reversed named w.1.0 listed w.1.1
+]
+
+is_refusal : Decision → Bool
+is_refusal Go = false
+is_refusal (Refuse why) = true
+is_refusal Ignore = false
+is_refusal (End status) = false
+
+ready_takes : (m : Method) → is_refusal (ready_decision m) ≡ false
+unfolding is_refusal
+ready_takes Initialize = refl
+ready_takes Shutdown = refl
+ready_takes Exit = refl
+ready_takes DidOpen = refl
+ready_takes DidChange = refl
+ready_takes DidClose = refl
+ready_takes Hover = refl
+ready_takes Definition = refl
+ready_takes CodeAction = refl
+ready_takes Unknown = refl
+
+-- no notification is refused
+pub never_refused : (s : Stage) (m : Method) (why : Refusal) → s ≡ Ready → notification_decision s m ≡ Refuse why → ⊥
+unfolding is_refusal
+never_refused s m why ready is = false≢true (sym (ready_takes m) ∙ ap is_refusal (subst (λ x. notification_decision x m ≡ Refuse why) ready is))

@@ -1,7 +1,7 @@
 -- Changes that are read one after another.
-use Rattle.std.proofs.Common.{◌≡◌, ℕ, ◌+◌, ◌<◌, Option, None, Some, List, [], ◌∷◌, ◌++◌, length, take, get_or, sym, ap, subst, ◌∙◌}
+use Rattle.std.proofs.Common.{◌≡◌, ℕ, zero, suc, arith, ◌+◌, ◌<◌, Option, None, Some, List, [], ◌∷◌, ◌++◌, length, take, get_or, sym, ap, subst, ◌∙◌}
 use Rattle.std.proofs.lemmas.List.{take_more}
-use Rattle.serde_json.specs.Data.{Data, null}
+use Rattle.serde_json.specs.Data.{Data, Items, no_items, null}
 use Rattle.serde_json.specs.View.{items_view, view}
 use Rattle.serde_json.specs.declared.value.Value.{Value}
 use Rattle.hm_lsp_positions.specs.declared.changes.Change.{Change}
@@ -28,3 +28,18 @@ of (Some d) = d
 pub same_member : (d e : Data) (found : Option Data) → Some d ≡ found → found ≡ Some e → d ≡ e
 unfolding of
 same_member d e found one other = ap of (one ∙ other)
+
+items_in : Option Items → Items
+items_in None = no_items
+items_in (Some ds) = ds
+
+pub same_items : (ds es : Items) (found : Option Items) → Some ds ≡ found → found ≡ Some es → ds ≡ es
+unfolding items_in
+same_items ds es found one other = ap items_in (one ∙ other)
+
+-- each value of a list of changes is one
+pub change_at : (vs : List Value) (cs : List Change) (i : ℕ) (v : Value) → i < length vs → v ≡ get_or vs i v → AreChangesIn (items_view vs) cs → (c : Change) × IsChangeIn (view v) c
+change_at [] cs i v low at h = let never : ⊥ = omega (arith, low) in absurd never
+change_at (w ∷ vs) [] i v low at h = absurd h
+change_at (w ∷ vs) (c ∷ cs) zero v low at h = (c, subst (λ x. IsChangeIn (view x) c) (sym at) h.0)
+change_at (w ∷ vs) (c ∷ cs) (suc i) v low at h = change_at vs cs i v (omega (arith, low)) at h.1

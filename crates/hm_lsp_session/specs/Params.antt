@@ -1,7 +1,7 @@
 -- The parameters of messages (Language Server Protocol 3.17, `Position`, `Range`, `TextDocumentContentChangeEvent`).
 use Rattle.std.specs.Prelude.{◌≡◌, ℕ, List, [], ◌∷◌, Option, None, Some, codes, min, option_and_then}
 use Rattle.serde_json.specs.Data.{Data, Items, no_items, item}
-use Rattle.serde_json.specs.Find.{as_number, as_str, as_u64, get, pointer}
+use Rattle.serde_json.specs.Find.{as_array, as_number, as_str, as_u64, get, pointer}
 use Rattle.hm_lsp_positions.specs.declared.changes.Change.{Change}
 use Rattle.hm_lsp_positions.specs.declared.changes.Range.{Range}
 use Rattle.hm_lsp_positions.specs.declared.positions.Position.{Position}
@@ -45,3 +45,11 @@ AreChangesIn no_items [] = Unit {0}
 AreChangesIn no_items (change ∷ changes) = ⊥
 AreChangesIn (item d ds) [] = ⊥
 AreChangesIn (item d ds) (change ∷ changes) = IsChangeIn d change × AreChangesIn ds changes
+
+-- the changes of a `didChange`
+pub record AreListedIn (params : Data) (changes : List Change) : Type 0 where
+  pub list : Data
+  pub items : Items
+  pub given : get (codes "contentChanges") params ≡ Some list
+  pub listed : as_array list ≡ Some items
+  pub read : AreChangesIn items changes

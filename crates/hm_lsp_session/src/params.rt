@@ -1,8 +1,9 @@
 //! Parameters of messages.
-ghost use Rattle.std.specs.Prelude.{◌≡◌, IfNone, IfOk, IfSome, Some, ℕ, option_map};
+ghost use Rattle.std.specs.Prelude.{◌≡◌, IfNone, IfOk, IfSome, List, Some, ℕ, option_map};
 ghost use Rattle.serde_json.specs.Data.{Items};
 ghost use Rattle.serde_json.specs.Find.{as_array};
 ghost use Rattle.serde_json.specs.View.{view};
+ghost use Rattle.hm_lsp_positions.specs.declared.changes.Change.{Change};
 ghost use Rattle.hm_lsp_positions.specs.declared.changes.Range.{Range};
 ghost use Rattle.hm_lsp_positions.specs.declared.positions.Position.{Position};
 ghost use Rattle.hm_lsp_session.specs.Params.{AreChangesIn, IsChangeIn, IsNumberUnder, IsPositionIn, IsRangeIn, string_at};
@@ -63,7 +64,8 @@ pub fn range_in(value: &Value) -> Option<Range>
 
 /// Returns a change (`TextDocumentContentChangeEvent`), or `None` if the value isn't one.
 fn change_in(alloc: Global, value: &Value) -> Result<Option<Change>, AllocError>
-    ensures { IfOk result (λ found. IfSome found (λ change. IsChangeIn (view value.now) change)) }
+    ensures some { IfOk result (λ found. IfSome found (λ change. IsChangeIn (view value.now) change)) }
+    ensures none { IfOk result (λ found. IfNone found ((change : Change) → ¬ (IsChangeIn (view value.now) change))) }
 {
     let Some(text) = text_at(value, "/text") else {
         return Ok(None);
@@ -83,7 +85,8 @@ fn change_in(alloc: Global, value: &Value) -> Result<Option<Change>, AllocError>
 
 /// Returns changes, or `None` if the value isn't a list of changes.
 pub fn changes_in(alloc: Global, value: &Value) -> Result<Option<Vec<Change>>, AllocError>
-    ensures { IfOk result (λ found. IfSome found (λ changes. (items : Items) × (as_array (view value.now) ≡ Some items) × AreChangesIn items changes.items)) }
+    ensures none { IfOk result (λ found. IfNone found ((items : Items) (changes : List Change) → as_array (view value.now) ≡ Some items → ¬ (AreChangesIn items changes))) }
+    ensures some { IfOk result (λ found. IfSome found (λ changes. (items : Items) × (as_array (view value.now) ≡ Some items) × AreChangesIn items changes.items)) }
 {
     let Some(values) = value.as_array() else {
         return Ok(None);

@@ -4,7 +4,7 @@ ghost use Rattle.serde_json.specs.Data.{Data};
 ghost use Rattle.serde_json.specs.Find.{get};
 ghost use Rattle.serde_json.specs.View.{view};
 ghost use Rattle.hm_lsp_session.specs.Documents.{SameTexts};
-ghost use Rattle.hm_lsp_session.specs.Effects.{documents_of, encoding_of, HasBodyEffect, HasEffect, HasMessageEffect, HasParamsEffect, IsAppliedTo, IsChanged, IsClosed, IsOpened, TextsAre};
+ghost use Rattle.hm_lsp_session.specs.Effects.{documents_of, encoding_of, HasBodyEffect, HasEffect, HasMessageEffect, HasNoChange, HasNoDocument, HasNoText, HasParamsEffect, IsAppliedTo, IsChanged, IsBodyHeard, IsClosed, IsHeard, IsIgnored, IsIgnoredIn, IsNotApplied, IsNothingOnlyFor, IsOpened, TextsAre};
 ghost use Rattle.hm_lsp_session.specs.Stages.{is_for_service, request_decision};
 ghost use Rattle.hm_lsp_session.specs.Steps.{stage_of, GoesOn, IsEdit, IsStep};
 ghost use Rattle.hm_lsp_session.specs.Replies.{method_of, AnswersRequest, IsAsked, IsLeft, IsLeftOf, IsReplyTo, RefusesMessage, Takes, TakesBody, TakesNotification, TakesOther};
@@ -151,6 +151,7 @@ impl Session {
         ensures stage { self.new.stage ≡ self.old.stage }
         ensures edits { IfOk result (λ out. IsEdit out) }
         ensures texts { IfOk result (λ out. TextsAre out (IsOpened (view params.now) self.old.documents self.new.documents) self.old.documents self.new.documents) }
+        ensures ignored { IfOk result (λ out. IsNothingOnlyFor (HasNoText (view params.now)) out) }
         ensures err { OnErr result (SameTexts self.old.documents self.new.documents) }
     {
         let Some(uri) = text_at(params, "/textDocument/uri") else {
@@ -171,6 +172,7 @@ impl Session {
         ensures stage { self.new.stage ≡ self.old.stage }
         ensures edits { IfOk result (λ out. IsEdit out) }
         ensures texts { IfOk result (λ out. TextsAre out (IsAppliedTo self.old.encoding uri.now changes.now self.old.documents self.new.documents) self.old.documents self.new.documents) }
+        ensures ignored { IfOk result (λ out. IsNothingOnlyFor (IsNotApplied self.old.encoding uri.now changes.now self.old.documents) out) }
         ensures err { OnErr result (SameTexts self.old.documents self.new.documents) }
     {
         let Some(text) = self.documents.text_of(uri) else {
@@ -192,6 +194,7 @@ impl Session {
         ensures stage { self.new.stage ≡ self.old.stage }
         ensures edits { IfOk result (λ out. IsEdit out) }
         ensures texts { IfOk result (λ out. TextsAre out (IsChanged self.old.encoding (view params.now) self.old.documents self.new.documents) self.old.documents self.new.documents) }
+        ensures ignored { IfOk result (λ out. IsNothingOnlyFor (HasNoChange self.old.encoding (view params.now) self.old.documents) out) }
         ensures err { OnErr result (SameTexts self.old.documents self.new.documents) }
     {
         let Some(uri) = text_at(params, "/textDocument/uri") else {
@@ -212,6 +215,7 @@ impl Session {
         ensures stage { self.new.stage ≡ self.old.stage }
         ensures edits { IfOk result (λ out. IsEdit out) }
         ensures texts { IfOk result (λ out. TextsAre out (IsClosed (view params.now) self.old.documents self.new.documents) self.old.documents self.new.documents) }
+        ensures ignored { IfOk result (λ out. IsNothingOnlyFor (HasNoDocument (view params.now) self.old.documents) out) }
         ensures err { OnErr result (SameTexts self.old.documents self.new.documents) }
     {
         let Some(uri) = text_at(params, "/textDocument/uri") else {
@@ -230,6 +234,7 @@ impl Session {
         ensures stage { self.new.stage ≡ self.old.stage }
         ensures edits { IfOk result (λ out. IsEdit out) }
         ensures texts { IfOk result (λ out. TextsAre out (HasEffect method (view params.now) self.old.encoding self.old.documents self.new.documents) self.old.documents self.new.documents) }
+        ensures ignored { IfOk result (λ out. IsNothingOnlyFor (IsIgnored method (view params.now) self.old.encoding self.old.documents) out) }
         ensures err { OnErr result (SameTexts self.old.documents self.new.documents) }
     {
         match method {
@@ -285,6 +290,7 @@ impl Session {
         ensures silent { IfOk result (λ out. TakesNotification out) }
         ensures step { IfOk result (λ out. IsStep self.old.stage out self.new.stage) }
         ensures texts { IfOk result (λ out. TextsAre out (HasParamsEffect method (view message.now) self.old.encoding self.old.documents self.new.documents) self.old.documents self.new.documents) }
+        ensures ignored { IfOk result (λ out. self.old.stage ≡ Stage.Ready → IsNothingOnlyFor (IsIgnoredIn method (view message.now) self.old.encoding self.old.documents) out) }
         ensures err { OnErr result (SameTexts self.old.documents self.new.documents) }
     {
         match notification_decision(self.stage, method) {
@@ -336,6 +342,7 @@ impl Session {
     fn take_message(&mut self, message: Value) -> Result<Outcome, AllocError>
         ensures step { IfOk result (λ out. IsStep self.old.stage out self.new.stage) }
         ensures texts { IfOk result (λ out. TextsAre out (HasMessageEffect (view message) self.old.encoding self.old.documents self.new.documents) self.old.documents self.new.documents) }
+        ensures heard { IfOk result (λ out. IsHeard self.old.stage (view message) self.old.encoding self.old.documents out) }
         ensures err { OnErr result (SameTexts self.old.documents self.new.documents) }
         ensures left { IfOk result (λ out. IsLeft self.old.stage (view message) out) }
         ensures takes { IfOk result (λ out. Takes (view message) (method_of (view message)) (get (codes "id") (view message)) out) }
@@ -360,6 +367,7 @@ impl Session {
         ensures left { IfOk result (λ out. IsLeftOf body.now (stage_of self.old) out) }
         ensures step { IfOk result (λ out. IsStep (stage_of self.old) out (stage_of self.new)) }
         ensures texts { IfOk result (λ out. TextsAre out (HasBodyEffect body.now (encoding_of self.old) (documents_of self.old) (documents_of self.new)) (documents_of self.old) (documents_of self.new)) }
+        ensures heard { IfOk result (λ out. IsBodyHeard body.now (stage_of self.old) (encoding_of self.old) (documents_of self.old) out) }
         ensures err { OnErr result (SameTexts (documents_of self.old) (documents_of self.new)) }
     {
         let text = match std::str::from_utf8(body) {
