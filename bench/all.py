@@ -1,7 +1,8 @@
 #!/usr/bin/env python3
 """Measures the program and its builds, and writes docs/FIGURES.md.
 
-`all.py [--program PROGRAM] [PART..]` measures the parts that are named, or all but those of builds: each is a script of bench/ or tests/ with its words.
+`all.py [--program PROGRAM] [--server SERVER] [PART..]` measures the parts that are named, or all but those of builds: each is a script of bench/ or
+tests/ with its words. Without PROGRAM and SERVER, the proved program and language server are run.
 A part's section of the page is replaced, with the commit, the machine, the kit and the date of its figures; the others stay. The machine should do
 nothing else, but instructions don't depend on that. Ends with 1 if a script fails.
 """
@@ -13,6 +14,7 @@ import sys
 
 TOP = os.path.dirname(os.path.dirname(os.path.abspath(__file__)))
 sys.path.insert(0, os.path.join(TOP, "tools"))
+import lsp  # noqa: E402
 from measuring import PROVED, where  # noqa: E402
 
 PAGE = os.path.join(TOP, "docs", "FIGURES.md")
@@ -20,7 +22,7 @@ HEAD = """# Figures
 
 Written by `bench/all.py`, which runs the script that each heading names. Other documents cite this page.
 """
-PROGRAM = "PROGRAM"
+PROGRAM, SERVER = "PROGRAM", "SERVER"
 PARTS = {
     "workers": ["bench/workers.py", PROGRAM],
     "instructions": ["bench/instructions.py", PROGRAM],
@@ -31,6 +33,7 @@ PARTS = {
     "slips": ["bench/slips.py", "--program", PROGRAM, "--ghc", "--count", "16", "--seed", "601", "--seed", "602", "--seed", "603", "--seed", "604"],
     "forgotten": ["bench/forgotten.py", "--program", PROGRAM, "--count", "3", "--seed", "9101", "--seed", "9102", "--seed", "9103", "--seed", "9104"],
     "missing_tokens": ["bench/missing_tokens.py", PROGRAM, "40"],
+    "server": ["bench/server.py", SERVER],
     "deep": ["tests/deep.py", PROGRAM],
     "growth": ["tests/growth.py", PROGRAM],
     "newcomer": ["bench/newcomer.py"],
@@ -61,20 +64,21 @@ def write(found):
 
 
 def heading_of(words):
-    return f"`{' '.join(word for word in words if word not in ('--program', PROGRAM))}`"
+    return f"`{' '.join(word for word in words if word not in ('--program', PROGRAM, SERVER))}`"
 
 
 def main():
     words = argparse.ArgumentParser(description=__doc__, formatter_class=argparse.RawDescriptionHelpFormatter)
     words.add_argument("--program", default=PROVED)
+    words.add_argument("--server", default=lsp.PROVED)
     words.add_argument("parts", nargs="*", metavar="PART")
     given = words.parse_args()
     parts = given.parts or [name for name, (script, *_) in PARTS.items() if script not in BUILDS]
     if unknown := {*parts} - PARTS.keys():
         words.error(f"no part {' '.join(sorted(unknown))}; there are {' '.join(PARTS)}")
-    failed = False
+    failed, programs = False, {PROGRAM: os.path.abspath(given.program), SERVER: os.path.abspath(given.server)}
     for name in parts:
-        command = [os.path.abspath(given.program) if word == PROGRAM else word for word in PARTS[name]]
+        command = [programs.get(word, word) for word in PARTS[name]]
         ran = subprocess.run([sys.executable, *command], cwd=TOP, stdout=subprocess.PIPE, text=True)
         print(f"{name}: status {ran.returncode}\n{ran.stdout}", flush=True)
         failed |= ran.returncode != 0
