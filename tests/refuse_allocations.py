@@ -1,18 +1,25 @@
 #!/usr/bin/env python3
-"""Runs the program, and tests of single calls, with each of their allocations refused in turn.
+"""Runs the program, the language server, and tests of single calls, with each of their allocations refused in turn.
 
-`refuse_allocations.py [--program PROGRAM] [--tests TESTS..]`: without words, the proved program beside this folder; with TESTS, the tests
-of the crates `test_calls`, `test_builds` and `test_uses` too whose names are `refused::..` (`crates/NAME/out/NAME_tests`, after `rt ci`). A run of the
-program, with 1 and with 4 workers, must print the right text and end with the right status, or print nothing, say `hmc: no memory` and
+`refuse_allocations.py [--program PROGRAM] [--server SERVER] [--tests TESTS..]`: without words, the proved program beside this folder. With SERVER, the
+language server too. With TESTS, the tests of the crates `test_calls`, `test_builds` and `test_uses` too whose names are `refused::..`
+(`crates/NAME/out/NAME_tests`, after `rt ci`).
+
+A run of the program, with 1 and with 4 workers, must print the right text and end with the right status, or print nothing, say `hmc: no memory` and
 end with 3, or, where a thread could not be started, say `hmc: no worker` and end with 6. With messages, for readers and for programs, it may also
 leave the note of a type fault out, or its types, or name the module whose check was refused before it says `hmc: no memory`. Of a set whose types grow, the first,
-second, fourth, eighth .. allocation is refused, and of a run with messages one in some. A test must pass or end for want of memory, and the call that
-it is about must have been refused by some of the refusals. Ends with 1 where anything else came of a refusal.
+second, fourth, eighth .. allocation is refused, and of a run with messages and of a session with the server one in some.
+
+The server must send what it sends where nothing is refused. In place of a reply, or of diagnostics, it may say that there is no memory. Or it sends
+the first messages of that, and ends with 3. A test must pass or end for want of memory, and the call that it is about must have been refused by some
+of the refusals. Ends with 1 where anything else came of a refusal.
 """
 # Why: docs/DECISIONS.md, "Refused allocations", "Results of refusals".
 import argparse
 import collections
 import concurrent.futures
+import itertools
+import json
 import os
 import re
 import subprocess
@@ -20,6 +27,9 @@ import sys
 import tempfile
 
 TOP = os.path.dirname(os.path.dirname(os.path.abspath(__file__)))
+sys.path.insert(0, os.path.join(TOP, "tools"))
+import lsp  # noqa: E402
+
 SKIPPED = b"""module A where { x = y }
 module B where { import A ; import C }
 module C where { f x = x x }
@@ -53,7 +63,7 @@ skipped C
 """
 # How many seconds a run may take. A worker that waits for ever would hold up the gate.
 LIMIT = 60
-# How many runs with messages have an allocation refused, at least.
+# How many runs with messages, and sessions of the server, have an allocation refused, at least.
 EXPLAINED_RUNS = 1000
 # What a test prints first that ends for want of memory: before the call that it is about, or at that call.
 ERRORS = {
@@ -201,6 +211,75 @@ def refuse_in_messages(refusing, program):
     return well
 
 
+def session():
+    """Returns what a client sends that opens two documents, asks for a name, changes what it is, and asks again. Then the input ends."""
+
+    def about(name, **params):
+        return {"textDocument": {"uri": f"file:///{name}.hs", "languageId": "haskell", "version": 1}, **params}
+
+    def opening(name, text):
+        return {"method": "textDocument/didOpen", "params": {"textDocument": {**about(name)["textDocument"], "text": text}}}
+
+    def hover(number):
+        return {"id": number, "method": "textDocument/hover", "params": about("A", position={"line": 0, "character": 31})}
+
+    change = {"method": "textDocument/didChange", "params": about("A", contentChanges=[lsp.change((0, 21), (0, 24), "(1)")])}
+    start = [{"id": 1, "method": "initialize", "params": {}}, {"method": "initialized", "params": {}}]
+    texts = [opening("A", "module A where { x = 'c' ; y = x }"), opening("B", "module B where { z = w }")]
+    return b"".join(map(lsp.frame, [*start, *texts, hover(2), change, hover(3)]))
+
+
+def messages_in(printed):
+    """Returns the messages in what a server wrote; none if it isn't whole."""
+    found = []
+    while printed:
+        size = re.match(rb"Content-Length: (\d+)\r\n\r\n", printed)
+        if not size or len(printed) < size.end() + int(size[1]):
+            return None
+        found.append(json.loads(printed[size.end() : size.end() + int(size[1])]))
+        printed = printed[size.end() + int(size[1]) :]
+    return found
+
+
+def is_without_memory(message):
+    """Whether a message says that there is no memory for a reply, or for a check."""
+    return message.get("error", {}).get("code") == -32603 or message.get("method") == "window/showMessage"
+
+
+def ending_of_session(ran, messages):
+    """What came of a session, which has these messages where nothing is refused; none where it may not end so."""
+    found = messages_in(ran.stdout)
+    if found is None or len(found) > len(messages) or ran.stderr:
+        return None
+    lost = [number for number, (one, other) in enumerate(itertools.zip_longest(found, messages)) if one != other]
+    if any(number < len(found) and not is_without_memory(found[number]) for number in lost):
+        return None
+    # The documents have other texts at the two questions, so one of these has its reply.
+    if ran.returncode == 1 and len(found) == len(messages) and not {2, 3} <= {messages[number].get("id") for number in lost}:
+        return "no memory for a message" if lost else "right"
+    return "no memory" if ran.returncode == 3 else None
+
+
+def refuse_in_server(refusing, server):
+    """Refuses an allocation in some of a session."""
+    with tempfile.TemporaryDirectory() as folder:
+        words, given = [server, folder], session()
+        first = refusing.run(words, given, 0)
+        messages = messages_in(first.stdout) or []
+        total = refusing.total()
+        found = collections.Counter()
+        for number, ran in refusing.runs(words, given, range(1, total + 1, max(1, total // EXPLAINED_RUNS))):
+            end = ending_of_session(ran, messages)
+            found[end or "WRONG"] += 1
+            if end is None:
+                print(f"the server, allocation {number}: status {ran.returncode}: {ran.stderr[:200]!r} {ran.stdout[:400]!r}")
+    hovers = [it["result"]["contents"]["value"] for it in messages if it.get("id") in (2, 3)]
+    shown = [(it["params"]["uri"], [one["code"] for one in it["params"]["diagnostics"]]) for it in messages if it.get("method") == lsp.PUBLISHED]
+    is_right = first.returncode == 1 and ["type Char" in it for it in hovers] == [True, False] and shown == [("file:///B.hs", ["unbound"])]
+    print(f"the server: {total} allocations: {dict(found)}{'' if is_right else ', FAILS where nothing is refused'}", flush=True)
+    return is_right and not found["WRONG"]
+
+
 def names_of(tests):
     listed = subprocess.run([tests, "--list"], capture_output=True, text=True).stdout
     return [line.split(": test")[0] for line in listed.splitlines() if line.startswith("refused::") and line.endswith(": test")]
@@ -236,6 +315,7 @@ def ending_of_test(ran):
 def main():
     words = argparse.ArgumentParser(description=__doc__, formatter_class=argparse.RawDescriptionHelpFormatter)
     words.add_argument("--program", default=os.path.join(TOP, "crates", "hmc", "out", "hmc"))
+    words.add_argument("--server")
     words.add_argument("--tests", nargs="+", default=[])
     given = words.parse_args()
     with tempfile.TemporaryDirectory() as work:
@@ -243,6 +323,7 @@ def main():
         program = os.path.abspath(given.program)
         well = refuse_in_program(refusing, program)
         well &= refuse_in_messages(refusing, program)
+        well &= not given.server or refuse_in_server(refusing, os.path.abspath(given.server))
         well &= not given.tests or refuse_in_tests(refusing, [os.path.abspath(tests) for tests in given.tests])
     print("as they must be" if well else "NOT as they must be")
     return 0 if well else 1
