@@ -1,0 +1,5 @@
+mod Chosen
+mod Classes
+mod Referred
+mod Sought
+mod WorkedNames

@@ -1,0 +1,4 @@
+pub mod SetNames
+pub mod References
+pub mod Laws
+pub mod Worked

@@ -1,0 +1,13 @@
+//! Finds the names in the modules of a set that mean the same as the name at a place.
+//!
+//! [`SetUse`] is a use with the number of its module, and [`references_at`] looks among such uses.
+#![tactic(auto)]
+
+mod finding;
+pub mod laws;
+mod same;
+mod set_uses;
+mod spelling;
+
+pub use crate::finding::{Reference, references_at};
+pub use crate::set_uses::{SetUse, add_uses};
