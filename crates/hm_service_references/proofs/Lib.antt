@@ -1,0 +1,4 @@
+mod Crossing
+mod Looked
+mod Naming
+pub mod WorkedNames

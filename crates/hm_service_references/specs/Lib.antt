@@ -1,0 +1,4 @@
+pub mod Names
+pub mod Imported
+pub mod Views
+pub mod Worked
