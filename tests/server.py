@@ -130,6 +130,18 @@ def type_letters(it):
     it.row("the name after what was typed", hover is not None, True)
 
 
+def escape_letters(it):
+    """Opens a file of the folder by a URI with an escape that isn't needed. It is the same document."""
+    it.notify("textDocument/didClose", textDocument={"uri": it.uri("A.hs")})
+    other = {"uri": it.uri("%41.hs")}
+    it.notify("textDocument/didOpen", textDocument={**other, "languageId": "haskell", "version": 1, "text": A})
+    hover = it.ask("textDocument/hover", textDocument={"uri": it.uri("A.hs")}, position=position(A, "g ="))["result"]
+    it.row("a document by its other URI", hover is not None, True)
+    it.notify("textDocument/didChange", textDocument={"uri": it.uri("B.hs"), "version": 3}, contentChanges=[{"text": B}])
+    place = it.ask("textDocument/definition", textDocument={"uri": it.uri("B.hs")}, position=position(B, "m = g", 4))["result"]
+    it.row("a definition has the URI of the client", place and (place["uri"], place["range"]["start"]), (other["uri"], position(A, "g =")))
+
+
 def bad_input(it):
     it.write(b"Content-Length: 1\r\nContent-Length: 2\r\n\r\n")
     it.row("two lengths", it.reply()["error"]["code"], -32700)
@@ -152,7 +164,7 @@ def main(program=PROVED):
             with open(os.path.join(folder, name), "w", encoding="utf-8") as file:
                 file.write(text)
         it = Client(os.path.abspath(program), folder)
-        for part in (start_and_check, look, mend, type_letters, bad_input, finish):
+        for part in (start_and_check, look, mend, type_letters, escape_letters, bad_input, finish):
             part(it)
     print(f"{it.rows - it.wrong} of {it.rows} rows as wanted")
     return 1 if it.wrong else 0

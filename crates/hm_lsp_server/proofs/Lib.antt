@@ -1,2 +1,9 @@
-pub mod Replying
+pub mod Found
+pub mod Located
+pub mod OneReply
+pub mod Requests
+pub mod Publishing
+pub mod Serving
+pub mod Told
 pub mod WorkedReplies
+pub mod WorkedSources

@@ -1,18 +1,18 @@
-//! Replies to requests about the texts.
-
-ghost use Rattle.std.specs.Prelude.{IfOk};
+//! Results of requests about the texts.
+ghost use Rattle.std.specs.Prelude.{◌≡◌, IfNone, IfOk, IfSome, List, map, ℕ};
 ghost use Rattle.serde_json.specs.View.{view};
-ghost use Rattle.hm_lsp_session.specs.Replies.{IsReplyTo};
+ghost use Rattle.hm_lsp_server.specs.Asked.{IsFoundAt, IsReadText, IsSourceIn, IsSpotOf};
+ghost use Rattle.hm_lsp_server.specs.Results.{AreActions, IsActionsResult, IsBoundResult, IsDefinitionResult, IsHoverResult, actions_data};
 
 use crate::faults::ServerFault;
-use crate::sources::{Source, number_of};
-use crate::values::{action_value, hover_value, location_value};
-use hm_lsp_positions::{Encoding, Position, offset_of, position_of};
-use hm_lsp_session::{Method, Refusal, position_in, range_in, refusal, reply, text_at};
+use crate::sources::{Source, name_of, number_of};
+use hm_lsp_positions::{Encoding, Position, Range, offset_of, position_of};
+use hm_lsp_session::text_at;
+use hm_lsp_values::{action_value, hover_value, location_value, place_at};
 use hm_service::{
-    AtPlace, Checked, Columns, HeldSource, Position as Place, actions_in, diagnostics_of, place_of,
+    AtPlace, Bound, Checked, Diagnostic, HeldSource, actions_in, diagnostics_of, place_of,
 };
-use serde_json::{Value, json};
+use serde_json::Value;
 use std::alloc::{AllocError, Global};
 use std::sync::Wait;
 use std::thread::Threads;
@@ -28,172 +28,159 @@ pub(crate) struct Asked<'a> {
 }
 
 /// Returns the number of the source that a request names.
-fn source_in(asked: &Asked<'_>, request: &Value) -> Option<usize> {
-    number_of(asked.sources, text_at(request, "/params/textDocument/uri")?)
+pub(crate) fn source_in(asked: &Asked<'_>, request: &Value) -> Result<Option<usize>, AllocError>
+    ensures { IfOk result (IsSourceIn asked.now.sources.now (view request.now)) }
+{
+    match text_at(request, "/params/textDocument/uri") {
+        None => Ok(None),
+        Some(uri) => {
+            let name = name_of(asked.alloc, uri)?;
+            Ok(number_of(asked.sources, name.as_slice()))
+        }
+    }
 }
 
-/// Returns what the name at the position of a request means.
+/// Returns the text of a source, if it can be read.
+fn read_text<'a>(held: &'a [HeldSource], number: usize) -> Option<&'a [u8]>
+    ensures some { IfSome result (λ text. IsReadText held.now number text.now) }
+    ensures none { IfNone result ((text : List ℕ) → ¬ (IsReadText held.now number text)) }
+{
+    match held.get(number) {
+        None => None,
+        Some(source) => {
+            if source.is_read {
+                return Some(source.text.as_slice());
+            }
+            None
+        }
+    }
+}
+
+/// A place of a text, as the checker counts it: from 1, and in characters.
+#[derive(Clone, Copy)]
+struct Spot {
+    line: usize,
+    column: usize,
+}
+
+/// Returns the place of a position.
+fn spot_of(encoding: Encoding, text: &[u8], position: Position) -> Spot
+    ensures { IsSpotOf encoding text.now position result.line result.column }
+{
+    let offset = offset_of(encoding, text, position);
+    let place = position_of(Encoding::Utf32, text, offset);
+    Spot {
+        line: place.line + 1,
+        column: place.column + 1,
+    }
+}
+
+/// Returns what the name at a position means.
 fn name_at<T: Threads + Wait + Sync>(
     rt: &T,
     asked: &Asked<'_>,
     source: usize,
     position: Position,
-) -> Result<Option<AtPlace>, ServerFault> {
-    let Some(held) = asked.held.get(source) else {
+) -> Result<Option<AtPlace>, ServerFault>
+    ensures { IfOk result (IsFoundAt asked.now.encoding asked.now.held.now asked.now.checked.now source position) }
+{
+    let Some(text) = read_text(asked.held, source) else {
         return Ok(None);
     };
-    if !held.is_read {
+    let spot = spot_of(asked.encoding, text, position);
+    if spot.line > 4_294_967_295 {
         return Ok(None);
     }
-    let text = held.text.as_slice();
-    let place = position_of(
-        Encoding::Utf32,
-        text,
-        offset_of(asked.encoding, text, position),
-    );
-    let Ok(line) = u32::try_from(place.line.saturating_add(1)) else {
-        return Ok(None);
-    };
-    Ok(place_of(
-        rt,
-        asked.alloc,
-        asked.checked,
-        source,
-        line,
-        place.column.saturating_add(1),
-    )?)
-}
-
-/// Returns the place of a position in a text, in all units.
-fn place_at(encoding: Encoding, text: &[u8], position: Position) -> Place {
-    let offset = offset_of(encoding, text, position);
-    let found = position_of(Encoding::Utf8, text, offset);
-    let characters = position_of(Encoding::Utf32, text, offset)
-        .column
-        .saturating_add(1);
-    let utf16 = position_of(Encoding::Utf16, text, offset)
-        .column
-        .saturating_add(1);
-    Place {
-        line: found.line.saturating_add(1),
-        columns: Columns {
-            bytes: found.column.saturating_add(1),
-            characters,
-            utf16,
-        },
+    let line = spot.line as u32;
+    match place_of(rt, asked.alloc, asked.checked, source, line, spot.column) {
+        Ok(found) => Ok(found),
+        Err(_) => Err(ServerFault),
     }
-}
-
-/// Returns the actions for a range of a source.
-fn actions(
-    asked: &Asked<'_>,
-    source: usize,
-    start: Position,
-    end: Position,
-) -> Result<Value, AllocError> {
-    let mut values = Vec::new(asked.alloc);
-    let (Some(held), Some(named)) = (asked.held.get(source), asked.sources.get(source)) else {
-        return Ok(Value::Array(values));
-    };
-    if held.is_read {
-        let text = held.text.as_slice();
-        let start = place_at(asked.encoding, text, start);
-        let end = place_at(asked.encoding, text, end);
-        let found = diagnostics_of(asked.alloc, asked.held, asked.checked, source)?;
-        for diagnostic in actions_in(asked.alloc, &found, start, end)? {
-            let uri = named.uri.as_str();
-            values.push(action_value(asked.alloc, asked.encoding, uri, diagnostic)?)?;
-        }
-    }
-    Ok(Value::Array(values))
-}
-
-/// Returns the place where the name at a position is bound, or null.
-fn definition<T: Threads + Wait + Sync>(
-    rt: &T,
-    asked: &Asked<'_>,
-    source: usize,
-    position: Position,
-) -> Result<Value, ServerFault> {
-    let Some(found) = name_at(rt, asked, source, position)? else {
-        return Ok(Value::Null);
-    };
-    let Some(bound) = &found.bound else {
-        return Ok(Value::Null);
-    };
-    let (Some(held), Some(named)) = (
-        asked.held.get(bound.source),
-        asked.sources.get(bound.source),
-    ) else {
-        return Ok(Value::Null);
-    };
-    let uri = named.uri.as_str();
-    let text = held.standing.as_slice();
-    Ok(location_value(asked.alloc, asked.encoding, uri, text, bound)?)
 }
 
 /// Returns what is shown of the name at a position, or null.
-fn hover<T: Threads + Wait + Sync>(
+pub(crate) fn hover<T: Threads + Wait + Sync>(
     rt: &T,
     asked: &Asked<'_>,
     source: usize,
     position: Position,
-) -> Result<Value, ServerFault> {
+) -> Result<Value, ServerFault>
+    ensures { IfOk result (λ value. IsHoverResult asked.now.encoding asked.now.held.now asked.now.checked.now source position (view value)) }
+{
     match name_at(rt, asked, source, position)? {
         Some(found) => Ok(hover_value(asked.alloc, found.text.as_str())?),
         None => Ok(Value::Null),
     }
 }
 
-/// Returns the result of a request, or `None` if its parameters aren't valid.
-fn result_of<T: Threads + Wait + Sync>(
+/// Returns the place where a name is bound, or null if its source isn't there.
+fn bound_value(asked: &Asked<'_>, bound: &Bound) -> Result<Value, AllocError>
+    ensures { IfOk result (λ value. IsBoundResult asked.now.encoding asked.now.sources.now asked.now.held.now bound.now (view value)) }
+{
+    let Some(held) = asked.held.get(bound.source) else {
+        return Ok(Value::Null);
+    };
+    let Some(named) = asked.sources.get(bound.source) else {
+        return Ok(Value::Null);
+    };
+    let (uri, text) = (named.uri.as_str(), held.standing.as_slice());
+    location_value(asked.alloc, asked.encoding, uri, text, bound)
+}
+
+/// Returns the place where the name at a position is bound, or null.
+pub(crate) fn definition<T: Threads + Wait + Sync>(
     rt: &T,
     asked: &Asked<'_>,
-    method: Method,
-    request: &Value,
-) -> Result<Option<Value>, ServerFault> {
-    let Some(source) = source_in(asked, request) else {
-        return Ok(None);
-    };
-    let position = request.pointer("/params/position").and_then(position_in);
-    let range = request.pointer("/params/range").and_then(range_in);
-    match (method, position, range) {
-        (Method::Hover, Some(position), _) => Ok(Some(hover(rt, asked, source, position)?)),
-        (Method::Definition, Some(position), _) => {
-            Ok(Some(definition(rt, asked, source, position)?))
-        }
-        (Method::CodeAction, _, Some(range)) => {
-            Ok(Some(actions(asked, source, range.start, range.end)?))
-        }
-        _ => Ok(None),
+    source: usize,
+    position: Position,
+) -> Result<Value, ServerFault>
+    ensures { IfOk result (λ value. IsDefinitionResult asked.now.encoding asked.now.sources.now asked.now.held.now asked.now.checked.now source position (view value)) }
+{
+    match name_at(rt, asked, source, position)? {
+        None => Ok(Value::Null),
+        Some(found) => match &found.bound {
+            None => Ok(Value::Null),
+            Some(bound) => Ok(bound_value(asked, bound)?),
+        },
     }
 }
 
-/// Returns the reply to a request for which memory ran out.
-pub(crate) fn failure(alloc: Global, id: &Value) -> Result<Value, AllocError>
-    ensures { IfOk result (λ made. IsReplyTo (view id.now) (view made)) }
+/// Returns the actions of diagnostics in the document with this URI, in order.
+fn action_values(asked: &Asked<'_>, uri: &str, chosen: &[&Diagnostic]) -> Result<Value, AllocError>
+    ensures { IfOk result (λ value. view value ≡ actions_data asked.now.encoding uri.now (map (λ d. d.now) chosen.now)) }
 {
-    json!(in alloc; {"error": {"code": (-32603), "message": "no memory"}, "id": id, "jsonrpc": "2.0"})
+    let mut values = Vec::new(asked.alloc);
+    'actions: for diagnostic in chosen {
+        values.push(action_value(asked.alloc, asked.encoding, uri, *diagnostic)?)?;
+    }
+    Ok(Value::Array(values))
 }
 
-/// Returns the reply to a request with this identifier.
-pub(crate) fn replied<T: Threads + Wait + Sync>(
-    rt: &T,
+/// Returns the actions for a range of a source whose text is this one.
+fn actions_of(
     asked: &Asked<'_>,
-    id: &Value,
-    request: &Value,
+    source: usize,
+    text: &[u8],
+    range: Range,
 ) -> Result<Value, AllocError>
-    ensures { IfOk result (λ made. IsReplyTo (view id.now) (view made)) }
+    ensures { IfOk result (λ value. AreActions asked.now.encoding asked.now.sources.now asked.now.held.now asked.now.checked.now source text.now range (view value)) }
 {
-    let method = Method::of(text_at(request, "/method").unwrap_or(""));
-    match result_of(rt, asked, method, request) {
-        Ok(Some(result)) => reply(asked.alloc, id, result),
-        Ok(None) => refusal(
-            asked.alloc,
-            id,
-            Refusal::InvalidParams,
-            "these parameters aren't valid",
-        ),
-        Err(_) => failure(asked.alloc, id),
+    let Some(named) = asked.sources.get(source) else {
+        return Ok(Value::Array(Vec::new(asked.alloc)));
+    };
+    let start = place_at(asked.encoding, text, range.start);
+    let end = place_at(asked.encoding, text, range.end);
+    let found = diagnostics_of(asked.alloc, asked.held, asked.checked, source)?;
+    let chosen = actions_in(asked.alloc, found.as_slice(), start, end)?;
+    action_values(asked, named.uri.as_str(), chosen.as_slice())
+}
+
+/// Returns the actions for a range of a source.
+pub(crate) fn actions(asked: &Asked<'_>, source: usize, range: Range) -> Result<Value, AllocError>
+    ensures { IfOk result (λ value. IsActionsResult asked.now.encoding asked.now.sources.now asked.now.held.now asked.now.checked.now source range (view value)) }
+{
+    match read_text(asked.held, source) {
+        None => Ok(Value::Array(Vec::new(asked.alloc))),
+        Some(text) => actions_of(asked, source, text, range),
     }
 }

@@ -6,10 +6,11 @@
 mod asking;
 mod faults;
 pub mod laws;
+mod replying;
 mod server;
 mod sources;
+mod telling;
 mod uris;
-mod values;
 
 pub use crate::server::{Server, SourceFile, Taken};
 pub use crate::uris::{path_of, uri_of};

@@ -1,18 +1,23 @@
 //! The server: the session of a client, and the sources that are held for it.
 
-ghost use Rattle.std.specs.Prelude.{◌≡◌, IfOk, Some, codes, map, option_to_list};
+ghost use Rattle.std.specs.Prelude.{◌≡◌, ◌++◌, IfOk, List, ℕ, None, OnOk, Some, codes, map, option_to_list};
 ghost use Rattle.serde_json.specs.Data.{Data};
 ghost use Rattle.serde_json.specs.Find.{get};
 ghost use Rattle.serde_json.specs.View.{view};
-ghost use Rattle.hm_lsp_session.specs.Replies.{IsReplyTo};
+ghost use Rattle.hm_lsp_session.specs.Replies.{IsReplyTo, method_of};
+ghost use Rattle.hm_lsp_session.specs.Stages.{method_named};
+ghost use Rattle.hm_lsp_server.specs.Published.{IsPublished, no_check_notice};
 ghost use Rattle.hm_lsp_server.specs.Replied.{IsReplyOf};
+ghost use Rattle.hm_lsp_server.specs.Served.{IsServed, IsServedBy};
+ghost use Rattle.hm_lsp_server.specs.Servers.{IsCurrent, checked_of, held_of, session_of, shown_of, sources_of};
 
-use crate::asking::{Asked, failure, replied};
-use crate::sources::{Source, number_of};
+use crate::asking::Asked;
+use crate::replying::{failure, replied};
+use crate::sources::{Source, name_of, number_of};
+use crate::telling::tell;
 use crate::uris::uri_of;
-use crate::values::diagnostic_value;
-use hm_lsp_session::{Document, Outcome, Session, Stage, notice};
-use hm_service::{Checked, HeldSource, change, check, diagnostics_of};
+use hm_lsp_session::{Document, Method, Outcome, Session, Stage, notice};
+use hm_service::{Checked, HeldSource, change, check};
 use serde_json::{Value, json};
 use std::alloc::{AllocError, Global};
 use std::sync::Wait;
@@ -61,6 +66,8 @@ pub struct Server {
     session: Session,
     sources: Vec<Source>,
     held: Vec<HeldSource>,
+    /// Of which sources the client shows diagnostics.
+    shown: Vec<bool>,
     /// The last check, unless the texts have changed since.
     checked: Option<Checked>,
     /// Whether the check of these texts ran out of memory. It isn't tried again before they change.
@@ -75,17 +82,20 @@ impl Server {
         rt: &T,
         alloc: Global,
         files: Vec<SourceFile>,
-    ) -> Result<Server, AllocError> {
+    ) -> Result<Server, AllocError>
+        ensures { IfOk result IsCurrent }
+    {
         let mut server = Server {
             alloc,
             session: Session::new(alloc),
             sources: Vec::new(alloc),
             held: Vec::new(alloc),
+            shown: Vec::new(alloc),
             checked: None,
             has_failed: false,
             is_changed: true,
         };
-        for file in files {
+        'files: for file in files {
             let uri = uri_of(alloc, file.path.as_str())?;
             let number = server.add(uri, Vec::from_slice(alloc, file.text.as_slice())?)?;
             server.hold(rt, number, file.text)?;
@@ -93,38 +103,74 @@ impl Server {
         Ok(server)
     }
 
+    /// Forgets the check, because the texts change.
+    fn forget(&mut self)
+        ensures { checked_of self.new ≡ None }
+    {
+        self.checked = None;
+        self.has_failed = false;
+    }
+
     /// Adds a source, and returns its number.
-    fn add(&mut self, uri: String, file: Vec<u8>) -> Result<usize, AllocError> {
+    fn add(&mut self, uri: String, file: Vec<u8>) -> Result<usize, AllocError>
+        ensures { IsCurrent self.new }
+    {
+        self.forget();
         let number = self.sources.len();
+        let name = name_of(self.alloc, uri.as_str())?;
         self.held.push(HeldSource::new(self.alloc))?;
-        self.sources.push(Source {
-            uri,
-            file,
-            is_shown: false,
-        })?;
+        self.sources.push(Source { uri, name, file })?;
         Ok(number)
     }
 
+    /// Returns whether a source has a text. One that isn't there has any.
+    fn has_text(&self, number: usize, text: &[u8]) -> bool {
+        match self.held.get(number) {
+            Some(held) => held.text.as_slice() == text,
+            None => true,
+        }
+    }
+
     /// Gives a source a text, unless it has it.
-    fn hold<T: Threads>(&mut self, rt: &T, number: usize, text: Vec<u8>) -> Result<(), AllocError> {
+    fn hold<T: Threads>(&mut self, rt: &T, number: usize, text: Vec<u8>) -> Result<(), AllocError>
+        requires { IsCurrent self.old }
+        ensures { IsCurrent self.new }
+    {
+        if self.has_text(number, text.as_slice()) {
+            return Ok(());
+        }
+        self.forget();
+        self.is_changed = true;
         let Some(held) = self.held.get_mut(number) else {
             return Ok(());
         };
-        if held.text.as_slice() == text.as_slice() {
+        match change(rt, self.alloc, held, text) {
+            Ok(()) => Ok(()),
+            Err(_) => Err(AllocError),
+        }
+    }
+
+    /// Gives a source the URI that the client writes.
+    fn set_uri(&mut self, number: usize, uri: &str) -> Result<(), AllocError>
+        requires { IsCurrent self.old }
+        ensures { IsCurrent self.new }
+    {
+        let Some(source) = self.sources.get_mut(number) else {
             return Ok(());
+        };
+        if source.uri.as_str() != uri {
+            source.uri = String::from_str(self.alloc, uri)?;
         }
-        if change(rt, self.alloc, held, text).is_err() {
-            return Err(AllocError);
-        }
-        self.checked = None;
-        self.has_failed = false;
-        self.is_changed = true;
         Ok(())
     }
 
     /// Returns the number of the source of a document, which is added if there is none.
-    fn source_of(&mut self, uri: &str) -> Result<usize, AllocError> {
-        match number_of(&self.sources, uri) {
+    fn source_of(&mut self, uri: &str) -> Result<usize, AllocError>
+        requires { IsCurrent self.old }
+        ensures { IsCurrent self.new }
+    {
+        let name = name_of(self.alloc, uri)?;
+        match number_of(&self.sources, name.as_slice()) {
             Some(number) => Ok(number),
             None => self.add(String::from_str(self.alloc, uri)?, Vec::new(self.alloc)),
         }
@@ -140,13 +186,30 @@ impl Server {
         Vec::from_slice(self.alloc, text)
     }
 
-    /// Holds the text of a document.
-    fn hold_document<T: Threads>(&mut self, rt: &T, index: usize) -> Result<(), AllocError> {
+    /// Returns whether a source has this URI as it is written.
+    fn has_uri(&self, number: usize, uri: &str) -> bool {
+        match self.sources.get(number) {
+            Some(source) => source.uri.as_str() == uri,
+            None => false,
+        }
+    }
+
+    /// Holds the text of a document. One that is closed counts no more if the client writes another URI for its source.
+    fn hold_document<T: Threads>(&mut self, rt: &T, index: usize) -> Result<(), AllocError>
+        requires { IsCurrent self.old }
+        ensures { IsCurrent self.new }
+    {
         let Some(document) = self.session.documents().as_slice().get(index) else {
             return Ok(());
         };
         let uri = String::from_str(self.alloc, document.uri.as_str())?;
+        let is_open = document.text.is_some();
         let number = self.source_of(uri.as_str())?;
+        if is_open {
+            self.set_uri(number, uri.as_str())?;
+        } else if !self.has_uri(number, uri.as_str()) {
+            return Ok(());
+        }
         let Some(document) = self.session.documents().as_slice().get(index) else {
             return Ok(());
         };
@@ -155,8 +218,11 @@ impl Server {
     }
 
     /// Holds the texts of the client's documents.
-    fn hold_documents<T: Threads>(&mut self, rt: &T) -> Result<(), AllocError> {
-        for index in 0..self.session.documents().as_slice().len() {
+    fn hold_documents<T: Threads>(&mut self, rt: &T) -> Result<(), AllocError>
+        requires { IsCurrent self.old }
+        ensures { IsCurrent self.new }
+    {
+        'documents: for index in 0..self.session.documents().as_slice().len() {
             self.hold_document(rt, index)?;
         }
         Ok(())
@@ -164,7 +230,14 @@ impl Server {
 
     // Why: docs/DECISIONS.md, "Checks that fail".
     /// Checks the texts, unless that was tried.
-    fn refresh<T: Threads + Wait + Sync>(&mut self, rt: &T) {
+    fn refresh<T: Threads + Wait + Sync>(&mut self, rt: &T)
+        requires { IsCurrent self.old }
+        ensures current { IsCurrent self.new }
+        ensures held { self.new.held ≡ self.old.held }
+        ensures sources { self.new.sources ≡ self.old.sources }
+        ensures shown { self.new.shown ≡ self.old.shown }
+        ensures session { self.new.session ≡ self.old.session }
+    {
         if self.checked.is_some() || self.has_failed {
             return;
         }
@@ -180,7 +253,10 @@ impl Server {
         rt: &T,
         request: &Value,
     ) -> Result<Value, AllocError>
-        ensures { IfOk result (λ made. (id : Data) → get (codes "id") (view request.now) ≡ Some id → IsReplyTo id (view made)) }
+        requires { IsCurrent self.old }
+        ensures current { IsCurrent self.new }
+        ensures served { IfOk result (λ made. (name : List ℕ) (id : Data) → method_of (view request.now) ≡ Some name → get (codes "id") (view request.now) ≡ Some id → IsServedBy self.new (method_named name) (view request.now) id (view made)) }
+        ensures reply { IfOk result (λ made. (id : Data) → get (codes "id") (view request.now) ≡ Some id → IsReplyTo id (view made)) }
     {
         let Some(id) = request.get("id") else {
             return failure(self.alloc, &Value::Null);
@@ -196,7 +272,7 @@ impl Server {
             held: &self.held,
             checked,
         };
-        replied(rt, &asked, id, request)
+        replied(rt, &asked, method_in(request), id, request)
     }
 
     /// Takes the body of a message, and returns what follows from it.
@@ -209,7 +285,10 @@ impl Server {
         rt: &T,
         body: &[u8],
     ) -> Result<Taken, AllocError>
-        ensures { IfOk result (λ t. IsReplyOf body.now (map view (option_to_list t.reply))) }
+        requires current { IsCurrent self.old }
+        ensures reply { IfOk result (λ t. IsReplyOf body.now (map view (option_to_list t.reply))) }
+        ensures served { IfOk result (λ t. IsServed self.old self.new body.now (map view (option_to_list t.reply))) }
+        ensures current { IsCurrent self.new }
     {
         match self.session.take(body)? {
             Outcome::Reply(reply) => Ok(Taken::reply(reply)),
@@ -226,30 +305,6 @@ impl Server {
         }
     }
 
-    /// Returns the notification with the diagnostics of a source, or `None` if it has none and the client shows none.
-    fn published(&mut self, number: usize) -> Result<Option<Value>, AllocError> {
-        let Some(checked) = &self.checked else {
-            return Ok(None);
-        };
-        let Some(source) = self.sources.get_mut(number) else {
-            return Ok(None);
-        };
-        let found = diagnostics_of(self.alloc, &self.held, checked, number)?;
-        if found.is_empty() && !source.is_shown {
-            return Ok(None);
-        }
-        let mut values = Vec::new(self.alloc);
-        for diagnostic in found.as_slice() {
-            values.push(diagnostic_value(self.alloc, self.session.encoding(), diagnostic)?)?;
-        }
-        let values = Value::Array(values);
-        let uri = source.uri.as_str();
-        let params = json!(in self.alloc; {"diagnostics": values, "uri": uri})?;
-        let made = notice(self.alloc, "textDocument/publishDiagnostics", params)?;
-        source.is_shown = !found.is_empty();
-        Ok(Some(made))
-    }
-
     /// Adds the diagnostics of all sources, if the texts have changed since the last call and the client has initialized the server. If memory runs
     /// out in the check, a message says so, and the client shows the diagnostics of before.
     ///
@@ -260,23 +315,58 @@ impl Server {
         &mut self,
         rt: &T,
         sent: &mut Vec<Value>,
-    ) -> Result<(), AllocError> {
+    ) -> Result<(), AllocError>
+        requires current { IsCurrent self.old }
+        ensures current { IsCurrent self.new }
+        ensures held { held_of self.new ≡ held_of self.old }
+        ensures sources { sources_of self.new ≡ sources_of self.old }
+        ensures session { session_of self.new ≡ session_of self.old }
+        ensures published { OnOk result ((new : List Data) × (map view sent.new.items ≡ map view sent.old.items ++ new) × IsPublished self.old self.new new) }
+    {
         if !self.is_changed || self.session.stage() != Stage::Ready {
             return Ok(());
         }
         self.is_changed = false;
         self.refresh(rt);
-        if self.checked.is_none() {
-            let params =
-                json!(in self.alloc; {"message": "hmc: no memory for a check of these sources", "type": 1})?;
-            sent.push(notice(self.alloc, "window/showMessage", params)?)?;
-            return Ok(());
-        }
-        for number in 0..self.sources.len() {
-            if let Some(made) = self.published(number)? {
-                sent.push(made)?;
+        match &self.checked {
+            None => {
+                sent.push(no_check(self.alloc)?)?;
+                Ok(())
+            }
+            Some(checked) => {
+                let asked = Asked {
+                    alloc: self.alloc,
+                    encoding: self.session.encoding(),
+                    sources: &self.sources,
+                    held: &self.held,
+                    checked,
+                };
+                let shown = tell(&asked, &self.shown, sent)?;
+                self.shown = shown;
+                Ok(())
             }
         }
-        Ok(())
     }
+}
+
+/// Returns the method of a request.
+fn method_in(request: &Value) -> Method
+    ensures { (name : List ℕ) → method_of (view request.now) ≡ Some name → result ≡ method_named name }
+{
+    match request.get("method") {
+        None => Method::Unknown,
+        Some(name) => match name.as_str() {
+            None => Method::Unknown,
+            Some(name) => Method::of(name),
+        },
+    }
+}
+
+/// Returns the message that memory ran out in a check.
+fn no_check(alloc: Global) -> Result<Value, AllocError>
+    ensures { IfOk result (λ made. view made ≡ no_check_notice) }
+{
+    let params =
+        json!(in alloc; {"message": "hmc: no memory for a check of these sources", "type": 1})?;
+    notice(alloc, "window/showMessage", params)
 }

@@ -1,16 +1,41 @@
 //! The sources of a server, without the texts that are held for them.
+ghost use Rattle.std.specs.Prelude.{◌≡◌, IfOk};
+ghost use Rattle.percent_encoding.specs.Percent.{percent_decode};
+ghost use Rattle.hm_lsp_server.specs.Asked.{IsNumberOf};
 
+use percent_encoding::percent_decode;
+use std::alloc::{AllocError, Global};
+
+// Why: docs/DECISIONS.md, "Names of sources".
 /// A source, whose text is held beside.
 #[derive(Drop)]
 pub(crate) struct Source {
+    /// Its URI, as the client writes it.
     pub(crate) uri: String,
+    /// Its URI without escapes.
+    pub(crate) name: Vec<u8>,
     /// Its text on the disk, which it has when the client closes it.
     pub(crate) file: Vec<u8>,
-    /// Whether the client was sent diagnostics that it still shows.
-    pub(crate) is_shown: bool,
 }
 
-/// Returns the number of the source with this URI.
-pub(crate) fn number_of(sources: &[Source], uri: &str) -> Option<usize> {
-    sources.iter().position(|source| source.uri.as_str() == uri)
+/// Returns a URI without escapes. Two URIs of one document differ at most in what they escape.
+pub(crate) fn name_of(alloc: Global, uri: &str) -> Result<Vec<u8>, AllocError>
+    ensures { IfOk result (λ name. name.items ≡ percent_decode uri.now) }
+{
+    let mut name = Vec::new(alloc);
+    percent_decode(uri.as_bytes()).append_to(&mut name)?;
+    Ok(name)
+}
+
+/// Returns the number of the first source with this name.
+pub(crate) fn number_of(sources: &[Source], name: &[u8]) -> Option<usize>
+    ensures { IsNumberOf sources.now name.now result }
+{
+    'sources: for index in 0..sources.len() {
+        let source = &sources[index];
+        if source.name.as_slice() == name {
+            return Some(index);
+        }
+    }
+    None
 }

@@ -5,6 +5,8 @@
 
 mod disk;
 
+ghost use Rattle.hm_lsp_server.specs.Servers.{IsCurrent};
+
 use crate::disk::sources_below;
 use hm_lsp_frames::{Frame, Frames, framed};
 use hm_lsp_server::{Server, Taken};
@@ -17,20 +19,16 @@ use std::thread::Threads;
 use std::{env, slice};
 
 /// Writes messages as frames. Returns whether all could be written.
-fn send(rt: &HostRuntime, sent: &[Value]) -> bool {
+fn send(rt: &HostRuntime, sent: &[Value]) -> Result<bool, AllocError> {
     let mut stdout = rt.stdout();
     for value in sent {
-        let Ok(text) = value.to_string(rt.alloc()) else {
-            return false;
-        };
-        let Ok(frame) = framed(rt.alloc(), text.as_bytes()) else {
-            return false;
-        };
+        let text = value.to_string(rt.alloc())?;
+        let frame = framed(rt.alloc(), text.as_bytes())?;
         if stdout.write_all(&frame).is_err() {
-            return false;
+            return Ok(false);
         }
     }
-    stdout.flush().is_ok()
+    Ok(stdout.flush().is_ok())
 }
 
 /// Returns the reply to what is no message.
@@ -44,7 +42,10 @@ fn take_frame<T: Threads + Wait + Sync>(
     alloc: Global,
     server: &mut Server,
     frame: Frame,
-) -> Result<Taken, AllocError> {
+) -> Result<Taken, AllocError>
+    requires { IsCurrent server.old }
+    ensures { IsCurrent server.new }
+{
     let reply = match frame {
         Frame::Body(body) => return server.take(rt, &body),
         Frame::TooLong => protocol_error(alloc, -32600, "this message is too long")?,
@@ -62,14 +63,17 @@ fn take_all<T: Threads + Wait + Sync>(
     host: &HostRuntime,
     server: &mut Server,
     frames: &mut Frames,
-) -> Result<Option<u8>, AllocError> {
-    for _ in 0..u64::MAX {
+) -> Result<Option<u8>, AllocError>
+    requires { IsCurrent server.old }
+    ensures { IsCurrent server.new }
+{
+    'frames: for _ in 0..u64::MAX {
         let Some(frame) = frames.next()? else {
             return Ok(None);
         };
         let taken = take_frame(rt, host.alloc(), server, frame)?;
         if let Some(reply) = &taken.reply {
-            if !send(host, slice::from_ref(reply)) {
+            if !send(host, slice::from_ref(reply))? {
                 return Ok(Some(4));
             }
         }
@@ -87,7 +91,10 @@ fn take_bytes<T: Threads + Wait + Sync>(
     server: &mut Server,
     frames: &mut Frames,
     bytes: &[u8],
-) -> Result<Option<u8>, AllocError> {
+) -> Result<Option<u8>, AllocError>
+    requires { IsCurrent server.old }
+    ensures { IsCurrent server.new }
+{
     frames.add(bytes)?;
     if let Some(status) = take_all(rt, host, server, frames)? {
         return Ok(Some(status));
@@ -97,7 +104,7 @@ fn take_bytes<T: Threads + Wait + Sync>(
     }
     let mut sent = Vec::new(host.alloc());
     server.publish(rt, &mut sent)?;
-    Ok(if send(host, &sent) { None } else { Some(4) })
+    Ok(if send(host, &sent)? { None } else { Some(4) })
 }
 
 /// Returns the folder that the command line names, if it names one.
@@ -127,7 +134,7 @@ fn serve<T: Threads + Wait + Sync>(rt: &T, host: &HostRuntime) -> Result<u8, All
     let mut frames = Frames::new(alloc);
     let mut stdin = host.stdin();
     let mut buffer = [0u8; 65536];
-    for _ in rt.forever() {
+    'reads: for _ in rt.forever() {
         let Ok(count) = stdin.read(&mut buffer) else {
             return Ok(1);
         };

@@ -8,9 +8,10 @@ changes-init c = (search rules, search rules)
 
 pub changes-preserved : goal.changes-preserved
 changes-preserved c =
-    let applied = subst (λ (t : List ℕ). IsApplied c.args.encoding t c.change-item.result c.in-Ok.next.items) c.as_slice.ensures.value c.in-Ok.ensures.made in
-    (one_applied c.args.encoding c.args.text.now c.changes.made.items c.in-Ok.next.items c.args.changes.now c.changes.change-index c.change-item.result (search rules) (search rules) applied c.changes.invariant.0,
-    one_passed c.args.encoding c.args.text.now c.changes.made.items c.in-Ok.next.items c.args.changes.now c.changes.change-index c.change-item.result (search rules) (search rules) applied c.changes.invariant.1)
+    let applied = subst (λ (t : List ℕ). IsApplied c.args.encoding t c.change-item.result c.in-Ok.next.items) c.as_slice.ensures.value c.in-Ok.ensures.made in (
+      one_applied c.args.encoding c.args.text.now c.changes.made.items c.in-Ok.next.items c.args.changes.now c.changes.change-index c.change-item.result (search rules) (search rules) applied c.changes.invariant.0,
+      one_passed c.args.encoding c.args.text.now c.changes.made.items c.in-Ok.next.items c.args.changes.now c.changes.change-index c.change-item.result (search rules) (search rules) applied c.changes.invariant.1,
+    )
 
 pub returns-clause-made : goal.returns-clause-made
 returns-clause-made c = all_applied c.args.encoding c.args.text.now c.changes.made.items c.args.changes.now c.changes.change-index (search rules) c.changes.invariant.0

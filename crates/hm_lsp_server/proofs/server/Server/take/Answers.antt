@@ -1,25 +1,50 @@
-use Rattle.std.proofs.Common.{inl, inr, map, option_to_list, refl, subst, sym}
+use Rattle.std.proofs.Common.{inl, inr, map, option_to_list, subst, sym}
 use Rattle.serde_json.specs.View.{view}
-use Rattle.hm_lsp_session.specs.Replies.{TakesBody}
+use Rattle.hm_lsp_session.specs.Replies.{IsAsked, IsLeftOf, TakesBody}
+use Rattle.hm_lsp_session.specs.Steps.{stage_of}
 use Rattle.hm_lsp_server.specs.Replied.{IsReplyOf}
-use Rattle.hm_lsp_server.proofs.Replying.{body_asked, body_none, body_reply}
+use Rattle.hm_lsp_server.specs.Served.{IsServed}
+use Rattle.hm_lsp_server.proofs.OneReply.{body_asked, body_none, body_reply}
+use Rattle.hm_lsp_server.proofs.Serving.{never_left, served_asked}
 use Rattle.hm_lsp_server.proofs.server.Server.take.Goals as goal
 
-pub returns-in-Reply : goal.returns-in-Reply
-returns-in-Reply g c =
+pub returns-in-Reply-clause-reply : goal.returns-in-Reply-clause-reply
+returns-in-Reply-clause-reply g c =
     let t = subst (TakesBody c.args.body.now) c.in-Reply.is c.in_ok-reply.ensures.takes in
     subst (λ r. IsReplyOf c.args.body.now (map view (option_to_list r))) (sym c.reply.ensures) (body_reply c.args.body.now c.in-Reply.reply t)
 
-pub returns-in_ok-answer-in-Ask : goal.returns-in_ok-answer-in-Ask
-returns-in_ok-answer-in-Ask g c =
+pub returns-in-Reply-clause-served : goal.returns-in-Reply-clause-served
+returns-in-Reply-clause-served g c message name id u e n i ready is =
+    absurd (never_left c.args.self.now c.args.body.now c.in_ok-reply.field-0 c.in_ok-reply.ensures.left (λ m h. subst (IsAsked m) c.in-Reply.is h) message name id u e n i ready is)
+
+pub returns-in_ok-answer-in-Ask-clause-reply : goal.returns-in_ok-answer-in-Ask-clause-reply
+returns-in_ok-answer-in-Ask-clause-reply g c =
     let t = subst (TakesBody c.args.body.now) c.in-Ask.is c.in_ok-reply.ensures.takes in
-    subst (λ r. IsReplyOf c.args.body.now (map view (option_to_list r))) (sym c.reply-in-Ask.ensures) (body_asked c.args.body.now c.in-Ask.request c.in_ok-answer-in-Ask.field-0 t c.in_ok-answer-in-Ask.ensures)
+    subst (λ r. IsReplyOf c.args.body.now (map view (option_to_list r))) (sym c.reply-in-Ask.ensures) (body_asked c.args.body.now c.in-Ask.request c.in_ok-answer-in-Ask.field-0 t c.in_ok-answer-in-Ask.ensures.reply)
 
-pub returns-in_ok-hold_documents-in-Changed : goal.returns-in_ok-hold_documents-in-Changed
-returns-in_ok-hold_documents-in-Changed g c = body_none c.args.body.now c.in_ok-reply.field-0 c.in_ok-reply.ensures.takes (inl c.in-Changed.is)
+pub returns-in_ok-answer-in-Ask-clause-served : goal.returns-in_ok-answer-in-Ask-clause-served
+returns-in_ok-answer-in-Ask-clause-served g c =
+    let left = subst (IsLeftOf c.args.body.now (stage_of c.args.self.now.session)) c.in-Ask.is c.in_ok-reply.ensures.left in
+    subst (λ r. IsServed c.args.self.now c.answer.new.self c.args.body.now (map view (option_to_list r))) (sym c.reply-in-Ask.ensures)
+    (served_asked c.args.self.now c.answer.new.self c.args.body.now c.in-Ask.request c.in_ok-answer-in-Ask.field-0 left c.in_ok-answer-in-Ask.ensures.served)
 
-pub returns-in-Nothing : goal.returns-in-Nothing
-returns-in-Nothing g c = body_none c.args.body.now c.in_ok-reply.field-0 c.in_ok-reply.ensures.takes (inr (inl c.in-Nothing.is))
+pub returns-in_ok-hold_documents-in-Changed-clause-reply : goal.returns-in_ok-hold_documents-in-Changed-clause-reply
+returns-in_ok-hold_documents-in-Changed-clause-reply g c = body_none c.args.body.now c.in_ok-reply.field-0 c.in_ok-reply.ensures.takes (inl c.in-Changed.is)
 
-pub returns-in-Ended : goal.returns-in-Ended
-returns-in-Ended g c = body_none c.args.body.now c.in_ok-reply.field-0 c.in_ok-reply.ensures.takes (inr (inr (c.in-Ended.status, c.in-Ended.is)))
+pub returns-in_ok-hold_documents-in-Changed-clause-served : goal.returns-in_ok-hold_documents-in-Changed-clause-served
+returns-in_ok-hold_documents-in-Changed-clause-served g c message name id u e n i ready is =
+    absurd (never_left c.args.self.now c.args.body.now c.in_ok-reply.field-0 c.in_ok-reply.ensures.left (λ m h. subst (IsAsked m) c.in-Changed.is h) message name id u e n i ready is)
+
+pub returns-in-Nothing-clause-reply : goal.returns-in-Nothing-clause-reply
+returns-in-Nothing-clause-reply g c = body_none c.args.body.now c.in_ok-reply.field-0 c.in_ok-reply.ensures.takes (inr (inl c.in-Nothing.is))
+
+pub returns-in-Nothing-clause-served : goal.returns-in-Nothing-clause-served
+returns-in-Nothing-clause-served g c message name id u e n i ready is =
+    absurd (never_left c.args.self.now c.args.body.now c.in_ok-reply.field-0 c.in_ok-reply.ensures.left (λ m h. subst (IsAsked m) c.in-Nothing.is h) message name id u e n i ready is)
+
+pub returns-in-Ended-clause-reply : goal.returns-in-Ended-clause-reply
+returns-in-Ended-clause-reply g c = body_none c.args.body.now c.in_ok-reply.field-0 c.in_ok-reply.ensures.takes (inr (inr (c.in-Ended.status, c.in-Ended.is)))
+
+pub returns-in-Ended-clause-served : goal.returns-in-Ended-clause-served
+returns-in-Ended-clause-served g c message name id u e n i ready is =
+    absurd (never_left c.args.self.now c.args.body.now c.in_ok-reply.field-0 c.in_ok-reply.ensures.left (λ m h. subst (IsAsked m) c.in-Ended.is h) message name id u e n i ready is)

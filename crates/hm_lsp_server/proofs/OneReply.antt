@@ -1,10 +1,10 @@
 -- What a server sends for each outcome of its session.
 use Rattle.std.proofs.Common.{◌≡◌, ◌⊎◌, inl, inr, ℕ, List, [], ◌∷◌, Option, None, Some, codes, refl}
-use Rattle.serde_json.specs.Data.{Data, null}
+use Rattle.serde_json.specs.Data.{Data}
 use Rattle.serde_json.specs.Find.{get}
 use Rattle.serde_json.specs.View.{view}
 use Rattle.serde_json.specs.declared.value.Value.{Value}
-use Rattle.hm_lsp_session.specs.Replies.{IsReplyTo, AnswersRequest, RefusesMessage, Takes, TakesBody, TakesNotification, TakesOther, method_of, unread, understood}
+use Rattle.hm_lsp_session.specs.Replies.{IsReplyTo, RefusesMessage, Takes, TakesBody, TakesOther, method_of, unread, understood}
 use Rattle.hm_lsp_session.specs.declared.session.Outcome.{Outcome}
 use Rattle.hm_lsp_session.specs.declared.session.Outcome.TheVariants.{Ask, Changed, Ended, Nothing, Reply}
 use Rattle.hm_lsp_server.specs.Replied.{IsOneReply, AreOther, AreRepliesTo, IsReplyOf}

@@ -1,0 +1,10 @@
+use Rattle.std.proofs.Common.{◌≡◌, ◌++◌, List, false, map}
+use Rattle.std.specs.Prelude.{slice_index_or}
+use Rattle.serde_json.specs.Data.{Data}
+use Rattle.serde_json.specs.View.{view}
+use Rattle.hm_lsp_server.specs.Published.{AreTold, IsTold}
+use Rattle.hm_lsp_server.proofs.telling.tell.Given as goal
+
+abbrev pub invariant-sources : goal.invariant-sources
+invariant-sources l = (new : List Data) × (map view l.sent.items ≡ map view l.initial.sent.items ++ new)
+    × AreTold (λ n. IsTold l.asked.encoding l.asked.sources.now l.asked.held.now l.asked.checked.now (slice_index_or l.shown n false) n) l.number l.shows.items new

@@ -1,0 +1,72 @@
+-- The diagnostics that are sent to a client (Language Server Protocol 3.17, "PublishDiagnostics Notification", "ShowMessage Notification").
+use Rattle.std.specs.Prelude.{◌≡◌, ◌⊎◌, ℕ, zero, suc, Bool, true, false, List, [], ◌∷◌, ◌++◌, None, Some, codes, length, map, option_map, slice_get, slice_index_or, string_bytes}
+use Rattle.serde_json.specs.Data.{Data, array, member, no_members, number, object, string, unsigned}
+use Rattle.serde_json.specs.View.{items_of}
+use Rattle.hm_lsp_positions.specs.declared.units.Encoding.{Encoding}
+use Rattle.hm_lsp_session.specs.Replies.{notice_data}
+use Rattle.hm_lsp_session.specs.Steps.{stage_of}
+use Rattle.hm_lsp_session.specs.Effects.{encoding_of}
+use Rattle.hm_lsp_session.specs.declared.stages.Stage.TheVariants.{Ready}
+use Rattle.hm_lsp_values.specs.Diagnostics.{diagnostic_data}
+use Rattle.hm_service.specs.Checks.{IsHeldCheck}
+use Rattle.hm_service_messages.specs.declared.diagnostic.Diagnostic.{Diagnostic}
+use Rattle.hm_service_places.specs.Diagnostics.{AreDiagnosticsAt}
+use Rattle.hm_service_places.specs.declared.checked.Checked.{Checked}
+use Rattle.hm_service_sources.specs.declared.held.HeldSource.{HeldSource}
+use Rattle.hm_lsp_server.specs.Servers.{checked_of, held_of, is_changed, session_of, shown_of, sources_of, workers}
+use Rattle.hm_lsp_server.specs.declared.server.Server.{Server}
+use Rattle.hm_lsp_server.specs.declared.sources.Source.{Source}
+
+abbrev pub diagnostics_data : Encoding → List Diagnostic → Data
+diagnostics_data encoding ds = array (items_of (map (diagnostic_data encoding) ds))
+
+-- the notification with the diagnostics of the source with this URI
+abbrev pub diagnostics_notice : Encoding → List ℕ → List Diagnostic → Data
+diagnostics_notice encoding uri ds =
+    notice_data (codes "textDocument/publishDiagnostics") (object (member (codes "diagnostics") (diagnostics_data encoding ds) (member (codes "uri") (string uri) no_members)))
+
+-- the URI of the source with this number
+abbrev pub HasUri : List Source → ℕ → List ℕ → Type 0
+HasUri sources n uri = option_map (λ s. string_bytes s.uri) (slice_get sources n) ≡ Some uri
+
+-- the diagnostics are sent, unless there are none and the client shows none
+abbrev pub AreSent : Bool → Encoding → List ℕ → List Diagnostic → List Data → Type 0
+AreSent true encoding uri ds sent = sent ≡ diagnostics_notice encoding uri ds ∷ []
+AreSent false encoding uri [] sent = sent ≡ []
+AreSent false encoding uri (d ∷ ds) sent = sent ≡ diagnostics_notice encoding uri (d ∷ ds) ∷ []
+
+abbrev pub has_some : List Diagnostic → Bool
+has_some [] = false
+has_some (d ∷ ds) = true
+
+-- what is sent of the source with this number, by whether the client shows diagnostics of it, and whether it shows some then
+pub record IsTold (encoding : Encoding) (sources : List Source) (held : List HeldSource) (c : Checked) (was_shown : Bool) (n : ℕ) (is_shown : Bool) (sent : List Data) : Type 0 where
+  pub uri : List ℕ
+  pub ds : List Diagnostic
+  pub named : HasUri sources n uri
+  pub found : AreDiagnosticsAt (slice_get held n) c n ds
+  pub are_sent : AreSent was_shown encoding uri ds sent
+  pub shows : is_shown ≡ has_some ds
+
+-- the same of the first n sources, in order
+abbrev pub AreTold : (ℕ → Bool → List Data → Type 0) → ℕ → List Bool → List Data → Type 0
+AreTold P zero shown sent = (shown ≡ []) × (sent ≡ [])
+AreTold P (suc n) shown sent =
+    (before : List Bool) × ((last : Bool) × ((first : List Data) × ((later : List Data) × ((shown ≡ before ++ last ∷ []) × ((sent ≡ first ++ later) × (AreTold P n before first × P n last later))))))
+
+-- memory ran out in the check
+abbrev pub no_check_notice : Data
+no_check_notice = notice_data (codes "window/showMessage")
+    (object (member (codes "message") (string (codes "hmc: no memory for a check of these sources")) (member (codes "type") (number (unsigned 1)) no_members)))
+
+-- the diagnostics of the texts that are held now, by a check of them
+pub record AreOfCheck (before after : Server) (c : Checked) (new : List Data) : Type 0 where
+  pub checked : checked_of after ≡ Some c
+  pub check : IsHeldCheck workers (held_of after) c
+  pub told : AreTold (λ n. IsTold (encoding_of (session_of after)) (sources_of after) (held_of after) c (slice_index_or (shown_of before) n false) n) (length (sources_of after)) (shown_of after) new
+
+-- what is sent: nothing while the client isn't ready or if the texts are those of before, and else the diagnostics of all sources, or that memory ran out
+pub data IsPublished (before after : Server) (new : List Data) : Type 0 where
+  nothing : (is_changed before ≡ false) ⊎ (¬ (stage_of (session_of before) ≡ Ready)) → new ≡ [] → shown_of after ≡ shown_of before → IsPublished before after new
+  no_check : checked_of after ≡ None → new ≡ no_check_notice ∷ [] → shown_of after ≡ shown_of before → IsPublished before after new
+  told : {c : Checked} → AreOfCheck before after c new → IsPublished before after new

@@ -1,0 +1,4 @@
+pub mod Diagnostics
+pub mod Names
+pub mod Places
+pub mod Worked

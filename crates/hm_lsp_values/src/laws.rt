@@ -1,0 +1,14 @@
+//! Worked examples. Each is a function with an empty body, and its contract states the example.
+ghost use Rattle.hm_lsp_values.specs.Worked.{HoverRow, ValuesRow};
+
+/// Positions, severities and texts.
+#[tactic(auto, using(crate::proofs::WorkedValues::worked_values))]
+pub fn worked_values()
+    ensures { ValuesRow }
+{}
+
+/// What is shown of a name.
+#[tactic(auto, using(crate::proofs::WorkedValues::worked_hover))]
+pub fn worked_hover()
+    ensures { HoverRow }
+{}

@@ -1,0 +1,13 @@
+//! What the checker says, as values of the protocol.
+//!
+//! The protocol is the Language Server Protocol 3.17 ("Basic JSON Structures"). Places of the checker have lines and columns from 1, and positions of the protocol from 0.
+#![tactic(auto)]
+
+mod diagnostics;
+pub mod laws;
+mod names;
+mod positions;
+
+pub use crate::diagnostics::{action_value, diagnostic_value};
+pub use crate::names::{hover_value, location_value};
+pub use crate::positions::place_at;
