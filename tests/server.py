@@ -3,52 +3,33 @@
 
 `server.py [PROGRAM]`: without PROGRAM, the proved program is run. Ends with 1 where a row differs.
 """
-import json
 import os
-import subprocess
 import sys
 import tempfile
 
-TOP = os.path.dirname(os.path.dirname(os.path.abspath(__file__)))
-PROVED = os.path.join(TOP, "crates", "hmc_lsp", "out", "hmc_lsp")
+sys.path.insert(0, os.path.join(os.path.dirname(os.path.dirname(os.path.abspath(__file__))), "tools"))
+import lsp  # noqa: E402
+
 A = "module A where { f x = x ; g = f 1 }\n"
 B = "module B where { import A ; h :: Char -> Bool -> Char ; h c b = c ; k = h True 'c' ; m = g }\n"
 TYPED = "p = case f 1 of { 0 -> True ; _ -> False } ; "
 
 
-class Client:
-    """A client of a server that is started for a folder with A.hs and B.hs."""
+class Client(lsp.Client):
+    """A client of a server that is started for a folder with A.hs and B.hs, with what each row found."""
 
     def __init__(self, program, folder):
-        self.folder, self.last, self.rows, self.wrong = folder, 0, 0, 0
-        self.server = subprocess.Popen([program, folder], stdin=subprocess.PIPE, stdout=subprocess.PIPE)
-
-    def uri(self, name):
-        return f"file://{self.folder}/{name}"
-
-    def write(self, data):
-        self.server.stdin.write(data)
-        self.server.stdin.flush()
-
-    def send(self, message):
-        body = json.dumps({"jsonrpc": "2.0", **message}).encode()
-        self.write(b"Content-Length: %d\r\n\r\n%s" % (len(body), body))
-
-    def receive(self):
-        size = None
-        while (line := self.server.stdout.readline()) not in (b"\r\n", b""):
-            name, _, value = line.partition(b":")
-            size = int(value) if name.lower() == b"content-length" else size
-        return json.loads(self.server.stdout.read(size)) if size is not None else None
+        super().__init__(program, folder)
+        self.rows, self.wrong = 0, 0
 
     def reply(self):
         """Returns the next reply, and passes over notifications."""
-        while (message := self.receive()) and "method" in message:
+        while "method" in (message := self.receive()):
             pass
-        return message or {}
+        return message
 
     def ask(self, method, **params):
-        """Sends a request, and returns its reply."""
+        """Sends a request, and returns its reply, which is the next one."""
         self.last += 1
         self.send({"id": self.last, "method": method, "params": params})
         reply = self.reply()
@@ -56,14 +37,14 @@ class Client:
         return reply
 
     def notify(self, method, **params):
-        self.send({"method": method, "params": params})
+        super().notify(method, params)
 
     def published(self, count):
         """Returns the diagnostics of the next notifications, by the name of the file."""
         found = {}
         for _ in range(count):
             message = self.receive()
-            self.row("a notification has no id", message and (message["method"], "id" in message), ("textDocument/publishDiagnostics", False))
+            self.row("a notification has no id", (message.get("method"), "id" in message), (lsp.PUBLISHED, False))
             found[message["params"]["uri"].rpartition("/")[2]] = message["params"]["diagnostics"]
         return found
 
@@ -158,7 +139,7 @@ def finish(it):
     it.row("exit status", it.server.wait(timeout=60), 0)
 
 
-def main(program=PROVED):
+def main(program=lsp.PROVED):
     with tempfile.TemporaryDirectory() as folder:
         for name, text in (("A.hs", A), ("B.hs", B)):
             with open(os.path.join(folder, name), "w", encoding="utf-8") as file:
