@@ -2,12 +2,13 @@
 use Rattle.std.proofs.Common.{◌≡◌, ℕ, List, Option, None, Some, codes, inl, inr, Bool, true, false, refl, sym, ap, subst, ◌∙◌}
 use Rattle.std.proofs.lemmas.Bool.{false≢true}
 use Rattle.serde_json.specs.Data.{Data}
+use Rattle.serde_json.specs.declared.value.Value.{Value}
 use Rattle.serde_json.specs.Find.{get}
 use Rattle.hm_lsp_positions.specs.declared.changes.Change.{Change}
 use Rattle.hm_lsp_positions.specs.declared.units.Encoding.{Encoding}
 use Rattle.hm_lsp_session.specs.Effects.{HasNoChange, IsIgnored, IsIgnoredIn, IsNotApplied, IsNothingOnlyFor, closed, reversed}
 use Rattle.hm_lsp_session.specs.Params.{AreListedIn, string_at}
-use Rattle.hm_lsp_session.specs.Stages.{notification_decision, ready_decision}
+use Rattle.hm_lsp_session.specs.Stages.{notification_decision, ready_decision, request_decision}
 use Rattle.hm_lsp_session.specs.declared.documents.Documents.{Documents}
 use Rattle.hm_lsp_session.specs.Steps.{IsEdit, IsStep}
 use Rattle.hm_lsp_session.specs.declared.session.Outcome.{Outcome}
@@ -15,7 +16,8 @@ use Rattle.hm_lsp_session.specs.declared.session.Outcome.TheVariants.{Ask, Chang
 use Rattle.hm_lsp_session.specs.declared.stages.Decision.{Decision}
 use Rattle.hm_lsp_session.specs.declared.stages.Decision.TheVariants.{End, Go, Ignore, Refuse}
 use Rattle.hm_lsp_session.specs.declared.stages.Method.{Method}
-use Rattle.hm_lsp_session.specs.declared.stages.Method.TheVariants.{CodeAction, Definition, DidChange, DidClose, DidOpen, Exit, Hover, Initialize, Shutdown, Unknown}
+use Rattle.hm_lsp_session.specs.declared.stages.Method.TheVariants.{DidChange, DidClose, DidOpen, Exit, Initialize, Question, Shutdown, Unknown}
+use Rattle.hm_lsp_session.specs.declared.stages.Question.{Question as Asked}
 use Rattle.hm_lsp_session.specs.declared.stages.Refusal.{Refusal}
 use Rattle.hm_lsp_session.specs.declared.stages.Stage.{Stage}
 use Rattle.hm_lsp_session.specs.declared.stages.Stage.TheVariants.{New, Ready, ShutDown}
@@ -34,9 +36,7 @@ editing New Exit h = absurd (false≢true (ap is_go h))
 editing New DidOpen h = absurd (false≢true (ap is_go h))
 editing New DidChange h = absurd (false≢true (ap is_go h))
 editing New DidClose h = absurd (false≢true (ap is_go h))
-editing New Hover h = absurd (false≢true (ap is_go h))
-editing New Definition h = absurd (false≢true (ap is_go h))
-editing New CodeAction h = absurd (false≢true (ap is_go h))
+editing New (Question q) h = absurd (false≢true (ap is_go h))
 editing New Unknown h = absurd (false≢true (ap is_go h))
 editing Ready m h = refl
 editing ShutDown Initialize h = absurd (false≢true (ap is_go h))
@@ -45,14 +45,28 @@ editing ShutDown Exit h = absurd (false≢true (ap is_go h))
 editing ShutDown DidOpen h = absurd (false≢true (ap is_go h))
 editing ShutDown DidChange h = absurd (false≢true (ap is_go h))
 editing ShutDown DidClose h = absurd (false≢true (ap is_go h))
-editing ShutDown Hover h = absurd (false≢true (ap is_go h))
-editing ShutDown Definition h = absurd (false≢true (ap is_go h))
-editing ShutDown CodeAction h = absurd (false≢true (ap is_go h))
+editing ShutDown (Question q) h = absurd (false≢true (ap is_go h))
 editing ShutDown Unknown h = absurd (false≢true (ap is_go h))
+
+-- `initialize` and `shutdown` are taken once, and questions while the session is ready
+pub first_step : (s after : Stage) (reply : Value) → request_decision s Initialize ≡ Go → after ≡ Ready → IsStep s (Reply reply) after
+first_step New after reply h is = inr is
+first_step Ready after reply h is = absurd (false≢true (ap is_go h))
+first_step ShutDown after reply h is = absurd (false≢true (ap is_go h))
+
+pub last_step : (s after : Stage) (reply : Value) → request_decision s Shutdown ≡ Go → after ≡ ShutDown → IsStep s (Reply reply) after
+last_step New after reply h is = absurd (false≢true (ap is_go h))
+last_step Ready after reply h is = inr is
+last_step ShutDown after reply h is = absurd (false≢true (ap is_go h))
+
+pub question_step : (s : Stage) (q : Asked) (request : Value) → request_decision s (Question q) ≡ Go → IsStep s (Ask q request) s
+question_step New q request h = absurd (false≢true (ap is_go h))
+question_step Ready q request h = (refl, refl)
+question_step ShutDown q request h = absurd (false≢true (ap is_go h))
 
 pub edit_step : (before after : Stage) (outcome : Outcome) → before ≡ Ready → after ≡ before → IsEdit outcome → IsStep before outcome after
 edit_step before after (Reply reply) ready same h = absurd h
-edit_step before after (Ask request) ready same h = absurd h
+edit_step before after (Ask question request) ready same h = absurd h
 edit_step before after Changed ready same h = (ready, same)
 edit_step before after Nothing ready same h = same
 edit_step before after (Ended status) ready same h = absurd h
@@ -71,9 +85,7 @@ ignoring DidClose h params encoding before = absurd (false≢true (ap is_ignore 
 ignoring Initialize h params encoding before = tt
 ignoring Shutdown h params encoding before = tt
 ignoring Exit h params encoding before = tt
-ignoring Hover h params encoding before = tt
-ignoring Definition h params encoding before = tt
-ignoring CodeAction h params encoding before = tt
+ignoring (Question q) h params encoding before = tt
 ignoring Unknown h params encoding before = tt
 
 with_params : (m : Method) (message : Data) (encoding : Encoding) (before : Documents) (found : Option Data) → get (codes "params") message ≡ found → ((params : Data) → IsIgnored m params encoding before)
@@ -90,7 +102,7 @@ ignored s m message encoding before ready is =
 -- another reason
 pub only_for : (why other : Type 0) (out : Outcome) → (why → other) → IsNothingOnlyFor why out → IsNothingOnlyFor other out
 only_for why other (Reply reply) f h = tt
-only_for why other (Ask asked) f h = tt
+only_for why other (Ask question asked) f h = tt
 only_for why other Changed f h = tt
 only_for why other Nothing f h = f h
 only_for why other (Ended status) f h = tt
@@ -116,12 +128,14 @@ ready_takes Exit = refl
 ready_takes DidOpen = refl
 ready_takes DidChange = refl
 ready_takes DidClose = refl
-ready_takes Hover = refl
-ready_takes Definition = refl
-ready_takes CodeAction = refl
+ready_takes (Question q) = refl
 ready_takes Unknown = refl
 
 -- no notification is refused
 pub never_refused : (s : Stage) (m : Method) (why : Refusal) → s ≡ Ready → notification_decision s m ≡ Refuse why → ⊥
 unfolding is_refusal
 never_refused s m why ready is = false≢true (sym (ready_takes m) ∙ ap is_refusal (subst (λ x. notification_decision x m ≡ Refuse why) ready is))
+
+-- a message has one method
+pub one_name : (found : Option (List ℕ)) (a b : List ℕ) → found ≡ Some a → found ≡ Some b → a ≡ b
+one_name found a b one two = cc

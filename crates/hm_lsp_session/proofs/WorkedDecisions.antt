@@ -3,7 +3,8 @@ use Rattle.std.proofs.Common.{◌≡◌, ◌+◌, ℕ, ap, arith, refl}
 use Rattle.hm_lsp_session.specs.Worked.{DecisionsRow}
 use Rattle.hm_lsp_session.specs.declared.stages.Decision.{Decision}
 use Rattle.hm_lsp_session.specs.declared.stages.Decision.TheVariants.{End, Go, Ignore, Refuse}
-use Rattle.hm_lsp_session.specs.declared.stages.Method.TheVariants.{Hover, Unknown}
+use Rattle.hm_lsp_session.specs.declared.stages.Method.TheVariants.{Question, Unknown}
+use Rattle.hm_lsp_session.specs.declared.stages.Question.TheVariants.{Hover}
 
 status_of : Decision → ℕ
 status_of Go = 0
@@ -15,7 +16,7 @@ never : (a b : ℕ) → End a ≡ End b → a ≡ b + 1 → ⊥
 unfolding status_of
 never a b same more = omega (arith, ap status_of same, more)
 
-no_hover : Unknown ≡ Hover → ⊥
+no_hover : Unknown ≡ Question Hover → ⊥
 no_hover e = cc
 
 pub worked_decisions : DecisionsRow

@@ -5,13 +5,17 @@ use Rattle.std.specs.Str.{bytes_eq}
 use Rattle.hm_lsp_session.specs.declared.documents.Document.{Document}
 use Rattle.hm_lsp_session.specs.declared.documents.Documents.{Documents}
 
+-- the documents, in the order in which the client opened them first
+abbrev pub listed : Documents → List Document
+listed documents = documents.items.items
+
 -- the text that the client holds under a URI, if the document is open
 abbrev pub text_in : List Document → List ℕ → Option (List ℕ)
 text_in [] uri = None
 text_in (d ∷ ds) uri = if bytes_eq (string_bytes d.uri) uri then option_map (λ text. text.items) d.text else text_in ds uri
 
 abbrev pub held_text : Documents → List ℕ → Option (List ℕ)
-held_text documents uri = text_in documents.items.items uri
+held_text documents uri = text_in (listed documents) uri
 
 -- the document has this text now, and all others have those of before
 pub record IsHeldNow (before after : Documents) (uri : List ℕ) (text : Option (List ℕ)) : Type 0 where

@@ -7,7 +7,7 @@ use Rattle.serde_json.specs.Read.{read}
 use Rattle.hm_lsp_positions.specs.Changes.{AreApplied, HasReversed}
 use Rattle.hm_lsp_positions.specs.declared.changes.Change.{Change}
 use Rattle.hm_lsp_positions.specs.declared.units.Encoding.{Encoding}
-use Rattle.hm_lsp_session.specs.Documents.{IsHeldNow, SameTexts, held_text}
+use Rattle.hm_lsp_session.specs.Documents.{IsHeldNow, held_text}
 use Rattle.hm_lsp_session.specs.Params.{AreListedIn, string_at}
 use Rattle.hm_lsp_session.specs.Replies.{method_of}
 use Rattle.hm_lsp_session.specs.Stages.{method_named}
@@ -16,7 +16,7 @@ use Rattle.hm_lsp_session.specs.declared.session.Outcome.{Outcome}
 use Rattle.hm_lsp_session.specs.declared.session.Outcome.TheVariants.{Ask, Changed, Ended, Nothing, Reply}
 use Rattle.hm_lsp_session.specs.declared.session.Session.{Session}
 use Rattle.hm_lsp_session.specs.declared.stages.Method.{Method}
-use Rattle.hm_lsp_session.specs.declared.stages.Method.TheVariants.{CodeAction, Definition, DidChange, DidClose, DidOpen, Exit, Hover, Initialize, Shutdown, Unknown}
+use Rattle.hm_lsp_session.specs.declared.stages.Method.TheVariants.{DidChange, DidClose, DidOpen, Exit, Initialize, Question, Shutdown, Unknown}
 use Rattle.hm_lsp_session.specs.declared.stages.Stage.{Stage}
 use Rattle.hm_lsp_session.specs.declared.stages.Stage.TheVariants.{Ready}
 
@@ -64,9 +64,7 @@ HasEffect DidClose params encoding before after = IsClosed params before after
 HasEffect Initialize params encoding before after = ⊥
 HasEffect Shutdown params encoding before after = ⊥
 HasEffect Exit params encoding before after = ⊥
-HasEffect Hover params encoding before after = ⊥
-HasEffect Definition params encoding before after = ⊥
-HasEffect CodeAction params encoding before after = ⊥
+HasEffect (Question q) params encoding before after = ⊥
 HasEffect Unknown params encoding before after = ⊥
 
 -- what a notification with this method does
@@ -88,13 +86,13 @@ pub record HasBodyEffect (body : List ℕ) (encoding : Encoding) (before after :
   pub is_read : read body ≡ Some message
   pub effect : HasMessageEffect message encoding before after
 
--- the texts change only if the outcome says so, and then like this
+-- the documents change only if the outcome says so, and then like this
 abbrev pub TextsAre : Outcome → Type 0 → Documents → Documents → Type 0
-TextsAre (Reply reply) effect before after = SameTexts before after
-TextsAre (Ask asked) effect before after = SameTexts before after
+TextsAre (Reply reply) effect before after = after ≡ before
+TextsAre (Ask question asked) effect before after = after ≡ before
 TextsAre Changed effect before after = effect
-TextsAre Nothing effect before after = SameTexts before after
-TextsAre (Ended status) effect before after = SameTexts before after
+TextsAre Nothing effect before after = after ≡ before
+TextsAre (Ended status) effect before after = after ≡ before
 
 -- Why a notification has no effect
 
@@ -125,9 +123,7 @@ IsIgnored DidClose params encoding before = HasNoDocument params before
 IsIgnored Initialize params encoding before = Unit {0}
 IsIgnored Shutdown params encoding before = Unit {0}
 IsIgnored Exit params encoding before = Unit {0}
-IsIgnored Hover params encoding before = Unit {0}
-IsIgnored Definition params encoding before = Unit {0}
-IsIgnored CodeAction params encoding before = Unit {0}
+IsIgnored (Question q) params encoding before = Unit {0}
 IsIgnored Unknown params encoding before = Unit {0}
 
 -- the message has no parameters, or its method ignores them
@@ -137,7 +133,7 @@ IsIgnoredIn method message encoding before = (get (codes "params") message ≡ N
 -- nothing is done only for this reason
 abbrev pub IsNothingOnlyFor : Type 0 → Outcome → Type 0
 IsNothingOnlyFor why (Reply reply) = Unit {0}
-IsNothingOnlyFor why (Ask asked) = Unit {0}
+IsNothingOnlyFor why (Ask question asked) = Unit {0}
 IsNothingOnlyFor why Changed = Unit {0}
 IsNothingOnlyFor why Nothing = why
 IsNothingOnlyFor why (Ended status) = Unit {0}

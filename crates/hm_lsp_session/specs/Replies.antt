@@ -1,13 +1,15 @@
 -- Replies (Language Server Protocol 3.17, "Response Message"), and the message that each belongs to.
-use Rattle.std.specs.Prelude.{◌≡◌, ℕ, ℤ, List, Option, None, Some, codes, option_and_then, true}
+use Rattle.std.specs.Prelude.{◌≡◌, ℕ, ℤ, List, Option, None, Some, codes, option_and_then}
 use Rattle.std.specs.Str.{IsUtf8}
 use Rattle.serde_json.specs.Data.{Data, member, no_members, null, number, object, string}
 use Rattle.serde_json.specs.Find.{as_str, get, of_integer}
 use Rattle.serde_json.specs.Read.{read}
 use Rattle.serde_json.specs.View.{view}
-use Rattle.hm_lsp_session.specs.Stages.{is_for_service, method_named}
+use Rattle.hm_lsp_session.specs.Stages.{method_named}
 use Rattle.hm_lsp_session.specs.declared.session.Outcome.{Outcome}
 use Rattle.hm_lsp_session.specs.declared.session.Outcome.TheVariants.{Ask, Changed, Ended, Nothing, Reply}
+use Rattle.hm_lsp_session.specs.declared.stages.Method.TheVariants.{Question}
+use Rattle.hm_lsp_session.specs.declared.stages.Question.{Question as Asked}
 use Rattle.hm_lsp_session.specs.declared.stages.Stage.{Stage}
 use Rattle.hm_lsp_session.specs.declared.stages.Stage.TheVariants.{Ready}
 
@@ -35,27 +37,28 @@ IsReplyTo id reply = get (codes "id") reply ≡ Some id
 -- the one reply to a request has its identifier. It is made now, or it is that of the service to the request
 abbrev pub AnswersRequest : Data → Data → Outcome → Type 0
 AnswersRequest request id (Reply reply) = IsReplyTo id (view reply)
-AnswersRequest request id (Ask asked) = view asked ≡ request
+AnswersRequest request id (Ask question asked) = view asked ≡ request
 AnswersRequest request id Changed = ⊥
 AnswersRequest request id Nothing = ⊥
 AnswersRequest request id (Ended status) = ⊥
 
--- the service has to reply to this request
-abbrev pub IsAsked : Data → Outcome → Type 0
-IsAsked request (Reply reply) = ⊥
-IsAsked request (Ask asked) = view asked ≡ request
-IsAsked request Changed = ⊥
-IsAsked request Nothing = ⊥
-IsAsked request (Ended status) = ⊥
+-- the service has to reply to this request, which asks this
+abbrev pub IsAsked : Asked → Data → Outcome → Type 0
+IsAsked question request (Reply reply) = ⊥
+IsAsked question request (Ask own asked) = (own ≡ question) × (view asked ≡ request)
+IsAsked question request Changed = ⊥
+IsAsked question request Nothing = ⊥
+IsAsked question request (Ended status) = ⊥
 
 -- while the session is ready, the requests about what texts mean are left to the service
 abbrev pub IsLeft : Stage → Data → Outcome → Type 0
-IsLeft stage message outcome = (name : List ℕ) (id : Data) → method_of message ≡ Some name → get (codes "id") message ≡ Some id → stage ≡ Ready → is_for_service (method_named name) ≡ true → IsAsked message outcome
+IsLeft stage message outcome =
+    (name : List ℕ) (id : Data) (question : Asked) → method_of message ≡ Some name → get (codes "id") message ≡ Some id → stage ≡ Ready → method_named name ≡ Question question → IsAsked question message outcome
 
 -- a notification has no reply
 abbrev pub TakesNotification : Outcome → Type 0
 TakesNotification (Reply reply) = ⊥
-TakesNotification (Ask asked) = ⊥
+TakesNotification (Ask question asked) = ⊥
 TakesNotification Changed = Unit {0}
 TakesNotification Nothing = Unit {0}
 TakesNotification (Ended status) = Unit {0}
@@ -63,7 +66,7 @@ TakesNotification (Ended status) = Unit {0}
 -- what isn't a message has a reply without an identifier
 abbrev pub RefusesMessage : Outcome → Type 0
 RefusesMessage (Reply reply) = IsReplyTo null (view reply)
-RefusesMessage (Ask asked) = ⊥
+RefusesMessage (Ask question asked) = ⊥
 RefusesMessage Changed = ⊥
 RefusesMessage Nothing = ⊥
 RefusesMessage (Ended status) = ⊥
@@ -72,7 +75,7 @@ RefusesMessage (Ended status) = ⊥
 abbrev pub TakesOther : Option Data → Outcome → Type 0
 TakesOther None (Reply reply) = IsReplyTo null (view reply)
 TakesOther (Some id) (Reply reply) = IsReplyTo id (view reply)
-TakesOther id (Ask asked) = ⊥
+TakesOther id (Ask question asked) = ⊥
 TakesOther id Changed = ⊥
 TakesOther id Nothing = Unit {0}
 TakesOther id (Ended status) = ⊥

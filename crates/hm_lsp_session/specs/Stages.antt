@@ -1,14 +1,30 @@
 -- What a server does with a message, by how far its session is (Language Server Protocol 3.17, "Server lifecycle" and "Error Codes").
-use Rattle.std.specs.Prelude.{ℕ, ℤ, negsuc, Bool, false, true, List, codes, if◌then◌else◌}
+use Rattle.std.specs.Prelude.{ℕ, ℤ, negsuc, List, None, Option, Some, codes, if◌then◌else◌}
 use Rattle.std.specs.Str.{bytes_eq}
 use Rattle.hm_lsp_session.specs.declared.stages.Decision.{Decision}
 use Rattle.hm_lsp_session.specs.declared.stages.Decision.TheVariants.{End, Go, Ignore, Refuse}
 use Rattle.hm_lsp_session.specs.declared.stages.Method.{Method}
-use Rattle.hm_lsp_session.specs.declared.stages.Method.TheVariants.{CodeAction, Definition, DidChange, DidClose, DidOpen, Exit, Hover, Initialize, Shutdown, Unknown}
+use Rattle.hm_lsp_session.specs.declared.stages.Method.TheVariants.{DidChange, DidClose, DidOpen, Exit, Initialize, Question, Shutdown, Unknown}
+use Rattle.hm_lsp_session.specs.declared.stages.Question.{Question as Asked}
+use Rattle.hm_lsp_session.specs.declared.stages.Question.TheVariants.{CodeAction, Definition, DocumentHighlight, Hover, References}
 use Rattle.hm_lsp_session.specs.declared.stages.Refusal.{Refusal}
 use Rattle.hm_lsp_session.specs.declared.stages.Refusal.TheVariants.{InvalidParams, InvalidRequest, MethodNotFound, NotInitialized, ParseError}
 use Rattle.hm_lsp_session.specs.declared.stages.Stage.{Stage}
 use Rattle.hm_lsp_session.specs.declared.stages.Stage.TheVariants.{New, Ready, ShutDown}
+
+-- the names of the requests about what texts mean
+abbrev pub question_named : List ℕ → Option Asked
+question_named name =
+    if bytes_eq name (codes "textDocument/hover") then Some Hover
+    else (if bytes_eq name (codes "textDocument/definition") then Some Definition
+    else (if bytes_eq name (codes "textDocument/references") then Some References
+    else (if bytes_eq name (codes "textDocument/documentHighlight") then Some DocumentHighlight
+    else (if bytes_eq name (codes "textDocument/codeAction") then Some CodeAction
+    else None))))
+
+abbrev pub method_of_question : Option Asked → Method
+method_of_question None = Unknown
+method_of_question (Some q) = Question q
 
 -- the names of methods
 abbrev pub method_named : List ℕ → Method
@@ -19,10 +35,7 @@ method_named name =
     else (if bytes_eq name (codes "textDocument/didOpen") then DidOpen
     else (if bytes_eq name (codes "textDocument/didChange") then DidChange
     else (if bytes_eq name (codes "textDocument/didClose") then DidClose
-    else (if bytes_eq name (codes "textDocument/hover") then Hover
-    else (if bytes_eq name (codes "textDocument/definition") then Definition
-    else (if bytes_eq name (codes "textDocument/codeAction") then CodeAction
-    else Unknown))))))))
+    else method_of_question (question_named name))))))
 
 -- the codes of errors
 abbrev pub code_of : Refusal → ℤ
@@ -40,34 +53,17 @@ request_decision New Exit = Refuse NotInitialized
 request_decision New DidOpen = Refuse NotInitialized
 request_decision New DidChange = Refuse NotInitialized
 request_decision New DidClose = Refuse NotInitialized
-request_decision New Hover = Refuse NotInitialized
-request_decision New Definition = Refuse NotInitialized
-request_decision New CodeAction = Refuse NotInitialized
+request_decision New (Question q) = Refuse NotInitialized
 request_decision New Unknown = Refuse NotInitialized
 request_decision Ready Initialize = Refuse InvalidRequest
 request_decision Ready Shutdown = Go
-request_decision Ready Hover = Go
-request_decision Ready Definition = Go
-request_decision Ready CodeAction = Go
+request_decision Ready (Question q) = Go
 request_decision Ready Exit = Refuse MethodNotFound
 request_decision Ready DidOpen = Refuse MethodNotFound
 request_decision Ready DidChange = Refuse MethodNotFound
 request_decision Ready DidClose = Refuse MethodNotFound
 request_decision Ready Unknown = Refuse MethodNotFound
 request_decision ShutDown m = Refuse InvalidRequest
-
--- the requests about what texts mean
-abbrev pub is_for_service : Method → Bool
-is_for_service Hover = true
-is_for_service Definition = true
-is_for_service CodeAction = true
-is_for_service Initialize = false
-is_for_service Shutdown = false
-is_for_service Exit = false
-is_for_service DidOpen = false
-is_for_service DidChange = false
-is_for_service DidClose = false
-is_for_service Unknown = false
 
 -- the exit status is 0 only after `shutdown`
 abbrev pub exit_decision : Stage → Decision
@@ -83,9 +79,7 @@ ready_decision DidClose = Go
 ready_decision Initialize = Ignore
 ready_decision Shutdown = Ignore
 ready_decision Exit = End 1
-ready_decision Hover = Ignore
-ready_decision Definition = Ignore
-ready_decision CodeAction = Ignore
+ready_decision (Question q) = Ignore
 ready_decision Unknown = Ignore
 
 -- a notification: before `initialize` and after `shutdown` all are ignored but `exit`
@@ -96,9 +90,7 @@ idle_decision stage Shutdown = Ignore
 idle_decision stage DidOpen = Ignore
 idle_decision stage DidChange = Ignore
 idle_decision stage DidClose = Ignore
-idle_decision stage Hover = Ignore
-idle_decision stage Definition = Ignore
-idle_decision stage CodeAction = Ignore
+idle_decision stage (Question q) = Ignore
 idle_decision stage Unknown = Ignore
 
 abbrev pub notification_decision : Stage → Method → Decision

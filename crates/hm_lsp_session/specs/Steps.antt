@@ -1,5 +1,5 @@
 -- How far a session is after a message (Language Server Protocol 3.17, "Server lifecycle").
-use Rattle.std.specs.Prelude.{◌≡◌, ◌⊎◌, Option, None, Some}
+use Rattle.std.specs.Prelude.{◌≡◌, ◌⊎◌}
 use Rattle.hm_lsp_session.specs.Stages.{exit_decision}
 use Rattle.hm_lsp_session.specs.declared.session.Outcome.{Outcome}
 use Rattle.hm_lsp_session.specs.declared.session.Outcome.TheVariants.{Ask, Changed, Ended, Nothing, Reply}
@@ -20,20 +20,15 @@ IsAhead ShutDown after = ⊥
 -- a session goes on only with a reply. The service is asked and texts change only while it is ready. The exit status is 0 only after `shutdown`
 abbrev pub IsStep : Stage → Outcome → Stage → Type 0
 IsStep before (Reply reply) after = (after ≡ before) ⊎ IsAhead before after
-IsStep before (Ask request) after = (before ≡ Ready) × (after ≡ before)
+IsStep before (Ask question request) after = (before ≡ Ready) × (after ≡ before)
 IsStep before Changed after = (before ≡ Ready) × (after ≡ before)
 IsStep before Nothing after = after ≡ before
 IsStep before (Ended status) after = (after ≡ before) × (exit_decision before ≡ End status)
 
--- the same of a request that isn't refused, which has a reply or is left to the service
-abbrev pub GoesOn : {R : Type 0} → Stage → Option R → Stage → Type 0
-GoesOn before None after = (before ≡ Ready) × (after ≡ before)
-GoesOn before (Some reply) after = IsAhead before after
-
 -- what an edit leads to
 abbrev pub IsEdit : Outcome → Type 0
 IsEdit (Reply reply) = ⊥
-IsEdit (Ask request) = ⊥
+IsEdit (Ask question request) = ⊥
 IsEdit Changed = Unit {0}
 IsEdit Nothing = Unit {0}
 IsEdit (Ended status) = ⊥

@@ -1,6 +1,6 @@
 //! The documents that a client has open.
 ghost use Rattle.std.specs.Prelude.{◌≡◌, [], List, ℕ, None, IfOk, OnErr, OnOk, option_map};
-ghost use Rattle.hm_lsp_session.specs.Documents.{held_text, IsHeldNow, IsNumberOf, SameTexts};
+ghost use Rattle.hm_lsp_session.specs.Documents.{held_text, listed, IsHeldNow, IsNumberOf, SameTexts};
 
 use std::alloc::{AllocError, Global};
 
@@ -25,7 +25,7 @@ pub struct Documents {
 impl Documents {
     /// Returns no documents.
     pub fn new(alloc: Global) -> Documents
-        ensures { (uri : List ℕ) → held_text result uri ≡ None }
+        ensures { listed result ≡ [] }
     {
         Documents {
             items: Vec::new(alloc),
@@ -33,7 +33,9 @@ impl Documents {
     }
 
     /// Returns the documents.
-    pub fn as_slice(&self) -> &[Document] {
+    pub fn as_slice(&self) -> &[Document]
+        ensures { result.now ≡ listed self.now }
+    {
         self.items.as_slice()
     }
 

@@ -15,5 +15,5 @@ pub use crate::params::{position_in, range_in, text_at};
 pub use crate::replies::{notice, refusal, reply};
 pub use crate::session::{Outcome, Session};
 pub use crate::stages::{
-    Decision, Method, Refusal, Stage, notification_decision, request_decision,
+    Decision, Method, Question, Refusal, Stage, notification_decision, request_decision,
 };

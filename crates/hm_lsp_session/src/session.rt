@@ -1,18 +1,20 @@
 //! A session: how far it is, the documents of the client, and what each message does.
-ghost use Rattle.std.specs.Prelude.{◌≡◌, None, Some, IfOk, IfSome, IsSome, OnErr, codes, true};
+ghost use Rattle.std.specs.Prelude.{◌≡◌, [], None, Some, IfOk, IsSome, OnErr, codes};
 ghost use Rattle.serde_json.specs.Data.{Data};
 ghost use Rattle.serde_json.specs.Find.{get};
 ghost use Rattle.serde_json.specs.View.{view};
-ghost use Rattle.hm_lsp_session.specs.Documents.{SameTexts};
+ghost use Rattle.hm_lsp_session.specs.Documents.{listed, SameTexts};
 ghost use Rattle.hm_lsp_session.specs.Effects.{documents_of, encoding_of, HasBodyEffect, HasEffect, HasMessageEffect, HasNoChange, HasNoDocument, HasNoText, HasParamsEffect, IsAppliedTo, IsChanged, IsBodyHeard, IsClosed, IsHeard, IsIgnored, IsIgnoredIn, IsNotApplied, IsNothingOnlyFor, IsOpened, TextsAre};
-ghost use Rattle.hm_lsp_session.specs.Stages.{is_for_service, request_decision};
-ghost use Rattle.hm_lsp_session.specs.Steps.{stage_of, GoesOn, IsEdit, IsStep};
+ghost use Rattle.hm_lsp_session.specs.Stages.{request_decision};
+ghost use Rattle.hm_lsp_session.specs.Steps.{stage_of, IsEdit, IsStep};
 ghost use Rattle.hm_lsp_session.specs.Replies.{method_of, AnswersRequest, IsAsked, IsLeft, IsLeftOf, IsReplyTo, RefusesMessage, Takes, TakesBody, TakesNotification, TakesOther};
 
 use crate::documents::Documents;
 use crate::params::{changes_in, text_at};
 use crate::replies::{refusal, reply};
-use crate::stages::{Decision, Method, Refusal, Stage, notification_decision, request_decision};
+use crate::stages::{
+    Decision, Method, Question, Refusal, Stage, notification_decision, request_decision,
+};
 use hm_lsp_positions::{Change, ChangeFault, Encoding, all_changed};
 use serde_json::{Value, json};
 use std::alloc::{AllocError, Global};
@@ -22,8 +24,8 @@ use std::alloc::{AllocError, Global};
 pub enum Outcome {
     /// A reply for the client.
     Reply(Value),
-    /// The service makes the reply to this request.
-    Ask(Value),
+    /// The service makes the reply to this request, which asks this.
+    Ask(Question, Value),
     /// The texts changed.
     Changed,
     /// Nothing.
@@ -68,8 +70,10 @@ fn capabilities(alloc: Global, encoding: Encoding) -> Result<Value, AllocError> 
     let capabilities = json!(in alloc; {
         "codeActionProvider": true,
         "definitionProvider": true,
+        "documentHighlightProvider": true,
         "hoverProvider": true,
         "positionEncoding": encoding,
+        "referencesProvider": true,
         "textDocumentSync": {"change": 2, "openClose": true}
     })?;
     json!(in alloc; {"capabilities": capabilities, "serverInfo": {"name": "hmc"}})
@@ -85,7 +89,10 @@ fn version_in(params: &Value) -> i64 {
 
 impl Session {
     /// Returns a session before its first message.
-    pub fn new(alloc: Global) -> Session {
+    pub fn new(alloc: Global) -> Session
+        ensures stage { stage_of result ≡ Stage.New }
+        ensures documents { listed (documents_of result) ≡ [] }
+    {
         Session {
             alloc,
             stage: Stage::New,
@@ -115,34 +122,28 @@ impl Session {
         self.encoding
     }
 
-    /// Acts on a request that isn't refused.
-    fn go(
-        &mut self,
-        method: Method,
-        id: &Value,
-        params: &Value,
-    ) -> Result<Option<Value>, AllocError>
-        requires { request_decision self.old.stage method ≡ Decision.Go }
-        ensures step { IfOk result (λ made. GoesOn self.old.stage made self.new.stage) }
-        ensures left { IfOk result (λ made. is_for_service method ≡ true → made ≡ None) }
-        ensures made { IfOk result (λ made. IfSome made (λ reply. IsReplyTo (view id.now) (view reply))) }
+    /// Replies to `initialize`, after which the session is ready.
+    fn initialize(&mut self, id: &Value, params: &Value) -> Result<Value, AllocError>
+        ensures stage { IfOk result (λ made. self.new.stage ≡ Stage.Ready) }
+        ensures id { IfOk result (λ made. IsReplyTo (view id.now) (view made)) }
         ensures kept { self.new.documents ≡ self.old.documents }
     {
-        match method {
-            Method::Initialize => {
-                let encoding = offered_encoding(params);
-                let made = reply(self.alloc, id, capabilities(self.alloc, encoding)?)?;
-                self.encoding = encoding;
-                self.stage = Stage::Ready;
-                Ok(Some(made))
-            }
-            Method::Shutdown => {
-                let made = reply(self.alloc, id, Value::Null)?;
-                self.stage = Stage::ShutDown;
-                Ok(Some(made))
-            }
-            _ => Ok(None),
-        }
+        let encoding = offered_encoding(params);
+        let made = reply(self.alloc, id, capabilities(self.alloc, encoding)?)?;
+        self.encoding = encoding;
+        self.stage = Stage::Ready;
+        Ok(made)
+    }
+
+    /// Replies to `shutdown`, after which the session is shut down.
+    fn shut_down(&mut self, id: &Value) -> Result<Value, AllocError>
+        ensures stage { IfOk result (λ made. self.new.stage ≡ Stage.ShutDown) }
+        ensures id { IfOk result (λ made. IsReplyTo (view id.now) (view made)) }
+        ensures kept { self.new.documents ≡ self.old.documents }
+    {
+        let made = reply(self.alloc, id, Value::Null)?;
+        self.stage = Stage::ShutDown;
+        Ok(made)
     }
 
     /// Opens a document.
@@ -252,36 +253,51 @@ fn is_reply(message: &Value) -> bool {
 }
 
 impl Session {
-    /// Takes a request, and returns its reply or leaves it to the service.
-    fn request(&mut self, method: Method, message: Value) -> Result<Outcome, AllocError>
-        requires { IsSome (get (codes "id") (view message)) }
+    /// Takes a request that isn't refused.
+    fn go(&mut self, method: Method, message: Value) -> Result<Outcome, AllocError>
+        requires id { IsSome (get (codes "id") (view message)) }
+        requires decided { request_decision self.old.stage method ≡ Decision.Go }
         ensures step { IfOk result (λ out. IsStep self.old.stage out self.new.stage) }
         ensures one { IfOk result (λ out. (id : Data) → get (codes "id") (view message) ≡ Some id → AnswersRequest (view message) id out) }
-        ensures left { IfOk result (λ out. self.old.stage ≡ Stage.Ready → is_for_service method ≡ true → IsAsked (view message) out) }
+        ensures left { IfOk result (λ out. (q : Question) → method ≡ Method.Question q → IsAsked q (view message) out) }
         ensures kept { self.new.documents ≡ self.old.documents }
     {
         let null = Value::Null;
         let Some(id) = message.get("id") else {
             return Ok(Outcome::Nothing);
         };
-        match request_decision(self.stage, method) {
-            Decision::Go => {
-                let params = message.get("params").unwrap_or(&null);
-                match self.go(method, id, params)? {
-                    Some(made) => Ok(Outcome::Reply(made)),
-                    None => Ok(Outcome::Ask(message)),
-                }
-            }
-            Decision::Refuse(why) => Ok(Outcome::Reply(refusal(
-                self.alloc,
-                id,
-                why,
-                text_of(why),
-            )?)),
-            Decision::Ignore | Decision::End(_) => {
-                let why = Refusal::InvalidRequest;
-                Ok(Outcome::Reply(refusal(self.alloc, id, why, text_of(why))?))
-            }
+        let params = message.get("params").unwrap_or(&null);
+        match method {
+            Method::Question(question) => Ok(Outcome::Ask(question, message)),
+            Method::Initialize => Ok(Outcome::Reply(self.initialize(id, params)?)),
+            Method::Shutdown => Ok(Outcome::Reply(self.shut_down(id)?)),
+            _ => Ok(Outcome::Reply(self.refused(id, Refusal::InvalidRequest)?)),
+        }
+    }
+
+    /// Refuses a request.
+    fn refused(&self, id: &Value, why: Refusal) -> Result<Value, AllocError>
+        ensures { IfOk result (λ made. IsReplyTo (view id.now) (view made)) }
+    {
+        refusal(self.alloc, id, why, text_of(why))
+    }
+
+    /// Takes a request, and returns its reply or leaves it to the service.
+    fn request(&mut self, method: Method, message: Value) -> Result<Outcome, AllocError>
+        requires { IsSome (get (codes "id") (view message)) }
+        ensures step { IfOk result (λ out. IsStep self.old.stage out self.new.stage) }
+        ensures one { IfOk result (λ out. (id : Data) → get (codes "id") (view message) ≡ Some id → AnswersRequest (view message) id out) }
+        ensures left { IfOk result (λ out. (q : Question) → self.old.stage ≡ Stage.Ready → method ≡ Method.Question q → IsAsked q (view message) out) }
+        ensures kept { self.new.documents ≡ self.old.documents }
+    {
+        let why = match request_decision(self.stage, method) {
+            Decision::Go => return Ok(self.go(method, message)?),
+            Decision::Refuse(why) => why,
+            Decision::Ignore | Decision::End(_) => Refusal::InvalidRequest,
+        };
+        match message.get("id") {
+            None => Ok(Outcome::Nothing),
+            Some(id) => Ok(Outcome::Reply(self.refused(id, why)?)),
         }
     }
 
@@ -325,8 +341,8 @@ impl Session {
         }
         let why = Refusal::InvalidRequest;
         match message.get("id") {
-            Some(id) => Ok(Outcome::Reply(refusal(self.alloc, id, why, text_of(why))?)),
-            None => Ok(Outcome::Reply(refusal(self.alloc, &Value::Null, why, text_of(why))?)),
+            Some(id) => Ok(Outcome::Reply(self.refused(id, why)?)),
+            None => Ok(Outcome::Reply(self.refused(&Value::Null, why)?)),
         }
     }
 
@@ -334,8 +350,7 @@ impl Session {
     fn unread(&self) -> Result<Outcome, AllocError>
         ensures { IfOk result (λ out. RefusesMessage out) }
     {
-        let why = Refusal::ParseError;
-        Ok(Outcome::Reply(refusal(self.alloc, &Value::Null, why, text_of(why))?))
+        Ok(Outcome::Reply(self.refused(&Value::Null, Refusal::ParseError)?))
     }
 
     /// Takes a message.

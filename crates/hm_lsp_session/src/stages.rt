@@ -1,6 +1,6 @@
 //! What a server does with a message, by how far its session is.
 ghost use Rattle.std.specs.Prelude.{◌≡◌};
-ghost use Rattle.hm_lsp_session.specs.Stages.{code_of, method_named, notification_decision, request_decision};
+ghost use Rattle.hm_lsp_session.specs.Stages.{code_of, method_named, notification_decision, question_named, request_decision};
 
 /// How far a session is.
 #[derive(Clone, Copy, Debug, PartialEq, Eq)]
@@ -13,6 +13,16 @@ pub enum Stage {
     ShutDown,
 }
 
+/// The requests about what texts mean.
+#[derive(Clone, Copy, Debug, PartialEq, Eq)]
+pub enum Question {
+    Hover,
+    Definition,
+    References,
+    DocumentHighlight,
+    CodeAction,
+}
+
 /// The methods that a server acts on.
 #[derive(Clone, Copy, Debug, PartialEq, Eq)]
 pub enum Method {
@@ -22,9 +32,8 @@ pub enum Method {
     DidOpen,
     DidChange,
     DidClose,
-    Hover,
-    Definition,
-    CodeAction,
+    /// A request about what texts mean.
+    Question(Question),
     /// All others.
     Unknown,
 }
@@ -67,6 +76,22 @@ impl Refusal {
     }
 }
 
+impl Question {
+    /// Returns the request with this name.
+    pub fn of(name: &str) -> Option<Question>
+        ensures { result ≡ question_named name.now }
+    {
+        match name {
+            "textDocument/hover" => Some(Question::Hover),
+            "textDocument/definition" => Some(Question::Definition),
+            "textDocument/references" => Some(Question::References),
+            "textDocument/documentHighlight" => Some(Question::DocumentHighlight),
+            "textDocument/codeAction" => Some(Question::CodeAction),
+            _ => None,
+        }
+    }
+}
+
 impl Method {
     /// Returns the method with this name.
     pub fn of(name: &str) -> Method
@@ -79,10 +104,10 @@ impl Method {
             "textDocument/didOpen" => Method::DidOpen,
             "textDocument/didChange" => Method::DidChange,
             "textDocument/didClose" => Method::DidClose,
-            "textDocument/hover" => Method::Hover,
-            "textDocument/definition" => Method::Definition,
-            "textDocument/codeAction" => Method::CodeAction,
-            _ => Method::Unknown,
+            _ => match Question::of(name) {
+                Some(question) => Method::Question(question),
+                None => Method::Unknown,
+            },
         }
     }
 }
@@ -99,16 +124,12 @@ pub fn request_decision(stage: Stage, method: Method) -> Decision
             | Method::DidOpen
             | Method::DidChange
             | Method::DidClose
-            | Method::Hover
-            | Method::Definition
-            | Method::CodeAction
+            | Method::Question(_)
             | Method::Unknown => Decision::Refuse(Refusal::NotInitialized),
         },
         Stage::Ready => match method {
             Method::Initialize => Decision::Refuse(Refusal::InvalidRequest),
-            Method::Shutdown | Method::Hover | Method::Definition | Method::CodeAction => {
-                Decision::Go
-            }
+            Method::Shutdown | Method::Question(_) => Decision::Go,
             Method::Exit
             | Method::DidOpen
             | Method::DidChange
@@ -132,13 +153,10 @@ pub fn notification_decision(stage: Stage, method: Method) -> Decision
             Stage::Ready => Decision::Go,
             Stage::New | Stage::ShutDown => Decision::Ignore,
         },
-        Method::Initialize
-        | Method::Shutdown
-        | Method::Hover
-        | Method::Definition
-        | Method::CodeAction
-        | Method::Unknown => match stage {
-            Stage::New | Stage::Ready | Stage::ShutDown => Decision::Ignore,
-        },
+        Method::Initialize | Method::Shutdown | Method::Question(_) | Method::Unknown => {
+            match stage {
+                Stage::New | Stage::Ready | Stage::ShutDown => Decision::Ignore,
+            }
+        }
     }
 }
