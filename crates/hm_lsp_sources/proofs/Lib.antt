@@ -1,0 +1,5 @@
+mod Opened
+mod Grown
+mod Followed
+mod Schemes
+mod WorkedNames
