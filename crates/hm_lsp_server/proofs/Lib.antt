@@ -1,7 +1,4 @@
-pub mod Found
-pub mod Located
 pub mod OneReply
-pub mod Requests
 pub mod Publishing
 pub mod Serving
 pub mod Told

@@ -10,7 +10,7 @@ use Rattle.hm_service_sources.specs.declared.held.HeldSource.{HeldSource}
 use Rattle.hm_lsp_server.specs.Published.{AreTold, IsPublished, IsTold, told}
 use Rattle.hm_lsp_server.specs.Servers.{IsCurrent, checked_of, held_of, session_of, shown_of, sources_of, workers}
 use Rattle.hm_lsp_server.specs.declared.server.Server.{Server}
-use Rattle.hm_lsp_server.specs.declared.sources.Source.{Source}
+use Rattle.hm_lsp_sources.specs.declared.source.Source.{Source}
 
 -- the diagnostics by the check of a server
 pub told_published : (before after : Server) (c : Checked) (e : Encoding) (ss : List Source) (hs : List HeldSource) (was : List Bool) (shows : List Bool) (new : List Data) → checked_of after ≡ Some c → IsCurrent after

@@ -18,10 +18,10 @@ use Rattle.hm_lsp_session.specs.declared.stages.Stage.TheVariants.{Ready}
 use Rattle.hm_service.specs.Checks.{IsHeldCheck}
 use Rattle.hm_service_places.specs.declared.checked.Checked.{Checked}
 use Rattle.hm_service_sources.specs.declared.held.HeldSource.{HeldSource}
-use Rattle.hm_lsp_server.specs.Results.{IsReply}
+use Rattle.hm_lsp_results.specs.Results.{IsReply}
 use Rattle.hm_lsp_server.specs.Served.{IsServed, IsServedBy, subject_in}
 use Rattle.hm_lsp_server.specs.Servers.{IsCurrent, checked_of, held_of, session_of, sources_of, workers}
-use Rattle.hm_lsp_server.specs.declared.sources.Source.{Source}
+use Rattle.hm_lsp_sources.specs.declared.source.Source.{Source}
 use Rattle.hm_lsp_server.specs.declared.server.Server.{Server}
 
 by_reply : (s : Server) (c : Checked) (method : Method) (message id reply : Data) → checked_of s ≡ Some c → IsHeldCheck workers (held_of s) c → IsReply (subject_in s c) method message id reply → IsServedBy s method message id reply

@@ -6,24 +6,19 @@ use Rattle.std.proofs.lemmas.List.Folds.{list_all_more}
 use Rattle.std.specs.List.{list_all}
 use Rattle.std.specs.Borrow.{Bor}
 use Rattle.std.specs.Prelude.{option_map, slice_get, string_bytes}
-use Rattle.serde_json.specs.Data.{Data}
-use Rattle.serde_json.specs.View.{view}
+use Rattle.serde_json.specs.Data.{Data, array}
+use Rattle.serde_json.specs.View.{items_of, view}
+use Rattle.hm_lsp_values.specs.Diagnostics.{diagnostic_data}
 use Rattle.serde_json.specs.declared.value.Value.{Value}
 use Rattle.hm_lsp_positions.specs.declared.units.Encoding.{Encoding}
 use Rattle.hm_service_messages.specs.declared.diagnostic.Diagnostic.{Diagnostic}
 use Rattle.hm_service_places.specs.Diagnostics.{AreDiagnosticsAt}
 use Rattle.hm_service_places.specs.declared.checked.Checked.{Checked}
 use Rattle.hm_service_sources.specs.declared.held.HeldSource.{HeldSource}
-use Rattle.hm_lsp_server.specs.Published.{AreSent, AreTold, HasUri, IsTold, diagnostics_notice, has_some}
-use Rattle.hm_lsp_server.specs.declared.sources.Source.{Source}
-use Rattle.hm_lsp_server.proofs.Found.{at_get}
-
-pub map_twice : {A B C : Type 0} (f : B → C) (g : A → B) (xs : List A) → map f (map g xs) ≡ map (λ x. f (g x)) xs
-map_twice f g [] = refl
-map_twice f g (x ∷ xs) = ap (λ l. f (g x) ∷ l) (map_twice f g xs)
-
-pub has_uri : (sources : List Source) (n : ℕ) (s : Source) (uri : List ℕ) → n < length sources → s ≡ get_or sources n s → uri ≡ string_bytes s.uri → HasUri sources n uri
-has_uri sources n s uri low at is = ap (option_map (λ s. string_bytes s.uri)) (at_get sources n s low at) ∙ ap Some (sym is)
+use Rattle.hm_lsp_server.specs.Published.{AreSent, AreTold, IsTold, diagnostics_data, diagnostics_notice, has_some}
+use Rattle.hm_lsp_sources.specs.declared.source.Source.{Source}
+use Rattle.hm_lsp_results.specs.Asked.{HasUri}
+use Rattle.hm_lsp_results.proofs.Listed.{has_uri, map_twice}
 
 pub sent_some : (was : Bool) (encoding : Encoding) (uri : List ℕ) (ds : List Diagnostic) (sent : List Data) → has_some ds ≡ true → sent ≡ diagnostics_notice encoding uri ds ∷ [] → AreSent was encoding uri ds sent
 sent_some true encoding uri ds sent some is = is
@@ -45,14 +40,6 @@ pub one_more : (P : ℕ → Bool → List Data → Type 0) (n : ℕ) (old new : 
 one_more P n old new shows start before after first later so_far told is here pushed =
     let one : n + 1 ≡ suc n = omega arith in
     (first ++ later, is ∙ ap (λ (l : List Data). l ++ later) so_far ∙ append_assoc start first later, subst (λ k. AreTold P k new (first ++ later)) (sym one) (old, (shows, (first, (later, (pushed, (refl, (told, here))))))))
-
--- no source has the name among all, and among one more
-pub none_of : (P : Source → Bool) (sources : List Source) (i : ℕ) → length sources ≤ i → list_all P (take i sources) ≡ true → list_all P sources ≡ true
-none_of P sources i ends h = ap (list_all P) (sym (take_all i sources ends)) ∙ h
-
-pub one_more_other : (P : Source → Bool) (sources : List Source) (i : ℕ) (s : Source) → i < length sources → list_all P (take i sources) ≡ true → P (get_or sources i s) ≡ true
-    → list_all P (take (i + 1) sources) ≡ true
-one_more_other P sources i s low before here = list_all_more P sources i s low ∙ and_from _ _ before here
 
 pub all_told : (P : ℕ → Bool → List Data → Type 0) (n m : ℕ) (shown : List Bool) (sent : List Data) → n ≡ m → AreTold P n shown sent → AreTold P m shown sent
 all_told P n m shown sent same h = subst (λ k. AreTold P k shown sent) same h
@@ -89,11 +76,8 @@ told_some encoding sources held c was n s uri ds b shows before after notice low
     ] in
     (notice ∷ [], sent, record { uri = uri; ds = map (λ d. d.now) ds; named = has_uri sources n s uri low at named; found = found; are_sent = are; shows = shows_is ∙ some_of ds b is })
 
--- the step of a loop over diagnostics
-pub valued_more : (f : Bor Diagnostic → Data) (ds : List (Bor Diagnostic)) (i : ℕ) (d : Bor Diagnostic) (old new : List Value) (v : Value) → i < length ds → d ≡ get_or ds i d → map view old ≡ map f (take i ds) → view v ≡ f d → new ≡ old ++ v ∷ []
-    → map view new ≡ map f (take (i + 1) ds)
-valued_more f ds i d old new v low at so_far is pushed =
-    ap (map view) pushed ∙ map-append view old (v ∷ []) ∙ ap (λ (l : List Data). l ++ view v ∷ []) so_far ∙ ap (λ x. map f (take i ds) ++ x ∷ []) (is ∙ ap f at) ∙ sym (map_more f ds i d low)
-
 pub same_found : (held : List HeldSource) (c : Checked) (n : ℕ) (part found : List (Bor Diagnostic)) → part ≡ found → AreDiagnosticsAt (slice_get held n) c n (map (λ d. d.now) found) → AreDiagnosticsAt (slice_get held n) c n (map (λ d. d.now) part)
 same_found held c n part found same h = subst (λ l. AreDiagnosticsAt (slice_get held n) c n (map (λ d. d.now) l)) (sym same) h
+
+pub are_diagnostics : (encoding : Encoding) (ds : List (Bor Diagnostic)) (values : List Value) → map view values ≡ map (λ d. diagnostic_data encoding d.now) ds → array (items_of (map view values)) ≡ diagnostics_data encoding (map (λ d. d.now) ds)
+are_diagnostics encoding ds values same = ap (λ l. array (items_of l)) (same ∙ sym (map_twice (diagnostic_data encoding) (λ d. d.now) ds))

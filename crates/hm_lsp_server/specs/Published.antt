@@ -1,8 +1,9 @@
 -- The diagnostics that are sent to a client (Language Server Protocol 3.17, "PublishDiagnostics Notification", "ShowMessage Notification").
-use Rattle.std.specs.Prelude.{◌≡◌, ◌⊎◌, ℕ, zero, suc, Bool, true, false, List, [], ◌∷◌, ◌++◌, None, Some, codes, length, map, option_map, slice_get, slice_index_or, string_bytes}
+use Rattle.std.specs.Prelude.{◌≡◌, ◌⊎◌, ℕ, zero, suc, Bool, true, false, List, [], ◌∷◌, ◌++◌, None, Some, codes, length, map, slice_get, slice_index_or}
 use Rattle.serde_json.specs.Data.{Data, array, member, no_members, number, object, string, unsigned}
 use Rattle.serde_json.specs.View.{items_of}
 use Rattle.hm_lsp_positions.specs.declared.units.Encoding.{Encoding}
+use Rattle.hm_lsp_results.specs.Asked.{HasUri}
 use Rattle.hm_lsp_session.specs.Replies.{notice_data}
 use Rattle.hm_lsp_session.specs.Steps.{stage_of}
 use Rattle.hm_lsp_session.specs.Effects.{encoding_of}
@@ -15,7 +16,7 @@ use Rattle.hm_service_places.specs.declared.checked.Checked.{Checked}
 use Rattle.hm_service_sources.specs.declared.held.HeldSource.{HeldSource}
 use Rattle.hm_lsp_server.specs.Servers.{checked_of, held_of, is_changed, session_of, shown_of, sources_of, workers}
 use Rattle.hm_lsp_server.specs.declared.server.Server.{Server}
-use Rattle.hm_lsp_server.specs.declared.sources.Source.{Source}
+use Rattle.hm_lsp_sources.specs.declared.source.Source.{Source}
 
 abbrev pub diagnostics_data : Encoding → List Diagnostic → Data
 diagnostics_data encoding ds = array (items_of (map (diagnostic_data encoding) ds))
@@ -24,10 +25,6 @@ diagnostics_data encoding ds = array (items_of (map (diagnostic_data encoding) d
 abbrev pub diagnostics_notice : Encoding → List ℕ → List Diagnostic → Data
 diagnostics_notice encoding uri ds =
     notice_data (codes "textDocument/publishDiagnostics") (object (member (codes "diagnostics") (diagnostics_data encoding ds) (member (codes "uri") (string uri) no_members)))
-
--- the URI of the source with this number
-abbrev pub HasUri : List Source → ℕ → List ℕ → Type 0
-HasUri sources n uri = option_map (λ s. string_bytes s.uri) (slice_get sources n) ≡ Some uri
 
 -- the diagnostics are sent, unless there are none and the client shows none
 abbrev pub AreSent : Bool → Encoding → List ℕ → List Diagnostic → List Data → Type 0
@@ -54,10 +51,10 @@ AreTold P zero shown sent = (shown ≡ []) × (sent ≡ [])
 AreTold P (suc n) shown sent =
     (before : List Bool) × ((last : Bool) × ((first : List Data) × ((later : List Data) × ((shown ≡ before ++ last ∷ []) × ((sent ≡ first ++ later) × (AreTold P n before first × P n last later))))))
 
--- memory ran out in the check
+-- the check failed: memory ran out, no thread could start, or two results contradict each other
 abbrev pub no_check_notice : Data
 no_check_notice = notice_data (codes "window/showMessage")
-    (object (member (codes "message") (string (codes "hmc: no memory for a check of these sources")) (member (codes "type") (number (unsigned 1)) no_members)))
+    (object (member (codes "message") (string (codes "hmc couldn't check these sources. Memory may have run out")) (member (codes "type") (number (unsigned 1)) no_members)))
 
 -- the diagnostics of the texts that are held now, by a check of them
 pub record AreOfCheck (before after : Server) (c : Checked) (new : List Data) : Type 0 where
@@ -65,7 +62,7 @@ pub record AreOfCheck (before after : Server) (c : Checked) (new : List Data) : 
   pub check : IsHeldCheck workers (held_of after) c
   pub told : AreTold (λ n. IsTold (encoding_of (session_of after)) (sources_of after) (held_of after) c (slice_index_or (shown_of before) n false) n) (length (sources_of after)) (shown_of after) new
 
--- what is sent: nothing while the client isn't ready or if the texts are those of before, and else the diagnostics of all sources, or that memory ran out
+-- what is sent: nothing while the client isn't ready or if the texts are those of before, and else the diagnostics of all sources, or that the check failed
 pub data IsPublished (before after : Server) (new : List Data) : Type 0 where
   nothing : (is_changed before ≡ false) ⊎ (¬ (stage_of (session_of before) ≡ Ready)) → new ≡ [] → shown_of after ≡ shown_of before → IsPublished before after new
   no_check : checked_of after ≡ None → new ≡ no_check_notice ∷ [] → shown_of after ≡ shown_of before → IsPublished before after new

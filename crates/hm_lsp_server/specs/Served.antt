@@ -12,8 +12,8 @@ use Rattle.hm_lsp_session.specs.declared.stages.Method.{Method}
 use Rattle.hm_lsp_session.specs.declared.stages.Stage.TheVariants.{Ready}
 use Rattle.hm_service.specs.Checks.{IsHeldCheck}
 use Rattle.hm_service_places.specs.declared.checked.Checked.{Checked}
-use Rattle.hm_lsp_server.specs.Asked.{Subject}
-use Rattle.hm_lsp_server.specs.Results.{IsReply, failure_data}
+use Rattle.hm_lsp_results.specs.Asked.{Subject}
+use Rattle.hm_lsp_results.specs.Results.{IsReply, failure_data}
 use Rattle.hm_lsp_server.specs.Servers.{checked_of, held_of, session_of, sources_of, workers}
 use Rattle.hm_lsp_server.specs.declared.server.Server.{Server}
 

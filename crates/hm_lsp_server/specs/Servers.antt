@@ -5,7 +5,7 @@ use Rattle.hm_service.specs.Checks.{IsHeldCheck}
 use Rattle.hm_service_places.specs.declared.checked.Checked.{Checked}
 use Rattle.hm_service_sources.specs.declared.held.HeldSource.{HeldSource}
 use Rattle.hm_lsp_server.specs.declared.server.Server.{Server}
-use Rattle.hm_lsp_server.specs.declared.sources.Source.{Source}
+use Rattle.hm_lsp_sources.specs.declared.source.Source.{Source}
 
 abbrev pub session_of : Server → Session
 session_of s = s.session

@@ -2,10 +2,8 @@
 use Rattle.std.specs.Prelude.{◌≡◌, true, false, [], ◌∷◌, None, Some, codes}
 use Rattle.serde_json.specs.Data.{Data, null}
 use Rattle.hm_lsp_positions.specs.declared.units.Encoding.TheVariants.{Utf16}
-use Rattle.hm_lsp_server.specs.Asked.{IsNumberOf}
 use Rattle.hm_lsp_server.specs.Published.{AreSent, diagnostics_notice}
 use Rattle.hm_lsp_server.specs.Replied.{AreRepliesTo}
-use Rattle.hm_lsp_server.specs.declared.sources.Source.{Source}
 
 -- a notification has no reply, and a request has one
 pub record RepliesRow : Type 0 where
@@ -18,8 +16,3 @@ pub record SentRow : Type 0 where
   pub silent : AreSent false Utf16 (codes "file:///a.hs") [] []
   pub cleared : AreSent true Utf16 (codes "file:///a.hs") [] (diagnostics_notice Utf16 (codes "file:///a.hs") [] ∷ [])
   pub not_silent : ¬ (AreSent true Utf16 (codes "file:///a.hs") [] [])
-
--- the first source of the name counts
-pub record NumbersRow : Type 0 where
-  pub first : (s : Source) → s.name.items ≡ codes "file:///a.hs" → IsNumberOf (s ∷ s ∷ []) (codes "file:///a.hs") (Some 0)
-  pub not_second : (s : Source) → s.name.items ≡ codes "file:///a.hs" → ¬ (IsNumberOf (s ∷ s ∷ []) (codes "file:///a.hs") (Some 1))

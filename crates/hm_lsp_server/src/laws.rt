@@ -1,5 +1,5 @@
 //! Worked examples.
-ghost use Rattle.hm_lsp_server.specs.Worked.{NumbersRow, RepliesRow, SentRow};
+ghost use Rattle.hm_lsp_server.specs.Worked.{RepliesRow, SentRow};
 
 /// Replies to a notification and to a request.
 #[tactic(auto, using(crate::proofs::WorkedReplies::worked_replies))]
@@ -7,9 +7,8 @@ pub fn worked_replies()
     ensures { RepliesRow }
 {}
 
-/// What is sent of a source, and which source has a name.
-#[tactic(auto, using(crate::proofs::WorkedSources::worked_sent, crate::proofs::WorkedSources::worked_numbers))]
+/// What is sent of a source.
+#[tactic(auto, using(crate::proofs::WorkedSources::worked_sent))]
 pub fn worked_sources()
-    ensures sent { SentRow }
-    ensures numbers { NumbersRow }
+    ensures { SentRow }
 {}

@@ -1,11 +1,13 @@
 -- Worked examples.
-use Rattle.std.specs.Prelude.{◌≡◌, Some, None, codes}
+use Rattle.std.specs.Prelude.{◌≡◌, true, false, Some, None, codes}
 use Rattle.hm_lsp_positions.specs.declared.units.Encoding.TheVariants.{Utf8, Utf16}
 use Rattle.hm_messages_json.specs.declared.message.Level.TheVariants.{Error, Note}
 use Rattle.hm_messages_json.specs.declared.message.Position.{Position as Place}
 use Rattle.hm_lsp_values.specs.Diagnostics.{severity_of, text_with}
 use Rattle.hm_lsp_values.specs.Names.{IsShown}
 use Rattle.hm_lsp_values.specs.Places.{position_of_place}
+use Rattle.hm_lsp_values.specs.References.{IsSpan, kind_of}
+use Rattle.hm_uses_references.specs.declared.finding.Reference.{Reference}
 
 -- a place in line 2, after a letter of two bytes
 abbrev pub second_line : Place
@@ -22,3 +24,9 @@ pub record ValuesRow : Type 0 where
 pub record HoverRow : Type 0 where
   pub shown : IsShown (codes "variable x\n  bound at 0:1:1\n  a -> a\n") (codes "variable x\n  a -> a\n")
   pub not_bound : ¬ (IsShown (codes "  bound at 0:1:1") (codes "  bound at 0:1:1"))
+
+-- in `f = f` the second name is used, and not bound
+pub record SpanRow : Type 0 where
+  pub second : (r : Reference) → r.line ≡ 1 → r.column ≡ 5 → r.length ≡ 1 → IsSpan Utf16 (codes "f = f") r (record { line = 0; column = 4 }) (record { line = 0; column = 5 })
+  pub bound : (r : Reference) → r.binds ≡ true → kind_of r ≡ 3
+  pub not_bound : (r : Reference) → r.binds ≡ false → ¬ (kind_of r ≡ 3)

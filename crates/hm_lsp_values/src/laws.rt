@@ -1,5 +1,5 @@
 //! Worked examples. Each is a function with an empty body, and its contract states the example.
-ghost use Rattle.hm_lsp_values.specs.Worked.{HoverRow, ValuesRow};
+ghost use Rattle.hm_lsp_values.specs.Worked.{HoverRow, SpanRow, ValuesRow};
 
 /// Positions, severities and texts.
 #[tactic(auto, using(crate::proofs::WorkedValues::worked_values))]
@@ -11,4 +11,10 @@ pub fn worked_values()
 #[tactic(auto, using(crate::proofs::WorkedValues::worked_hover))]
 pub fn worked_hover()
     ensures { HoverRow }
+{}
+
+/// Where a name is written.
+#[tactic(auto, using(crate::proofs::WorkedSpans::worked_spans))]
+pub fn worked_spans()
+    ensures { SpanRow }
 {}

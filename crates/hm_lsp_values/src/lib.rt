@@ -7,7 +7,9 @@ mod diagnostics;
 pub mod laws;
 mod names;
 mod positions;
+mod references;
 
 pub use crate::diagnostics::{action_value, diagnostic_value};
 pub use crate::names::{hover_value, location_value};
 pub use crate::positions::place_at;
+pub use crate::references::{highlight_value, reference_value};

@@ -2,8 +2,8 @@ use Rattle.std.proofs.Common.{rules, map, ap, ◌∙◌}
 use Rattle.std.proofs.lemmas.List.{take_all}
 use Rattle.hm_lsp_values.specs.Diagnostics.{diagnostic_data}
 use Rattle.serde_json.proofs.Views.{view-Array}
-use Rattle.hm_lsp_server.proofs.Located.{are_diagnostics}
-use Rattle.hm_lsp_server.proofs.Told.{valued_more}
+use Rattle.hm_lsp_results.proofs.Listed.{valued_more}
+use Rattle.hm_lsp_server.proofs.Told.{are_diagnostics}
 use Rattle.hm_lsp_server.proofs.telling.diagnostic_values.Goals as goal
 
 pub returns : goal.returns

@@ -1,7 +1,7 @@
 use Rattle.std.proofs.Common.{rules, ◌≡◌, ◌⊎◌, ◌∙◌, true, false, not, [], ◌∷◌, inl, inr, map, ap, refl, string_bytes, sym}
 use Rattle.std.proofs.lemmas.List.{map-append}
 use Rattle.serde_json.specs.View.{view}
-use Rattle.hm_lsp_server.specs.declared.sources.Source.{Source}
+use Rattle.hm_lsp_sources.specs.declared.source.Source.{Source}
 use Rattle.hm_lsp_server.proofs.Told.{told_none, told_some, same_found}
 use Rattle.hm_lsp_server.proofs.telling.tell_one.Goals as goal
 use Rattle.hm_lsp_server.proofs.telling.tell_one.Goals.{else-is_empty-via-then-is_empty+else-not-is_shown, else-is_empty-via-else-is_empty}

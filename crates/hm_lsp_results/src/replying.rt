@@ -1,0 +1,108 @@
+//! Replies to requests about the texts.
+ghost use Rattle.std.specs.Prelude.{◌≡◌, IfOk, codes, option_map};
+ghost use Rattle.serde_json.specs.View.{view};
+ghost use Rattle.hm_lsp_session.specs.Replies.{IsReplyTo, method_of};
+ghost use Rattle.hm_lsp_results.specs.Asked.{subject_of};
+ghost use Rattle.hm_lsp_results.specs.Results.{HasPosition, HasRange, IsReply, IsResult, IsResultOf, failure_data};
+
+use crate::asking::{Asked, actions, definition, hover, source_in};
+use crate::faults::ServerFault;
+use hm_lsp_positions::{Position, Range};
+use hm_lsp_session::{Method, Refusal, position_in, range_in, refusal, reply};
+use serde_json::{Value, json};
+use std::alloc::{AllocError, Global};
+use std::sync::Wait;
+use std::thread::Threads;
+
+/// Returns the position of a request.
+fn position_of_request(request: &Value) -> Option<Position>
+    ensures { HasPosition (view request.now) result }
+{
+    match request.pointer("/params/position") {
+        None => None,
+        Some(position) => position_in(position),
+    }
+}
+
+/// Returns the range of a request.
+fn range_of_request(request: &Value) -> Option<Range>
+    ensures { HasRange (view request.now) result }
+{
+    match request.pointer("/params/range") {
+        None => None,
+        Some(range) => range_in(range),
+    }
+}
+
+/// Returns the result of a request about a source, or `None` if its parameters aren't valid.
+fn result_of<T: Threads + Wait + Sync>(
+    rt: &T,
+    asked: &Asked<'_>,
+    method: Method,
+    source: usize,
+    request: &Value,
+) -> Result<Option<Value>, ServerFault>
+    ensures { IfOk result (λ made. IsResultOf (subject_of asked.now) method source (view request.now) (option_map view made)) }
+{
+    match method {
+        Method::Hover => match position_of_request(request) {
+            None => Ok(None),
+            Some(position) => Ok(Some(hover(rt, asked, source, position)?)),
+        },
+        Method::Definition => match position_of_request(request) {
+            None => Ok(None),
+            Some(position) => Ok(Some(definition(rt, asked, source, position)?)),
+        },
+        Method::CodeAction => match range_of_request(request) {
+            None => Ok(None),
+            Some(range) => Ok(Some(actions(asked, source, range)?)),
+        },
+        _ => Ok(None),
+    }
+}
+
+/// Returns the result of a request, or `None` if its parameters aren't valid.
+fn result_in<T: Threads + Wait + Sync>(
+    rt: &T,
+    asked: &Asked<'_>,
+    method: Method,
+    request: &Value,
+) -> Result<Option<Value>, ServerFault>
+    ensures { IfOk result (λ made. IsResult (subject_of asked.now) method (view request.now) (option_map view made)) }
+{
+    match source_in(asked, request)? {
+        None => Ok(None),
+        Some(source) => Ok(result_of(rt, asked, method, source, request)?),
+    }
+}
+
+/// Returns the reply to a request for which memory ran out.
+pub(crate) fn failure(alloc: Global, id: &Value) -> Result<Value, AllocError>
+    ensures value { IfOk result (λ made. view made ≡ failure_data (view id.now)) }
+    ensures id { IfOk result (λ made. IsReplyTo (view id.now) (view made)) }
+{
+    json!(in alloc; {"error": {"code": (-32603), "message": "no memory"}, "id": id, "jsonrpc": "2.0"})
+}
+
+/// Returns the reply to a request with this identifier.
+pub(crate) fn replied<T: Threads + Wait + Sync>(
+    rt: &T,
+    asked: &Asked<'_>,
+    method: Method,
+    id: &Value,
+    request: &Value,
+) -> Result<Value, AllocError>
+    ensures value { IfOk result (λ made. IsReply (subject_of asked.now) method (view request.now) (view id.now) (view made)) }
+    ensures id { IfOk result (λ made. IsReplyTo (view id.now) (view made)) }
+{
+    match result_in(rt, asked, method, request) {
+        Ok(Some(result)) => reply(asked.alloc, id, result),
+        Ok(None) => refusal(
+            asked.alloc,
+            id,
+            Refusal::InvalidParams,
+            "these parameters aren't valid",
+        ),
+        Err(_) => failure(asked.alloc, id),
+    }
+}

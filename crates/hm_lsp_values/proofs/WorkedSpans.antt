@@ -1,0 +1,42 @@
+-- Worked examples of where names are written.
+use Rattle.std.proofs.Common.{◌≡◌, ◌+◌, ◌-◌, ◌<◌, ℕ, List, true, false, codes, length, min, take, arith, refl, sym, ap, subst, ◌∙◌}
+use Rattle.std.proofs.lemmas.Bool.{cond-false, cond-true}
+use Rattle.hm_lsp_positions.specs.Lines.{line_start}
+use Rattle.hm_lsp_positions.specs.Positions.{IsBetween, IsColumn, IsOffsetOf, IsPositionOf}
+use Rattle.hm_lsp_positions.specs.Units.{units}
+use Rattle.hm_lsp_positions.specs.declared.units.Encoding.TheVariants.{Utf8, Utf16}
+use Rattle.hm_lsp_values.specs.References.{IsSpan, kind_of}
+use Rattle.hm_lsp_values.specs.Worked.{SpanRow}
+use Rattle.hm_uses_references.specs.declared.finding.Reference.{Reference}
+
+later : (j : ℕ) → j ≡ 5 → 4 < units Utf8 (take j (codes "f = f"))
+later j is = subst (λ k. 4 < units Utf8 (take k (codes "f = f"))) (sym is) (omega arith)
+
+at_four : IsColumn Utf8 (codes "f = f") 4 4
+at_four = record { between = record { within = omega arith; apart = refl }; most = omega arith; last = λ j after between. later j (omega (arith, after, between.within)) }
+
+offset_four : IsOffsetOf Utf8 (codes "f = f") (record { line = 0; column = 4 }) 4
+unfolding line_start
+offset_four = (4, at_four, refl)
+
+position_four : IsPositionOf Utf16 (codes "f = f") 4 (record { line = 0; column = 4 })
+unfolding line_start
+position_four = record { start = 0; starts = refl; after = omega arith; last = tt; column = refl }
+
+position_five : IsPositionOf Utf16 (codes "f = f") 5 (record { line = 0; column = 5 })
+unfolding line_start
+position_five = record { start = 0; starts = refl; after = omega arith; last = tt; column = refl }
+
+second : (r : Reference) → r.line ≡ 1 → r.column ≡ 5 → r.length ≡ 1 → IsSpan Utf16 (codes "f = f") r (record { line = 0; column = 4 }) (record { line = 0; column = 5 })
+second r line column len = record {
+  offset = 4;
+  at = subst (λ l. IsOffsetOf Utf8 (codes "f = f") (record { line = l - 1; column = r.column - 1 }) 4) (sym line) (subst (λ k. IsOffsetOf Utf8 (codes "f = f") (record { line = 0; column = k - 1 }) 4) (sym column) offset_four);
+  starts = position_four;
+  ends = subst (λ n. IsPositionOf Utf16 (codes "f = f") (min (4 + n) 5) (record { line = 0; column = 5 })) (sym len) position_five;
+}
+
+three : (r : Reference) → r.binds ≡ false → kind_of r ≡ 3 → ⊥
+three r is e = omega (arith, cond-false {A = ℕ} _ 3 2 is, e)
+
+pub worked_spans : SpanRow
+worked_spans = record { second = second; bound = λ r is. cond-true _ _ _ is; not_bound = three }
