@@ -1,4 +1,6 @@
+pub mod Chosen
 pub mod Found
 pub mod Listed
 pub mod Located
+pub mod Referred
 pub mod Requests

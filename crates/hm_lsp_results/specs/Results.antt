@@ -1,7 +1,7 @@
--- The results of requests about the texts, and their replies (Language Server Protocol 3.17, "Hover Request", "Goto Definition Request", "Code Action Request").
-use Rattle.std.specs.Prelude.{◌≡◌, ◌≤◌, ◌⊎◌, ℕ, negsuc, List, Option, None, Some, codes, length, map, slice_get, string_bytes}
+-- The results of requests about the texts, and their replies (Language Server Protocol 3.17, "Hover Request", "Goto Definition Request", "Code Action Request"; "Find References Request" and "Document Highlights Request" are in References).
+use Rattle.std.specs.Prelude.{◌≡◌, ◌≤◌, ◌⊎◌, ℕ, negsuc, Bool, true, List, Option, None, Some, codes, length, map, option_and_then, slice_get, string_bytes}
 use Rattle.serde_json.specs.Data.{Data, array, no_items, null}
-use Rattle.serde_json.specs.Find.{pointer}
+use Rattle.serde_json.specs.Find.{as_bool, pointer}
 use Rattle.serde_json.specs.View.{items_of}
 use Rattle.hm_lsp_positions.specs.declared.changes.Range.{Range}
 use Rattle.hm_lsp_positions.specs.declared.positions.Position.{Position}
@@ -10,8 +10,8 @@ use Rattle.hm_messages_json.specs.declared.message.Position.{Position as Place}
 use Rattle.hm_lsp_session.specs.Params.{IsPositionIn, IsRangeIn}
 use Rattle.hm_lsp_session.specs.Replies.{refusal_data, reply_data}
 use Rattle.hm_lsp_session.specs.Stages.{code_of}
-use Rattle.hm_lsp_session.specs.declared.stages.Method.{Method}
-use Rattle.hm_lsp_session.specs.declared.stages.Method.TheVariants.{CodeAction, Definition, DidChange, DidClose, DidOpen, Exit, Hover, Initialize, Shutdown, Unknown}
+use Rattle.hm_lsp_session.specs.declared.stages.Question.{Question}
+use Rattle.hm_lsp_session.specs.declared.stages.Question.TheVariants.{CodeAction, Definition, DocumentHighlight, Hover, References}
 use Rattle.hm_lsp_session.specs.declared.stages.Refusal.TheVariants.{InvalidParams}
 use Rattle.hm_lsp_values.specs.Diagnostics.{action_data}
 use Rattle.hm_lsp_values.specs.Names.{IsHover, IsLocation}
@@ -23,8 +23,8 @@ use Rattle.hm_service_places.specs.Diagnostics.{AreDiagnosticsAt}
 use Rattle.hm_service_places.specs.declared.checked.Checked.{Checked}
 use Rattle.hm_service_places.specs.declared.places.AtPlace.{AtPlace}
 use Rattle.hm_service_sources.specs.declared.held.HeldSource.{HeldSource}
-use Rattle.hm_lsp_results.specs.Asked.{HasNothingAt, IsNamedAt, IsReadText, IsSourceIn, Subject}
-use Rattle.hm_lsp_results.specs.Asked.{HasUri}
+use Rattle.hm_lsp_results.specs.Asked.{HasNothingAt, HasUri, IsNamedAt, IsReadText, IsSourceIn, Subject}
+use Rattle.hm_lsp_results.specs.References.{IsHighlightsResult, IsReferencesResult}
 use Rattle.hm_lsp_sources.specs.declared.source.Source.{Source}
 
 -- Hover
@@ -75,61 +75,60 @@ pub data IsActionsResult (encoding : Encoding) (sources : List Source) (held : L
 
 -- Replies
 
--- the position of a request, or that it has none
+-- what a request has at a path, or that it has nothing of the kind there
+abbrev pub HasAt : {X : Type 0} → (Data → X → Type 0) → List ℕ → Data → Option X → Type 0
+HasAt IsIn path request (Some x) = (d : Data) × (pointer path request ≡ Some d) × IsIn d x
+HasAt {X} IsIn path request None = (d : Data) (x : X) → pointer path request ≡ Some d → ¬ (IsIn d x)
+
 abbrev pub HasPosition : Data → Option Position → Type 0
-HasPosition request (Some p) = (d : Data) × (pointer (codes "/params/position") request ≡ Some d) × IsPositionIn d p
-HasPosition request None = (d : Data) (p : Position) → pointer (codes "/params/position") request ≡ Some d → ¬ (IsPositionIn d p)
+HasPosition request p = HasAt IsPositionIn (codes "/params/position") request p
 
 abbrev pub HasRange : Data → Option Range → Type 0
-HasRange request (Some r) = (d : Data) × (pointer (codes "/params/range") request ≡ Some d) × IsRangeIn d r
-HasRange request None = (d : Data) (r : Range) → pointer (codes "/params/range") request ≡ Some d → ¬ (IsRangeIn d r)
+HasRange request r = HasAt IsRangeIn (codes "/params/range") request r
+
+-- a result for what the request has, or that its parameters aren't valid
+abbrev pub IsResultFor : {X : Type 0} → (X → Data → Type 0) → Option X → Option Data → Type 0
+IsResultFor P None result = result ≡ None
+IsResultFor P (Some x) None = ⊥
+IsResultFor P (Some x) (Some value) = P x value
+
+abbrev pub IsResultAtPosition : (Position → Data → Type 0) → Data → Option Data → Type 0
+IsResultAtPosition P request result = (p : Option Position) × (HasPosition request p × IsResultFor P p result)
+
+abbrev pub declares : Option Bool → Bool
+declares None = true
+declares (Some b) = b
+
+-- declarations are among the references, unless the request says that they aren't
+abbrev pub with_declarations : Data → Bool
+with_declarations request = declares (option_and_then as_bool (pointer (codes "/params/context/includeDeclaration") request))
 
 -- the result of a request about source number n, or that its parameters aren't valid
-abbrev pub IsHoverOf : Subject → ℕ → Option Position → Option Data → Type 0
-IsHoverOf asked n None result = result ≡ None
-IsHoverOf asked n (Some p) None = ⊥
-IsHoverOf asked n (Some p) (Some value) = IsHoverResult asked.encoding asked.held asked.checked n p value
-
-abbrev pub IsDefinitionOf : Subject → ℕ → Option Position → Option Data → Type 0
-IsDefinitionOf asked n None result = result ≡ None
-IsDefinitionOf asked n (Some p) None = ⊥
-IsDefinitionOf asked n (Some p) (Some value) = IsDefinitionResult asked.encoding asked.sources asked.held asked.checked n p value
-
-abbrev pub AreActionsOf : Subject → ℕ → Option Range → Option Data → Type 0
-AreActionsOf asked n None result = result ≡ None
-AreActionsOf asked n (Some r) None = ⊥
-AreActionsOf asked n (Some r) (Some value) = IsActionsResult asked.encoding asked.sources asked.held asked.checked n r value
-
-abbrev pub IsResultOf : Subject → Method → ℕ → Data → Option Data → Type 0
-IsResultOf asked Hover n request result = (p : Option Position) × (HasPosition request p × IsHoverOf asked n p result)
-IsResultOf asked Definition n request result = (p : Option Position) × (HasPosition request p × IsDefinitionOf asked n p result)
-IsResultOf asked CodeAction n request result = (r : Option Range) × (HasRange request r × AreActionsOf asked n r result)
-IsResultOf asked Initialize n request result = result ≡ None
-IsResultOf asked Shutdown n request result = result ≡ None
-IsResultOf asked Exit n request result = result ≡ None
-IsResultOf asked DidOpen n request result = result ≡ None
-IsResultOf asked DidChange n request result = result ≡ None
-IsResultOf asked DidClose n request result = result ≡ None
-IsResultOf asked Unknown n request result = result ≡ None
+abbrev pub IsResultOf : Subject → Question → ℕ → Data → Option Data → Type 0
+IsResultOf asked Hover n request result = IsResultAtPosition (IsHoverResult asked.encoding asked.held asked.checked n) request result
+IsResultOf asked Definition n request result = IsResultAtPosition (IsDefinitionResult asked.encoding asked.sources asked.held asked.checked n) request result
+IsResultOf asked References n request result = IsResultAtPosition (IsReferencesResult asked (with_declarations request) n) request result
+IsResultOf asked DocumentHighlight n request result = IsResultAtPosition (IsHighlightsResult asked n) request result
+IsResultOf asked CodeAction n request result = (r : Option Range) × (HasRange request r × IsResultFor (IsActionsResult asked.encoding asked.sources asked.held asked.checked n) r result)
 
 -- by whether the document that the request names is a source
-abbrev pub IsResultAt : Subject → Method → Option ℕ → Data → Option Data → Type 0
-IsResultAt asked method None request result = result ≡ None
-IsResultAt asked method (Some n) request result = IsResultOf asked method n request result
+abbrev pub IsResultAt : Subject → Question → Option ℕ → Data → Option Data → Type 0
+IsResultAt asked question None request result = result ≡ None
+IsResultAt asked question (Some n) request result = IsResultOf asked question n request result
 
-pub record IsResult (asked : Subject) (method : Method) (request : Data) (result : Option Data) : Type 0 where
+pub record IsResult (asked : Subject) (question : Question) (request : Data) (result : Option Data) : Type 0 where
   pub source : Option ℕ
   pub is_source : IsSourceIn asked.sources request source
-  pub is : IsResultAt asked method source request result
+  pub is : IsResultAt asked question source request result
 
--- the reply to a request for which memory ran out or no thread could start
+-- the reply to a request for which memory ran out, no thread could start, or two results contradict each other
 abbrev pub failure_data : Data → Data
-failure_data id = refusal_data id (negsuc 32602) (codes "no memory")
+failure_data id = refusal_data id (negsuc 32602) (codes "hmc couldn't reply. Memory may have run out")
 
 -- the reply with a result, or that the parameters aren't valid
 abbrev pub reply_with : Data → Option Data → Data
 reply_with id (Some result) = reply_data id result
 reply_with id None = refusal_data id (code_of InvalidParams) (codes "these parameters aren't valid")
 
-abbrev pub IsReply : Subject → Method → Data → Data → Data → Type 0
-IsReply asked method request id reply = (reply ≡ failure_data id) ⊎ ((result : Option Data) × (IsResult asked method request result × (reply ≡ reply_with id result)))
+abbrev pub IsReply : Subject → Question → Data → Data → Data → Type 0
+IsReply asked question request id reply = (reply ≡ failure_data id) ⊎ ((result : Option Data) × (IsResult asked question request result × (reply ≡ reply_with id result)))

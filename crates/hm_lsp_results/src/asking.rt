@@ -5,9 +5,9 @@ ghost use Rattle.hm_lsp_results.specs.Asked.{IsFoundAt, IsReadText, IsSourceIn, 
 ghost use Rattle.hm_lsp_results.specs.Results.{AreActions, IsActionsResult, IsBoundResult, IsDefinitionResult, IsHoverResult, actions_data};
 
 use crate::faults::ServerFault;
-use crate::sources::{Source, name_of, number_of};
 use hm_lsp_positions::{Encoding, Position, Range, offset_of, position_of};
 use hm_lsp_session::text_at;
+use hm_lsp_sources::{Source, name_of, number_of};
 use hm_lsp_values::{action_value, hover_value, location_value, place_at};
 use hm_service::{
     AtPlace, Bound, Checked, Diagnostic, HeldSource, actions_in, diagnostics_of, place_of,
@@ -17,14 +17,14 @@ use std::alloc::{AllocError, Global};
 use std::sync::Wait;
 use std::thread::Threads;
 
-/// What a request is about.
+/// What requests are about: the sources of a client with the texts that are held for them, a check of these, and what columns count.
 #[derive(Clone, Copy)]
-pub(crate) struct Asked<'a> {
-    pub(crate) alloc: Global,
-    pub(crate) encoding: Encoding,
-    pub(crate) sources: &'a [Source],
-    pub(crate) held: &'a [HeldSource],
-    pub(crate) checked: &'a Checked,
+pub struct Asked<'a> {
+    pub alloc: Global,
+    pub encoding: Encoding,
+    pub sources: &'a [Source],
+    pub held: &'a [HeldSource],
+    pub checked: &'a Checked,
 }
 
 /// Returns the number of the source that a request names.
@@ -41,7 +41,7 @@ pub(crate) fn source_in(asked: &Asked<'_>, request: &Value) -> Result<Option<usi
 }
 
 /// Returns the text of a source, if it can be read.
-fn read_text<'a>(held: &'a [HeldSource], number: usize) -> Option<&'a [u8]>
+pub(crate) fn read_text<'a>(held: &'a [HeldSource], number: usize) -> Option<&'a [u8]>
     ensures some { IfSome result (λ text. IsReadText held.now number text.now) }
     ensures none { IfNone result ((text : List ℕ) → ¬ (IsReadText held.now number text)) }
 {

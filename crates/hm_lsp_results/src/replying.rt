@@ -3,12 +3,13 @@ ghost use Rattle.std.specs.Prelude.{◌≡◌, IfOk, codes, option_map};
 ghost use Rattle.serde_json.specs.View.{view};
 ghost use Rattle.hm_lsp_session.specs.Replies.{IsReplyTo, method_of};
 ghost use Rattle.hm_lsp_results.specs.Asked.{subject_of};
-ghost use Rattle.hm_lsp_results.specs.Results.{HasPosition, HasRange, IsReply, IsResult, IsResultOf, failure_data};
+ghost use Rattle.hm_lsp_results.specs.Results.{HasPosition, HasRange, IsReply, IsResult, IsResultOf, failure_data, with_declarations};
 
 use crate::asking::{Asked, actions, definition, hover, source_in};
 use crate::faults::ServerFault;
+use crate::referring::{highlights, references};
 use hm_lsp_positions::{Position, Range};
-use hm_lsp_session::{Method, Refusal, position_in, range_in, refusal, reply};
+use hm_lsp_session::{Question, Refusal, position_in, range_in, refusal, reply};
 use serde_json::{Value, json};
 use std::alloc::{AllocError, Global};
 use std::sync::Wait;
@@ -34,30 +35,44 @@ fn range_of_request(request: &Value) -> Option<Range>
     }
 }
 
+/// Returns whether declarations are among the references that a request asks for.
+fn with_declarations(request: &Value) -> bool
+    ensures { result ≡ with_declarations (view request.now) }
+{
+    match request.pointer("/params/context/includeDeclaration") {
+        None => true,
+        Some(value) => value.as_bool().unwrap_or(true),
+    }
+}
+
 /// Returns the result of a request about a source, or `None` if its parameters aren't valid.
 fn result_of<T: Threads + Wait + Sync>(
     rt: &T,
     asked: &Asked<'_>,
-    method: Method,
+    question: Question,
     source: usize,
     request: &Value,
 ) -> Result<Option<Value>, ServerFault>
-    ensures { IfOk result (λ made. IsResultOf (subject_of asked.now) method source (view request.now) (option_map view made)) }
+    ensures { IfOk result (λ made. IsResultOf (subject_of asked.now) question source (view request.now) (option_map view made)) }
 {
-    match method {
-        Method::Hover => match position_of_request(request) {
-            None => Ok(None),
-            Some(position) => Ok(Some(hover(rt, asked, source, position)?)),
-        },
-        Method::Definition => match position_of_request(request) {
-            None => Ok(None),
-            Some(position) => Ok(Some(definition(rt, asked, source, position)?)),
-        },
-        Method::CodeAction => match range_of_request(request) {
+    if question == Question::CodeAction {
+        return match range_of_request(request) {
             None => Ok(None),
             Some(range) => Ok(Some(actions(asked, source, range)?)),
-        },
-        _ => Ok(None),
+        };
+    }
+    let Some(position) = position_of_request(request) else {
+        return Ok(None);
+    };
+    match question {
+        Question::Hover => Ok(Some(hover(rt, asked, source, position)?)),
+        Question::Definition => Ok(Some(definition(rt, asked, source, position)?)),
+        Question::References => {
+            let declarations = with_declarations(request);
+            Ok(Some(references(rt, asked, source, position, declarations)?))
+        }
+        Question::DocumentHighlight => Ok(Some(highlights(rt, asked, source, position)?)),
+        Question::CodeAction => Ok(None),
     }
 }
 
@@ -65,37 +80,37 @@ fn result_of<T: Threads + Wait + Sync>(
 fn result_in<T: Threads + Wait + Sync>(
     rt: &T,
     asked: &Asked<'_>,
-    method: Method,
+    question: Question,
     request: &Value,
 ) -> Result<Option<Value>, ServerFault>
-    ensures { IfOk result (λ made. IsResult (subject_of asked.now) method (view request.now) (option_map view made)) }
+    ensures { IfOk result (λ made. IsResult (subject_of asked.now) question (view request.now) (option_map view made)) }
 {
     match source_in(asked, request)? {
         None => Ok(None),
-        Some(source) => Ok(result_of(rt, asked, method, source, request)?),
+        Some(source) => Ok(result_of(rt, asked, question, source, request)?),
     }
 }
 
-/// Returns the reply to a request for which memory ran out.
-pub(crate) fn failure(alloc: Global, id: &Value) -> Result<Value, AllocError>
+/// Returns the reply to a request for which memory ran out, no thread could start, or two results contradict each other.
+pub fn failure(alloc: Global, id: &Value) -> Result<Value, AllocError>
     ensures value { IfOk result (λ made. view made ≡ failure_data (view id.now)) }
     ensures id { IfOk result (λ made. IsReplyTo (view id.now) (view made)) }
 {
-    json!(in alloc; {"error": {"code": (-32603), "message": "no memory"}, "id": id, "jsonrpc": "2.0"})
+    json!(in alloc; {"error": {"code": (-32603), "message": "hmc couldn't reply. Memory may have run out"}, "id": id, "jsonrpc": "2.0"})
 }
 
 /// Returns the reply to a request with this identifier.
-pub(crate) fn replied<T: Threads + Wait + Sync>(
+pub fn replied<T: Threads + Wait + Sync>(
     rt: &T,
     asked: &Asked<'_>,
-    method: Method,
+    question: Question,
     id: &Value,
     request: &Value,
 ) -> Result<Value, AllocError>
-    ensures value { IfOk result (λ made. IsReply (subject_of asked.now) method (view request.now) (view id.now) (view made)) }
+    ensures value { IfOk result (λ made. IsReply (subject_of asked.now) question (view request.now) (view id.now) (view made)) }
     ensures id { IfOk result (λ made. IsReplyTo (view id.now) (view made)) }
 {
-    match result_in(rt, asked, method, request) {
+    match result_in(rt, asked, question, request) {
         Ok(Some(result)) => reply(asked.alloc, id, result),
         Ok(None) => refusal(
             asked.alloc,

@@ -6,6 +6,7 @@ use Rattle.serde_json.specs.View.{view}
 use Rattle.serde_json.specs.declared.value.Value.{Value}
 use Rattle.hm_lsp_session.specs.Replies.{IsReplyTo, RefusesMessage, Takes, TakesBody, TakesOther, method_of, unread, understood}
 use Rattle.hm_lsp_session.specs.declared.session.Outcome.{Outcome}
+use Rattle.hm_lsp_session.specs.declared.stages.Question.{Question}
 use Rattle.hm_lsp_session.specs.declared.session.Outcome.TheVariants.{Ask, Changed, Ended, Nothing, Reply}
 use Rattle.hm_lsp_server.specs.Replied.{IsOneReply, AreOther, AreRepliesTo, IsReplyOf}
 use Rattle.hm_lsp_server.specs.Replied as replied
@@ -23,15 +24,15 @@ pub body_reply : (body : List ℕ) (r : Value) → TakesBody body (Reply r) → 
 body_reply body r (unread n t) = replied.unread n (view r, refl, t)
 body_reply body r (understood {message} e t) = replied.understood e (takes_reply message (method_of message) (get (codes "id") message) r t)
 
-takes_asked : (m : Data) (name : Option (List ℕ)) (id : Option Data) (q r : Value) → Takes m name id (Ask q) → ((i : Data) → get (codes "id") (view q) ≡ Some i → IsReplyTo i (view r)) → get (codes "id") m ≡ id → AreRepliesTo name id (view r ∷ [])
-takes_asked m None None q r t f e = absurd t
-takes_asked m None (Some id) q r t f e = absurd t
-takes_asked m (Some n) None q r t f e = absurd t
-takes_asked m (Some n) (Some id) q r t f e = (view r, refl, f id (Rattle.std.proofs.Common.subst (λ d. get (codes "id") d ≡ Some id) (Rattle.std.proofs.Common.sym t) e))
+takes_asked : (m : Data) (name : Option (List ℕ)) (id : Option Data) (k : Question) (q r : Value) → Takes m name id (Ask k q) → ((i : Data) → get (codes "id") (view q) ≡ Some i → IsReplyTo i (view r)) → get (codes "id") m ≡ id → AreRepliesTo name id (view r ∷ [])
+takes_asked m None None k q r t f e = absurd t
+takes_asked m None (Some id) k q r t f e = absurd t
+takes_asked m (Some n) None k q r t f e = absurd t
+takes_asked m (Some n) (Some id) k q r t f e = (view r, refl, f id (Rattle.std.proofs.Common.subst (λ d. get (codes "id") d ≡ Some id) (Rattle.std.proofs.Common.sym t) e))
 
-pub body_asked : (body : List ℕ) (q r : Value) → TakesBody body (Ask q) → ((i : Data) → get (codes "id") (view q) ≡ Some i → IsReplyTo i (view r)) → IsReplyOf body (view r ∷ [])
-body_asked body q r (unread n t) f = absurd t
-body_asked body q r (understood {message} e t) f = replied.understood e (takes_asked message (method_of message) (get (codes "id") message) q r t f refl)
+pub body_asked : (body : List ℕ) (k : Question) (q r : Value) → TakesBody body (Ask k q) → ((i : Data) → get (codes "id") (view q) ≡ Some i → IsReplyTo i (view r)) → IsReplyOf body (view r ∷ [])
+body_asked body k q r (unread n t) f = absurd t
+body_asked body k q r (understood {message} e t) f = replied.understood e (takes_asked message (method_of message) (get (codes "id") message) k q r t f refl)
 
 -- without a reply
 takes_none : (m : Data) (name : Option (List ℕ)) (id : Option Data) (out : Outcome) → Takes m name id out → (out ≡ Changed) ⊎ ((out ≡ Nothing) ⊎ ((s : ℕ) × (out ≡ Ended s))) → AreRepliesTo name id []
@@ -44,12 +45,12 @@ takes_none m (Some n) (Some id) (Reply r) t o = absurd (no_reply o)
     no_reply (inl e) = cc
     no_reply (inr (inl e)) = cc
     no_reply (inr (inr e)) = let k = e.1 in cc
-takes_none m (Some n) (Some id) (Ask q) t o = absurd (no_ask o)
+takes_none m (Some n) (Some id) (Ask k q) t o = absurd (no_ask o)
   where
-    no_ask : (Ask q ≡ Changed) ⊎ ((Ask q ≡ Nothing) ⊎ ((s : ℕ) × (Ask q ≡ Ended s))) → ⊥
+    no_ask : (Ask k q ≡ Changed) ⊎ ((Ask k q ≡ Nothing) ⊎ ((s : ℕ) × (Ask k q ≡ Ended s))) → ⊥
     no_ask (inl e) = cc
     no_ask (inr (inl e)) = cc
-    no_ask (inr (inr e)) = let k = e.1 in cc
+    no_ask (inr (inr e)) = let same = e.1 in cc
 takes_none m (Some n) (Some id) Changed t o = absurd t
 takes_none m (Some n) (Some id) Nothing t o = absurd t
 takes_none m (Some n) (Some id) (Ended s) t o = absurd t
@@ -61,7 +62,7 @@ body_none body out (unread n t) o = absurd (no_refusal out t o)
     no_refusal (Reply r) t (inl e) = cc
     no_refusal (Reply r) t (inr (inl e)) = cc
     no_refusal (Reply r) t (inr (inr e)) = let k = e.1 in cc
-    no_refusal (Ask q) t o = absurd t
+    no_refusal (Ask k q) t o = absurd t
     no_refusal Changed t o = absurd t
     no_refusal Nothing t o = absurd t
     no_refusal (Ended s) t o = absurd t

@@ -1,5 +1,5 @@
 -- The diagnostics that are sent to a client (Language Server Protocol 3.17, "PublishDiagnostics Notification", "ShowMessage Notification").
-use Rattle.std.specs.Prelude.{◌≡◌, ◌⊎◌, ℕ, zero, suc, Bool, true, false, List, [], ◌∷◌, ◌++◌, None, Some, codes, length, map, slice_get, slice_index_or}
+use Rattle.std.specs.Prelude.{◌≡◌, ℕ, zero, suc, Bool, true, false, List, [], ◌∷◌, ◌++◌, None, Some, codes, length, map, slice_get, slice_index_or}
 use Rattle.serde_json.specs.Data.{Data, array, member, no_members, number, object, string, unsigned}
 use Rattle.serde_json.specs.View.{items_of}
 use Rattle.hm_lsp_positions.specs.declared.units.Encoding.{Encoding}
@@ -14,7 +14,7 @@ use Rattle.hm_service_messages.specs.declared.diagnostic.Diagnostic.{Diagnostic}
 use Rattle.hm_service_places.specs.Diagnostics.{AreDiagnosticsAt}
 use Rattle.hm_service_places.specs.declared.checked.Checked.{Checked}
 use Rattle.hm_service_sources.specs.declared.held.HeldSource.{HeldSource}
-use Rattle.hm_lsp_server.specs.Servers.{checked_of, held_of, is_changed, session_of, shown_of, sources_of, workers}
+use Rattle.hm_lsp_server.specs.Servers.{IsFollowing, checked_of, documents_in, held_of, is_changed, is_stale, session_of, shown_of, sources_of, workers}
 use Rattle.hm_lsp_server.specs.declared.server.Server.{Server}
 use Rattle.hm_lsp_sources.specs.declared.source.Source.{Source}
 
@@ -62,8 +62,22 @@ pub record AreOfCheck (before after : Server) (c : Checked) (new : List Data) : 
   pub check : IsHeldCheck workers (held_of after) c
   pub told : AreTold (λ n. IsTold (encoding_of (session_of after)) (sources_of after) (held_of after) c (slice_index_or (shown_of before) n false) n) (length (sources_of after)) (shown_of after) new
 
--- what is sent: nothing while the client isn't ready or if the texts are those of before, and else the diagnostics of all sources, or that the check failed
+-- what is sent after a change: the diagnostics of all sources, or that the check failed
+pub data IsShown (before after : Server) (new : List Data) : Type 0 where
+  no_check : checked_of after ≡ None → new ≡ no_check_notice ∷ [] → shown_of after ≡ shown_of before → IsShown before after new
+  told : {c : Checked} → AreOfCheck before after c new → IsShown before after new
+
+-- nothing is another but of which sources the client shows diagnostics
+pub record IsSameButShown (before after : Server) : Type 0 where
+  pub session : session_of after ≡ session_of before
+  pub sources : sources_of after ≡ sources_of before
+  pub held : held_of after ≡ held_of before
+  pub checked : checked_of after ≡ checked_of before
+  pub changed : is_changed after ≡ is_changed before
+  pub stale : is_stale after ≡ is_stale before
+
+-- what is sent: nothing while the client isn't ready. Else the texts are those of the client's documents, and nothing is sent if they are those of the last time
 pub data IsPublished (before after : Server) (new : List Data) : Type 0 where
-  nothing : (is_changed before ≡ false) ⊎ (¬ (stage_of (session_of before) ≡ Ready)) → new ≡ [] → shown_of after ≡ shown_of before → IsPublished before after new
-  no_check : checked_of after ≡ None → new ≡ no_check_notice ∷ [] → shown_of after ≡ shown_of before → IsPublished before after new
-  told : {c : Checked} → AreOfCheck before after c new → IsPublished before after new
+  unready : ¬ (stage_of (session_of before) ≡ Ready) → new ≡ [] → shown_of after ≡ shown_of before → IsPublished before after new
+  unchanged : IsFollowing (documents_in after) after → is_changed before ≡ false → sources_of after ≡ sources_of before → held_of after ≡ held_of before → new ≡ [] → shown_of after ≡ shown_of before → IsPublished before after new
+  changed : IsFollowing (documents_in after) after → is_changed after ≡ false → IsShown before after new → IsPublished before after new

@@ -1,10 +1,16 @@
 -- A server, and what is always so of it.
-use Rattle.std.specs.Prelude.{ℕ, Bool, IfSome, List, Option}
+use Rattle.std.specs.Prelude.{◌≡◌, ◌++◌, ℕ, Bool, false, true, IfSome, List, Option, codes, map, string_bytes}
+use Rattle.hm_lsp_session.specs.Documents.{listed}
+use Rattle.hm_lsp_session.specs.Effects.{documents_of}
+use Rattle.hm_lsp_session.specs.declared.documents.Document.{Document}
 use Rattle.hm_lsp_session.specs.declared.session.Session.{Session}
+use Rattle.hm_lsp_sources.specs.Following.{AreFollowing, files_in, names_in}
+use Rattle.hm_lsp_sources.specs.Held.{held_in, named_in}
 use Rattle.hm_service.specs.Checks.{IsHeldCheck}
 use Rattle.hm_service_places.specs.declared.checked.Checked.{Checked}
 use Rattle.hm_service_sources.specs.declared.held.HeldSource.{HeldSource}
 use Rattle.hm_lsp_server.specs.declared.server.Server.{Server}
+use Rattle.hm_lsp_server.specs.declared.server.SourceFile.{SourceFile}
 use Rattle.hm_lsp_sources.specs.declared.source.Source.{Source}
 
 abbrev pub session_of : Server → Session
@@ -12,11 +18,11 @@ session_of s = s.session
 
 -- the sources, in the order of their numbers
 abbrev pub sources_of : Server → List Source
-sources_of s = s.sources.items
+sources_of s = named_in s.sources
 
 -- their texts
 abbrev pub held_of : Server → List HeldSource
-held_of s = s.held.items
+held_of s = held_in s.sources
 
 -- of which sources the client shows diagnostics
 abbrev pub shown_of : Server → List Bool
@@ -37,3 +43,31 @@ workers = 4
 -- a check is always one of the texts that are held now
 abbrev pub IsCurrent : Server → Type 0
 IsCurrent s = IfSome (checked_of s) (IsHeldCheck workers (held_of s))
+
+-- the documents of the client
+abbrev pub documents_in : Server → List Document
+documents_in s = listed (documents_of (session_of s))
+
+-- the sources follow these documents: each has the text of the last open document of its name, or else that of its file
+abbrev pub IsFollowing : List Document → Server → Type 0
+IsFollowing documents s = AreFollowing documents (sources_of s) (held_of s)
+
+-- the sources are those of these files
+pub record HasFiles (files : List SourceFile) (s : Server) : Type 0 where
+  pub names : names_in (sources_of s) ≡ map (λ f. codes "file://" ++ string_bytes f.path) files
+  pub texts : files_in (sources_of s) ≡ map (λ f. f.text.items) files
+
+-- if a text or a URI is another or a source was added, this is noted until the diagnostics are sent
+pub data IsNoted (before after : Server) : Type 0 where
+  changed : is_changed after ≡ true → IsNoted before after
+  as_before : is_changed after ≡ is_changed before → sources_of after ≡ sources_of before → held_of after ≡ held_of before → IsNoted before after
+
+-- the client's documents have changed since the sources followed them
+abbrev pub is_stale : Server → Bool
+is_stale s = s.is_stale
+
+-- the sources have followed the documents, and follow those of now unless these have changed since. A check is one of the texts that are held
+pub record IsOrderly (s : Server) : Type 0 where
+  pub current : IsCurrent s
+  pub followed : (documents : List Document) × IsFollowing documents s
+  pub follows : is_stale s ≡ false → IsFollowing (documents_in s) s

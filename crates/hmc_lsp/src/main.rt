@@ -5,7 +5,8 @@
 
 mod disk;
 
-ghost use Rattle.hm_lsp_server.specs.Servers.{IsCurrent};
+ghost use Rattle.std.specs.Prelude.{OnOk};
+ghost use Rattle.hm_lsp_server.specs.Servers.{IsOrderly};
 
 use crate::disk::sources_below;
 use hm_lsp_frames::{Frame, Frames, framed};
@@ -43,8 +44,8 @@ fn take_frame<T: Threads + Wait + Sync>(
     server: &mut Server,
     frame: Frame,
 ) -> Result<Taken, AllocError>
-    requires { IsCurrent server.old }
-    ensures { IsCurrent server.new }
+    requires { IsOrderly server.old }
+    ensures { OnOk result (IsOrderly server.new) }
 {
     let reply = match frame {
         Frame::Body(body) => return server.take(rt, &body),
@@ -64,8 +65,8 @@ fn take_all<T: Threads + Wait + Sync>(
     server: &mut Server,
     frames: &mut Frames,
 ) -> Result<Option<u8>, AllocError>
-    requires { IsCurrent server.old }
-    ensures { IsCurrent server.new }
+    requires { IsOrderly server.old }
+    ensures { OnOk result (IsOrderly server.new) }
 {
     'frames: for _ in 0..u64::MAX {
         let Some(frame) = frames.next()? else {
@@ -92,8 +93,8 @@ fn take_bytes<T: Threads + Wait + Sync>(
     frames: &mut Frames,
     bytes: &[u8],
 ) -> Result<Option<u8>, AllocError>
-    requires { IsCurrent server.old }
-    ensures { IsCurrent server.new }
+    requires { IsOrderly server.old }
+    ensures { OnOk result (IsOrderly server.new) }
 {
     frames.add(bytes)?;
     if let Some(status) = take_all(rt, host, server, frames)? {

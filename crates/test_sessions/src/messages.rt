@@ -129,7 +129,7 @@ fn number_of(outcome: &Outcome) -> i64 {
             Some(code) => code.as_i64().unwrap_or(REPLY),
             None => REPLY,
         },
-        Outcome::Ask(_) => ASK,
+        Outcome::Ask(_, _) => ASK,
         Outcome::Changed => CHANGED,
         Outcome::Nothing => NOTHING,
         Outcome::Ended(status) => ENDED + *status as i64,

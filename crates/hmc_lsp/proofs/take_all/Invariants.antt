@@ -1,5 +1,5 @@
-use Rattle.hm_lsp_server.specs.Servers.{IsCurrent}
+use Rattle.hm_lsp_server.specs.Servers.{IsOrderly}
 use Rattle.hmc_lsp.proofs.take_all.Given as goal
 
 abbrev pub invariant-frames : goal.invariant-frames
-invariant-frames g l = IsCurrent l.server
+invariant-frames g l = IsOrderly l.server

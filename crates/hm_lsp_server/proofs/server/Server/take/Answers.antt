@@ -14,37 +14,37 @@ returns-in-Reply-clause-reply g c =
     subst (λ r. IsReplyOf c.args.body.now (map view (option_to_list r))) (sym c.reply.ensures) (body_reply c.args.body.now c.in-Reply.reply t)
 
 pub returns-in-Reply-clause-served : goal.returns-in-Reply-clause-served
-returns-in-Reply-clause-served g c message name id u e n i ready is =
-    absurd (never_left c.args.self.now c.args.body.now c.in_ok-reply.field-0 c.in_ok-reply.ensures.left (λ m h. subst (IsAsked m) c.in-Reply.is h) message name id u e n i ready is)
+returns-in-Reply-clause-served g c message name id q u e n i ready is =
+    absurd (never_left c.args.self.now c.args.body.now c.in_ok-reply.field-0 c.in_ok-reply.ensures.left (λ k m h. subst (IsAsked k m) c.in-Reply.is h) message name id q u e n i ready is)
 
-pub returns-in_ok-answer-in-Ask-clause-reply : goal.returns-in_ok-answer-in-Ask-clause-reply
-returns-in_ok-answer-in-Ask-clause-reply g c =
+pub returns-in_ok-reply_to-in-Ask-clause-reply : goal.returns-in_ok-reply_to-in-Ask-clause-reply
+returns-in_ok-reply_to-in-Ask-clause-reply g c =
     let t = subst (TakesBody c.args.body.now) c.in-Ask.is c.in_ok-reply.ensures.takes in
-    subst (λ r. IsReplyOf c.args.body.now (map view (option_to_list r))) (sym c.reply-in-Ask.ensures) (body_asked c.args.body.now c.in-Ask.request c.in_ok-answer-in-Ask.field-0 t c.in_ok-answer-in-Ask.ensures.reply)
+    subst (λ r. IsReplyOf c.args.body.now (map view (option_to_list r))) (sym c.reply-in-Ask.ensures) (body_asked c.args.body.now c.in-Ask.question c.in-Ask.request c.in_ok-reply_to-in-Ask.field-0 t c.in_ok-reply_to-in-Ask.ensures.reply)
 
-pub returns-in_ok-answer-in-Ask-clause-served : goal.returns-in_ok-answer-in-Ask-clause-served
-returns-in_ok-answer-in-Ask-clause-served g c =
+pub returns-in_ok-reply_to-in-Ask-clause-served : goal.returns-in_ok-reply_to-in-Ask-clause-served
+returns-in_ok-reply_to-in-Ask-clause-served g c =
     let left = subst (IsLeftOf c.args.body.now (stage_of c.args.self.now.session)) c.in-Ask.is c.in_ok-reply.ensures.left in
-    subst (λ r. IsServed c.args.self.now c.answer.new.self c.args.body.now (map view (option_to_list r))) (sym c.reply-in-Ask.ensures)
-    (served_asked c.args.self.now c.answer.new.self c.args.body.now c.in-Ask.request c.in_ok-answer-in-Ask.field-0 left c.in_ok-answer-in-Ask.ensures.served)
+    subst (λ r. IsServed c.args.self.now c.reply_to.new.self c.args.body.now (map view (option_to_list r))) (sym c.reply-in-Ask.ensures)
+    (served_asked c.args.self.now c.reply_to.new.self c.args.body.now c.in-Ask.question c.in-Ask.request c.in_ok-reply_to-in-Ask.field-0 left c.in_ok-reply_to-in-Ask.ensures.following c.in_ok-reply_to-in-Ask.ensures.served)
 
-pub returns-in_ok-hold_documents-in-Changed-clause-reply : goal.returns-in_ok-hold_documents-in-Changed-clause-reply
-returns-in_ok-hold_documents-in-Changed-clause-reply g c = body_none c.args.body.now c.in_ok-reply.field-0 c.in_ok-reply.ensures.takes (inl c.in-Changed.is)
+pub returns-in-Changed-clause-reply : goal.returns-in-Changed-clause-reply
+returns-in-Changed-clause-reply g c = body_none c.args.body.now c.in_ok-reply.field-0 c.in_ok-reply.ensures.takes (inl c.in-Changed.is)
 
-pub returns-in_ok-hold_documents-in-Changed-clause-served : goal.returns-in_ok-hold_documents-in-Changed-clause-served
-returns-in_ok-hold_documents-in-Changed-clause-served g c message name id u e n i ready is =
-    absurd (never_left c.args.self.now c.args.body.now c.in_ok-reply.field-0 c.in_ok-reply.ensures.left (λ m h. subst (IsAsked m) c.in-Changed.is h) message name id u e n i ready is)
+pub returns-in-Changed-clause-served : goal.returns-in-Changed-clause-served
+returns-in-Changed-clause-served g c message name id q u e n i ready is =
+    absurd (never_left c.args.self.now c.args.body.now c.in_ok-reply.field-0 c.in_ok-reply.ensures.left (λ k m h. subst (IsAsked k m) c.in-Changed.is h) message name id q u e n i ready is)
 
 pub returns-in-Nothing-clause-reply : goal.returns-in-Nothing-clause-reply
 returns-in-Nothing-clause-reply g c = body_none c.args.body.now c.in_ok-reply.field-0 c.in_ok-reply.ensures.takes (inr (inl c.in-Nothing.is))
 
 pub returns-in-Nothing-clause-served : goal.returns-in-Nothing-clause-served
-returns-in-Nothing-clause-served g c message name id u e n i ready is =
-    absurd (never_left c.args.self.now c.args.body.now c.in_ok-reply.field-0 c.in_ok-reply.ensures.left (λ m h. subst (IsAsked m) c.in-Nothing.is h) message name id u e n i ready is)
+returns-in-Nothing-clause-served g c message name id q u e n i ready is =
+    absurd (never_left c.args.self.now c.args.body.now c.in_ok-reply.field-0 c.in_ok-reply.ensures.left (λ k m h. subst (IsAsked k m) c.in-Nothing.is h) message name id q u e n i ready is)
 
 pub returns-in-Ended-clause-reply : goal.returns-in-Ended-clause-reply
 returns-in-Ended-clause-reply g c = body_none c.args.body.now c.in_ok-reply.field-0 c.in_ok-reply.ensures.takes (inr (inr (c.in-Ended.status, c.in-Ended.is)))
 
 pub returns-in-Ended-clause-served : goal.returns-in-Ended-clause-served
-returns-in-Ended-clause-served g c message name id u e n i ready is =
-    absurd (never_left c.args.self.now c.args.body.now c.in_ok-reply.field-0 c.in_ok-reply.ensures.left (λ m h. subst (IsAsked m) c.in-Ended.is h) message name id u e n i ready is)
+returns-in-Ended-clause-served g c message name id q u e n i ready is =
+    absurd (never_left c.args.self.now c.args.body.now c.in_ok-reply.field-0 c.in_ok-reply.ensures.left (λ k m h. subst (IsAsked k m) c.in-Ended.is h) message name id q u e n i ready is)

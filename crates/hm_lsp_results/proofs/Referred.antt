@@ -1,0 +1,44 @@
+-- Results of requests about where names are written.
+use Rattle.std.proofs.Common.{◌≡◌, ◌⊎◌, inl, inr, ℕ, ◌<◌, ◌≤◌, List, Option, None, Some, Result, Ok, Err, IfNone, IfOk, IfSome, Vec, length, get_or, string_bytes, sym, ap, subst, ◌∙◌}
+use Rattle.std.specs.List.{AllZip, filter}
+use Rattle.std.specs.declared.alloc.Global.{Global}
+use Rattle.serde_json.specs.Data.{Data, array, null}
+use Rattle.serde_json.specs.View.{items_of, view}
+use Rattle.serde_json.specs.declared.value.Value.{Value}
+use Rattle.hm_lsp_positions.specs.declared.positions.Position.{Position}
+use Rattle.hm_lsp_values.specs.References.{IsHighlight, IsReference}
+use Rattle.hm_messages_json.specs.declared.message.Position.{Position as Place}
+use Rattle.hm_service_references.specs.Names.{AreReferencesAt, HasNoNameAt}
+use Rattle.hm_service_sources.specs.declared.held.HeldSource.{HeldSource}
+use Rattle.hm_uses_references.specs.declared.finding.Reference.{Reference}
+use Rattle.hm_lsp_results.specs.Asked.{IsReadText, Subject}
+use Rattle.hm_lsp_results.specs.References.{AreReferencesOf, AreValues, HasNoPlace, HasNoReferences, IsLocated, IsPlaceIn, in_bytes, nowhere, unnamed}
+use Rattle.hm_lsp_sources.specs.declared.source.Source.{Source}
+use Rattle.hm_lsp_results.proofs.Found.{at_get}
+use Rattle.hm_lsp_results.proofs.Listed.{has_uri}
+
+pub located_one : {E : Type 0} (asked : Subject) (r : Reference) (s : Source) (h : HeldSource) (uri text : List ℕ) (made : Result Value E) → r.source < length asked.sources → r.source < length asked.held
+    → s ≡ get_or asked.sources r.source s → h ≡ get_or asked.held r.source h → uri ≡ string_bytes s.uri → text ≡ h.standing.items
+    → IfOk made (λ v. IsReference asked.encoding uri text r (view v)) → IfOk made (λ v. IsLocated asked r (view v))
+located_one asked r s h uri text (Err e) low below at_s at_h named is made = tt
+located_one asked r s h uri text (Ok v) low below at_s at_h named is made = record {
+  uri = uri;
+  source = h;
+  named = has_uri asked.sources r.source s uri low at_s named;
+  held = at_get asked.held r.source h below at_h;
+  is = subst (λ t. IsReference asked.encoding uri t r (view v)) is made;
+}
+
+pub nothing_found : (asked : Subject) (n : ℕ) (p : Position) (place : Place) (found : Option (Vec Reference Global)) → IsPlaceIn asked n p place → IfNone found (HasNoNameAt asked.checked n (in_bytes place)) → IfNone found (HasNoReferences asked n p)
+nothing_found asked n p place None at none = unnamed at none
+nothing_found asked n p place (Some references) at none = tt
+
+pub none_in : {X : Type 0} (P : Type 0) (o : Option X) → o ≡ None → IfNone o P → P
+none_in P None is h = h
+none_in {X} P (Some x) is h = absurd (some_none x is)
+  where
+    some_none : (x : X) → Some x ≡ None → ⊥
+    some_none x e = cc
+
+pub some_in : {X : Type 0} (P : X → Type 0) (o : Option X) (x : X) → o ≡ Some x → IfSome o P → P x
+some_in P o x is h = subst (λ k. IfSome k P) is h
