@@ -59,8 +59,8 @@ def position(text, part, after=0):
     return {"line": 0, "character": text.index(part) + after}
 
 
-def between(text, part):
-    return {"start": position(text, part), "end": position(text, part, len(part))}
+def between(text, part, size=None):
+    return {"start": position(text, part), "end": position(text, part, len(part) if size is None else size)}
 
 
 def codes(diagnostics):
@@ -77,6 +77,20 @@ def start_and_check(it):
     it.row("the marked name", found["B.hs"][0]["range"]["start"], position(B, "k ="))
 
 
+def refer(it, doc):
+    """Asks where 'g' of A is written, which B imports and uses once, and where the parameter 'c' is."""
+    at = {"textDocument": doc, "position": position(B, "m = g", 4)}
+    places = [{"uri": it.uri("A.hs"), "range": between(A, "g")}, {"uri": it.uri("B.hs"), "range": between(B, "g }", 1)}]
+    it.row("references in both files", it.ask("textDocument/references", **at, context={"includeDeclaration": True})["result"], places)
+    it.row("references without the declaration", it.ask("textDocument/references", **at, context={"includeDeclaration": False})["result"], places[1:])
+    it.row("highlights in one file", it.ask("textDocument/documentHighlight", **at)["result"], [{"kind": 2, "range": places[1]["range"]}])
+    local = it.ask("textDocument/documentHighlight", textDocument=doc, position=position(B, "c b"))["result"]
+    wanted = [(3, between(B, "c b", 1)), (2, between(B, "c ; k", 1))]
+    it.row("highlights of a parameter", [(one["kind"], one["range"]) for one in local], wanted)
+    it.row("no references at a bracket", it.ask("textDocument/references", textDocument=doc, position=position(B, "{"), context={})["result"], None)
+    it.row("no position", it.ask("textDocument/references", textDocument=doc)["error"]["code"], -32602)
+
+
 def look(it):
     doc = {"uri": it.uri("B.hs")}
     it.notify("textDocument/didOpen", textDocument={**doc, "languageId": "haskell", "version": 1, "text": B})
@@ -85,6 +99,7 @@ def look(it):
     place = it.ask("textDocument/definition", textDocument=doc, position=position(B, "m = g", 4))["result"]
     it.row("a definition in another file", (place["uri"], place["range"]["start"]), (it.uri("A.hs"), position(A, "g =")))
     it.row("nothing at a bracket", it.ask("textDocument/hover", textDocument=doc, position=position(B, "{"))["result"], None)
+    refer(it, doc)
     it.row("no such document", it.ask("textDocument/hover", textDocument={"uri": it.uri("C.hs")}, position=position(B, "{"))["error"]["code"], -32602)
     it.row("an unknown method", it.ask("textDocument/rename")["error"]["code"], -32601)
 

@@ -7,7 +7,6 @@ use Rattle.std.specs.List.{AllZip, filter}
 use Rattle.serde_json.specs.Data.{Data}
 use Rattle.serde_json.specs.View.{view}
 use Rattle.serde_json.specs.declared.value.Value.{Value}
-use Rattle.hm_lsp_results.specs.References.{AreValues}
 
 zip_pushed : {X : Type 0} (P : X → Data → Type 0) (xs : List X) (ys : List Data) (x : X) (y : Data) → AllZip P xs ys → P x y → AllZip P (xs ++ x ∷ []) (ys ++ y ∷ [])
 zip_pushed P [] [] x y h own = (own, tt)
@@ -21,7 +20,7 @@ pub chosen_more : {X : Type 0} (P : X → Data → Type 0) (f : X → Bool) (xs 
 chosen_more P f xs i x v old new low at before passes own pushed =
     let values : map view new ≡ map view old ++ view v ∷ [] = ap (map view) pushed ∙ map-append view old (v ∷ []) in
     let members : filter f (take (i + 1) xs) ≡ filter f (take i xs) ++ x ∷ [] =
-      filter_more f xs i x low ∙ ap (λ l. filter f (take i xs) ++ l) (ap (λ z. cond (f z) (z ∷ []) []) (sym at) ∙ cond-true _ _ _ passes) in
+    filter_more f xs i x low ∙ ap (λ l. filter f (take i xs) ++ l) (ap (λ z. cond (f z) (z ∷ []) []) (sym at) ∙ cond-true _ _ _ passes) in
     subst (λ l. AllZip P l (map view new)) (sym members) (subst (λ l. AllZip P (filter f (take i xs) ++ x ∷ []) l) (sym values) (zip_pushed P (filter f (take i xs)) (map view old) x (view v) before own))
 
 -- one that doesn't has none
@@ -29,7 +28,7 @@ pub chosen_less : {X : Type 0} (P : X → Data → Type 0) (f : X → Bool) (xs 
     → AllZip P (filter f (take (i + 1) xs)) values
 chosen_less P f xs i x values low at before fails =
     let members : filter f (take (i + 1) xs) ≡ filter f (take i xs) =
-      filter_more f xs i x low ∙ ap (λ l. filter f (take i xs) ++ l) (ap (λ z. cond (f z) (z ∷ []) []) (sym at) ∙ cond-false _ _ _ fails) ∙ append-nil (filter f (take i xs)) in
+    filter_more f xs i x low ∙ ap (λ l. filter f (take i xs) ++ l) (ap (λ z. cond (f z) (z ∷ []) []) (sym at) ∙ cond-false _ _ _ fails) ∙ append-nil (filter f (take i xs)) in
     subst (λ l. AllZip P l values) (sym members) before
 
 pub all_chosen : {X : Type 0} (P : X → Data → Type 0) (f : X → Bool) (xs : List X) (i : ℕ) (values : List Data) → length xs ≤ i → AllZip P (filter f (take i xs)) values → AllZip P (filter f xs) values

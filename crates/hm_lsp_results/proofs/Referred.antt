@@ -1,18 +1,16 @@
 -- Results of requests about where names are written.
-use Rattle.std.proofs.Common.{◌≡◌, ◌⊎◌, inl, inr, ℕ, ◌<◌, ◌≤◌, List, Option, None, Some, Result, Ok, Err, IfNone, IfOk, IfSome, Vec, length, get_or, string_bytes, sym, ap, subst, ◌∙◌}
-use Rattle.std.specs.List.{AllZip, filter}
+use Rattle.std.proofs.Common.{◌≡◌, ℕ, ◌<◌, List, Option, None, Some, Result, Ok, Err, IfNone, IfOk, IfSome, Vec, length, get_or, string_bytes, subst}
 use Rattle.std.specs.declared.alloc.Global.{Global}
-use Rattle.serde_json.specs.Data.{Data, array, null}
-use Rattle.serde_json.specs.View.{items_of, view}
+use Rattle.serde_json.specs.View.{view}
 use Rattle.serde_json.specs.declared.value.Value.{Value}
 use Rattle.hm_lsp_positions.specs.declared.positions.Position.{Position}
-use Rattle.hm_lsp_values.specs.References.{IsHighlight, IsReference}
+use Rattle.hm_lsp_values.specs.References.{IsReference}
 use Rattle.hm_messages_json.specs.declared.message.Position.{Position as Place}
-use Rattle.hm_service_references.specs.Names.{AreReferencesAt, HasNoNameAt}
+use Rattle.hm_service_references.specs.Names.{HasNoNameAt}
 use Rattle.hm_service_sources.specs.declared.held.HeldSource.{HeldSource}
 use Rattle.hm_uses_references.specs.declared.finding.Reference.{Reference}
-use Rattle.hm_lsp_results.specs.Asked.{IsReadText, Subject}
-use Rattle.hm_lsp_results.specs.References.{AreReferencesOf, AreValues, HasNoPlace, HasNoReferences, IsLocated, IsPlaceIn, in_bytes, nowhere, unnamed}
+use Rattle.hm_lsp_results.specs.Asked.{Subject}
+use Rattle.hm_lsp_results.specs.References.{HasNoReferences, IsLocated, IsPlaceIn, in_bytes, unnamed}
 use Rattle.hm_lsp_sources.specs.declared.source.Source.{Source}
 use Rattle.hm_lsp_results.proofs.Found.{at_get}
 use Rattle.hm_lsp_results.proofs.Listed.{has_uri}

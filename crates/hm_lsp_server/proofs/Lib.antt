@@ -1,3 +1,4 @@
+pub mod Begun
 pub mod OneReply
 pub mod Publishing
 pub mod Serving

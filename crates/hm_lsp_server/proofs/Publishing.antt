@@ -1,18 +1,17 @@
 -- What is published.
-use Rattle.std.proofs.Common.{◌≡◌, Bool, false, List, Some, IfSome, length, subst, ◌∙◌}
+use Rattle.std.proofs.Common.{◌≡◌, Bool, false, List, Some, IfSome, length, ap, sym, subst, ◌∙◌}
 use Rattle.std.specs.Prelude.{slice_index_or}
 use Rattle.serde_json.specs.Data.{Data}
-use Rattle.hm_lsp_positions.specs.declared.units.Encoding.{Encoding}
-use Rattle.hm_lsp_session.specs.Effects.{encoding_of}
+use Rattle.hm_lsp_session.specs.Documents.{listed}
+use Rattle.hm_lsp_session.specs.Effects.{documents_of, encoding_of}
+use Rattle.hm_lsp_sources.specs.Following.{AreFollowing}
 use Rattle.hm_service.specs.Checks.{IsHeldCheck}
 use Rattle.hm_service_places.specs.declared.checked.Checked.{Checked}
-use Rattle.hm_service_sources.specs.declared.held.HeldSource.{HeldSource}
 use Rattle.hm_lsp_server.specs.Published.{AreTold, IsShown, IsTold, no_check, told}
 use Rattle.hm_lsp_results.specs.Asked.{Subject}
 use Rattle.hm_lsp_server.specs.Served.{subject_in}
-use Rattle.hm_lsp_server.specs.Servers.{IsCurrent, checked_of, held_of, session_of, shown_of, sources_of, workers}
+use Rattle.hm_lsp_server.specs.Servers.{IsCurrent, IsFollowing, checked_of, documents_in, held_of, session_of, shown_of, sources_of, workers}
 use Rattle.hm_lsp_server.specs.declared.server.Server.{Server}
-use Rattle.hm_lsp_sources.specs.declared.source.Source.{Source}
 
 -- the diagnostics by the check of a server
 pub shown_by : (before after : Server) (c : Checked) (a : Subject) (was shows : List Bool) (new : List Data) → checked_of after ≡ Some c → IsCurrent after → a ≡ subject_in after c → was ≡ shown_of before → shows ≡ shown_of after
@@ -32,3 +31,9 @@ shown_since before between after new same (told {c} h) = told (record {
   check = h.check;
   told = subst (λ x. AreTold (λ n. IsTold (encoding_of (session_of after)) (sources_of after) (held_of after) c (slice_index_or x n false) n) (length (sources_of after)) (shown_of after) new) same h.told;
 })
+
+-- the same sources follow the same documents
+pub same_following : (s t : Server) → session_of t ≡ session_of s → sources_of t ≡ sources_of s → held_of t ≡ held_of s → IsFollowing (documents_in s) s → IsFollowing (documents_in t) t
+same_following s t session sources held h =
+    subst (λ x. AreFollowing x (sources_of t) (held_of t)) (ap (λ x. listed (documents_of x)) (sym session))
+    (subst (λ x. AreFollowing (documents_in s) x (held_of t)) (sym sources) (subst (λ x. AreFollowing (documents_in s) (sources_of s) x) (sym held) h))

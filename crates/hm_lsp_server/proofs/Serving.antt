@@ -1,5 +1,5 @@
 -- Replies to requests about what texts mean.
-use Rattle.std.proofs.Common.{◌≡◌, ℕ, true, List, [], ◌∷◌, Option, None, Some, Result, Ok, Err, IfOk, IfSome, codes, inl, inr, refl, sym, ap, subst, ◌∙◌}
+use Rattle.std.proofs.Common.{◌≡◌, ℕ, List, [], ◌∷◌, Option, None, Some, Result, Ok, Err, IfOk, IfSome, codes, inl, inr, refl, sym, ap, subst, ◌∙◌}
 use Rattle.std.specs.Str.{IsUtf8}
 use Rattle.serde_json.specs.Data.{Data, null}
 use Rattle.serde_json.specs.Find.{get}
@@ -38,7 +38,7 @@ served_asked before after body k q r left follows serve message name id question
         (
           follows,
           subst (λ x. IsServedBy after x message id (view r)) asked.0
-          (subst (λ d. IsServedBy after k d id (view r)) asked.1 (serve id (subst (λ d. get (codes "id") d ≡ Some id) (sym asked.1) i))),
+              (subst (λ d. IsServedBy after k d id (view r)) asked.1 (serve id (subst (λ d. get (codes "id") d ≡ Some id) (sym asked.1) i))),
         ),
       ),
     )

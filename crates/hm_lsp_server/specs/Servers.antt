@@ -53,9 +53,9 @@ abbrev pub IsFollowing : List Document → Server → Type 0
 IsFollowing documents s = AreFollowing documents (sources_of s) (held_of s)
 
 -- the sources are those of these files
-pub record HasFiles (files : List SourceFile) (s : Server) : Type 0 where
-  pub names : names_in (sources_of s) ≡ map (λ f. codes "file://" ++ string_bytes f.path) files
-  pub texts : files_in (sources_of s) ≡ map (λ f. f.text.items) files
+pub record HasFiles (files : List SourceFile) (sources : List Source) : Type 0 where
+  pub names : names_in sources ≡ map (λ f. codes "file://" ++ string_bytes f.path) files
+  pub texts : files_in sources ≡ map (λ f. f.text.items) files
 
 -- if a text or a URI is another or a source was added, this is noted until the diagnostics are sent
 pub data IsNoted (before after : Server) : Type 0 where

@@ -1,5 +1,5 @@
 -- Worked examples: replies to a notification and to a request, and what is sent of a source.
-use Rattle.std.specs.Prelude.{◌≡◌, true, false, [], ◌∷◌, None, Some, codes}
+use Rattle.std.specs.Prelude.{true, false, [], ◌∷◌, None, Some, codes}
 use Rattle.serde_json.specs.Data.{Data, null}
 use Rattle.hm_lsp_positions.specs.declared.units.Encoding.TheVariants.{Utf16}
 use Rattle.hm_lsp_server.specs.Published.{AreSent, diagnostics_notice}

@@ -6,7 +6,8 @@ ghost use Rattle.serde_json.specs.Find.{get};
 ghost use Rattle.serde_json.specs.View.{view};
 ghost use Rattle.hm_lsp_results.specs.Asked.{subject_of};
 ghost use Rattle.hm_lsp_session.specs.Replies.{IsReplyTo};
-ghost use Rattle.hm_lsp_sources.specs.Following.{AreKept};
+ghost use Rattle.hm_lsp_sources.specs.Following.{AreFollowing, AreKept};
+ghost use Rattle.hm_lsp_sources.specs.Held.{held_in, named_in};
 ghost use Rattle.hm_lsp_server.specs.Published.{IsPublished, IsSameButShown, IsShown, no_check_notice};
 ghost use Rattle.hm_lsp_server.specs.Replied.{IsReplyOf};
 ghost use Rattle.hm_lsp_server.specs.Served.{IsServed, IsServedBy, subject_in};
@@ -58,6 +59,23 @@ impl Taken {
     }
 }
 
+/// Returns the sources of files.
+fn sources_of_files<T: Threads>(
+    rt: &T,
+    alloc: Global,
+    files: Vec<SourceFile>,
+) -> Result<Sources, AllocError>
+    ensures files { IfOk result (λ s. HasFiles files.items (named_in s)) }
+    ensures following { IfOk result (λ s. AreFollowing [] (named_in s) (held_in s)) }
+{
+    let mut sources = Sources::new(alloc);
+    'files: for file in files {
+        let uri = uri_of(alloc, file.path.as_str())?;
+        sources.add(rt, uri, file.text)?;
+    }
+    Ok(sources)
+}
+
 /// A server of one client.
 #[derive(Drop)]
 pub struct Server {
@@ -84,16 +102,12 @@ impl Server {
         files: Vec<SourceFile>,
     ) -> Result<Server, AllocError>
         ensures orderly { IfOk result IsOrderly }
-        ensures files { IfOk result (HasFiles files.items) }
+        ensures files { IfOk result (λ s. HasFiles files.items (sources_of s)) }
         ensures following { IfOk result (IsFollowing []) }
         ensures documents { IfOk result (λ s. documents_in s ≡ []) }
         ensures changed { IfOk result (λ s. is_changed s ≡ true) }
     {
-        let mut sources = Sources::new(alloc);
-        'files: for file in files {
-            let uri = uri_of(alloc, file.path.as_str())?;
-            sources.add(rt, uri, file.text)?;
-        }
+        let sources = sources_of_files(rt, alloc, files)?;
         Ok(Server {
             alloc,
             session: Session::new(alloc),
@@ -120,12 +134,15 @@ impl Server {
         if !self.is_stale {
             return Ok(());
         }
-        if self.sources.follow(rt, self.session.documents().as_slice())? {
-            self.checked = None;
-            self.has_failed = false;
-            self.is_changed = true;
-        }
+        let documents = self.session.documents().as_slice();
+        let is_other = self.sources.follow(rt, documents)?;
         self.is_stale = false;
+        if !is_other {
+            return Ok(());
+        }
+        self.checked = None;
+        self.has_failed = false;
+        self.is_changed = true;
         Ok(())
     }
 
@@ -263,7 +280,7 @@ impl Server {
         }
         self.is_changed = false;
         self.refresh(rt);
-        self.tell(sent)
+        Ok(self.tell(sent)?)
     }
 
     /// Adds the diagnostics of all sources by the check of these texts, or the message that it failed.

@@ -4,7 +4,7 @@ ghost use Rattle.serde_json.specs.Data.{Data};
 ghost use Rattle.serde_json.specs.View.{view};
 ghost use Rattle.hm_lsp_server.specs.Published.{AreTold, IsTold, diagnostics_data, diagnostics_notice};
 
-use crate::asking::Asked;
+use hm_lsp_results::Asked;
 use hm_lsp_session::notice;
 use hm_lsp_values::diagnostic_value;
 use hm_service::{Diagnostic, diagnostics_of};

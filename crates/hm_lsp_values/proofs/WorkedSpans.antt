@@ -1,8 +1,8 @@
 -- Worked examples of where names are written.
-use Rattle.std.proofs.Common.{◌≡◌, ◌+◌, ◌-◌, ◌<◌, ℕ, List, true, false, codes, length, min, take, arith, refl, sym, ap, subst, ◌∙◌}
+use Rattle.std.proofs.Common.{◌≡◌, ◌+◌, ◌-◌, ◌<◌, ℕ, false, codes, min, take, arith, refl, sym, subst}
 use Rattle.std.proofs.lemmas.Bool.{cond-false, cond-true}
 use Rattle.hm_lsp_positions.specs.Lines.{line_start}
-use Rattle.hm_lsp_positions.specs.Positions.{IsBetween, IsColumn, IsOffsetOf, IsPositionOf}
+use Rattle.hm_lsp_positions.specs.Positions.{IsColumn, IsOffsetOf, IsPositionOf}
 use Rattle.hm_lsp_positions.specs.Units.{units}
 use Rattle.hm_lsp_positions.specs.declared.units.Encoding.TheVariants.{Utf8, Utf16}
 use Rattle.hm_lsp_values.specs.References.{IsSpan, kind_of}

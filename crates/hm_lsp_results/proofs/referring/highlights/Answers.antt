@@ -16,4 +16,4 @@ returns g c =
     let a = subject_of c.args.asked.now in
     found (some_in (λ v. AreReferencesOf a c.args.source c.args.position v.items) c.in_ok-found.field-0 c.in-Some.found c.in-Some.is c.in_ok-found.ensures.some) c.in-Some-read_text.ensures.some
     (subst (λ l. AreValues (IsHighlight c.args.asked.now.encoding c.in-Some-read_text.text.now) (filter (is_in c.args.source) l) (view c.in_ok-highlight_values-in-Some-read_text.field-0)) c.as_slice.ensures.value
-     c.in_ok-highlight_values-in-Some-read_text.ensures)
+    c.in_ok-highlight_values-in-Some-read_text.ensures)

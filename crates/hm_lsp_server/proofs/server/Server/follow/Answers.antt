@@ -1,0 +1,16 @@
+use Rattle.std.proofs.Common.{◌≡◌, subst, ap, ◌∙◌}
+use Rattle.hm_lsp_session.specs.Documents.{listed}
+use Rattle.hm_lsp_session.specs.Effects.{documents_of}
+use Rattle.hm_lsp_sources.specs.Following.{AreFollowing}
+use Rattle.hm_lsp_sources.specs.Held.{held_in, named_in}
+use Rattle.hm_lsp_server.proofs.server.Server.follow.Goals as goal
+
+pub returns-then-not-is_other-clause-following : goal.returns-then-not-is_other-clause-following
+returns-then-not-is_other-clause-following g c =
+    let same : c.as_slice-documents.result.now ≡ listed (documents_of c.args.self.now.session) = c.as_slice-documents.ensures ∙ ap listed c.documents.ensures in
+    subst (λ l. AreFollowing l (named_in c.follow.new.self) (held_in c.follow.new.self)) same (c.in_ok-is_other.ensures.following c.requires.followed.0 c.requires.followed.1)
+
+pub returns-clause-following : goal.returns-clause-following
+returns-clause-following g c =
+    let same : c.as_slice-documents.result.now ≡ listed (documents_of c.args.self.now.session) = c.as_slice-documents.ensures ∙ ap listed c.documents.ensures in
+    subst (λ l. AreFollowing l (named_in c.follow.new.self) (held_in c.follow.new.self)) same (c.in_ok-is_other.ensures.following c.requires.followed.0 c.requires.followed.1)
