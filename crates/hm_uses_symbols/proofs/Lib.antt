@@ -1,0 +1,4 @@
+mod FirstPlaces
+mod Listed
+mod Opened
+pub mod WorkedSymbols

@@ -1,0 +1,4 @@
+pub mod Symbols
+pub mod Pending
+pub mod Seen
+pub mod Worked
