@@ -71,12 +71,12 @@ fn add_each_once<'a>(
 pub fn add_symbols<'a>(
     alloc: Global,
     found: &mut Vec<Symbol<'a>>,
-    module: &'a Module,
+    program: &'a Module,
 ) -> Result<(), AllocError>
-    ensures { OnOk result (found.new.items ≡ found.old.items ++ symbols_of module.now) }
+    ensures { OnOk result (found.new.items ≡ found.old.items ++ symbols_of program.now) }
 {
     let mut declared = Vec::new(alloc);
-    add_all_declared(alloc, &mut declared, module.decls.as_slice())?;
-    found.push(Symbol::new(SymbolKind::Module, &module.header.name))?;
+    add_all_declared(alloc, &mut declared, program.decls.as_slice())?;
+    found.push(Symbol::new(SymbolKind::Module, &program.header.name))?;
     Ok(add_each_once(alloc, found, declared)?)
 }

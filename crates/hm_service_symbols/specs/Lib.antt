@@ -1,0 +1,3 @@
+pub mod SourceModules
+pub mod SourceSymbols
+pub mod Worked
