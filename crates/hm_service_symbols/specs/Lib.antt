@@ -1,3 +1,4 @@
 pub mod SourceModules
+pub mod SetSymbols
 pub mod SourceSymbols
 pub mod Worked

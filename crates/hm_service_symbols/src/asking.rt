@@ -1,7 +1,9 @@
-//! The symbols of a source of a checked set.
+//! The symbols of a checked set.
 ghost use Rattle.std.specs.Prelude.{IfOk};
+ghost use Rattle.hm_service_symbols.specs.SetSymbols.{AreSymbolsIn};
 ghost use Rattle.hm_service_symbols.specs.SourceSymbols.{AreSymbolsOf};
 
+use crate::set_symbols::{SetSymbol, set_symbols};
 use crate::sources::{modules_of, symbols_in};
 use hm_service_places::Checked;
 use hm_uses_symbols::Symbol;
@@ -25,4 +27,21 @@ pub fn symbols_of<'a>(
     let counts = build.counts.as_slice();
     let modules = modules_of(part, counts, build.store.modules(), source);
     Ok(symbols_in(alloc, modules)?)
+}
+
+/// Returns the symbols of all sources of a checked set that can be checked, in the order of sources and of their texts.
+///
+/// # Errors
+///
+/// If memory runs out.
+pub fn all_symbols<'a>(
+    alloc: Global,
+    checked: &'a Checked,
+) -> Result<Vec<SetSymbol<'a>>, AllocError>
+    ensures { IfOk result (λ symbols. AreSymbolsIn checked.now symbols.items) }
+{
+    let build = &checked.build;
+    let part = checked.part.as_slice();
+    let counts = build.counts.as_slice();
+    Ok(set_symbols(alloc, part, counts, build.store.modules())?)
 }

@@ -11,7 +11,10 @@ use std::alloc::{AllocError, Global};
 use std::sync::Arc;
 
 /// Returns the first modules, as many as `count` if there are so many, and the others.
-fn split_modules(modules: &[Arc<Module>], count: usize) -> (&[Arc<Module>], &[Arc<Module>])
+pub(crate) fn split_modules(
+    modules: &[Arc<Module>],
+    count: usize,
+) -> (&[Arc<Module>], &[Arc<Module>])
     ensures first { map arc_value result.0.now ≡ take count (map arc_value modules.now) }
     ensures others { map arc_value result.1.now ≡ drop count (map arc_value modules.now) }
 {
