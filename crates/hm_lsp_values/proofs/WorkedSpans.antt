@@ -1,11 +1,12 @@
 -- Worked examples of where names are written.
-use Rattle.std.proofs.Common.{◌≡◌, ◌+◌, ◌-◌, ◌<◌, ℕ, false, codes, min, take, arith, refl, sym, subst}
+use Rattle.std.proofs.Common.{◌≡◌, ◌<◌, ℕ, false, codes, take, arith, refl, sym, subst}
 use Rattle.std.proofs.lemmas.Bool.{cond-false, cond-true}
 use Rattle.hm_lsp_positions.specs.Lines.{line_start}
 use Rattle.hm_lsp_positions.specs.Positions.{IsColumn, IsOffsetOf, IsPositionOf}
 use Rattle.hm_lsp_positions.specs.Units.{units}
 use Rattle.hm_lsp_positions.specs.declared.units.Encoding.TheVariants.{Utf8, Utf16}
-use Rattle.hm_lsp_values.specs.References.{IsSpan, kind_of}
+use Rattle.hm_lsp_values.specs.References.{kind_of}
+use Rattle.hm_lsp_values.specs.Spans.{IsSpan}
 use Rattle.hm_lsp_values.specs.Worked.{SpanRow}
 use Rattle.hm_uses_references.specs.declared.finding.Reference.{Reference}
 
@@ -27,13 +28,8 @@ position_five : IsPositionOf Utf16 (codes "f = f") 5 (record { line = 0; column 
 unfolding line_start
 position_five = record { start = 0; starts = refl; after = omega arith; last = tt; column = refl }
 
-second : (r : Reference) → r.line ≡ 1 → r.column ≡ 5 → r.length ≡ 1 → IsSpan Utf16 (codes "f = f") r (record { line = 0; column = 4 }) (record { line = 0; column = 5 })
-second r line column len = record {
-  offset = 4;
-  at = subst (λ l. IsOffsetOf Utf8 (codes "f = f") (record { line = l - 1; column = r.column - 1 }) 4) (sym line) (subst (λ k. IsOffsetOf Utf8 (codes "f = f") (record { line = 0; column = k - 1 }) 4) (sym column) offset_four);
-  starts = position_four;
-  ends = subst (λ n. IsPositionOf Utf16 (codes "f = f") (min (4 + n) 5) (record { line = 0; column = 5 })) (sym len) position_five;
-}
+second : IsSpan Utf16 (codes "f = f") 1 5 1 (record { line = 0; column = 4 }) (record { line = 0; column = 5 })
+second = record { offset = 4; at = offset_four; starts = position_four; ends = position_five }
 
 three : (r : Reference) → r.binds ≡ false → kind_of r ≡ 3 → ⊥
 three r is e = omega (arith, cond-false {A = ℕ} _ 3 2 is, e)

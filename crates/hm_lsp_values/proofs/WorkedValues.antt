@@ -2,7 +2,7 @@
 use Rattle.std.proofs.Common.{◌≡◌, ℕ, List, [], codes, length, refl, arith}
 use Rattle.std.specs.List.{position_or_len}
 use Rattle.hm_lsp_values.specs.Names.{IsShown, is_end, kept, last, line}
-use Rattle.hm_lsp_values.specs.Worked.{HoverRow, ValuesRow}
+use Rattle.hm_lsp_values.specs.Worked.{HoverRow, SymbolsRow, ValuesRow}
 
 apart : (x y : ℕ) → x ≡ 1 → y ≡ 3 → x ≡ y → ⊥
 apart x y a b e = omega (arith, a, b, e)
@@ -28,3 +28,9 @@ some e = cc
 
 pub worked_hover : HoverRow
 worked_hover = record { shown = first; not_bound = λ h. some (one_line _ _ h refl refl) }
+
+pub worked_symbols : SymbolsRow
+worked_symbols = record { whole = refl; not_alike = others _ _ refl refl }
+  where
+    others : (x y : ℕ) → x ≡ 10 → y ≡ 22 → x ≡ y → ⊥
+    others x y a b e = omega (arith, a, b, e)

@@ -2,4 +2,6 @@ pub mod Diagnostics
 pub mod Names
 pub mod Places
 pub mod References
+pub mod Spans
+pub mod Symbols
 pub mod Worked

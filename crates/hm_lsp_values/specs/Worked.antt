@@ -1,13 +1,19 @@
 -- Worked examples.
 use Rattle.std.specs.Prelude.{◌≡◌, true, false, Some, None, codes}
+use Rattle.serde_json.specs.Data.{member, no_members, null, number, object, string, unsigned}
 use Rattle.hm_lsp_positions.specs.declared.units.Encoding.TheVariants.{Utf8, Utf16}
 use Rattle.hm_messages_json.specs.declared.message.Level.TheVariants.{Error, Note}
 use Rattle.hm_messages_json.specs.declared.message.Position.{Position as Place}
 use Rattle.hm_lsp_values.specs.Diagnostics.{severity_of, text_with}
 use Rattle.hm_lsp_values.specs.Names.{IsShown}
 use Rattle.hm_lsp_values.specs.Places.{position_of_place}
-use Rattle.hm_lsp_values.specs.References.{IsSpan, kind_of}
+use Rattle.hm_lsp_values.specs.References.{kind_of}
+use Rattle.hm_lsp_values.specs.Spans.{IsSpan}
+use Rattle.hm_lsp_values.specs.Symbols.{symbol_data, symbol_kind}
+use Rattle.hm_names.specs.Worked.{at}
 use Rattle.hm_uses_references.specs.declared.finding.Reference.{Reference}
+use Rattle.hm_uses_symbols.specs.Symbols.{symbol}
+use Rattle.hm_uses_symbols.specs.declared.symbol.SymbolKind.TheVariants.{Constructor, DataType, Variable}
 
 -- a place in line 2, after a letter of two bytes
 abbrev pub second_line : Place
@@ -27,6 +33,12 @@ pub record HoverRow : Type 0 where
 
 -- in `f = f` the second name is used, and not bound
 pub record SpanRow : Type 0 where
-  pub second : (r : Reference) → r.line ≡ 1 → r.column ≡ 5 → r.length ≡ 1 → IsSpan Utf16 (codes "f = f") r (record { line = 0; column = 4 }) (record { line = 0; column = 5 })
+  pub second : IsSpan Utf16 (codes "f = f") 1 5 1 (record { line = 0; column = 4 }) (record { line = 0; column = 5 })
   pub bound : (r : Reference) → r.binds ≡ true → kind_of r ≡ 3
   pub not_bound : (r : Reference) → r.binds ≡ false → ¬ (kind_of r ≡ 3)
+
+-- the range of a symbol is there twice. Types and constructors are of different kinds
+pub record SymbolsRow : Type 0 where
+  pub whole : symbol_data (symbol Variable (at 18 (codes "f"))) null
+      ≡ object (member (codes "kind") (number (unsigned 12)) (member (codes "name") (string (codes "f")) (member (codes "range") null (member (codes "selectionRange") null no_members))))
+  pub not_alike : ¬ (symbol_kind DataType ≡ symbol_kind Constructor)

@@ -1,5 +1,5 @@
 //! Worked examples. Each is a function with an empty body, and its contract states the example.
-ghost use Rattle.hm_lsp_values.specs.Worked.{HoverRow, SpanRow, ValuesRow};
+ghost use Rattle.hm_lsp_values.specs.Worked.{HoverRow, SpanRow, SymbolsRow, ValuesRow};
 
 /// Positions, severities and texts.
 #[tactic(auto, using(crate::proofs::WorkedValues::worked_values))]
@@ -17,4 +17,10 @@ pub fn worked_hover()
 #[tactic(auto, using(crate::proofs::WorkedSpans::worked_spans))]
 pub fn worked_spans()
     ensures { SpanRow }
+{}
+
+/// A symbol, and the numbers of kinds.
+#[tactic(auto, using(crate::proofs::WorkedValues::worked_symbols))]
+pub fn worked_symbols()
+    ensures { SymbolsRow }
 {}

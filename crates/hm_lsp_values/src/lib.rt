@@ -8,8 +8,11 @@ pub mod laws;
 mod names;
 mod positions;
 mod references;
+mod spans;
+mod symbols;
 
 pub use crate::diagnostics::{action_value, diagnostic_value};
 pub use crate::names::{hover_value, location_value};
 pub use crate::positions::place_at;
 pub use crate::references::{highlight_value, reference_value};
+pub use crate::symbols::{located_symbol_value, symbol_value};

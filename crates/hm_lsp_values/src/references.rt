@@ -1,57 +1,26 @@
 //! Where names are written.
-ghost use Rattle.std.specs.Prelude.{◌≡◌, ◌≤◌, ◌+◌, IfOk, length, min};
+ghost use Rattle.std.specs.Prelude.{◌≡◌, IfOk};
 ghost use Rattle.serde_json.specs.View.{view};
-ghost use Rattle.hm_lsp_values.specs.References.{IsHighlight, IsReference, IsSpan, kind_of, span_data};
+ghost use Rattle.hm_lsp_values.specs.References.{IsHighlight, IsReference, kind_of};
+ghost use Rattle.hm_lsp_values.specs.Spans.{IsSpan};
 
-use crate::positions::position_value;
-use hm_lsp_positions::{Encoding, Position, offset_of, position_of};
+use crate::spans::{Span, span_of, span_value};
+use hm_lsp_positions::Encoding;
 use hm_uses_references::Reference;
 use serde_json::{Value, json};
 use std::alloc::{AllocError, Global};
 
-/// The positions between which a name is written.
-#[derive(Clone, Copy)]
-struct Span {
-    start: Position,
-    end: Position,
-}
-
-/// Returns the end of what begins at an offset of a text.
-fn end_of(text: &[u8], start: usize, size: usize) -> usize
-    requires { start ≤ length text.now }
-    ensures { result ≡ min (start + size) (length text.now) }
-{
-    if size <= text.len() - start {
-        start + size
-    } else {
-        text.len()
-    }
-}
-
 /// Returns the positions between which a name is written in the text of its source.
-fn span_of(encoding: Encoding, text: &[u8], reference: &Reference) -> Span
-    ensures { IsSpan encoding text.now reference.now result.start result.end }
+fn reference_span(encoding: Encoding, text: &[u8], reference: &Reference) -> Span
+    ensures { IsSpan encoding text.now reference.now.line reference.now.column reference.now.length result.start result.end }
 {
-    let place = Position {
-        line: (reference.line as usize).saturating_sub(1),
-        column: reference.column.saturating_sub(1),
-    };
-    let start = offset_of(Encoding::Utf8, text, place);
-    let end = end_of(text, start, reference.length);
-    Span {
-        start: position_of(encoding, text, start),
-        end: position_of(encoding, text, end),
-    }
-}
-
-/// Returns the range of a span (`Range`).
-fn span_value(alloc: Global, span: Span) -> Result<Value, AllocError>
-    ensures { IfOk result (λ value. view value ≡ span_data span.start span.end) }
-{
-    let start = position_value(alloc, span.start)?;
-    let end = position_value(alloc, span.end)?;
-    let (start, end) = (&start, &end);
-    json!(in alloc; {"end": end, "start": start})
+    let Reference {
+        line,
+        column,
+        length,
+        ..
+    } = *reference;
+    span_of(encoding, text, line, column, length)
 }
 
 /// Returns where a name is written, in the text of its source (`Location`).
@@ -64,7 +33,7 @@ pub fn reference_value(
 ) -> Result<Value, AllocError>
     ensures { IfOk result (λ value. IsReference encoding uri.now text.now reference.now (view value)) }
 {
-    let range = span_value(alloc, span_of(encoding, text, reference))?;
+    let range = span_value(alloc, reference_span(encoding, text, reference))?;
     let range = &range;
     json!(in alloc; {"range": range, "uri": uri})
 }
@@ -85,7 +54,7 @@ pub fn highlight_value(
 ) -> Result<Value, AllocError>
     ensures { IfOk result (λ value. IsHighlight encoding text.now reference.now (view value)) }
 {
-    let range = span_value(alloc, span_of(encoding, text, reference))?;
+    let range = span_value(alloc, reference_span(encoding, text, reference))?;
     let (range, kind) = (&range, kind_of(reference));
     json!(in alloc; {"kind": kind, "range": range})
 }
