@@ -82,11 +82,11 @@ def measure_changes(client, what, name):
 def measure_requests(client, what, name, position):
     """Asks for a name at a place, some times. Returns how often there was no result."""
     wrong = 0
-    for method in ("hover", "definition"):
+    for method in ("hover", "definition", "references", "documentSymbol"):
         seconds = []
         for _ in range(ROUNDS):
             began = client.processor()
-            reply = client.ask(f"textDocument/{method}", {"textDocument": {"uri": client.uri(name)}, "position": position})
+            reply = client.ask(f"textDocument/{method}", {"textDocument": {"uri": client.uri(name)}, "position": position, "context": {"includeDeclaration": True}})
             seconds.append(client.processor() - began)
             wrong += not reply.get("result")
         report(f"{what}, {method}", seconds)

@@ -91,6 +91,14 @@ def refer(it, doc):
     it.row("no position", it.ask("textDocument/references", textDocument=doc)["error"]["code"], -32602)
 
 
+def outline(it, doc):
+    """Asks what B declares. Its signature and its import declare nothing."""
+    names = [("B", 2, "B where"), ("h", 12, "h c b"), ("k", 12, "k ="), ("m", 12, "m =")]
+    wanted = [{"kind": kind, "name": name, "range": where, "selectionRange": where} for name, kind, part in names for where in [between(B, part, 1)]]
+    it.row("symbols of a document", it.ask("textDocument/documentSymbol", textDocument=doc)["result"], wanted)
+    it.row("symbols of no document", it.ask("textDocument/documentSymbol", textDocument={"uri": it.uri("C.hs")})["error"]["code"], -32602)
+
+
 def look(it):
     doc = {"uri": it.uri("B.hs")}
     it.notify("textDocument/didOpen", textDocument={**doc, "languageId": "haskell", "version": 1, "text": B})
@@ -100,6 +108,7 @@ def look(it):
     it.row("a definition in another file", (place["uri"], place["range"]["start"]), (it.uri("A.hs"), position(A, "g =")))
     it.row("nothing at a bracket", it.ask("textDocument/hover", textDocument=doc, position=position(B, "{"))["result"], None)
     refer(it, doc)
+    outline(it, doc)
     it.row("no such document", it.ask("textDocument/hover", textDocument={"uri": it.uri("C.hs")}, position=position(B, "{"))["error"]["code"], -32602)
     it.row("an unknown method", it.ask("textDocument/rename")["error"]["code"], -32601)
 

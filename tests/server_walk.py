@@ -213,9 +213,10 @@ class Walk:
         document = self.chance.choice([it for it in self.documents if it.version is not None or it.file is not None])
         line, column = position_of(document.text, place_of(self.chance, document.text), self.encoding)
         position = {"line": line, "character": column}
-        method = self.chance.choice(["hover", "definition", "codeAction"])
-        where = {"range": {"start": position, "end": position}, "context": {"diagnostics": []}} if method == "codeAction" else {"position": position}
-        return f"textDocument/{method}", {"textDocument": self.named(document), **where}
+        method = self.chance.choice(["hover", "definition", "references", "documentHighlight", "documentSymbol", "codeAction"])
+        where = {"range": {"start": position, "end": position}} if method == "codeAction" else {"position": position}
+        context = {"diagnostics": [], "includeDeclaration": self.chance.random() < 0.5}
+        return f"textDocument/{method}", {"textDocument": self.named(document), "context": context, **where}
 
     def step(self):
         """Makes an edit, and compares what is shown then."""

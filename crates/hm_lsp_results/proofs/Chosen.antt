@@ -8,7 +8,7 @@ use Rattle.serde_json.specs.Data.{Data}
 use Rattle.serde_json.specs.View.{view}
 use Rattle.serde_json.specs.declared.value.Value.{Value}
 
-zip_pushed : {X : Type 0} (P : X → Data → Type 0) (xs : List X) (ys : List Data) (x : X) (y : Data) → AllZip P xs ys → P x y → AllZip P (xs ++ x ∷ []) (ys ++ y ∷ [])
+pub zip_pushed : {X : Type 0} (P : X → Data → Type 0) (xs : List X) (ys : List Data) (x : X) (y : Data) → AllZip P xs ys → P x y → AllZip P (xs ++ x ∷ []) (ys ++ y ∷ [])
 zip_pushed P [] [] x y h own = (own, tt)
 zip_pushed P [] (z ∷ ys) x y h own = absurd h
 zip_pushed P (w ∷ xs) [] x y h own = absurd h

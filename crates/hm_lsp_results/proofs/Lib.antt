@@ -4,3 +4,4 @@ pub mod Listed
 pub mod Located
 pub mod Referred
 pub mod Requests
+mod DeclaredValues

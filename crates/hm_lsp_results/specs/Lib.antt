@@ -1,3 +1,4 @@
 pub mod Asked
 pub mod References
+pub mod Symbols
 pub mod Results

@@ -45,7 +45,7 @@ pub record AreValues {X : Type 0} (P : X → Data → Type 0) (xs : List X) (val
   pub each : AllZip P xs values
   pub whole : value ≡ array (items_of values)
 
--- the source of the reference is there. Declarations are left out if they aren't asked for
+-- the source of the reference is there, and it is no declaration if these are left out
 abbrev pub is_located : Subject → Bool → Reference → Bool
 is_located asked declarations r = (declarations || not r.binds) && (nat_lt r.source (length asked.sources) && nat_lt r.source (length asked.held))
 

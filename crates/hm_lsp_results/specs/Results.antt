@@ -1,4 +1,4 @@
--- The results of requests about the texts, and their replies (Language Server Protocol 3.17, "Hover Request", "Goto Definition Request", "Code Action Request"; "Find References Request" and "Document Highlights Request" are in References).
+-- The results of requests about the texts, and their replies (Language Server Protocol 3.17, "Hover Request", "Goto Definition Request", "Code Action Request"; "Find References Request" and "Document Highlights Request" are in References, and "Document Symbols Request" in Symbols).
 use Rattle.std.specs.Prelude.{◌≡◌, ◌≤◌, ◌⊎◌, ℕ, negsuc, Bool, true, List, Option, None, Some, codes, length, map, option_and_then, slice_get, string_bytes}
 use Rattle.serde_json.specs.Data.{Data, array, no_items, null}
 use Rattle.serde_json.specs.Find.{as_bool, pointer}
@@ -11,7 +11,7 @@ use Rattle.hm_lsp_session.specs.Params.{IsPositionIn, IsRangeIn}
 use Rattle.hm_lsp_session.specs.Replies.{refusal_data, reply_data}
 use Rattle.hm_lsp_session.specs.Stages.{code_of}
 use Rattle.hm_lsp_session.specs.declared.stages.Question.{Question}
-use Rattle.hm_lsp_session.specs.declared.stages.Question.TheVariants.{CodeAction, Definition, DocumentHighlight, Hover, References}
+use Rattle.hm_lsp_session.specs.declared.stages.Question.TheVariants.{CodeAction, Definition, DocumentHighlight, DocumentSymbol, Hover, References}
 use Rattle.hm_lsp_session.specs.declared.stages.Refusal.TheVariants.{InvalidParams}
 use Rattle.hm_lsp_values.specs.Diagnostics.{action_data}
 use Rattle.hm_lsp_values.specs.Names.{IsHover, IsLocation}
@@ -25,6 +25,7 @@ use Rattle.hm_service_places.specs.declared.places.AtPlace.{AtPlace}
 use Rattle.hm_service_sources.specs.declared.held.HeldSource.{HeldSource}
 use Rattle.hm_lsp_results.specs.Asked.{HasNothingAt, HasUri, IsNamedAt, IsReadText, IsSourceIn, Subject}
 use Rattle.hm_lsp_results.specs.References.{IsHighlightsResult, IsReferencesResult}
+use Rattle.hm_lsp_results.specs.Symbols.{IsSymbolsResult}
 use Rattle.hm_lsp_sources.specs.declared.source.Source.{Source}
 
 -- Hover
@@ -109,6 +110,7 @@ IsResultOf asked Hover n request result = IsResultAtPosition (IsHoverResult aske
 IsResultOf asked Definition n request result = IsResultAtPosition (IsDefinitionResult asked.encoding asked.sources asked.held asked.checked n) request result
 IsResultOf asked References n request result = IsResultAtPosition (IsReferencesResult asked (with_declarations request) n) request result
 IsResultOf asked DocumentHighlight n request result = IsResultAtPosition (IsHighlightsResult asked n) request result
+IsResultOf asked DocumentSymbol n request result = (value : Data) × (IsSymbolsResult asked n value × (result ≡ Some value))
 IsResultOf asked CodeAction n request result = (r : Option Range) × (HasRange request r × IsResultFor (IsActionsResult asked.encoding asked.sources asked.held asked.checked n) r result)
 
 -- by whether the document that the request names is a source

@@ -1,7 +1,8 @@
-//! The results of requests about what texts mean, and their replies.
+//! Finds the results of requests about what texts mean, and makes their replies.
 #![tactic(auto)]
 
 mod asking;
+mod declared;
 mod faults;
 mod referring;
 mod replying;

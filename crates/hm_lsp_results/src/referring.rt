@@ -51,7 +51,7 @@ pub(crate) fn references_at<T: Threads + Wait + Sync>(
     }
 }
 
-/// Returns whether a reference is sent: whether its source is there, and it is no declaration if these aren't asked for.
+/// Returns whether a reference is sent: whether its source is there, and it is no declaration if these are left out.
 fn is_located(asked: &Asked<'_>, declarations: bool, reference: &Reference) -> bool
     ensures { result ≡ is_located (subject_of asked.now) declarations reference.now }
 {

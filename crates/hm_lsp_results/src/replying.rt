@@ -6,6 +6,7 @@ ghost use Rattle.hm_lsp_results.specs.Asked.{subject_of};
 ghost use Rattle.hm_lsp_results.specs.Results.{HasPosition, HasRange, IsReply, IsResult, IsResultOf, failure_data, with_declarations};
 
 use crate::asking::{Asked, actions, definition, hover, source_in};
+use crate::declared::symbols;
 use crate::faults::ServerFault;
 use crate::referring::{highlights, references};
 use hm_lsp_positions::{Position, Range};
@@ -35,7 +36,7 @@ fn range_of_request(request: &Value) -> Option<Range>
     }
 }
 
-/// Returns whether declarations are among the references that a request asks for.
+/// Returns whether declarations are among the references of a request.
 fn with_declarations(request: &Value) -> bool
     ensures { result ≡ with_declarations (view request.now) }
 {
@@ -61,6 +62,9 @@ fn result_of<T: Threads + Wait + Sync>(
             Some(range) => Ok(Some(actions(asked, source, range)?)),
         };
     }
+    if question == Question::DocumentSymbol {
+        return Ok(Some(symbols(asked, source)?));
+    }
     let Some(position) = position_of_request(request) else {
         return Ok(None);
     };
@@ -72,7 +76,7 @@ fn result_of<T: Threads + Wait + Sync>(
             Ok(Some(references(rt, asked, source, position, declarations)?))
         }
         Question::DocumentHighlight => Ok(Some(highlights(rt, asked, source, position)?)),
-        Question::CodeAction => Ok(None),
+        Question::DocumentSymbol | Question::CodeAction => Ok(None),
     }
 }
 

@@ -1,5 +1,5 @@
 -- The diagnostics that are sent to a client (Language Server Protocol 3.17, "PublishDiagnostics Notification", "ShowMessage Notification").
-use Rattle.std.specs.Prelude.{◌≡◌, ℕ, zero, suc, Bool, true, false, List, [], ◌∷◌, ◌++◌, None, Some, codes, length, map, slice_get, slice_index_or}
+use Rattle.std.specs.Prelude.{◌≡◌, ◌⊎◌, ℕ, zero, suc, Bool, true, false, List, [], ◌∷◌, ◌++◌, None, Some, codes, length, map, slice_get, slice_index_or}
 use Rattle.serde_json.specs.Data.{Data, array, member, no_members, number, object, string, unsigned}
 use Rattle.serde_json.specs.View.{items_of}
 use Rattle.hm_lsp_positions.specs.declared.units.Encoding.{Encoding}
@@ -14,7 +14,7 @@ use Rattle.hm_service_messages.specs.declared.diagnostic.Diagnostic.{Diagnostic}
 use Rattle.hm_service_places.specs.Diagnostics.{AreDiagnosticsAt}
 use Rattle.hm_service_places.specs.declared.checked.Checked.{Checked}
 use Rattle.hm_service_sources.specs.declared.held.HeldSource.{HeldSource}
-use Rattle.hm_lsp_server.specs.Servers.{IsFollowing, checked_of, documents_in, held_of, is_changed, is_stale, session_of, shown_of, sources_of, workers}
+use Rattle.hm_lsp_server.specs.Servers.{checked_of, held_of, is_changed, session_of, shown_of, sources_of, workers}
 use Rattle.hm_lsp_server.specs.declared.server.Server.{Server}
 use Rattle.hm_lsp_sources.specs.declared.source.Source.{Source}
 
@@ -74,10 +74,8 @@ pub record IsSameButShown (before after : Server) : Type 0 where
   pub held : held_of after ≡ held_of before
   pub checked : checked_of after ≡ checked_of before
   pub changed : is_changed after ≡ is_changed before
-  pub stale : is_stale after ≡ is_stale before
 
--- what is sent: nothing while the client isn't ready. Else the texts are those of the client's documents, and nothing is sent if they are those of the last time
+-- what is sent: nothing while the client isn't ready or if the texts are those of the last time, and else the diagnostics of all sources, or that the check failed
 pub data IsPublished (before after : Server) (new : List Data) : Type 0 where
-  unready : ¬ (stage_of (session_of before) ≡ Ready) → new ≡ [] → shown_of after ≡ shown_of before → IsPublished before after new
-  unchanged : IsFollowing (documents_in after) after → is_changed before ≡ false → sources_of after ≡ sources_of before → held_of after ≡ held_of before → new ≡ [] → shown_of after ≡ shown_of before → IsPublished before after new
-  changed : IsFollowing (documents_in after) after → is_changed after ≡ false → IsShown before after new → IsPublished before after new
+  nothing : (is_changed before ≡ false) ⊎ (¬ (stage_of (session_of before) ≡ Ready)) → new ≡ [] → shown_of after ≡ shown_of before → is_changed after ≡ is_changed before → IsPublished before after new
+  changed : is_changed after ≡ false → IsShown before after new → IsPublished before after new

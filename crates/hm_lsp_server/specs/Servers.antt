@@ -1,5 +1,5 @@
 -- A server, and what is always so of it.
-use Rattle.std.specs.Prelude.{◌≡◌, ◌++◌, ℕ, Bool, false, true, IfSome, List, Option, codes, map, string_bytes}
+use Rattle.std.specs.Prelude.{◌≡◌, ◌++◌, ℕ, Bool, true, IfSome, List, Option, codes, map, string_bytes}
 use Rattle.hm_lsp_session.specs.Documents.{listed}
 use Rattle.hm_lsp_session.specs.Effects.{documents_of}
 use Rattle.hm_lsp_session.specs.declared.documents.Document.{Document}
@@ -62,12 +62,7 @@ pub data IsNoted (before after : Server) : Type 0 where
   changed : is_changed after ≡ true → IsNoted before after
   as_before : is_changed after ≡ is_changed before → sources_of after ≡ sources_of before → held_of after ≡ held_of before → IsNoted before after
 
--- the client's documents have changed since the sources followed them
-abbrev pub is_stale : Server → Bool
-is_stale s = s.is_stale
-
--- the sources have followed the documents, and follow those of now unless these have changed since. A check is one of the texts that are held
+-- the sources follow the client's documents, and a check is one of the texts that are held
 pub record IsOrderly (s : Server) : Type 0 where
   pub current : IsCurrent s
-  pub followed : (documents : List Document) × IsFollowing documents s
-  pub follows : is_stale s ≡ false → IsFollowing (documents_in s) s
+  pub follows : IsFollowing (documents_in s) s

@@ -6,12 +6,13 @@ ghost use Rattle.serde_json.specs.Find.{get};
 ghost use Rattle.serde_json.specs.View.{view};
 ghost use Rattle.hm_lsp_results.specs.Asked.{subject_of};
 ghost use Rattle.hm_lsp_session.specs.Replies.{IsReplyTo};
+ghost use Rattle.hm_lsp_session.specs.declared.documents.Document.{Document};
 ghost use Rattle.hm_lsp_sources.specs.Following.{AreFollowing, AreKept};
 ghost use Rattle.hm_lsp_sources.specs.Held.{held_in, named_in};
 ghost use Rattle.hm_lsp_server.specs.Published.{IsPublished, IsSameButShown, IsShown, no_check_notice};
 ghost use Rattle.hm_lsp_server.specs.Replied.{IsReplyOf};
 ghost use Rattle.hm_lsp_server.specs.Served.{IsServed, IsServedBy, subject_in};
-ghost use Rattle.hm_lsp_server.specs.Servers.{HasFiles, IsCurrent, IsFollowing, IsNoted, IsOrderly, documents_in, is_changed, session_of, sources_of};
+ghost use Rattle.hm_lsp_server.specs.Servers.{HasFiles, IsCurrent, IsFollowing, IsNoted, IsOrderly, documents_in, held_of, is_changed, session_of, sources_of};
 
 use crate::telling::tell;
 use hm_lsp_results::{Asked, failure, replied};
@@ -90,8 +91,6 @@ pub struct Server {
     has_failed: bool,
     /// Whether the texts have changed since the diagnostics were sent.
     is_changed: bool,
-    /// Whether the client's documents have changed since the sources followed them.
-    is_stale: bool,
 }
 
 impl Server {
@@ -116,27 +115,20 @@ impl Server {
             checked: None,
             has_failed: false,
             is_changed: true,
-            is_stale: false,
         })
     }
 
-    // Why: docs/DECISIONS.md, "Bursts".
-    /// Lets the sources follow the client's documents, if these have changed. If a text or a URI is another, the check is forgotten.
+    /// Lets the sources follow the client's documents. If a text or a URI is another, the check is forgotten.
     fn follow<T: Threads>(&mut self, rt: &T) -> Result<(), AllocError>
-        requires { IsOrderly self.old }
-        ensures current { OnOk result (IsCurrent self.new) }
-        ensures following { OnOk result (IsFollowing (documents_in self.new) self.new) }
+        requires current { IsCurrent self.old }
+        requires followed { (documents : List Document) × IsFollowing documents self.old }
+        ensures orderly { OnOk result (IsOrderly self.new) }
         ensures session { self.new.session ≡ self.old.session }
-        ensures shown { self.new.shown ≡ self.old.shown }
         ensures kept { OnOk result (AreKept (sources_of self.old) (sources_of self.new)) }
         ensures noted { OnOk result (IsNoted self.old self.new) }
     {
-        if !self.is_stale {
-            return Ok(());
-        }
         let documents = self.session.documents().as_slice();
         let is_other = self.sources.follow(rt, documents)?;
-        self.is_stale = false;
         if !is_other {
             return Ok(());
         }
@@ -155,7 +147,6 @@ impl Server {
         ensures shown { self.new.shown ≡ self.old.shown }
         ensures session { self.new.session ≡ self.old.session }
         ensures changed { self.new.is_changed ≡ self.old.is_changed }
-        ensures stale { self.new.is_stale ≡ self.old.is_stale }
     {
         if self.checked.is_some() || self.has_failed {
             return;
@@ -173,15 +164,14 @@ impl Server {
         question: Question,
         request: &Value,
     ) -> Result<Value, AllocError>
-        requires { IsOrderly self.old }
-        ensures orderly { OnOk result (IsOrderly self.new) }
-        ensures following { OnOk result (IsFollowing (documents_in self.new) self.new) }
-        ensures kept { OnOk result (AreKept (sources_of self.old) (sources_of self.new)) }
-        ensures noted { OnOk result (IsNoted self.old self.new) }
+        requires { IsCurrent self.old }
+        ensures current { IsCurrent self.new }
+        ensures sources { self.new.sources ≡ self.old.sources }
+        ensures session { self.new.session ≡ self.old.session }
+        ensures changed { self.new.is_changed ≡ self.old.is_changed }
         ensures served { IfOk result (λ made. (id : Data) → get (codes "id") (view request.now) ≡ Some id → IsServedBy self.new question (view request.now) id (view made)) }
         ensures reply { IfOk result (λ made. (id : Data) → get (codes "id") (view request.now) ≡ Some id → IsReplyTo id (view made)) }
     {
-        self.follow(rt)?;
         self.refresh(rt);
         Ok(self.replied(rt, question, request)?)
     }
@@ -243,7 +233,7 @@ impl Server {
                 Ok(Taken::reply(self.reply_to(rt, question, &request)?))
             }
             Outcome::Changed => {
-                self.is_stale = true;
+                self.follow(rt)?;
                 Ok(Taken::NOTHING)
             }
             Outcome::Nothing => Ok(Taken::NOTHING),
@@ -266,16 +256,13 @@ impl Server {
         sent: &mut Vec<Value>,
     ) -> Result<(), AllocError>
         requires orderly { IsOrderly self.old }
-        ensures orderly { OnOk result (IsOrderly self.new) }
+        ensures orderly { IsOrderly self.new }
+        ensures held { held_of self.new ≡ held_of self.old }
+        ensures sources { sources_of self.new ≡ sources_of self.old }
         ensures session { session_of self.new ≡ session_of self.old }
-        ensures kept { OnOk result (AreKept (sources_of self.old) (sources_of self.new)) }
         ensures published { OnOk result ((new : List Data) × (map view sent.new.items ≡ map view sent.old.items ++ new) × IsPublished self.old self.new new) }
     {
-        if self.session.stage() != Stage::Ready {
-            return Ok(());
-        }
-        self.follow(rt)?;
-        if !self.is_changed {
+        if !self.is_changed || self.session.stage() != Stage::Ready {
             return Ok(());
         }
         self.is_changed = false;

@@ -42,7 +42,7 @@ AnswersRequest request id Changed = ⊥
 AnswersRequest request id Nothing = ⊥
 AnswersRequest request id (Ended status) = ⊥
 
--- the service has to reply to this request, which asks this
+-- the service has to reply to this request, which is this question about texts
 abbrev pub IsAsked : Asked → Data → Outcome → Type 0
 IsAsked question request (Reply reply) = ⊥
 IsAsked question request (Ask own asked) = (own ≡ question) × (view asked ≡ request)

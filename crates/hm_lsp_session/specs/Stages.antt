@@ -6,7 +6,7 @@ use Rattle.hm_lsp_session.specs.declared.stages.Decision.TheVariants.{End, Go, I
 use Rattle.hm_lsp_session.specs.declared.stages.Method.{Method}
 use Rattle.hm_lsp_session.specs.declared.stages.Method.TheVariants.{DidChange, DidClose, DidOpen, Exit, Initialize, Question, Shutdown, Unknown}
 use Rattle.hm_lsp_session.specs.declared.stages.Question.{Question as Asked}
-use Rattle.hm_lsp_session.specs.declared.stages.Question.TheVariants.{CodeAction, Definition, DocumentHighlight, Hover, References}
+use Rattle.hm_lsp_session.specs.declared.stages.Question.TheVariants.{CodeAction, Definition, DocumentHighlight, DocumentSymbol, Hover, References}
 use Rattle.hm_lsp_session.specs.declared.stages.Refusal.{Refusal}
 use Rattle.hm_lsp_session.specs.declared.stages.Refusal.TheVariants.{InvalidParams, InvalidRequest, MethodNotFound, NotInitialized, ParseError}
 use Rattle.hm_lsp_session.specs.declared.stages.Stage.{Stage}
@@ -19,8 +19,9 @@ question_named name =
     else (if bytes_eq name (codes "textDocument/definition") then Some Definition
     else (if bytes_eq name (codes "textDocument/references") then Some References
     else (if bytes_eq name (codes "textDocument/documentHighlight") then Some DocumentHighlight
+    else (if bytes_eq name (codes "textDocument/documentSymbol") then Some DocumentSymbol
     else (if bytes_eq name (codes "textDocument/codeAction") then Some CodeAction
-    else None))))
+    else None)))))
 
 abbrev pub method_of_question : Option Asked → Method
 method_of_question None = Unknown

@@ -24,7 +24,7 @@ use std::alloc::{AllocError, Global};
 pub enum Outcome {
     /// A reply for the client.
     Reply(Value),
-    /// The service makes the reply to this request, which asks this.
+    /// The service makes the reply to this request about texts.
     Ask(Question, Value),
     /// The texts changed.
     Changed,
@@ -71,6 +71,7 @@ fn capabilities(alloc: Global, encoding: Encoding) -> Result<Value, AllocError> 
         "codeActionProvider": true,
         "definitionProvider": true,
         "documentHighlightProvider": true,
+        "documentSymbolProvider": true,
         "hoverProvider": true,
         "positionEncoding": encoding,
         "referencesProvider": true,

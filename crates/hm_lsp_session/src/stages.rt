@@ -20,6 +20,7 @@ pub enum Question {
     Definition,
     References,
     DocumentHighlight,
+    DocumentSymbol,
     CodeAction,
 }
 
@@ -86,6 +87,7 @@ impl Question {
             "textDocument/definition" => Some(Question::Definition),
             "textDocument/references" => Some(Question::References),
             "textDocument/documentHighlight" => Some(Question::DocumentHighlight),
+            "textDocument/documentSymbol" => Some(Question::DocumentSymbol),
             "textDocument/codeAction" => Some(Question::CodeAction),
             _ => None,
         }

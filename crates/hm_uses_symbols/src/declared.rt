@@ -76,7 +76,7 @@ fn add_declared<'a>(
     }
 }
 
-/// Adds the names that declarations declare, in order. A name that several of them declare stands there several times.
+/// Adds the names that declarations declare, in order. A name that several of them declare is added several times.
 ///
 /// # Errors
 ///

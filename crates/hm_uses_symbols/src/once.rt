@@ -62,8 +62,8 @@ fn add_each_once<'a>(
     Ok(())
 }
 
-/// Adds the symbols of a module: its own name, and the names that it declares at its top level, in order, each once. A function of several clauses stands
-/// at its first one.
+/// Adds the symbols of a module: its own name, and the names that it declares at its top level, in order, each once. A function of several clauses has
+/// the place of its first one.
 ///
 /// # Errors
 ///

@@ -5,12 +5,14 @@ use Rattle.hm_lsp_sources.specs.Following.{AreFollowing}
 use Rattle.hm_lsp_sources.specs.Held.{held_in, named_in}
 use Rattle.hm_lsp_server.proofs.server.Server.follow.Goals as goal
 
-pub returns-then-not-is_other-clause-following : goal.returns-then-not-is_other-clause-following
-returns-then-not-is_other-clause-following g c =
+pub returns-then-not-is_other-clause-orderly : goal.returns-then-not-is_other-clause-orderly
+returns-then-not-is_other-clause-orderly g c =
     let same : c.as_slice-documents.result.now ≡ listed (documents_of c.args.self.now.session) = c.as_slice-documents.ensures ∙ ap listed c.documents.ensures in
-    subst (λ l. AreFollowing l (named_in c.follow.new.self) (held_in c.follow.new.self)) same (c.in_ok-is_other.ensures.following c.requires.followed.0 c.requires.followed.1)
+    let follows = subst (λ l. AreFollowing l (named_in c.follow.new.self) (held_in c.follow.new.self)) same (c.in_ok-is_other.ensures.following c.requires.followed.0 c.requires.followed.1) in
+    record { current = ?; follows = follows }
 
-pub returns-clause-following : goal.returns-clause-following
-returns-clause-following g c =
+pub returns-clause-orderly : goal.returns-clause-orderly
+returns-clause-orderly g c =
     let same : c.as_slice-documents.result.now ≡ listed (documents_of c.args.self.now.session) = c.as_slice-documents.ensures ∙ ap listed c.documents.ensures in
-    subst (λ l. AreFollowing l (named_in c.follow.new.self) (held_in c.follow.new.self)) same (c.in_ok-is_other.ensures.following c.requires.followed.0 c.requires.followed.1)
+    let follows = subst (λ l. AreFollowing l (named_in c.follow.new.self) (held_in c.follow.new.self)) same (c.in_ok-is_other.ensures.following c.requires.followed.0 c.requires.followed.1) in
+    record { current = ?; follows = follows }

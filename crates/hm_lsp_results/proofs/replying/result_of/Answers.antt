@@ -1,0 +1,11 @@
+use Rattle.std.proofs.Common.{rules, ◌≡◌}
+use Rattle.serde_json.specs.View.{view}
+use Rattle.hm_lsp_session.specs.declared.stages.Question.TheVariants.{DocumentSymbol}
+use Rattle.hm_lsp_results.specs.Asked.{subject_of}
+use Rattle.hm_lsp_results.proofs.DeclaredValues.{symbols_result}
+use Rattle.hm_lsp_results.proofs.replying.result_of.Goals as goal
+
+pub returns-then-eq-2 : goal.returns-then-eq-2
+returns-then-eq-2 g c =
+    let is : c.args.question ≡ DocumentSymbol = search rules in
+    symbols_result (subject_of c.args.asked.now) c.args.question c.args.source (view c.args.request.now) (view c.in_ok-symbols.field-0) is c.in_ok-symbols.ensures
