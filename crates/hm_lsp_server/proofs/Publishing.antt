@@ -33,7 +33,7 @@ shown_since before between after new same (told {c} h) = told (record {
 })
 
 -- the same sources follow the same documents
-pub same_following : (s t : Server) → session_of t ≡ session_of s → sources_of t ≡ sources_of s → held_of t ≡ held_of s → IsFollowing (documents_in s) s → IsFollowing (documents_in t) t
-same_following s t session sources held h =
-    subst (λ x. AreFollowing x (sources_of t) (held_of t)) (ap (λ x. listed (documents_of x)) (sym session))
+pub same_following : (s t : Server) → documents_of (session_of t) ≡ documents_of (session_of s) → sources_of t ≡ sources_of s → held_of t ≡ held_of s → IsFollowing (documents_in s) s → IsFollowing (documents_in t) t
+same_following s t documents sources held h =
+    subst (λ x. AreFollowing x (sources_of t) (held_of t)) (ap listed (sym documents))
     (subst (λ x. AreFollowing (documents_in s) x (held_of t)) (sym sources) (subst (λ x. AreFollowing (documents_in s) (sources_of s) x) (sym held) h))

@@ -1,4 +1,6 @@
-use Rattle.std.proofs.Common.{◌≡◌, subst, ap, ◌∙◌}
+use Rattle.std.proofs.Common.{◌≡◌, IfSome, subst, sym, ap, ◌∙◌}
+use Rattle.hm_service.specs.Checks.{IsHeldCheck}
+use Rattle.hm_lsp_server.specs.Servers.{workers}
 use Rattle.hm_lsp_session.specs.Documents.{listed}
 use Rattle.hm_lsp_session.specs.Effects.{documents_of}
 use Rattle.hm_lsp_sources.specs.Following.{AreFollowing}
@@ -9,10 +11,10 @@ pub returns-then-not-is_other-clause-orderly : goal.returns-then-not-is_other-cl
 returns-then-not-is_other-clause-orderly g c =
     let same : c.as_slice-documents.result.now ≡ listed (documents_of c.args.self.now.session) = c.as_slice-documents.ensures ∙ ap listed c.documents.ensures in
     let follows = subst (λ l. AreFollowing l (named_in c.follow.new.self) (held_in c.follow.new.self)) same (c.in_ok-is_other.ensures.following c.requires.followed.0 c.requires.followed.1) in
-    record { current = ?; follows = follows }
+    record { current = subst (λ h. IfSome c.args.self.now.checked (IsHeldCheck workers h)) (sym (c.in_ok-is_other.ensures.held c.if-not-is_other.true)) c.requires.current; follows = follows }
 
 pub returns-clause-orderly : goal.returns-clause-orderly
 returns-clause-orderly g c =
     let same : c.as_slice-documents.result.now ≡ listed (documents_of c.args.self.now.session) = c.as_slice-documents.ensures ∙ ap listed c.documents.ensures in
     let follows = subst (λ l. AreFollowing l (named_in c.follow.new.self) (held_in c.follow.new.self)) same (c.in_ok-is_other.ensures.following c.requires.followed.0 c.requires.followed.1) in
-    record { current = ?; follows = follows }
+    record { current = tt; follows = follows }

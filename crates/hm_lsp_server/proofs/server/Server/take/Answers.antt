@@ -1,10 +1,13 @@
-use Rattle.std.proofs.Common.{inl, inr, map, option_to_list, subst, sym}
+use Rattle.std.proofs.Common.{◌∙◌, ap, inl, inr, map, option_to_list, subst, sym}
 use Rattle.serde_json.specs.View.{view}
+use Rattle.hm_lsp_session.specs.Effects.{HasBodyEffect, TextsAre, documents_of, encoding_of}
 use Rattle.hm_lsp_session.specs.Replies.{IsAsked, IsLeftOf, TakesBody}
 use Rattle.hm_lsp_session.specs.Steps.{stage_of}
 use Rattle.hm_lsp_server.specs.Replied.{IsReplyOf}
 use Rattle.hm_lsp_server.specs.Served.{IsServed}
 use Rattle.hm_lsp_server.proofs.OneReply.{body_asked, body_none, body_reply}
+use Rattle.hm_lsp_sources.specs.Held.{held_in, named_in}
+use Rattle.hm_lsp_server.proofs.Publishing.{same_following}
 use Rattle.hm_lsp_server.proofs.Serving.{never_left, served_asked}
 use Rattle.hm_lsp_server.proofs.server.Server.take.Goals as goal
 
@@ -25,14 +28,18 @@ returns-in_ok-reply_to-in-Ask-clause-reply g c =
 pub returns-in_ok-reply_to-in-Ask-clause-served : goal.returns-in_ok-reply_to-in-Ask-clause-served
 returns-in_ok-reply_to-in-Ask-clause-served g c =
     let left = subst (IsLeftOf c.args.body.now (stage_of c.args.self.now.session)) c.in-Ask.is c.in_ok-reply.ensures.left in
+    let same = subst (λ o. TextsAre o (HasBodyEffect c.args.body.now (encoding_of c.args.self.now.session) (documents_of c.args.self.now.session) (documents_of c.take.new.self)) (documents_of c.args.self.now.session) (documents_of c.take.new.self)) c.in-Ask.is
+        c.in_ok-reply.ensures.texts in
+    let follows = same_following c.args.self.now c.reply_to.new.self (ap documents_of c.in_ok-reply_to-in-Ask.ensures.session ∙ same) (ap named_in c.in_ok-reply_to-in-Ask.ensures.sources) (ap held_in c.in_ok-reply_to-in-Ask.ensures.sources)
+        c.requires.orderly.follows in
     subst (λ r. IsServed c.args.self.now c.reply_to.new.self c.args.body.now (map view (option_to_list r))) (sym c.reply-in-Ask.ensures)
-    (served_asked c.args.self.now c.reply_to.new.self c.args.body.now c.in-Ask.question c.in-Ask.request c.in_ok-reply_to-in-Ask.field-0 left c.in_ok-reply_to-in-Ask.ensures.following c.in_ok-reply_to-in-Ask.ensures.served)
+    (served_asked c.args.self.now c.reply_to.new.self c.args.body.now c.in-Ask.question c.in-Ask.request c.in_ok-reply_to-in-Ask.field-0 left follows c.in_ok-reply_to-in-Ask.ensures.served)
 
-pub returns-in-Changed-clause-reply : goal.returns-in-Changed-clause-reply
-returns-in-Changed-clause-reply g c = body_none c.args.body.now c.in_ok-reply.field-0 c.in_ok-reply.ensures.takes (inl c.in-Changed.is)
+pub returns-in_ok-follow-in-Changed-clause-reply : goal.returns-in_ok-follow-in-Changed-clause-reply
+returns-in_ok-follow-in-Changed-clause-reply g c = body_none c.args.body.now c.in_ok-reply.field-0 c.in_ok-reply.ensures.takes (inl c.in-Changed.is)
 
-pub returns-in-Changed-clause-served : goal.returns-in-Changed-clause-served
-returns-in-Changed-clause-served g c message name id q u e n i ready is =
+pub returns-in_ok-follow-in-Changed-clause-served : goal.returns-in_ok-follow-in-Changed-clause-served
+returns-in_ok-follow-in-Changed-clause-served g c message name id q u e n i ready is =
     absurd (never_left c.args.self.now c.args.body.now c.in_ok-reply.field-0 c.in_ok-reply.ensures.left (λ k m h. subst (IsAsked k m) c.in-Changed.is h) message name id q u e n i ready is)
 
 pub returns-in-Nothing-clause-reply : goal.returns-in-Nothing-clause-reply
