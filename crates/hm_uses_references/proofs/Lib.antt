@@ -1,5 +1,5 @@
 mod Chosen
-mod Classes
+pub mod Classes
 mod Referred
 mod Sought
 mod WorkedNames

@@ -32,8 +32,12 @@ fn is_at(source: usize, line: u32, column: usize, one: &SetUse<'_>) -> bool
     is_on(line, column, one.used.name())
 }
 
-/// Returns the names at a place of a source.
-fn names_at<'u, 'a>(
+/// Returns the names at a place of a source, in the order of the list. The column counts bytes, from 1.
+///
+/// # Errors
+///
+/// If memory runs out.
+pub fn names_at<'u, 'a>(
     alloc: Global,
     names: &'u [SetUse<'a>],
     source: usize,

@@ -1,6 +1,6 @@
 //! Finds the names in the modules of a set that mean the same as the name at a place.
 //!
-//! [`SetUse`] is a use with the number of its module, and [`references_at`] looks among such uses.
+//! [`SetUse`] is a use with the number of its module, and [`references_at`] looks among such uses. [`is_same`] decides whether two mean the same.
 #![tactic(auto)]
 
 mod finding;
@@ -9,5 +9,6 @@ mod same;
 mod set_uses;
 mod spelling;
 
-pub use crate::finding::{Reference, references_at};
+pub use crate::finding::{Reference, names_at, references_at};
+pub use crate::same::{is_meaning, is_same};
 pub use crate::set_uses::{SetUse, add_uses};

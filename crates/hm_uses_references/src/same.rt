@@ -104,7 +104,7 @@ fn is_shared(one: usize, other: usize, meaning: &Meaning<'_>) -> bool
 }
 
 /// Returns whether two meanings are one.
-fn is_meaning(one: &Meaning<'_>, other: &Meaning<'_>) -> bool
+pub fn is_meaning(one: &Meaning<'_>, other: &Meaning<'_>) -> bool
     ensures { IsTrue result ↔ (sense_of one.now ≡ sense_of other.now) }
 {
     match other {
@@ -118,8 +118,8 @@ fn is_meaning(one: &Meaning<'_>, other: &Meaning<'_>) -> bool
     }
 }
 
-/// Returns whether two names mean the same.
-fn is_same(one: &SetUse<'_>, other: &SetUse<'_>) -> bool
+/// Returns whether two names mean the same. One that isn't bound, or is ambiguous, means the same as no other.
+pub fn is_same(one: &SetUse<'_>, other: &SetUse<'_>) -> bool
     ensures { IsTrue result ↔ IsSame one.now other.now }
 {
     if one.used.kind() != other.used.kind() {

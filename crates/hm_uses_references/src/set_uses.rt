@@ -33,6 +33,27 @@ impl<'a> SetUse<'a> {
             used,
         }
     }
+
+    /// Returns the number of the module.
+    pub fn number(&self) -> usize
+        ensures { result ≡ self.now.number }
+    {
+        self.number
+    }
+
+    /// Returns the number of the source.
+    pub fn source(&self) -> usize
+        ensures { result ≡ self.now.source }
+    {
+        self.source
+    }
+
+    /// Returns the use of the name in its module.
+    pub fn used(&self) -> &Use<'a>
+        ensures { result.now ≡ self.now.used }
+    {
+        &self.used
+    }
 }
 
 /// Appends the uses of names in the module with this number, which is in the source with this number.

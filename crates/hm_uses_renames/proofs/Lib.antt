@@ -1,0 +1,4 @@
+mod Alike
+mod Pairs
+mod Replaced
+pub mod WorkedRenames

@@ -1,0 +1,6 @@
+pub mod Renames
+pub mod Firsts
+pub mod Senses
+pub mod Texts
+pub mod Cursors
+pub mod Worked
