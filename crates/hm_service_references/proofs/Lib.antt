@@ -1,4 +1,4 @@
-mod Crossing
+pub mod Crossing
 mod Looked
 mod Naming
 pub mod WorkedNames

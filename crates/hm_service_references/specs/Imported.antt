@@ -1,4 +1,4 @@
--- The interfaces of the imports of modules. No public clause names these.
+-- The interfaces of the imports of modules.
 use Rattle.std.specs.Prelude.{◌≡◌, ℕ, ◌<◌, List, Option, None, Some, length, map, option_map, slice_index_or}
 use Rattle.std.specs.Arc.{arc_value}
 use Rattle.hm_build_places.specs.Known.{HasNoUses, Known}

@@ -1,4 +1,4 @@
--- What is known by the view of a build. No public clause names this.
+-- What is known by the view of a build.
 use Rattle.std.specs.Prelude.{[]}
 use Rattle.hm_build_places.specs.Known.{Known}
 use Rattle.hm_build_places.specs.Views.{known_in}

@@ -18,9 +18,9 @@ use hm_types_prelude::SharedPrelude;
 use std::alloc::{AllocError, Global};
 use std::sync::Arc;
 
-/// A finished build with the number of each module's source.
+/// A finished build with the number of each module's source, which is its index among the sources that are checked.
 #[derive(Clone, Copy)]
-pub(crate) struct View<'a> {
+pub struct View<'a> {
     pub store: &'a Store,
     pub prelude: &'a SharedPrelude,
     pub origins: &'a [usize],
@@ -28,7 +28,7 @@ pub(crate) struct View<'a> {
 
 /// The interfaces of a module's imports, or `None` if they aren't all published.
 #[derive(Drop)]
-pub(crate) struct Imported {
+pub struct Imported {
     pub interfaces: Option<Vec<Arc<Interface>>>,
 }
 
@@ -95,8 +95,12 @@ fn imports_at(alloc: Global, view: &View<'_>, number: usize) -> Result<Imported,
     }
 }
 
-/// Returns the interfaces of the imports of each module.
-pub(crate) fn all_imported(alloc: Global, view: &View<'_>) -> Result<Vec<Imported>, AllocError>
+/// Returns the interfaces of the imports of each module, in the order of modules.
+///
+/// # Errors
+///
+/// If memory runs out.
+pub fn all_imported(alloc: Global, view: &View<'_>) -> Result<Vec<Imported>, AllocError>
     ensures { IfOk result (λ all. AreAllImported (known_of view.now) (length view.now.store.now.modules) all.items) }
 {
     let mut all = Vec::new(alloc);

@@ -1,4 +1,6 @@
 //! Finds the names in a checked set of sources that mean the same as the name at a place.
+//!
+//! [`references_of`] finds them, on a thread with a large stack. [`all_names`] returns all names of a build, for a caller that has such a stack.
 #![tactic(auto)]
 
 mod asking;
@@ -7,4 +9,6 @@ pub mod laws;
 mod names;
 
 pub use crate::asking::references_of;
+pub use crate::imported::{Imported, View, all_imported};
+pub use crate::names::all_names;
 pub use hm_uses_references::Reference;

@@ -49,8 +49,12 @@ fn source_of(view: &View<'_>, part: &[usize], number: usize) -> usize
     number_at(part, index)
 }
 
-/// Returns the names of all modules, in order.
-pub(crate) fn all_names<'a>(
+/// Returns the names of all modules, in order. `part` has the numbers of the sources that are checked. A module that is skipped has no names.
+///
+/// # Errors
+///
+/// If memory runs out.
+pub fn all_names<'a>(
     alloc: Global,
     view: &View<'a>,
     part: &[usize],
