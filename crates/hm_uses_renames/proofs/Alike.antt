@@ -7,7 +7,7 @@ use Rattle.hm_uses_references.specs.SetNames.{IsSame, IsShared, SetName}
 use Rattle.hm_uses_references.proofs.Classes.{symmetric, transitive}
 use Rattle.hm_uses_renames.specs.declared.firsts.Spot.{Spot}
 use Rattle.hm_uses_renames.specs.Firsts.{ArePaired, IsPaired, spot_in, spot_of}
-use Rattle.hm_uses_renames.specs.Renames.{AreRenamed, Becomes, renamed, kept, IsKept, IsStill, StandsAs}
+use Rattle.hm_uses_renames.specs.Renames.{AreRenamed, Becomes, renamed, kept, IsKept, IsStill}
 
 -- two tests with one result decide the same
 pub one_test : (a b : Bool) (P Q : Type 0) → not (beq a b) ≡ false → IsTrue a ↔ P → IsTrue b ↔ Q → P ↔ Q
@@ -114,11 +114,10 @@ kept_alike : (new : List ℕ) (table later_table : Spot → Option ℕ) (names l
     → IsPaired later_table names m' m → IsPaired later_table names n' n → IsSame m n ↔ IsSame m' n'
 kept_alike new table later_table names later m n m' n' h k pair_m pair_n back_m back_n =
     let a = steady m.used.sense m'.used.sense h.means in
-    let b = steady n.used.sense n'.used.sense k.means in
-    (
+    let b = steady n.used.sense n'.used.sense k.means in (
       λ same. forward table later m n m' n' h.stands.number k.stands.number h.stands.kind k.stands.kind a b pair_m pair_n same,
       λ same. forward later_table names m' n' m n (sym h.stands.number) (sym k.stands.number) (sym h.stands.kind) (sym k.stands.kind) (steady_back m.used.sense m'.used.sense a) (steady_back n.used.sense n'.used.sense b)
-        back_m back_n same,
+          back_m back_n same,
     )
 
 -- two names, of which each is renamed or kept
@@ -139,8 +138,8 @@ all_renamed o r new names later table later_table size each one pairs backs = re
   as_many = sym size;
   each = each;
   alike = λ i j d below_i below_j.
-    let within_i : i < length later = omega (arith, size, below_i) in
-    let within_j : j < length later = omega (arith, size, below_j) in
-    two_alike o r new (get_or names i d) (get_or names j d) (get_or later i d) (get_or later j d) (each i d below_i) (each j d below_j) (one i d below_i) (one j d below_j)
-    (λ h k. kept_alike new table later_table names later (get_or names i d) (get_or names j d) (get_or later i d) (get_or later j d) h k (pairs i d below_i) (pairs j d below_j) (backs i d within_i) (backs j d within_j));
+      let within_i : i < length later = omega (arith, size, below_i) in
+      let within_j : j < length later = omega (arith, size, below_j) in
+      two_alike o r new (get_or names i d) (get_or names j d) (get_or later i d) (get_or later j d) (each i d below_i) (each j d below_j) (one i d below_i) (one j d below_j)
+      (λ h k. kept_alike new table later_table names later (get_or names i d) (get_or names j d) (get_or later i d) (get_or later j d) h k (pairs i d below_i) (pairs j d below_j) (backs i d within_i) (backs j d within_j));
 }

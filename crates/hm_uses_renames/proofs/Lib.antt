@@ -1,4 +1,4 @@
-mod Alike
+pub mod Alike
 mod Pairs
 mod Replaced
 pub mod WorkedRenames

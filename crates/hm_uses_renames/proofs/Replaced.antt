@@ -1,8 +1,7 @@
 -- A text with a new name, at one more reference.
-use Rattle.std.proofs.Common.{◌≡◌, ℕ, suc, ◌+◌, ◌<◌, ◌≤◌, List, [], ◌∷◌, ◌++◌, length, take, drop, get_or, slice_range, refl, sym, ap, ◌∙◌, subst, append_assoc, arith}
+use Rattle.std.proofs.Common.{◌≡◌, ℕ, suc, ◌+◌, ◌<◌, ◌≤◌, List, [], ◌∷◌, ◌++◌, length, drop, get_or, slice_range, refl, sym, ap, ◌∙◌, subst, append_assoc, arith}
 use Rattle.std.proofs.Math.Seq.{drop-cons}
 use Rattle.std.proofs.lemmas.List.{drop_all}
-use Rattle.hm_lex.specs.Cut.{place_after}
 use Rattle.hm_uses_references.specs.declared.finding.Reference.{Reference}
 use Rattle.hm_uses_renames.specs.Cursors.{IsCursor}
 use Rattle.hm_uses_renames.specs.Texts.{IsAt, IsReplaced, IsReplacedFrom}
@@ -25,16 +24,16 @@ pub begun_more : (text new : List ℕ) (references : List Reference) (i at from 
     → to ≡ from + r.length → mid ≡ old ++ slice_range text at from → made ≡ mid ++ new → IsBegun text new references (i + 1) to made
 begun_more text new references i at from to d r old mid made inside is before ordered here ends first second = record {
   whole = λ rest h.
-    let tail : IsReplacedFrom text new (from + r.length) (drop (i + 1) references) rest = subst (λ (n : ℕ). IsReplacedFrom text new n (drop (i + 1) references) rest) ends h in
-    let step : IsReplacedFrom text new at (r ∷ drop (i + 1) references) (slice_range text at from ++ (new ++ rest)) = (from, (rest, (ordered, (here, (tail, refl))))) in
-    let next : suc i ≡ i + 1 = omega arith in
-    let split : drop i references ≡ get_or references i d ∷ drop (i + 1) references = subst (λ (n : ℕ). drop i references ≡ get_or references i d ∷ drop n references) next (drop-cons references i d inside) in
-    let front : drop i references ≡ r ∷ drop (i + 1) references = split ∙ ap (λ (x : Reference). x ∷ drop (i + 1) references) is in
-    let whole : IsReplaced text new references (old ++ (slice_range text at from ++ (new ++ rest))) =
+      let tail : IsReplacedFrom text new (from + r.length) (drop (i + 1) references) rest = subst (λ (n : ℕ). IsReplacedFrom text new n (drop (i + 1) references) rest) ends h in
+      let step : IsReplacedFrom text new at (r ∷ drop (i + 1) references) (slice_range text at from ++ (new ++ rest)) = (from, (rest, (ordered, (here, (tail, refl))))) in
+      let next : suc i ≡ i + 1 = omega arith in
+      let split : drop i references ≡ get_or references i d ∷ drop (i + 1) references = subst (λ (n : ℕ). drop i references ≡ get_or references i d ∷ drop n references) next (drop-cons references i d inside) in
+      let front : drop i references ≡ r ∷ drop (i + 1) references = split ∙ ap (λ (x : Reference). x ∷ drop (i + 1) references) is in
+      let whole : IsReplaced text new references (old ++ (slice_range text at from ++ (new ++ rest))) =
       before.whole (slice_range text at from ++ (new ++ rest)) (subst (λ (l : List Reference). IsReplacedFrom text new at l (slice_range text at from ++ (new ++ rest))) (sym front) step) in
-    let same : made ++ rest ≡ old ++ (slice_range text at from ++ (new ++ rest)) =
+      let same : made ++ rest ≡ old ++ (slice_range text at from ++ (new ++ rest)) =
       ap (λ (l : List ℕ). l ++ rest) (second ∙ ap (λ (l : List ℕ). l ++ new) first) ∙ (append_assoc (old ++ slice_range text at from) new rest ∙ append_assoc old (slice_range text at from) (new ++ rest)) in
-    subst (IsReplaced text new references) (sym same) whole;
+      subst (IsReplaced text new references) (sym same) whole;
 }
 
 pub ended : (text new : List ℕ) (references : List Reference) (i at : ℕ) (old made : List ℕ) → length references ≤ i → IsBegun text new references i at old → made ≡ old ++ drop at text → IsReplaced text new references made

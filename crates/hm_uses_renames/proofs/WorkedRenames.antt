@@ -9,35 +9,34 @@ not_one : ¬ (IsReplaced (codes "x = A.x") (codes "yy") [] (codes "yy = A.x"))
 not_one h = let z : 8 ≡ 7 = ap (λ (l : List ℕ). length l) h in absurd (omega (arith, z))
 
 both : IsReplaced (codes "x = A.x") (codes "yy") (letter_at 1 ∷ letter_at 7 ∷ []) (codes "yy = A.yy")
-both =
+both = (
+  0,
+  (
+    codes " = A.yy",
     (
-      0,
+      omega arith,
       (
-        codes " = A.yy",
+        record { place = refl; within = omega arith },
         (
-          omega arith,
           (
-            record { place = refl; within = omega arith },
+            6,
             (
+              [],
               (
-                6,
+                omega arith,
                 (
-                  [],
-                  (
-                    omega arith,
-                    (
-                      record { place = refl; within = omega arith },
-                      (refl, refl),
-                    ),
-                  ),
+                  record { place = refl; within = omega arith },
+                  (refl, refl),
                 ),
               ),
-              refl,
             ),
           ),
+          refl,
         ),
       ),
-    )
+    ),
+  ),
+)
 
 pub worked_texts : TextsRow
 worked_texts = record { both = both; none = refl; not_one = not_one }

@@ -1,5 +1,5 @@
 -- Worked examples: a text with a new name, and what names mean after a rename.
-use Rattle.std.specs.Prelude.{ℕ, List, [], ◌∷◌, codes, true, false}
+use Rattle.std.specs.Prelude.{ℕ, [], ◌∷◌, codes, false}
 use Rattle.hm_names.specs.Entities.{named}
 use Rattle.hm_uses.specs.Uses.{an_entity, local_variable, unbound}
 use Rattle.hm_uses_references.specs.declared.finding.Reference.{Reference}

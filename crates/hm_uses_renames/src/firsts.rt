@@ -72,12 +72,7 @@ pub(crate) fn firsts_of(alloc: Global, names: &[SetUse<'_>]) -> Result<Firsts, A
 }
 
 /// Returns whether what a table has for a name is the number of a name that means the same as its counterpart.
-fn is_paired(
-    firsts: &Firsts,
-    others: &[SetUse<'_>],
-    one: &SetUse<'_>,
-    other: &SetUse<'_>,
-) -> bool
+fn is_paired(firsts: &Firsts, others: &[SetUse<'_>], one: &SetUse<'_>, other: &SetUse<'_>) -> bool
     ensures { IsTrue result → IsPaired (number_at firsts.now) others.now one.now other.now }
 {
     let Some(spot) = spot_of(one) else {
@@ -93,11 +88,7 @@ fn is_paired(
 }
 
 /// Returns whether this is so for all names of a list, and those of another list in the same order.
-pub(crate) fn are_paired(
-    firsts: &Firsts,
-    names: &[SetUse<'_>],
-    others: &[SetUse<'_>],
-) -> bool
+pub(crate) fn are_paired(firsts: &Firsts, names: &[SetUse<'_>], others: &[SetUse<'_>]) -> bool
     requires { length names.now ≡ length others.now }
     ensures { IsTrue result → ArePaired (number_at firsts.now) names.now others.now }
 {

@@ -62,12 +62,7 @@ fn is_kept(name: &str, before: &SetUse<'_>, after: &SetUse<'_>) -> bool
 }
 
 /// Returns whether a name is what another one becomes if the name `of` is renamed.
-pub(crate) fn becomes(
-    of: &SetUse<'_>,
-    name: &str,
-    before: &SetUse<'_>,
-    after: &SetUse<'_>,
-) -> bool
+pub(crate) fn becomes(of: &SetUse<'_>, name: &str, before: &SetUse<'_>, after: &SetUse<'_>) -> bool
     ensures { IsTrue result → Becomes of.now name.now before.now after.now }
 {
     if is_same(of, before) {

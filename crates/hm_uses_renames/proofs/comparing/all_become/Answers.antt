@@ -1,5 +1,4 @@
-use Rattle.std.proofs.Common.{◌<◌, length, arith, rules}
-use Rattle.hm_uses_references.specs.SetNames.{SetName}
+use Rattle.std.proofs.Common.{rules}
 use Rattle.hm_uses_renames.specs.Renames.{Becomes}
 use Rattle.hm_uses_renames.proofs.Pairs.{pairs_more}
 use Rattle.hm_uses_renames.proofs.comparing.all_become.Goals as goal

@@ -1,5 +1,5 @@
-use Rattle.std.proofs.Common.{◌≡◌, ◌↔◌, ◌∙◌, Bool, true, false, arith, rules, sym, subst}
-use Rattle.hm_uses_references.specs.SetNames.{IsSame, SetName}
+use Rattle.std.proofs.Common.{◌↔◌}
+use Rattle.hm_uses_references.specs.SetNames.{IsSame}
 use Rattle.hm_uses_renames.proofs.Pairs.{pairs_more}
 use Rattle.hm_uses_renames.proofs.Alike.{one_test}
 use Rattle.hm_uses_renames.proofs.comparing.are_of.Goals as goal

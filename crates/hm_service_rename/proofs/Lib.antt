@@ -1,0 +1,3 @@
+mod Held
+mod Replacing
+pub mod WorkedRenames

@@ -1,0 +1,32 @@
+-- When a check knows all names of a set, when another one is as good, and which set has given texts.
+use Rattle.std.specs.Prelude.{◌≡◌, ◌↔◌, ℕ, ◌<◌, All, List, length, map, true}
+use Rattle.hm_service_places.specs.declared.checked.Checked.{Checked}
+use Rattle.hm_service_sources.specs.HeldSets.{AreAll, standing_of, texts_of}
+use Rattle.hm_service_sources.specs.declared.held.HeldSource.{HeldSource}
+use Rattle.hm_store.specs.Builds.{Build, state_of}
+use Rattle.hm_store.specs.Objects.{status_at}
+use Rattle.hm_store.specs.declared.object.Status.TheVariants.{Published}
+
+-- the check is of sources with these texts, leaves none out, and skips no module
+pub record IsWhole (texts : List (List ℕ)) (c : Checked) : Type 0 where
+  pub part : AreAll (length texts) c.part.items
+  pub texts_are : map (λ s. s.items) c.texts.items ≡ texts
+  pub known : c.told.skipped ≡ 0
+
+-- the module with this number is good
+abbrev pub IsGood : Build → ℕ → Type 0
+IsGood b i = status_at (state_of b).statuses i ≡ Published
+
+-- the second check is of the same sources and has as many modules, of which the same are good; and each source has as many diagnostics
+pub record IsAsGood (c d : Checked) : Type 0 where
+  pub part : d.part.items ≡ c.part.items
+  pub modules : length d.build.store.modules ≡ length c.build.store.modules
+  pub good : (i : ℕ) → i < length c.build.store.modules → IsGood c.build.store i ↔ IsGood d.build.store i
+  pub skipped : d.told.skipped ≡ c.told.skipped
+  pub diagnostics : map (λ x. x.source) d.told.diagnostics.items ≡ map (λ x. x.source) c.told.diagnostics.items
+
+-- the sources have these texts, which can be read
+pub record AreHeldAs (texts : List (List ℕ)) (held : List HeldSource) : Type 0 where
+  pub texts_are : texts_of held ≡ texts
+  pub standing : standing_of held ≡ texts
+  pub read : All (λ h. h.is_read ≡ true) held

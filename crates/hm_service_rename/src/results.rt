@@ -1,0 +1,45 @@
+//! What a rename is asked for, and what it returns.
+use hm_service_places::Checked;
+use hm_service_sources::HeldSource;
+use hm_uses_references::Reference;
+
+/// A held set with a check of it, and the number of workers for the check of the set that a rename makes.
+#[derive(Clone, Copy)]
+pub struct CheckedSet<'a> {
+    pub held: &'a [HeldSource],
+    pub checked: &'a Checked,
+    pub workers: usize,
+}
+
+/// A new name for the name at a place of a source. The column counts bytes, from 1.
+#[derive(Clone, Copy)]
+pub struct Rename<'a> {
+    pub source: usize,
+    pub line: u32,
+    pub column: usize,
+    pub name: &'a str,
+}
+
+/// Why a name isn't renamed.
+#[derive(Clone, Copy, Debug, PartialEq, Eq)]
+pub enum RenameRefusal {
+    /// The check isn't of all sources as they are now, or it skips a module: some names aren't known.
+    NotWhole,
+    /// No name is at the place.
+    NoName,
+    /// The name isn't bound in the set.
+    NotBound,
+    /// The new name is no variable, constructor or type, or it is a reserved word.
+    NotAName,
+    /// With the new name, a source can't be read.
+    NotRead,
+    /// With the new name, the set isn't the same: a module is good that wasn't or the other way round, or a name means something else.
+    NotSame,
+}
+
+/// The places where the new name goes, in the order of sources and of places, or why there are none.
+#[derive(Debug, Drop)]
+pub enum Renamed {
+    Edits(Vec<Reference>),
+    Refused(RenameRefusal),
+}
