@@ -118,6 +118,7 @@ impl Server {
         })
     }
 
+    // Why: docs/DECISIONS.md, "Bursts".
     /// Lets the sources follow the client's documents. If a text or a URI is another, the check is forgotten.
     fn follow<T: Threads>(&mut self, rt: &T) -> Result<(), AllocError>
         requires current { IsCurrent self.old }

@@ -1,4 +1,4 @@
--- When a check knows all names of a set, when another one is as good, and which set has given texts.
+-- When a check has all names of a set, when another one is as good, and which set has given texts.
 use Rattle.std.specs.Prelude.{◌≡◌, ◌↔◌, ℕ, ◌<◌, All, List, length, map, true}
 use Rattle.hm_service_places.specs.declared.checked.Checked.{Checked}
 use Rattle.hm_service_sources.specs.HeldSets.{AreAll, standing_of, texts_of}

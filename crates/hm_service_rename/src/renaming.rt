@@ -59,7 +59,7 @@ fn made_with<T: Threads>(
     }
 }
 
-/// Checks the set that a rename makes, and returns whether it is the same as before but for the rename.
+/// Checks the set that a rename makes, and returns whether only the name is another one in it.
 fn is_accepted<T: Threads + Wait + Sync>(
     rt: &T,
     alloc: Global,

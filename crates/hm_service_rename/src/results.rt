@@ -1,4 +1,4 @@
-//! What a rename is asked for, and what it returns.
+//! The parameters of a rename, and its result.
 use hm_service_places::Checked;
 use hm_service_sources::HeldSource;
 use hm_uses_references::Reference;

@@ -24,7 +24,7 @@ IsRenamedTo new (a_prefix x) t = ⊥
 IsRenamedTo new unbound t = ⊥
 IsRenamedTo new ambiguous t = ⊥
 
--- the second name stands in the second set as the first one does in the first
+-- the second name has the place in the second set that the first one has in the first
 pub record StandsAs (m n : SetName) : Type 0 where
   pub number : n.number ≡ m.number
   pub source : n.source ≡ m.source
@@ -38,7 +38,7 @@ pub record IsRenamed (new : List ℕ) (m n : SetName) : Type 0 where
   pub spelled : n.used.mention.name.text ≡ new
   pub means : IsRenamedTo new m.used.sense n.used.sense
 
--- another name: after `hiding`, one that means nothing may stand at the place of a renamed one
+-- another name: after `hiding`, one that means nothing may have the place of a renamed one
 pub record IsKept (new : List ℕ) (m n : SetName) : Type 0 where
   pub stands : StandsAs m n
   pub spelled : (n.used.mention.name.text ≡ m.used.mention.name.text) ⊎ (n.used.mention.name.text ≡ new)

@@ -1,4 +1,4 @@
-//! Whether a name stands in a set as another one does in another set.
+//! Whether a name has the counterpart of its place in another set.
 ghost use Rattle.std.specs.Prelude.{◌≡◌, IsTrue};
 ghost use Rattle.hm_uses_references.specs.SetNames.{IsSame};
 ghost use Rattle.hm_uses_renames.specs.Renames.{Becomes, IsKept, IsRenamed, StandsAs};

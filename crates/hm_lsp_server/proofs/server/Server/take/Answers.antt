@@ -29,9 +29,9 @@ pub returns-in_ok-reply_to-in-Ask-clause-served : goal.returns-in_ok-reply_to-in
 returns-in_ok-reply_to-in-Ask-clause-served g c =
     let left = subst (IsLeftOf c.args.body.now (stage_of c.args.self.now.session)) c.in-Ask.is c.in_ok-reply.ensures.left in
     let same = subst (λ o. TextsAre o (HasBodyEffect c.args.body.now (encoding_of c.args.self.now.session) (documents_of c.args.self.now.session) (documents_of c.take.new.self)) (documents_of c.args.self.now.session) (documents_of c.take.new.self)) c.in-Ask.is
-        c.in_ok-reply.ensures.texts in
+    c.in_ok-reply.ensures.texts in
     let follows = same_following c.args.self.now c.reply_to.new.self (ap documents_of c.in_ok-reply_to-in-Ask.ensures.session ∙ same) (ap named_in c.in_ok-reply_to-in-Ask.ensures.sources) (ap held_in c.in_ok-reply_to-in-Ask.ensures.sources)
-        c.requires.orderly.follows in
+    c.requires.orderly.follows in
     subst (λ r. IsServed c.args.self.now c.reply_to.new.self c.args.body.now (map view (option_to_list r))) (sym c.reply-in-Ask.ensures)
     (served_asked c.args.self.now c.reply_to.new.self c.args.body.now c.in-Ask.question c.in-Ask.request c.in_ok-reply_to-in-Ask.field-0 left follows c.in_ok-reply_to-in-Ask.ensures.served)
 
