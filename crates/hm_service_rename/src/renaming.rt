@@ -98,6 +98,7 @@ fn references_to<T: Threads + Wait + Sync>(
     Ok(Renamed::Edits(references))
 }
 
+// Why: docs/DECISIONS.md, "Renames of a held set".
 /// Renames the name at a place of a held set: returns all places where it is written, if the checker accepts the set with the new name there. Each name
 /// of that set means what it meant, the same modules are good, and each source has as many diagnostics.
 ///
