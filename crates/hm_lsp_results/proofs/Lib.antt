@@ -5,3 +5,5 @@ pub mod Located
 pub mod Referred
 pub mod Requests
 mod DeclaredValues
+mod Matching
+mod FolderSymbols

@@ -1,4 +1,4 @@
--- The results of requests about the texts, and their replies (Language Server Protocol 3.17, "Hover Request", "Goto Definition Request", "Code Action Request"; "Find References Request" and "Document Highlights Request" are in References, and "Document Symbols Request" in Symbols).
+-- The results of requests about the texts, and their replies (Language Server Protocol 3.17, "Hover Request", "Goto Definition Request", "Code Action Request"; "Find References Request" and "Document Highlights Request" are in References, and "Document Symbols Request" and "Workspace Symbols Request" in Symbols).
 use Rattle.std.specs.Prelude.{◌≡◌, ◌≤◌, ◌⊎◌, ℕ, negsuc, Bool, true, List, Option, None, Some, codes, length, map, option_and_then, slice_get, string_bytes}
 use Rattle.serde_json.specs.Data.{Data, array, no_items, null}
 use Rattle.serde_json.specs.Find.{as_bool, pointer}
@@ -7,11 +7,11 @@ use Rattle.hm_lsp_positions.specs.declared.changes.Range.{Range}
 use Rattle.hm_lsp_positions.specs.declared.positions.Position.{Position}
 use Rattle.hm_lsp_positions.specs.declared.units.Encoding.{Encoding}
 use Rattle.hm_messages_json.specs.declared.message.Position.{Position as Place}
-use Rattle.hm_lsp_session.specs.Params.{IsPositionIn, IsRangeIn}
+use Rattle.hm_lsp_session.specs.Params.{IsPositionIn, IsRangeIn, string_at}
 use Rattle.hm_lsp_session.specs.Replies.{refusal_data, reply_data}
 use Rattle.hm_lsp_session.specs.Stages.{code_of}
 use Rattle.hm_lsp_session.specs.declared.stages.Question.{Question}
-use Rattle.hm_lsp_session.specs.declared.stages.Question.TheVariants.{CodeAction, Definition, DocumentHighlight, DocumentSymbol, Hover, References}
+use Rattle.hm_lsp_session.specs.declared.stages.Question.TheVariants.{CodeAction, Definition, DocumentHighlight, DocumentSymbol, Hover, References, WorkspaceSymbol}
 use Rattle.hm_lsp_session.specs.declared.stages.Refusal.TheVariants.{InvalidParams}
 use Rattle.hm_lsp_values.specs.Diagnostics.{action_data}
 use Rattle.hm_lsp_values.specs.Names.{IsHover, IsLocation}
@@ -25,7 +25,7 @@ use Rattle.hm_service_places.specs.declared.places.AtPlace.{AtPlace}
 use Rattle.hm_service_sources.specs.declared.held.HeldSource.{HeldSource}
 use Rattle.hm_lsp_results.specs.Asked.{HasNothingAt, HasUri, IsNamedAt, IsReadText, IsSourceIn, Subject}
 use Rattle.hm_lsp_results.specs.References.{IsHighlightsResult, IsReferencesResult}
-use Rattle.hm_lsp_results.specs.Symbols.{IsSymbolsResult}
+use Rattle.hm_lsp_results.specs.Symbols.{AreFound, IsSymbolsResult}
 use Rattle.hm_lsp_sources.specs.declared.source.Source.{Source}
 
 -- Hover
@@ -112,16 +112,24 @@ IsResultOf asked References n request result = IsResultAtPosition (IsReferencesR
 IsResultOf asked DocumentHighlight n request result = IsResultAtPosition (IsHighlightsResult asked n) request result
 IsResultOf asked DocumentSymbol n request result = (value : Data) × (IsSymbolsResult asked n value × (result ≡ Some value))
 IsResultOf asked CodeAction n request result = (r : Option Range) × (HasRange request r × IsResultFor (IsActionsResult asked.encoding asked.sources asked.held asked.checked n) r result)
+-- it is about no source
+IsResultOf asked WorkspaceSymbol n request result = result ≡ None
 
 -- by whether the document that the request names is a source
 abbrev pub IsResultAt : Subject → Question → Option ℕ → Data → Option Data → Type 0
 IsResultAt asked question None request result = result ≡ None
 IsResultAt asked question (Some n) request result = IsResultOf asked question n request result
 
-pub record IsResult (asked : Subject) (question : Question) (request : Data) (result : Option Data) : Type 0 where
+-- the result of a request about a document
+pub record IsDocumentResult (asked : Subject) (question : Question) (request : Data) (result : Option Data) : Type 0 where
   pub source : Option ℕ
   pub is_source : IsSourceIn asked.sources request source
   pub is : IsResultAt asked question source request result
+
+-- only one request is about the whole folder
+abbrev pub IsResult : Subject → Question → Data → Option Data → Type 0
+IsResult asked WorkspaceSymbol request result = IsResultFor (AreFound asked) (string_at (codes "/params/query") request) result
+IsResult asked question request result = IsDocumentResult asked question request result
 
 -- the reply to a request for which memory ran out, no thread could start, or two results contradict each other
 abbrev pub failure_data : Data → Data

@@ -4,6 +4,8 @@
 mod asking;
 mod declared;
 mod faults;
+mod folder;
+mod queries;
 mod referring;
 mod replying;
 

@@ -1,16 +1,19 @@
 //! Replies to requests about the texts.
 ghost use Rattle.std.specs.Prelude.{◌≡◌, IfOk, codes, option_map};
 ghost use Rattle.serde_json.specs.View.{view};
+ghost use Rattle.hm_lsp_session.specs.Params.{string_at};
 ghost use Rattle.hm_lsp_session.specs.Replies.{IsReplyTo, method_of};
 ghost use Rattle.hm_lsp_results.specs.Asked.{subject_of};
-ghost use Rattle.hm_lsp_results.specs.Results.{HasPosition, HasRange, IsReply, IsResult, IsResultOf, failure_data, with_declarations};
+ghost use Rattle.hm_lsp_results.specs.Results.{HasPosition, HasRange, IsDocumentResult, IsReply, IsResult, IsResultFor, IsResultOf, failure_data, with_declarations};
+ghost use Rattle.hm_lsp_results.specs.Symbols.{AreFound};
 
 use crate::asking::{Asked, actions, definition, hover, source_in};
 use crate::declared::symbols;
 use crate::faults::ServerFault;
+use crate::folder::found_symbols;
 use crate::referring::{highlights, references};
 use hm_lsp_positions::{Position, Range};
-use hm_lsp_session::{Question, Refusal, position_in, range_in, refusal, reply};
+use hm_lsp_session::{Question, Refusal, position_in, range_in, refusal, reply, text_at};
 use serde_json::{Value, json};
 use std::alloc::{AllocError, Global};
 use std::sync::Wait;
@@ -76,7 +79,32 @@ fn result_of<T: Threads + Wait + Sync>(
             Ok(Some(references(rt, asked, source, position, declarations)?))
         }
         Question::DocumentHighlight => Ok(Some(highlights(rt, asked, source, position)?)),
-        Question::DocumentSymbol | Question::CodeAction => Ok(None),
+        Question::DocumentSymbol | Question::CodeAction | Question::WorkspaceSymbol => Ok(None),
+    }
+}
+
+/// Returns the symbols of all sources that a request asks for, or `None` if its parameters aren't valid.
+fn found_in(asked: &Asked<'_>, request: &Value) -> Result<Option<Value>, ServerFault>
+    ensures { IfOk result (λ made. IsResultFor (AreFound (subject_of asked.now)) (string_at (codes "/params/query") (view request.now)) (option_map view made)) }
+{
+    match text_at(request, "/params/query") {
+        None => Ok(None),
+        Some(query) => Ok(Some(found_symbols(asked, query)?)),
+    }
+}
+
+/// Returns the result of a request about a document, or `None` if its parameters aren't valid.
+fn document_result<T: Threads + Wait + Sync>(
+    rt: &T,
+    asked: &Asked<'_>,
+    question: Question,
+    request: &Value,
+) -> Result<Option<Value>, ServerFault>
+    ensures { IfOk result (λ made. IsDocumentResult (subject_of asked.now) question (view request.now) (option_map view made)) }
+{
+    match source_in(asked, request)? {
+        None => Ok(None),
+        Some(source) => Ok(result_of(rt, asked, question, source, request)?),
     }
 }
 
@@ -89,9 +117,14 @@ fn result_in<T: Threads + Wait + Sync>(
 ) -> Result<Option<Value>, ServerFault>
     ensures { IfOk result (λ made. IsResult (subject_of asked.now) question (view request.now) (option_map view made)) }
 {
-    match source_in(asked, request)? {
-        None => Ok(None),
-        Some(source) => Ok(result_of(rt, asked, question, source, request)?),
+    match question {
+        Question::WorkspaceSymbol => Ok(found_in(asked, request)?),
+        Question::Hover
+        | Question::Definition
+        | Question::References
+        | Question::DocumentHighlight
+        | Question::DocumentSymbol
+        | Question::CodeAction => Ok(document_result(rt, asked, question, request)?),
     }
 }
 

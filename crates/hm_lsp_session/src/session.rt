@@ -1,5 +1,5 @@
 //! A session: how far it is, the documents of the client, and what each message does.
-ghost use Rattle.std.specs.Prelude.{◌≡◌, [], None, Some, IfOk, IsSome, OnErr, codes};
+ghost use Rattle.std.specs.Prelude.{◌≡◌, [], None, Some, IfOk, IsSome, OnErr, codes, option_map};
 ghost use Rattle.serde_json.specs.Data.{Data};
 ghost use Rattle.serde_json.specs.Find.{get};
 ghost use Rattle.serde_json.specs.View.{view};
@@ -75,9 +75,20 @@ fn capabilities(alloc: Global, encoding: Encoding) -> Result<Value, AllocError> 
         "hoverProvider": true,
         "positionEncoding": encoding,
         "referencesProvider": true,
-        "textDocumentSync": {"change": 2, "openClose": true}
+        "textDocumentSync": {"change": 2, "openClose": true},
+        "workspaceSymbolProvider": true
     })?;
     json!(in alloc; {"capabilities": capabilities, "serverInfo": {"name": "hmc"}})
+}
+
+/// Returns the name of the method of a message.
+fn method_of(message: &Value) -> Option<&str>
+    ensures { option_map (λ name. name.now) result ≡ method_of (view message.now) }
+{
+    match message.get("method") {
+        Some(name) => name.as_str(),
+        None => None,
+    }
 }
 
 /// Returns the version of a document in the parameters of a notification.
@@ -363,7 +374,7 @@ impl Session {
         ensures left { IfOk result (λ out. IsLeft self.old.stage (view message) out) }
         ensures takes { IfOk result (λ out. Takes (view message) (method_of (view message)) (get (codes "id") (view message)) out) }
     {
-        let method = match message.get("method").and_then(Value::as_str) {
+        let method = match method_of(&message) {
             Some(name) => Method::of(name),
             None => return Ok(self.unnamed(&message)?),
         };

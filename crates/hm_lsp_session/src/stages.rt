@@ -22,6 +22,8 @@ pub enum Question {
     DocumentHighlight,
     DocumentSymbol,
     CodeAction,
+    /// The only one about the whole folder.
+    WorkspaceSymbol,
 }
 
 /// The methods that a server acts on.
@@ -89,6 +91,7 @@ impl Question {
             "textDocument/documentHighlight" => Some(Question::DocumentHighlight),
             "textDocument/documentSymbol" => Some(Question::DocumentSymbol),
             "textDocument/codeAction" => Some(Question::CodeAction),
+            "workspace/symbol" => Some(Question::WorkspaceSymbol),
             _ => None,
         }
     }
