@@ -147,6 +147,16 @@ def escape_letters(it):
     it.row("a definition has the URI of the client", place and (place["uri"], place["range"]["start"]), (other["uri"], position(A, "g =")))
 
 
+def nest_deeply(it):
+    """Opens a source that nests deeply, and empties it. The server drops what it had checked, and goes on."""
+    doc = {"uri": it.uri("D.hs")}
+    text = "module D where { " + "_ : " * 100000 + "x = undefined }"
+    it.notify("textDocument/didOpen", textDocument={**doc, "languageId": "haskell", "version": 1, "text": text})
+    it.row("a name of a deep source", it.ask("textDocument/hover", textDocument=doc, position=position(text, "x ="))["result"] is None, False)
+    it.notify("textDocument/didChange", textDocument={**doc, "version": 2}, contentChanges=[{"text": "module D where { x = True }"}])
+    it.row("after the deep source", it.ask("textDocument/hover", textDocument=doc, position=position("module D where { x = True }", "x ="))["result"] is None, False)
+
+
 def bad_input(it):
     it.write(b"Content-Length: 1\r\nContent-Length: 2\r\n\r\n")
     it.row("two lengths", it.reply()["error"]["code"], -32700)
@@ -169,7 +179,7 @@ def main(program=lsp.PROVED):
             with open(os.path.join(folder, name), "w", encoding="utf-8") as file:
                 file.write(text)
         it = Client(os.path.abspath(program), folder)
-        for part in (start_and_check, look, mend, type_letters, escape_letters, bad_input, finish):
+        for part in (start_and_check, look, mend, type_letters, escape_letters, nest_deeply, bad_input, finish):
             part(it)
     print(f"{it.rows - it.wrong} of {it.rows} rows as wanted")
     return 1 if it.wrong else 0

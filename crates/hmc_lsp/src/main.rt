@@ -9,6 +9,7 @@ ghost use Rattle.std.specs.Prelude.{OnOk};
 ghost use Rattle.hm_lsp_server.specs.Servers.{IsOrderly};
 
 use crate::disk::sources_below;
+use core::thread::Stack;
 use hm_lsp_frames::{Frame, Frames, framed};
 use hm_lsp_server::{Server, Taken};
 use serde_json::{Value, json};
@@ -16,8 +17,12 @@ use std::alloc::{AllocError, Global};
 use std::io::{Read, Write};
 use std::process::ExitCode;
 use std::sync::Wait;
-use std::thread::Threads;
-use std::{env, slice};
+use std::thread::{Promise, Threads};
+use std::{env, slice, thread};
+
+// Why: docs/DECISIONS.md, "The server's stack".
+/// The bytes of stack for the server.
+const STACK: usize = 1 << 30;
 
 /// Writes messages as frames. Returns whether all could be written.
 fn send(rt: &HostRuntime, sent: &[Value]) -> Result<bool, AllocError> {
@@ -149,8 +154,30 @@ fn serve<T: Threads + Wait + Sync>(rt: &T, host: &HostRuntime) -> Result<u8, All
     Ok(1)
 }
 
+/// What the thread of the server promises of the exit status: nothing.
+#[derive(Clone, Copy)]
+struct Served;
+
+impl Promise<Result<u8, AllocError>> for Served {
+    ghost kept_by = { λ p r. Unit {0} };
+}
+
+/// Serves one client on a thread with a large stack. Returns the exit status.
+fn serve_on_thread<T: Threads + Wait + Sync>(rt: &T, host: &HostRuntime) -> Result<u8, AllocError> {
+    thread::scope(thread::scope_env(), rt, |scope| -> Result<u8, AllocError> {
+        let work = move || { serve(rt, host) };
+        match Stack::new()
+            .stack_size(STACK)
+            .spawn_scoped_with(scope, Served, work)
+        {
+            Ok(server) => server.join(rt),
+            Err(_) => Err(AllocError),
+        }
+    })
+}
+
 fn main(rt: HostRuntime) -> ExitCode {
-    match serve(&rt, &rt) {
+    match serve_on_thread(&rt, &rt) {
         Ok(status) => ExitCode::from(status),
         Err(AllocError) => ExitCode::from(3),
     }
