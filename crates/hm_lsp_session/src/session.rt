@@ -75,6 +75,7 @@ fn capabilities(alloc: Global, encoding: Encoding) -> Result<Value, AllocError> 
         "hoverProvider": true,
         "positionEncoding": encoding,
         "referencesProvider": true,
+        "renameProvider": true,
         "textDocumentSync": {"change": 2, "openClose": true},
         "workspaceSymbolProvider": true
     })?;

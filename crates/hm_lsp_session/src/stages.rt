@@ -22,6 +22,7 @@ pub enum Question {
     DocumentHighlight,
     DocumentSymbol,
     CodeAction,
+    Rename,
     /// The only one about the whole folder.
     WorkspaceSymbol,
 }
@@ -91,6 +92,7 @@ impl Question {
             "textDocument/documentHighlight" => Some(Question::DocumentHighlight),
             "textDocument/documentSymbol" => Some(Question::DocumentSymbol),
             "textDocument/codeAction" => Some(Question::CodeAction),
+            "textDocument/rename" => Some(Question::Rename),
             "workspace/symbol" => Some(Question::WorkspaceSymbol),
             _ => None,
         }
