@@ -1,13 +1,15 @@
 -- Worked examples of where names are written.
-use Rattle.std.proofs.Common.{◌≡◌, ◌<◌, ℕ, false, codes, take, arith, refl, sym, subst}
+use Rattle.std.proofs.Common.{◌≡◌, ◌<◌, ℕ, List, [], ◌∷◌, false, codes, take, arith, refl, sym, ap, subst}
 use Rattle.std.proofs.lemmas.Bool.{cond-false, cond-true}
 use Rattle.hm_lsp_positions.specs.Lines.{line_start}
 use Rattle.hm_lsp_positions.specs.Positions.{IsColumn, IsOffsetOf, IsPositionOf}
 use Rattle.hm_lsp_positions.specs.Units.{units}
 use Rattle.hm_lsp_positions.specs.declared.units.Encoding.TheVariants.{Utf8, Utf16}
 use Rattle.hm_lsp_values.specs.References.{kind_of}
+use Rattle.serde_json.specs.Data.{Data, member, object, string}
+use Rattle.hm_lsp_values.specs.Renames.{IsReplacement, replacement_data}
 use Rattle.hm_lsp_values.specs.Spans.{IsSpan}
-use Rattle.hm_lsp_values.specs.Worked.{SpanRow}
+use Rattle.hm_lsp_values.specs.Worked.{RenamesRow, SpanRow}
 use Rattle.hm_uses_references.specs.declared.finding.Reference.{Reference}
 
 later : (j : ℕ) → j ≡ 5 → 4 < units Utf8 (take j (codes "f = f"))
@@ -36,3 +38,28 @@ three r is e = omega (arith, cond-false {A = ℕ} _ 3 2 is, e)
 
 pub worked_spans : SpanRow
 worked_spans = record { second = second; bound = λ r is. cond-true _ _ _ is; not_bound = three }
+
+replaced : (r : Reference) → r.line ≡ 1 → r.column ≡ 5 → r.length ≡ 1 → IsReplacement Utf16 (codes "f = f") (codes "g") r (replacement_data (codes "g") (record { line = 0; column = 4 }) (record { line = 0; column = 5 }))
+replaced r line column size = record {
+  start = record { line = 0; column = 4 };
+  end = record { line = 0; column = 5 };
+  span = subst (λ n. IsSpan Utf16 (codes "f = f") n r.column r.length (record { line = 0; column = 4 }) (record { line = 0; column = 5 })) (sym line)
+      (subst (λ n. IsSpan Utf16 (codes "f = f") 1 n r.length (record { line = 0; column = 4 }) (record { line = 0; column = 5 })) (sym column)
+      (subst (λ n. IsSpan Utf16 (codes "f = f") 1 5 n (record { line = 0; column = 4 }) (record { line = 0; column = 5 })) (sym size) second));
+  whole = refl;
+}
+
+first_letter : List ℕ → ℕ
+first_letter [] = 0
+first_letter (letter ∷ text) = letter
+
+letter_of : Data → ℕ
+letter_of (object (member key (string text) more)) = first_letter text
+letter_of d = 0
+
+apart : (x y : ℕ) → x ≡ 103 → y ≡ 104 → x ≡ y → ⊥
+apart x y a b e = omega (arith, a, b, e)
+
+pub worked_renames : RenamesRow
+unfolding first_letter letter_of
+worked_renames = record { second = replaced; not_other = λ e. apart _ _ refl refl (ap letter_of e); whole = refl }

@@ -1,6 +1,6 @@
 -- Worked examples.
-use Rattle.std.specs.Prelude.{◌≡◌, true, false, Some, None, codes}
-use Rattle.serde_json.specs.Data.{member, no_members, null, number, object, string, unsigned}
+use Rattle.std.specs.Prelude.{◌≡◌, [], ◌∷◌, true, false, Some, None, codes}
+use Rattle.serde_json.specs.Data.{array, item, member, no_items, no_members, null, number, object, string, unsigned}
 use Rattle.hm_lsp_positions.specs.declared.units.Encoding.TheVariants.{Utf8, Utf16}
 use Rattle.hm_messages_json.specs.declared.message.Level.TheVariants.{Error, Note}
 use Rattle.hm_messages_json.specs.declared.message.Position.{Position as Place}
@@ -8,6 +8,7 @@ use Rattle.hm_lsp_values.specs.Diagnostics.{severity_of, text_with}
 use Rattle.hm_lsp_values.specs.Names.{IsShown}
 use Rattle.hm_lsp_values.specs.Places.{position_of_place}
 use Rattle.hm_lsp_values.specs.References.{kind_of}
+use Rattle.hm_lsp_values.specs.Renames.{IsReplacement, document_edit_data, replacement_data, workspace_edit_data}
 use Rattle.hm_lsp_values.specs.Spans.{IsSpan}
 use Rattle.hm_lsp_values.specs.Symbols.{symbol_data, symbol_kind}
 use Rattle.hm_names.specs.Worked.{at}
@@ -42,3 +43,11 @@ pub record SymbolsRow : Type 0 where
   pub whole : symbol_data (symbol Variable (at 18 (codes "f"))) null
       ≡ object (member (codes "kind") (number (unsigned 12)) (member (codes "name") (string (codes "f")) (member (codes "range") null (member (codes "selectionRange") null no_members))))
   pub not_alike : ¬ (symbol_kind DataType ≡ symbol_kind Constructor)
+
+-- the second name in `f = f` gets the name `g`, and only that one. All edits of a document are in one value
+pub record RenamesRow : Type 0 where
+  pub second : (r : Reference) → r.line ≡ 1 → r.column ≡ 5 → r.length ≡ 1 → IsReplacement Utf16 (codes "f = f") (codes "g") r (replacement_data (codes "g") (record { line = 0; column = 4 }) (record { line = 0; column = 5 }))
+  pub not_other : ¬ (replacement_data (codes "g") (record { line = 0; column = 4 }) (record { line = 0; column = 5 }) ≡ replacement_data (codes "h") (record { line = 0; column = 4 }) (record { line = 0; column = 5 }))
+  pub whole : workspace_edit_data (document_edit_data (codes "u") (null ∷ []) ∷ [])
+      ≡ object (member (codes "documentChanges") (array (item (object (member (codes "edits") (array (item null no_items))
+      (member (codes "textDocument") (object (member (codes "uri") (string (codes "u")) (member (codes "version") null no_members))) no_members))) no_items)) no_members)

@@ -1,5 +1,5 @@
 //! Worked examples. Each is a function with an empty body, and its contract states the example.
-ghost use Rattle.hm_lsp_values.specs.Worked.{HoverRow, SpanRow, SymbolsRow, ValuesRow};
+ghost use Rattle.hm_lsp_values.specs.Worked.{HoverRow, RenamesRow, SpanRow, SymbolsRow, ValuesRow};
 
 /// Positions, severities and texts.
 #[tactic(auto, using(crate::proofs::WorkedValues::worked_values))]
@@ -23,4 +23,10 @@ pub fn worked_spans()
 #[tactic(auto, using(crate::proofs::WorkedValues::worked_symbols))]
 pub fn worked_symbols()
     ensures { SymbolsRow }
+{}
+
+/// The edits of a rename.
+#[tactic(auto, using(crate::proofs::WorkedSpans::worked_renames))]
+pub fn worked_renames()
+    ensures { RenamesRow }
 {}

@@ -8,6 +8,7 @@ pub mod laws;
 mod names;
 mod positions;
 mod references;
+mod renames;
 mod spans;
 mod symbols;
 
@@ -15,4 +16,5 @@ pub use crate::diagnostics::{action_value, diagnostic_value};
 pub use crate::names::{hover_value, location_value};
 pub use crate::positions::place_at;
 pub use crate::references::{highlight_value, reference_value};
+pub use crate::renames::{document_edit_value, replacement_value, workspace_edit_value};
 pub use crate::symbols::{located_symbol_value, symbol_value};

@@ -11,7 +11,7 @@ use serde_json::{Value, json};
 use std::alloc::{AllocError, Global};
 
 /// Returns the positions between which a name is written in the text of its source.
-fn reference_span(encoding: Encoding, text: &[u8], reference: &Reference) -> Span
+pub(crate) fn reference_span(encoding: Encoding, text: &[u8], reference: &Reference) -> Span
     ensures { IsSpan encoding text.now reference.now.line reference.now.column reference.now.length result.start result.end }
 {
     let Reference {

@@ -1,0 +1,44 @@
+//! The edits of a rename.
+ghost use Rattle.std.specs.Prelude.{◌≡◌, IfOk, map};
+ghost use Rattle.serde_json.specs.View.{view};
+ghost use Rattle.hm_lsp_values.specs.Renames.{IsReplacement, document_edit_data, workspace_edit_data};
+
+use crate::references::reference_span;
+use crate::spans::span_value;
+use hm_lsp_positions::Encoding;
+use hm_uses_references::Reference;
+use serde_json::{Value, json};
+use std::alloc::{AllocError, Global};
+
+/// Returns the edit that puts a new name in place of a name that is written in a text (`TextEdit`).
+pub fn replacement_value(
+    alloc: Global,
+    encoding: Encoding,
+    text: &[u8],
+    name: &str,
+    reference: &Reference,
+) -> Result<Value, AllocError>
+    ensures { IfOk result (λ value. IsReplacement encoding text.now name.now reference.now (view value)) }
+{
+    let range = span_value(alloc, reference_span(encoding, text, reference))?;
+    let range = &range;
+    json!(in alloc; {"newText": name, "range": range})
+}
+
+/// Returns the edits of the document with this URI (`TextDocumentEdit`). They are for any version of it.
+pub fn document_edit_value(alloc: Global, uri: &str, edits: Vec<Value>) -> Result<Value, AllocError>
+    ensures { IfOk result (λ value. view value ≡ document_edit_data uri.now (map view edits.items)) }
+{
+    let edits = Value::Array(edits);
+    let edits = &edits;
+    json!(in alloc; {"edits": edits, "textDocument": {"uri": uri, "version": null}})
+}
+
+/// Returns the edits of documents (`WorkspaceEdit`).
+pub fn workspace_edit_value(alloc: Global, documents: Vec<Value>) -> Result<Value, AllocError>
+    ensures { IfOk result (λ value. view value ≡ workspace_edit_data (map view documents.items)) }
+{
+    let documents = Value::Array(documents);
+    let documents = &documents;
+    json!(in alloc; {"documentChanges": documents})
+}
