@@ -39,6 +39,11 @@ class Client(lsp.Client):
     def notify(self, method, **params):
         super().notify(method, params)
 
+    def settle(self):
+        """Waits until the diagnostics of all messages were sent."""
+        for _ in range(2):
+            self.ask("hmc/nothing")
+
     def published(self, count):
         """Returns the diagnostics of the next notifications, by the name of the file."""
         found = {}
@@ -96,7 +101,43 @@ def outline(it, doc):
     names = [("B", 2, "B where"), ("h", 12, "h c b"), ("k", 12, "k ="), ("m", 12, "m =")]
     wanted = [{"kind": kind, "name": name, "range": where, "selectionRange": where} for name, kind, part in names for where in [between(B, part, 1)]]
     it.row("symbols of a document", it.ask("textDocument/documentSymbol", textDocument=doc)["result"], wanted)
+    found = it.ask("workspace/symbol", query="K")["result"]
+    it.row("symbols of the folder", found, [{"kind": 12, "location": {"range": between(B, "k =", 1), "uri": it.uri("B.hs")}, "name": "k"}])
+    it.row("no query", it.ask("workspace/symbol")["error"]["code"], -32602)
     it.row("symbols of no document", it.ask("textDocument/documentSymbol", textDocument={"uri": it.uri("C.hs")})["error"]["code"], -32602)
+
+
+def renamed(text, edits):
+    """Returns a text of one line after edits, which are in order."""
+    for edit in reversed(edits):
+        start, end = (edit["range"][it]["character"] for it in ("start", "end"))
+        text = text[:start] + edit["newText"] + text[end:]
+    return text
+
+
+def rename(it, doc):
+    """Renames 'g' of A, which B imports, and asks for names that it can't have. The renamed texts have the faults of the old ones."""
+    at = {"textDocument": doc, "position": position(B, "m = g", 4)}
+    edits = [("A.hs", between(A, "g")), ("B.hs", between(B, "g }", 1))]
+    wanted = [{"edits": [{"newText": "fresh", "range": where}], "textDocument": {"uri": it.uri(name), "version": None}} for name, where in edits]
+    made = it.ask("textDocument/rename", **at, newName="fresh")["result"]
+    it.row("a rename in both files", made, {"documentChanges": wanted})
+    it.row("a rename to a taken name", it.ask("textDocument/rename", **at, newName="f")["result"], None)
+    it.row("a rename to a reserved word", it.ask("textDocument/rename", **at, newName="of")["result"], None)
+    it.row("a rename of a name of Prelude", it.ask("textDocument/rename", textDocument=doc, position=position(B, "True"), newName="Yes")["result"], None)
+    it.row("a rename without a name", it.ask("textDocument/rename", **at)["error"]["code"], -32602)
+    it.row("a rename without a position", it.ask("textDocument/rename", textDocument=doc, newName="fresh")["error"]["code"], -32602)
+    a, b = (renamed(text, its["edits"]) for text, its in zip((A, B), made["documentChanges"]))
+    it.row("the renamed texts", ("fresh = f 1" in a, "m = fresh" in b), (True, True))
+    it.notify("textDocument/didOpen", textDocument={"uri": it.uri("A.hs"), "languageId": "haskell", "version": 1, "text": a})
+    it.notify("textDocument/didChange", textDocument={**doc, "version": 2}, contentChanges=[{"text": b}])
+    hover = it.ask("textDocument/hover", textDocument=doc, position=position(b, "m = fresh", 4))["result"]
+    it.row("the new name is known", "variable fresh" in hover["contents"]["value"], True)
+    it.settle()
+    it.row("the faults after a rename", [codes(it.shown.get(it.uri(name), [])) for name in ("A.hs", "B.hs")], [[], ["type"]])
+    it.notify("textDocument/didChange", textDocument={**doc, "version": 3}, contentChanges=[{"text": B}])
+    it.notify("textDocument/didClose", textDocument={"uri": it.uri("A.hs")})
+    it.settle()
 
 
 def look(it):
@@ -109,8 +150,9 @@ def look(it):
     it.row("nothing at a bracket", it.ask("textDocument/hover", textDocument=doc, position=position(B, "{"))["result"], None)
     refer(it, doc)
     outline(it, doc)
+    rename(it, doc)
     it.row("no such document", it.ask("textDocument/hover", textDocument={"uri": it.uri("C.hs")}, position=position(B, "{"))["error"]["code"], -32602)
-    it.row("an unknown method", it.ask("textDocument/rename")["error"]["code"], -32601)
+    it.row("an unknown method", it.ask("textDocument/formatting")["error"]["code"], -32601)
 
 
 def mend(it):
@@ -120,7 +162,7 @@ def mend(it):
     it.row("an action", len(actions) > 0, True)
     edits = actions[0]["edit"]["changes"][it.uri("B.hs")]
     changes = [{"range": e["range"], "text": e["newText"]} for e in reversed(edits)]
-    it.notify("textDocument/didChange", textDocument={**doc, "version": 2}, contentChanges=changes)
+    it.notify("textDocument/didChange", textDocument={**doc, "version": 4}, contentChanges=changes)
     it.row("nothing is left", it.published(1), {"B.hs": []})
 
 
@@ -142,7 +184,7 @@ def escape_letters(it):
     it.notify("textDocument/didOpen", textDocument={**other, "languageId": "haskell", "version": 1, "text": A})
     hover = it.ask("textDocument/hover", textDocument={"uri": it.uri("A.hs")}, position=position(A, "g ="))["result"]
     it.row("a document by its other URI", hover is not None, True)
-    it.notify("textDocument/didChange", textDocument={"uri": it.uri("B.hs"), "version": 3}, contentChanges=[{"text": B}])
+    it.notify("textDocument/didChange", textDocument={"uri": it.uri("B.hs"), "version": 5}, contentChanges=[{"text": B}])
     place = it.ask("textDocument/definition", textDocument={"uri": it.uri("B.hs")}, position=position(B, "m = g", 4))["result"]
     it.row("a definition has the URI of the client", place and (place["uri"], place["range"]["start"]), (other["uri"], position(A, "g =")))
 

@@ -213,10 +213,11 @@ class Walk:
         document = self.chance.choice([it for it in self.documents if it.version is not None or it.file is not None])
         line, column = position_of(document.text, place_of(self.chance, document.text), self.encoding)
         position = {"line": line, "character": column}
-        method = self.chance.choice(["hover", "definition", "references", "documentHighlight", "documentSymbol", "codeAction"])
+        method = self.chance.choice(["hover", "definition", "references", "documentHighlight", "documentSymbol", "codeAction", "rename"])
         where = {"range": {"start": position, "end": position}} if method == "codeAction" else {"position": position}
         context = {"diagnostics": [], "includeDeclaration": self.chance.random() < 0.5}
-        return f"textDocument/{method}", {"textDocument": self.named(document), "context": context, **where}
+        name = self.chance.choice(["x", "renamed", "Renamed", "of"])
+        return f"textDocument/{method}", {"textDocument": self.named(document), "context": context, "newName": name, **where}
 
     def step(self):
         """Makes an edit, and compares what is shown then."""

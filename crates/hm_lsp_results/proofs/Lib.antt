@@ -7,3 +7,5 @@ pub mod Requests
 mod DeclaredValues
 mod Matching
 mod FolderSymbols
+mod RenameEdits
+mod WorkedResults

@@ -1,4 +1,4 @@
--- The results of requests about the texts, and their replies (Language Server Protocol 3.17, "Hover Request", "Goto Definition Request", "Code Action Request"; "Find References Request" and "Document Highlights Request" are in References, and "Document Symbols Request" and "Workspace Symbols Request" in Symbols).
+-- The results of requests about the texts, and their replies (Language Server Protocol 3.17, "Hover Request", "Goto Definition Request", "Code Action Request"; "Find References Request" and "Document Highlights Request" are in References, "Document Symbols Request" and "Workspace Symbols Request" in Symbols, and "Rename Request" in Renames).
 use Rattle.std.specs.Prelude.{◌≡◌, ◌≤◌, ◌⊎◌, ℕ, negsuc, Bool, true, List, Option, None, Some, codes, length, map, option_and_then, slice_get, string_bytes}
 use Rattle.serde_json.specs.Data.{Data, array, no_items, null}
 use Rattle.serde_json.specs.Find.{as_bool, pointer}
@@ -11,7 +11,7 @@ use Rattle.hm_lsp_session.specs.Params.{IsPositionIn, IsRangeIn, string_at}
 use Rattle.hm_lsp_session.specs.Replies.{refusal_data, reply_data}
 use Rattle.hm_lsp_session.specs.Stages.{code_of}
 use Rattle.hm_lsp_session.specs.declared.stages.Question.{Question}
-use Rattle.hm_lsp_session.specs.declared.stages.Question.TheVariants.{CodeAction, Definition, DocumentHighlight, DocumentSymbol, Hover, References, WorkspaceSymbol}
+use Rattle.hm_lsp_session.specs.declared.stages.Question.TheVariants.{CodeAction, Definition, DocumentHighlight, DocumentSymbol, Hover, References, Rename, WorkspaceSymbol}
 use Rattle.hm_lsp_session.specs.declared.stages.Refusal.TheVariants.{InvalidParams}
 use Rattle.hm_lsp_values.specs.Diagnostics.{action_data}
 use Rattle.hm_lsp_values.specs.Names.{IsHover, IsLocation}
@@ -25,6 +25,7 @@ use Rattle.hm_service_places.specs.declared.places.AtPlace.{AtPlace}
 use Rattle.hm_service_sources.specs.declared.held.HeldSource.{HeldSource}
 use Rattle.hm_lsp_results.specs.Asked.{HasNothingAt, HasUri, IsNamedAt, IsReadText, IsSourceIn, Subject}
 use Rattle.hm_lsp_results.specs.References.{IsHighlightsResult, IsReferencesResult}
+use Rattle.hm_lsp_results.specs.Renames.{IsRenameValue}
 use Rattle.hm_lsp_results.specs.Symbols.{AreFound, IsSymbolsResult}
 use Rattle.hm_lsp_sources.specs.declared.source.Source.{Source}
 
@@ -104,6 +105,14 @@ declares (Some b) = b
 abbrev pub with_declarations : Data → Bool
 with_declarations request = declares (option_and_then as_bool (pointer (codes "/params/context/includeDeclaration") request))
 
+-- the result for the new name of a request, or that its parameters aren't valid
+abbrev pub IsResultNamed : (List ℕ → Option Data → Type 0) → Option (List ℕ) → Option Data → Type 0
+IsResultNamed P None result = result ≡ None
+IsResultNamed P (Some new) result = P new result
+
+abbrev pub IsRenameRequestResult : Subject → ℕ → Data → Option Data → Type 0
+IsRenameRequestResult asked n request result = IsResultNamed (λ new. IsResultAtPosition (IsRenameValue asked n new) request) (string_at (codes "/params/newName") request) result
+
 -- the result of a request about source number n, or that its parameters aren't valid
 abbrev pub IsResultOf : Subject → Question → ℕ → Data → Option Data → Type 0
 IsResultOf asked Hover n request result = IsResultAtPosition (IsHoverResult asked.encoding asked.held asked.checked n) request result
@@ -112,6 +121,7 @@ IsResultOf asked References n request result = IsResultAtPosition (IsReferencesR
 IsResultOf asked DocumentHighlight n request result = IsResultAtPosition (IsHighlightsResult asked n) request result
 IsResultOf asked DocumentSymbol n request result = (value : Data) × (IsSymbolsResult asked n value × (result ≡ Some value))
 IsResultOf asked CodeAction n request result = (r : Option Range) × (HasRange request r × IsResultFor (IsActionsResult asked.encoding asked.sources asked.held asked.checked n) r result)
+IsResultOf asked Rename n request result = IsRenameRequestResult asked n request result
 -- it is about no source
 IsResultOf asked WorkspaceSymbol n request result = result ≡ None
 

@@ -5,8 +5,10 @@ mod asking;
 mod declared;
 mod faults;
 mod folder;
+pub mod laws;
 mod queries;
 mod referring;
+mod renames;
 mod replying;
 
 pub use crate::asking::Asked;

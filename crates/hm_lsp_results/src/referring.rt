@@ -18,7 +18,7 @@ use std::sync::Wait;
 use std::thread::Threads;
 
 /// Returns the place of a position in a source that can be read. Its line is a number of 32 bits.
-fn place_in(asked: &Asked<'_>, source: usize, position: Position) -> Option<Place>
+pub(crate) fn place_in(asked: &Asked<'_>, source: usize, position: Position) -> Option<Place>
     ensures some { IfSome result (λ place. IsPlaceIn (subject_of asked.now) source position place) }
     ensures none { IfNone result (HasNoPlace (subject_of asked.now) source position) }
 {

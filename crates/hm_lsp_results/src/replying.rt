@@ -4,7 +4,7 @@ ghost use Rattle.serde_json.specs.View.{view};
 ghost use Rattle.hm_lsp_session.specs.Params.{string_at};
 ghost use Rattle.hm_lsp_session.specs.Replies.{IsReplyTo, method_of};
 ghost use Rattle.hm_lsp_results.specs.Asked.{subject_of};
-ghost use Rattle.hm_lsp_results.specs.Results.{HasPosition, HasRange, IsDocumentResult, IsReply, IsResult, IsResultFor, IsResultOf, failure_data, with_declarations};
+ghost use Rattle.hm_lsp_results.specs.Results.{HasPosition, HasRange, IsDocumentResult, IsReply, IsRenameRequestResult, IsResult, IsResultFor, IsResultOf, failure_data, with_declarations};
 ghost use Rattle.hm_lsp_results.specs.Symbols.{AreFound};
 
 use crate::asking::{Asked, actions, definition, hover, source_in};
@@ -12,6 +12,7 @@ use crate::declared::symbols;
 use crate::faults::ServerFault;
 use crate::folder::found_symbols;
 use crate::referring::{highlights, references};
+use crate::renames::rename;
 use hm_lsp_positions::{Position, Range};
 use hm_lsp_session::{Question, Refusal, position_in, range_in, refusal, reply, text_at};
 use serde_json::{Value, json};
@@ -49,6 +50,24 @@ fn with_declarations(request: &Value) -> bool
     }
 }
 
+/// Returns the result of a rename in a source, or `None` if the request's parameters aren't valid.
+fn rename_result<T: Threads + Wait + Sync>(
+    rt: &T,
+    asked: &Asked<'_>,
+    source: usize,
+    request: &Value,
+) -> Result<Option<Value>, ServerFault>
+    ensures { IfOk result (λ made. IsRenameRequestResult (subject_of asked.now) source (view request.now) (option_map view made)) }
+{
+    let Some(name) = text_at(request, "/params/newName") else {
+        return Ok(None);
+    };
+    let Some(position) = position_of_request(request) else {
+        return Ok(None);
+    };
+    Ok(Some(rename(rt, asked, source, position, name)?))
+}
+
 /// Returns the result of a request about a source, or `None` if its parameters aren't valid.
 fn result_of<T: Threads + Wait + Sync>(
     rt: &T,
@@ -68,6 +87,9 @@ fn result_of<T: Threads + Wait + Sync>(
     if question == Question::DocumentSymbol {
         return Ok(Some(symbols(asked, source)?));
     }
+    if question == Question::Rename {
+        return Ok(rename_result(rt, asked, source, request)?);
+    }
     let Some(position) = position_of_request(request) else {
         return Ok(None);
     };
@@ -79,11 +101,14 @@ fn result_of<T: Threads + Wait + Sync>(
             Ok(Some(references(rt, asked, source, position, declarations)?))
         }
         Question::DocumentHighlight => Ok(Some(highlights(rt, asked, source, position)?)),
-        Question::DocumentSymbol | Question::CodeAction | Question::WorkspaceSymbol => Ok(None),
+        Question::DocumentSymbol
+        | Question::CodeAction
+        | Question::Rename
+        | Question::WorkspaceSymbol => Ok(None),
     }
 }
 
-/// Returns the symbols of all sources that a request asks for, or `None` if its parameters aren't valid.
+/// Returns the symbols of all sources that the query of a request finds, or `None` if its parameters aren't valid.
 fn found_in(asked: &Asked<'_>, request: &Value) -> Result<Option<Value>, ServerFault>
     ensures { IfOk result (λ made. IsResultFor (AreFound (subject_of asked.now)) (string_at (codes "/params/query") (view request.now)) (option_map view made)) }
 {
@@ -123,6 +148,7 @@ fn result_in<T: Threads + Wait + Sync>(
         | Question::Definition
         | Question::References
         | Question::DocumentHighlight
+        | Question::Rename
         | Question::DocumentSymbol
         | Question::CodeAction => Ok(document_result(rt, asked, question, request)?),
     }
