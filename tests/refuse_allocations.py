@@ -212,7 +212,7 @@ def refuse_in_messages(refusing, program):
 
 
 def session():
-    """Returns what a client sends that opens two documents, asks for a name, changes what it is, and asks again. Then the input ends."""
+    """Returns what a client sends that opens two documents, asks for a name, changes what it is, and asks again and more. Then the input ends."""
 
     def about(name, **params):
         return {"textDocument": {"uri": f"file:///{name}.hs", "languageId": "haskell", "version": 1}, **params}
@@ -223,10 +223,14 @@ def session():
     def hover(number):
         return {"id": number, "method": "textDocument/hover", "params": about("A", position={"line": 0, "character": 31})}
 
+    def ask(number, method, **params):
+        return {"id": number, "method": method, "params": about("A", position={"line": 0, "character": 17}, **params)}
+
+    more = [ask(4, "textDocument/references"), ask(5, "textDocument/documentSymbol"), ask(6, "workspace/symbol", query="z"), ask(7, "textDocument/rename", newName="v")]
     change = {"method": "textDocument/didChange", "params": about("A", contentChanges=[lsp.change((0, 21), (0, 24), "(1)")])}
     start = [{"id": 1, "method": "initialize", "params": {}}, {"method": "initialized", "params": {}}]
     texts = [opening("A", "module A where { x = 'c' ; y = x }"), opening("B", "module B where { z = w }")]
-    return b"".join(map(lsp.frame, [*start, *texts, hover(2), change, hover(3)]))
+    return b"".join(map(lsp.frame, [*start, *texts, hover(2), change, hover(3), *more]))
 
 
 def messages_in(printed):
@@ -254,7 +258,7 @@ def ending_of_session(ran, messages):
     lost = [number for number, (one, other) in enumerate(itertools.zip_longest(found, messages)) if one != other]
     if any(number < len(found) and not is_without_memory(found[number]) for number in lost):
         return None
-    # The documents have other texts at the two questions, so one of these has its reply.
+    # The documents have other texts at the first two questions, so one of these has its reply.
     if ran.returncode == 1 and len(found) == len(messages) and not {2, 3} <= {messages[number].get("id") for number in lost}:
         return "no memory for a message" if lost else "right"
     return "no memory" if ran.returncode == 3 else None
@@ -275,7 +279,10 @@ def refuse_in_server(refusing, server):
                 print(f"the server, allocation {number}: status {ran.returncode}: {ran.stderr[:200]!r} {ran.stdout[:400]!r}")
     hovers = [it["result"]["contents"]["value"] for it in messages if it.get("id") in (2, 3)]
     shown = [(it["params"]["uri"], [one["code"] for one in it["params"]["diagnostics"]]) for it in messages if it.get("method") == lsp.PUBLISHED]
+    sizes = [len(it["result"]) for it in messages if it.get("id") in (4, 5, 6)]
+    renamed = [it["result"]["documentChanges"][0]["edits"] for it in messages if it.get("id") == 7]
     is_right = first.returncode == 1 and ["type Char" in it for it in hovers] == [True, False] and shown == [("file:///B.hs", ["unbound"])]
+    is_right &= sizes == [2, 3, 1] and [len(it) for it in renamed] == [2]
     print(f"the server: {total} allocations: {dict(found)}{'' if is_right else ', FAILS where nothing is refused'}", flush=True)
     return is_right and not found["WRONG"]
 
