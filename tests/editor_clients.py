@@ -5,7 +5,7 @@
 client shows something else than what the protocol and the language say.
 
 Each client opens B.hs, in which two arguments are exchanged. It shows the fault, the text of a hover and the place of a definition. The exchange is
-undone by typing, which removes the fault, and made again. Then the server's own change is applied, and removes it too.
+undone by typing, which removes the fault, and made again. Then the server's own change is applied, and removes it too. At last a definition is renamed.
 """
 import json
 import os
@@ -29,6 +29,7 @@ WANTED = {
     "errors after typing back": [B.index("k =")],
     "errors after a fix": [],
     "text after a fix": MENDED.strip(),
+    "text after a rename": MENDED.replace("h ::", "first ::").replace("h c b", "first c b").replace("h (", "first (").strip(),
 }
 NVIM = """
 local shown, folder, program = {}, vim.env.FOLDER, vim.env.PROGRAM
@@ -69,6 +70,9 @@ local actions = ask("textDocument/codeAction", "h True", { range = range, contex
 vim.lsp.util.apply_workspace_edit(actions[1].edit, vim.lsp.get_client_by_id(id).offset_encoding)
 shown["errors after a fix"] = errors(0)
 shown["text after a fix"] = text()
+local renamed = ask("textDocument/rename", "h ::", { newName = "first" })
+vim.lsp.util.apply_workspace_edit(renamed, vim.lsp.get_client_by_id(id).offset_encoding)
+shown["text after a rename"] = text()
 vim.fn.writefile({ vim.json.encode(shown) }, vim.env.SHOWN)
 vim.lsp.stop_client(id)
 vim.wait(5000, function() return vim.lsp.client_is_stopped(id) end, 10)
@@ -107,6 +111,9 @@ EMACS = """
   (apply-first-action (point) (+ (point) 10)) (send-changes)
   (show "errors after a fix" (errors 0))
   (show "text after a fix" (text))
+  (go-to "h ::")
+  (rename-to "first")
+  (show "text after a rename" (text))
   (with-temp-file (getenv "SHOWN") (insert (json-encode shown))))
 """
 EGLOT = """
@@ -129,6 +136,7 @@ EGLOT = """
           (list :textDocument (eglot--TextDocumentIdentifier) :context (list :diagnostics [])
                 :range (list :start (eglot--pos-to-lsp-position start) :end (eglot--pos-to-lsp-position end))))))
     (eglot--apply-workspace-edit (plist-get (elt actions 0) :edit))))
+(defun rename-to (name) (eglot-rename name))
 (find-file (expand-file-name "B.hs" (getenv "FOLDER")))
 (apply #'eglot (eglot--guess-contact))
 (wait-for #'eglot-managed-p)
@@ -142,6 +150,7 @@ LSP_MODE = """
 (setq lsp-auto-guess-root t lsp-session-file (make-temp-name (getenv "SHOWN")) lsp-diagnostics-provider :none lsp-enable-snippet nil lsp-restart 'ignore
       lsp-idle-delay 0.05 lsp-debounce-full-sync-notifications nil lsp-warn-no-matched-clients nil)
 (defun send-changes () (accept-process-output nil 0.1))
+(defun rename-to (name) (lsp-rename name))
 (defun start-of (place) (gethash "character" (gethash "start" (gethash "range" place))))
 (defun error-columns ()
   (let ((found (append (gethash (lsp--fix-path-casing (file-truename buffer-file-name)) (lsp-diagnostics t)) nil)))
