@@ -34,6 +34,7 @@ PARTS = {
     "forgotten": ["bench/forgotten.py", "--program", PROGRAM, "--count", "3", "--seed", "9101", "--seed", "9102", "--seed", "9103", "--seed", "9104"],
     "missing_tokens": ["bench/missing_tokens.py", PROGRAM, "40"],
     "server": ["bench/server.py", SERVER],
+    "places": ["bench/places.py", PROGRAM],
     "deep": ["tests/deep.py", PROGRAM],
     "growth": ["tests/growth.py", PROGRAM],
     "newcomer": ["bench/newcomer.py"],
