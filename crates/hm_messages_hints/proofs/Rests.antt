@@ -1,5 +1,5 @@
 -- What is so of a slice that goes on to the end of a list.
-use Rattle.std.proofs.Common.{arith, ◌+◌, ◌-◌, ℕ, List, length, drop, take, All, subst, length-drop}
+use Rattle.std.proofs.Common.{arith, ◌-◌, ℕ, List, length, drop, take, All, subst, length-drop}
 use Rattle.std.proofs.lemmas.List.{take_all}
 use Rattle.hm_parse_grammar.specs.declared.symbol.Symbol.{Symbol}
 

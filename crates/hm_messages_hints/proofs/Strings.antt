@@ -1,5 +1,5 @@
 -- A string's bytes, one after the other.
-use Rattle.std.proofs.Common.{arith, ◌≡◌, ◌∙◌, ℕ, ◌+◌, ◌<◌, Bool, true, false, List, [], ◌∷◌, drop, get_or, length, if◌then◌else◌, refl, sym, subst, ap}
+use Rattle.std.proofs.Common.{arith, ◌≡◌, ◌∙◌, ℕ, ◌+◌, ◌<◌, Bool, true, false, List, [], ◌∷◌, drop, get_or, length, if◌then◌else◌, refl, ap}
 use Rattle.std.proofs.lemmas.List.{at_drop_more, drop_all}
 use Rattle.hm_messages_hints.specs.LexemeHints.{goes_on, is_end, is_text, next_in}
 use Rattle.hm_messages_hints.specs.declared.lexeme_hints.StringPart.{StringPart}

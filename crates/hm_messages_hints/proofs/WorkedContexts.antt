@@ -1,11 +1,12 @@
 -- The worked contexts of symbols.
-use Rattle.std.proofs.Common.{arith, ◌≡◌, ◌<◌, ◌≤◌, ◌+◌, ℕ, zero, suc, List, [], ◌∷◌, All, drop, get_or, length, inl, inr, true, false, refl, ap, subst, sym, ⊎_elim}
+use Rattle.std.proofs.Common.{arith, ◌≡◌, ◌<◌, ◌+◌, ℕ, zero, suc, List, [], ◌∷◌, All, drop, get_or, inl, true, false, refl, ap, subst, sym, ⊎_elim}
 use Rattle.std.proofs.lemmas.Bool.{false≢true}
 use Rattle.hm_parse_grammar.specs.Symbols.{same}
 use Rattle.hm_parse_grammar.specs.declared.symbol.Symbol.{Symbol}
-use Rattle.hm_parse_grammar.specs.declared.symbol.Symbol.TheVariants.{If, Then, Else, Of, LeftBrace, Semicolon, Equals, Arrow, Var, Con, Integer}
-use Rattle.hm_messages_hints.specs.SyntaxHints.{HasNoElse, IsInAlternative, IsInType, at, begins_type, is_of_pattern, is_of_type}
-use Rattle.hm_messages_hints.specs.Worked.{AlternativeRow, ElseRow, TypeRow, declared, ended}
+use Rattle.hm_parse_grammar.specs.declared.symbol.Symbol.TheVariants.{Then, Else, Let, Of, LeftBrace, RightBrace, Semicolon, Where, Equals, Arrow, Var, Con, Integer}
+use Rattle.hm_messages_hints.specs.SyntaxHints.{at, begins_type, is_of_pattern, is_of_type}
+use Rattle.hm_messages_outline.specs.Brackets.{IsInnermost, IsOpen}
+use Rattle.hm_messages_hints.specs.Worked.{AlternativeRow, ClosedRow, ElseRow, TypeRow, ended}
 
 declared_rest : (k : ℕ) (d : Symbol) → k < 4 → is_of_type (get_or (Con ∷ Equals ∷ Con ∷ Var ∷ []) k d) ≡ true
 declared_rest zero d l = refl
@@ -71,4 +72,19 @@ pub worked_alternatives : AlternativeRow
 worked_alternatives = record {
   within = record { of_case = refl; brace = refl; start = 1; within = omega arith; begun = inl refl; rest = in_pattern };
   behind = λ h. ⊎_elim (λ first. false≢true (arrow h.start first h.rest)) (λ e. no_semicolon h.start e) h.begun;
+}
+
+no_bracket : (j : ℕ) → 1 < j → IsOpen (Let ∷ LeftBrace ∷ []) j → ⊥
+no_bracket zero h o = omega (arith, h)
+no_bracket (suc zero) h o = omega (arith, h)
+no_bracket (suc (suc j)) h o = omega (arith, o.within)
+
+in_brace : IsInnermost (Let ∷ LeftBrace ∷ []) 1
+in_brace = record { opened = record { within = omega arith; opening = refl; free = refl }; last = no_bracket }
+
+pub worked_closed : ClosedRow
+worked_closed = record {
+  closed = record { closing = refl; closed = in_brace; opened = refl; after = refl };
+  other_word = λ h. false≢true (ap (λ s. same s Where) h.after);
+  unclosed = λ h. false≢true (ap (λ s. same s RightBrace) h.closing);
 }

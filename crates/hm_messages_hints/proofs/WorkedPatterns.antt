@@ -1,5 +1,5 @@
 -- The worked patterns and guards.
-use Rattle.std.proofs.Common.{arith, ◌≡◌, ◌<◌, ◌≤◌, ◌+◌, ℕ, zero, suc, [], ◌∷◌, All, drop, get_or, true, false, refl, ap, subst, sym}
+use Rattle.std.proofs.Common.{arith, ◌≡◌, ◌<◌, ◌+◌, ℕ, zero, suc, [], ◌∷◌, All, drop, get_or, true, false, refl, ap, subst, sym}
 use Rattle.std.proofs.lemmas.Bool.{false≢true}
 use Rattle.hm_parse_grammar.specs.Symbols.{same}
 use Rattle.hm_parse_grammar.specs.declared.symbol.Symbol.{Symbol}
@@ -7,7 +7,7 @@ use Rattle.hm_parse_grammar.specs.declared.symbol.Symbol.TheVariants.{Backslash,
 use Rattle.hm_lex.specs.Bytes.{class_of}
 use Rattle.hm_messages_hints.specs.LexemeHints.{goes_on}
 use Rattle.hm_messages_hints.specs.SyntaxHints.{IsInPatterns, at, begins_declaration, begins_patterns, begins_right, begins_type, ends_guard, is_of_pattern, is_of_type}
-use Rattle.hm_messages_hints.specs.Worked.{DeclarationRow, GuardRow, PatternsRow, PlaceRow, RightRow, StringRow, ThenRow, defined, guarded, guarded_before}
+use Rattle.hm_messages_hints.specs.Worked.{DeclarationRow, GuardRow, PatternsRow, PlaceRow, RightRow, StringRow, ThenRow, defined, guarded_before}
 
 no_then : (k : ℕ) (d : Symbol) → k < 1 → same (get_or (Var ∷ []) k d) Then ≡ false
 no_then zero d l = refl

@@ -9,7 +9,7 @@ use Rattle.hm_parse_grammar.specs.declared.symbol.Symbol.TheVariants.{End}
 use Rattle.hm_messages_hints.specs.Repairs.{IsRepair}
 use Rattle.hm_messages_hints.specs.SyntaxHints.{IsSyntaxHint}
 use Rattle.hm_messages_hints.specs.declared.syntax_hints.SyntaxHint.{SyntaxHint}
-use Rattle.hm_messages_hints.specs.declared.syntax_hints.SyntaxHint.TheVariants.{NoHeader, ModuleEnded, NoBrace, LeftOut, Comprehension, Range, SmallName, AppliedVariable, Repaired, WherePart, NoElse, NotClosed, InPattern, Record, Update, NoAlternative, Unexpected, AppliedName, TypedPattern, ConsPattern, GuardAfterEquals, GuardArrow, ConstructorComma, NumberComma, WhereAfterSemicolon, NoThen, NewtypeArguments, LateQualified, AtSign, GuardAfterSemicolon, LateImport, ExtraComma}
+use Rattle.hm_messages_hints.specs.declared.syntax_hints.SyntaxHint.TheVariants.{NoHeader, ModuleEnded, NoBrace, LeftOut, Comprehension, Range, SmallName, AppliedVariable, Repaired, WherePart, NoElse, NotClosed, InPattern, Record, Update, NoAlternative, Unexpected, AppliedName, TypedPattern, ConsPattern, GuardAfterEquals, GuardArrow, ConstructorComma, NumberComma, WhereAfterSemicolon, NoThen, NewtypeArguments, LateQualified, AtSign, GuardAfterSemicolon, LateImport, ExtraComma, ElseGuard, Hole, EqualsInCondition, NoIn, SecondWhere, BraceGroup, GuardEquals}
 use Rattle.hm_messages_outline.specs.Tokens.{symbol_in, IsAt}
 
 -- the text of the token with this number, and its symbol. The end of the source comes after the last token
@@ -57,6 +57,13 @@ about AtSign k = k
 about GuardAfterSemicolon k = k
 about LateImport k = k
 about ExtraComma k = k
+about ElseGuard k = k
+about Hole k = k
+about (EqualsInCondition j) k = k
+about (NoIn j) k = k
+about (SecondWhere j) k = k
+about BraceGroup k = k
+about (GuardEquals j) k = k
 
 -- the hint holds at the token with this number: a change repairs the tokens, any other hint is a fact about the tokens up to this one
 abbrev pub IsSo : List ℕ → List Token → ℕ → SyntaxHint → Type 0

@@ -4,13 +4,13 @@ use Rattle.hm_parse_grammar.specs.Reading.Patterns.{begins_apat}
 use Rattle.hm_parse_grammar.specs.Reading.Types.{begins_atype}
 use Rattle.hm_parse_grammar.specs.Symbols.{same}
 use Rattle.hm_parse_grammar.specs.declared.symbol.Symbol.{Symbol}
-use Rattle.hm_parse_grammar.specs.declared.symbol.Symbol.TheVariants.{Module, Import, Data, Newtype, TypeWord, OfType, Open, OpenSquare, LeftBrace, Close, CloseSquare, RightBrace, Semicolon, Comma, Where, Let, Of, If, Then, Else, Equals, Backslash, Bar, Arrow, Dots, Colon, At, Tilde, Wild, Var, Con, QCon, Integer, Character, Text, End}
+use Rattle.hm_parse_grammar.specs.declared.symbol.Symbol.TheVariants.{Module, Import, Data, Newtype, TypeWord, OfType, Open, OpenSquare, LeftBrace, Close, CloseSquare, RightBrace, Semicolon, Comma, Where, Let, In, Of, If, Then, Else, Equals, Backslash, Bar, Arrow, Dots, Colon, At, Tilde, Wild, Var, Con, QCon, Integer, Character, Text, End}
 use Rattle.hm_messages_outline.specs.Brackets.{IsInnermost, IsNoneOpen}
 use Rattle.hm_messages_hints.specs.Features.{feature_of}
 use Rattle.hm_messages_hints.specs.declared.features.Feature.{Feature}
 use Rattle.hm_messages_hints.specs.declared.features.Feature.TheVariants.{Class, Instance, Deriving, Default, Do, Fixity, Context, Generator}
 use Rattle.hm_messages_hints.specs.declared.syntax_hints.SyntaxHint.{SyntaxHint}
-use Rattle.hm_messages_hints.specs.declared.syntax_hints.SyntaxHint.TheVariants.{NoHeader, ModuleEnded, NoBrace, LeftOut, Comprehension, Range, SmallName, AppliedVariable, Repaired, WherePart, NoElse, NotClosed, InPattern, Record, Update, NoAlternative, Unexpected, AppliedName, TypedPattern, ConsPattern, GuardAfterEquals, GuardArrow, ConstructorComma, NumberComma, WhereAfterSemicolon, NoThen, NewtypeArguments, LateQualified, AtSign, GuardAfterSemicolon, LateImport, ExtraComma}
+use Rattle.hm_messages_hints.specs.declared.syntax_hints.SyntaxHint.TheVariants.{NoHeader, ModuleEnded, NoBrace, LeftOut, Comprehension, Range, SmallName, AppliedVariable, Repaired, WherePart, NoElse, NotClosed, InPattern, Record, Update, NoAlternative, Unexpected, AppliedName, TypedPattern, ConsPattern, GuardAfterEquals, GuardArrow, ConstructorComma, NumberComma, WhereAfterSemicolon, NoThen, NewtypeArguments, LateQualified, AtSign, GuardAfterSemicolon, LateImport, ExtraComma, ElseGuard, Hole, EqualsInCondition, NoIn, SecondWhere, BraceGroup, GuardEquals}
 
 abbrev pub wants_brace : Symbol → Bool
 wants_brace Where = true
@@ -100,13 +100,15 @@ ends_pattern Close = true
 ends_pattern CloseSquare = true
 ends_pattern _ = false
 
--- these end a guard, or what it is in
+-- these end a guard, or what it is in. After the last two another mark comes first
 abbrev pub ends_guard : Symbol → Bool
 ends_guard Equals = true
 ends_guard Arrow = true
 ends_guard Semicolon = true
 ends_guard LeftBrace = true
 ends_guard RightBrace = true
+ends_guard If = true
+ends_guard Backslash = true
 ends_guard _ = false
 
 -- the symbols that types and the constructors of a declaration can have in them
@@ -143,6 +145,16 @@ is_of_pattern At = true
 is_of_pattern Tilde = true
 is_of_pattern _ = false
 
+-- an expression follows these
+abbrev pub begins_expression : Symbol → Bool
+begins_expression Equals = true
+begins_expression Arrow = true
+begins_expression If = true
+begins_expression Then = true
+begins_expression Else = true
+begins_expression In = true
+begins_expression _ = false
+
 -- a constructor follows these in a declaration
 abbrev pub takes_constructor : Symbol → Bool
 takes_constructor Equals = true
@@ -151,6 +163,9 @@ takes_constructor _ = false
 
 abbrev pub at : List Symbol → ℕ → Symbol
 at symbols k = slice_index_or symbols k End
+
+abbrev pub last_of : List Symbol → Symbol
+last_of symbols = at symbols (length symbols - 1)
 
 -- the symbols end with a part of a type, which follows a symbol of this kind
 pub record IsInType (begins : Symbol → Bool) (symbols : List Symbol) : Type 0 where
@@ -180,7 +195,7 @@ pub record IsInPatterns (symbols : List Symbol) : Type 0 where
   pub begun : begins_patterns (at symbols start) ≡ true
   pub rest : All (λ s. is_of_pattern s ≡ true) (drop (start + 1) symbols)
 
--- the symbols end with a guard, or a part of one, after the patterns of a declaration and after the bracket with this number
+-- the symbols end with a guard, or a part of one, after the patterns of a declaration or of an alternative and after the bracket with this number
 pub record IsInGuard (symbols : List Symbol) (bracket : ℕ) : Type 0 where
   pub bar : ℕ
   pub behind : bracket < bar
@@ -199,6 +214,13 @@ pub record HasNoElse (symbols : List Symbol) (k : ℕ) : Type 0 where
   pub begun : at symbols k ≡ If
   pub rest : All (λ s. same s Else ≡ false) (drop (k + 1) symbols)
 
+-- the symbols end with a `}`. It closes the `{` with this number, which follows this word
+pub record ClosesAfter (word : Symbol) (symbols : List Symbol) (k : ℕ) : Type 0 where
+  pub closing : last_of symbols ≡ RightBrace
+  pub closed : IsInnermost (take (length symbols - 1) symbols) k
+  pub opened : at symbols k ≡ LeftBrace
+  pub after : at symbols (k - 1) ≡ word
+
 -- the symbols end with a part of a pattern, which begins an alternative within the bracket with this number
 pub record IsInAlternative (symbols : List Symbol) (bracket : ℕ) : Type 0 where
   pub of_case : at symbols (bracket - 1) ≡ Of
@@ -207,9 +229,6 @@ pub record IsInAlternative (symbols : List Symbol) (bracket : ℕ) : Type 0 wher
   pub within : bracket ≤ start
   pub begun : (start ≡ bracket) ⊎ (at symbols start ≡ Semicolon)
   pub rest : All (λ s. is_of_pattern s ≡ true) (drop (start + 1) symbols)
-
-abbrev pub last_of : List Symbol → Symbol
-last_of symbols = at symbols (length symbols - 1)
 
 -- the part of Haskell can begin after these symbols. A context can only be in a type (Report, section 4.1.4)
 abbrev pub IsPlaceOf : Feature → List Symbol → Type 0
@@ -256,3 +275,10 @@ IsSyntaxHint before this text AtSign = this ≡ At
 IsSyntaxHint before this text GuardAfterSemicolon = (last_of before ≡ Semicolon) × (this ≡ Bar)
 IsSyntaxHint before this text LateImport = (last_of before ≡ Semicolon) × (this ≡ Import) × HasDeclaration before
 IsSyntaxHint before this text ExtraComma = (last_of before ≡ Comma) × ((this ≡ Close) ⊎ (this ≡ CloseSquare))
+IsSyntaxHint before this text ElseGuard = (last_of before ≡ Bar) × (this ≡ Else)
+IsSyntaxHint before this text Hole = this ≡ Wild
+IsSyntaxHint before this text (EqualsInCondition k) = (bracket : ℕ) × IsInnermost before bracket × (bracket < k) × HasNoThen before k × (this ≡ Equals)
+IsSyntaxHint before this text (NoIn k) = ClosesAfter Let before k × (same this In ≡ false)
+IsSyntaxHint before this text (SecondWhere k) = ClosesAfter Where before k × (outer : ℕ) × IsInnermost before outer × (this ≡ Where)
+IsSyntaxHint before this text BraceGroup = (begins_expression (last_of before) ≡ true) × (this ≡ LeftBrace)
+IsSyntaxHint before this text (GuardEquals k) = IsInnermost before k × (at before k ≡ LeftBrace) × (same (at before (k - 1)) Of ≡ true) × IsInGuard before k × (this ≡ Equals)

@@ -5,7 +5,7 @@ use Rattle.hm_messages_hints.specs.Marks.{mark_text}
 use Rattle.hm_messages_hints.specs.declared.change.TokenChange.{TokenChange}
 use Rattle.hm_messages_hints.specs.declared.change.TokenChange.TheVariants.{Insert, Replace, Remove}
 use Rattle.hm_messages_hints.specs.declared.syntax_hints.SyntaxHint.{SyntaxHint}
-use Rattle.hm_messages_hints.specs.declared.syntax_hints.SyntaxHint.TheVariants.{NoHeader, ModuleEnded, NoBrace, LeftOut, Comprehension, Range, SmallName, AppliedVariable, Repaired, WherePart, NoElse, NotClosed, InPattern, Record, Update, NoAlternative, Unexpected, AppliedName, TypedPattern, ConsPattern, GuardAfterEquals, GuardArrow, ConstructorComma, NumberComma, WhereAfterSemicolon, NoThen, NewtypeArguments, LateQualified, AtSign, GuardAfterSemicolon, LateImport, ExtraComma}
+use Rattle.hm_messages_hints.specs.declared.syntax_hints.SyntaxHint.TheVariants.{NoHeader, ModuleEnded, NoBrace, LeftOut, Comprehension, Range, SmallName, AppliedVariable, Repaired, WherePart, NoElse, NotClosed, InPattern, Record, Update, NoAlternative, Unexpected, AppliedName, TypedPattern, ConsPattern, GuardAfterEquals, GuardArrow, ConstructorComma, NumberComma, WhereAfterSemicolon, NoThen, NewtypeArguments, LateQualified, AtSign, GuardAfterSemicolon, LateImport, ExtraComma, ElseGuard, Hole, EqualsInCondition, NoIn, SecondWhere, BraceGroup, GuardEquals}
 
 -- the text of a token between quotes. The end of a source has no text
 abbrev pub quoted : List ℕ → List ℕ
@@ -51,6 +51,13 @@ syntax_text AtSign text = codes "'@' can only follow a variable in a pattern"
 syntax_text GuardAfterSemicolon text = codes "unexpected ';' before '|'"
 syntax_text LateImport text = codes "an import can't follow a declaration"
 syntax_text ExtraComma text = codes "unexpected ',' before " ++ quoted text
+syntax_text ElseGuard text = codes "a guard can't be 'else'"
+syntax_text Hole text = codes "'_' can only be in a pattern"
+syntax_text (EqualsInCondition k) text = codes "unexpected '=' in the condition of an 'if'"
+syntax_text (NoIn k) text = codes "a 'let' before " ++ quoted text ++ codes " has no 'in'"
+syntax_text (SecondWhere k) text = codes "a second 'where' after a definition"
+syntax_text BraceGroup text = codes "an expression can't begin with '{'"
+syntax_text (GuardEquals k) text = codes "expected '->' after the guard, found '='"
 
 abbrev pub change_help : TokenChange → List ℕ
 change_help (Insert m) = codes "With it this can be read.\n"
@@ -91,3 +98,10 @@ syntax_help AtSign = codes "A pattern `x@(y : ys)` is left of the `=` or the `->
 syntax_help GuardAfterSemicolon = codes "A guard belongs to what is before it, so no `;` is between them.\n"
 syntax_help LateImport = codes "The imports of a module come before all its other declarations.\n"
 syntax_help ExtraComma = codes "A comma is between two parts, and none follows the last one.\n"
+syntax_help ElseGuard = codes "Write `otherwise`: `f x | c = y | otherwise = z`.\n"
+syntax_help Hole = codes "Write `undefined` for an expression that is missing.\n"
+syntax_help (EqualsInCondition k) = codes "Compare by patterns, or take the comparison as an argument.\n"
+syntax_help (NoIn k) = codes "Each `let` has one: `let { .. } in x`.\n"
+syntax_help (SecondWhere k) = codes "A definition has one `where`, with all its local definitions between the braces.\n"
+syntax_help BraceGroup = codes "Braces are around definitions and alternatives. Write parentheses around an expression.\n"
+syntax_help (GuardEquals k) = codes "Only a definition has `=` after its guard, and an alternative of a `case` has `->`.\n"

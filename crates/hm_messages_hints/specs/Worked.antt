@@ -1,9 +1,9 @@
--- Worked examples: symbols that end within a type, after an `if` without `then` or `else`, and within patterns, guards and alternatives.
+-- Worked examples: symbols that end within a type, after the definitions of a `let`, after an `if` without `then` or `else`, and within patterns, guards and alternatives.
 use Rattle.std.specs.Prelude.{◌≡◌, true, false, List, [], ◌∷◌}
 use Rattle.hm_parse_grammar.specs.declared.symbol.Symbol.{Symbol}
-use Rattle.hm_parse_grammar.specs.declared.symbol.Symbol.TheVariants.{Backslash, Bar, Data, Import, OfType, If, Then, Else, Of, Open, LeftBrace, Semicolon, Equals, Arrow, Var, Con, Integer}
+use Rattle.hm_parse_grammar.specs.declared.symbol.Symbol.TheVariants.{Backslash, Bar, Data, Import, OfType, If, Then, Else, Of, Open, Let, LeftBrace, RightBrace, Semicolon, Where, Equals, Arrow, Var, Con, Integer}
 use Rattle.hm_messages_hints.specs.LexemeHints.{is_left_open}
-use Rattle.hm_messages_hints.specs.SyntaxHints.{HasDeclaration, HasNoElse, HasNoThen, IsInAlternative, IsInGuard, IsInPatterns, IsInType, IsPlaceOf, IsRightOf, begins_type}
+use Rattle.hm_messages_hints.specs.SyntaxHints.{ClosesAfter, HasDeclaration, HasNoElse, HasNoThen, IsInAlternative, IsInGuard, IsInPatterns, IsInType, IsPlaceOf, IsRightOf, begins_type}
 use Rattle.hm_messages_hints.specs.declared.features.Feature.TheVariants.{Context}
 
 -- `data T = C a`
@@ -70,6 +70,16 @@ pub record RightRow : Type 0 where
 pub record DeclarationRow : Type 0 where
   pub after : HasDeclaration (LeftBrace ∷ Var ∷ Equals ∷ Var ∷ Semicolon ∷ [])
   pub imports : ¬ (HasDeclaration (LeftBrace ∷ Import ∷ Con ∷ Semicolon ∷ []))
+
+-- `let { }`
+abbrev pub bound : List Symbol
+bound = Let ∷ LeftBrace ∷ RightBrace ∷ []
+
+-- its `}` closes the `{` of a `let`, which is no `where`. In `let {` no brace is closed
+pub record ClosedRow : Type 0 where
+  pub closed : ClosesAfter Let bound 1
+  pub other_word : ¬ (ClosesAfter Where bound 1)
+  pub unclosed : ¬ (ClosesAfter Let (Let ∷ LeftBrace ∷ []) 1)
 
 -- a context can be after `x :: T a`, and not after a lambda's `\x`
 pub record PlaceRow : Type 0 where

@@ -66,7 +66,7 @@ fn begins_patterns(symbol: Symbol) -> bool
     }
 }
 
-/// Returns whether this ends a guard, or what the guard is in.
+/// Returns whether this ends a guard, or what the guard is in, or another mark follows it before the end of the guard.
 fn ends_guard(symbol: Symbol) -> bool
     ensures { result ≡ ends_guard symbol }
 {
@@ -75,7 +75,9 @@ fn ends_guard(symbol: Symbol) -> bool
         | Symbol::Arrow
         | Symbol::Semicolon
         | Symbol::LeftBrace
-        | Symbol::RightBrace => true,
+        | Symbol::RightBrace
+        | Symbol::If
+        | Symbol::Backslash => true,
         _ => false,
     }
 }

@@ -1,12 +1,13 @@
 //! Worked examples: a function with an empty body, whose contract has the facts.
-ghost use Rattle.hm_messages_hints.specs.Worked.{AlternativeRow, DeclarationRow, ElseRow, GuardRow, PatternsRow, PlaceRow, RightRow, StringRow, ThenRow, TypeRow};
+ghost use Rattle.hm_messages_hints.specs.Worked.{AlternativeRow, ClosedRow, DeclarationRow, ElseRow, GuardRow, PatternsRow, PlaceRow, RightRow, StringRow, ThenRow, TypeRow};
 
-/// Symbols that end within a type, after an `if` without `else`, and within an alternative.
-#[tactic(auto, using(crate::proofs::WorkedContexts::worked_types, crate::proofs::WorkedContexts::worked_elses, crate::proofs::WorkedContexts::worked_alternatives))]
+/// Symbols that end within a type, after an `if` without `else`, within an alternative, and after the definitions of a `let`.
+#[tactic(auto, using(crate::proofs::WorkedContexts::worked_types, crate::proofs::WorkedContexts::worked_elses, crate::proofs::WorkedContexts::worked_alternatives, crate::proofs::WorkedContexts::worked_closed))]
 pub fn worked_contexts()
     ensures types { TypeRow }
     ensures elses { ElseRow }
     ensures alternatives { AlternativeRow }
+    ensures closed { ClosedRow }
 {}
 
 /// Symbols that end within patterns or a guard, after an `if` without `then`, and where a context can be.

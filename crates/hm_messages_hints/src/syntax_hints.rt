@@ -4,7 +4,7 @@ ghost use Rattle.hm_parse_grammar.specs.declared.symbol.Symbol.TheVariants.{Bar,
 ghost use Rattle.hm_parse_grammar.specs.Symbols.{same};
 ghost use Rattle.hm_parse_grammar.specs.Reading.Types.{begins_atype};
 ghost use Rattle.hm_messages_outline.specs.Brackets.{IsInnermost};
-ghost use Rattle.hm_messages_hints.specs.SyntaxHints.{IsPlaceOf, IsInPatterns, IsSyntaxHint, ends, ends_operand, ends_pattern, is_partner, takes_capital, takes_constructor, wants_brace};
+ghost use Rattle.hm_messages_hints.specs.SyntaxHints.{ClosesAfter, IsPlaceOf, IsInPatterns, IsSyntaxHint, begins_expression, ends, ends_operand, ends_pattern, is_partner, takes_capital, takes_constructor, wants_brace};
 
 use crate::change::Repair;
 use crate::contexts::{
@@ -82,6 +82,20 @@ pub enum SyntaxHint {
     LateImport,
     /// It is `)` or `]` after `,`.
     ExtraComma,
+    /// It is `else` after `|`.
+    ElseGuard,
+    /// It is `_`.
+    Hole,
+    /// It is `=`, and no `then` follows the `if` with this number.
+    EqualsInCondition(usize),
+    /// It isn't `in`, and is right after the `}` of the `{` with this number, which follows `let`.
+    NoIn(usize),
+    /// It is `where` right after the `}` of the `{` with this number, which follows another `where`.
+    SecondWhere(usize),
+    /// It is `{` where an expression begins.
+    BraceGroup,
+    /// It is `=` after a guard of an alternative, directly within the `{` with this number, which follows `of`.
+    GuardEquals(usize),
 }
 
 /// A hint at a fault of syntax, and the text of the token that it is about. The text is empty at the end of the source.
@@ -301,6 +315,9 @@ fn declaration_hint(before: &[Symbol], at: usize, here: Symbol, text: &[u8]) -> 
     if here.is(Symbol::Arrow) && !follows_of(before, at) && guard_begins(before, at) {
         return Some(SyntaxHint::GuardArrow(at));
     }
+    if here.is(Symbol::Equals) && follows_of(before, at) && guard_begins(before, at) {
+        return Some(SyntaxHint::GuardEquals(at));
+    }
     None
 }
 
@@ -328,6 +345,110 @@ fn argument_hint(
     None
 }
 
+/// Returns whether an expression follows this.
+fn begins_expression(symbol: Symbol) -> bool
+    ensures { result ≡ begins_expression symbol }
+{
+    match symbol {
+        Symbol::Equals | Symbol::Arrow | Symbol::If | Symbol::Then | Symbol::Else | Symbol::In =>
+            true,
+        _ => false,
+    }
+}
+
+/// Returns whether the bracket with this number is a `{` after this word.
+fn is_brace_after(before: &[Symbol], at: usize, word: Symbol) -> bool
+    ensures brace { result ≡ true → slice_index_or before.now at End ≡ LeftBrace }
+    ensures word { result ≡ true → slice_index_or before.now (at - 1) End ≡ word }
+{
+    if at == 0 || at >= before.len() {
+        return false;
+    }
+    if !before[at].is(Symbol::LeftBrace) {
+        return false;
+    }
+    before[at - 1].is(word)
+}
+
+/// Returns the number of the `{` that the last of these closes, if it closes one that follows this word.
+fn closed_after(before: &[Symbol], last: Symbol, word: Symbol) -> Option<usize>
+    requires { last ≡ slice_index_or before.now (length before.now - 1) End }
+    ensures { IfSome result (ClosesAfter word before.now) }
+{
+    if before.is_empty() {
+        return None;
+    }
+    if !last.is(Symbol::RightBrace) {
+        return None;
+    }
+    let at = open_bracket(&before[..before.len() - 1])?;
+    if !is_brace_after(before, at, word) {
+        return None;
+    }
+    Some(at)
+}
+
+/// Returns a fact about what is right after the definitions of a `let` or a `where`.
+fn closed_hint(before: &[Symbol], last: Symbol, here: Symbol, text: &[u8]) -> Option<SyntaxHint>
+    requires { last ≡ slice_index_or before.now (length before.now - 1) End }
+    ensures { IfSome result (IsSyntaxHint before.now here text.now) }
+{
+    if !here.is(Symbol::In) {
+        match closed_after(before, last, Symbol::Let) {
+            Some(at) => return Some(SyntaxHint::NoIn(at)),
+            None => {}
+        }
+    }
+    if !here.is(Symbol::Where) {
+        return None;
+    }
+    match open_bracket(before) {
+        Some(_) => {}
+        None => return None,
+    }
+    match closed_after(before, last, Symbol::Where) {
+        Some(at) => Some(SyntaxHint::SecondWhere(at)),
+        None => None,
+    }
+}
+
+/// Returns a fact about a mark where an expression is expected.
+fn expression_hint(before: &[Symbol], last: Symbol, here: Symbol, text: &[u8]) -> Option<SyntaxHint>
+    requires { last ≡ slice_index_or before.now (length before.now - 1) End }
+    ensures { IfSome result (IsSyntaxHint before.now here text.now) }
+{
+    if last.is(Symbol::Bar) && here.is(Symbol::Else) {
+        return Some(SyntaxHint::ElseGuard);
+    }
+    if here.is(Symbol::Wild) {
+        return Some(SyntaxHint::Hole);
+    }
+    if begins_expression(last) && here.is(Symbol::LeftBrace) && !constructors_begin(before) {
+        return Some(SyntaxHint::BraceGroup);
+    }
+    None
+}
+
+/// Returns a fact about a `=` in the condition of an `if`, within the open bracket with this number.
+fn condition_hint(
+    before: &[Symbol],
+    bracket: usize,
+    here: Symbol,
+    text: &[u8],
+) -> Option<SyntaxHint>
+    requires { IsInnermost before.now bracket }
+    ensures { IfSome result (IsSyntaxHint before.now here text.now) }
+{
+    if !here.is(Symbol::Equals) {
+        return None;
+    }
+    let at = without_then(before)?;
+    if at <= bracket {
+        return None;
+    }
+    Some(SyntaxHint::EqualsInCondition(at))
+}
+
 /// Returns the hint within an open bracket that doesn't need to be closed first.
 fn complete_hint(before: &[Symbol], bracket: usize, here: Symbol, text: &[u8]) -> SyntaxHint
     requires { IsInnermost before.now bracket }
@@ -337,6 +458,10 @@ fn complete_hint(before: &[Symbol], bracket: usize, here: Symbol, text: &[u8]) -
         if let Some(at) = without_else(before, bracket) {
             return SyntaxHint::NoElse(at);
         }
+    }
+    match condition_hint(before, bracket, here, text) {
+        Some(hint) => return hint,
+        None => {}
     }
     if alternative_begins(before, bracket) {
         return SyntaxHint::InPattern(bracket);
@@ -503,6 +628,14 @@ fn near_hint(before: &[Symbol], last: Symbol, here: Symbol, text: &[u8]) -> Opti
         Some(hint) => return Some(hint),
         None => {}
     }
+    match closed_hint(before, last, here, text) {
+        Some(hint) => return Some(hint),
+        None => {}
+    }
+    match expression_hint(before, last, here, text) {
+        Some(hint) => return Some(hint),
+        None => {}
+    }
     match inner_hint(before, last, here, text) {
         Some(hint) => return Some(hint),
         None => {}
@@ -566,6 +699,10 @@ impl SyntaxHint {
                 | SyntaxHint::WhereAfterSemicolon
                 | SyntaxHint::NoThen(_)
                 | SyntaxHint::NewtypeArguments(_)
+                | SyntaxHint::Hole
+                | SyntaxHint::EqualsInCondition(_)
+                | SyntaxHint::NoIn(_)
+                | SyntaxHint::BraceGroup
         )
     }
 }

@@ -128,6 +128,22 @@ pub fn syntax_text(alloc: Global, hint: SyntaxHint, text: &str) -> Result<String
         SyntaxHint::GuardAfterSemicolon => String::from_str(alloc, "unexpected ';' before '|'"),
         SyntaxHint::LateImport => String::from_str(alloc, "an import can't follow a declaration"),
         SyntaxHint::ExtraComma => around(alloc, "unexpected ',' before ", text, ""),
+        SyntaxHint::ElseGuard => String::from_str(alloc, "a guard can't be 'else'"),
+        SyntaxHint::Hole => String::from_str(alloc, "'_' can only be in a pattern"),
+        SyntaxHint::EqualsInCondition(_) => String::from_str(
+            alloc,
+            "unexpected '=' in the condition of an 'if'",
+        ),
+        SyntaxHint::NoIn(_) => around(alloc, "a 'let' before ", text, " has no 'in'"),
+        SyntaxHint::SecondWhere(_) => String::from_str(
+            alloc,
+            "a second 'where' after a definition",
+        ),
+        SyntaxHint::BraceGroup => String::from_str(alloc, "an expression can't begin with '{'"),
+        SyntaxHint::GuardEquals(_) => String::from_str(
+            alloc,
+            "expected '->' after the guard, found '='",
+        ),
     }
 }
 
@@ -194,5 +210,16 @@ pub fn syntax_help(hint: SyntaxHint) -> &'static str
         SyntaxHint::LateImport =>
             "The imports of a module come before all its other declarations.\n",
         SyntaxHint::ExtraComma => "A comma is between two parts, and none follows the last one.\n",
+        SyntaxHint::ElseGuard => "Write `otherwise`: `f x | c = y | otherwise = z`.\n",
+        SyntaxHint::Hole => "Write `undefined` for an expression that is missing.\n",
+        SyntaxHint::EqualsInCondition(_) =>
+            "Compare by patterns, or take the comparison as an argument.\n",
+        SyntaxHint::NoIn(_) => "Each `let` has one: `let { .. } in x`.\n",
+        SyntaxHint::SecondWhere(_) =>
+            "A definition has one `where`, with all its local definitions between the braces.\n",
+        SyntaxHint::BraceGroup =>
+            "Braces are around definitions and alternatives. Write parentheses around an expression.\n",
+        SyntaxHint::GuardEquals(_) =>
+            "Only a definition has `=` after its guard, and an alternative of a `case` has `->`.\n",
     }
 }

@@ -122,7 +122,13 @@ fn says_more(fact: SyntaxHint, number: usize, repair: Repair) -> bool {
         | SyntaxHint::InPattern(_)
         | SyntaxHint::ConstructorComma(_)
         | SyntaxHint::NumberComma => change == TokenChange::Remove,
-        SyntaxHint::TypedPattern | SyntaxHint::NewtypeArguments(_) => !puts_in(change),
+        SyntaxHint::TypedPattern
+        | SyntaxHint::NewtypeArguments(_)
+        | SyntaxHint::NoElse(_)
+        | SyntaxHint::BraceGroup => !puts_in(change),
+        SyntaxHint::EqualsInCondition(_) => change == TokenChange::Remove,
+        SyntaxHint::NoIn(_) => change != TokenChange::Insert(Mark::In),
+        SyntaxHint::Hole => true,
         _ => false,
     }
 }

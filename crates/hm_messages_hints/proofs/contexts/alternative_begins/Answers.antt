@@ -1,4 +1,4 @@
-use Rattle.std.proofs.Common.{rules, ◌≡◌, ◌+◌, ◌-◌, ◌<◌, ◌≤◌, ℕ, length, true}
+use Rattle.std.proofs.Common.{rules, ◌≡◌, ◌+◌, ◌-◌, ◌≤◌, ℕ, length, true}
 use Rattle.hm_messages_hints.proofs.Rests.{in_rest}
 use Rattle.hm_messages_hints.specs.SyntaxHints.{is_of_pattern}
 use Rattle.hm_messages_hints.proofs.contexts.alternative_begins.Goals as goal
