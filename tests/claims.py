@@ -225,6 +225,8 @@ def put_around(text):
 
 def changed_part(source, message):
     """Returns the source with the change that a note of a part names, or None."""
+    if message["kind"] == "both":
+        return None
     start = offset(source, message["start"])
     end = UP_TO.search(message["text"])
     last = offset(source, {"line": int(end[1]), "byte": int(end[2])}) + 1 if end else None

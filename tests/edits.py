@@ -45,7 +45,7 @@ UNCHECKED = {
     "token left out": "unexpected '",
     "signature": "' without this signature",
 }
-SILENT = ("with another expression here", "with other expressions both here", "if this pattern is '_'", "with one more argument after this", "this has type '")
+SILENT = ("with another expression here", "with other expressions both here", "if this pattern ", "with one more argument after this", "this has type '")
 
 
 def edited(source, edits):

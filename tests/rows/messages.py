@@ -1041,6 +1041,41 @@ KINDS = [
         "                                                                                   ^\n"
         "errors: 1, skipped modules: 0\n",
     ),
+    # two patterns: the hole in place of the right side doesn't help
+    (
+        "module M where { f :: (a -> b) -> a -> b ; f [g] [x] = g x }",
+        1,
+        "M.hs:1:44: error: type error in 'f' [type]\n"
+        "No types fit this definition and those that refer back to it. All others that it refers to have types or signatures.\n"
+        "module M where { f :: (a -> b) -> a -> b ; f [g] [x] = g x }\n"
+        "                                           ^\n"
+        "M.hs:1:18: note: 'f' has type '[a -> b] -> [a] -> b' without this signature (up to 1:40)\n"
+        "module M where { f :: (a -> b) -> a -> b ; f [g] [x] = g x }\n"
+        "                 ^\n"
+        "M.hs:1:46: note: 'f' has a type if this pattern (up to 1:48) and the one at 1:50 are '_' and their variables have every type\n"
+        "module M where { f :: (a -> b) -> a -> b ; f [g] [x] = g x }\n"
+        "                                             ^\n"
+        "M.hs:1:50: note: 'f' has a type if this pattern (up to 1:52) and the one at 1:46 are '_' and their variables have every type\n"
+        "module M where { f :: (a -> b) -> a -> b ; f [g] [x] = g x }\n"
+        "                                                 ^\n"
+        "errors: 1, skipped modules: 0\n",
+    ),
+    # an expression and a pattern
+    (
+        "module M where { f :: [Bool] -> Bool -> Bool ; f [] y = not 'c' ; f (x : xs) [y] = x }",
+        1,
+        "M.hs:1:48: error: type error in 'f' [type]\n"
+        "No types fit this definition and those that refer back to it. All others that it refers to have types or signatures.\n"
+        "module M where { f :: [Bool] -> Bool -> Bool ; f [] y = not 'c' ; f (x : xs) [y] = x }\n"
+        "                                               ^\n"
+        "M.hs:1:61: note: 'f' has a type with another expression here (up to 1:63) if the pattern at 1:78 is '_' and its variables have every type\n"
+        "module M where { f :: [Bool] -> Bool -> Bool ; f [] y = not 'c' ; f (x : xs) [y] = x }\n"
+        "                                                            ^^^\n"
+        "M.hs:1:78: note: 'f' has a type if this pattern is '_' and its variables have every type (up to 1:80), with another expression at 1:61\n"
+        "module M where { f :: [Bool] -> Bool -> Bool ; f [] y = not 'c' ; f (x : xs) [y] = x }\n"
+        "                                                                             ^\n"
+        "errors: 1, skipped modules: 0\n",
+    ),
     # two wrong right sides may be a wrong signature, which is reported first
     (
         "module A where { f :: Bool -> Bool ; f True = 'a' ; f False = 'b' }",

@@ -3,13 +3,13 @@ ghost use Rattle.std.specs.Prelude.{◌≡◌, ◌⊎◌, IfOk, IfSome, [], map}
 ghost use Rattle.std.specs.Arc.{arc_value};
 ghost use Rattle.hm_names.specs.declared.faults.Kind.TheVariants.{Untyped};
 ghost use Rattle.hm_messages_joint.specs.Joints.{HasTypeWithBoth, NeedsBoth};
-ghost use Rattle.hm_build_messages.specs.Jointly.{AreJointNotes, IsJointNote};
+ghost use Rattle.hm_build_messages.specs.Jointly.{AreJointNotes, IsJointNote, beside_expression, beside_pattern, pair_of};
 
 use crate::parts::{NotedPart, part_message};
 use crate::view::FaultyModule;
-use hm_messages::{Topic, Way, reader_place};
+use hm_messages::{Pair, Topic, Way, reader_place};
 use hm_messages_changes::SourceRange;
-use hm_messages_joint::{Joint, joint_of};
+use hm_messages_joint::{Joint, JointPart, joint_of, range_of};
 use hm_messages_trials::{Effort, TypeFault};
 use hm_names::Kind;
 use std::alloc::{AllocError, Global};
@@ -37,27 +37,60 @@ fn joint_for(
     }
 }
 
+/// Returns what a part and an expression are.
+fn beside_expression(part: JointPart) -> Pair
+    ensures { result ≡ beside_expression part }
+{
+    match part {
+        JointPart::Expression(_) => Pair::Expressions,
+        JointPart::Pattern(_) => Pair::PatternBesideExpression,
+    }
+}
+
+/// Returns what a part and a pattern are.
+fn beside_pattern(part: JointPart) -> Pair
+    ensures { result ≡ beside_pattern part }
+{
+    match part {
+        JointPart::Expression(_) => Pair::ExpressionBesidePattern,
+        JointPart::Pattern(_) => Pair::Patterns,
+    }
+}
+
+/// Returns what a part and another one are.
+fn pair_of(part: JointPart, other: JointPart) -> Pair
+    ensures { result ≡ pair_of part other }
+{
+    match other {
+        JointPart::Expression(_) => beside_expression(part),
+        JointPart::Pattern(_) => beside_pattern(part),
+    }
+}
+
 /// Returns the note of one part, which names the place of the other one, or no text.
 fn part_note(
     alloc: Global,
     module: &FaultyModule<'_, '_>,
     definition: &str,
-    part: SourceRange,
-    other: SourceRange,
+    part: JointPart,
+    other: JointPart,
 ) -> Result<Vec<u8>, AllocError>
     ensures { IfOk result (λ text. (text.items ≡ []) ⊎ IsJointNote «module».now.paint «module».now.page.now.file.now «module».now.page.now.lines
         definition.now part other text.items) }
 {
-    let Some(end) = reader_place(module.page, part.end) else {
+    let pair = pair_of(part, other);
+    let here = range_of(part);
+    let there = range_of(other);
+    let Some(end) = reader_place(module.page, here.end) else {
         return Ok(Vec::new(alloc));
     };
-    let Some(start) = reader_place(module.page, other.start) else {
+    let Some(start) = reader_place(module.page, there.start) else {
         return Ok(Vec::new(alloc));
     };
     let noted = NotedPart {
-        part,
-        second: Some(other),
-        topic: Topic::Replaceable(definition, Way::Both(end, start)),
+        part: here,
+        second: Some(there),
+        topic: Topic::Replaceable(definition, Way::Both(pair, end, start)),
         changes: &[],
     };
     Ok(part_message(alloc, module, &noted)?)

@@ -20,6 +20,8 @@ use Rattle.hm_messages.specs.Notices.{notice_of}
 use Rattle.hm_messages.specs.Cuts.{shortened}
 use Rattle.hm_messages.specs.Subjects.{Subject, fault, replaceable, wrapped, mistyped, unsigned, faulty, skipped, too_long, lexeme, open_comment, too_deep, syntax_fault, too_many, twice, twin, missing, cycle, exhausted, limit, step, hidden}
 use Rattle.hm_messages.specs.declared.topic.Way.{Way}
+use Rattle.hm_messages.specs.declared.topic.Pair.{Pair}
+use Rattle.hm_messages.specs.declared.topic.Pair.TheVariants as pair
 use Rattle.hm_messages.specs.declared.topic.Way.TheVariants.{Expression, Pattern, Exchange, Removal, Sides, Patterns, Brackets, ListBrackets, Argument, Semicolon, Comma, Both}
 use Rattle.hm_messages.specs.declared.heading.Paint.{Paint}
 use Rattle.hm_messages.specs.declared.heading.Paint.TheVariants.{Plain, Coloured, Json}
@@ -160,9 +162,12 @@ argument_title x p = codes "'" ++ x ++ codes "' has a type with one more argumen
 abbrev pub mark_title : List ℕ → List ℕ → List ℕ
 mark_title x mark = codes "'" ++ x ++ codes "' has a type with '" ++ mark ++ codes "' before this"
 
--- what is said of an expression that ends at this place, and another one that begins at the second
-abbrev pub expressions_title : List ℕ → Place → Place → List ℕ
-expressions_title x p q = codes "'" ++ x ++ codes "' has a type with other expressions both here (up to " ++ decimal p.line ++ codes ":" ++ decimal p.column ++ codes ") and at " ++ decimal q.line ++ codes ":" ++ decimal q.column
+-- what is said of a part that ends at this place, and another one that begins at the second
+abbrev pub pair_title : List ℕ → Pair → Place → Place → List ℕ
+pair_title x pair.Expressions p q = codes "'" ++ x ++ codes "' has a type with other expressions both here (up to " ++ decimal p.line ++ codes ":" ++ decimal p.column ++ codes ") and at " ++ decimal q.line ++ codes ":" ++ decimal q.column
+pair_title x pair.ExpressionBesidePattern p q = codes "'" ++ x ++ codes "' has a type with another expression here (up to " ++ decimal p.line ++ codes ":" ++ decimal p.column ++ codes ") if the pattern at " ++ decimal q.line ++ codes ":" ++ decimal q.column ++ codes " is '_' and its variables have every type"
+pair_title x pair.PatternBesideExpression p q = codes "'" ++ x ++ codes "' has a type if this pattern is '_' and its variables have every type (up to " ++ decimal p.line ++ codes ":" ++ decimal p.column ++ codes "), with another expression at " ++ decimal q.line ++ codes ":" ++ decimal q.column
+pair_title x pair.Patterns p q = codes "'" ++ x ++ codes "' has a type if this pattern (up to " ++ decimal p.line ++ codes ":" ++ decimal p.column ++ codes ") and the one at " ++ decimal q.line ++ codes ":" ++ decimal q.column ++ codes " are '_' and their variables have every type"
 
 -- in which way a definition has a type
 abbrev pub replaceable_title : List ℕ → Way → List ℕ
@@ -177,7 +182,7 @@ replaceable_title x (ListBrackets p) = list_brackets_title x p
 replaceable_title x (Argument p) = argument_title x p
 replaceable_title x Semicolon = mark_title x (codes ";")
 replaceable_title x Comma = mark_title x (codes ",")
-replaceable_title x (Both p q) = expressions_title x p q
+replaceable_title x (Both w p q) = pair_title x w p q
 
 -- what is said of an expression that ends at this place and gets this constructor
 abbrev pub wrapped_title : List ℕ → List ℕ → Place → List ℕ

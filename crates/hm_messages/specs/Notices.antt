@@ -60,7 +60,7 @@ way_kind (way.ListBrackets p) = codes "brackets"
 way_kind (way.Argument p) = codes "argument"
 way_kind way.Semicolon = codes "mark"
 way_kind way.Comma = codes "mark"
-way_kind (way.Both p q) = codes "both"
+way_kind (way.Both pair p q) = codes "both"
 
 abbrev pub notice_of : Subject → Notice
 notice_of (fault k x known other) = fault_notice k x other

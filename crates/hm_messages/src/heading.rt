@@ -1,12 +1,12 @@
 //! The first line of a message, after the name of its file.
 ghost use Rattle.std.specs.Prelude.{◌≡◌, IfOk, string_bytes};
-ghost use Rattle.hm_messages.specs.Headings.{argument_title as argument_title_bytes, begin, brackets_title as brackets_title_bytes, end, exchange_title as exchange_title_bytes, expression_title as expression_title_bytes, expressions_title as expressions_title_bytes, heading as heading_bytes, list_brackets_title as list_brackets_title_bytes, mark_title as mark_title_bytes, mistyped_title as mistyped_title_bytes, pattern_title as pattern_title_bytes, patterns_title as patterns_title_bytes, removal_title as removal_title_bytes, replaceable_title as replaceable_title_bytes, sides_title as sides_title_bytes, tag as tag_bytes, title as title_bytes, token_place_text as token_place_bytes, unsigned_title as unsigned_title_bytes, wrapped_title as wrapped_title_bytes};
+ghost use Rattle.hm_messages.specs.Headings.{argument_title as argument_title_bytes, begin, brackets_title as brackets_title_bytes, end, exchange_title as exchange_title_bytes, expression_title as expression_title_bytes, heading as heading_bytes, list_brackets_title as list_brackets_title_bytes, mark_title as mark_title_bytes, mistyped_title as mistyped_title_bytes, pair_title as pair_title_bytes, pattern_title as pattern_title_bytes, patterns_title as patterns_title_bytes, removal_title as removal_title_bytes, replaceable_title as replaceable_title_bytes, sides_title as sides_title_bytes, tag as tag_bytes, title as title_bytes, token_place_text as token_place_bytes, unsigned_title as unsigned_title_bytes, wrapped_title as wrapped_title_bytes};
 ghost use Rattle.hm_messages.specs.Subjects.{subject_of, syntax_fault};
 
 use crate::cutting::shortened;
 use crate::fault_titles::{fault_title, hidden_title};
 use crate::notices::notice_of;
-use crate::topic::{BothTypes, PlacedAdvice, Topic, Way};
+use crate::topic::{BothTypes, Pair, PlacedAdvice, Topic, Way};
 use hm_lex::Place;
 use hm_messages_excerpts::shown;
 use hm_messages_hints::{lexeme_text, syntax_text};
@@ -162,23 +162,35 @@ fn mark_title(alloc: Global, name: &str, mark: &str) -> Result<String, AllocErro
     format!(in alloc; "'{name}' has a type with '{mark}' before this")
 }
 
-/// Returns the text about an expression that ends at this place, and another one that begins elsewhere.
-fn expressions_title(
+/// Returns the text about a part that ends at this place, and another one that begins elsewhere.
+fn pair_title(
     alloc: Global,
     name: &str,
+    pair: Pair,
     end: Place,
     other: Place,
 ) -> Result<String, AllocError>
-    ensures { IfOk result (λ text. string_bytes text ≡ expressions_title_bytes name.now end other) }
+    ensures { IfOk result (λ text. string_bytes text ≡ pair_title_bytes name.now pair end other) }
 {
     let Place { line, column } = end;
     let Place {
         line: other_line,
         column: other_column,
     } = other;
-    format!(in alloc;
-        "'{name}' has a type with other expressions both here (up to {line}:{column}) and at {other_line}:{other_column}"
-    )
+    match pair {
+        Pair::Expressions => format!(in alloc;
+            "'{name}' has a type with other expressions both here (up to {line}:{column}) and at {other_line}:{other_column}"
+        ),
+        Pair::ExpressionBesidePattern => format!(in alloc;
+            "'{name}' has a type with another expression here (up to {line}:{column}) if the pattern at {other_line}:{other_column} is '_' and its variables have every type"
+        ),
+        Pair::PatternBesideExpression => format!(in alloc;
+            "'{name}' has a type if this pattern is '_' and its variables have every type (up to {line}:{column}), with another expression at {other_line}:{other_column}"
+        ),
+        Pair::Patterns => format!(in alloc;
+            "'{name}' has a type if this pattern (up to {line}:{column}) and the one at {other_line}:{other_column} are '_' and their variables have every type"
+        ),
+    }
 }
 
 /// Returns the text about the change with which a definition has a type.
@@ -197,7 +209,7 @@ fn replaceable_title(alloc: Global, name: &str, way: Way) -> Result<String, Allo
         Way::Argument(end) => argument_title(alloc, name, end),
         Way::Semicolon => mark_title(alloc, name, ";"),
         Way::Comma => mark_title(alloc, name, ","),
-        Way::Both(end, other) => expressions_title(alloc, name, end, other),
+        Way::Both(pair, end, other) => pair_title(alloc, name, pair, end, other),
     }
 }
 

@@ -29,4 +29,4 @@ pub use crate::objects::Suggestion;
 pub use crate::pages::{Page, Pages};
 pub use crate::refusals::{Messages, refusal_messages, source_message};
 pub use crate::starts::{ModuleStart, SourceModules};
-pub use crate::topic::{BothTypes, Named, PlacedAdvice, Topic, Way};
+pub use crate::topic::{BothTypes, Named, Pair, PlacedAdvice, Topic, Way};

@@ -165,7 +165,7 @@ fn way_kind(way: Way) -> &'static str
         Way::Argument(_) => "argument",
         Way::Semicolon => "mark",
         Way::Comma => "mark",
-        Way::Both(_, _) => "both",
+        Way::Both(_, _, _) => "both",
     }
 }
 

@@ -24,6 +24,15 @@ pub struct PlacedAdvice<'a> {
     pub other: Option<Position>,
 }
 
+/// What two parts of a definition are: the one at which a note is, and the other one.
+#[derive(Clone, Copy)]
+pub enum Pair {
+    Expressions,
+    ExpressionBesidePattern,
+    PatternBesideExpression,
+    Patterns,
+}
+
 /// The change that gives a definition a type.
 #[derive(Clone, Copy)]
 pub enum Way {
@@ -49,8 +58,8 @@ pub enum Way {
     Semicolon,
     /// A `,` before the expression.
     Comma,
-    /// Other expressions, here up to the first place, and where one begins at the second.
-    Both(Place, Place),
+    /// Other parts, here up to the first place, and where one begins at the second.
+    Both(Pair, Place, Place),
 }
 
 /// The two types of a part of a definition.

@@ -1,5 +1,5 @@
 -- The worked holes and type faults.
-use Rattle.std.proofs.Common.{◌≡◌, ◌∙◌, ℕ, List, [], ◌∷◌, All, Contains, length, get_or, refl, sym, ap, subst, arith}
+use Rattle.std.proofs.Common.{◌≡◌, ℕ, List, [], ◌∷◌, All, Contains, length, get_or, refl, ap, subst, arith}
 use Rattle.std.specs.Prelude.{codes}
 use Rattle.std.proofs.lemmas.List.Elements.{All-contains, All-cons}
 use Rattle.hm_types.specs.Interfaces.{Exports as Interface}
@@ -14,15 +14,35 @@ use Rattle.hm_verdicts.specs.Worked.{module_A, module_B}
 use Rattle.hm_verdicts.specs.WorkedVerdicts.{fault_Z, interface_A}
 use Rattle.hm_verdicts.proofs.OneModuleVerdict.{one_module_verdict}
 use Rattle.hm_verdicts.proofs.WorkedModules.{faulty_B, good_A}
-use Rattle.hm_messages_trials.specs.TypedSources.{IsModuleIn}
 use Rattle.hm_messages_trials.proofs.WorkedHoles.{only_module}
-use Rattle.hm_messages_joint.specs.Joints.{HasFaultOf, IsFaultOf, IsUntypedIn}
-use Rattle.hm_messages_joint.specs.Worked.{BothRow, UntypedRow}
+use Rattle.hm_messages_changes.specs.Wildcards.{IsInside}
+use Rattle.hm_messages_changes.specs.declared.data.Frame.TheVariants.{Where}
+use Rattle.hm_messages_trials.specs.Worked.{part, span}
+use Rattle.hm_messages_joint.specs.Joints.{HasFaultOf, IsFaultOf, IsOpened, IsUntypedIn}
+use Rattle.hm_messages_joint.specs.Worked.{BothRow, UntypedRow, pattern}
+
+none : {X : Type 0} (P : X → Type 0) → All P []
+none P i d l = absurd (omega (arith, l))
+
+-- a hole isn't `_`
+no_hole : ¬ (IsOpened (codes "f [x] = x") (pattern 2 5) (codes "f (let { h = h } in h) = x"))
+no_hole p = let different : 40 ≡ 95 = ap (λ (l : List ℕ). get_or l 2 0) p.made_is in absurd (omega (arith, different))
 
 pub worked_both : BothRow
 worked_both = record {
+  argument = refl;
   arguments = refl;
   one_stays = λ e. absurd (omega (arith, ap length e));
+  pattern_opened = record {
+    at = 9;
+    after = omega arith;
+    within = omega arith;
+    frame = Where;
+    variables = span 3 4 ∷ [];
+    inside = All-cons (IsInside (part 2 5)) (span 3 4) [] (omega arith, omega arith, omega arith) (none (IsInside (part 2 5)));
+    made_is = refl;
+  };
+  no_hole = no_hole;
   apart = record {
     first_of = record { some = omega arith; within = omega arith; start_is = refl; end_is = refl };
     second_of = record { some = omega arith; within = omega arith; start_is = refl; end_is = refl };
@@ -55,9 +75,6 @@ of_good source definition h u = fault_in source (codes "A") [] definition module
 
 not_import : ¬ (NotImported ≡ Untyped)
 not_import e = cc
-
-none : {X : Type 0} (P : X → Type 0) → All P []
-none P i d l = absurd (omega (arith, l))
 
 not_untyped : (definition : List ℕ) → All (λ (f : Fault). ¬ (IsFaultOf definition f)) (fault_Z ∷ [])
 not_untyped definition = All-cons (λ (f : Fault). ¬ (IsFaultOf definition f)) fault_Z [] (λ h. not_import h.0) (none (λ (f : Fault). ¬ (IsFaultOf definition f)))

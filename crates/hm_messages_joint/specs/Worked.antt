@@ -1,4 +1,4 @@
--- Worked examples of two holes, and of sources in which a definition is a type fault.
+-- Worked examples of parts that are opened, and of sources in which a definition is a type fault.
 use Rattle.std.specs.Prelude.{◌≡◌, ℕ, List, [], ◌∷◌, Contains, codes}
 use Rattle.hm_types.specs.Interfaces.{Exports as Interface}
 use Rattle.hm_types.specs.StandardPrelude.{prelude_interface}
@@ -10,14 +10,27 @@ use Rattle.hm_names.specs.declared.faults.Kind.TheVariants.{Untyped}
 use Rattle.hm_verdicts.specs.ModuleVerdicts.{Faulty, IsVerdict}
 use Rattle.hm_verdicts.specs.Worked.{module_A, module_B}
 use Rattle.hm_messages_trials.specs.Worked.{part}
-use Rattle.hm_messages_joint.specs.Joints.{AreApart, IsUntypedIn, with_both}
+use Rattle.hm_messages_joint.specs.Joints.{AreApart, IsOpened, IsUntypedIn}
+use Rattle.hm_messages_joint.specs.declared.parts.JointPart.{JointPart}
+use Rattle.hm_messages_joint.specs.declared.parts.JointPart.TheVariants.{Expression, Pattern}
 
--- f x y with holes in place of its arguments, which are apart. With no bytes in place of y there is one hole more and y stays, and two times x isn't two parts
+-- an expression, and a pattern, from one byte to another
+abbrev pub expression : ℕ → ℕ → JointPart
+expression from to = Expression (part from to)
+
+abbrev pub pattern : ℕ → ℕ → JointPart
+pattern from to = Pattern (part from to)
+
+-- f x y with the hole in place of y, and then of x too. The arguments are apart, and two times x isn't two parts. With no bytes in place of y, y stays. Without its pattern [x],
+-- f has x in a where of its own; a pattern isn't a hole
 pub record BothRow : Type 0 where
-  pub arguments : with_both (codes "f x y") (part 2 3) (part 4 5) ≡ codes "f (let { h = h } in h) (let { h = h } in h)"
-  pub one_stays : ¬ (with_both (codes "f x y") (part 2 3) (part 4 4) ≡ codes "f (let { h = h } in h) (let { h = h } in h)")
-  pub apart : AreApart (codes "f x y") (part 2 3) (part 4 5)
-  pub same : ¬ (AreApart (codes "f x y") (part 2 3) (part 2 3))
+  pub argument : IsOpened (codes "f x y") (expression 4 5) (codes "f x (let { h = h } in h)")
+  pub arguments : IsOpened (codes "f x (let { h = h } in h)") (expression 2 3) (codes "f (let { h = h } in h) (let { h = h } in h)")
+  pub one_stays : ¬ (IsOpened (codes "f x y") (expression 4 4) (codes "f x (let { h = h } in h)"))
+  pub pattern_opened : IsOpened (codes "f [x] = x") (pattern 2 5) (codes "f _ = x where { x = (let { h = h } in h) ; }")
+  pub no_hole : ¬ (IsOpened (codes "f [x] = x") (pattern 2 5) (codes "f (let { h = h } in h) = x"))
+  pub apart : AreApart (codes "f x y") (expression 2 3) (expression 4 5)
+  pub same : ¬ (AreApart (codes "f x y") (expression 2 3) (expression 2 3))
 
 -- A definition with a type fault in the verdict of the only module of a source is one. The module A has only x = 'c' and is good, so no definition is one in a
 -- source of A alone. The module B exports a module that it doesn't import: a fault of another kind

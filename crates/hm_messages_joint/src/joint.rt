@@ -1,17 +1,18 @@
 //! Two parts of a definition that together are to blame.
 ghost use Rattle.std.specs.Prelude.{◌≡◌, ◌≤◌, IfOk, IfSome, None, map, true};
 ghost use Rattle.std.specs.Arc.{arc_value};
-ghost use Rattle.hm_messages_changes.specs.Holes.{IsPartOf};
 ghost use Rattle.hm_messages_joint.specs.Joints.{AreApart, HasTypeWithBoth, NeedsBoth};
 ghost use Rattle.hm_messages_trials.specs.Limits.{IsUsedUp};
 
-use crate::judging::is_untyped_without;
-use crate::least::{Sought, least_set, moved};
+use crate::beside::{Faulty, refined, wholes_of};
+use crate::judging::{is_typed_with_both, is_untyped_without};
+use crate::least::{Sought, least_set, part_moved};
+use crate::parts::{FoundJoint, Joint, part_at, range_of};
 use hm_lex::Token;
-use hm_messages_changes::{Cut, SourceRange, cut_of, part_of, with_hole};
+use hm_messages_changes::{Cut, SourceRange, cut_of};
 use hm_messages_outline::{Run, binding_at, names_in, signature_of};
 use hm_messages_trials::{
-    Effort, Question, Searched, TypeFault, cost_of, has_types_in, names_of, read, token_at,
+    Effort, Question, Searched, TypeFault, cost_of, names_of, read, token_at,
 };
 use std::alloc::{AllocError, Global};
 
@@ -21,21 +22,14 @@ const MOST_COST_OF_SEARCH: usize = 1 << 14;
 /// The number of trials of the whole source.
 const TRIALS_OF_WHOLE: usize = 3;
 
-/// Two parts of a definition, in order.
-#[derive(Clone, Copy)]
-pub struct Joint {
-    pub first: SourceRange,
-    pub second: SourceRange,
-}
-
 /// Returns two parts of a definition by a search in this smaller source, as tokens of the whole one.
-fn runs_in_cut(
+fn found_in_cut(
     alloc: Global,
     searched: &Searched<'_, '_>,
     cut: &Cut,
     sought: Sought,
     effort: &mut Effort,
-) -> Result<Option<(Run, Run)>, AllocError> {
+) -> Result<Option<FoundJoint>, AllocError> {
     let source = cut.text.as_slice();
     let Some(reading) = read(alloc, source)? else {
         return Ok(None);
@@ -61,60 +55,36 @@ fn runs_in_cut(
     if set.len() != 2 {
         return Ok(None);
     }
-    let first = moved(set[0].run, start, whole);
-    let second = moved(set[1].run, start, whole);
-    Ok(Some((first, second)))
+    Ok(Some(FoundJoint {
+        first: part_moved(set[0], start, whole),
+        second: part_moved(set[1], start, whole),
+    }))
 }
 
-/// Returns whether the definition has a type with holes in place of both parts.
-fn is_typed_with_both(
+/// Returns whether the definition has no type with something of every type in place of one part alone.
+fn needs_both(
     alloc: Global,
     searched: &Searched<'_, '_>,
     joint: Joint,
+    found: FoundJoint,
 ) -> Result<bool, AllocError>
-    requires { AreApart searched.now.question.now.source.now joint.first joint.second }
-    ensures { IfOk result (λ yes. yes ≡ true → HasTypeWithBoth searched.now.question.now.source.now searched.now.question.now.name.now
-        (map arc_value searched.now.question.now.imports.now) searched.now.definition.now joint.first joint.second) }
-{
-    let question = searched.question;
-    let Joint { first, second } = joint;
-    let changed = with_hole(alloc, question.source, second.from, second.to)?;
-    if first.to > changed.len() {
-        return Ok(false);
-    }
-    let both = with_hole(alloc, changed.as_slice(), first.from, first.to)?;
-    Ok(has_types_in(
-        alloc,
-        question,
-        both.as_slice(),
-        searched.definition,
-        searched.others,
-    )?)
-}
-
-/// Returns whether the definition has no type with a hole in place of one part alone.
-fn needs_both(alloc: Global, searched: &Searched<'_, '_>, joint: Joint) -> Result<bool, AllocError>
-    requires { AreApart searched.now.question.now.source.now joint.first joint.second }
     ensures { IfOk result (λ yes. yes ≡ true → NeedsBoth searched.now.question.now.source.now searched.now.question.now.name.now
         (map arc_value searched.now.question.now.imports.now) searched.now.definition.now joint.first joint.second) }
 {
-    let question = searched.question;
-    let definition = searched.definition;
-    if !is_untyped_without(alloc, question, joint.first, definition)? {
+    if !is_untyped_without(alloc, searched, joint.first, found.first)? {
         return Ok(false);
     }
-    Ok(is_untyped_without(alloc, question, joint.second, definition)?)
+    Ok(is_untyped_without(alloc, searched, joint.second, found.second)?)
 }
 
 /// Returns two parts of a source with these tokens, if the second one comes after the first.
-fn joint_at(searched: &Searched<'_, '_>, first: Run, second: Run) -> Option<Joint>
+fn joint_at(searched: &Searched<'_, '_>, found: FoundJoint) -> Option<Joint>
     ensures { IfSome result (λ joint. AreApart searched.now.question.now.source.now joint.first joint.second) }
 {
-    let tokens = searched.lexed.tokens;
     let source = searched.question.source;
-    let first = part_of(tokens, first, source)?;
-    let second = part_of(tokens, second, source)?;
-    if first.to > second.from {
+    let first = part_at(searched.lexed, source, found.first)?;
+    let second = part_at(searched.lexed, source, found.second)?;
+    if range_of(first).to > range_of(second).from {
         return None;
     }
     Some(Joint { first, second })
@@ -124,8 +94,7 @@ fn joint_at(searched: &Searched<'_, '_>, first: Run, second: Run) -> Option<Join
 fn confirmed(
     alloc: Global,
     searched: &Searched<'_, '_>,
-    first: Run,
-    second: Run,
+    found: FoundJoint,
 ) -> Result<Option<Joint>, AllocError>
     ensures apart { IfOk result (λ found. IfSome found (λ joint. AreApart searched.now.question.now.source.now joint.first joint.second)) }
     ensures suffices { IfOk result (λ found. IfSome found (λ joint. HasTypeWithBoth searched.now.question.now.source.now
@@ -133,16 +102,45 @@ fn confirmed(
     ensures needed { IfOk result (λ found. IfSome found (λ joint. NeedsBoth searched.now.question.now.source.now
         searched.now.question.now.name.now (map arc_value searched.now.question.now.imports.now) searched.now.definition.now joint.first joint.second)) }
 {
-    let Some(joint) = joint_at(searched, first, second) else {
+    let Some(joint) = joint_at(searched, found) else {
         return Ok(None);
     };
-    if !is_typed_with_both(alloc, searched, joint)? {
+    if !is_typed_with_both(alloc, searched, joint, found)? {
         return Ok(None);
     }
-    if !needs_both(alloc, searched, joint)? {
+    if !needs_both(alloc, searched, joint, found)? {
         return Ok(None);
     }
     Ok(Some(joint))
+}
+
+/// Returns these parts, refined or else as they are, if trials in the whole source say that they are to blame together.
+fn first_confirmed(
+    alloc: Global,
+    searched: &Searched<'_, '_>,
+    faulty: Faulty<'_, '_>,
+    found: FoundJoint,
+    effort: &mut Effort,
+) -> Result<Option<Joint>, AllocError>
+    ensures apart { IfOk result (λ found. IfSome found (λ joint. AreApart searched.now.question.now.source.now joint.first joint.second)) }
+    ensures suffices { IfOk result (λ found. IfSome found (λ joint. HasTypeWithBoth searched.now.question.now.source.now
+        searched.now.question.now.name.now (map arc_value searched.now.question.now.imports.now) searched.now.definition.now joint.first joint.second)) }
+    ensures needed { IfOk result (λ found. IfSome found (λ joint. NeedsBoth searched.now.question.now.source.now
+        searched.now.question.now.name.now (map arc_value searched.now.question.now.imports.now) searched.now.definition.now joint.first joint.second)) }
+{
+    let cost = searched.cost.saturating_mul(TRIALS_OF_WHOLE);
+    let refined = refined(alloc, searched, faulty, found, effort)?;
+    if !effort.pays(cost) {
+        return Ok(None);
+    }
+    match confirmed(alloc, searched, refined)? {
+        Some(joint) => return Ok(Some(joint)),
+        None => {}
+    }
+    if !effort.pays(cost) {
+        return Ok(None);
+    }
+    Ok(confirmed(alloc, searched, wholes_of(found))?)
 }
 
 /// Returns the tokens of a part.
@@ -155,7 +153,7 @@ fn run_of(tokens: &[Token], part: Option<SourceRange>) -> Option<Run> {
 }
 
 // Why: docs/DECISIONS.md, "Two slips".
-/// Returns two parts of the definition of a type fault, inside a part that is to blame by itself, if there is one. With holes in place of both it has a type, and with a hole in place of one of them it has none.
+/// Returns two parts of the definition of a type fault, inside a part that is to blame by itself, if there is one. With something of every type in place of both it has a type, and with that in place of one of them it has none.
 /// `effort` is less by what the search costs. It has the trials that `mend_of` left for this fault.
 ///
 /// Returns `None` if nothing is found or the effort doesn't pay for a trial, and for a definition that mentions more than 256 names.
@@ -205,11 +203,12 @@ pub fn joint_of(
         definition: binding,
         part: run_of(lexed.tokens, part),
     };
-    let Some((first, second)) = runs_in_cut(alloc, &searched, &cut, sought, effort)? else {
+    let Some(parts) = found_in_cut(alloc, &searched, &cut, sought, effort)? else {
         return Ok(None);
     };
-    if !effort.pays(searched.cost.saturating_mul(TRIALS_OF_WHOLE)) {
-        return Ok(None);
-    }
-    confirmed(alloc, &searched, first, second)
+    let faulty = Faulty {
+        fault: found,
+        definition: binding,
+    };
+    first_confirmed(alloc, &searched, faulty, parts, effort)
 }

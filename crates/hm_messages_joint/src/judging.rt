@@ -1,12 +1,12 @@
-//! Whether a definition is a type fault of a changed source.
+//! Whether a definition is a type fault of a changed source, and whether it has a type in one.
 ghost use Rattle.std.specs.Prelude.{◌≡◌, IfOk, map, true};
 ghost use Rattle.std.specs.Arc.{arc_value};
 ghost use Rattle.hm_verdicts.specs.Outcomes.{verdict_of};
-ghost use Rattle.hm_messages_changes.specs.Holes.{IsPartOf, with_hole};
-ghost use Rattle.hm_messages_joint.specs.Joints.{HasFaultIn, HasFaultOf, IsFaultOf, IsUntypedIn};
+ghost use Rattle.hm_messages_joint.specs.Joints.{HasFaultIn, HasFaultOf, HasTypeWithBoth, IsFaultOf, IsUntypedIn, IsUntypedWithout};
 
-use hm_messages_changes::{SourceRange, with_hole};
-use hm_messages_trials::{Question, judged};
+use crate::parts::{FoundJoint, Joint, JointPart, opened_at};
+use hm_messages_outline::TermPart;
+use hm_messages_trials::{Question, Searched, has_types_in, judged, read};
 use hm_names::{Fault, Kind};
 use hm_verdicts::Verdict;
 use std::alloc::{AllocError, Global};
@@ -43,20 +43,65 @@ fn has_fault_of(verdict: &Verdict, definition: &str) -> bool
     }
 }
 
-/// Returns whether a definition is a type fault of the module of a question, with the hole in place of a part.
-pub(crate) fn is_untyped_without(
+/// Returns whether a definition is a type fault of the module of a question in a changed source.
+fn is_untyped_in(
     alloc: Global,
     question: &Question<'_>,
-    part: SourceRange,
+    changed: &[u8],
     definition: &str,
 ) -> Result<bool, AllocError>
-    requires { IsPartOf question.now.source.now part }
-    ensures { IfOk result (λ yes. yes ≡ true → IsUntypedIn (with_hole question.now.source.now part.from part.to) question.now.name.now
-        (map arc_value question.now.imports.now) definition.now) }
+    ensures { IfOk result (λ yes. yes ≡ true → IsUntypedIn changed.now question.now.name.now (map arc_value question.now.imports.now) definition.now) }
 {
-    let changed = with_hole(alloc, question.source, part.from, part.to)?;
-    match judged(alloc, question, changed.as_slice())? {
+    match judged(alloc, question, changed)? {
         Some(outcome) => Ok(has_fault_of(outcome.verdict(), definition)),
         None => Ok(false),
     }
+}
+
+/// Returns whether the definition is a type fault with something of every type in place of a part, which has these tokens.
+pub(crate) fn is_untyped_without(
+    alloc: Global,
+    searched: &Searched<'_, '_>,
+    part: JointPart,
+    found: TermPart,
+) -> Result<bool, AllocError>
+    ensures { IfOk result (λ yes. yes ≡ true → IsUntypedWithout searched.now.question.now.source.now searched.now.question.now.name.now
+        (map arc_value searched.now.question.now.imports.now) searched.now.definition.now part) }
+{
+    let question = searched.question;
+    let Some(changed) = opened_at(alloc, question.source, searched.lexed, part, found)? else {
+        return Ok(false);
+    };
+    Ok(is_untyped_in(alloc, question, changed.as_slice(), searched.definition)?)
+}
+
+/// Returns whether the definition has a type with something of every type in place of both parts, which have these tokens.
+pub(crate) fn is_typed_with_both(
+    alloc: Global,
+    searched: &Searched<'_, '_>,
+    joint: Joint,
+    found: FoundJoint,
+) -> Result<bool, AllocError>
+    ensures { IfOk result (λ yes. yes ≡ true → HasTypeWithBoth searched.now.question.now.source.now searched.now.question.now.name.now
+        (map arc_value searched.now.question.now.imports.now) searched.now.definition.now joint.first joint.second) }
+{
+    let question = searched.question;
+    let source = question.source;
+    let Some(changed) = opened_at(alloc, source, searched.lexed, joint.second, found.second)? else {
+        return Ok(false);
+    };
+    let Some(reading) = read(alloc, changed.as_slice())? else {
+        return Ok(false);
+    };
+    let lexed = reading.lexed(changed.as_slice());
+    let Some(both) = opened_at(alloc, changed.as_slice(), &lexed, joint.first, found.first)? else {
+        return Ok(false);
+    };
+    Ok(has_types_in(
+        alloc,
+        question,
+        both.as_slice(),
+        searched.definition,
+        searched.others,
+    )?)
 }

@@ -1,7 +1,8 @@
 //! The search for a least set of parts. It is proved only that it ends: two more trials test what is found.
 
-use crate::leaves::{expressions, expressions_below, leaves_of};
-use hm_messages_changes::{Filling, HOLE, edited, in_place};
+use crate::leaves::{expressions, expressions_below, leaves_of, patterns_first};
+use crate::openings::openings;
+use hm_messages_changes::HOLE;
 use hm_messages_outline::{Role, Run, TermPart, right_sides};
 use hm_messages_trials::{Effort, Searched, is_mended_by};
 use std::alloc::{AllocError, Global};
@@ -37,29 +38,34 @@ impl Sought {
 }
 
 /// Returns the run, as if its token with the first number had the second one.
-pub(crate) fn moved(run: Run, from: usize, to: usize) -> Run {
+fn moved(run: Run, from: usize, to: usize) -> Run {
     Run {
         start: run.start.saturating_sub(from).saturating_add(to),
         end: run.end.saturating_sub(from).saturating_add(to),
     }
 }
 
-/// Returns whether the definition has a type with holes in place of all these parts. Returns `false` if no trial is left.
-fn is_typed_with(
+/// Returns the part, as if its token with the first number had the second one.
+pub(crate) fn part_moved(part: TermPart, from: usize, to: usize) -> TermPart {
+    TermPart {
+        run: moved(part.run, from, to),
+        role: part.role,
+        around: moved(part.around, from, to),
+    }
+}
+
+/// Returns whether the definition has a type with something of every type in place of all these parts. Returns `false` if no trial is left.
+pub(crate) fn is_typed_with(
     alloc: Global,
     searched: &Searched<'_, '_>,
     kept: &[TermPart],
     more: &[TermPart],
     effort: &mut Effort,
 ) -> Result<bool, AllocError> {
-    let mut edits = Vec::new(alloc);
-    for part in kept {
-        edits.push(in_place(searched.lexed, part.run, Filling::Text(HOLE)))?;
-    }
-    for part in more {
-        edits.push(in_place(searched.lexed, part.run, Filling::Text(HOLE)))?;
-    }
-    edits.sort_by_key(|edit| edit.from)?;
+    let mut parts = Vec::from_slice(alloc, kept)?;
+    parts.extend_from_slice(more)?;
+    parts.sort_by_key(|part| part.run.start)?;
+    let edits = openings(alloc, searched.lexed, parts.as_slice())?;
     let holes = edits.len().saturating_mul(HOLE.len());
     let dearer = Searched {
         question: searched.question,
@@ -81,7 +87,7 @@ fn rest_of(parts: &[TermPart], start: usize) -> &[TermPart] {
     }
 }
 
-/// Returns the number of the first of these parts that has to be a hole, if those after it and the kept ones are holes.
+/// Returns the number of the first of these parts that has to be open, if those after it and the kept ones are.
 fn first_needed(
     alloc: Global,
     searched: &Searched<'_, '_>,
@@ -106,7 +112,7 @@ fn first_needed(
     Ok(low)
 }
 
-/// Returns the kept parts and those of the others that have to be holes beside them, or `None` if these are too many together.
+/// Returns the kept parts and those of the others that have to be open beside them, or `None` if these are too many together.
 fn with_needed(
     alloc: Global,
     searched: &Searched<'_, '_>,
@@ -202,27 +208,6 @@ fn narrowest(
     Ok(set)
 }
 
-/// Returns the application that a part is the function of, if no other part of the set is in it, or else the part. Often the arguments are too many or too few.
-fn whole_of(set: &[TermPart], part: TermPart) -> TermPart {
-    if part.role != Role::Function {
-        return part;
-    }
-    let mut inside = 0usize;
-    for other in set {
-        if part.around.has(other.run.start) {
-            inside = inside.saturating_add(1);
-        }
-    }
-    if inside > 1 {
-        return part;
-    }
-    TermPart {
-        run: part.around,
-        role: Role::Body,
-        around: part.around,
-    }
-}
-
 /// Returns the parts, the last one first.
 fn backwards(alloc: Global, parts: &[TermPart]) -> Result<Vec<TermPart>, AllocError> {
     let mut found = Vec::with_capacity(alloc, parts.len())?;
@@ -232,22 +217,38 @@ fn backwards(alloc: Global, parts: &[TermPart]) -> Result<Vec<TermPart>, AllocEr
     Ok(found)
 }
 
-/// Returns a least set of right sides of a definition: it has a type with holes in place of all of them. If one clashes with several others, it stays a hole
-/// instead of those only if it is put back after them. So both orders are tried.
+/// Returns a set of some of these parts. If one clashes with several others, it stays open instead of those only if it is put back after them. So both orders
+/// are tried.
+fn set_among(
+    alloc: Global,
+    searched: &Searched<'_, '_>,
+    parts: &[TermPart],
+    effort: &mut Effort,
+) -> Result<Option<Vec<TermPart>>, AllocError> {
+    let sorted = patterns_first(alloc, parts)?;
+    match set_inside(alloc, searched, &[], sorted.as_slice(), effort)? {
+        Some(set) => return Ok(Some(set)),
+        None => {}
+    }
+    let last_first = backwards(alloc, parts)?;
+    let sorted = patterns_first(alloc, last_first.as_slice())?;
+    set_inside(alloc, searched, &[], sorted.as_slice(), effort)
+}
+
+/// Returns a least set of right sides of a definition, or of its patterns and right sides if no right sides are one.
 fn least_sides(
     alloc: Global,
     searched: &Searched<'_, '_>,
     definition: Run,
     effort: &mut Effort,
 ) -> Result<Option<Vec<TermPart>>, AllocError> {
-    let sides = right_sides(alloc, searched.lexed.outline, definition)?;
-    let sides = expressions(alloc, sides.as_slice())?;
-    match set_inside(alloc, searched, &[], sides.as_slice(), effort)? {
+    let parts = right_sides(alloc, searched.lexed.outline, definition)?;
+    let sides = expressions(alloc, parts.as_slice())?;
+    match set_among(alloc, searched, sides.as_slice(), effort)? {
         Some(set) => return Ok(Some(set)),
         None => {}
     }
-    let last_first = backwards(alloc, sides.as_slice())?;
-    set_inside(alloc, searched, &[], last_first.as_slice(), effort)
+    set_among(alloc, searched, parts.as_slice(), effort)
 }
 
 /// Returns the set of one expression.
@@ -261,8 +262,8 @@ fn set_of(alloc: Global, run: Run) -> Result<Vec<TermPart>, AllocError> {
     Ok(set)
 }
 
-/// Returns a least set of expressions of a definition, or of those inside an expression that is one by itself, in order: it has a type with holes in place of all
-/// of them. If the trials run out, the set may not be least.
+/// Returns a least set of parts of a definition, or of those inside an expression that is one by itself, in order: it has a type with something of every type in
+/// place of all of them. If the trials run out, the set may not be least.
 pub(crate) fn least_set(
     alloc: Global,
     searched: &Searched<'_, '_>,
@@ -276,11 +277,7 @@ pub(crate) fn least_set(
     let Some(set) = found else {
         return Ok(None);
     };
-    let set = narrowest(alloc, searched, set, effort)?;
-    let mut wholes = Vec::new(alloc);
-    for part in &set {
-        wholes.push(whole_of(set.as_slice(), *part))?;
-    }
-    wholes.sort_by_key(|part| part.run.start)?;
-    Ok(Some(wholes))
+    let mut set = narrowest(alloc, searched, set, effort)?;
+    set.sort_by_key(|part| part.run.start)?;
+    Ok(Some(set))
 }

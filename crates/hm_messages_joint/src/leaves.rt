@@ -38,6 +38,22 @@ pub(crate) fn expressions(alloc: Global, parts: &[TermPart]) -> Result<Vec<TermP
     Ok(found)
 }
 
+/// Returns these parts, the patterns before the expressions. What is put back last is reported, and patterns are less likely slips.
+pub(crate) fn patterns_first(
+    alloc: Global,
+    parts: &[TermPart],
+) -> Result<Vec<TermPart>, AllocError> {
+    let mut found = Vec::new(alloc);
+    for part in parts {
+        if part.role == Role::Pattern {
+            found.push(*part)?;
+        }
+    }
+    let rest = expressions(alloc, parts)?;
+    found.extend_from_slice(rest.as_slice())?;
+    Ok(found)
+}
+
 /// Returns the expressions directly inside an expression.
 pub(crate) fn expressions_below(
     alloc: Global,
