@@ -1,5 +1,5 @@
 #!/usr/bin/env python3
-"""Compares the types at places of the programs of bench/programs with those that GHC has there, up to the names of variables and to synonyms.
+"""Compares the types at places of the programs of bench/programs with those that GHC has there, up to names of variables, synonyms and qualifiers.
 
 `at_ghc.py [PROGRAM [SEED N]]`: without a word, the script `hmc` beside this folder is run. N names are chosen by the seed, 300 by seed 1 if these
 words aren't given, among the variables and constructors for which ghci's `:type-at` has a type. Names outside of expressions and patterns have none.
