@@ -1,0 +1,4 @@
+mod Down
+pub mod Faults
+mod Up
+pub mod Uses
