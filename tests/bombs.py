@@ -3,11 +3,13 @@
 
 `bombs.py [PROGRAM]`: without PROGRAM, the program that the gate built is run, with one worker and in 4 GB of addresses, on as many sources at a time as
 there are processors. The answer to each must be its last line here with the status that belongs to it, or, where the table allows it, `hmc: no memory` with
-status 3, in at most 1 GB and 10 s of a processor. Prints a line for each, and ends with 1 if one is wrong.
+status 3, in at most 1 GB and 10 s of a processor. Then `--at` asks for the last name that the source binds. It has an answer or the same refusal, within
+the same limits. Prints a line for each, and ends with 1 if one is wrong.
 """
 import concurrent.futures
 import functools
 import os
+import re
 import resource
 import sys
 import time
@@ -136,14 +138,29 @@ def judged(program, bomb):
     return line, (is_right or is_refused) and is_small
 
 
+def placed(program, bomb):
+    """The same for the place of the last name before a `=`. Its type comes from a larger source, so memory may run out where the check has an answer."""
+    name, text, *_ = bomb
+    at = [it.start() for it in re.finditer(r"[a-z]\w*(?=[^=;{}\n]*=)", text)][-1]
+    line, column = text.count("\n", 0, at) + 1, at - text.rfind("\n", 0, at)
+    run = measured([program, "--jobs", "1", "--at", f"<stdin>:{line}:{column}"], text)
+    told = run.told.decode(errors="replace")
+    is_right = run.status in (0, 1) and run.printed and not told
+    is_refused = (run.status, run.printed, told) == (3, b"", "hmc: no memory\n")
+    is_small = run.processor < MOST_SECONDS and run.megabytes < MOST_MEGABYTES
+    answer = "right" if is_right else "no memory" if is_refused else f"WRONG: status {run.status}, {run.last!r}, {told!r}"
+    return f"{name}, at {line}:{column}: {run.processor:.2f} s, {run.megabytes} MB: {answer}{'' if is_small else ', TOO MUCH'}", (is_right or is_refused) and is_small
+
+
 def main(program=PROVED):
     # for the runs too
     resource.setrlimit(resource.RLIMIT_AS, (ADDRESSES, ADDRESSES))
     began, failed = time.time(), 0
     with concurrent.futures.ThreadPoolExecutor(os.cpu_count()) as pool:
-        for line, is_as_wanted in pool.map(functools.partial(judged, os.path.abspath(program)), BOMBS):
-            failed += not is_as_wanted
-            print(line, flush=True)
+        for judge in (judged, placed):
+            for line, is_as_wanted in pool.map(functools.partial(judge, os.path.abspath(program)), BOMBS):
+                failed += not is_as_wanted
+                print(line, flush=True)
     print(f"{len(BOMBS)} sources in {time.time() - began:.0f} s, {failed} wrong")
     return 1 if failed else 0
 

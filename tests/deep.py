@@ -1,10 +1,11 @@
 #!/usr/bin/env python3
-"""Runs `hmc --plan` and `hmc` on sources of the greatest length that nest as deep as they can, one for each kind of nesting.
+"""Runs `hmc --plan`, `hmc` and `hmc --at` on sources of the greatest length that nest as deep as they can, one for each kind of nesting.
 
-`deep.py [PROGRAM]`: without PROGRAM, the script `hmc` at the top is run. Prints the answer, the seconds and the memory of each, and ends with 1 where a run crashed or gave no
-answer of the language, or where a plan took more than 1 GB.
+`deep.py [PROGRAM]`: without PROGRAM, the script `hmc` at the top is run. The place is that of the last name. Prints the answer, the seconds and the
+memory of each, and ends with 1 where a run crashed or gave no answer of the language, or where a plan took more than 1 GB.
 """
 import os
+import re
 import sys
 
 sys.path.insert(0, os.path.join(os.path.dirname(os.path.dirname(os.path.abspath(__file__))), "tools"))
@@ -59,6 +60,8 @@ def source(kind):
 def is_answer(words, status, last):
     if status == 2:
         return last.startswith("refused: ")
+    if "--at" in words:
+        return (status, last.endswith(": no name is here")) in [(0, False), (1, True)]
     if words:
         return status == 0 and last == "1 modules"
     return (status, last) in [(0, "1 modules: 1 good, 0 faulty, 0 skipped"), (1, "1 modules: 0 good, 1 faulty, 0 skipped")]
@@ -68,10 +71,11 @@ def main(program=SCRIPT):
     failed = False
     for kind in KINDS:
         text, count = source(kind)
-        for words in (["--plan"], []):
+        column = [it.start() for it in re.finditer(r"\b[a-z]\b", text)][-1] + 1
+        for what, words in {"plan": ["--plan"], "check": [], "place": ["--at", f"<stdin>:1:{column}"]}.items():
             run = measured([program, *words], text)
-            failed |= not is_answer(words, run.status, run.last) or (words != [] and run.megabytes >= 1000)
-            print(f"{kind}, {'plan' if words else 'check'}: {count} levels, {run.clock:.2f} s, {run.megabytes} MB: {run.last or run.status}", flush=True)
+            failed |= not is_answer(words, run.status, run.last) or (what == "plan" and run.megabytes >= 1000)
+            print(f"{kind}, {what}: {count} levels, {run.clock:.2f} s, {run.megabytes} MB: {run.last[-80:] or run.status}", flush=True)
     return failed
 
 
