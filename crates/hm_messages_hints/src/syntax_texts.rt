@@ -137,7 +137,7 @@ pub fn syntax_text(alloc: Global, hint: SyntaxHint, text: &str) -> Result<String
         SyntaxHint::NoIn(_) => around(alloc, "a 'let' before ", text, " has no 'in'"),
         SyntaxHint::SecondWhere(_) => String::from_str(
             alloc,
-            "a second 'where' after a definition",
+            "a second 'where' right after the first one",
         ),
         SyntaxHint::BraceGroup => String::from_str(alloc, "an expression can't begin with '{'"),
         SyntaxHint::GuardEquals(_) => String::from_str(
@@ -216,7 +216,7 @@ pub fn syntax_help(hint: SyntaxHint) -> &'static str
             "Compare by patterns, or take the comparison as an argument.\n",
         SyntaxHint::NoIn(_) => "Each `let` has one: `let { .. } in x`.\n",
         SyntaxHint::SecondWhere(_) =>
-            "A definition has one `where`, with all its local definitions between the braces.\n",
+            "A definition or an alternative has one `where`, with all its local definitions between the braces.\n",
         SyntaxHint::BraceGroup =>
             "Braces are around definitions and alternatives. Write parentheses around an expression.\n",
         SyntaxHint::GuardEquals(_) =>
