@@ -22,7 +22,7 @@ pub use crate::culprits::{Searched, is_mended_by};
 pub use crate::mends::Mend;
 pub use crate::part_typing::{PartTypes, part_types_of};
 pub use crate::reading::{Reading, TypeFault, read, reading_of};
-pub use crate::search::{mend_of, names_of, token_at};
+pub use crate::search::{mend_of, mend_within, names_of, token_at};
 pub use crate::signatures::{Unsigned, unsigned_of};
 pub use crate::trial::{has_types_in, judged};
 pub use hm_messages_types::Question;

@@ -337,6 +337,25 @@ pub fn mend_of<'q>(
     ensures stays { IsUsedUp effort.old → IsUsedUp effort.new }
 {
     effort.begin();
+    Ok(mend_within(alloc, question, found, effort)?)
+}
+
+/// Does what `mend_of` does, with the trials that are left for the fault. So what was searched for it before counts too.
+///
+/// # Errors
+///
+/// Memory ran out, or a type would have grown past the limits of the question.
+pub fn mend_within<'q>(
+    alloc: Global,
+    question: &Question<'q>,
+    found: &TypeFault<'_>,
+    effort: &mut Effort,
+) -> Result<Option<Mend<'q>>, AllocError>
+    ensures mend { IfOk result (λ mend. IfSome mend (IsMend question.now.source.now question.now.name.now (map arc_value question.now.imports.now)
+        found.now.fault.now.name)) }
+    ensures none { IsUsedUp effort.old → IfOk result (λ mend. mend ≡ None) }
+    ensures stays { IsUsedUp effort.old → IsUsedUp effort.new }
+{
     if !effort.pays_for_walks(question.source) {
         return Ok(None);
     }
