@@ -1,0 +1,2 @@
+pub mod SameStatus
+pub mod WorkedClosures
