@@ -12,7 +12,7 @@ out of scope; a type or a value of Prelude declared again; a slip in an expressi
 - two types: they have no common instance, if the definition has no signature;
 - two expressions: with holes in both the definition has a type, with a hole in one of them it has none;
 - another expression: with a hole there, the definition has a type; an exchange, an argument left out, a text put in: the same with the changed source;
-- a type without a signature: the module without it has this type, if it is good.
+- a type without a signature: the module without it is good, and has the same type with this one as the signature.
 
 Prints how often each was tried, and each claim that is false. Ends with 1 if there is one. The sources are a function of the seed.
 """
@@ -281,14 +281,17 @@ def try_both(program, source, message):
 def try_signature(program, source, message):
     if message["kind"] != "signature" or "without this signature" not in message["text"]:
         return None
-    start, end = offset(source, message["start"]), UP_TO.search(message["text"])
-    changed = with_text(source, start, offset(source, {"line": int(end[1]), "byte": int(end[2])}) + 1, "")
-    value = re.search(rf"^  val {re.escape(message['name'])} = \S+ :: (.*)$", ask(program, changed)[0], re.M)
-    # The note may have names of synonyms, and the report has the types that they stand for.
-    if value is None or any(re.search(rf"\b{it}\b", message["type"]) for it in re.findall(r"\btype (\w+) =", source)):
+    start, name = offset(source, message["start"]), message["name"]
+    end = UP_TO.search(message["text"])
+    last = offset(source, {"line": int(end[1]), "byte": int(end[2])}) + 1
+    value = re.compile(rf"^  val {re.escape(name)} = .*$", re.M)
+    own = value.search(ask(program, with_text(source, start, last, ""))[0])
+    if own is None:
         return None
-    if value[1].replace("String", "[Char]") != message["type"].replace("String", "[Char]"):
-        raise Finding(f"without the signature the type is {value[1]}")
+    # The note has names of synonyms and bare names of types, which the module means in a signature too.
+    signed = value.search(ask(program, with_text(source, start, last, f"{name} :: {message['type']}"))[0])
+    if signed is None or signed[0] != own[0]:
+        raise Finding(f"without the signature the module has{own[0]}")
     return "a type without a signature"
 
 
