@@ -849,6 +849,54 @@ KINDS = [
         "                 ^\n"
         "errors: 1, skipped modules: 0\n",
     ),
+    # the module means the type by its bare name
+    (
+        "module A where { data T = C } module M where { import A ; f :: T -> Bool ; f x = not x }",
+        1,
+        "M.hs:1:76: error: type error in 'f' [type]\n"
+        "No types fit this definition and those that refer back to it. All others that it refers to have types or signatures.\n"
+        "module A where { data T = C } module M where { import A ; f :: T -> Bool ; f x = not x }\n"
+        "                                                                           ^\n"
+        "M.hs:1:86: note: this has type 'T', but 'Bool' is expected (up to 1:86)\n"
+        "...e A where { data T = C } module M where { import A ; f :: T -> Bool ; f x = not x }\n"
+        "                                                                                   ^\n"
+        "M.hs:1:59: note: 'f' has type 'Bool -> Bool' without this signature (up to 1:72)\n"
+        "module A where { data T = C } module M where { import A ; f :: T -> Bool ; f x = not x }\n"
+        "                                                          ^\n"
+        "errors: 1, skipped modules: 0\n",
+    ),
+    # it doesn't
+    (
+        "module A where { data T = C } module M where { import qualified A ; f :: A.T -> Bool ; f x = not x }",
+        1,
+        "M.hs:1:88: error: type error in 'f' [type]\n"
+        "No types fit this definition and those that refer back to it. All others that it refers to have types or signatures.\n"
+        "...A where { data T = C } module M where { import qualified A ; f :: A.T -> Bool ; f x = not x }\n"
+        "                                                                                   ^\n"
+        "M.hs:1:98: note: this has type 'A.T', but 'Bool' is expected (up to 1:98)\n"
+        "...data T = C } module M where { import qualified A ; f :: A.T -> Bool ; f x = not x }\n"
+        "                                                                                   ^\n"
+        "M.hs:1:69: note: 'f' has type 'Bool -> Bool' without this signature (up to 1:84)\n"
+        "module A where { data T = C } module M where { import qualified A ; f :: A.T -> Bool ; f x = not x }\n"
+        "                                                                    ^\n"
+        "errors: 1, skipped modules: 0\n",
+    ),
+    # Prelude has a type of that name, which it hides
+    (
+        "module M where { import Prelude hiding (Maybe) ; data Maybe = C ; f :: Maybe -> Bool ; f x = not x }",
+        1,
+        "M.hs:1:88: error: type error in 'f' [type]\n"
+        "No types fit this definition and those that refer back to it. All others that it refers to have types or signatures.\n"
+        "...M where { import Prelude hiding (Maybe) ; data Maybe = C ; f :: Maybe -> Bool ; f x = not x }\n"
+        "                                                                                   ^\n"
+        "M.hs:1:98: note: this has type 'M.Maybe', but 'Bool' is expected (up to 1:98)\n"
+        "...import Prelude hiding (Maybe) ; data Maybe = C ; f :: Maybe -> Bool ; f x = not x }\n"
+        "                                                                                   ^\n"
+        "M.hs:1:67: note: 'f' has type 'Bool -> Bool' without this signature (up to 1:84)\n"
+        "module M where { import Prelude hiding (Maybe) ; data Maybe = C ; f :: Maybe -> Bool ; f x = not x }\n"
+        "                                                                  ^\n"
+        "errors: 1, skipped modules: 0\n",
+    ),
     # brackets around a row of `:`
     (
         "module M where { data S a = S [a] ; f :: a -> S a -> S a ; f x (S xs) = S x : xs }",
@@ -860,7 +908,7 @@ KINDS = [
         "M.hs:1:75: note: 'f' has a type with brackets around this (up to 1:80)\n"
         "module M where { data S a = S [a] ; f :: a -> S a -> S a ; f x (S xs) = S x : xs }\n"
         "                                                                          ^\n"
-        "M.hs:1:37: note: 'f' has type '[a] -> M.S (M.S a) -> [M.S a]' without this signature (up to 1:56)\n"
+        "M.hs:1:37: note: 'f' has type '[a] -> S (S a) -> [S a]' without this signature (up to 1:56)\n"
         "module M where { data S a = S [a] ; f :: a -> S a -> S a ; f x (S xs) = S x : xs }\n"
         "                                    ^\n"
         "errors: 1, skipped modules: 0\n",

@@ -9,7 +9,8 @@ use Rattle.hm_messages_trials.specs.TypedSources.{IsModuleIn}
 use Rattle.hm_messages_trials.specs.PartTypes.{HasPartTypes}
 use Rattle.hm_messages_changes.specs.Probes.{Surroundings, with_probe}
 use Rattle.hm_messages_changes.specs.declared.data.SourceRange.{SourceRange}
-use Rattle.hm_messages_types.specs.Shown.{IsFolded, IsName, NamedType}
+use Rattle.hm_messages_types.specs.Shown.{IsFolded, NamedType}
+use Rattle.hm_messages_type_names.specs.TypeNames.{IsTypeName}
 
 -- The source spells a module with this name that needs these interfaces. It is good for them and Prelude's, and with its interface these are names
 pub record ExportsNames (source name : List ℕ) (fs : List Interface) (names : List NamedType) : Type 0 where
@@ -18,7 +19,7 @@ pub record ExportsNames (source name : List ℕ) (fs : List Interface) (names : 
   pub asked : AreImportsOf «module» fs
   pub exports : Interface
   pub right : IsVerdict «module» (prelude_interface ∷ fs) (Good exports)
-  pub each : All (IsName name exports) names
+  pub each : All (IsTypeName «module» (prelude_interface ∷ fs) name exports) names
 
 -- the text of a type is shown so, by names that the module has in a source with a definition replaced
 pub record IsShown (changed : Surroundings → List ℕ) (name : List ℕ) (fs : List Interface) (text shown : List ℕ) : Type 0 where

@@ -9,7 +9,10 @@ ghost use Rattle.hm_messages_types.specs.Aliases.{alias_of as named_type};
 ghost use Rattle.hm_messages_trials.specs.PartTypes.{from_pair, AreTextsOf, ExportsIn, IsExported, from_three, text_in};
 ghost use Rattle.hm_messages_trials.specs.Limits.{IsUsedUp};
 ghost use Rattle.hm_messages_types.specs.CommonInstances.{HaveCommonInstance};
-ghost use Rattle.hm_messages_types.specs.Shown.{IsFolded, IsName};
+ghost use Rattle.hm_messages_types.specs.Shown.{IsFolded};
+ghost use Rattle.hm_messages_type_names.specs.TypeNames.{IsTypeName};
+ghost use Rattle.hm_names.specs.Imports.{AreImportsOf};
+ghost use Rattle.hm_types.specs.StandardPrelude.{prelude_interface};
 ghost use Rattle.hm_messages_trials.specs.ShownTypes.{ExportsNames, HasShownTypes};
 
 use crate::costs::{Effort, cost_of};
@@ -20,8 +23,9 @@ use hm_messages_changes::{
     Layout, Local, Other, SourceRange, Span, bytes_of, local_of, signed_heads, with_probe,
 };
 use hm_messages_outline::{Lexed, Run, binding_at, header_of, one};
+use hm_messages_type_names::{Home, type_names};
 use hm_messages_types::{
-    Alias, Question, aliases_in, are_apart, between, folded, names_in, need_infinite, text_of,
+    Alias, Question, are_apart, between, folded, names_in, need_infinite, text_of,
 };
 use hm_names::Fault;
 use hm_parse_grammar::Symbol;
@@ -70,18 +74,19 @@ pub(crate) struct Typed {
 /// Returns the scheme with which an interface exports a variable, and the names for types.
 fn typed_by(
     alloc: Global,
-    question: &Question<'_>,
-    lexed: &Lexed<'_>,
+    home: &Home<'_, '_>,
     interface: &Interface,
     variable: &str,
 ) -> Result<Option<Typed>, AllocError>
+    requires { AreImportsOf home.now.«module».now (map arc_value home.now.question.now.imports.now) }
     ensures scheme { IfOk result (λ found. IfSome found (λ typed. IsExported interface.now variable.now typed.scheme)) }
-    ensures names { IfOk result (λ found. IfSome found (λ typed. All (λ a. IsName question.now.name.now interface.now (named_type a)) typed.aliases.items)) }
+    ensures names { IfOk result (λ found. IfSome found (λ typed. All (λ a. IsTypeName home.now.«module».now (prelude_interface ∷ map arc_value home.now.question.now.imports.now)
+        home.now.question.now.name.now interface.now (named_type a)) typed.aliases.items)) }
 {
     let Some(scheme) = exported_scheme(alloc, interface, variable)? else {
         return Ok(None);
     };
-    let aliases = aliases_in(alloc, question, lexed, interface)?;
+    let aliases = type_names(alloc, home, interface, scheme.body())?;
     Ok(Some(Typed { scheme, aliases }))
 }
 
@@ -101,8 +106,13 @@ pub(crate) fn typed_in(
     let Some(outcome) = judged(alloc, question, changed)? else {
         return Ok(None);
     };
+    let home = Home {
+        question,
+        lexed,
+        module: outcome.module(),
+    };
     match outcome.verdict() {
-        Verdict::Good(interface) => Ok(typed_by(alloc, question, lexed, interface, variable)?),
+        Verdict::Good(interface) => Ok(typed_by(alloc, &home, interface, variable)?),
         Verdict::Faulty(_) => Ok(None),
     }
 }

@@ -1,20 +1,30 @@
 -- The worked types as they are shown.
-use Rattle.std.proofs.Common.{◌≡◌, ◌∙◌, ◌⊎◌, inl, inr, ℕ, suc, ◌≤◌, All, List, [], ◌∷◌, ◌++◌, Contains, length, get_or, refl, sym, ap, ap₂, subst, arith, false, true}
+use Rattle.std.proofs.Common.{◌≡◌, ◌∙◌, ◌⊎◌, inl, inr, ℕ, suc, ◌≤◌, ◌&&◌, All, append_assoc, List, [], ◌∷◌, ◌++◌, Contains, length, get_or, refl, sym, ap, ap₂, subst, arith, false, true}
 use Rattle.std.specs.Prelude.{codes, flat_map}
 use Rattle.std.proofs.lemmas.Bool.{false≢true}
 use Rattle.std.proofs.lemmas.List.{length-append}
 use Rattle.std.proofs.lemmas.List.Elements.{All-contains, All-cons}
+use Rattle.hm_lex.specs.Bytes.{class_of}
 use Rattle.hm_types.specs.Synonyms.{TypeSynonym}
 use Rattle.hm_types.specs.declared.entries.SynonymEntry.{SynonymEntry}
 use Rattle.hm_types_display.specs.Texts.{scheme_text_of}
-use Rattle.hm_messages_types.specs.Shown.{IsAlias, IsFolded, IsPiece, NamedType, is_bracketed}
-use Rattle.hm_messages_types.specs.WorkedShown.{AliasRow, FoldedRow, pair, pos, unit}
+use Rattle.hm_messages_types.specs.Shown.{AreWhole, IsAlias, IsFolded, IsPiece, NamedType, ends_name, is_bracketed, starts_name}
+use Rattle.hm_messages_types.specs.WorkedShown.{AliasRow, FoldedRow, WholeNamesRow, bare, pair, pos, unit}
 
 none : {X : Type 0} (P : X → Type 0) → All P []
 none P k d l = absurd (omega (arith, l))
 
 abbrev as_it_is : List ℕ → NamedType
 as_it_is text = record { name = text; text = text }
+
+-- "no name goes on", where the pieces and what follows are given
+whole_twice : AreWhole (pos ∷ as_it_is (codes " -> ") ∷ pos ∷ [])
+unfolding class_of
+whole_twice = (refl, (refl, (refl, tt)))
+
+whole_inside : AreWhole (as_it_is (codes "[") ∷ pos ∷ as_it_is (codes "]") ∷ [])
+unfolding class_of
+whole_inside = (refl, (refl, (refl, tt)))
 
 here : IsPiece (pos ∷ []) pos
 here = inr (0, omega arith, refl)
@@ -24,6 +34,7 @@ twice = record {
   pieces = pos ∷ as_it_is (codes " -> ") ∷ pos ∷ [];
   each = All-cons (IsPiece (pos ∷ [])) pos (as_it_is (codes " -> ") ∷ pos ∷ []) here
       (All-cons (IsPiece (pos ∷ [])) (as_it_is (codes " -> ")) (pos ∷ []) (inl refl) (All-cons (IsPiece (pos ∷ [])) pos [] here (none (IsPiece (pos ∷ [])))));
+  whole = whole_twice;
   text_is = refl;
   shown_is = refl;
 }
@@ -33,6 +44,7 @@ inside = record {
   pieces = as_it_is (codes "[") ∷ pos ∷ as_it_is (codes "]") ∷ [];
   each = All-cons (IsPiece (pos ∷ [])) (as_it_is (codes "[")) (pos ∷ as_it_is (codes "]") ∷ []) (inl refl)
       (All-cons (IsPiece (pos ∷ [])) pos (as_it_is (codes "]") ∷ []) here (All-cons (IsPiece (pos ∷ [])) (as_it_is (codes "]")) [] (inl refl) (none (IsPiece (pos ∷ [])))));
+  whole = whole_inside;
   text_is = refl;
   shown_is = refl;
 }
@@ -68,6 +80,81 @@ worked_folded = record {
   inside = inside;
   other = λ f. not_plain _ _ (sym f.text_is) (sym f.shown_is) (pieces_plain f.pieces f.each);
 }
+
+there : IsPiece (bare ∷ []) bare
+there = inr (0, omega arith, refl)
+
+-- A for the first M.A, and the rest as it is
+whole_name : IsFolded (bare ∷ []) (codes "M.A -> [M.AB]") (codes "A -> [M.AB]")
+unfolding class_of
+whole_name = record {
+  pieces = bare ∷ as_it_is (codes " -> [M.AB]") ∷ [];
+  each = All-cons (IsPiece (bare ∷ [])) bare (as_it_is (codes " -> [M.AB]") ∷ []) there
+      (All-cons (IsPiece (bare ∷ [])) (as_it_is (codes " -> [M.AB]")) [] (inl refl) (none (IsPiece (bare ∷ []))));
+  whole = (refl, (refl, tt));
+  text_is = refl;
+  shown_is = refl;
+}
+
+-- M.A is in the text, and no name goes on behind it
+record HasWholeName (text : List ℕ) : Type 0 where
+  before : List ℕ
+  after : List ℕ
+  text_is : text ≡ before ++ (codes "M.A" ++ after)
+  ends : starts_name after ≡ false
+
+only_bare : (p : NamedType) → Contains (bare ∷ []) p → p ≡ bare
+only_bare p found = All-contains (λ (q : NamedType). q ≡ bare) (bare ∷ []) p (All-cons (λ (q : NamedType). q ≡ bare) bare [] refl (none (λ (q : NamedType). q ≡ bare))) found
+
+-- without such a name all is shown as it is
+whole_or_plain : (ps : List NamedType) → All (IsPiece (bare ∷ [])) ps → AreWhole ps
+    → (flat_map (λ p. p.name) ps ≡ flat_map (λ p. p.text) ps) ⊎ HasWholeName (flat_map (λ p. p.text) ps)
+unfolding class_of
+whole_or_plain [] h w = inl refl
+whole_or_plain (p ∷ ps) h w = at (h 0 p (omega arith)) (whole_or_plain ps (λ k d l. h (suc k) d (omega (arith, l))) w.1)
+  where
+    names : List ℕ
+    names = flat_map (λ (q : NamedType). q.name) ps
+
+    texts : List ℕ
+    texts = flat_map (λ (q : NamedType). q.text) ps
+
+    at : IsPiece (bare ∷ []) p → (names ≡ texts) ⊎ HasWholeName texts → (p.name ++ names ≡ p.text ++ texts) ⊎ HasWholeName (p.text ++ texts)
+    at (inl same) (inl so) = inl (ap₂ (λ (x y : List ℕ). x ++ y) same so)
+    at (inl same) (inr found) = inr (record {
+      before = p.text ++ found.before;
+      after = found.after;
+      text_is = ap (λ (l : List ℕ). p.text ++ l) found.text_is ∙ sym (append_assoc p.text found.before (codes "M.A" ++ found.after));
+      ends = found.ends;
+    })
+    at (inr named) rest =
+        let is : p ≡ bare = only_bare p named in
+        inr (record {
+          before = [];
+          after = texts;
+          text_is = ap (λ (q : NamedType). q.text ++ texts) is;
+          ends = subst (λ (q : NamedType). (ends_name q.text && starts_name texts) ≡ false) is w.0;
+        })
+
+-- M.AB has no such name
+no_whole_name : (before after : List ℕ) → codes "M.AB" ≡ before ++ (codes "M.A" ++ after) → starts_name after ≡ false → ⊥
+unfolding class_of
+no_whole_name [] [] is ends = let lengths : length (codes "M.AB") ≡ length (codes "M.A") = ap length is in absurd (omega (arith, lengths))
+no_whole_name [] (b ∷ bs) is ends =
+    let first : 66 ≡ b = ap (λ (l : List ℕ). get_or l 3 0) is in
+    let clash : false ≡ true = sym ends ∙ ap (λ (c : ℕ). starts_name (c ∷ bs)) (sym first) in
+    false≢true clash
+no_whole_name (b ∷ []) after is ends = let second : 46 ≡ 77 = ap (λ (l : List ℕ). get_or l 1 0) is in absurd (omega (arith, second))
+no_whole_name (b ∷ c ∷ bs) after is ends =
+    let all : length (codes "M.AB") ≡ length ((b ∷ c ∷ bs) ++ (codes "M.A" ++ after)) = ap length is in
+    absurd (omega (arith, all, length-append (b ∷ c ∷ bs) (codes "M.A" ++ after), length-append (codes "M.A") after))
+
+not_cut : (text shown : List ℕ) → text ≡ codes "M.AB" → shown ≡ codes "AB" → (shown ≡ text) ⊎ HasWholeName text → ⊥
+not_cut text shown is so (inl same) = let lengths : length (codes "AB") ≡ length (codes "M.AB") = ap length (sym so ∙ (same ∙ is)) in absurd (omega (arith, lengths))
+not_cut text shown is so (inr found) = no_whole_name found.before found.after (sym is ∙ found.text_is) found.ends
+
+pub worked_whole_names : WholeNamesRow
+worked_whole_names = record { whole = whole_name; cut = λ f. not_cut _ _ (sym f.text_is) (sym f.shown_is) (whole_or_plain f.pieces f.each f.whole) }
 
 own : (e : SynonymEntry) → e.name ≡ codes "Pos" → e.entity.«module» ≡ codes "A" → e.entity.name ≡ codes "Pos" → e.synonym ≡ record { parameters = 0; body = pair } → IsAlias (codes "A") e pos
 own e named home name synonym = record {

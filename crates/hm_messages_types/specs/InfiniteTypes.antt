@@ -1,5 +1,5 @@
 -- Types that are equal only if a type contains itself, and so is infinite: the occurs check.
-use Rattle.std.specs.Prelude.{◌≡◌, ◌⊎◌, ℕ, true}
+use Rattle.std.specs.Prelude.{◌≡◌, ◌⊎◌, true}
 use Rattle.hm_types.specs.Monotypes.{Mono, Monos, var, rigid}
 use Rattle.hm_types.specs.Substitution.{Substitution, substitute, occurs_in_any}
 use Rattle.hm_types.specs.Types.{Var as leaf, App as app, done as none, more}

@@ -1,11 +1,12 @@
 -- Types as they are shown: names of synonyms stand for types, as in the signatures of the module (Report 4.2.2).
-use Rattle.std.specs.Prelude.{◌≡◌, ◌⊎◌, Bool, true, false, List, ℕ, All, Contains, codes, flat_map}
+use Rattle.std.specs.Prelude.{◌≡◌, ◌⊎◌, ◌&&◌, Bool, true, false, List, [], ◌∷◌, ℕ, All, Contains, codes, flat_map}
+use Rattle.hm_lex.specs.Bytes.{is_name_byte}
 use Rattle.hm_types.specs.Interfaces.{Exports as Interface}
 use Rattle.hm_types.specs.Monotypes.{Mono}
 use Rattle.hm_types.specs.StandardPrelude.{prelude_interface}
 use Rattle.hm_types.specs.Types.{App as app, Var as leaf}
 use Rattle.hm_types.specs.declared.Head.{Head}
-use Rattle.hm_types.specs.declared.Head.TheVariants.{Arrow, List as OfList, Named, Tuple, Unit}
+use Rattle.hm_types.specs.declared.Head.TheVariants.{Arrow, List as OfList, Named, Tuple, Unit as OfUnit}
 use Rattle.hm_types.specs.declared.entries.SynonymEntry.{SynonymEntry}
 use Rattle.hm_types_display.specs.Texts.{scheme_text_of}
 
@@ -18,10 +19,27 @@ pub record NamedType : Type 0 where
 abbrev pub IsPiece : List NamedType → NamedType → Type 0
 IsPiece names p = (p.name ≡ p.text) ⊎ Contains names p
 
+-- a name goes on where this text begins (Report 2.4)
+abbrev pub starts_name : List ℕ → Bool
+starts_name [] = false
+starts_name (b ∷ bs) = is_name_byte b
+
+-- a name goes on where this text ends
+abbrev pub ends_name : List ℕ → Bool
+ends_name [] = false
+ends_name (b ∷ []) = is_name_byte b
+ends_name (b ∷ c ∷ bs) = ends_name (c ∷ bs)
+
+-- no name is cut between two of these pieces
+abbrev pub AreWhole : List NamedType → Type 0
+AreWhole [] = Unit {0}
+AreWhole (p ∷ ps) = ((ends_name p.text && starts_name (flat_map (λ q. q.text) ps)) ≡ false) × AreWhole ps
+
 -- what is shown is the text, with names in place of some pieces. With the type of each name put back it is the text again
 pub record IsFolded (names : List NamedType) (text shown : List ℕ) : Type 0 where
   pub pieces : List NamedType
   pub each : All (IsPiece names) pieces
+  pub whole : AreWhole pieces
   pub text_is : text ≡ flat_map (λ p. p.text) pieces
   pub shown_is : shown ≡ flat_map (λ p. p.name) pieces
 
@@ -33,7 +51,7 @@ is_bracketed (app h ts) = has_brackets h
     has_brackets : Head → Bool
     has_brackets OfList = true
     has_brackets (Tuple n) = true
-    has_brackets Unit = false
+    has_brackets OfUnit = false
     has_brackets Arrow = false
     has_brackets (Named e) = false
 

@@ -11,6 +11,10 @@ use Rattle.hm_messages_types.specs.Shown.{IsAlias, IsFolded, NamedType}
 abbrev pub pos : NamedType
 pos = record { name = codes "Pos"; text = codes "((), ())" }
 
+-- A stands for the type A of the module M
+abbrev pub bare : NamedType
+bare = record { name = codes "A"; text = codes "M.A" }
+
 abbrev pub unit : Mono
 unit = app head.Unit none
 
@@ -22,6 +26,11 @@ pub record FoldedRow : Type 0 where
   pub twice : IsFolded (pos ∷ []) (codes "((), ()) -> ((), ())") (codes "Pos -> Pos")
   pub inside : IsFolded (pos ∷ []) (codes "[((), ())]") (codes "[Pos]")
   pub other : ¬ (IsFolded (pos ∷ []) (codes "[()]") (codes "[Pos]"))
+
+-- A is shown for M.A, and not in place of the beginning of M.AB
+pub record WholeNamesRow : Type 0 where
+  pub whole : IsFolded (bare ∷ []) (codes "M.A -> [M.AB]") (codes "A -> [M.AB]")
+  pub cut : ¬ (IsFolded (bare ∷ []) (codes "M.AB") (codes "AB"))
 
 -- a synonym of the module A without parameters is a name for its pair. One with a parameter isn't, nor is one of the module B, nor one for the unit type
 pub record AliasRow : Type 0 where

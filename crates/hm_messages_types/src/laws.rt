@@ -1,7 +1,7 @@
 //! Worked examples, and a law: functions with empty bodies, whose contracts have the facts.
 ghost use Rattle.hm_messages_types.specs.InfiniteTypes.{NoCommonInstance};
 ghost use Rattle.hm_messages_types.specs.WorkedInstances.{InstancesRow};
-ghost use Rattle.hm_messages_types.specs.WorkedShown.{AliasRow, FoldedRow};
+ghost use Rattle.hm_messages_types.specs.WorkedShown.{AliasRow, FoldedRow, WholeNamesRow};
 
 /// No substitution makes two types equal that are equal only if a type contains itself.
 pub fn infinite_types()
@@ -9,9 +9,10 @@ pub fn infinite_types()
 {}
 
 /// Texts of types with a name for a part of them, and synonyms that are names for types.
-#[tactic(auto, using(crate::proofs::WorkedShown::worked_folded, crate::proofs::WorkedShown::worked_aliases))]
+#[tactic(auto, using(crate::proofs::WorkedShown::worked_folded, crate::proofs::WorkedShown::worked_whole_names, crate::proofs::WorkedShown::worked_aliases))]
 pub fn worked_names()
     ensures folded { FoldedRow }
+    ensures whole { WholeNamesRow }
     ensures aliases { AliasRow }
 {}
 

@@ -5,6 +5,7 @@
 mod apart;
 mod infinite;
 pub mod laws;
+mod names;
 mod question;
 mod shown;
 mod texts;

@@ -1,12 +1,13 @@
 //! Types as they are shown: names of synonyms stand for types, as in the signatures of the module.
-ghost use Rattle.std.specs.Prelude.{◌≡◌, ◌++◌, All, IfOk, IfSome, codes, map, string_bytes, true};
+ghost use Rattle.std.specs.Prelude.{◌≡◌, ◌++◌, ◌&&◌, ℕ, List, All, IfOk, IfSome, codes, false, map, string_bytes, true};
 ghost use Rattle.hm_types.specs.Schemes.{HasArities, HasNoRigid};
 ghost use Rattle.hm_types.specs.Shape.{type_of};
 ghost use Rattle.hm_types.specs.StandardPrelude.{prelude_interface};
 ghost use Rattle.hm_types_display.specs.Texts.{scheme_text_of};
 ghost use Rattle.hm_messages_types.specs.Aliases.{alias_of as named_type};
-ghost use Rattle.hm_messages_types.specs.Shown.{IsAlias, IsFolded, IsName, IsNameIn, IsPiece, NamedType, is_bracketed};
+ghost use Rattle.hm_messages_types.specs.Shown.{IsAlias, IsFolded, IsName, IsNameIn, IsPiece, NamedType, ends_name, is_bracketed, starts_name};
 
+use crate::names::{name_len, starts_name};
 use crate::question::Question;
 use hm_messages_changes::Span;
 use hm_messages_outline::{Lexed, Run, declarations_of, one};
@@ -20,11 +21,20 @@ use std::sync::Arc;
 /// How many synonyms of a module are read.
 const MOST_NAMES: usize = 64;
 
-/// A synonym without parameters, and the text of the type that it stands for.
+/// A name for a type: a synonym without parameters or the bare name of a type constructor, and the text of the type that it stands for.
 #[derive(Drop)]
 pub struct Alias {
     name: String,
     text: String,
+}
+
+impl Alias {
+    /// Returns a name for the type with a text.
+    pub fn new(name: String, text: String) -> Alias
+        ensures { named_type result ≡ record { name = string_bytes name; text = string_bytes text } }
+    {
+        Alias { name, text }
+    }
 }
 
 /// Returns the declarations of the module with this name, or no tokens.
@@ -276,6 +286,17 @@ fn number_at(aliases: &[Alias], text: &[u8]) -> Option<usize> {
     best
 }
 
+/// Adds the first name of a text to what is shown, or its first byte if no name begins there. Returns the text after it.
+fn add_word<'t>(shown: &mut Vec<u8>, text: &'t [u8]) -> Result<&'t [u8], AllocError>
+    ensures { IfOk result (λ rest. (word : List ℕ) × (text.entry.now ≡ word ++ rest.now) × (shown.new.items ≡ shown.old.items ++ word)
+        × ((ends_name word && starts_name rest.now) ≡ false)) }
+{
+    let len = name_len(text).max(1).min(text.len());
+    let (word, rest) = text.split_at(len);
+    shown.extend_from_slice(word)?;
+    Ok(rest)
+}
+
 /// Adds the first piece of a text to what is shown, and returns the text after the piece.
 fn add_piece<'t>(
     shown: &mut Vec<u8>,
@@ -283,24 +304,20 @@ fn add_piece<'t>(
     text: &'t [u8],
 ) -> Result<&'t [u8], AllocError>
     ensures { IfOk result (λ rest. (p : NamedType) × IsPiece (map named_type aliases.now) p × (text.entry.now ≡ p.text ++ rest.now)
-        × (shown.new.items ≡ shown.old.items ++ p.name)) }
+        × (shown.new.items ≡ shown.old.items ++ p.name) × ((ends_name p.text && starts_name rest.now) ≡ false)) }
 {
     if let Some(number) = number_at(aliases, text) {
         if number < aliases.len() {
             let alias = &aliases[number];
             if let Some(rest) = text.strip_prefix(alias.text.as_bytes()) {
-                shown.extend_from_slice(alias.name.as_bytes())?;
-                return Ok(rest);
+                if !starts_name(rest) {
+                    shown.extend_from_slice(alias.name.as_bytes())?;
+                    return Ok(rest);
+                }
             }
         }
     }
-    match text.split_first() {
-        Some((first, rest)) => {
-            shown.push(*first)?;
-            Ok(rest)
-        }
-        None => Ok(text),
-    }
+    Ok(add_word(shown, text)?)
 }
 
 /// Returns the bytes that are shown of a text with names for types, or `None` if not all of it is shown.

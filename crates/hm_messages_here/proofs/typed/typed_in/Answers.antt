@@ -1,4 +1,4 @@
-use Rattle.std.proofs.Common.{rules, ◌≡◌, ◌∷◌, All, List, map, subst}
+use Rattle.std.proofs.Common.{rules, ◌≡◌, ◌∷◌, All, List, inl, map, subst}
 use Rattle.std.specs.Arc.{arc_value}
 use Rattle.std.proofs.lemmas.List.Elements.{All-map}
 use Rattle.hm_types.specs.Interfaces.{Exports as Interface}
@@ -8,6 +8,9 @@ use Rattle.hm_verdicts.specs.ModuleVerdicts.{Good, IsVerdict}
 use Rattle.hm_messages_types.specs.Aliases.{alias_of}
 use Rattle.hm_messages_trials.specs.TypedSources.{IsModuleIn}
 use Rattle.hm_messages_types.specs.Shown.{IsName}
+use Rattle.hm_messages_types.specs.declared.shown.Alias.{Alias}
+use Rattle.hm_messages_types.proofs.Folding.{all_so}
+use Rattle.hm_messages_type_names.specs.TypeNames.{IsTypeName}
 use Rattle.hm_messages_trials.specs.ShownTypes.{ExportsNames}
 use Rattle.hm_messages_here.specs.declared.typed.Typed.{Typed}
 use Rattle.hm_messages_trials.proofs.Found.{found_so}
@@ -26,5 +29,6 @@ returns-in-Good-clause-names c =
     let right : IsVerdict o.«module» (prelude_interface ∷ fs) (Good exports) = subst (λ (l : List Interface). IsVerdict o.«module» (prelude_interface ∷ l) (Good exports)) imports own in
     found_so (λ (t : Typed). All (λ a. IsName name exports (alias_of a)) t.aliases.items) (λ (t : Typed). ExportsNames c.args.changed.now name fs (map alias_of t.aliases.items))
     c.in_ok-typed_by-in-Good.field-0
-    (λ t each. record { «module» = o.«module»; spelled = spelled; asked = asked; exports = exports; right = right; each = All-map (IsName name exports) alias_of t.aliases.items each })
+    (λ t each. record { «module» = o.«module»; spelled = spelled; asked = asked; exports = exports; right = right; each = All-map (IsTypeName o.«module» (prelude_interface ∷ fs) name exports) alias_of t.aliases.items
+          (all_so (λ (a : Alias). IsName name exports (alias_of a)) (λ (a : Alias). IsTypeName o.«module» (prelude_interface ∷ fs) name exports (alias_of a)) (λ a h. inl h) t.aliases.items each) })
     c.in_ok-typed_by-in-Good.ensures.names

@@ -9,7 +9,7 @@ loop-init c = begun (map alias_of c.args.aliases.now) c.args.text.now c.args.tex
 pub loop-preserved : goal.loop-preserved
 loop-preserved c =
     let added = c.in_ok-rest.ensures in
-    grown (map alias_of c.args.aliases.now) c.args.text.now c.loop.rest.now c.in_ok-rest.rest.now c.loop.shown.items c.add_piece.new.shown.items added.0 c.loop.invariant added.1 added.2 added.3
+    grown (map alias_of c.args.aliases.now) c.args.text.now c.loop.rest.now c.in_ok-rest.rest.now c.loop.shown.items c.add_piece.new.shown.items added.0 c.loop.invariant added.1 added.2 added.3 added.4
 
 pub returns-then-is_empty : goal.returns-then-is_empty
 returns-then-is_empty c =
