@@ -2,4 +2,5 @@ mod Applying
 mod Returns
 mod Starts
 mod Sums
+mod Walking
 mod WorkedPositions

@@ -134,7 +134,7 @@ never_start n line k text low is next =
     sym (ap (λ (i : ℕ). line_start i text) (sym count) ∙ start_none (n + 1) (line - (n + 1)) text (no_next_start n k text is next))
 
 -- the same for the part of a text as the code cuts it
-abbrev cut : List ℕ → ℕ → List ℕ
+abbrev pub cut : List ℕ → ℕ → List ℕ
 cut text k = take (length text - k) (drop k text)
 
 pub next_cut : (n k j : ℕ) (text : List ℕ) → line_start n text ≡ Some k → Some j ≡ line_start 1 (cut text k) → line_start (n + 1) text ≡ Some (k + j)

@@ -1,9 +1,9 @@
 -- Sums of units.
-use Rattle.std.proofs.Common.{◌≡◌, ℕ, ◌+◌, ◌<◌, ◌≤◌, true, false, List, length, take, get_or, ap, ◌∙◌, arith, ⊎_elim, if◌then◌else◌}
-use Rattle.std.specs.Prelude.{nat_le}
+use Rattle.std.proofs.Common.{◌≡◌, ℕ, ◌+◌, ◌<◌, ◌≤◌, true, false, List, [], ◌∷◌, length, take, get_or, refl, ap, ◌∙◌, arith, ⊎_elim, if◌then◌else◌}
+use Rattle.std.specs.Prelude.{min, nat_le}
 use Rattle.std.proofs.lemmas.Bool.{cases_Bool, cond-false, cond-true}
-use Rattle.std.proofs.lemmas.List.{take-take}
-use Rattle.std.proofs.lemmas.List.Sums.{sum_by-take-le, sum_by_more}
+use Rattle.std.proofs.lemmas.List.{length-take, take-take}
+use Rattle.std.proofs.lemmas.List.Sums.{sum_by-cons, sum_by-take-le, sum_by_more}
 use Rattle.hm_lsp_positions.specs.Units.{continues, unit_of, units}
 use Rattle.hm_lsp_positions.specs.declared.units.Encoding.{Encoding}
 use Rattle.hm_lsp_positions.specs.declared.units.Encoding.TheVariants.{Utf8, Utf16, Utf32}
@@ -35,3 +35,14 @@ units_less e line i j low within first =
 
 pub sum_more : (e : Encoding) (line : List ℕ) (i sum unit : ℕ) → i < length line → sum ≡ units e (take i line) → unit ≡ unit_of e (get_or line i 0) → sum + unit ≡ units e (take (i + 1) line)
 sum_more e line i sum unit low is more = let step = units_more e line i low in omega (arith, step, is, more)
+
+-- a byte is a unit of UTF-8
+bytes_units : (xs : List ℕ) → units Utf8 xs ≡ length xs
+bytes_units [] = refl
+bytes_units (x ∷ xs) =
+    let step : units Utf8 (x ∷ xs) ≡ 1 + units Utf8 xs = sum_by-cons (unit_of Utf8) x xs in
+    let rest = bytes_units xs in
+    omega (arith, step, rest)
+
+pub bytes_before : (xs : List ℕ) (k : ℕ) → units Utf8 (take k xs) ≡ min k (length xs)
+bytes_before xs k = bytes_units (take k xs) ∙ length-take k xs

@@ -1,4 +1,5 @@
 pub mod Changes
+pub mod Cursors
 pub mod Lines
 pub mod Positions
 pub mod Units

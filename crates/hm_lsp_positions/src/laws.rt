@@ -1,7 +1,7 @@
 //! Laws about positions. Each is a function with an empty body, and its contract states the law.
 ghost use Rattle.std.specs.Prelude.{◌≡◌, ℕ, List};
 ghost use Rattle.hm_lsp_positions.specs.Positions.{IsOffsetOf, IsPlace, IsPositionOf};
-ghost use Rattle.hm_lsp_positions.specs.Worked.{LinesRow, UnitsRow};
+ghost use Rattle.hm_lsp_positions.specs.Worked.{CursorsRow, LinesRow, UnitsRow};
 ghost use Rattle.hm_lsp_positions.specs.declared.positions.Position.{Position};
 ghost use Rattle.hm_lsp_positions.specs.declared.units.Encoding.{Encoding};
 
@@ -11,9 +11,10 @@ pub fn kept_places()
     ensures { (encoding : Encoding) (text : List ℕ) (offset again : ℕ) (p : Position) → IsPositionOf encoding text offset p → IsPlace text p.line offset → IsOffsetOf encoding text p again → again ≡ offset }
 {}
 
-/// Lines and units of small texts.
-#[tactic(auto, using(crate::proofs::WorkedPositions::worked_lines, crate::proofs::WorkedPositions::worked_units))]
+/// Lines, units and cursors of small texts.
+#[tactic(auto, using(crate::proofs::WorkedPositions::worked_cursors, crate::proofs::WorkedPositions::worked_lines, crate::proofs::WorkedPositions::worked_units))]
 pub fn worked_positions()
     ensures lines { LinesRow }
     ensures units { UnitsRow }
+    ensures cursors { CursorsRow }
 {}

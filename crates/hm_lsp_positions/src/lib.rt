@@ -2,11 +2,13 @@
 #![tactic(auto)]
 
 mod changes;
+mod cursors;
 pub mod laws;
 mod lines;
 mod positions;
 mod units;
 
 pub use crate::changes::{Change, ChangeFault, Range, all_changed, changed};
+pub use crate::cursors::Cursor;
 pub use crate::positions::{Position, offset_of, position_of};
 pub use crate::units::Encoding;

@@ -3,6 +3,7 @@ ghost use Rattle.std.specs.Prelude.{◌≡◌, ℕ, ◌+◌, ◌*◌, ◌<◌, �
 ghost use Rattle.hm_lsp_positions.specs.Lines.{line_start};
 ghost use Rattle.hm_lsp_positions.specs.Positions.{is_inside, IsBetween, IsColumn, IsOffsetOf, IsPositionOf};
 ghost use Rattle.hm_lsp_positions.specs.Units.{units};
+ghost use Rattle.hm_lsp_positions.specs.declared.units.Encoding.TheVariants.{Utf8};
 
 use crate::lines::{line_length, line_start, next_line};
 use crate::units::{Encoding, continues, unit_of, units};
@@ -58,6 +59,25 @@ fn column_bytes(encoding: Encoding, line: &[u8], column: usize) -> usize
     ensures { IsColumn encoding line.now column result }
 {
     boundary(line, most_bytes(encoding, line, column))
+}
+
+/// Returns the largest number of bytes of a line that isn't above a column, which counts bytes.
+fn most_of_bytes(line: &[u8], column: usize) -> usize
+    ensures within { result ≤ length line.now }
+    ensures most { units Utf8 (take result line.now) ≤ column }
+    ensures last { result < length line.now → column < units Utf8 (take (result + 1) line.now) }
+{
+    if line.len() <= column {
+        return line.len();
+    }
+    column
+}
+
+/// Returns the number of bytes of a line before a column, which counts bytes.
+pub(crate) fn byte_column(line: &[u8], column: usize) -> usize
+    ensures { IsColumn Utf8 line.now column result }
+{
+    boundary(line, most_of_bytes(line, column))
 }
 
 // Why: docs/DECISIONS.md, "Positions that don't exist".
