@@ -12,6 +12,8 @@ import lsp  # noqa: E402
 
 A = "module A where { f x = x ; g = f 1 }\n"
 B = "module B where { import A ; h :: Char -> Bool -> Char ; h c b = c ; k = h True 'c' ; m = g }\n"
+# The most seconds of processor time for the references and the symbols of a source of 1 MB.
+LONGEST = 15
 TYPED = "p = case f 1 of { 0 -> True ; _ -> False } ; "
 
 
@@ -189,6 +191,22 @@ def escape_letters(it):
     it.row("a definition has the URI of the client", place and (place["uri"], place["range"]["start"]), (other["uri"], position(A, "g =")))
 
 
+def refer_often(it):
+    """Asks for the references of a name that 60,000 definitions use, and what the source declares. Finding each place from the start would take longer."""
+    doc, count = {"uri": it.uri("F.hs")}, 60000
+    text = "module F where { v = 'c'\n" + "".join(f"; w{number} = v\n" for number in range(count)) + "}"
+    it.notify("textDocument/didOpen", textDocument={**doc, "languageId": "haskell", "version": 1, "text": text})
+    where = {"textDocument": doc, "position": {"line": 0, "character": text.index("v =")}}
+    it.row("a name that is used often", it.ask("textDocument/hover", **where)["result"] is None, False)
+    before = it.processor()
+    places = it.ask("textDocument/references", **where, context={"includeDeclaration": True})["result"]
+    wanted = {"start": {"line": count, "character": len(f"; w{count - 1} = ")}, "end": {"line": count, "character": len(f"; w{count - 1} = v")}}
+    it.row("its references", (len(places), places[-1]["range"]), (count + 1, wanted))
+    it.row("the symbols of its source", len(it.ask("textDocument/documentSymbol", textDocument=doc)["result"]), count + 2)
+    it.row("the time for them", it.processor() - before < LONGEST, True)
+    it.notify("textDocument/didClose", textDocument=doc)
+
+
 def nest_deeply(it):
     """Opens a source that nests deeply, and empties it. The server drops what it had checked, and goes on."""
     doc = {"uri": it.uri("D.hs")}
@@ -221,7 +239,7 @@ def main(program=lsp.PROVED):
             with open(os.path.join(folder, name), "w", encoding="utf-8") as file:
                 file.write(text)
         it = Client(os.path.abspath(program), folder)
-        for part in (start_and_check, look, mend, type_letters, escape_letters, nest_deeply, bad_input, finish):
+        for part in (start_and_check, look, mend, type_letters, escape_letters, refer_often, nest_deeply, bad_input, finish):
             part(it)
     print(f"{it.rows - it.wrong} of {it.rows} rows as wanted")
     return 1 if it.wrong else 0

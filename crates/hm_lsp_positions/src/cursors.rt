@@ -27,6 +27,7 @@ struct Spot {
     column: usize,
 }
 
+// Why: docs/DECISIONS.md, "Places in order".
 /// A text and a place in it, from which later places are found.
 ///
 /// Finding places in the order of the text reads it twice. A place before the last one is found from the start of its line, or of the text.

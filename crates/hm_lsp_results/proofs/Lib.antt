@@ -8,4 +8,5 @@ mod DeclaredValues
 mod Matching
 mod FolderSymbols
 mod RenameEdits
+mod Walked
 mod WorkedResults

@@ -3,28 +3,27 @@ use Rattle.std.proofs.Common.{◌≡◌, ℕ, ◌<◌, List, Option, None, Some,
 use Rattle.std.specs.declared.alloc.Global.{Global}
 use Rattle.serde_json.specs.View.{view}
 use Rattle.serde_json.specs.declared.value.Value.{Value}
+use Rattle.hm_lsp_positions.specs.Cursors.{Walk}
 use Rattle.hm_lsp_positions.specs.declared.positions.Position.{Position}
 use Rattle.hm_lsp_values.specs.References.{IsReference}
 use Rattle.hm_messages_json.specs.declared.message.Position.{Position as Place}
 use Rattle.hm_service_references.specs.Names.{HasNoNameAt}
-use Rattle.hm_service_sources.specs.declared.held.HeldSource.{HeldSource}
 use Rattle.hm_uses_references.specs.declared.finding.Reference.{Reference}
 use Rattle.hm_lsp_results.specs.Asked.{Subject}
 use Rattle.hm_lsp_results.specs.References.{HasNoReferences, IsLocated, IsPlaceIn, in_bytes, unnamed}
 use Rattle.hm_lsp_sources.specs.declared.source.Source.{Source}
-use Rattle.hm_lsp_results.proofs.Found.{at_get}
 use Rattle.hm_lsp_results.proofs.Listed.{has_uri}
+use Rattle.hm_lsp_results.proofs.Walked.{IsWalkIn}
 
-pub located_one : {E : Type 0} (asked : Subject) (r : Reference) (s : Source) (h : HeldSource) (uri text : List ℕ) (made : Result Value E) → r.source < length asked.sources → r.source < length asked.held
-    → s ≡ get_or asked.sources r.source s → h ≡ get_or asked.held r.source h → uri ≡ string_bytes s.uri → text ≡ h.standing.items
-    → IfOk made (λ v. IsReference asked.encoding uri text r (view v)) → IfOk made (λ v. IsLocated asked r (view v))
-located_one asked r s h uri text (Err e) low below at_s at_h named is made = tt
-located_one asked r s h uri text (Ok v) low below at_s at_h named is made = record {
+pub located_one : {E : Type 0} (asked : Subject) (r : Reference) (s : Source) (w : Walk) (uri : List ℕ) (made : Result Value E) → r.source < length asked.sources → s ≡ get_or asked.sources r.source s → IsWalkIn asked r.source w
+    → uri ≡ string_bytes s.uri → IfOk made (λ v. IsReference w.encoding uri w.text r (view v)) → IfOk made (λ v. IsLocated asked r (view v))
+located_one asked r s w uri (Err e) low at_s at_w named made = tt
+located_one asked r s w uri (Ok v) low at_s at_w named made = record {
   uri = uri;
-  source = h;
+  source = at_w.source;
   named = has_uri asked.sources r.source s uri low at_s named;
-  held = at_get asked.held r.source h below at_h;
-  is = subst (λ t. IsReference asked.encoding uri t r (view v)) is made;
+  held = at_w.held;
+  is = subst (λ (x : Walk). IsReference x.encoding uri x.text r (view v)) at_w.walk made;
 }
 
 pub nothing_found : (asked : Subject) (n : ℕ) (p : Position) (place : Place) (found : Option (Vec Reference Global)) → IsPlaceIn asked n p place → IfNone found (HasNoNameAt asked.checked n (in_bytes place)) → IfNone found (HasNoReferences asked n p)

@@ -4,4 +4,5 @@ pub mod Matches
 pub mod Renames
 pub mod Symbols
 pub mod Results
+pub mod Walks
 pub mod Worked

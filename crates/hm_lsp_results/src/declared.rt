@@ -7,6 +7,7 @@ ghost use Rattle.hm_lsp_results.specs.Symbols.{IsSymbolsResult};
 ghost use Rattle.hm_lsp_values.specs.Symbols.{IsSymbol};
 
 use crate::asking::Asked;
+use hm_lsp_positions::Cursor;
 use hm_lsp_values::symbol_value;
 use hm_service_symbols::{Symbol, symbols_of};
 use serde_json::Value;
@@ -21,8 +22,9 @@ fn symbol_values(
     ensures { IfOk result (λ value. AreValues (IsSymbol asked.now.encoding text.now) symbols.now (view value)) }
 {
     let mut values = Vec::new(asked.alloc);
+    let mut cursor = Cursor::new(asked.encoding, text);
     'symbols: for symbol in symbols {
-        values.push(symbol_value(asked.alloc, asked.encoding, text, symbol)?)?;
+        values.push(symbol_value(asked.alloc, &mut cursor, symbol)?)?;
     }
     Ok(Value::Array(values))
 }

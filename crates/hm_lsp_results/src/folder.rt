@@ -5,9 +5,12 @@ ghost use Rattle.serde_json.specs.View.{view};
 ghost use Rattle.hm_lsp_results.specs.Asked.{subject_of};
 ghost use Rattle.hm_lsp_results.specs.References.{AreValues};
 ghost use Rattle.hm_lsp_results.specs.Symbols.{AreFound, IsFound, is_found};
+ghost use Rattle.hm_lsp_results.specs.Walks.{walks_of};
 
 use crate::asking::Asked;
 use crate::queries::is_match;
+use crate::walking::cursors_of;
+use hm_lsp_positions::Cursor;
 use hm_lsp_values::located_symbol_value;
 use hm_service_symbols::{SetSymbol, all_symbols};
 use serde_json::Value;
@@ -23,17 +26,22 @@ fn is_found(asked: &Asked<'_>, query: &str, one: &SetSymbol<'_>) -> bool
     one.source() < asked.sources.len() && one.source() < asked.held.len()
 }
 
-/// Returns a symbol with its range in the text that stands for its source.
-fn found_value(asked: &Asked<'_>, one: &SetSymbol<'_>) -> Result<Value, AllocError>
+/// Returns a symbol with its range in the text that stands for its source, by the cursors of all sources.
+fn found_value(
+    asked: &Asked<'_>,
+    cursors: &mut Vec<Cursor<'_>>,
+    one: &SetSymbol<'_>,
+) -> Result<Value, AllocError>
     requires sources { one.now.source < length asked.now.sources.now }
     requires held { one.now.source < length asked.now.held.now }
-    ensures { IfOk result (λ value. IsFound (subject_of asked.now) one.now (view value)) }
+    requires walks { cursors.old.items ≡ walks_of (subject_of asked.now) }
+    ensures walks { cursors.new.items ≡ cursors.old.items }
+    ensures value { IfOk result (λ value. IsFound (subject_of asked.now) one.now (view value)) }
 {
     let number = one.source();
     let named = &asked.sources[number];
-    let held = &asked.held[number];
-    let (uri, text) = (named.uri.as_str(), held.standing.as_slice());
-    located_symbol_value(asked.alloc, asked.encoding, uri, text, one.symbol())
+    let cursor = &mut cursors[number];
+    located_symbol_value(asked.alloc, named.uri.as_str(), cursor, one.symbol())
 }
 
 /// Returns those of these symbols that a query finds, in order.
@@ -44,10 +52,11 @@ fn found_values(
 ) -> Result<Value, AllocError>
     ensures { IfOk result (λ value. AreValues (IsFound (subject_of asked.now)) (filter (is_found (subject_of asked.now) query.now) symbols.now) (view value)) }
 {
+    let mut cursors = cursors_of(asked)?;
     let mut values = Vec::new(asked.alloc);
     'symbols: for one in symbols {
         if is_found(asked, query, one) {
-            values.push(found_value(asked, one)?)?;
+            values.push(found_value(asked, &mut cursors, one)?)?;
         }
     }
     Ok(Value::Array(values))

@@ -10,6 +10,7 @@ mod queries;
 mod referring;
 mod renames;
 mod replying;
+mod walking;
 
 pub use crate::asking::Asked;
 pub use crate::replying::{failure, replied};

@@ -4,11 +4,13 @@ ghost use Rattle.std.specs.List.{filter};
 ghost use Rattle.serde_json.specs.View.{view};
 ghost use Rattle.hm_lsp_results.specs.Asked.{subject_of};
 ghost use Rattle.hm_lsp_results.specs.References.{AreReferencesOf, AreValues, HasNoPlace, HasNoReferences, IsHighlightsResult, IsLocated, IsPlaceIn, IsReferencesResult, is_in, is_located};
+ghost use Rattle.hm_lsp_results.specs.Walks.{walks_of};
 ghost use Rattle.hm_lsp_values.specs.References.{IsHighlight};
 
 use crate::asking::{Asked, read_text};
 use crate::faults::ServerFault;
-use hm_lsp_positions::Position;
+use crate::walking::cursors_of;
+use hm_lsp_positions::{Cursor, Position};
 use hm_lsp_values::{highlight_value, place_at, reference_value};
 use hm_service::Position as Place;
 use hm_service_references::{Reference, references_of};
@@ -61,16 +63,21 @@ fn is_located(asked: &Asked<'_>, declarations: bool, reference: &Reference) -> b
     reference.source < asked.sources.len() && reference.source < asked.held.len()
 }
 
-/// Returns where a name is written, in the text that stands for its source.
-fn located_value(asked: &Asked<'_>, reference: &Reference) -> Result<Value, AllocError>
+/// Returns where a name is written, in the text that stands for its source, by the cursors of all sources.
+fn located_value(
+    asked: &Asked<'_>,
+    cursors: &mut Vec<Cursor<'_>>,
+    reference: &Reference,
+) -> Result<Value, AllocError>
     requires sources { reference.now.source < length asked.now.sources.now }
     requires held { reference.now.source < length asked.now.held.now }
-    ensures { IfOk result (λ value. IsLocated (subject_of asked.now) reference.now (view value)) }
+    requires walks { cursors.old.items ≡ walks_of (subject_of asked.now) }
+    ensures walks { cursors.new.items ≡ cursors.old.items }
+    ensures value { IfOk result (λ value. IsLocated (subject_of asked.now) reference.now (view value)) }
 {
     let named = &asked.sources[reference.source];
-    let held = &asked.held[reference.source];
-    let (uri, text) = (named.uri.as_str(), held.standing.as_slice());
-    reference_value(asked.alloc, asked.encoding, uri, text, reference)
+    let cursor = &mut cursors[reference.source];
+    reference_value(asked.alloc, named.uri.as_str(), cursor, reference)
 }
 
 /// Returns the references that are sent, in order.
@@ -81,10 +88,11 @@ fn located_values(
 ) -> Result<Value, AllocError>
     ensures { IfOk result (λ value. AreValues (IsLocated (subject_of asked.now)) (filter (is_located (subject_of asked.now) declarations) references.now) (view value)) }
 {
+    let mut cursors = cursors_of(asked)?;
     let mut values = Vec::new(asked.alloc);
     'references: for reference in references {
         if is_located(asked, declarations, reference) {
-            values.push(located_value(asked, reference)?)?;
+            values.push(located_value(asked, &mut cursors, reference)?)?;
         }
     }
     Ok(Value::Array(values))
@@ -122,10 +130,11 @@ fn highlight_values(
 ) -> Result<Value, AllocError>
     ensures { IfOk result (λ value. AreValues (IsHighlight asked.now.encoding text.now) (filter (is_in source) references.now) (view value)) }
 {
+    let mut cursor = Cursor::new(asked.encoding, text);
     let mut values = Vec::new(asked.alloc);
     'references: for reference in references {
         if is_in(source, reference) {
-            values.push(highlight_value(asked.alloc, asked.encoding, text, reference)?)?;
+            values.push(highlight_value(asked.alloc, &mut cursor, reference)?)?;
         }
     }
     Ok(Value::Array(values))

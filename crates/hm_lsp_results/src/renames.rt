@@ -9,7 +9,7 @@ ghost use Rattle.hm_lsp_values.specs.Renames.{IsReplacement};
 use crate::asking::Asked;
 use crate::faults::ServerFault;
 use crate::referring::place_in;
-use hm_lsp_positions::Position;
+use hm_lsp_positions::{Cursor, Position};
 use hm_lsp_values::{document_edit_value, replacement_value, workspace_edit_value};
 use hm_service::Position as Place;
 use hm_service_rename::{CheckedSet, Reference, Rename, Renamed, rename_of};
@@ -30,9 +30,10 @@ fn replacements(
 ) -> Result<Vec<Value>, AllocError>
     ensures { IfOk result (λ edits. AllZip (IsReplacement asked.now.encoding text.now name.now) references.now (map view edits.items)) }
 {
+    let mut cursor = Cursor::new(asked.encoding, text);
     let mut edits = Vec::new(asked.alloc);
     'references: for reference in references {
-        edits.push(replacement_value(asked.alloc, asked.encoding, text, name, reference)?)?;
+        edits.push(replacement_value(asked.alloc, &mut cursor, name, reference)?)?;
     }
     Ok(edits)
 }

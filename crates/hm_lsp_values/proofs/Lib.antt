@@ -1,3 +1,4 @@
 mod Showing
 mod WorkedValues
 mod WorkedSpans
+mod Walked

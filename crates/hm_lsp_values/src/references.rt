@@ -5,14 +5,15 @@ ghost use Rattle.hm_lsp_values.specs.References.{IsHighlight, IsReference, kind_
 ghost use Rattle.hm_lsp_values.specs.Spans.{IsSpan};
 
 use crate::spans::{Span, span_of, span_value};
-use hm_lsp_positions::Encoding;
+use hm_lsp_positions::Cursor;
 use hm_uses_references::Reference;
 use serde_json::{Value, json};
 use std::alloc::{AllocError, Global};
 
-/// Returns the positions between which a name is written in the text of its source.
-pub(crate) fn reference_span(encoding: Encoding, text: &[u8], reference: &Reference) -> Span
-    ensures { IsSpan encoding text.now reference.now.line reference.now.column reference.now.length result.start result.end }
+/// Returns the positions between which a name is written in the text of its source, which a cursor is in.
+pub(crate) fn reference_span(cursor: &mut Cursor<'_>, reference: &Reference) -> Span
+    ensures same { cursor.new ≡ cursor.old }
+    ensures span { IsSpan cursor.old.encoding cursor.old.text reference.now.line reference.now.column reference.now.length result.start result.end }
 {
     let Reference {
         line,
@@ -20,20 +21,21 @@ pub(crate) fn reference_span(encoding: Encoding, text: &[u8], reference: &Refere
         length,
         ..
     } = *reference;
-    span_of(encoding, text, line, column, length)
+    span_of(cursor, line, column, length)
 }
 
-/// Returns where a name is written, in the text of its source (`Location`).
+/// Returns where a name is written, in the text of its source, which a cursor is in (`Location`).
 pub fn reference_value(
     alloc: Global,
-    encoding: Encoding,
     uri: &str,
-    text: &[u8],
+    cursor: &mut Cursor<'_>,
     reference: &Reference,
 ) -> Result<Value, AllocError>
-    ensures { IfOk result (λ value. IsReference encoding uri.now text.now reference.now (view value)) }
+    ensures same { cursor.new ≡ cursor.old }
+    ensures value { IfOk result (λ value. IsReference cursor.old.encoding uri.now cursor.old.text reference.now (view value)) }
 {
-    let range = span_value(alloc, reference_span(encoding, text, reference))?;
+    let span = reference_span(cursor, reference);
+    let range = span_value(alloc, span)?;
     let range = &range;
     json!(in alloc; {"range": range, "uri": uri})
 }
@@ -45,16 +47,17 @@ fn kind_of(reference: &Reference) -> u64
     if reference.binds { 3 } else { 2 }
 }
 
-/// Returns where a name is written, in the text of its source, and whether it is bound there (`DocumentHighlight`).
+/// Returns where a name is written, in the text of its source, which a cursor is in, and whether it is bound there (`DocumentHighlight`).
 pub fn highlight_value(
     alloc: Global,
-    encoding: Encoding,
-    text: &[u8],
+    cursor: &mut Cursor<'_>,
     reference: &Reference,
 ) -> Result<Value, AllocError>
-    ensures { IfOk result (λ value. IsHighlight encoding text.now reference.now (view value)) }
+    ensures same { cursor.new ≡ cursor.old }
+    ensures value { IfOk result (λ value. IsHighlight cursor.old.encoding cursor.old.text reference.now (view value)) }
 {
-    let range = span_value(alloc, reference_span(encoding, text, reference))?;
+    let span = reference_span(cursor, reference);
+    let range = span_value(alloc, span)?;
     let (range, kind) = (&range, kind_of(reference));
     json!(in alloc; {"kind": kind, "range": range})
 }

@@ -5,22 +5,23 @@ ghost use Rattle.hm_lsp_values.specs.Renames.{IsReplacement, document_edit_data,
 
 use crate::references::reference_span;
 use crate::spans::span_value;
-use hm_lsp_positions::Encoding;
+use hm_lsp_positions::Cursor;
 use hm_uses_references::Reference;
 use serde_json::{Value, json};
 use std::alloc::{AllocError, Global};
 
-/// Returns the edit that puts a new name in place of a name that is written in a text (`TextEdit`).
+/// Returns the edit that puts a new name in place of a name that is written in the text of a cursor (`TextEdit`).
 pub fn replacement_value(
     alloc: Global,
-    encoding: Encoding,
-    text: &[u8],
+    cursor: &mut Cursor<'_>,
     name: &str,
     reference: &Reference,
 ) -> Result<Value, AllocError>
-    ensures { IfOk result (λ value. IsReplacement encoding text.now name.now reference.now (view value)) }
+    ensures same { cursor.new ≡ cursor.old }
+    ensures value { IfOk result (λ value. IsReplacement cursor.old.encoding cursor.old.text name.now reference.now (view value)) }
 {
-    let range = span_value(alloc, reference_span(encoding, text, reference))?;
+    let span = reference_span(cursor, reference);
+    let range = span_value(alloc, span)?;
     let range = &range;
     json!(in alloc; {"newText": name, "range": range})
 }

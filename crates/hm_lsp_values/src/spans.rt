@@ -1,10 +1,10 @@
 //! Where names are written in texts.
-ghost use Rattle.std.specs.Prelude.{◌≡◌, ◌≤◌, ◌+◌, IfOk, length, min};
+ghost use Rattle.std.specs.Prelude.{◌≡◌, ◌≤◌, ◌+◌, ◌-◌, IfOk, length, min};
 ghost use Rattle.serde_json.specs.View.{view};
 ghost use Rattle.hm_lsp_values.specs.Spans.{IsSpan, span_data};
 
 use crate::positions::position_value;
-use hm_lsp_positions::{Encoding, Position, offset_of, position_of};
+use hm_lsp_positions::{Cursor, Position};
 use serde_json::{Value, json};
 use std::alloc::{AllocError, Global};
 
@@ -27,25 +27,29 @@ fn end_of(text: &[u8], start: usize, size: usize) -> usize
     }
 }
 
-/// Returns the positions between which a name of so many bytes is written in a text. Its line and its column are from 1, and the column counts bytes.
-pub(crate) fn span_of(
-    encoding: Encoding,
-    text: &[u8],
-    line: u32,
-    column: usize,
-    size: usize,
-) -> Span
-    ensures { IsSpan encoding text.now line column size result.start result.end }
+/// Returns the position of a place of the checker, whose line and column are from 1.
+fn position_at(line: u32, column: usize) -> Position
+    ensures { result ≡ record { line = line - 1; column = column - 1 } }
 {
-    let place = Position {
+    Position {
         line: (line as usize).saturating_sub(1),
         column: column.saturating_sub(1),
-    };
-    let start = offset_of(Encoding::Utf8, text, place);
-    let end = end_of(text, start, size);
+    }
+}
+
+/// Returns the positions between which a name of so many bytes is written in the text of a cursor. Its line and its column are from 1, and the column
+/// counts bytes.
+pub(crate) fn span_of(cursor: &mut Cursor<'_>, line: u32, column: usize, size: usize) -> Span
+    ensures same { cursor.new ≡ cursor.old }
+    ensures span { IsSpan cursor.old.encoding cursor.old.text line column size result.start result.end }
+{
+    let start = cursor.offset_of(position_at(line, column));
+    let end = end_of(cursor.text(), start, size);
+    let first = cursor.position_of(start);
+    let last = cursor.position_of(end);
     Span {
-        start: position_of(encoding, text, start),
-        end: position_of(encoding, text, end),
+        start: first,
+        end: last,
     }
 }
 

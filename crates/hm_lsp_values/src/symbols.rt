@@ -5,7 +5,7 @@ ghost use Rattle.hm_lsp_values.specs.Spans.{IsSpan};
 ghost use Rattle.hm_lsp_values.specs.Symbols.{IsLocatedSymbol, IsSymbol, symbol_kind};
 
 use crate::spans::{Span, span_of, span_value};
-use hm_lsp_positions::Encoding;
+use hm_lsp_positions::Cursor;
 use hm_syntax::Name;
 use hm_uses_symbols::{Symbol, SymbolKind};
 use serde_json::{Value, json};
@@ -24,42 +24,45 @@ fn symbol_kind(kind: SymbolKind) -> u64
     }
 }
 
-/// Returns the positions between which a name without a qualifier is written in the text of its source.
-fn name_span(encoding: Encoding, text: &[u8], name: &Name) -> Span
-    ensures { IsSpan encoding text.now name.now.line name.now.column (length name.now.text) result.start result.end }
+/// Returns the positions between which a name without a qualifier is written in the text of its source, which a cursor is in.
+fn name_span(cursor: &mut Cursor<'_>, name: &Name) -> Span
+    ensures same { cursor.new ≡ cursor.old }
+    ensures span { IsSpan cursor.old.encoding cursor.old.text name.now.line name.now.column (length name.now.text) result.start result.end }
 {
     let column = name.place.column as usize;
-    span_of(encoding, text, name.place.line, column, name.as_str().len())
+    span_of(cursor, name.place.line, column, name.as_str().len())
 }
 
-/// Returns a symbol of a source with this text (`DocumentSymbol`). Its range is that of its name.
+/// Returns a symbol of a source, which a cursor is in (`DocumentSymbol`). Its range is that of its name.
 pub fn symbol_value(
     alloc: Global,
-    encoding: Encoding,
-    text: &[u8],
+    cursor: &mut Cursor<'_>,
     symbol: &Symbol<'_>,
 ) -> Result<Value, AllocError>
-    ensures { IfOk result (λ value. IsSymbol encoding text.now symbol.now (view value)) }
+    ensures same { cursor.new ≡ cursor.old }
+    ensures value { IfOk result (λ value. IsSymbol cursor.old.encoding cursor.old.text symbol.now (view value)) }
 {
     let name = symbol.name();
-    let range = span_value(alloc, name_span(encoding, text, name))?;
+    let span = name_span(cursor, name);
+    let range = span_value(alloc, span)?;
     let (kind, name) = (symbol_kind(symbol.kind()), name.as_str());
     let (range, selection) = (&range, &range);
     json!(in alloc; {"kind": kind, "name": name, "range": range, "selectionRange": selection})
 }
 
-/// Returns a symbol of a source with this URI and this text (`WorkspaceSymbol`). Its range is that of its name.
+/// Returns a symbol of a source with this URI, which a cursor is in (`WorkspaceSymbol`). Its range is that of its name.
 pub fn located_symbol_value(
     alloc: Global,
-    encoding: Encoding,
     uri: &str,
-    text: &[u8],
+    cursor: &mut Cursor<'_>,
     symbol: &Symbol<'_>,
 ) -> Result<Value, AllocError>
-    ensures { IfOk result (λ value. IsLocatedSymbol encoding uri.now text.now symbol.now (view value)) }
+    ensures same { cursor.new ≡ cursor.old }
+    ensures value { IfOk result (λ value. IsLocatedSymbol cursor.old.encoding uri.now cursor.old.text symbol.now (view value)) }
 {
     let name = symbol.name();
-    let range = span_value(alloc, name_span(encoding, text, name))?;
+    let span = name_span(cursor, name);
+    let range = span_value(alloc, span)?;
     let (kind, name, range) = (symbol_kind(symbol.kind()), name.as_str(), &range);
     json!(in alloc; {"kind": kind, "location": {"range": range, "uri": uri}, "name": name})
 }
