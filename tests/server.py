@@ -191,6 +191,20 @@ def escape_letters(it):
     it.row("a definition has the URI of the client", place and (place["uri"], place["range"]["start"]), (other["uri"], position(A, "g =")))
 
 
+def move_diagnostics(it):
+    """Opens a faulty file by one URI, and then by another one too. Its diagnostics are under the last one alone."""
+    text = "module E where { e = missing }"
+    uris = [it.uri("E.hs"), it.uri("%45.hs")]
+    for uri in uris:
+        it.notify("textDocument/didOpen", textDocument={"uri": uri, "languageId": "haskell", "version": 1, "text": text})
+        it.settle()
+        it.row("a faulty file has one list of diagnostics", [bool(it.shown.get(each)) for each in uris], [each == uri for each in uris])
+    for uri in uris:
+        it.notify("textDocument/didClose", textDocument={"uri": uri})
+    it.settle()
+    it.row("a closed file has no diagnostics", [it.shown.get(uri) for uri in uris], [[], []])
+
+
 def refer_often(it):
     """Asks for the references of a name that 60,000 definitions use, and what the source declares. Finding each place from the start would take longer."""
     doc, count = {"uri": it.uri("F.hs")}, 60000
@@ -239,7 +253,7 @@ def main(program=lsp.PROVED):
             with open(os.path.join(folder, name), "w", encoding="utf-8") as file:
                 file.write(text)
         it = Client(os.path.abspath(program), folder)
-        for part in (start_and_check, look, mend, type_letters, escape_letters, refer_often, nest_deeply, bad_input, finish):
+        for part in (start_and_check, look, mend, type_letters, escape_letters, move_diagnostics, refer_often, nest_deeply, bad_input, finish):
             part(it)
     print(f"{it.rows - it.wrong} of {it.rows} rows as wanted")
     return 1 if it.wrong else 0

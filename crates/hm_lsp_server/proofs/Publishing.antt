@@ -1,5 +1,5 @@
 -- What is published.
-use Rattle.std.proofs.Common.{◌≡◌, Bool, false, List, Some, IfSome, length, ap, sym, subst, ◌∙◌}
+use Rattle.std.proofs.Common.{◌≡◌, ℕ, List, Option, None, Some, IfSome, length, ap, sym, subst, ◌∙◌}
 use Rattle.std.specs.Prelude.{slice_index_or}
 use Rattle.serde_json.specs.Data.{Data}
 use Rattle.hm_lsp_session.specs.Documents.{listed}
@@ -14,13 +14,13 @@ use Rattle.hm_lsp_server.specs.Servers.{IsCurrent, IsFollowing, checked_of, docu
 use Rattle.hm_lsp_server.specs.declared.server.Server.{Server}
 
 -- the diagnostics by the check of a server
-pub shown_by : (before after : Server) (c : Checked) (a : Subject) (was shows : List Bool) (new : List Data) → checked_of after ≡ Some c → IsCurrent after → a ≡ subject_in after c → was ≡ shown_of before → shows ≡ shown_of after
-    → AreTold (λ n. IsTold a.encoding a.sources a.held a.checked (slice_index_or was n false) n) (length a.sources) shows new → IsShown before after new
+pub shown_by : (before after : Server) (c : Checked) (a : Subject) (was shows : List (Option (List ℕ))) (new : List Data) → checked_of after ≡ Some c → IsCurrent after → a ≡ subject_in after c → was ≡ shown_of before → shows ≡ shown_of after
+    → AreTold (λ n. IsTold a.encoding a.sources a.held a.checked (slice_index_or was n None) n) (length a.sources) shows new → IsShown before after new
 shown_by before after c a was shows new at current same was_is shows_is h =
     let check : IsHeldCheck workers (held_of after) c = subst (λ o. IfSome o (IsHeldCheck workers (held_of after))) at current in
-    let one = subst (λ (x : Subject). AreTold (λ n. IsTold x.encoding x.sources x.held x.checked (slice_index_or was n false) n) (length x.sources) shows new) same h in
-    let two = subst (λ x. AreTold (λ n. IsTold (encoding_of (session_of after)) (sources_of after) (held_of after) c (slice_index_or x n false) n) (length (sources_of after)) shows new) was_is one in
-    let three = subst (λ x. AreTold (λ n. IsTold (encoding_of (session_of after)) (sources_of after) (held_of after) c (slice_index_or (shown_of before) n false) n) (length (sources_of after)) x new) shows_is two in
+    let one = subst (λ (x : Subject). AreTold (λ n. IsTold x.encoding x.sources x.held x.checked (slice_index_or was n None) n) (length x.sources) shows new) same h in
+    let two = subst (λ x. AreTold (λ n. IsTold (encoding_of (session_of after)) (sources_of after) (held_of after) c (slice_index_or x n None) n) (length (sources_of after)) shows new) was_is one in
+    let three = subst (λ x. AreTold (λ n. IsTold (encoding_of (session_of after)) (sources_of after) (held_of after) c (slice_index_or (shown_of before) n None) n) (length (sources_of after)) x new) shows_is two in
     told (record { checked = at; check = check; told = three })
 
 -- by another state with the same diagnostics shown
@@ -29,7 +29,7 @@ shown_since before between after new same (no_check none is as_before) = no_chec
 shown_since before between after new same (told {c} h) = told (record {
   checked = h.checked;
   check = h.check;
-  told = subst (λ x. AreTold (λ n. IsTold (encoding_of (session_of after)) (sources_of after) (held_of after) c (slice_index_or x n false) n) (length (sources_of after)) (shown_of after) new) same h.told;
+  told = subst (λ x. AreTold (λ n. IsTold (encoding_of (session_of after)) (sources_of after) (held_of after) c (slice_index_or x n None) n) (length (sources_of after)) (shown_of after) new) same h.told;
 })
 
 -- the same sources follow the same documents

@@ -1,11 +1,31 @@
 -- Worked examples of what is sent of a source.
-use Rattle.std.proofs.Common.{◌≡◌, [], ◌∷◌, codes, refl}
+use Rattle.std.proofs.Common.{◌≡◌, ◌⊎◌, ◌∷◌, [], ℕ, List, None, Some, ap, arith, codes, inl, inr, length, refl}
 use Rattle.hm_lsp_positions.specs.declared.units.Encoding.TheVariants.{Utf16}
-use Rattle.hm_lsp_server.specs.Published.{diagnostics_notice}
+use Rattle.hm_lsp_server.specs.Published.{AreCleared, AreSent, diagnostics_notice}
 use Rattle.hm_lsp_server.specs.Worked.{SentRow}
 
-some : [] ≡ diagnostics_notice Utf16 (codes "file:///a.hs") [] ∷ [] → ⊥
-some e = cc
+abbrev uri : List ℕ
+uri = codes "file:///a.hs"
+
+abbrev other : List ℕ
+other = codes "file:///%61.hs"
+
+some : (u : List ℕ) → [] ≡ diagnostics_notice Utf16 u [] ∷ [] → ⊥
+some u e = cc
+
+none_some : (u : List ℕ) → None ≡ Some u → ⊥
+none_some u e = cc
+
+apart : other ≡ uri → ⊥
+apart e = let z : 14 ≡ 12 = ap (λ (l : List ℕ). length l) e in omega (arith, z)
+
+not_silent : ¬ (AreSent Utf16 (Some uri) uri [] [])
+not_silent (inl (same, e)) = some uri e
+not_silent (inr (other, e)) = other refl
+
+not_kept : ¬ (AreCleared Utf16 (Some other) uri [])
+not_kept (inl (same, e)) = apart same
+not_kept (inr (not, e)) = some other e
 
 pub worked_sent : SentRow
-worked_sent = record { silent = refl; cleared = refl; not_silent = some }
+worked_sent = record { silent = inr (none_some uri, refl); emptied = inl (refl, refl); not_silent = not_silent; moved = inr (apart, refl); not_kept = not_kept }

@@ -1,5 +1,5 @@
 -- The diagnostics that are sent to a client (Language Server Protocol 3.17, "PublishDiagnostics Notification", "ShowMessage Notification").
-use Rattle.std.specs.Prelude.{◌≡◌, ◌⊎◌, ℕ, zero, suc, Bool, true, false, List, [], ◌∷◌, ◌++◌, None, Some, codes, length, map, slice_get, slice_index_or}
+use Rattle.std.specs.Prelude.{◌≡◌, ◌⊎◌, ℕ, zero, suc, false, List, [], ◌∷◌, ◌++◌, Option, None, Some, codes, length, map, slice_get, slice_index_or}
 use Rattle.serde_json.specs.Data.{Data, array, member, no_members, number, object, string, unsigned}
 use Rattle.serde_json.specs.View.{items_of}
 use Rattle.hm_lsp_positions.specs.declared.units.Encoding.{Encoding}
@@ -26,30 +26,43 @@ abbrev pub diagnostics_notice : Encoding → List ℕ → List Diagnostic → Da
 diagnostics_notice encoding uri ds =
     notice_data (codes "textDocument/publishDiagnostics") (object (member (codes "diagnostics") (diagnostics_data encoding ds) (member (codes "uri") (string uri) no_members)))
 
--- the diagnostics are sent, unless there are none and the client shows none
-abbrev pub AreSent : Bool → Encoding → List ℕ → List Diagnostic → List Data → Type 0
-AreSent true encoding uri ds sent = sent ≡ diagnostics_notice encoding uri ds ∷ []
-AreSent false encoding uri [] sent = sent ≡ []
-AreSent false encoding uri (d ∷ ds) sent = sent ≡ diagnostics_notice encoding uri (d ∷ ds) ∷ []
+-- if the client shows diagnostics of a source under a URI that isn't that of the source any more, it is sent that there are none
+abbrev pub AreCleared : Encoding → Option (List ℕ) → List ℕ → List Data → Type 0
+AreCleared encoding None uri sent = sent ≡ []
+AreCleared encoding (Some old) uri sent = ((old ≡ uri) × (sent ≡ [])) ⊎ (¬ (old ≡ uri) × (sent ≡ diagnostics_notice encoding old [] ∷ []))
 
-abbrev pub has_some : List Diagnostic → Bool
-has_some [] = false
-has_some (d ∷ ds) = true
+-- the diagnostics are sent, unless there are none and the client shows none under this URI
+abbrev pub AreSent : Encoding → Option (List ℕ) → List ℕ → List Diagnostic → List Data → Type 0
+AreSent encoding shown uri [] sent = ((shown ≡ Some uri) × (sent ≡ diagnostics_notice encoding uri [] ∷ [])) ⊎ (¬ (shown ≡ Some uri) × (sent ≡ []))
+AreSent encoding shown uri (d ∷ ds) sent = sent ≡ diagnostics_notice encoding uri (d ∷ ds) ∷ []
 
--- what is sent of the source with this number, by whether the client shows diagnostics of it, and whether it shows some then
-pub record IsTold (encoding : Encoding) (sources : List Source) (held : List HeldSource) (c : Checked) (was_shown : Bool) (n : ℕ) (is_shown : Bool) (sent : List Data) : Type 0 where
-  pub uri : List ℕ
+-- the client shows them under this URI, unless there are none
+abbrev pub shown_under : List ℕ → List Diagnostic → Option (List ℕ)
+shown_under uri [] = None
+shown_under uri (d ∷ ds) = Some uri
+
+-- what is sent of the source with this number and URI, and under which URI the client shows diagnostics of it then
+pub record IsSentOf (encoding : Encoding) (held : List HeldSource) (c : Checked) (was : Option (List ℕ)) (n : ℕ) (uri : List ℕ) (is : Option (List ℕ)) (sent : List Data) : Type 0 where
   pub ds : List Diagnostic
-  pub named : HasUri sources n uri
   pub found : AreDiagnosticsAt (slice_get held n) c n ds
-  pub are_sent : AreSent was_shown encoding uri ds sent
-  pub shows : is_shown ≡ has_some ds
+  pub are_sent : AreSent encoding was uri ds sent
+  pub shows : is ≡ shown_under uri ds
+
+-- what is sent of the source with this number, by the URI under which the client shows diagnostics of it
+pub record IsTold (encoding : Encoding) (sources : List Source) (held : List HeldSource) (c : Checked) (was : Option (List ℕ)) (n : ℕ) (is : Option (List ℕ)) (sent : List Data) : Type 0 where
+  pub uri : List ℕ
+  pub first : List Data
+  pub later : List Data
+  pub named : HasUri sources n uri
+  pub cleared : AreCleared encoding was uri first
+  pub are_sent : IsSentOf encoding held c was n uri is later
+  pub whole : sent ≡ first ++ later
 
 -- the same of the first n sources, in order
-abbrev pub AreTold : (ℕ → Bool → List Data → Type 0) → ℕ → List Bool → List Data → Type 0
+abbrev pub AreTold : (ℕ → Option (List ℕ) → List Data → Type 0) → ℕ → List (Option (List ℕ)) → List Data → Type 0
 AreTold P zero shown sent = (shown ≡ []) × (sent ≡ [])
 AreTold P (suc n) shown sent =
-    (before : List Bool) × ((last : Bool) × ((first : List Data) × ((later : List Data) × ((shown ≡ before ++ last ∷ []) × ((sent ≡ first ++ later) × (AreTold P n before first × P n last later))))))
+    (before : List (Option (List ℕ))) × ((last : Option (List ℕ)) × ((first : List Data) × ((later : List Data) × ((shown ≡ before ++ last ∷ []) × ((sent ≡ first ++ later) × (AreTold P n before first × P n last later))))))
 
 -- the check failed: memory ran out, no thread could start, or two results contradict each other
 abbrev pub no_check_notice : Data
@@ -60,14 +73,14 @@ no_check_notice = notice_data (codes "window/showMessage")
 pub record AreOfCheck (before after : Server) (c : Checked) (new : List Data) : Type 0 where
   pub checked : checked_of after ≡ Some c
   pub check : IsHeldCheck workers (held_of after) c
-  pub told : AreTold (λ n. IsTold (encoding_of (session_of after)) (sources_of after) (held_of after) c (slice_index_or (shown_of before) n false) n) (length (sources_of after)) (shown_of after) new
+  pub told : AreTold (λ n. IsTold (encoding_of (session_of after)) (sources_of after) (held_of after) c (slice_index_or (shown_of before) n None) n) (length (sources_of after)) (shown_of after) new
 
 -- what is sent after a change: the diagnostics of all sources, or that the check failed
 pub data IsShown (before after : Server) (new : List Data) : Type 0 where
   no_check : checked_of after ≡ None → new ≡ no_check_notice ∷ [] → shown_of after ≡ shown_of before → IsShown before after new
   told : {c : Checked} → AreOfCheck before after c new → IsShown before after new
 
--- nothing is another but of which sources the client shows diagnostics
+-- nothing is another but under which URIs the client shows diagnostics
 pub record IsSameButShown (before after : Server) : Type 0 where
   pub session : session_of after ≡ session_of before
   pub sources : sources_of after ≡ sources_of before

@@ -1,5 +1,5 @@
 -- A server, and what is always so of it.
-use Rattle.std.specs.Prelude.{◌≡◌, ◌++◌, ℕ, Bool, true, IfSome, List, Option, codes, map, string_bytes}
+use Rattle.std.specs.Prelude.{◌≡◌, ◌++◌, ℕ, Bool, true, IfSome, List, Option, codes, map, option_map, string_bytes}
 use Rattle.hm_lsp_session.specs.Documents.{listed}
 use Rattle.hm_lsp_session.specs.Effects.{documents_of}
 use Rattle.hm_lsp_session.specs.declared.documents.Document.{Document}
@@ -24,9 +24,9 @@ sources_of s = named_in s.sources
 abbrev pub held_of : Server → List HeldSource
 held_of s = held_in s.sources
 
--- of which sources the client shows diagnostics
-abbrev pub shown_of : Server → List Bool
-shown_of s = s.shown.items
+-- the URI under which the client shows diagnostics of each source, if it shows some
+abbrev pub shown_of : Server → List (Option (List ℕ))
+shown_of s = map (option_map string_bytes) s.shown.items
 
 -- the last check, if the texts are still those of before
 abbrev pub checked_of : Server → Option Checked

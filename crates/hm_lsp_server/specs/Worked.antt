@@ -1,8 +1,8 @@
 -- Worked examples: replies to a notification and to a request, and what is sent of a source.
-use Rattle.std.specs.Prelude.{true, false, [], ◌∷◌, None, Some, codes}
+use Rattle.std.specs.Prelude.{[], ◌∷◌, None, Some, codes}
 use Rattle.serde_json.specs.Data.{Data, null}
 use Rattle.hm_lsp_positions.specs.declared.units.Encoding.TheVariants.{Utf16}
-use Rattle.hm_lsp_server.specs.Published.{AreSent, diagnostics_notice}
+use Rattle.hm_lsp_server.specs.Published.{AreCleared, AreSent, diagnostics_notice}
 use Rattle.hm_lsp_server.specs.Replied.{AreRepliesTo}
 
 -- a notification has no reply, and a request has one
@@ -11,8 +11,10 @@ pub record RepliesRow : Type 0 where
   pub not_replied : ¬ (AreRepliesTo (Some (codes "exit")) None (null ∷ []))
   pub not_missing : (id : Data) → ¬ (AreRepliesTo (Some (codes "shutdown")) (Some id) [])
 
--- nothing is sent of a source without diagnostics, unless the client shows some of it
+-- nothing is sent of a source without diagnostics, unless the client shows some under its URI. What it shows under another URI is taken back
 pub record SentRow : Type 0 where
-  pub silent : AreSent false Utf16 (codes "file:///a.hs") [] []
-  pub cleared : AreSent true Utf16 (codes "file:///a.hs") [] (diagnostics_notice Utf16 (codes "file:///a.hs") [] ∷ [])
-  pub not_silent : ¬ (AreSent true Utf16 (codes "file:///a.hs") [] [])
+  pub silent : AreSent Utf16 None (codes "file:///a.hs") [] []
+  pub emptied : AreSent Utf16 (Some (codes "file:///a.hs")) (codes "file:///a.hs") [] (diagnostics_notice Utf16 (codes "file:///a.hs") [] ∷ [])
+  pub not_silent : ¬ (AreSent Utf16 (Some (codes "file:///a.hs")) (codes "file:///a.hs") [] [])
+  pub moved : AreCleared Utf16 (Some (codes "file:///%61.hs")) (codes "file:///a.hs") (diagnostics_notice Utf16 (codes "file:///%61.hs") [] ∷ [])
+  pub not_kept : ¬ (AreCleared Utf16 (Some (codes "file:///%61.hs")) (codes "file:///a.hs") [])

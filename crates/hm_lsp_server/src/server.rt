@@ -83,8 +83,8 @@ pub struct Server {
     alloc: Global,
     session: Session,
     sources: Sources,
-    /// Of which sources the client shows diagnostics.
-    shown: Vec<bool>,
+    /// The URI under which the client shows diagnostics of each source, if it shows some.
+    shown: Vec<Option<String>>,
     /// The last check, unless the texts have changed since.
     checked: Option<Checked>,
     /// Whether the check of these texts failed. It isn't tried again before they change.

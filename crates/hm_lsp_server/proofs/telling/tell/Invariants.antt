@@ -1,5 +1,5 @@
-use Rattle.std.proofs.Common.{◌≡◌, ◌++◌, List, false, map}
-use Rattle.std.specs.Prelude.{slice_index_or}
+use Rattle.std.proofs.Common.{◌≡◌, ◌++◌, List, None, map, string_bytes}
+use Rattle.std.specs.Prelude.{option_map, slice_index_or}
 use Rattle.serde_json.specs.Data.{Data}
 use Rattle.serde_json.specs.View.{view}
 use Rattle.hm_lsp_server.specs.Published.{AreTold, IsTold}
@@ -7,4 +7,4 @@ use Rattle.hm_lsp_server.proofs.telling.tell.Given as goal
 
 abbrev pub invariant-sources : goal.invariant-sources
 invariant-sources l = (new : List Data) × (map view l.sent.items ≡ map view l.initial.sent.items ++ new)
-    × AreTold (λ n. IsTold l.asked.encoding l.asked.sources.now l.asked.held.now l.asked.checked.now (slice_index_or l.shown n false) n) l.number l.shows.items new
+    × AreTold (λ n. IsTold l.asked.encoding l.asked.sources.now l.asked.held.now l.asked.checked.now (slice_index_or (map (option_map string_bytes) l.shown) n None) n) l.number (map (option_map string_bytes) l.shows.items) new

@@ -1,4 +1,5 @@
-use Rattle.std.proofs.Common.{◌∙◌, [], ◌∷◌, map, ap, refl}
+use Rattle.std.proofs.Common.{◌∙◌, [], ◌∷◌, map, ap, refl, string_bytes}
+use Rattle.std.specs.Prelude.{option_map}
 use Rattle.std.proofs.lemmas.List.{map-append}
 use Rattle.serde_json.specs.View.{view}
 use Rattle.hm_lsp_results.specs.Asked.{subject_of}
@@ -18,5 +19,6 @@ returns-clause-published c =
     let made = c.in_ok-shown.ensures in (
       made.0,
       made.1,
-      shown_by c.args.self.now _ c.in-Some.checked (subject_of c.asked-asked.result) c.as_slice.result.now c.in_ok-shown.shown.items made.0 c.in-Some.is c.requires c.asked-asked.ensures c.as_slice.ensures.value refl made.2,
+      shown_by c.args.self.now _ c.in-Some.checked (subject_of c.asked-asked.result) (map (option_map string_bytes) c.as_slice.result.now) (map (option_map string_bytes) c.in_ok-shown.shown.items) made.0 c.in-Some.is c.requires
+          c.asked-asked.ensures (ap (map (option_map string_bytes)) c.as_slice.ensures.value) refl made.2,
     )
