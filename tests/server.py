@@ -117,6 +117,22 @@ def renamed(text, edits):
     return text
 
 
+def refuse_renames(it, doc, at):
+    """Asks for renames that aren't made. Each is refused for its reason."""
+    bracket = {"textDocument": doc, "position": position(B, "{")}
+    prelude = {"textDocument": doc, "position": position(B, "True")}
+    rows = [
+        ("a rename to a taken name", at, "f", "hmc doesn't accept these sources with the new name"),
+        ("a rename to a name of another kind", at, "F", "hmc doesn't accept these sources with the new name"),
+        ("a rename to a reserved word", at, "of", "the new name isn't a name without a qualifier"),
+        ("a rename to a qualified name", at, "A.h", "the new name isn't a name without a qualifier"),
+        ("a rename of a name of Prelude", prelude, "Yes", "this name isn't bound in these sources"),
+        ("a rename at a bracket", bracket, "fresh", "no name is at this position"),
+    ]
+    for what, where, name, why in rows:
+        it.row(what, it.ask("textDocument/rename", **where, newName=name).get("error"), {"code": -32803, "message": why})
+
+
 def rename(it, doc):
     """Renames 'g' of A, which B imports, and asks for names that it can't have. The renamed texts have the faults of the old ones."""
     at = {"textDocument": doc, "position": position(B, "m = g", 4)}
@@ -124,9 +140,7 @@ def rename(it, doc):
     wanted = [{"edits": [{"newText": "fresh", "range": where}], "textDocument": {"uri": it.uri(name), "version": None}} for name, where in edits]
     made = it.ask("textDocument/rename", **at, newName="fresh")["result"]
     it.row("a rename in both files", made, {"documentChanges": wanted})
-    it.row("a rename to a taken name", it.ask("textDocument/rename", **at, newName="f")["result"], None)
-    it.row("a rename to a reserved word", it.ask("textDocument/rename", **at, newName="of")["result"], None)
-    it.row("a rename of a name of Prelude", it.ask("textDocument/rename", textDocument=doc, position=position(B, "True"), newName="Yes")["result"], None)
+    refuse_renames(it, doc, at)
     it.row("a rename without a name", it.ask("textDocument/rename", **at)["error"]["code"], -32602)
     it.row("a rename without a position", it.ask("textDocument/rename", textDocument=doc, newName="fresh")["error"]["code"], -32602)
     a, b = (renamed(text, its["edits"]) for text, its in zip((A, B), made["documentChanges"]))

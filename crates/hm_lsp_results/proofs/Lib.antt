@@ -7,6 +7,7 @@ pub mod Requests
 mod DeclaredValues
 mod Matching
 mod FolderSymbols
+mod Refusals
 mod RenameEdits
 mod Walked
 mod WorkedResults

@@ -3,13 +3,11 @@ use Rattle.std.proofs.Common.{◌≡◌, ◌∙◌, ◌+◌, ◌-◌, ◌<◌, �
 use Rattle.std.proofs.lemmas.List.{length-take-le, map-append, take_at}
 use Rattle.std.proofs.lemmas.List.Edits.{length-between, split_between}
 use Rattle.std.specs.List.{AllZip}
-use Rattle.serde_json.specs.Data.{Data, null}
+use Rattle.serde_json.specs.Data.{Data}
 use Rattle.serde_json.specs.View.{view}
 use Rattle.serde_json.specs.declared.value.Value.{Value}
 use Rattle.hm_lsp_values.specs.Renames.{IsReplacement, document_edit_data}
 use Rattle.hm_lsp_positions.specs.declared.positions.Position.{Position}
-use Rattle.hm_lsp_session.specs.declared.stages.Question.{Question}
-use Rattle.hm_lsp_session.specs.declared.stages.Question.TheVariants.{Rename}
 use Rattle.hm_messages_json.specs.declared.message.Position.{Position as Place}
 use Rattle.hm_service_rename.specs.declared.results.RenameRefusal.{RenameRefusal}
 use Rattle.hm_service_rename.specs.declared.results.Renamed.{Renamed}
@@ -19,9 +17,9 @@ use Rattle.hm_uses_references.specs.declared.finding.Reference.{Reference}
 use Rattle.hm_lsp_results.proofs.Found.{at_get}
 use Rattle.hm_lsp_results.proofs.Listed.{has_uri}
 use Rattle.hm_lsp_results.specs.Asked.{Subject}
-use Rattle.hm_lsp_results.specs.Renames.{AreEdits, AreFirstEdits, IsDocumentEdit, IsRenameValue, IsRenamed, accepted, none, refused, within, without}
+use Rattle.hm_lsp_results.specs.Renames.{AreEdits, AreFirstEdits, IsDocumentEdit, IsRefusedAt, IsRenameValue, IsRenamed, accepted, none, within, without}
 use Rattle.hm_lsp_results.specs.References.{IsPlaceIn}
-use Rattle.hm_lsp_results.specs.Results.{IsRenameRequestResult, IsResultNamed, IsResultOf}
+use Rattle.hm_lsp_results.specs.Results.{IsResultNamed}
 use Rattle.hm_lsp_sources.specs.declared.source.Source.{Source}
 
 pub edits_none : (asked : Subject) (new : List ℕ) (edits : List Value) → edits ≡ [] → AreFirstEdits asked new 0 [] (map view edits)
@@ -76,11 +74,11 @@ document_one asked new n references s h uri text edits (Ok v) low below at_s at_
   whole = made;
 }
 
-pub value_of_refusal : (asked : Subject) (n : ℕ) (new : List ℕ) (p : Position) (place : Place) (refusal : RenameRefusal) (result : Renamed) {value : Data} → IsPlaceIn asked n p place → IsRenamed asked n place new result → result ≡ Refused refusal → value ≡ null
-    → IsRenameValue asked n new p value
-value_of_refusal asked n new p place refusal result at is same value_is =
+pub refusal_at : (asked : Subject) (n : ℕ) (new : List ℕ) (p : Position) (place : Place) (refusal : RenameRefusal) (result : Renamed) → IsPlaceIn asked n p place → IsRenamed asked n place new result → result ≡ Refused refusal
+    → IsRefusedAt asked n new p refusal
+refusal_at asked n new p place refusal result at is same =
     let h : IsRenamed asked n place new (Refused refusal) = subst (λ (x : Renamed). IsRenamed asked n place new x) same is in
-    refused refusal at h.of h.is value_is
+    record { place = place; set = h.set; rename = h.rename; at = at; of = h.of; is = h.is }
 
 pub value_of_edits : (asked : Subject) (n : ℕ) (new : List ℕ) (p : Position) (place : Place) (references : Vec Reference Global) (result : Renamed) (value : Data) → IsPlaceIn asked n p place → IsRenamed asked n place new result → result ≡ Edits references
     → AreEdits asked new references.items value → IsRenameValue asked n new p value
@@ -90,6 +88,3 @@ value_of_edits asked n new p place references result value at is same edits =
 
 pub named_as : (P : List ℕ → Option Data → Type 0) (found : Option (List ℕ)) (new : List ℕ) (result : Option Data) → found ≡ Some new → P new result → IsResultNamed P found result
 named_as P found new result is h = subst (λ (x : Option (List ℕ)). IsResultNamed P x result) (sym is) h
-
-pub renamed_request : (asked : Subject) (question : Question) (n : ℕ) (request : Data) (result : Option Data) → question ≡ Rename → IsRenameRequestResult asked n request result → IsResultOf asked question n request result
-renamed_request asked question n request result is h = subst (λ (q : Question). IsResultOf asked q n request result) (sym is) h

@@ -1,5 +1,5 @@
 -- The edits of renames (Language Server Protocol 3.17, "Rename Request").
-use Rattle.std.specs.Prelude.{◌≡◌, ℕ, zero, suc, ◌++◌, All, List, [], ◌∷◌, Some, length, slice_get}
+use Rattle.std.specs.Prelude.{◌≡◌, ⊤, ℕ, zero, suc, ◌++◌, All, List, [], ◌∷◌, Some, codes, length, slice_get}
 use Rattle.std.specs.List.{AllZip}
 use Rattle.serde_json.specs.Data.{Data, null}
 use Rattle.hm_lsp_positions.specs.declared.positions.Position.{Position}
@@ -9,10 +9,13 @@ use Rattle.hm_service_rename.specs.Renames.{IsRefused, IsRename, IsRenameResult,
 use Rattle.hm_service_rename.specs.declared.results.CheckedSet.{CheckedSet}
 use Rattle.hm_service_rename.specs.declared.results.Rename.{Rename}
 use Rattle.hm_service_rename.specs.declared.results.RenameRefusal.{RenameRefusal}
+use Rattle.hm_service_rename.specs.declared.results.RenameRefusal.TheVariants.{NotAName, NotBound, NoName, NotRead, NotSame, NotWhole}
 use Rattle.hm_service_rename.specs.declared.results.Renamed.{Renamed}
 use Rattle.hm_service_sources.specs.declared.held.HeldSource.{HeldSource}
 use Rattle.hm_uses_references.specs.declared.finding.Reference.{Reference}
 use Rattle.hm_lsp_results.specs.Asked.{HasUri, Subject}
+use Rattle.hm_lsp_results.specs.declared.faults.RequestFault.{RequestFault}
+use Rattle.hm_lsp_results.specs.declared.faults.RequestFault.TheVariants.{Refused, Server}
 use Rattle.hm_lsp_results.specs.References.{HasNoPlace, IsPlaceIn, in_bytes}
 
 -- the new name in place of each of these references, in the text of source number n
@@ -53,8 +56,30 @@ pub record IsRenamed (asked : Subject) (n : ℕ) (place : Place) (new : List ℕ
   pub of : IsRenameOf asked n place new set rename
   pub is : IsRenameResult set rename result
 
--- the edits of a rename that the checker accepted, or null if the rename is refused or the position is in no text
+-- the edits of a rename that the checker accepted, or null if the position is in no text that can be read
 pub data IsRenameValue (asked : Subject) (n : ℕ) (new : List ℕ) (p : Position) (value : Data) : Type 0 where
   accepted : {place : Place} {set : CheckedSet} {r : Rename} {references : List Reference} → IsPlaceIn asked n p place → IsRenameOf asked n place new set r → IsRename set r references → AreEdits asked new references value → IsRenameValue asked n new p value
-  refused : {place : Place} {set : CheckedSet} {r : Rename} (refusal : RenameRefusal) → IsPlaceIn asked n p place → IsRenameOf asked n place new set r → IsRefused set.checked.now r refusal → value ≡ null → IsRenameValue asked n new p value
   nowhere : HasNoPlace asked n p → value ≡ null → IsRenameValue asked n new p value
+
+-- the rename of the name at the position is refused for this reason
+pub record IsRefusedAt (asked : Subject) (n : ℕ) (new : List ℕ) (p : Position) (refusal : RenameRefusal) : Type 0 where
+  pub place : Place
+  pub set : CheckedSet
+  pub rename : Rename
+  pub at : IsPlaceIn asked n p place
+  pub of : IsRenameOf asked n place new set rename
+  pub is : IsRefused set rename refusal
+
+-- a request has no result: the server failed, or a rename is refused for a reason that is so
+abbrev pub IsFaultBy : (RenameRefusal → Type 0) → RequestFault → Type 0
+IsFaultBy P Server = ⊤
+IsFaultBy P (Refused refusal) = P refusal
+
+-- what is said of a refusal. It says no more than the refusal
+abbrev pub sentence_of : RenameRefusal → List ℕ
+sentence_of NotWhole = codes "hmc hasn't checked every module as it is now"
+sentence_of NoName = codes "no name is at this position"
+sentence_of NotBound = codes "this name isn't bound in these sources"
+sentence_of NotAName = codes "the new name isn't a name without a qualifier"
+sentence_of NotRead = codes "with the new name, a source can't be read"
+sentence_of NotSame = codes "hmc doesn't accept these sources with the new name"

@@ -12,7 +12,7 @@ use Rattle.hm_lsp_session.specs.Replies.{refusal_data, reply_data}
 use Rattle.hm_lsp_session.specs.Stages.{code_of}
 use Rattle.hm_lsp_session.specs.declared.stages.Question.{Question}
 use Rattle.hm_lsp_session.specs.declared.stages.Question.TheVariants.{CodeAction, Definition, DocumentHighlight, DocumentSymbol, Hover, References, Rename, WorkspaceSymbol}
-use Rattle.hm_lsp_session.specs.declared.stages.Refusal.TheVariants.{InvalidParams}
+use Rattle.hm_lsp_session.specs.declared.stages.Refusal.TheVariants.{InvalidParams, RequestFailed}
 use Rattle.hm_lsp_values.specs.Diagnostics.{action_data}
 use Rattle.hm_lsp_values.specs.Names.{IsHover, IsLocation}
 use Rattle.hm_lsp_values.specs.Places.{IsPlaceAt}
@@ -22,10 +22,11 @@ use Rattle.hm_service_messages.specs.declared.spots.Bound.{Bound}
 use Rattle.hm_service_places.specs.Diagnostics.{AreDiagnosticsAt}
 use Rattle.hm_service_places.specs.declared.checked.Checked.{Checked}
 use Rattle.hm_service_places.specs.declared.places.AtPlace.{AtPlace}
+use Rattle.hm_service_rename.specs.declared.results.RenameRefusal.{RenameRefusal}
 use Rattle.hm_service_sources.specs.declared.held.HeldSource.{HeldSource}
 use Rattle.hm_lsp_results.specs.Asked.{HasNothingAt, HasUri, IsNamedAt, IsReadText, IsSourceIn, Subject}
 use Rattle.hm_lsp_results.specs.References.{IsHighlightsResult, IsReferencesResult}
-use Rattle.hm_lsp_results.specs.Renames.{IsRenameValue}
+use Rattle.hm_lsp_results.specs.Renames.{IsRefusedAt, IsRenameValue, sentence_of}
 use Rattle.hm_lsp_results.specs.Symbols.{AreFound, IsSymbolsResult}
 use Rattle.hm_lsp_sources.specs.declared.source.Source.{Source}
 
@@ -150,5 +151,27 @@ abbrev pub reply_with : Data → Option Data → Data
 reply_with id (Some result) = reply_data id result
 reply_with id None = refusal_data id (code_of InvalidParams) (codes "these parameters aren't valid")
 
+-- the rename of a request about source number n is refused for this reason
+pub record IsRefusedIn (asked : Subject) (n : ℕ) (request : Data) (refusal : RenameRefusal) : Type 0 where
+  pub new : List ℕ
+  pub position : Position
+  pub named : string_at (codes "/params/newName") request ≡ Some new
+  pub at : HasPosition request (Some position)
+  pub is : IsRefusedAt asked n new position refusal
+
+-- the same of a request that is a rename
+pub record IsRefusedOf (asked : Subject) (question : Question) (n : ℕ) (request : Data) (refusal : RenameRefusal) : Type 0 where
+  pub rename : question ≡ Rename
+  pub is : IsRefusedIn asked n request refusal
+
+-- the same of a request about a document
+pub record IsRefusedRename (asked : Subject) (question : Question) (request : Data) (refusal : RenameRefusal) : Type 0 where
+  pub source : ℕ
+  pub is_source : IsSourceIn asked.sources request (Some source)
+  pub is : IsRefusedOf asked question source request refusal
+
+-- the reply to a request for which the server failed, which has a result or parameters that aren't valid, or whose rename is refused
 abbrev pub IsReply : Subject → Question → Data → Data → Data → Type 0
-IsReply asked question request id reply = (reply ≡ failure_data id) ⊎ ((result : Option Data) × (IsResult asked question request result × (reply ≡ reply_with id result)))
+IsReply asked question request id reply =
+    (reply ≡ failure_data id) ⊎ (((result : Option Data) × (IsResult asked question request result × (reply ≡ reply_with id result)))
+    ⊎ ((refusal : RenameRefusal) × (IsRefusedRename asked question request refusal × (reply ≡ refusal_data id (code_of RequestFailed) (sentence_of refusal)))))

@@ -1,13 +1,13 @@
 //! Results of requests for renames.
-ghost use Rattle.std.specs.Prelude.{◌≡◌, ◌<◌, ◌≤◌, All, IfOk, IfSome, length, map, slice_range};
+ghost use Rattle.std.specs.Prelude.{◌≡◌, ◌<◌, ◌≤◌, All, IfErr, IfOk, IfSome, length, map, slice_range};
 ghost use Rattle.std.specs.List.{AllZip};
 ghost use Rattle.serde_json.specs.View.{view};
 ghost use Rattle.hm_lsp_results.specs.Asked.{subject_of};
-ghost use Rattle.hm_lsp_results.specs.Renames.{AreEdits, AreFirstEdits, IsDocumentEdit, IsRenameValue, IsRenamed};
+ghost use Rattle.hm_lsp_results.specs.Renames.{AreEdits, AreFirstEdits, IsDocumentEdit, IsFaultBy, IsRefusedAt, IsRenameValue, IsRenamed};
 ghost use Rattle.hm_lsp_values.specs.Renames.{IsReplacement};
 
 use crate::asking::Asked;
-use crate::faults::ServerFault;
+use crate::faults::{RequestFault, ServerFault};
 use crate::referring::place_in;
 use hm_lsp_positions::{Cursor, Position};
 use hm_lsp_values::{document_edit_value, replacement_value, workspace_edit_value};
@@ -137,21 +137,26 @@ fn renamed_at<T: Threads + Wait + Sync>(
     }
 }
 
-/// Returns the edits that rename the name at a position, or null.
+/// Returns the edits that rename the name at a position, or null if the position is in no text that can be read.
+///
+/// # Errors
+///
+/// `Refused` if the checker refuses the rename.
 pub(crate) fn rename<T: Threads + Wait + Sync>(
     rt: &T,
     asked: &Asked<'_>,
     source: usize,
     position: Position,
     name: &str,
-) -> Result<Value, ServerFault>
-    ensures { IfOk result (λ value. IsRenameValue (subject_of asked.now) source name.now position (view value)) }
+) -> Result<Value, RequestFault>
+    ensures value { IfOk result (λ value. IsRenameValue (subject_of asked.now) source name.now position (view value)) }
+    ensures refused { IfErr result (IsFaultBy (IsRefusedAt (subject_of asked.now) source name.now position)) }
 {
     let Some(place) = place_in(asked, source, position) else {
         return Ok(Value::Null);
     };
     match renamed_at(rt, asked, source, &place, name)? {
-        Renamed::Refused(_refusal) => Ok(Value::Null),
+        Renamed::Refused(refusal) => Err(RequestFault::Refused(refusal)),
         Renamed::Edits(references) => Ok(edits(asked, references.as_slice(), name)?),
     }
 }

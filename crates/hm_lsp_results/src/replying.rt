@@ -1,20 +1,22 @@
 //! Replies to requests about the texts.
-ghost use Rattle.std.specs.Prelude.{◌≡◌, IfOk, codes, option_map};
+ghost use Rattle.std.specs.Prelude.{◌≡◌, IfErr, IfOk, codes, option_map};
 ghost use Rattle.serde_json.specs.View.{view};
 ghost use Rattle.hm_lsp_session.specs.Params.{string_at};
 ghost use Rattle.hm_lsp_session.specs.Replies.{IsReplyTo, method_of};
 ghost use Rattle.hm_lsp_results.specs.Asked.{subject_of};
-ghost use Rattle.hm_lsp_results.specs.Results.{HasPosition, HasRange, IsDocumentResult, IsReply, IsRenameRequestResult, IsResult, IsResultFor, IsResultOf, failure_data, with_declarations};
+ghost use Rattle.hm_lsp_results.specs.Renames.{IsFaultBy, sentence_of};
+ghost use Rattle.hm_lsp_results.specs.Results.{HasPosition, HasRange, IsDocumentResult, IsRefusedIn, IsRefusedOf, IsRefusedRename, IsReply, IsRenameRequestResult, IsResult, IsResultFor, IsResultOf, failure_data, with_declarations};
 ghost use Rattle.hm_lsp_results.specs.Symbols.{AreFound};
 
 use crate::asking::{Asked, actions, definition, hover, source_in};
 use crate::declared::symbols;
-use crate::faults::ServerFault;
+use crate::faults::RequestFault;
 use crate::folder::found_symbols;
 use crate::referring::{highlights, references};
 use crate::renames::rename;
 use hm_lsp_positions::{Position, Range};
 use hm_lsp_session::{Question, Refusal, position_in, range_in, refusal, reply, text_at};
+use hm_service_rename::RenameRefusal;
 use serde_json::{Value, json};
 use std::alloc::{AllocError, Global};
 use std::sync::Wait;
@@ -56,8 +58,9 @@ fn rename_result<T: Threads + Wait + Sync>(
     asked: &Asked<'_>,
     source: usize,
     request: &Value,
-) -> Result<Option<Value>, ServerFault>
-    ensures { IfOk result (λ made. IsRenameRequestResult (subject_of asked.now) source (view request.now) (option_map view made)) }
+) -> Result<Option<Value>, RequestFault>
+    ensures result { IfOk result (λ made. IsRenameRequestResult (subject_of asked.now) source (view request.now) (option_map view made)) }
+    ensures refused { IfErr result (IsFaultBy (IsRefusedIn (subject_of asked.now) source (view request.now))) }
 {
     let Some(name) = text_at(request, "/params/newName") else {
         return Ok(None);
@@ -65,7 +68,10 @@ fn rename_result<T: Threads + Wait + Sync>(
     let Some(position) = position_of_request(request) else {
         return Ok(None);
     };
-    Ok(Some(rename(rt, asked, source, position, name)?))
+    match rename(rt, asked, source, position, name) {
+        Ok(value) => Ok(Some(value)),
+        Err(fault) => Err(fault),
+    }
 }
 
 /// Returns the result of a request about a source, or `None` if its parameters aren't valid.
@@ -75,8 +81,9 @@ fn result_of<T: Threads + Wait + Sync>(
     question: Question,
     source: usize,
     request: &Value,
-) -> Result<Option<Value>, ServerFault>
-    ensures { IfOk result (λ made. IsResultOf (subject_of asked.now) question source (view request.now) (option_map view made)) }
+) -> Result<Option<Value>, RequestFault>
+    ensures result { IfOk result (λ made. IsResultOf (subject_of asked.now) question source (view request.now) (option_map view made)) }
+    ensures refused { IfErr result (IsFaultBy (IsRefusedOf (subject_of asked.now) question source (view request.now))) }
 {
     if question == Question::CodeAction {
         return match range_of_request(request) {
@@ -88,7 +95,7 @@ fn result_of<T: Threads + Wait + Sync>(
         return Ok(Some(symbols(asked, source)?));
     }
     if question == Question::Rename {
-        return Ok(rename_result(rt, asked, source, request)?);
+        return rename_result(rt, asked, source, request);
     }
     let Some(position) = position_of_request(request) else {
         return Ok(None);
@@ -109,7 +116,7 @@ fn result_of<T: Threads + Wait + Sync>(
 }
 
 /// Returns the symbols of all sources that the query of a request finds, or `None` if its parameters aren't valid.
-fn found_in(asked: &Asked<'_>, request: &Value) -> Result<Option<Value>, ServerFault>
+fn found_in(asked: &Asked<'_>, request: &Value) -> Result<Option<Value>, AllocError>
     ensures { IfOk result (λ made. IsResultFor (AreFound (subject_of asked.now)) (string_at (codes "/params/query") (view request.now)) (option_map view made)) }
 {
     match text_at(request, "/params/query") {
@@ -124,12 +131,13 @@ fn document_result<T: Threads + Wait + Sync>(
     asked: &Asked<'_>,
     question: Question,
     request: &Value,
-) -> Result<Option<Value>, ServerFault>
-    ensures { IfOk result (λ made. IsDocumentResult (subject_of asked.now) question (view request.now) (option_map view made)) }
+) -> Result<Option<Value>, RequestFault>
+    ensures result { IfOk result (λ made. IsDocumentResult (subject_of asked.now) question (view request.now) (option_map view made)) }
+    ensures refused { IfErr result (IsFaultBy (IsRefusedRename (subject_of asked.now) question (view request.now))) }
 {
     match source_in(asked, request)? {
         None => Ok(None),
-        Some(source) => Ok(result_of(rt, asked, question, source, request)?),
+        Some(source) => result_of(rt, asked, question, source, request),
     }
 }
 
@@ -139,19 +147,14 @@ fn result_in<T: Threads + Wait + Sync>(
     asked: &Asked<'_>,
     question: Question,
     request: &Value,
-) -> Result<Option<Value>, ServerFault>
-    ensures { IfOk result (λ made. IsResult (subject_of asked.now) question (view request.now) (option_map view made)) }
+) -> Result<Option<Value>, RequestFault>
+    ensures result { IfOk result (λ made. IsResult (subject_of asked.now) question (view request.now) (option_map view made)) }
+    ensures refused { IfErr result (IsFaultBy (IsRefusedRename (subject_of asked.now) question (view request.now))) }
 {
-    match question {
-        Question::WorkspaceSymbol => Ok(found_in(asked, request)?),
-        Question::Hover
-        | Question::Definition
-        | Question::References
-        | Question::DocumentHighlight
-        | Question::Rename
-        | Question::DocumentSymbol
-        | Question::CodeAction => Ok(document_result(rt, asked, question, request)?),
+    if question == Question::WorkspaceSymbol {
+        return Ok(found_in(asked, request)?);
     }
+    document_result(rt, asked, question, request)
 }
 
 /// Returns the reply to a request for which memory ran out, no thread could start, or two results contradict each other.
@@ -160,6 +163,21 @@ pub fn failure(alloc: Global, id: &Value) -> Result<Value, AllocError>
     ensures id { IfOk result (λ made. IsReplyTo (view id.now) (view made)) }
 {
     json!(in alloc; {"error": {"code": (-32603), "message": "hmc couldn't reply. Memory may have run out"}, "id": id, "jsonrpc": "2.0"})
+}
+
+// Why: docs/DECISIONS.md, "Refused renames".
+/// Returns what is said of a refused rename.
+fn sentence_of(refusal: RenameRefusal) -> &'static str
+    ensures { result.now ≡ sentence_of refusal }
+{
+    match refusal {
+        RenameRefusal::NotWhole => "hmc hasn't checked every module as it is now",
+        RenameRefusal::NoName => "no name is at this position",
+        RenameRefusal::NotBound => "this name isn't bound in these sources",
+        RenameRefusal::NotAName => "the new name isn't a name without a qualifier",
+        RenameRefusal::NotRead => "with the new name, a source can't be read",
+        RenameRefusal::NotSame => "hmc doesn't accept these sources with the new name",
+    }
 }
 
 /// Returns the reply to a request with this identifier.
@@ -181,6 +199,10 @@ pub fn replied<T: Threads + Wait + Sync>(
             Refusal::InvalidParams,
             "these parameters aren't valid",
         ),
-        Err(_) => failure(asked.alloc, id),
+        Err(RequestFault::Server) => failure(asked.alloc, id),
+        Err(RequestFault::Refused(why)) => {
+            let text = sentence_of(why);
+            refusal(asked.alloc, id, Refusal::RequestFailed, text)
+        }
     }
 }

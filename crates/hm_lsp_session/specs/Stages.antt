@@ -8,7 +8,7 @@ use Rattle.hm_lsp_session.specs.declared.stages.Method.TheVariants.{DidChange, D
 use Rattle.hm_lsp_session.specs.declared.stages.Question.{Question as Asked}
 use Rattle.hm_lsp_session.specs.declared.stages.Question.TheVariants.{CodeAction, Definition, DocumentHighlight, DocumentSymbol, Hover, References, Rename, WorkspaceSymbol}
 use Rattle.hm_lsp_session.specs.declared.stages.Refusal.{Refusal}
-use Rattle.hm_lsp_session.specs.declared.stages.Refusal.TheVariants.{InvalidParams, InvalidRequest, MethodNotFound, NotInitialized, ParseError}
+use Rattle.hm_lsp_session.specs.declared.stages.Refusal.TheVariants.{InvalidParams, InvalidRequest, MethodNotFound, NotInitialized, ParseError, RequestFailed}
 use Rattle.hm_lsp_session.specs.declared.stages.Stage.{Stage}
 use Rattle.hm_lsp_session.specs.declared.stages.Stage.TheVariants.{New, Ready, ShutDown}
 
@@ -47,6 +47,7 @@ code_of InvalidRequest = negsuc 32599
 code_of MethodNotFound = negsuc 32600
 code_of InvalidParams = negsuc 32601
 code_of NotInitialized = negsuc 32001
+code_of RequestFailed = negsuc 32802
 
 -- a request: before `initialize` all others are refused, and after `shutdown` all are. `initialize` comes once
 abbrev pub request_decision : Stage → Method → Decision

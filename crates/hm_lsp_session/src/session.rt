@@ -341,6 +341,7 @@ fn text_of(why: Refusal) -> &'static str {
         Refusal::MethodNotFound => "this method isn't supported",
         Refusal::InvalidParams => "these parameters aren't valid",
         Refusal::NotInitialized => "the server isn't initialized",
+        Refusal::RequestFailed => "this request failed",
     }
 }
 

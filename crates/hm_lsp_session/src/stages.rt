@@ -50,6 +50,8 @@ pub enum Refusal {
     MethodNotFound,
     InvalidParams,
     NotInitialized,
+    /// The request is valid, but it has no result.
+    RequestFailed,
 }
 
 /// What a server does with a message.
@@ -76,6 +78,7 @@ impl Refusal {
             Refusal::MethodNotFound => -32601,
             Refusal::InvalidParams => -32602,
             Refusal::NotInitialized => -32002,
+            Refusal::RequestFailed => -32803,
         }
     }
 }

@@ -1,3 +1,5 @@
 mod Held
+mod Refusing
 mod Replacing
+mod Spelled
 pub mod WorkedRenames

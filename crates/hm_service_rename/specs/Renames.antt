@@ -6,6 +6,7 @@ use Rattle.hm_service.specs.Checks.{IsHeldCheck}
 use Rattle.hm_service_places.specs.declared.checked.Checked.{Checked}
 use Rattle.hm_service_references.specs.Names.{AreNamesOf, AreReferencesAt, HasNoNameAt}
 use Rattle.hm_service_rename.specs.Replaced.{AreReplaced}
+use Rattle.hm_service_rename.specs.Spelling.{IsName}
 use Rattle.hm_service_rename.specs.Sets.{AreHeldAs, IsAsGood, IsWhole}
 use Rattle.hm_service_rename.specs.declared.results.CheckedSet.{CheckedSet}
 use Rattle.hm_service_rename.specs.declared.results.Rename.{Rename}
@@ -14,6 +15,7 @@ use Rattle.hm_service_rename.specs.declared.results.Renamed.TheVariants.{Edits, 
 use Rattle.hm_service_rename.specs.declared.results.RenameRefusal.{RenameRefusal}
 use Rattle.hm_service_rename.specs.declared.results.RenameRefusal.TheVariants.{NotWhole, NoName, NotBound, NotAName, NotRead, NotSame}
 use Rattle.hm_service_sources.specs.HeldSets.{texts_of}
+use Rattle.hm_service_sources.specs.Standing.{IsUnreadable}
 use Rattle.hm_service_sources.specs.declared.held.HeldSource.{HeldSource}
 use Rattle.hm_uses_references.specs.References.{names_at}
 use Rattle.hm_uses_references.specs.SetNames.{SetName}
@@ -53,15 +55,25 @@ pub record IsRename (set : CheckedSet) (r : Rename) (references : List Reference
 abbrev pub IsNotBound : Checked → Rename → Type 0
 IsNotBound c r = (references : List Reference) × (AreReferencesAt c r.source (place_of r) references × All (λ x. x.binds ≡ false) references)
 
--- what a refusal says. The others say only that there is no rename
-abbrev pub IsRefused : Checked → Rename → RenameRefusal → Type 0
-IsRefused c r NotWhole = ⊤
-IsRefused c r NoName = HasNoNameAt c r.source (place_of r)
-IsRefused c r NotBound = IsNotBound c r
-IsRefused c r NotAName = ⊤
-IsRefused c r NotRead = ⊤
-IsRefused c r NotSame = ⊤
+-- a text can't be read with the new name in place of the references
+pub record HasUnread (texts : List (List ℕ)) (new : List ℕ) (references : List Reference) : Type 0 where
+  pub made : List (List ℕ)
+  pub replaced : AreReplaced texts new references made
+  pub unread : Any IsUnreadable made
+
+-- the same of the references to the name at the place
+abbrev pub IsNotRead : CheckedSet → Rename → Type 0
+IsNotRead set r = (references : List Reference) × (AreReferencesAt set.checked.now r.source (place_of r) references × HasUnread (texts_of set.held.now) r.name.now references)
+
+-- what a refusal says. The last one says only that the checker didn't accept the set with the new name
+abbrev pub IsRefused : CheckedSet → Rename → RenameRefusal → Type 0
+IsRefused set r NotWhole = ¬ (IsWhole (texts_of set.held.now) set.checked.now)
+IsRefused set r NoName = HasNoNameAt set.checked.now r.source (place_of r)
+IsRefused set r NotBound = IsNotBound set.checked.now r
+IsRefused set r NotAName = ¬ (IsName r.name.now)
+IsRefused set r NotRead = IsNotRead set r
+IsRefused set r NotSame = ⊤
 
 abbrev pub IsRenameResult : CheckedSet → Rename → Renamed → Type 0
 IsRenameResult set r (Edits references) = IsRename set r references.items
-IsRenameResult set r (Refused refusal) = IsRefused set.checked.now r refusal
+IsRenameResult set r (Refused refusal) = IsRefused set r refusal

@@ -1,6 +1,8 @@
 //! The held set that a rename makes.
-ghost use Rattle.std.specs.Prelude.{◌≡◌, ◌∷◌, ◌++◌, [], IfOk, IfSome, OnOk, map, true};
+ghost use Rattle.std.specs.Prelude.{◌≡◌, ◌∷◌, ◌++◌, [], IfNone, IfOk, IfSome, OnOk, map, true};
+ghost use Rattle.std.specs.List.{Any};
 ghost use Rattle.hm_service_rename.specs.Sets.{AreHeldAs};
+ghost use Rattle.hm_service_sources.specs.Standing.{IsUnreadable};
 
 use hm_service_places::ServiceFault;
 use hm_service_sources::{ChangeFault, HeldSource, change};
@@ -16,6 +18,7 @@ fn source_with<T: Threads>(
     ensures text { IfOk result (λ made. IfSome made (λ source. source.text.items ≡ text.items)) }
     ensures standing { IfOk result (λ made. IfSome made (λ source. source.standing.items ≡ text.items)) }
     ensures read { IfOk result (λ made. IfSome made (λ source. source.is_read ≡ true)) }
+    ensures unread { IfOk result (λ made. IfNone made (IsUnreadable text.items)) }
 {
     let mut source = HeldSource::new(alloc);
     match change(rt, alloc, &mut source, text) {
@@ -46,7 +49,8 @@ pub(crate) fn held_with<T: Threads>(
     alloc: Global,
     texts: &[Vec<u8>],
 ) -> Result<Option<Vec<HeldSource>>, ServiceFault>
-    ensures { IfOk result (λ made. IfSome made (λ held. AreHeldAs (map (λ s. s.items) texts.now) held.items)) }
+    ensures held { IfOk result (λ made. IfSome made (λ held. AreHeldAs (map (λ s. s.items) texts.now) held.items)) }
+    ensures unread { IfOk result (λ made. IfNone made (Any IsUnreadable (map (λ s. s.items) texts.now))) }
 {
     let mut held = Vec::new(alloc);
     'texts: for text in texts {

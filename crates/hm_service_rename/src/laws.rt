@@ -1,9 +1,10 @@
 //! Worked examples, in functions with an empty body, whose contracts have them.
-ghost use Rattle.hm_service_rename.specs.Worked.{HeldRow, ReplacedRow};
+ghost use Rattle.hm_service_rename.specs.Worked.{HeldRow, NamesRow, ReplacedRow};
 
-/// Texts with a new name, and the sources that hold them.
-#[tactic(auto, using(crate::proofs::WorkedRenames::worked_held, crate::proofs::WorkedRenames::worked_replaced))]
+/// Texts with a new name, the sources that hold them, and tokens that are one name.
+#[tactic(auto, using(crate::proofs::WorkedRenames::worked_held, crate::proofs::WorkedRenames::worked_names, crate::proofs::WorkedRenames::worked_replaced))]
 pub fn worked_renames()
     ensures replaced { ReplacedRow }
     ensures held { HeldRow }
+    ensures names { NamesRow }
 {}

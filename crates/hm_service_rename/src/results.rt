@@ -27,13 +27,13 @@ pub enum RenameRefusal {
     NotWhole,
     /// No name is at the place.
     NoName,
-    /// The name isn't bound in the set.
+    /// No name of the set that means the same is bound there.
     NotBound,
-    /// The new name is no variable, constructor or type, or it is a reserved word.
+    /// The new text isn't a name of a variable, a constructor or a type without a qualifier.
     NotAName,
     /// With the new name, a source can't be read.
     NotRead,
-    /// With the new name, the set isn't the same: a module is good that wasn't or the other way round, or a name means something else.
+    /// The checker doesn't accept the set with the new name. No clause says more of it.
     NotSame,
 }
 

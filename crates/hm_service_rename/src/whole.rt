@@ -1,5 +1,5 @@
 //! Whether a check is of all sources as they are now.
-ghost use Rattle.std.specs.Prelude.{◌≡◌, IfOk, IsTrue, map};
+ghost use Rattle.std.specs.Prelude.{◌≡◌, IfOk, IsTrue, false, map};
 ghost use Rattle.hm_service_rename.specs.Sets.{IsWhole};
 ghost use Rattle.hm_service_sources.specs.HeldSets.{AreAll, texts_of};
 
@@ -20,7 +20,8 @@ pub(crate) fn current_texts(alloc: Global, held: &[HeldSource]) -> Result<Vec<Ve
 
 /// Returns whether these are all numbers below a number, in order.
 fn are_all(count: usize, numbers: &[usize]) -> bool
-    ensures { IsTrue result → AreAll count numbers.now }
+    ensures yes { IsTrue result → AreAll count numbers.now }
+    ensures no { result ≡ false → ¬ (AreAll count numbers.now) }
 {
     if numbers.len() != count {
         return false;
@@ -35,14 +36,16 @@ fn are_all(count: usize, numbers: &[usize]) -> bool
 
 /// Returns whether two texts are the same.
 fn is_same(text: &[u8], other: &[u8]) -> bool
-    ensures { IsTrue result → text.now ≡ other.now }
+    ensures yes { IsTrue result → text.now ≡ other.now }
+    ensures no { result ≡ false → ¬ (text.now ≡ other.now) }
 {
     text == other
 }
 
 /// Returns whether texts are the same.
 fn are_same(texts: &[Vec<u8>], others: &[Vec<u8>]) -> bool
-    ensures { IsTrue result → map (λ s. s.items) texts.now ≡ map (λ s. s.items) others.now }
+    ensures yes { IsTrue result → map (λ s. s.items) texts.now ≡ map (λ s. s.items) others.now }
+    ensures no { result ≡ false → ¬ (map (λ s. s.items) texts.now ≡ map (λ s. s.items) others.now) }
 {
     if texts.len() != others.len() {
         return false;
@@ -57,7 +60,8 @@ fn are_same(texts: &[Vec<u8>], others: &[Vec<u8>]) -> bool
 
 /// Returns whether a check is of all sources with these texts, and skips no module.
 pub(crate) fn is_whole(texts: &[Vec<u8>], checked: &Checked) -> bool
-    ensures { IsTrue result → IsWhole (map (λ s. s.items) texts.now) checked.now }
+    ensures yes { IsTrue result → IsWhole (map (λ s. s.items) texts.now) checked.now }
+    ensures no { result ≡ false → ¬ (IsWhole (map (λ s. s.items) texts.now) checked.now) }
 {
     if !are_all(texts.len(), checked.part.as_slice()) {
         return false;

@@ -29,7 +29,7 @@ const EXPORTS_X: &[u8] = b"module A (x) where { x = 1 ; y = x }";
 
 const IMPORTS_X: &[u8] = b"module B where { import A (x) ; z = A.x ; w x = x }";
 
-const ROWS: [Row; 36] = [
+const ROWS: [Row; 38] = [
     Row {
         what: "through lists and a qualified use",
         first: EXPORTS_X,
@@ -124,6 +124,22 @@ const ROWS: [Row; 36] = [
         second: b"",
         column: 22,
         name: "A.y",
+        outcome: Outcome::Refused(RenameRefusal::NotAName),
+    },
+    Row {
+        what: "a name and a comment",
+        first: EXPORTS_X,
+        second: b"",
+        column: 22,
+        name: "q{- -}",
+        outcome: Outcome::Refused(RenameRefusal::NotAName),
+    },
+    Row {
+        what: "what is no lexeme",
+        first: EXPORTS_X,
+        second: b"",
+        column: 22,
+        name: "\"",
         outcome: Outcome::Refused(RenameRefusal::NotAName),
     },
     Row {
