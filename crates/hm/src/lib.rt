@@ -90,7 +90,7 @@ pub mod build {
         BuildFault, Explain, Explaining, Finished, Gate, Listing, Open, Options, Outputs, build,
         journal_text, report, run, run_explained, run_listed,
     };
-    pub use hm_build_place_runs::{AskedPlace, PlaceQuestion, run_place};
+    pub use hm_build_place_runs::{AskedPlace, PlaceFormat, PlaceQuestion, run_place};
     pub use hm_messages::Paint;
     pub use hm_run_io::{RunFault, Watched};
     pub use hm_run_sources::{

@@ -1,12 +1,15 @@
 //! The result of a run before it is written.
 ghost use Rattle.std.specs.Prelude.{◌≡◌, ◌⊎◌, ◌<◌, ◌≤◌, IfErr, IfOk, map, string_bytes};
+ghost use Rattle.hm_run_sources.specs.Refusals.{refusal_text as refusal_bytes};
+ghost use Rattle.hm_build_place_texts.specs.Formats.{refusal_in};
 ghost use Rattle.hm_build_place_runs.specs.Runs.{IsPlaceRun};
 
 use hm_build::{BuildFault, Finished, Open, Options, build};
+use hm_build_place_texts::{PlaceFormat, refused_text};
 use hm_build_places::{PlaceQuestion, place_answer};
 use hm_build_stages::drop_by_threads;
 use hm_run_io::RunFault;
-use hm_run_sources::{Answer, Nesting, Trees, refusal_answer};
+use hm_run_sources::{Answer, Nesting, SetFault, Status, Trees, refusal_answer};
 use std::alloc::{AllocError, Global};
 use std::mem;
 use std::sync::Wait;
@@ -28,6 +31,20 @@ fn copies(alloc: Global, sources: &[Vec<u8>]) -> Result<Vec<Vec<u8>>, AllocError
         copies.push(Vec::from_slice(alloc, source.as_slice())?)?;
     }
     Ok(copies)
+}
+
+/// Returns the text and the status for a refused set, in this format.
+fn refused_answer(
+    alloc: Global,
+    fault: &SetFault,
+    format: PlaceFormat,
+) -> Result<Answer, AllocError>
+    ensures status { IfOk result (λ a. a.status ≡ Status.Refused) }
+    ensures text { IfOk result (λ a. string_bytes a.text ≡ refusal_in format (refusal_bytes fault.now)) }
+{
+    let Answer { status, text } = refusal_answer(alloc, fault)?;
+    let text = refused_text(alloc, format, text)?;
+    Ok(Answer { status, text })
 }
 
 /// Drops a finished build, or leaves its trees in memory, as the options say.
@@ -56,7 +73,7 @@ pub(crate) fn asked_answer<T: Threads + Wait + Sync>(
 ) -> Result<Answer, RunFault>
     requires { (0 < asked.now.options.workers) × (asked.now.options.workers ≤ 16) }
     ensures ok { IfOk result (λ a. IsPlaceRun (map (λ n. n.items) asked.now.question.names.items) (map (λ s. s.items) sources.now)
-        (record { source = asked.now.question.source; line = asked.now.question.line; column = asked.now.question.column }) a.status (string_bytes a.text)) }
+        (record { source = asked.now.question.source; line = asked.now.question.line; column = asked.now.question.column; format = asked.now.question.format }) a.status (string_bytes a.text)) }
     ensures err { IfErr result (λ e. (e ≡ RunFault.Memory) ⊎ ((e ≡ RunFault.NoWorker) ⊎ (e ≡ RunFault.Mixed))) }
 {
     let built = copies(alloc, sources)?;
@@ -67,7 +84,11 @@ pub(crate) fn asked_answer<T: Threads + Wait + Sync>(
             let_go(rt, alloc, finished, asked.options, nesting);
             Ok(answer)
         }
-        Err(BuildFault::Refused(refused)) => Ok(refusal_answer(alloc, &refused.fault)?),
+        Err(BuildFault::Refused(refused)) => Ok(refused_answer(
+            alloc,
+            &refused.fault,
+            asked.question.format,
+        )?),
         Err(BuildFault::Exhausted(_)) => Err(RunFault::Memory),
         Err(BuildFault::Workers) => unreachable!(),
         Err(BuildFault::NoWorker) => Err(RunFault::NoWorker),

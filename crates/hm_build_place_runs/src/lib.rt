@@ -7,5 +7,5 @@ mod running;
 mod stacks;
 
 pub use answers::AskedPlace;
-pub use hm_build_places::PlaceQuestion;
+pub use hm_build_places::{PlaceFormat, PlaceQuestion};
 pub use running::run_place;

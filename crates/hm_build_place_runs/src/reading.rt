@@ -24,7 +24,7 @@ pub(crate) fn read_and_answer<T: Threads + Wait + Sync, R: Read>(
     requires readers { All IsFresh readers.old }
     ensures ok { IfOk result (λ a. (sources : List (List ℕ)) → Tell (λ r. R.remaining (device_of r)) readers.old sources
         → IsPlaceRun (map (λ n. n.items) asked.question.names.items) (map held_of sources)
-        (record { source = asked.question.source; line = asked.question.line; column = asked.question.column }) a.status (string_bytes a.text)) }
+        (record { source = asked.question.source; line = asked.question.line; column = asked.question.column; format = asked.question.format }) a.status (string_bytes a.text)) }
     ensures unread { IsErrOf result RunFault.Workers → readers.new ≡ readers.old }
     ensures read_up { OnOk result (AreReadUp (λ r. R.remaining (device_of r)) readers.old readers.new) }
     ensures read_up_before_a_build { (IsErrOf result RunFault.NoWorker ⊎ IsErrOf result RunFault.Mixed)

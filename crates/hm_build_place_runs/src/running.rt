@@ -41,14 +41,14 @@ pub fn run_place<T: Threads + Wait + Sync, R: Read, W: Write>(
     // If readers and writer report their bytes exactly, the text for the place or the refusal is written, and nothing else.
     ensures ok { IfOk result (λ status. (sources : List (List ℕ)) → Tell (λ r. R.remaining (device_of r)) readers.old sources
         → (text : List ℕ) × IsPlaceRun (map (λ n. n.items) asked.question.names.items) (map held_of sources)
-        (record { source = asked.question.source; line = asked.question.line; column = asked.question.column }) status text
+        (record { source = asked.question.source; line = asked.question.line; column = asked.question.column; format = asked.question.format }) status text
         × Appends (W.contents (device_of writer.old)) (W.contents (device_of writer.new)) text) }
     // The writer was flushed once, after that text.
     ensures flushed { OnOk result (IsFlushedBehind writer.new) }
     // If the writer failed, it got a prefix of that text.
     ensures prefix { IsErrOf result RunFault.Write → (sources : List (List ℕ)) → Tell (λ r. R.remaining (device_of r)) readers.old sources
         → (status : Status) × (text : List ℕ) × IsPlaceRun (map (λ n. n.items) asked.question.names.items) (map held_of sources)
-        (record { source = asked.question.source; line = asked.question.line; column = asked.question.column }) status text
+        (record { source = asked.question.source; line = asked.question.line; column = asked.question.column; format = asked.question.format }) status text
         × WritesPrefix (W.contents (device_of writer.old)) (W.contents (device_of writer.new)) text }
     // After any other fault nothing was written.
     ensures nothing { OnErr result ((writer.new ≡ writer.old) ⊎ IsErrOf result RunFault.Write) }

@@ -24,7 +24,7 @@ impl Promise<Result<Answer, RunFault>> for AnswerOf {
     ghost use Rattle.hm_build_place_runs.specs.Runs.{IsPlaceRun};
     ghost use Rattle.hm_run_io.specs.declared.faults.RunFault.TheVariants.{Memory, NoWorker, Mixed};
 
-    ghost kept_by = { λ p r. IfOk r (λ a. IsPlaceRun (map (λ n. n.items) p.asked.value.question.names.items) (map (λ s. s.items) p.sources.value.items) (record { source = p.asked.value.question.source; line = p.asked.value.question.line; column = p.asked.value.question.column }) a.status (string_bytes a.text)) × IfErr r (λ e. (e ≡ Memory) ⊎ ((e ≡ NoWorker) ⊎ (e ≡ Mixed))) };
+    ghost kept_by = { λ p r. IfOk r (λ a. IsPlaceRun (map (λ n. n.items) p.asked.value.question.names.items) (map (λ s. s.items) p.sources.value.items) (record { source = p.asked.value.question.source; line = p.asked.value.question.line; column = p.asked.value.question.column; format = p.asked.value.question.format }) a.status (string_bytes a.text)) × IfErr r (λ e. (e ≡ Memory) ⊎ ((e ≡ NoWorker) ⊎ (e ≡ Mixed))) };
 }
 
 /// Returns what `asked_answer` returns, from a new thread with a large stack.
@@ -36,7 +36,7 @@ pub(crate) fn answer_on_thread<T: Threads + Wait + Sync>(
 ) -> Result<Answer, RunFault>
     requires { (0 < asked.options.workers) × (asked.options.workers ≤ 16) }
     ensures ok { IfOk result (λ a. IsPlaceRun (map (λ n. n.items) asked.question.names.items) (map (λ s. s.items) sources.items)
-        (record { source = asked.question.source; line = asked.question.line; column = asked.question.column }) a.status (string_bytes a.text)) }
+        (record { source = asked.question.source; line = asked.question.line; column = asked.question.column; format = asked.question.format }) a.status (string_bytes a.text)) }
     ensures err { IfErr result (λ e. (e ≡ RunFault.Memory) ⊎ ((e ≡ RunFault.NoWorker) ⊎ (e ≡ RunFault.Mixed))) }
 {
     thread::scope(
@@ -45,7 +45,7 @@ pub(crate) fn answer_on_thread<T: Threads + Wait + Sync>(
         move |scope| -> Result<Answer, RunFault>
             requires { (0 < asked.options.workers) × (asked.options.workers ≤ 16) }
             ensures ok { IfOk result (λ a. IsPlaceRun (map (λ n. n.items) asked.question.names.items) (map (λ s. s.items) sources.items)
-                (record { source = asked.question.source; line = asked.question.line; column = asked.question.column }) a.status (string_bytes a.text)) }
+                (record { source = asked.question.source; line = asked.question.line; column = asked.question.column; format = asked.question.format }) a.status (string_bytes a.text)) }
             ensures err { IfErr result (λ e. (e ≡ RunFault.Memory) ⊎ ((e ≡ RunFault.NoWorker) ⊎ (e ≡ RunFault.Mixed))) }
         {
             let promise = AnswerOf {

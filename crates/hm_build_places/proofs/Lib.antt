@@ -1,5 +1,5 @@
 mod Looked
 pub mod SkippedModules
-mod Texts
+mod Parts
 pub mod WorkedPlaces
 mod TypesFound

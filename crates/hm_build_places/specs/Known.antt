@@ -1,11 +1,10 @@
 -- A judged set of modules with its sources, and where places and modules are in it.
-use Rattle.std.specs.Prelude.{◌≡◌, ℕ, ◌<◌, ◌⊎◌, List, [], ◌∷◌, ◌++◌, codes, length, slice_index_or}
-use Rattle.std.specs.Fmt.{decimal}
+use Rattle.std.specs.Prelude.{◌≡◌, ℕ, ◌<◌, List, [], ◌∷◌, Option, Some, None, codes, length, slice_index_or}
 use Rattle.hm_lex.specs.declared.token.Place.{Place}
-use Rattle.hm_messages_excerpts.specs.Columns.{AreColumnsAt}
 use Rattle.hm_messages_excerpts.specs.Escapes.{shown}
 use Rattle.hm_messages_excerpts.specs.Excerpts.{IsPlaceIn}
-use Rattle.hm_messages_excerpts.specs.declared.columns.Columns.{Columns}
+use Rattle.hm_messages_json.specs.Positions.{IsPositionAt}
+use Rattle.hm_messages_json.specs.declared.message.Position.{Position}
 use Rattle.hm_names.specs.Imports.{AreImportsOf}
 use Rattle.hm_types.specs.Interfaces.{Exports as Interface}
 use Rattle.hm_types.specs.StandardPrelude.{prelude_interface}
@@ -13,6 +12,7 @@ use Rattle.hm_uses.specs.Uses.{AreUses, UseOf}
 use Rattle.hm_verdicts.specs.Reports.{name_of_module}
 use Rattle.hm_verdicts.specs.Sets.{ModuleSet, imports_of, module_at}
 use Rattle.hm_verdicts.specs.Verdicts.{ArePublished, Status}
+use Rattle.hm_build_place_texts.specs.Facts.{Site}
 
 -- the modules with their plan and their statuses, the names and the texts of the sources, and the number of each module's source
 pub record Known : Type 0 where
@@ -36,15 +36,15 @@ text_of k source = slice_index_or k.texts source []
 abbrev pub origin_of : Known → ℕ → ℕ
 origin_of k i = slice_index_or k.origins i 0
 
--- FILE:LINE:COLUMN
-abbrev pub spot_text : List ℕ → ℕ → ℕ → List ℕ
-spot_text file line column = file ++ (codes ":" ++ (decimal line ++ (codes ":" ++ decimal column)))
+-- the position of a place, if the place is in the source
+abbrev pub IsPositionIn : List ℕ → Place → Option Position → Type 0
+IsPositionIn source place (Some p) = IsPositionAt source place p
+IsPositionIn source place None = ¬ (IsPlaceIn source place)
 
--- the place of a source, with its column in characters as messages have it. A place that isn't in the source has only its file
-abbrev pub IsSpotText : Known → ℕ → Place → List ℕ → Type 0
-IsSpotText k source place text =
-    ((c : Columns) × (AreColumnsAt (text_of k source) place c × (text ≡ spot_text (file_text k source) place.line c.characters)))
-    ⊎ ((IsPlaceIn (text_of k source) place → ⊥) × (text ≡ file_text k source))
+-- the place of a source, with the name of its file
+pub record IsSiteOf (k : Known) (source : ℕ) (place : Place) (s : Site) : Type 0 where
+  pub file_is : s.file ≡ file_text k source
+  pub position_is : IsPositionIn (text_of k source) place s.position
 
 -- module number i has the name x
 pub record IsNumberOf (k : Known) (x : List ℕ) (i : ℕ) : Type 0 where

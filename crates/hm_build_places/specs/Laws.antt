@@ -1,4 +1,4 @@
--- The laws of the text of a place, as statements.
+-- The laws of what is at a place, as statements.
 use Rattle.std.specs.Prelude.{◌≡◌, ◌↔◌, ℕ, ◌<◌, length}
 use Rattle.hm_verdicts.specs.Sets.{IsLawfulSet}
 use Rattle.hm_verdicts.specs.Verdicts.{IsSettled, Skipped}

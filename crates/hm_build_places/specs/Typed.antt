@@ -1,5 +1,5 @@
 -- The type of a declared name: as the interface of its module has it, or by a variable of its module.
-use Rattle.std.specs.Prelude.{◌≡◌, ℕ, List, [], ◌++◌, Contains, codes}
+use Rattle.std.specs.Prelude.{◌≡◌, ℕ, List, Contains}
 use Rattle.hm_names.specs.Scope.{prelude_name}
 use Rattle.hm_types.specs.declared.Entity.{Entity}
 use Rattle.hm_types.specs.declared.entries.ConstructorEntry.{ConstructorEntry}
@@ -12,8 +12,9 @@ use Rattle.hm_uses.specs.Uses.{Sense, local_variable, type_variable, an_entity, 
 use Rattle.hm_uses.specs.declared.name_kind.NameKind.{NameKind}
 use Rattle.hm_uses.specs.declared.name_kind.NameKind.TheVariants.{Variable, Constructor, TypeVariable, TypeConstructor, ModuleName}
 use Rattle.hm_verdicts.specs.Verdicts.{Published}
+use Rattle.hm_build_place_texts.specs.Facts.{InModule, no_declared, not_exported, of_bad_module, principal}
 use Rattle.hm_build_places.specs.Known.{HasNoNumber, IsNumberOf, Known}
-use Rattle.hm_build_places.specs.TypesAt.{OwnLine}
+use Rattle.hm_build_places.specs.TypesAt.{IsOwnType}
 
 -- the interface of the module with this name: that of Prelude, or of a good module of the set
 pub data IsInterfaceOf (k : Known) (x : List ℕ) (f : Interface) : Type 0 where
@@ -30,37 +31,26 @@ pub data HasScheme (f : Interface) (e : Entity) (s : TypeScheme) : NameKind → 
   of_variable : {v : ValueEntry} → Contains f.values v → v.entity ≡ e → s ≡ v.scheme → HasScheme f e s Variable
   of_constructor : {c : ConstructorEntry} → Contains f.constructors c → c.entity ≡ e → s ≡ c.scheme → HasScheme f e s Constructor
 
-abbrev pub type_line : TypeScheme → List ℕ
-type_line s = codes "  type " ++ (scheme_text_of s ++ codes "\n")
-
--- the line of a name that isn't exported, and of which no type is found
-abbrev pub hidden_line : List ℕ → List ℕ
-hidden_line name = codes "  no type: module " ++ (name ++ codes " doesn't export it\n")
-
--- the line of a name in a module that isn't good, and of which no type is found
-abbrev pub unaccepted_line : List ℕ → List ℕ
-unaccepted_line name = codes "  no type: module " ++ (name ++ codes " isn't good\n")
-
--- the line of the type of an entity
-pub data TypeLine (k : Known) (kind : NameKind) (e : Entity) (text : List ℕ) : Type 0 where
-  shown : {f : Interface} {s : TypeScheme} → IsInterfaceOf k e.«module» f → HasScheme f e s kind → text ≡ type_line s → TypeLine k kind e text
-  hidden : {f : Interface} → IsInterfaceOf k e.«module» f → ((s : TypeScheme) → ¬ (HasScheme f e s kind)) → OwnLine k e (hidden_line e.«module») text → TypeLine k kind e text
-  unaccepted : HasNoInterface k e.«module» → OwnLine k e (unaccepted_line e.«module») text → TypeLine k kind e text
+-- the type of an entity: the interface's scheme, or one that is found in the source of its module
+pub data IsTypeOf (k : Known) (kind : NameKind) (e : Entity) (t : InModule) : Type 0 where
+  shown : {f : Interface} {s : TypeScheme} → IsInterfaceOf k e.«module» f → HasScheme f e s kind → t ≡ principal (scheme_text_of s) → IsTypeOf k kind e t
+  hidden : {f : Interface} → IsInterfaceOf k e.«module» f → ((s : TypeScheme) → ¬ (HasScheme f e s kind)) → IsOwnType k e (not_exported e.«module») t → IsTypeOf k kind e t
+  unaccepted : HasNoInterface k e.«module» → IsOwnType k e (of_bad_module e.«module») t → IsTypeOf k kind e t
 
 -- variables and constructors have types
-abbrev pub IsEntityType : Known → NameKind → Entity → List ℕ → Type 0
-IsEntityType k Variable e text = TypeLine k Variable e text
-IsEntityType k Constructor e text = TypeLine k Constructor e text
-IsEntityType k TypeVariable e text = text ≡ []
-IsEntityType k TypeConstructor e text = text ≡ []
-IsEntityType k ModuleName e text = text ≡ []
+abbrev pub IsEntityType : Known → NameKind → Entity → InModule → Type 0
+IsEntityType k Variable e t = IsTypeOf k Variable e t
+IsEntityType k Constructor e t = IsTypeOf k Constructor e t
+IsEntityType k TypeVariable e t = t ≡ no_declared
+IsEntityType k TypeConstructor e t = t ≡ no_declared
+IsEntityType k ModuleName e t = t ≡ no_declared
 
 -- and of those only the ones that a module declares
-abbrev pub IsTypeText : Known → NameKind → Sense → List ℕ → Type 0
-IsTypeText k kind (an_entity e) text = IsEntityType k kind e text
-IsTypeText k kind (local_variable l c) text = text ≡ []
-IsTypeText k kind (type_variable l c) text = text ≡ []
-IsTypeText k kind (a_module x) text = text ≡ []
-IsTypeText k kind (a_prefix x) text = text ≡ []
-IsTypeText k kind unbound text = text ≡ []
-IsTypeText k kind ambiguous text = text ≡ []
+abbrev pub IsDeclaredType : Known → NameKind → Sense → InModule → Type 0
+IsDeclaredType k kind (an_entity e) t = IsEntityType k kind e t
+IsDeclaredType k kind (local_variable l c) t = t ≡ no_declared
+IsDeclaredType k kind (type_variable l c) t = t ≡ no_declared
+IsDeclaredType k kind (a_module x) t = t ≡ no_declared
+IsDeclaredType k kind (a_prefix x) t = t ≡ no_declared
+IsDeclaredType k kind unbound t = t ≡ no_declared
+IsDeclaredType k kind ambiguous t = t ≡ no_declared

@@ -12,6 +12,7 @@ use Rattle.hm_messages_here.specs.TypesHere.{HasSchemeHere, HasTypeAt, IsWithout
 use Rattle.hm_verdicts.specs.Reports.{name_of_module}
 use Rattle.hm_verdicts.specs.Sets.{imports_of}
 use Rattle.hm_verdicts.specs.Verdicts.{ArePublished}
+use Rattle.hm_build_place_texts.specs.Facts.{AtPlace, InModule, Owner, TypeThere, no_type, not_found, of_local, of_use, principal}
 use Rattle.hm_build_places.specs.Known.{IsNumberOf, Known, origin_of, text_of}
 
 abbrev pub place_of : Identifier → Place
@@ -33,38 +34,45 @@ pub record IsTypedAt (k : Known) (i : ℕ) (m : Mention) (definition own here : 
   pub read : IsRead k i whole interfaces
   pub typed : HasTypeAt whole (name_of_module k.set i) interfaces (place_of m.name) (qualifier_text m.name.qualifier ++ m.name.text) definition own here
 
--- the line of the definition that a name is in. A pattern binding has none
-pub data DefinitionLine (definition own text : List ℕ) : Type 0 where
-  of_name : ¬ (definition ≡ codes "()") → text ≡ codes "  in " ++ (definition ++ (codes " :: " ++ (own ++ codes "\n"))) → DefinitionLine definition own text
-  of_pattern : definition ≡ codes "()" → text ≡ [] → DefinitionLine definition own text
+-- the definition that a name is in, with its type. A pattern binding has no name
+pub data IsOwner (definition own : List ℕ) (d : Option Owner) : Type 0 where
+  of_name : ¬ (definition ≡ codes "()") → d ≡ Some (record { name = definition; own = own }) → IsOwner definition own d
+  of_pattern : definition ≡ codes "()" → d ≡ None → IsOwner definition own d
 
--- the lines of the type of a local variable
-pub data LocalLines (k : Known) (i : ℕ) (m : Mention) (text : List ℕ) : Type 0 where
-  typed : {definition own here line : List ℕ} → IsTypedAt k i m definition own here → DefinitionLine definition own line → text ≡ codes "  type " ++ (here ++ (codes "\n" ++ line)) → LocalLines k i m text
-  unknown : text ≡ codes "  no type is found\n" → LocalLines k i m text
+-- a name of module number i has this type at its place, in this definition
+pub record IsTypeThere (k : Known) (i : ℕ) (m : Mention) (t : TypeThere) : Type 0 where
+  pub definition : List ℕ
+  pub own : List ℕ
+  pub typed : IsTypedAt k i m definition own t.text
+  pub owned : IsOwner definition own t.owner
 
--- the lines of the type of an entity's name at its place. Names outside of definitions have none
-pub data UseLines (k : Known) (i : ℕ) (m : Mention) (text : List ℕ) : Type 0 where
-  typed : {definition own here line : List ℕ} → IsTypedAt k i m definition own here → DefinitionLine definition own line → text ≡ codes "  here " ++ (here ++ (codes "\n" ++ line)) → UseLines k i m text
-  unknown : text ≡ [] → UseLines k i m text
+-- the type of a local variable
+pub data IsLocalType (k : Known) (i : ℕ) (m : Mention) (h : AtPlace) : Type 0 where
+  typed : {t : TypeThere} → IsTypeThere k i m t → h ≡ of_local t → IsLocalType k i m h
+  unknown : h ≡ not_found → IsLocalType k i m h
+
+-- the type of an entity's name at its place. Names outside of definitions have none
+pub data IsUseType (k : Known) (i : ℕ) (m : Mention) (h : AtPlace) : Type 0 where
+  typed : {t : TypeThere} → IsTypeThere k i m t → h ≡ of_use t → IsUseType k i m h
+  unknown : h ≡ no_type → IsUseType k i m h
 
 -- variables and constructors have types
-abbrev pub IsEntityHere : Known → ℕ → Mention → NameKind → List ℕ → Type 0
-IsEntityHere k i m Variable text = UseLines k i m text
-IsEntityHere k i m Constructor text = UseLines k i m text
-IsEntityHere k i m TypeVariable text = text ≡ []
-IsEntityHere k i m TypeConstructor text = text ≡ []
-IsEntityHere k i m ModuleName text = text ≡ []
+abbrev pub IsEntityHere : Known → ℕ → Mention → NameKind → AtPlace → Type 0
+IsEntityHere k i m Variable h = IsUseType k i m h
+IsEntityHere k i m Constructor h = IsUseType k i m h
+IsEntityHere k i m TypeVariable h = h ≡ no_type
+IsEntityHere k i m TypeConstructor h = h ≡ no_type
+IsEntityHere k i m ModuleName h = h ≡ no_type
 
--- the lines of the type of a name of module number i at its place
-abbrev pub IsHereText : Known → ℕ → Mention → Sense → List ℕ → Type 0
-IsHereText k i m (local_variable l c) text = LocalLines k i m text
-IsHereText k i m (an_entity e) text = IsEntityHere k i m m.kind text
-IsHereText k i m (type_variable l c) text = text ≡ []
-IsHereText k i m (a_module x) text = text ≡ []
-IsHereText k i m (a_prefix x) text = text ≡ []
-IsHereText k i m unbound text = text ≡ []
-IsHereText k i m ambiguous text = text ≡ []
+-- the type of a name of module number i at its place
+abbrev pub IsTypeHere : Known → ℕ → Mention → Sense → AtPlace → Type 0
+IsTypeHere k i m (local_variable l c) h = IsLocalType k i m h
+IsTypeHere k i m (an_entity e) h = IsEntityHere k i m m.kind h
+IsTypeHere k i m (type_variable l c) h = h ≡ no_type
+IsTypeHere k i m (a_module x) h = h ≡ no_type
+IsTypeHere k i m (a_prefix x) h = h ≡ no_type
+IsTypeHere k i m unbound h = h ≡ no_type
+IsTypeHere k i m ambiguous h = h ≡ no_type
 
 -- a variable of the module that declares an entity has the entity's scheme with this text
 pub record HasOwnScheme (k : Known) (e : Entity) (text : List ℕ) : Type 0 where
@@ -75,7 +83,7 @@ pub record HasOwnScheme (k : Known) (e : Entity) (text : List ℕ) : Type 0 wher
   pub read : IsRead k number whole interfaces
   pub scheme : HasSchemeHere whole (name_of_module k.set number) interfaces (e.«module» ++ (codes "." ++ e.name)) text
 
--- the line of an entity's type in its module, or another one
-pub data OwnLine (k : Known) (e : Entity) (unknown text : List ℕ) : Type 0 where
-  found : {shown : List ℕ} → HasOwnScheme k e shown → text ≡ codes "  type " ++ (shown ++ codes "\n") → OwnLine k e unknown text
-  not_found : text ≡ unknown → OwnLine k e unknown text
+-- an entity's type in its module, or why none is found
+pub data IsOwnType (k : Known) (e : Entity) (unknown t : InModule) : Type 0 where
+  found : {shown : List ℕ} → HasOwnScheme k e shown → t ≡ principal shown → IsOwnType k e unknown t
+  unfound : t ≡ unknown → IsOwnType k e unknown t

@@ -1,12 +1,13 @@
 //! The text for a place, and its status.
 ghost use Rattle.std.specs.Prelude.{◌≡◌, ℕ, List, IfOk, map, string_bytes};
 ghost use Rattle.hm_run_sources.specs.ModuleCounts.{AreOrigins};
-ghost use Rattle.hm_build_places.specs.Answers.{IsPlaceAnswer, nothing_text};
-ghost use Rattle.hm_build_places.specs.Known.{file_text};
+ghost use Rattle.hm_build_place_texts.specs.Facts.{item_of};
+ghost use Rattle.hm_build_places.specs.Answers.{IsPlaceAnswer, status_of};
 ghost use Rattle.hm_build_places.specs.Views.{known_in, known_of};
 
-use crate::module_texts::found_text;
+use crate::finding::found_items;
 use crate::views::{View, file_text};
+use hm_build_place_texts::{PlaceFormat, PlaceFound, PlaceItem, place_text};
 use hm_run_sources::{Answer, Status, origins_of};
 use hm_store::Store;
 use hm_types_prelude::SharedPrelude;
@@ -23,20 +24,19 @@ pub struct PlaceQuestion {
     pub line: u32,
     /// The column in characters, from 1.
     pub column: usize,
+    /// How the result is written.
+    pub format: PlaceFormat,
 }
 
-/// Returns the text for a place without a name.
-fn nothing_text(
-    alloc: Global,
-    view: &View<'_>,
-    question: &PlaceQuestion,
-) -> Result<String, AllocError>
-    ensures { IfOk result (λ text. string_bytes text ≡ nothing_text (file_text (known_of view.now) question.now.source) question.now.line question.now.column) }
+/// Returns the status of a place with these items.
+fn status_of(items: &[PlaceItem]) -> Status
+    ensures { result ≡ status_of (map item_of items.now) }
 {
-    let file = file_text(alloc, view, question.source)?;
-    let line = question.line;
-    let column = question.column;
-    format!(in alloc; "{file}:{line}:{column}: no name is here\n")
+    if items.is_empty() {
+        Status::Faulty
+    } else {
+        Status::Good
+    }
 }
 
 /// Returns the text and the status for a place.
@@ -45,15 +45,17 @@ fn viewed_answer(
     view: &View<'_>,
     question: &PlaceQuestion,
 ) -> Result<Answer, AllocError>
-    ensures { IfOk result (λ a. IsPlaceAnswer (known_of view.now) question.now.source question.now.line question.now.column a.status (string_bytes a.text)) }
+    ensures { IfOk result (λ a. IsPlaceAnswer (known_of view.now) question.now.format question.now.source question.now.line question.now.column a.status (string_bytes a.text)) }
 {
-    let text = found_text(alloc, view, question.source, question.line, question.column)?;
-    if text.as_str().is_empty() {
-        let text = nothing_text(alloc, view, question)?;
-        let status = Status::Faulty;
-        return Ok(Answer { status, text });
-    }
-    let status = Status::Good;
+    let items = found_items(alloc, view, question.source, question.line, question.column)?;
+    let status = status_of(items.as_slice());
+    let found = PlaceFound {
+        file: file_text(alloc, view, question.source)?,
+        line: question.line,
+        column: question.column,
+        items,
+    };
+    let text = place_text(alloc, question.format, &found)?;
     Ok(Answer { status, text })
 }
 
@@ -71,7 +73,7 @@ pub fn place_answer(
 ) -> Result<Answer, AllocError>
     ensures { IfOk result (λ a. (origins : List ℕ) × (AreOrigins counts.now origins
         × IsPlaceAnswer (known_in store.now (map (λ n. n.items) question.now.names.items) (map (λ s. s.items) sources.now) origins)
-        question.now.source question.now.line question.now.column a.status (string_bytes a.text))) }
+        question.now.format question.now.source question.now.line question.now.column a.status (string_bytes a.text))) }
 {
     let prelude = SharedPrelude::new(alloc)?;
     let origins = origins_of(alloc, counts)?;

@@ -1,13 +1,15 @@
 //! The types of names at their places.
-ghost use Rattle.std.specs.Prelude.{◌≡◌, ◌<◌, ◌++◌, IfOk, IfSome, codes, length, string_bytes};
+ghost use Rattle.std.specs.Prelude.{◌≡◌, ◌<◌, IfOk, IfSome, length, option_map, string_bytes};
 ghost use Rattle.hm_uses_declarations.specs.Senses.{sense_of};
-ghost use Rattle.hm_build_places.specs.TypesAt.{DefinitionLine, IsEntityHere, IsHereText, IsTypedAt, LocalLines, UseLines, qualifier_text};
+ghost use Rattle.hm_build_place_texts.specs.Facts.{here_of, owner_of, there_of};
+ghost use Rattle.hm_build_places.specs.TypesAt.{IsEntityHere, IsLocalType, IsOwner, IsTypeHere, IsTypeThere, IsTypedAt, IsUseType};
 ghost use Rattle.hm_build_places.specs.Views.{known_of};
 
 use crate::bound::place_of;
 use crate::names::written_text;
 use crate::read::{question_of, read_of};
 use crate::views::View;
+use hm_build_place_texts::{Definition, HereType, PlaceType};
 use hm_messages_here::{TypeHere, WrittenName, type_here};
 use hm_uses::NameKind;
 use hm_uses_declarations::{Meaning, Use};
@@ -38,102 +40,115 @@ fn type_at(
     Ok(type_here(alloc, &question, &read.whole, &written)?)
 }
 
-/// Returns the line of the definition that a name is in.
-fn definition_line(alloc: Global, definition: &str, own: &str) -> Result<String, AllocError>
-    ensures { IfOk result (λ text. DefinitionLine definition.now own.now (string_bytes text)) }
+/// Returns the type of a name with the definition that it is in.
+fn with_owner(found: TypeHere) -> PlaceType
+    ensures text { string_bytes result.text ≡ string_bytes found.here }
+    ensures owner { IsOwner (string_bytes found.definition) (string_bytes found.own) (option_map owner_of result.definition) }
 {
-    if definition == "()" {
-        return Ok(String::new(alloc));
+    let TypeHere {
+        definition,
+        own,
+        here,
+    } = found;
+    if definition.as_str() == "()" {
+        return PlaceType {
+            text: here,
+            definition: None,
+        };
     }
-    format!(in alloc; "  in {definition} :: {own}\n")
+    let name = definition;
+    PlaceType {
+        text: here,
+        definition: Some(Definition { name, own }),
+    }
 }
 
-/// Returns the line of a type, and after it that of a definition.
-fn type_lines(alloc: Global, here: &str, definition: &str) -> Result<String, AllocError>
-    ensures { IfOk result (λ text. string_bytes text ≡ codes "  type " ++ (here.now ++ (codes "\n" ++ definition.now))) }
-{
-    format!(in alloc; "  type {here}\n{definition}")
-}
-
-/// Returns the line of the type of a use, and after it that of a definition.
-fn here_lines(alloc: Global, here: &str, definition: &str) -> Result<String, AllocError>
-    ensures { IfOk result (λ text. string_bytes text ≡ codes "  here " ++ (here.now ++ (codes "\n" ++ definition.now))) }
-{
-    format!(in alloc; "  here {here}\n{definition}")
-}
-
-/// Returns the lines of the type of a local variable.
-fn local_lines(
+/// Returns the type of a name at its place, with the definition that it is in.
+fn type_there(
     alloc: Global,
     view: &View<'_>,
     number: usize,
     one: &Use<'_>,
-) -> Result<String, AllocError>
+) -> Result<Option<PlaceType>, AllocError>
     requires { number < length view.now.store.now.modules }
-    ensures { IfOk result (λ text. LocalLines (known_of view.now) number one.now.mention (string_bytes text)) }
+    ensures { IfOk result (λ found. IfSome found (λ t. IsTypeThere (known_of view.now) number one.now.mention (there_of t))) }
 {
-    let Some(found) = type_at(alloc, view, number, one)? else {
-        return Ok(String::from_str(alloc, "  no type is found\n")?);
-    };
-    let definition = definition_line(alloc, found.definition.as_str(), found.own.as_str())?;
-    Ok(type_lines(alloc, found.here.as_str(), definition.as_str())?)
+    match type_at(alloc, view, number, one)? {
+        Some(found) => Ok(Some(with_owner(found))),
+        None => Ok(None),
+    }
 }
 
-/// Returns the lines of the type of an entity's name at its place.
-fn use_lines(
+/// Returns the type of a local variable.
+fn local_type(
     alloc: Global,
     view: &View<'_>,
     number: usize,
     one: &Use<'_>,
-) -> Result<String, AllocError>
+) -> Result<HereType, AllocError>
     requires { number < length view.now.store.now.modules }
-    ensures { IfOk result (λ text. UseLines (known_of view.now) number one.now.mention (string_bytes text)) }
+    ensures { IfOk result (λ here. IsLocalType (known_of view.now) number one.now.mention (here_of here)) }
 {
-    let Some(found) = type_at(alloc, view, number, one)? else {
-        return Ok(String::new(alloc));
-    };
-    let definition = definition_line(alloc, found.definition.as_str(), found.own.as_str())?;
-    Ok(here_lines(alloc, found.here.as_str(), definition.as_str())?)
+    match type_there(alloc, view, number, one)? {
+        Some(found) => Ok(HereType::Local(found)),
+        None => Ok(HereType::Unknown),
+    }
 }
 
-/// Returns the lines of the type of an entity's name at its place, if names of this kind have types.
+/// Returns the type of an entity's name at its place.
+fn use_type(
+    alloc: Global,
+    view: &View<'_>,
+    number: usize,
+    one: &Use<'_>,
+) -> Result<HereType, AllocError>
+    requires { number < length view.now.store.now.modules }
+    ensures { IfOk result (λ here. IsUseType (known_of view.now) number one.now.mention (here_of here)) }
+{
+    match type_there(alloc, view, number, one)? {
+        Some(found) => Ok(HereType::Used(found)),
+        None => Ok(HereType::Untyped),
+    }
+}
+
+/// Returns the type of an entity's name at its place, if names of this kind have types.
 fn entity_here(
     alloc: Global,
     view: &View<'_>,
     number: usize,
     one: &Use<'_>,
     kind: NameKind,
-) -> Result<String, AllocError>
+) -> Result<HereType, AllocError>
     requires { number < length view.now.store.now.modules }
-    ensures { IfOk result (λ text. IsEntityHere (known_of view.now) number one.now.mention kind (string_bytes text)) }
+    ensures { IfOk result (λ here. IsEntityHere (known_of view.now) number one.now.mention kind (here_of here)) }
 {
     match kind {
-        NameKind::Variable => Ok(use_lines(alloc, view, number, one)?),
-        NameKind::Constructor => Ok(use_lines(alloc, view, number, one)?),
-        NameKind::TypeVariable => Ok(String::new(alloc)),
-        NameKind::TypeConstructor => Ok(String::new(alloc)),
-        NameKind::ModuleName => Ok(String::new(alloc)),
+        NameKind::Variable => Ok(use_type(alloc, view, number, one)?),
+        NameKind::Constructor => Ok(use_type(alloc, view, number, one)?),
+        NameKind::TypeVariable => Ok(HereType::Untyped),
+        NameKind::TypeConstructor => Ok(HereType::Untyped),
+        NameKind::ModuleName => Ok(HereType::Untyped),
     }
 }
 
-/// Returns the lines of the type of a name at its place, by what it means.
-pub(crate) fn here_text(
+/// Returns the type of a name at its place, by what it means.
+pub(crate) fn here_of(
     alloc: Global,
     view: &View<'_>,
     number: usize,
     one: &Use<'_>,
     meaning: &Meaning<'_>,
-) -> Result<String, AllocError>
+) -> Result<HereType, AllocError>
     requires { number < length view.now.store.now.modules }
-    ensures { IfOk result (λ text. IsHereText (known_of view.now) number one.now.mention (sense_of meaning.now) (string_bytes text)) }
+    ensures { IfOk result (λ here. IsTypeHere (known_of view.now) number one.now.mention (sense_of meaning.now) (here_of here)) }
 {
     match meaning {
-        Meaning::Local(_) => Ok(local_lines(alloc, view, number, one)?),
+        Meaning::Local(_) => Ok(local_type(alloc, view, number, one)?),
         Meaning::Entity(_) => Ok(entity_here(alloc, view, number, one, one.kind())?),
-        Meaning::TypeVariable(_) => Ok(String::new(alloc)),
-        Meaning::Module(_) => Ok(String::new(alloc)),
-        Meaning::Prefix(_) => Ok(String::new(alloc)),
-        Meaning::Unbound => Ok(String::new(alloc)),
-        Meaning::Ambiguous => Ok(String::new(alloc)),
+        Meaning::TypeVariable(_) => Ok(HereType::Untyped),
+        Meaning::Module(_) => Ok(HereType::Untyped),
+        Meaning::Prefix(_) => Ok(HereType::Untyped),
+        Meaning::Unbound => Ok(HereType::Untyped),
+        Meaning::Ambiguous => Ok(HereType::Untyped),
     }
 }

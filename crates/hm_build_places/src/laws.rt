@@ -1,6 +1,6 @@
-//! A law of the text of a place, and worked examples, in functions with an empty body, whose contracts have them.
+//! A law of what is at a place, and worked examples, in functions with an empty body, whose contracts have them.
 ghost use Rattle.hm_build_places.specs.Laws.{SkippedHaveNoUses};
-ghost use Rattle.hm_build_places.specs.Worked.{BoundRow, ByteRow, HeadingRow, HereRow, NothingRow, TextsRow, TypedRow};
+ghost use Rattle.hm_build_places.specs.Worked.{BoundRow, ByteRow, HereRow, NothingRow, PartsRow, TypedRow};
 
 /// In a settled set a module has no uses exactly if it is skipped.
 #[tactic(auto, using(crate::proofs::SkippedModules::skipped_have_no_uses))]
@@ -8,12 +8,11 @@ pub fn skipped_modules_have_no_uses()
     ensures { SkippedHaveNoUses }
 {}
 
-/// The heading of a name, the byte of a character, and texts in a row.
-#[tactic(auto, using(crate::proofs::WorkedPlaces::worked_headings, crate::proofs::WorkedPlaces::worked_bytes, crate::proofs::WorkedPlaces::worked_texts))]
-pub fn worked_texts()
-    ensures headings { HeadingRow }
+/// The byte of a character, and parts in a row.
+#[tactic(auto, using(crate::proofs::WorkedPlaces::worked_bytes, crate::proofs::WorkedPlaces::worked_parts))]
+pub fn worked_parts()
     ensures bytes { ByteRow }
-    ensures texts { TextsRow }
+    ensures parts { PartsRow }
 {}
 
 /// Where a name of Prelude is bound, names without a type, a definition with a name, and a place without a name.

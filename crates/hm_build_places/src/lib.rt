@@ -1,4 +1,4 @@
-//! Writes what the name at a place of a build's sources means: its kind, where it is bound, and its type.
+//! Finds what the name at a place of a build's sources means: its kind, where it is bound, and its type.
 #![tactic(auto)]
 
 mod answers;
@@ -6,13 +6,14 @@ mod bound;
 mod closed;
 mod columns;
 mod entities;
+mod finding;
 mod here;
 pub mod laws;
-mod module_texts;
 mod names;
 mod read;
 mod typed;
-mod use_texts;
+mod uses;
 mod views;
 
 pub use crate::answers::{PlaceQuestion, place_answer};
+pub use hm_build_place_texts::PlaceFormat;

@@ -7,7 +7,7 @@ use hm_types::Text;
 use std::alloc::{AllocError, Global};
 
 /// Returns a qualifier with the dot after it.
-pub(crate) fn qualifier_text(alloc: Global, qualifier: &Option<Text>) -> Result<String, AllocError>
+fn qualifier_text(alloc: Global, qualifier: &Option<Text>) -> Result<String, AllocError>
     ensures { IfOk result (λ text. string_bytes text ≡ qualifier_text qualifier.now) }
 {
     match qualifier {

@@ -4,12 +4,14 @@ ghost use Rattle.hm_types.specs.declared.entries.ConstructorEntry.{ConstructorEn
 ghost use Rattle.hm_types.specs.declared.entries.ValueEntry.{ValueEntry as Value};
 ghost use Rattle.hm_types.specs.Schemes.{TypeScheme};
 ghost use Rattle.hm_uses_declarations.specs.Senses.{sense_of};
-ghost use Rattle.hm_build_places.specs.Typed.{HasNoInterface, HasScheme, IsEntityType, IsInterfaceOf, IsTypeText, TypeLine, hidden_line, type_line, unaccepted_line};
-ghost use Rattle.hm_build_places.specs.TypesAt.{HasOwnScheme, OwnLine};
+ghost use Rattle.hm_build_place_texts.specs.Facts.{declared_of};
+ghost use Rattle.hm_build_places.specs.Typed.{HasNoInterface, HasScheme, IsDeclaredType, IsEntityType, IsInterfaceOf, IsTypeOf};
+ghost use Rattle.hm_build_places.specs.TypesAt.{HasOwnScheme, IsOwnType};
 ghost use Rattle.hm_build_places.specs.Views.{known_of};
 
 use crate::read::{question_of, read_of};
 use crate::views::{View, number_of};
+use hm_build_place_texts::DeclaredType;
 use hm_messages_here::scheme_here;
 use hm_scope_tables::EntityRef;
 use hm_types::{ConstructorEntry, Interface, Scheme, ValueEntry};
@@ -80,40 +82,11 @@ fn scheme_in<'a>(
     }
 }
 
-/// Returns the line of a type.
-fn type_line(alloc: Global, scheme: &Scheme) -> Result<String, AllocError>
-    ensures { IfOk result (λ text. string_bytes text ≡ type_line scheme.now) }
-{
-    let scheme = scheme_text(alloc, scheme)?;
-    format!(in alloc; "  type {scheme}\n")
-}
-
-/// Returns the line of a name that its module doesn't export.
-fn hidden_line(alloc: Global, name: &str) -> Result<String, AllocError>
-    ensures { IfOk result (λ text. string_bytes text ≡ hidden_line name.now) }
-{
-    format!(in alloc; "  no type: module {name} doesn't export it\n")
-}
-
-/// Returns the line of a name whose module isn't good.
-fn unaccepted_line(alloc: Global, name: &str) -> Result<String, AllocError>
-    ensures { IfOk result (λ text. string_bytes text ≡ unaccepted_line name.now) }
-{
-    format!(in alloc; "  no type: module {name} isn't good\n")
-}
-
 /// Returns a name with its module.
 fn qualified(alloc: Global, home: &str, name: &str) -> Result<String, AllocError>
     ensures { IfOk result (λ text. string_bytes text ≡ home.now ++ (codes "." ++ name.now)) }
 {
     format!(in alloc; "{home}.{name}")
-}
-
-/// Returns the line of a type with this text.
-fn shown_line(alloc: Global, scheme: &str) -> Result<String, AllocError>
-    ensures { IfOk result (λ text. string_bytes text ≡ codes "  type " ++ (scheme.now ++ codes "\n")) }
-{
-    format!(in alloc; "  type {scheme}\n")
 }
 
 /// Returns the text of the scheme that an entity has in the source of its module, if one is found.
@@ -138,77 +111,77 @@ fn own_scheme(
     Ok(scheme_here(alloc, &question, variable.as_str())?)
 }
 
-/// Returns the line of the type of an entity in the source of its module, or the line that says why it has none.
-fn own_line(
+/// Returns the type of an entity in the source of its module, or the reason why it has none.
+fn own_type(
     alloc: Global,
     view: &View<'_>,
     entity: &EntityRef<'_>,
-    unknown: &str,
-) -> Result<String, AllocError>
-    ensures { IfOk result (λ text. OwnLine (known_of view.now) entity.now unknown.now (string_bytes text)) }
+    unknown: DeclaredType,
+) -> Result<DeclaredType, AllocError>
+    ensures { IfOk result (λ declared. IsOwnType (known_of view.now) entity.now (declared_of unknown) (declared_of declared)) }
 {
     match own_scheme(alloc, view, entity)? {
-        Some(scheme) => Ok(shown_line(alloc, scheme.as_str())?),
-        None => Ok(String::from_str(alloc, unknown)?),
+        Some(scheme) => Ok(DeclaredType::Principal(scheme)),
+        None => Ok(unknown),
     }
 }
 
-/// Returns the line of the type of an entity.
+/// Returns the type of an entity.
 fn entity_type(
     alloc: Global,
     view: &View<'_>,
     kind: NameKind,
     entity: &EntityRef<'_>,
-) -> Result<String, AllocError>
-    ensures { IfOk result (λ text. TypeLine (known_of view.now) kind entity.now (string_bytes text)) }
+) -> Result<DeclaredType, AllocError>
+    ensures { IfOk result (λ declared. IsTypeOf (known_of view.now) kind entity.now (declared_of declared)) }
 {
     let Some(interface) = interface_of(view, entity.module()) else {
-        let unknown = unaccepted_line(alloc, entity.module())?;
-        return Ok(own_line(alloc, view, entity, unknown.as_str())?);
+        let unknown = DeclaredType::NotGood(String::from_str(alloc, entity.module())?);
+        return Ok(own_type(alloc, view, entity, unknown)?);
     };
     match scheme_in(interface, kind, entity) {
-        Some(scheme) => Ok(type_line(alloc, scheme)?),
+        Some(scheme) => Ok(DeclaredType::Principal(scheme_text(alloc, scheme)?)),
         None => {
-            let unknown = hidden_line(alloc, entity.module())?;
-            Ok(own_line(alloc, view, entity, unknown.as_str())?)
+            let unknown = DeclaredType::Hidden(String::from_str(alloc, entity.module())?);
+            Ok(own_type(alloc, view, entity, unknown)?)
         }
     }
 }
 
-/// Returns the line of the type of an entity, if names of this kind have types.
+/// Returns the type of an entity, if names of this kind have types.
 fn kind_type(
     alloc: Global,
     view: &View<'_>,
     kind: NameKind,
     entity: &EntityRef<'_>,
-) -> Result<String, AllocError>
-    ensures { IfOk result (λ text. IsEntityType (known_of view.now) kind entity.now (string_bytes text)) }
+) -> Result<DeclaredType, AllocError>
+    ensures { IfOk result (λ declared. IsEntityType (known_of view.now) kind entity.now (declared_of declared)) }
 {
     match kind {
         NameKind::Variable => Ok(entity_type(alloc, view, NameKind::Variable, entity)?),
         NameKind::Constructor => Ok(entity_type(alloc, view, NameKind::Constructor, entity)?),
-        NameKind::TypeVariable => Ok(String::new(alloc)),
-        NameKind::TypeConstructor => Ok(String::new(alloc)),
-        NameKind::ModuleName => Ok(String::new(alloc)),
+        NameKind::TypeVariable => Ok(DeclaredType::Untyped),
+        NameKind::TypeConstructor => Ok(DeclaredType::Untyped),
+        NameKind::ModuleName => Ok(DeclaredType::Untyped),
     }
 }
 
-/// Returns the line of the type of a name, if it has one by its kind and by what it means.
-pub(crate) fn type_text(
+/// Returns the type of a name in its module, if it has one by its kind and by what it means.
+pub(crate) fn declared_type(
     alloc: Global,
     view: &View<'_>,
     kind: NameKind,
     meaning: &Meaning<'_>,
-) -> Result<String, AllocError>
-    ensures { IfOk result (λ text. IsTypeText (known_of view.now) kind (sense_of meaning.now) (string_bytes text)) }
+) -> Result<DeclaredType, AllocError>
+    ensures { IfOk result (λ declared. IsDeclaredType (known_of view.now) kind (sense_of meaning.now) (declared_of declared)) }
 {
     match meaning {
         Meaning::Entity(entity) => Ok(kind_type(alloc, view, kind, entity)?),
-        Meaning::Local(_) => Ok(String::new(alloc)),
-        Meaning::TypeVariable(_) => Ok(String::new(alloc)),
-        Meaning::Module(_) => Ok(String::new(alloc)),
-        Meaning::Prefix(_) => Ok(String::new(alloc)),
-        Meaning::Unbound => Ok(String::new(alloc)),
-        Meaning::Ambiguous => Ok(String::new(alloc)),
+        Meaning::Local(_) => Ok(DeclaredType::Untyped),
+        Meaning::TypeVariable(_) => Ok(DeclaredType::Untyped),
+        Meaning::Module(_) => Ok(DeclaredType::Untyped),
+        Meaning::Prefix(_) => Ok(DeclaredType::Untyped),
+        Meaning::Unbound => Ok(DeclaredType::Untyped),
+        Meaning::Ambiguous => Ok(DeclaredType::Untyped),
     }
 }

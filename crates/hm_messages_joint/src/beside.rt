@@ -7,7 +7,9 @@ use crate::parts::{FoundJoint, spot_of};
 use hm_lex::Token;
 use hm_messages_changes::edited;
 use hm_messages_outline::{Lexed, Outline, Role, Run, TermPart, parts_below, right_sides};
-use hm_messages_trials::{Effort, Mend, Question, Searched, TypeFault, mend_within, read, token_at};
+use hm_messages_trials::{
+    Effort, Mend, Question, Searched, TypeFault, mend_within, read, token_at,
+};
 use std::alloc::{AllocError, Global};
 
 /// The most parts around what is found that are tried.

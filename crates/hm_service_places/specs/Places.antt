@@ -1,6 +1,7 @@
 -- What is at a place of a checked set.
 use Rattle.std.specs.Prelude.{◌≡◌, ℕ, ◌<◌, ◌⊎◌, Contains, IfSome, List, Vec, length, map, slice_index_or, string_bytes}
 use Rattle.std.specs.declared.alloc.Global.{Global}
+use Rattle.hm_build_place_texts.specs.declared.texts.PlaceFormat.TheVariants.{Prose}
 use Rattle.hm_build_places.specs.Answers.{IsPlaceAnswer}
 use Rattle.hm_build_places.specs.Views.{known_in}
 use Rattle.hm_build_places.specs.declared.answers.PlaceQuestion.{PlaceQuestion}
@@ -17,12 +18,12 @@ use Rattle.hm_service_places.specs.declared.places.AtPlace.{AtPlace}
 -- the text and the status for the place of a question about a build of sources. `counts` has the number of modules of each. No public clause names this
 abbrev pub IsAnsweredAt : Build → List ℕ → List (Vec ℕ Global) → PlaceQuestion → Answer → Type 0
 IsAnsweredAt b counts sources q a =
-    (origins : List ℕ) × (AreOrigins counts origins × IsPlaceAnswer (known_in b (map (λ n. n.items) q.names.items) (map (λ s. s.items) sources) origins) q.source q.line q.column a.status (string_bytes a.text))
+    (origins : List ℕ) × (AreOrigins counts origins × IsPlaceAnswer (known_in b (map (λ n. n.items) q.names.items) (map (λ s. s.items) sources) origins) q.format q.source q.line q.column a.status (string_bytes a.text))
 
 -- the status and the text of a run for a place of the source with this index in the checked part. The sources are named by their numbers
 abbrev pub IsAskedAt : Checked → ℕ → ℕ → ℕ → Status → List ℕ → Type 0
 IsAskedAt c index line column status text =
-    (origins : List ℕ) × (AreOrigins c.build.counts.items origins × IsPlaceAnswer (known_in c.build.store (names_of c.part.items) (map (λ s. s.items) c.texts.items) origins) index line column status text)
+    (origins : List ℕ) × (AreOrigins c.build.counts.items origins × IsPlaceAnswer (known_in c.build.store (names_of c.part.items) (map (λ s. s.items) c.texts.items) origins) Prose index line column status text)
 
 -- the source is the one with this index in the checked part
 pub record IsIndexOf (c : Checked) (source index : ℕ) : Type 0 where

@@ -6,7 +6,7 @@ use crate::checked::Checked;
 use crate::faults::ServiceFault;
 use crate::names::names_of;
 use core::thread::Stack;
-use hm_build_places::{PlaceQuestion, place_answer};
+use hm_build_places::{PlaceFormat, PlaceQuestion, place_answer};
 use hm_run_sources::{Answer, Nesting, Status};
 use hm_service_messages::{Bound, bound_in};
 use hm_store::Store;
@@ -132,6 +132,7 @@ fn answer_at<T: Threads + Wait + Sync>(
         source: index,
         line,
         column,
+        format: PlaceFormat::Prose,
     };
     let build = &checked.build;
     let counts = build.counts.as_slice();

@@ -2,10 +2,10 @@
 ghost use Rattle.std.specs.Prelude.{All};
 ghost use Rattle.hm_run_io.specs.Watching.{IsFresh};
 
-use crate::names::name_of;
+use crate::names::{name_of, stdin_name};
 use crate::quiet::Output;
 use hm_build::Options;
-use hm_build_place_runs::{AskedPlace, PlaceQuestion, run_place};
+use hm_build_place_runs::{AskedPlace, PlaceFormat, PlaceQuestion, run_place};
 use hm_run_io::{RunFault, Watched};
 use hm_run_sources::{Status, Trees};
 use hmc_words::Asked;
@@ -61,11 +61,20 @@ fn source_in(sources: &[String], stdin_name: Option<&str>, file: &str) -> Option
     None
 }
 
+/// Returns the format of what is printed: a JSON object if messages are such objects.
+fn format_of(asked: &Asked) -> PlaceFormat {
+    if asked.json {
+        PlaceFormat::Object
+    } else {
+        PlaceFormat::Prose
+    }
+}
+
 /// Returns the question for the place in a word FILE:LINE:COLUMN. `names` are those of the sources in messages.
 pub(crate) fn question_in(
     names: Vec<Vec<u8>>,
     sources: &[String],
-    stdin_name: Option<&str>,
+    asked: &Asked,
     word: &str,
 ) -> Result<PlaceQuestion, PlaceFault> {
     let Some((front, column)) = word.rsplit_once(':') else {
@@ -77,7 +86,7 @@ pub(crate) fn question_in(
     let (Some(line), Some(column)) = (number_in(line), number_in(column)) else {
         return Err(PlaceFault::Form);
     };
-    let Some(source) = source_in(sources, stdin_name, file) else {
+    let Some(source) = source_in(sources, stdin_name(asked), file) else {
         return Err(PlaceFault::NoSource);
     };
     Ok(PlaceQuestion {
@@ -85,6 +94,7 @@ pub(crate) fn question_in(
         source,
         line,
         column: column as usize,
+        format: format_of(asked),
     })
 }
 

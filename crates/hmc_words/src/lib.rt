@@ -22,7 +22,7 @@ pub struct Asked {
     pub at: Option<String>,
     /// Whether to write messages that explain the report to standard error.
     pub explain: bool,
-    /// Whether these messages are JSON objects.
+    /// Whether these messages, or what is at a place, are JSON objects.
     pub json: bool,
     /// Whether the report is JSON objects.
     pub listed: bool,
@@ -125,13 +125,13 @@ fn jobs<'a>(alloc: Global) -> Arg<'a> {
     .value_parser(ValueParser::Unsigned(1, MOST_WORKERS as u64))
 }
 
-/// Returns the option for the format of messages.
+/// Returns the option for the format of messages and of what is at a place.
 fn message_format<'a>(alloc: Global) -> Arg<'a> {
     valued(
         alloc,
         "message-format",
         "FORMAT",
-        "How messages are written: human, or json, a JSON object on a line each; json implies --explain",
+        "How messages, and what --at prints, are written: human, or json, a JSON object on a line each; json implies --explain",
     )
     .value_parser(ValueParser::Names(&MESSAGE_FORMATS))
 }

@@ -16,6 +16,6 @@ returns-in-Ok-clause-ok g c =
     let a = c.in_ok-answer-in-Ok.answer in
     let told = c.in_ok-answer-in-Ok.ensures in
     let origins : AreOrigins f.counts.items told.0 = search rules in
-    answered (map (λ n. n.items) q.names.items) sources f.store (records_in f.records) workers f.counts.items (record { source = q.source; line = q.line; column = q.column }) (string_bytes a.text)
+    answered (map (λ n. n.items) q.names.items) sources f.store (records_in f.records) workers f.counts.items (record { source = q.source; line = q.line; column = q.column; format = q.format }) (string_bytes a.text)
     (subst (λ (l : List (List ℕ)). IsFinished l workers f.store (records_in f.records)) built c.in-Ok.ensures.finished) c.in-Ok.ensures.verdicts
     (subst (λ (l : List (List ℕ)). AreCountedModules l f.store.modules f.counts.items) built c.in-Ok.ensures.counted) a.status told.0 origins told.1.1

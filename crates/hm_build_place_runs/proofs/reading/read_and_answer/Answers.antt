@@ -9,7 +9,7 @@ pub returns-clause-ok : goal.returns-clause-ok
 returns-clause-ok g c sources told =
     let a = c.in_ok-answer_on_thread.field-0 in
     let question = c.args.asked.question in
-    subst (λ l. IsPlaceRun (map (λ n. n.items) question.names.items) l (record { source = question.source; line = question.line; column = question.column }) a.status (string_bytes a.text)) (c.in_ok-sources.ensures.bytes sources told)
+    subst (λ l. IsPlaceRun (map (λ n. n.items) question.names.items) l (record { source = question.source; line = question.line; column = question.column; format = question.format }) a.status (string_bytes a.text)) (c.in_ok-sources.ensures.bytes sources told)
     c.in_ok-answer_on_thread.ensures.ok
 
 pub returns-in_err-sources-clause-failed : goal.returns-in_err-sources-clause-failed

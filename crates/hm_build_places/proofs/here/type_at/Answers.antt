@@ -1,4 +1,4 @@
-use Rattle.std.proofs.Common.{rules, ◌≡◌, ◌∙◌, ◌++◌, ap, map, string_bytes, subst}
+use Rattle.std.proofs.Common.{rules, ◌≡◌, ◌∙◌, ◌++◌, ap, map, string_bytes}
 use Rattle.std.specs.Arc.{arc_value}
 use Rattle.hm_syntax.specs.Names.{Identifier}
 use Rattle.hm_messages_here.specs.TypesHere.{HasTypeAt}

@@ -29,6 +29,13 @@ returns-in-Good-clause-names c =
     let right : IsVerdict o.«module» (prelude_interface ∷ fs) (Good exports) = subst (λ (l : List Interface). IsVerdict o.«module» (prelude_interface ∷ l) (Good exports)) imports own in
     found_so (λ (t : Typed). All (λ a. IsName name exports (alias_of a)) t.aliases.items) (λ (t : Typed). ExportsNames c.args.changed.now name fs (map alias_of t.aliases.items))
     c.in_ok-typed_by-in-Good.field-0
-    (λ t each. record { «module» = o.«module»; spelled = spelled; asked = asked; exports = exports; right = right; each = All-map (IsTypeName o.«module» (prelude_interface ∷ fs) name exports) alias_of t.aliases.items
-          (all_so (λ (a : Alias). IsName name exports (alias_of a)) (λ (a : Alias). IsTypeName o.«module» (prelude_interface ∷ fs) name exports (alias_of a)) (λ a h. inl h) t.aliases.items each) })
+    (λ t each. record {
+      «module» = o.«module»;
+      spelled = spelled;
+      asked = asked;
+      exports = exports;
+      right = right;
+      each = All-map (IsTypeName o.«module» (prelude_interface ∷ fs) name exports) alias_of t.aliases.items
+          (all_so (λ (a : Alias). IsName name exports (alias_of a)) (λ (a : Alias). IsTypeName o.«module» (prelude_interface ∷ fs) name exports (alias_of a)) (λ a h. inl h) t.aliases.items each);
+    })
     c.in_ok-typed_by-in-Good.ensures.names

@@ -1,4 +1,5 @@
 use Rattle.std.proofs.Common.{◌≡◌, List, ℕ, Vec, Global, map, string_bytes, subst}
+use Rattle.hm_build_place_texts.specs.declared.texts.PlaceFormat.TheVariants.{Prose}
 use Rattle.hm_build_places.specs.Answers.{IsPlaceAnswer}
 use Rattle.hm_build_places.specs.Views.{known_in}
 use Rattle.hm_run_sources.specs.ModuleCounts.{AreOrigins}
@@ -14,7 +15,7 @@ returns g c =
       told.0,
       (
         subst (λ (l : List ℕ). AreOrigins l told.0) c.as_slice-counts.ensures.value told.1.0,
-        subst (λ (ts : List (Vec ℕ Global)). IsPlaceAnswer (known_in k.build.store (names_of k.part.items) (map (λ s. s.items) ts) told.0) c.args.index c.args.line c.args.column a.status (string_bytes a.text)) c.as_slice-texts.ensures.value
-            (subst (λ (ns : List (List ℕ)). IsPlaceAnswer (known_in k.build.store ns (map (λ s. s.items) c.as_slice-texts.result.now) told.0) c.args.index c.args.line c.args.column a.status (string_bytes a.text)) part told.1.1),
+        subst (λ (ts : List (Vec ℕ Global)). IsPlaceAnswer (known_in k.build.store (names_of k.part.items) (map (λ s. s.items) ts) told.0) Prose c.args.index c.args.line c.args.column a.status (string_bytes a.text)) c.as_slice-texts.ensures.value
+            (subst (λ (ns : List (List ℕ)). IsPlaceAnswer (known_in k.build.store ns (map (λ s. s.items) c.as_slice-texts.result.now) told.0) Prose c.args.index c.args.line c.args.column a.status (string_bytes a.text)) part told.1.1),
       ),
     )

@@ -1,0 +1,6 @@
+use Rattle.std.proofs.Common.{ap}
+use Rattle.serde_json.specs.Written.{has_float}
+use Rattle.hm_build_place_texts.proofs.objects.refused_line.Goals as goal
+
+pub line_of-requires : goal.line_of-requires
+line_of-requires c = ap has_float c.in_ok-value.ensures
