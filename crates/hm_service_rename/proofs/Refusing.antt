@@ -3,6 +3,7 @@ use Rattle.hm_service_places.specs.declared.checked.Checked.{Checked}
 use Rattle.hm_service_references.specs.Names.{AreReferencesAt}
 use Rattle.hm_service_rename.specs.Made.{HasNoReferencesTo, IsNotMade}
 use Rattle.hm_service_rename.specs.Renames.{IsRefused, place_of}
+use Rattle.hm_service_rename.specs.Sets.{IsWhole}
 use Rattle.hm_service_rename.specs.declared.results.CheckedSet.{CheckedSet}
 use Rattle.hm_service_rename.specs.declared.results.Rename.{Rename}
 use Rattle.hm_service_rename.specs.declared.results.RenameRefusal.{RenameRefusal}
@@ -11,13 +12,13 @@ use Rattle.hm_service_sources.specs.HeldSets.{texts_of}
 use Rattle.hm_uses_references.specs.declared.finding.Reference.{Reference}
 use Rattle.std.proofs.Common.{List}
 
-pub refused_before : (set : CheckedSet) (r : Rename) (refusal : RenameRefusal) → HasNoReferencesTo set.checked.now r refusal → IsRefused set r refusal
-refused_before set r NotWhole h = absurd h
-refused_before set r NoName h = h
-refused_before set r NotBound h = h
-refused_before set r NotAName h = h
-refused_before set r NotRead h = absurd h
-refused_before set r NotSame h = absurd h
+pub refused_before : (set : CheckedSet) (r : Rename) (refusal : RenameRefusal) → IsWhole (texts_of set.held.now) set.checked.now → HasNoReferencesTo set.checked.now r refusal → IsRefused set r refusal
+refused_before set r NotWhole whole h = absurd h
+refused_before set r NoName whole h = (whole, h)
+refused_before set r NotBound whole h = (whole, h)
+refused_before set r NotAName whole h = h
+refused_before set r NotRead whole h = absurd h
+refused_before set r NotSame whole h = absurd h
 
 pub refused_after : (set : CheckedSet) (r : Rename) (references : List Reference) (refusal : RenameRefusal) → AreReferencesAt set.checked.now r.source (place_of r) references → IsNotMade (texts_of set.held.now) r.name.now references refusal
     → IsRefused set r refusal

@@ -65,11 +65,11 @@ pub record HasUnread (texts : List (List ℕ)) (new : List ℕ) (references : Li
 abbrev pub IsNotRead : CheckedSet → Rename → Type 0
 IsNotRead set r = (references : List Reference) × (AreReferencesAt set.checked.now r.source (place_of r) references × HasUnread (texts_of set.held.now) r.name.now references)
 
--- what a refusal says. The last one says only that the checker didn't accept the set with the new name
+-- what a refusal says. A set that isn't whole has names that aren't looked up. The last one says only that the checker didn't accept the set with the new name
 abbrev pub IsRefused : CheckedSet → Rename → RenameRefusal → Type 0
 IsRefused set r NotWhole = ¬ (IsWhole (texts_of set.held.now) set.checked.now)
-IsRefused set r NoName = HasNoNameAt set.checked.now r.source (place_of r)
-IsRefused set r NotBound = IsNotBound set.checked.now r
+IsRefused set r NoName = IsWhole (texts_of set.held.now) set.checked.now × HasNoNameAt set.checked.now r.source (place_of r)
+IsRefused set r NotBound = IsWhole (texts_of set.held.now) set.checked.now × IsNotBound set.checked.now r
 IsRefused set r NotAName = ¬ (IsName r.name.now)
 IsRefused set r NotRead = IsNotRead set r
 IsRefused set r NotSame = ⊤

@@ -23,7 +23,10 @@ pub returns-in-Refused : goal.returns-in-Refused
 returns-in-Refused g c =
     let set = c.args.set.now in
     let r = c.args.rename.now in
-    refused_before set r c.in-Refused.refusal (subst (λ (x : Renamed). AreReferencesTo set.checked.now r x) c.in-Refused.is c.in_ok-references.ensures)
+    let items : List (Vec ℕ Global) → List (List ℕ) = λ xs. map (λ (s : Vec ℕ Global). s.items) xs in
+    let same : items c.as_slice.result.now ≡ texts_of set.held.now = ap items c.as_slice.ensures.value ∙ c.in_ok-texts.ensures in
+    let whole : IsWhole (texts_of set.held.now) set.checked.now = subst (λ (l : List (List ℕ)). IsWhole l set.checked.now) same (c.is_whole.ensures.yes c.if-not-is_whole.false) in
+    refused_before set r c.in-Refused.refusal whole (subst (λ (x : Renamed). AreReferencesTo set.checked.now r x) c.in-Refused.is c.in_ok-references.ensures)
 
 pub returns-in-Refused-made : goal.returns-in-Refused-made
 returns-in-Refused-made g c =
