@@ -23,7 +23,7 @@ use Rattle.hm_unify.proofs.WellFormed.{well_formed_more}
 use Rattle.hm_unify.specs.declared.faults.UnifyFault.{UnifyFault}
 use Rattle.hm_unify.specs.declared.faults.UnifyFault.TheVariants.{Clash, Memory}
 use Rattle.hm_names.specs.Syntax.{Known, pattern_of, patterns_of, constructor_type_of}
-use Rattle.hm_infer_context.specs.ConstructorParts.{functions, HasArguments, IsConstructed, put_types, type_among, AreGivenTypes}
+use Rattle.hm_infer_context.specs.ConstructorParts.{functions, IsFrontFound, HasArguments, IsConstructed, put_types, type_among, AreGivenTypes}
 use Rattle.hm_infer_context.specs.Inferred.{IsFound, IsInferred, AreParts, IsSomeFunction}
 use Rattle.hm_infer_context.specs.Patterns.{Variable, HaveTypes, AreGiven, IsMatched, RefusesMatch, Matched}
 use Rattle.hm_infer_context.specs.Problems.{monotype, problem, bound, Refuses}
@@ -130,13 +130,6 @@ one_longer xs ys x n e f = ap length e ∙ (counted xs ∙ let z : suc (length x
     counted (v ∷ us) = ap suc (counted us)
 
 -- Steps of taking apart
-
--- an instance of s is that of functions from these i types to another type
-abbrev pub HasFront : Monotype → ℕ → (ℕ → Monotype) → List Monotype × Monotype → Type 0
-HasFront s i r x = (length x.0 ≡ i) × Instantiates s (functions x.0 x.1)
-
-abbrev pub IsFrontFound : Monotype → ℕ → Solving → Solving → List Ty → Mono → Type 0
-IsFrontFound s i before after ts rest = IsFound (HasFront s i) before after (λ r. (put_types r ts, put r (monotype rest)))
 
 no_front : (s : Monotype) (ts : List Monotype) (u : Monotype) → length ts ≡ 0 → Instantiates s (functions ts u) → (ts ≡ []) × Instantiates s u
 no_front s [] u e p = (refl, p)

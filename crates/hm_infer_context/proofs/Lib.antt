@@ -10,6 +10,7 @@ pub mod Taken
 pub mod MatchedForms
 pub mod ConstructorParts
 pub mod FoundNames
+mod InstanceFronts
 pub mod OpenedFunctions
 pub mod Entered
 pub mod SpecialTypes

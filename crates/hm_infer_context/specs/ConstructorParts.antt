@@ -7,6 +7,8 @@ use Rattle.hm_types.specs.Monotypes.{Mono}
 use Rattle.hm_typing.specs.Patterns.{Instantiates}
 use Rattle.hm_typing.specs.Schemes.{Monotype, arrow}
 use Rattle.hm_unify.specs.WellFormed.{IsWellFormed}
+use Rattle.hm_unify.specs.Solving.{Solving}
+use Rattle.hm_infer_context.specs.Inferred.{IsFound}
 use Rattle.hm_infer_context.specs.Problems.{monotype}
 
 -- the type of functions from the types of a list to u
@@ -34,3 +36,11 @@ type_among ts j = get_or ts j (Var 0)
 abbrev pub AreGivenTypes : ℕ → List Ty → Type 0
 AreGivenTypes g [] = Unit {0}
 AreGivenTypes g (t ∷ ts) = IsWellFormed g (type_of t) × AreGivenTypes g ts
+
+-- an instance of s is that of functions from these i types to another type
+abbrev pub HasFront : Monotype → ℕ → (ℕ → Monotype) → List Monotype × Monotype → Type 0
+HasFront s i r x = (length x.0 ≡ i) × Instantiates s (functions x.0 x.1)
+
+-- the types of i arguments of an instance of s were found, and what the instance is after them
+abbrev pub IsFrontFound : Monotype → ℕ → Solving → Solving → List Ty → Mono → Type 0
+IsFrontFound s i before after ts rest = IsFound (HasFront s i) before after (λ r. (put_types r ts, put r (monotype rest)))

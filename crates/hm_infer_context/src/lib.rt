@@ -5,6 +5,7 @@
 
 mod constructors;
 mod environment;
+mod fronts;
 mod functions;
 mod inference;
 mod instances;

@@ -13,7 +13,7 @@ ghost use Rattle.hm_infer_context.specs.Problems.{Answers, Refuses, monotype, pr
 ghost use Rattle.hm_infer_context.specs.Inferred.{AreParts, IsFound, IsSomeFunction};
 ghost use Rattle.hm_infer_context.specs.ConstructorParts.{AreGivenTypes, HasArguments, IsConstructed, put_types};
 
-use crate::instances::scheme_instance;
+use crate::fronts::{Front, instance_front};
 use crate::shapes::{function_type, list_type, tuple_type};
 use crate::unifying::{equate, new_variables};
 use hm_types::{Head, Scheme, Ty};
@@ -177,9 +177,12 @@ pub(crate) fn constructor_parts(
     ensures given { IfOk result (λ ts. AreGivenTypes solver.new.given ts.items) }
     ensures refused { IfErr result (Refuses (IsConstructed (monotype_of scheme.now.body) count (type_of t.now)) solver.old) }
 {
-    let mut rest = scheme_instance(alloc, solver, scheme.vars(), scheme.body())?;
-    let mut arguments = Vec::with_capacity(alloc, count)?;
-    'arguments: for _ in 0..count {
+    let front = instance_front(alloc, solver, scheme, count)?;
+    let Front {
+        mut arguments,
+        mut rest,
+    } = front;
+    'arguments: for _ in arguments.len()..count {
         let FunctionType { argument, outcome } = split_function(alloc, solver, rest)?;
         arguments.push(argument)?;
         rest = outcome;

@@ -1,30 +1,11 @@
-use Rattle.std.proofs.Common.{◌≡◌, ◌+◌, suc, length, ap, subst, sym, arith}
+use Rattle.std.proofs.Common.{◌≡◌, ◌+◌, suc, subst, arith}
 use Rattle.hm_types.specs.Shape.{type_of}
 use Rattle.hm_typing.specs.Programs.{monotype_of}
 use Rattle.hm_unify.proofs.WellFormed.{well_formed_more}
-use Rattle.hm_infer_context.specs.ConstructorParts.{AreGivenTypes, IsConstructed}
-use Rattle.hm_infer_context.proofs.ConstructorParts.{all_given_later, all_given_pushed, closed_refused, front_closed, front_none, front_pushed, front_refused, one_longer, IsFrontFound}
-use Rattle.hm_infer_context.proofs.Inferred.{declared_inferred, refusal_passed}
-use Rattle.hm_infer_context.proofs.Opened.{declared_given}
+use Rattle.hm_infer_context.specs.ConstructorParts.{IsConstructed, IsFrontFound}
+use Rattle.hm_infer_context.proofs.ConstructorParts.{all_given_later, all_given_pushed, closed_refused, front_closed, front_pushed, front_refused, one_longer}
+use Rattle.hm_infer_context.proofs.Inferred.{refusal_passed}
 use Rattle.hm_infer_context.proofs.parts.constructor_parts.Goals as goal
-
-pub scheme_instance-requires : goal.scheme_instance-requires
-scheme_instance-requires c = record { scheme = declared_given c.args.solver.now c.args.scheme.now _ _ c.body.ensures.valid c.vars.ensures c.body.ensures.value }
-
-pub arguments-init : goal.arguments-init
-arguments-init c =
-    let a = declared_inferred c.args.solver.now c.scheme_instance.new.solver c.args.scheme.now _ _ (type_of c.in_ok-rest.rest) c.body.ensures.valid c.vars.ensures c.body.ensures.value c.in_ok-rest.ensures.inferred in
-    record {
-      len = ap length c.in_ok-arguments.ensures.items;
-      within = omega arith;
-      grows = a.grows;
-      rest = c.in_ok-rest.ensures.given;
-      given = subst (AreGivenTypes c.scheme_instance.new.solver.given) (sym c.in_ok-arguments.ensures.items) tt;
-      found = front_none (monotype_of c.args.scheme.now.body) c.args.solver.now c.scheme_instance.new.solver c.in_ok-arguments.arguments.items (type_of c.in_ok-rest.rest) c.in_ok-arguments.ensures.items a;
-    }
-
-pub split_function-requires : goal.split_function-requires
-split_function-requires c = record { given = c.arguments.invariant.rest }
 
 pub returns-in_err-argument-clause-refused : goal.returns-in_err-argument-clause-refused
 returns-in_err-argument-clause-refused c =
@@ -46,9 +27,6 @@ arguments-preserved c =
 pub equate-requires-clause-left : goal.equate-requires-clause-left
 equate-requires-clause-left c = well_formed_more c.args.solver.now.given c.arguments.solver.given (type_of c.args.t.now) c.arguments.invariant.grows c.requires
 
-pub equate-requires-clause-right : goal.equate-requires-clause-right
-equate-requires-clause-right c = c.arguments.invariant.rest
-
 pub returns-in_err-equate-clause-refused : goal.returns-in_err-equate-clause-refused
 returns-in_err-equate-clause-refused c =
     let n : c.arguments.counter ≡ c.args.count = (let w = c.arguments.invariant.within in omega (arith, w, c.arguments-test.false)) in
@@ -61,9 +39,3 @@ returns-clause-found c =
     let n : c.arguments.counter ≡ c.args.count = (let w = c.arguments.invariant.within in omega (arith, w, c.arguments-test.false)) in
     front_closed (monotype_of c.args.scheme.now.body) c.args.count c.args.solver.now c.arguments.solver c.equate.new.solver c.arguments.arguments.items (type_of c.arguments.rest) (type_of c.args.t.now) c.requires c.arguments.invariant.given
     (subst (λ k. IsFrontFound (monotype_of c.args.scheme.now.body) k c.args.solver.now c.arguments.solver c.arguments.arguments.items (type_of c.arguments.rest)) n c.arguments.invariant.found) c.in_ok-equate.ensures.answers
-
-pub returns-clause-len : goal.returns-clause-len
-returns-clause-len c = let w = c.arguments.invariant.within in let l = c.arguments.invariant.len in omega (arith, w, l, c.arguments-test.false)
-
-pub returns-clause-given : goal.returns-clause-given
-returns-clause-given c = all_given_later c.arguments.solver.given c.equate.new.solver.given c.arguments.arguments.items (let g = c.in_ok-equate.ensures.given in omega (arith, g)) c.arguments.invariant.given

@@ -2,8 +2,7 @@ use Rattle.std.proofs.Common.{◌≡◌, ◌≤◌, length}
 use Rattle.hm_types.specs.Shape.{type_of}
 use Rattle.hm_typing.specs.Programs.{monotype_of}
 use Rattle.hm_unify.specs.WellFormed.{IsWellFormed}
-use Rattle.hm_infer_context.specs.ConstructorParts.{AreGivenTypes}
-use Rattle.hm_infer_context.proofs.ConstructorParts.{IsFrontFound}
+use Rattle.hm_infer_context.specs.ConstructorParts.{AreGivenTypes, IsFrontFound}
 use Rattle.hm_infer_context.proofs.parts.constructor_parts.Given as goal
 
 abbrev pub invariant-arguments : goal.invariant-arguments
