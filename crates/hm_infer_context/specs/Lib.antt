@@ -13,3 +13,4 @@ pub mod ConstructorPlaces
 pub mod Kept
 pub mod Places
 pub mod Inferred
+pub mod PreludeTypes

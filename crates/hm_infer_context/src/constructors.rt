@@ -1,6 +1,11 @@
 //! The declared schemes of constructors.
 
-ghost use Rattle.std.specs.Prelude.{◌≡◌, IfOk, option_map, option_copied};
+ghost use Rattle.std.specs.Prelude.{◌≡◌, ℕ, IfOk, option_map, option_copied};
+ghost use Rattle.hm_types.specs.Shape.{type_of};
+ghost use Rattle.hm_typing.specs.Syntax as typed;
+ghost use Rattle.hm_names.specs.Syntax.{literal_of};
+ghost use Rattle.hm_unify.specs.WellFormed.{IsWellFormed};
+ghost use Rattle.hm_infer_context.specs.Problems.{monotype};
 ghost use Rattle.hm_names_keys.specs.Keys.{variable_of_key};
 ghost use Rattle.hm_names.specs.Described.{first_of};
 ghost use Rattle.hm_names.specs.Types.{entity_of};
@@ -10,10 +15,11 @@ ghost use Rattle.hm_infer_context.specs.Kept.{schemes_of};
 ghost use Rattle.hm_infer_context.specs.KnownSchemes.{scheme_in};
 
 use crate::environment::place_of;
+use crate::shapes::{list_of, prelude_type};
 use crate::special::{special_scheme, unit_scheme};
 use hm_names_keys::LentName;
-use hm_syntax::Name;
-use hm_types::{Scheme, Text};
+use hm_syntax::{Literal, LiteralKind, Name};
+use hm_types::{Scheme, Text, Ty};
 use indexmap::IndexMap;
 use std::alloc::{AllocError, Global};
 use std::marker::Model;
@@ -47,7 +53,7 @@ pub struct Entry<'a> {
 }
 
 // Why: docs/DECISIONS.md, "Known constructors".
-/// The constructors that a module uses, with their schemes.
+/// The constructors that a module uses, with their schemes, and the types of Prelude that conditions and literals have.
 ///
 /// If a constructor has several entries, the first counts. A table has its place. Special
 /// constructors, such as those of tuples, need no entry.
@@ -55,6 +61,9 @@ pub struct Constructors<'a> {
     home: Text,
     entries: Vec<Entry<'a>>,
     places: IndexMap<LentName<'a>, usize>,
+    truth: Ty,
+    integer: Ty,
+    letter: Ty,
 }
 
 impl Drop for Constructors<'_> {
@@ -63,6 +72,9 @@ impl Drop for Constructors<'_> {
             home: _home,
             entries: _entries,
             places: _places,
+            truth: _truth,
+            integer: _integer,
+            letter: _letter,
         } = self;
     }
 }
@@ -78,9 +90,12 @@ impl<'a> Model for Constructors<'a> {
 
     ghost view = { λ s. record { home = s.home; schemes = schemes_of s.entries.items } };
 
+    ghost use Rattle.std.specs.Prelude.{◌≡◌, codes};
+    ghost use Rattle.hm_types.specs.Shape.{type_of};
     ghost use Rattle.hm_infer_context.specs.ConstructorPlaces.{AreFirstPlaces};
+    ghost use Rattle.hm_infer_context.specs.PreludeTypes.{prelude_type_of};
 
-    ghost invariant = { λ s. AreFirstPlaces s.entries.items s.entries.items s.places };
+    ghost invariant = { λ s. record { placed : AreFirstPlaces s.entries.items s.entries.items s.places; truth : type_of s.truth ≡ prelude_type_of (codes "Bool"); integer : type_of s.integer ≡ prelude_type_of (codes "Int"); letter : type_of s.letter ≡ prelude_type_of (codes "Char") } };
 }
 
 impl<'a> Constructors<'a> {
@@ -94,12 +109,41 @@ impl<'a> Constructors<'a> {
     ) -> Result<Constructors<'a>, AllocError>
         ensures { IfOk result (λ constructors. constructors ≡ record { home = home; schemes = schemes_of entries.entry.items }) }
     {
+        let truth = prelude_type(alloc, "Bool")?;
+        let integer = prelude_type(alloc, "Int")?;
+        let letter = prelude_type(alloc, "Char")?;
         let places = places_of(alloc, &entries)?;
         Ok(Constructors {
             home,
             entries,
             places,
+            truth,
+            integer,
+            letter,
         })
+    }
+
+    /// Returns the type of conditions.
+    pub fn truth(&self) -> &Ty
+        ensures shape { monotype (type_of result.now) ≡ typed.bool }
+        ensures given { (g : ℕ) → IsWellFormed g (type_of result.now) }
+    {
+        &self.truth
+    }
+
+    /// Returns the type of a literal.
+    pub fn literal_type(&self, alloc: Global, literal: &Literal) -> Result<Ty, AllocError>
+        ensures shape { IfOk result (λ t. monotype (type_of t) ≡ typed.literal_type (literal_of literal.now)) }
+        ensures given { IfOk result (λ t. (g : ℕ) → IsWellFormed g (type_of t)) }
+    {
+        match &literal.kind {
+            LiteralKind::Integer(_) => Ok(self.integer.copy(alloc)?),
+            LiteralKind::Character(_) => Ok(self.letter.copy(alloc)?),
+            LiteralKind::Text(_) => {
+                let letter = self.letter.copy(alloc)?;
+                Ok(list_of(alloc, letter)?)
+            }
+        }
     }
 
     /// Returns the scheme of a constructor, or that of `()` if it isn't special and has no entry.

@@ -27,6 +27,5 @@ pub use crate::instances::{
 pub use crate::names::{check_name, entity_name, name_instance, own_text};
 pub use crate::parts::{FunctionType, list_part, split_function, tuple_parts};
 pub use crate::patterns::{PartTypes, match_pattern};
-pub use crate::shapes::{literal_type, prelude_type};
 pub use crate::unifying::{equate, new_variables};
 pub use crate::variables::{Variable, Variables};

@@ -20,7 +20,6 @@ ghost use Rattle.hm_infer_context.specs.Constructors.{known_of};
 
 use crate::constructors::Constructors;
 use crate::parts::{constructor_parts, list_part, tuple_parts};
-use crate::shapes::literal_type;
 use crate::unifying::equate;
 use crate::variables::Variables;
 use hm_names_keys::key_of;
@@ -111,7 +110,7 @@ pub fn match_pattern<'a>(
             match_row(solver, constructors, variables, parts, &types)
         }
         PatKind::Literal(literal) => {
-            let own = literal_type(alloc, literal)?;
+            let own = constructors.literal_type(alloc, literal)?;
             equate(solver, t, own)
         }
         PatKind::Wild => Ok(()),

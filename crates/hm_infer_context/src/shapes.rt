@@ -1,18 +1,15 @@
-//! Types that consist of variables, and types of literals.
+//! Types that consist of variables, and types of Prelude.
 
-ghost use Rattle.std.specs.Prelude.{◌≡◌, ℕ, ◌+◌, ◌<◌, ◌≤◌, ◌^◌, IfOk, false, codes};
+ghost use Rattle.std.specs.Prelude.{◌≡◌, ℕ, ◌+◌, ◌<◌, ◌≤◌, ◌^◌, IfOk, false};
 ghost use Rattle.hm_types.specs.Shape.{type_of};
 ghost use Rattle.hm_typing.specs.Patterns.{arrows, tuple, list};
-ghost use Rattle.hm_typing.specs.Syntax as typed;
-ghost use Rattle.hm_typing.specs.Programs.{monotype_of};
 ghost use Rattle.hm_types.specs.Types.{App as app, done as none, more};
 ghost use Rattle.hm_types.specs.declared.Head.TheVariants as head;
-ghost use Rattle.hm_names.specs.Syntax.{literal_of};
 ghost use Rattle.hm_unify.specs.WellFormed.{IsWellFormed};
 ghost use Rattle.hm_infer_context.specs.Problems.{monotype};
 ghost use Rattle.hm_infer_context.specs.Patterns.{from_number};
+ghost use Rattle.hm_infer_context.specs.PreludeTypes.{prelude_type_of};
 
-use hm_syntax::{Literal, LiteralKind};
 use hm_types::{Entity, Head, Text, Ty, Types};
 use std::alloc::{AllocError, Global};
 
@@ -69,27 +66,12 @@ pub(crate) fn list_type(alloc: Global, element: usize) -> Result<Ty, AllocError>
 }
 
 /// Returns the type of Prelude with this name, without arguments.
-pub fn prelude_type(alloc: Global, name: &str) -> Result<Ty, AllocError>
-    ensures { IfOk result (λ t. type_of t ≡ app (head.Named (record { «module» = codes "Prelude"; name = name.now })) none) }
+pub(crate) fn prelude_type(alloc: Global, name: &str) -> Result<Ty, AllocError>
+    ensures { IfOk result (λ t. type_of t ≡ prelude_type_of name.now) }
 {
     let entity = Entity {
         module: Text::new(String::from_str(alloc, "Prelude")?)?,
         name: Text::new(String::from_str(alloc, name)?)?,
     };
     Ok(Ty::App(Head::Named(entity), Types::new(Vec::new(alloc))))
-}
-
-/// Returns the type of a literal.
-pub fn literal_type(alloc: Global, literal: &Literal) -> Result<Ty, AllocError>
-    ensures shape { IfOk result (λ t. monotype (type_of t) ≡ typed.literal_type (literal_of literal.now)) }
-    ensures given { IfOk result (λ t. (g : ℕ) → IsWellFormed g (type_of t)) }
-{
-    match &literal.kind {
-        LiteralKind::Integer(_) => Ok(prelude_type(alloc, "Int")?),
-        LiteralKind::Character(_) => Ok(prelude_type(alloc, "Char")?),
-        LiteralKind::Text(_) => {
-            let letter = prelude_type(alloc, "Char")?;
-            Ok(list_of(alloc, letter)?)
-        }
-    }
 }

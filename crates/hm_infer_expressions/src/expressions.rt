@@ -41,8 +41,8 @@ use crate::signed::{bind_signed, declared_for, signatures_of};
 use hm_infer_binding_groups::BindingGroups;
 use hm_infer_context::{
     Constructors, FunctionType, Inference, PartTypes, check_constructor, check_name,
-    constructor_instance, equate, list_part, literal_type, name_instance, new_variables,
-    open_alternative, open_function, prelude_type, split_function, tuple_parts,
+    constructor_instance, equate, list_part, name_instance, new_variables, open_alternative,
+    open_function, split_function, tuple_parts,
 };
 use hm_infer_dependencies::Member;
 use hm_infer_generalisation::{check_instance, declare, forbid_escape, with_rigid_variables};
@@ -101,15 +101,15 @@ pub(crate) fn check_expression<'a>(
             t,
         ),
         ExprKind::Literal(literal) => {
-            let own = literal_type(inference.alloc, literal)?;
+            let own = constructors.literal_type(inference.alloc, literal)?;
             equate(&mut inference.solver, t, own)
         }
         ExprKind::Apply(function, argument) => {
             check_application(inference, constructors, function, argument, t)
         }
         ExprKind::If(condition, one, other) => {
-            let truth = prelude_type(inference.alloc, "Bool")?;
-            check_expression(inference, constructors, condition, &truth)?;
+            let wanted = constructors.truth();
+            check_expression(inference, constructors, condition, wanted)?;
             check_expression(inference, constructors, one, t)?;
             check_expression(inference, constructors, other, t)
         }
@@ -325,8 +325,8 @@ pub(crate) fn check_body<'a>(
     match guard {
         None => check_expression(inference, constructors, e, t),
         Some(condition) => {
-            let truth = prelude_type(inference.alloc, "Bool")?;
-            check_expression(inference, constructors, condition, &truth)?;
+            let wanted = constructors.truth();
+            check_expression(inference, constructors, condition, wanted)?;
             check_expression(inference, constructors, e, t)
         }
     }

@@ -18,7 +18,6 @@ use Rattle.hm_infer_context.specs.PartTypes.{is_one, first_of}
 use Rattle.hm_infer_expressions.specs.Lists.{IsBound, RefusesList}
 use Rattle.hm_infer_expressions.proofs.OpenedForms.{lambda_answers, lambda_refused, let_answers, let_refused, empty_listed, none_of}
 use Rattle.hm_infer_context.proofs.States.{problem_below}
-use Rattle.hm_infer_context.proofs.Opened.{more_given}
 use Rattle.hm_infer_context.proofs.MatchedForms.{numbers_given, number_given}
 use Rattle.hm_infer_expressions.proofs.Derived.{AnswersExpression, Checks, ChecksAll, expression_is, literal_checked, if_answers, if_refused_second, tuple_checked, tuple_unchecked, list_checked, list_unchecked, row_nothing, row_more, row_unchecked, row_all, solved_grows, size_of_item, moved_solved, moved_refused, moved_answers, assumed_at, type_at, given_next, first_given, parts_assumed, refused_by, row_number}
 use Rattle.hm_infer_expressions.proofs.Choices.{choices_none, choices_more, choices_refused, choices_all, choices_moved, case_answers, case_refused, expression_positive, size_of_part, size_of_choice}
@@ -228,7 +227,7 @@ pub check_expression-returns-in_err-check_expression-in-If-2-clause-answers : go
 check_expression-returns-in_err-check_expression-in-If-2-clause-answers t c =
     expression_is (known_of c.args.constructors.now) (if_expression c.in-If.condition.value c.in-If.one.value c.in-If.other.value) c.args.e.now (type_of c.args.t.now) c.args.inference.now.environment c.args.inference.now.solver c.check_expression-in-If.new.inference.solver c.from_residual-in_err-check_expression-in-If-2.result (sym (ap tree_of c.in-If.is) ∙ c.e.view_is)
     (refused_by (Checks (known_of c.args.constructors.now) (if_expression c.in-If.condition.value c.in-If.one.value c.in-If.other.value) (type_of c.args.t.now) c.args.inference.now.environment) c.args.inference.now.solver c.check_expression-in-If.new.inference.solver c.from_residual-in_err-check_expression-in-If-2.result c.in_err-check_expression-in-If-2.field-0.0 c.from_residual-in_err-check_expression-in-If-2.ensures.1
-    (if_refused_second (known_of c.args.constructors.now) c.in-If.condition.value c.in-If.one.value c.in-If.other.value (type_of c.args.t.now) (type_of c.in_ok-truth-in-If.truth) c.args.inference.now.environment c.args.inference.now.solver c.check_expression.new.inference.solver c.in_err-check_expression-in-If-2.field-0.0 c.requires.assumed c.requires.given (ap monotype c.in_ok-truth-in-If.ensures) (moved_solved (known_of c.args.constructors.now) c.deref-in-If.result.now c.in-If.condition.value (type_of c.in_ok-truth-in-If.truth) c.args.inference.now.environment c.args.inference.now.environment c.args.inference.now.solver c.check_expression.new.inference.solver refl c.deref-in-If.ensures c.in_ok-check_expression-in-If.ensures.answers)
+    (if_refused_second (known_of c.args.constructors.now) c.in-If.condition.value c.in-If.one.value c.in-If.other.value (type_of c.args.t.now) (type_of c.truth-wanted.result.now) c.args.inference.now.environment c.args.inference.now.solver c.check_expression.new.inference.solver c.in_err-check_expression-in-If-2.field-0.0 c.requires.assumed c.requires.given c.truth-wanted.ensures.shape (moved_solved (known_of c.args.constructors.now) c.deref-in-If.result.now c.in-If.condition.value (type_of c.truth-wanted.result.now) c.args.inference.now.environment c.args.inference.now.environment c.args.inference.now.solver c.check_expression.new.inference.solver refl c.deref-in-If.ensures c.in_ok-check_expression-in-If.ensures.answers)
     (moved_refused (known_of c.args.constructors.now) c.deref-in-If-2.result.now c.in-If.one.value (type_of c.args.t.now) c.args.inference.now.environment c.check_expression.new.inference.environment c.check_expression.new.inference.solver c.in_err-check_expression-in-If-2.field-0.0 c.in_ok-check_expression-in-If.ensures.same c.deref-in-If-2.ensures c.in_err-check_expression-in-If-2.ensures.answers)))
 
 pub check_expression-check_expression-requires-in-If-2 : goal.check_expression-check_expression-requires-in-If-2
@@ -243,7 +242,7 @@ check_expression-check_expression-requires-in-If-2 t c =
 pub check_expression-returns-in_ok-check_expression-in-If-2-clause-answers : goal.check_expression-returns-in_ok-check_expression-in-If-2-clause-answers
 check_expression-returns-in_ok-check_expression-in-If-2-clause-answers t c =
     expression_is (known_of c.args.constructors.now) (if_expression c.in-If.condition.value c.in-If.one.value c.in-If.other.value) c.args.e.now (type_of c.args.t.now) c.args.inference.now.environment c.args.inference.now.solver c.check_expression-in-If-2.new.inference.solver c.check_expression-in-If-2.result (sym (ap tree_of c.in-If.is) ∙ c.e.view_is)
-    (if_answers (known_of c.args.constructors.now) c.in-If.condition.value c.in-If.one.value c.in-If.other.value (type_of c.args.t.now) (type_of c.in_ok-truth-in-If.truth) c.args.inference.now.environment c.args.inference.now.solver c.check_expression.new.inference.solver c.check_expression-in-If.new.inference.solver c.check_expression-in-If-2.new.inference.solver c.check_expression-in-If-2.result c.requires.assumed c.requires.given (ap monotype c.in_ok-truth-in-If.ensures) (solved_grows _ c.args.inference.now.solver c.check_expression.new.inference.solver c.in_ok-check_expression-in-If.ensures.answers) (moved_solved (known_of c.args.constructors.now) c.deref-in-If.result.now c.in-If.condition.value (type_of c.in_ok-truth-in-If.truth) c.args.inference.now.environment c.args.inference.now.environment c.args.inference.now.solver c.check_expression.new.inference.solver refl c.deref-in-If.ensures c.in_ok-check_expression-in-If.ensures.answers) (moved_solved (known_of c.args.constructors.now) c.deref-in-If-2.result.now c.in-If.one.value (type_of c.args.t.now) c.args.inference.now.environment c.check_expression.new.inference.environment c.check_expression.new.inference.solver c.check_expression-in-If.new.inference.solver c.in_ok-check_expression-in-If.ensures.same c.deref-in-If-2.ensures c.in_ok-check_expression-in-If-2.ensures.answers)
+    (if_answers (known_of c.args.constructors.now) c.in-If.condition.value c.in-If.one.value c.in-If.other.value (type_of c.args.t.now) (type_of c.truth-wanted.result.now) c.args.inference.now.environment c.args.inference.now.solver c.check_expression.new.inference.solver c.check_expression-in-If.new.inference.solver c.check_expression-in-If-2.new.inference.solver c.check_expression-in-If-2.result c.requires.assumed c.requires.given c.truth-wanted.ensures.shape (solved_grows _ c.args.inference.now.solver c.check_expression.new.inference.solver c.in_ok-check_expression-in-If.ensures.answers) (moved_solved (known_of c.args.constructors.now) c.deref-in-If.result.now c.in-If.condition.value (type_of c.truth-wanted.result.now) c.args.inference.now.environment c.args.inference.now.environment c.args.inference.now.solver c.check_expression.new.inference.solver refl c.deref-in-If.ensures c.in_ok-check_expression-in-If.ensures.answers) (moved_solved (known_of c.args.constructors.now) c.deref-in-If-2.result.now c.in-If.one.value (type_of c.args.t.now) c.args.inference.now.environment c.check_expression.new.inference.environment c.check_expression.new.inference.solver c.check_expression-in-If.new.inference.solver c.in_ok-check_expression-in-If.ensures.same c.deref-in-If-2.ensures c.in_ok-check_expression-in-If-2.ensures.answers)
     (moved_answers (known_of c.args.constructors.now) c.deref-in-If-3.result.now c.in-If.other.value (type_of c.args.t.now) c.args.inference.now.environment c.check_expression-in-If.new.inference.environment c.check_expression-in-If.new.inference.solver c.check_expression-in-If-2.new.inference.solver c.check_expression-in-If-2.result (c.in_ok-check_expression-in-If-2.ensures.same ∙ c.in_ok-check_expression-in-If.ensures.same) c.deref-in-If-3.ensures c.check_expression-in-If-2.ensures.answers))
 
 pub check_expression-returns-in_err-first-in-Tuple-clause-answers : goal.check_expression-returns-in_err-first-in-Tuple-clause-answers
@@ -386,7 +385,7 @@ check_body-returns-in-None-clause-answers t c =
 pub check_body-returns-in_ok-check_expression-in-Some-clause-answers : goal.check_body-returns-in_ok-check_expression-in-Some-clause-answers
 check_body-returns-in_ok-check_expression-in-Some-clause-answers t c =
     body_is (known_of c.args.constructors.now) (Some c.in-Some.condition) c.args.guard.now c.args.e.now (type_of c.args.t.now) c.args.inference.now.environment c.args.inference.now.solver c.check_expression-in-Some-2.new.inference.solver c.check_expression-in-Some-2.result (sym c.in-Some.is)
-    (guarded_answers (known_of c.args.constructors.now) c.in-Some.condition c.args.e.now (type_of c.args.t.now) (type_of c.in_ok-truth-in-Some.truth) c.args.inference.now.environment c.args.inference.now.solver c.check_expression-in-Some.new.inference.solver c.check_expression-in-Some-2.new.inference.solver c.check_expression-in-Some-2.result c.requires.assumed c.requires.given (ap monotype c.in_ok-truth-in-Some.ensures) c.in_ok-check_expression-in-Some.ensures.answers
+    (guarded_answers (known_of c.args.constructors.now) c.in-Some.condition c.args.e.now (type_of c.args.t.now) (type_of c.truth-wanted.result.now) c.args.inference.now.environment c.args.inference.now.solver c.check_expression-in-Some.new.inference.solver c.check_expression-in-Some-2.new.inference.solver c.check_expression-in-Some-2.result c.requires.assumed c.requires.given c.truth-wanted.ensures.shape c.in_ok-check_expression-in-Some.ensures.answers
     (moved_answers (known_of c.args.constructors.now) c.args.e.now c.args.e.now (type_of c.args.t.now) c.args.inference.now.environment c.check_expression-in-Some.new.inference.environment c.check_expression-in-Some.new.inference.solver c.check_expression-in-Some-2.new.inference.solver c.check_expression-in-Some-2.result c.in_ok-check_expression-in-Some.ensures.same refl c.check_expression-in-Some-2.ensures.answers))
 
 pub check_bodies-parts-init : goal.check_bodies-parts-init
@@ -431,7 +430,7 @@ pub check_body-check_expression-requires-in-Some : goal.check_body-check_express
 check_body-check_expression-requires-in-Some t c =
     let z = ap (λ g. bodies_size (body g c.args.e.now no_bodies)) c.in-Some.is in
     let smaller : expression_size c.in-Some.condition < bodies_size (body c.args.guard.now c.args.e.now no_bodies) = omega (arith, z) in
-    (search rules, (subst (IsWellFormed c.args.inference.now.solver.given) (sym c.in_ok-truth-in-Some.ensures) (tt, tt), c.requires.assumed))
+    (search rules, (c.truth-wanted.ensures.given c.args.inference.now.solver.given, c.requires.assumed))
 
 pub check_body-check_expression-requires-in-Some-2 : goal.check_body-check_expression-requires-in-Some-2
 check_body-check_expression-requires-in-Some-2 t c =
