@@ -84,12 +84,19 @@ impl LevelTable {
     }
 }
 
+// Why: docs/DECISIONS.md, "Room of a solver".
+/// The number of levels for which room is made at once.
+const ROOM: usize = 1024;
+
 /// Grows the table so that it has a level for this number.
 fn grow(levels: &mut Vec<usize>, number: usize) -> Result<(), AllocError>
     ensures same { (n : ℕ) → level_in levels.new.items n ≡ level_in levels.old.items n }
     ensures longer { length levels.old.items ≤ length levels.new.items }
     ensures room { OnOk result (number < length levels.new.items) }
 {
+    if levels.is_empty() {
+        levels.reserve(ROOM)?;
+    }
     while levels.len() <= number {
         let next = levels.len();
         levels.push(next)?;
