@@ -1,4 +1,7 @@
 mod Down
 pub mod Faults
-mod Up
+pub mod Headers
+mod Interfaces
+pub mod Rows
+pub mod Up
 pub mod Uses

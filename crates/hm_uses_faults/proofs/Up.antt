@@ -7,7 +7,6 @@ use Rattle.hm_syntax.specs.Trees.{TypeTree, TypeTrees, DataConstructor, DataCons
 use Rattle.hm_syntax.specs.declared.ast.Module.{Module}
 use Rattle.hm_types.specs.Interfaces.{Exports as Interface}
 use Rattle.hm_names.proofs.DeclaredPairs.{map_contains}
-use Rattle.hm_names.specs.declared.faults.Kind.{Kind}
 use Rattle.hm_names.specs.declared.faults.Kind.TheVariants.{Unbound}
 use Rattle.hm_names.specs.Faults.Names.{NameFault}
 use Rattle.hm_names.specs.Faults.Names as faults
@@ -17,10 +16,7 @@ use Rattle.hm_uses.specs.Scopes.{Around, Home, Part, In, a_type, some_types, a_c
 use Rattle.hm_uses.specs.Scopes as scopes
 use Rattle.hm_uses_faults.proofs.Down.{of_one, wider}
 
-module _ (m : Module) (fs : List Interface) (k : Kind) (n : Identifier) where
-  abbrev Q : Locals → Node → Type 0
-  Q ys t = NameFault m fs ys t k n
-
+module _ (m : Module) (Q : Locals → Node → Type 0) where
   abbrev pub Holds : Around → Part → Type 0
   Holds xs (a_type vs t) = InType Q (texts xs) t
   Holds xs (some_types vs ts) = InTypes Q (texts xs) ts
@@ -107,7 +103,7 @@ module _ (m : Module) (fs : List Interface) (n : Identifier) where
 
   mutual
     pub type_up : {xs : Around} {vs : List Identifier} {t : TypeTree} → In m xs (a_type vs t) → IsFree vs (type_variables t) → Somewhere m IsUnbound
-    type_up (scopes.synonym_type i) h = up m fs Unbound n i (inl (faults.no_parameter h.0 h.1))
+    type_up (scopes.synonym_type i) h = up m IsUnbound i (inl (faults.no_parameter h.0 h.1))
     type_up (scopes.signature_type {t = t} i) h = absurd (bound_there (type_variables t) h)
     type_up (scopes.annotation {t = t} i) h = absurd (bound_there (type_variables t) h)
     type_up (scopes.domain {xs} {vs} {a} {b} i) h = type_up i (left (type_variables a) (type_variables b) n h.0, h.1)
@@ -122,9 +118,9 @@ module _ (m : Module) (fs : List Interface) (n : Identifier) where
     types_up (scopes.later_types {xs} {vs} {t} {ts} i) h = types_up i (right (type_variables t) (types_variables ts) n h.0, h.1)
 
     constructor_up : {xs : Around} {vs : List Identifier} {c : DataConstructor} → In m xs (a_constructor vs c) → IsFree vs (constructor_variables c) → Somewhere m IsUnbound
-    constructor_up (scopes.newtype_constructor i) h = up m fs Unbound n i (inl (faults.no_parameter h.0 h.1))
+    constructor_up (scopes.newtype_constructor i) h = up m IsUnbound i (inl (faults.no_parameter h.0 h.1))
     constructor_up (scopes.first_constructor {xs} {vs} {c} {cs} i) h = constructors_up i (left (constructor_variables c) (constructors_variables cs) n h.0, h.1)
 
     constructors_up : {xs : Around} {vs : List Identifier} {cs : DataConstructors} → In m xs (some_constructors vs cs) → IsFree vs (constructors_variables cs) → Somewhere m IsUnbound
-    constructors_up (scopes.data_constructors i) h = up m fs Unbound n i (inl (faults.no_parameter h.0 h.1))
+    constructors_up (scopes.data_constructors i) h = up m IsUnbound i (inl (faults.no_parameter h.0 h.1))
     constructors_up (scopes.later_constructors {xs} {vs} {c} {cs} i) h = constructors_up i (right (constructor_variables c) (constructors_variables cs) n h.0, h.1)

@@ -1,4 +1,4 @@
-//! The laws that relate the faults of names in declarations to uses: a name is unbound or ambiguous exactly if its use says so.
+//! The laws that relate the faults of names to uses: a name is unbound or ambiguous exactly if its use says so.
 #![tactic(auto)]
 
 pub mod laws;
