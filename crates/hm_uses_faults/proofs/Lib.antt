@@ -1,4 +1,4 @@
-mod Down
+pub mod Down
 pub mod Faults
 pub mod Headers
 mod Interfaces

@@ -1,0 +1,7 @@
+mod Binders
+mod Cores
+mod Each
+mod Places
+mod Rows
+mod Senses
+mod Trees

@@ -1,0 +1,3 @@
+pub mod CoreNames
+pub mod Laws
+pub mod Worked
