@@ -5,3 +5,5 @@ mod Places
 mod Rows
 mod Senses
 mod Trees
+mod TypeRows
+mod Written

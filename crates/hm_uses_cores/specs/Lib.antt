@@ -1,3 +1,4 @@
 pub mod CoreNames
+pub mod CoreTypes
 pub mod Laws
 pub mod Worked

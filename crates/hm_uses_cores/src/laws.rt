@@ -1,6 +1,6 @@
 //! The laws, in functions without code of their own, whose contracts have them.
-ghost use Rattle.hm_uses_cores.specs.Laws.{CoresHaveUses, CoresKeepMeanings};
-ghost use Rattle.hm_uses_cores.specs.Worked.{EntityRow, InnerRow, OuterRow};
+ghost use Rattle.hm_uses_cores.specs.Laws.{CoresHaveUses, CoresKeepMeanings, CoresKeepTypes};
+ghost use Rattle.hm_uses_cores.specs.Worked.{EntityRow, ExpandedRow, InnerRow, OtherOrderRow, OuterRow};
 
 use hm_uses::laws::found_uses;
 
@@ -11,11 +11,19 @@ pub fn cores_and_uses()
     ensures all { CoresKeepMeanings }
 {}
 
-/// Worked cores. The variable of a lambda hides that of the clause around it, and a name of the module is its entity.
+/// In the types of the core of a module, each type constructor is the entity that its use means, and a synonym is its right side.
+pub fn types_of_cores()
+    ensures { CoresKeepTypes }
+{}
+
+/// Worked cores. The variable of a lambda hides that of the clause around it, and a name of the module is its entity. A synonym takes its arguments in
+/// the order of its parameters.
 pub fn worked_cores()
     ensures inner { InnerRow }
     ensures outer { OuterRow }
     ensures entity { EntityRow }
+    ensures expanded { ExpandedRow }
+    ensures other_order { OtherOrderRow }
 {
     found_uses();
 }

@@ -1,4 +1,4 @@
-//! The law that relates cores to uses: in the core of a module, each variable and each constructor means what its use says.
+//! The laws that relate cores to uses: in the core of a module, each variable, constructor and type means what its use says.
 #![tactic(auto)]
 
 pub mod laws;
