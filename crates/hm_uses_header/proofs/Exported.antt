@@ -1,5 +1,6 @@
 -- Names of an export list.
-use Rattle.std.proofs.Common.{◌≡◌, ℕ, ◌<◌, Bool, true, false, cond, List, [], ◌∷◌, ◌++◌, get_or, length, Contains, None, Some, option_map, Bor, slice_get, ◌↔◌, inr, refl, sym, ap, ◌∙◌, subst}
+use Rattle.std.proofs.Common.{◌≡◌, ℕ, ◌<◌, ◌+◌, All, take, Bool, true, false, cond, List, [], ◌∷◌, ◌++◌, get_or, length, Contains, None, Some, option_map, Bor, slice_get, ◌↔◌, inr, refl, sym, ap, ◌∙◌, subst}
+use Rattle.std.proofs.lemmas.List.Elements.{All-more}
 use Rattle.hm_types.specs.declared.Entity.{Entity}
 use Rattle.hm_types.specs.Interfaces.{Exports as Interface}
 use Rattle.hm_syntax.specs.Names.{Identifier}
@@ -23,7 +24,7 @@ use Rattle.hm_uses.specs.Mentions.{mention, sub_mentions, export_mentions, expor
 use Rattle.hm_uses.specs.Uses.{ByScope, HasExport, OfExported, InHeader, exported_variable, exported_type, exported_constructor, exported_prefix, no_prefix, constructor_of, no_constructor, an_entity, Sense, UseOf, a_prefix, unbound}
 use Rattle.hm_uses.specs.Found.{use_as}
 use Rattle.hm_uses_header.specs.Adding.{Adds}
-use Rattle.hm_uses_header.specs.Lookups.{AreTablesOf}
+use Rattle.hm_uses_header.specs.Lookups.{AreTablesOf, NamesParts, names_parts}
 use Rattle.hm_uses_header.specs.declared.exports.ExportTables.{ExportTables}
 use Rattle.hm_uses_header.proofs.Steps.{adds_one, adds_both, adds_under}
 
@@ -54,8 +55,8 @@ Listed tables is m fs = AreTablesOf m fs tables × (m.header.exports ≡ Some is
 
 module _ (tables : ExportTables) (us vs : List UseOf) where
   pub part_added : (n : Identifier) (parts : List Identifier) (i : ℕ) (c : Identifier) (t : Sense) → i < length parts → c ≡ get_or parts i c → vs ≡ us ++ use_as Constructor false c t
-      → ((m : Module) (fs : List Interface) → AreTablesOf m fs tables → OfExported m fs n c t) → Adds us vs (mention Constructor false c) (Item tables (export.Con n (subs.Some parts)))
-  part_added n parts i c t inside e is by = adds_one (Item tables (export.Con n (subs.Some parts))) us vs Constructor false c t is (λ m fs (a, h). inr (exported_constructor h (i, inside, sym e) (by m fs a)))
+      → ((m : Module) (fs : List Interface) → AreTablesOf m fs tables → NamesParts m → OfExported m fs n c t) → Adds us vs (mention Constructor false c) (Item tables (export.Con n (subs.Some parts)))
+  part_added n parts i c t inside e is by = adds_one (Item tables (export.Con n (subs.Some parts))) us vs Constructor false c t is (λ m fs (a, h). inr (exported_constructor h (i, inside, sym e) (by m fs a (n, (parts, h)))))
 
   pub item_added : (is : List Export) (i : ℕ) (x : Export) → i < length is → x ≡ get_or is i x → Adds us vs (export_mentions x) (Item tables x) → Adds us vs (export_mentions x) (Listed tables is)
   item_added is i x inside e one = adds_under (Listed tables is) (Item tables x) us vs (export_mentions x) (λ m fs (a, h). (a, (is, (h, (i, inside, sym e))))) one
@@ -105,3 +106,10 @@ none_first (p ∷ ps) e = absurd (let z : None ≡ Some p = e in cc)
 pub some_first : (ps : List Pair) (p : Pair) → Some p ≡ slice_get ps 0 → Contains ps p
 some_first [] p e = absurd (let z : Some p ≡ None = e in cc)
 some_first (q ∷ ps) p e = let z : Some p ≡ Some q = e in let same : p ≡ q = cc in subst (λ (y : Pair). Contains (q ∷ ps) y) (sym same) (first q ps)
+
+-- lists whose items name no constructors
+abbrev pub NoneNamed : List Export → Type 0
+NoneNamed is = All (λ (i : Export). names_parts i ≡ false) is
+
+pub one_more : (is : List Export) (i : ℕ) (x : Export) → i < length is → x ≡ get_or is i x → names_parts x ≡ false → NoneNamed (take i is) → NoneNamed (take (i + 1) is)
+one_more is i x inside e none before = All-more (λ (j : Export). names_parts j ≡ false) is i x inside before (subst (λ (j : Export). names_parts j ≡ false) e none)

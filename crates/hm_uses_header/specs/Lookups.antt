@@ -1,25 +1,46 @@
 -- What the names of a header are looked up in. No public clause names these.
-use Rattle.std.specs.Prelude.{◌≡◌, ◌↔◌, ℕ, List, Option, None, Some, option_map, Contains}
+use Rattle.std.specs.Prelude.{◌≡◌, ◌↔◌, ℕ, Bool, true, false, List, Option, None, Some, option_map, Contains}
 use Rattle.std.specs.Borrow.{Bor}
 use Rattle.std.specs.Str.{bytes_eq}
 use Rattle.std.specs.declared.hash.FoldHasher.{FoldHasher}
 use Rattle.std.specs.declared.hash.BuildHasherDefault.{BuildHasherDefault}
 use Rattle.indexmap.specs.IndexMap.{IndexMap, get_by}
 use Rattle.hm_types.specs.Interfaces.{Exports as Interface}
+use Rattle.hm_syntax.specs.Names.{Identifier}
 use Rattle.hm_syntax.specs.declared.ast.Module.{Module}
+use Rattle.hm_syntax.specs.declared.ast.Export.{Export}
+use Rattle.hm_syntax.specs.declared.ast.Export.TheVariants as export
 use Rattle.hm_syntax.specs.declared.ast.Import.{Import}
 use Rattle.hm_syntax.specs.declared.ast.ImportItem.{ImportItem}
 use Rattle.hm_syntax.specs.declared.ast.ImportList.TheVariants as list
+use Rattle.hm_syntax.specs.declared.ast.SubItems.{SubItems}
+use Rattle.hm_syntax.specs.declared.ast.SubItems.TheVariants as subs
 use Rattle.hm_names.specs.Bindings.{IsScopeOf}
 use Rattle.hm_names.specs.Exports.{IsModuleName}
 use Rattle.hm_scope_export_items.specs.ExportGroups.{AreGroupsOf}
+use Rattle.hm_uses.specs.Uses.{HasExport}
 use Rattle.hm_uses_header.specs.declared.exports.ExportTables.{ExportTables}
 
--- the tables are those of the module, for these interfaces
+-- the export list of the module names constructors of a type
+abbrev pub NamesParts : Module → Type 0
+NamesParts m = (n : Identifier) × ((cs : List Identifier) × HasExport m (export.Con n (subs.Some cs)))
+
+-- the tables are those of the module, for these interfaces. The groups are needed for named constructors alone
 pub record AreTablesOf (m : Module) (fs : List Interface) (tables : ExportTables) : Type 0 where
   pub scope : IsScopeOf m fs tables.scope.now
   pub modules : (x : List ℕ) → Contains tables.modules x ↔ IsModuleName m x
-  pub groups : AreGroupsOf m fs tables.groups
+  pub groups : NamesParts m → AreGroupsOf m fs tables.groups
+
+abbrev pub names_some : SubItems → Bool
+names_some subs.None = false
+names_some subs.All = false
+names_some (subs.Some cs) = true
+
+-- the item names constructors of a type
+abbrev pub names_parts : Export → Bool
+names_parts (export.Var n) = false
+names_parts (export.Con n s) = names_some s
+names_parts (export.Whole n) = false
 
 -- f is one of these interfaces, and the only one with the name
 pub record IsOnly (fs : List Interface) (x : List ℕ) (f : Interface) : Type 0 where

@@ -14,7 +14,7 @@ ghost use Rattle.hm_uses.specs.Mentions.{mentions, sub_mentions, export_mentions
 ghost use Rattle.hm_uses.specs.Uses.{ByScope, HasExport, OfExported, a_prefix, unbound};
 ghost use Rattle.hm_uses_declarations.specs.Senses.{sense_of};
 ghost use Rattle.hm_uses_header.specs.Adding.{Adds};
-ghost use Rattle.hm_uses_header.specs.Lookups.{AreTablesOf};
+ghost use Rattle.hm_uses_header.specs.Lookups.{AreTablesOf, NamesParts};
 
 use crate::adding::add;
 use hm_names::Namespace;
@@ -32,7 +32,7 @@ pub(crate) struct ExportTables<'s, 'a> {
     pub(crate) scope: &'s Scope<'a>,
     /// The names under which modules are known.
     pub(crate) modules: TextSet<'a>,
-    /// The constructors of each type that are in scope.
+    /// The constructors of each type that are in scope, if the list names any.
     pub(crate) groups: IndexMap<Selector<'a>, Vec<Binding<'a>>>,
 }
 
@@ -68,7 +68,7 @@ fn constructor_of<'a>(
 
 /// Returns the meaning of a constructor that is listed after a type.
 fn of_part<'a>(tables: &ExportTables<'_, 'a>, of: &Name, part: &Name) -> Meaning<'a>
-    ensures { («module» : Module) (fs : List Interface) → AreTablesOf «module» fs tables.now → OfExported «module» fs of.now part.now (sense_of result) }
+    ensures { («module» : Module) (fs : List Interface) → AreTablesOf «module» fs tables.now → NamesParts «module» → OfExported «module» fs of.now part.now (sense_of result) }
 {
     match tables.scope.meaning(Namespace::Types, of) {
         ScopeMeaning::Unbound => Meaning::Unbound,

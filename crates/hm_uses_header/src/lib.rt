@@ -4,6 +4,7 @@
 #![tactic(auto)]
 
 mod adding;
+mod export_groups;
 mod exports;
 mod imports;
 mod interfaces;

@@ -9,10 +9,10 @@ ghost use Rattle.hm_uses_header.specs.Adding.{Adds, header_mentions};
 ghost use Rattle.hm_uses_header.specs.Lookups.{AreTablesOf, IsTableOf};
 
 use crate::adding::add;
+use crate::export_groups::export_groups;
 use crate::exports::{ExportTables, add_exports};
 use crate::imports::add_imports;
 use crate::interfaces::by_name;
-use hm_scope_export_items::groups_of;
 use hm_scope_imports::{interfaces_of, module_names, scope_of};
 use hm_scope_tables::Scope;
 use hm_syntax::{Header, Module};
@@ -69,7 +69,7 @@ fn header_uses<'a>(
         → All (IsUse program.now (map (λ f. f.now) interfaces.now)) uses.items) }
 {
     let modules = module_names(alloc, program)?;
-    let groups = groups_of(alloc, program, interfaces, scope.pairs())?;
+    let groups = export_groups(alloc, program, interfaces, scope.pairs())?;
     let tables = ExportTables {
         scope,
         modules,
