@@ -1,0 +1,3 @@
+pub mod AppliedLists
+pub mod Counting
+pub mod WorkedArguments
