@@ -29,7 +29,7 @@ SAYS = {
     "brackets": "with brackets around this",
     "semicolon": "with ';' before this",
     "comma": "with ',' before this",
-    "argument": "with one more argument after this",
+    "argument": "one more after this",
     "constructor": "in front of this",
     "list brackets": "with '[' and ']' around this",
     "sides": "this side of ':'",

@@ -211,7 +211,7 @@ def byte_at(source, line, column):
 
 # Where a note ends, and what it may say of the other one of two parts.
 BESIDE = r"\)(?: and at \d+:\d+|(?: if the pattern at \d+:\d+ is '_' and its| and the one at \d+:\d+ are '_' and their) variables have every type|, with another expression at \d+:\d+)?"
-NOTE = re.compile(rf"^<stdin>:(\d+):(\d+): note: .* (?:(?:(?:another expression here|this pattern is '_' and its variables have every type|if this pattern|this is left out|is expected|without this signature|around this|in front of this|argument after this|expressions both here) \(up to|the one (at)) (\d+):(\d+)(?:{BESIDE}| exchanged)|with '[;,]' before this)$", re.M)
+NOTE = re.compile(rf"^<stdin>:(\d+):(\d+): note: .* (?:(?:(?:another expression here|this pattern is '_' and its variables have every type|if this pattern|this is left out|without this|one more after this|is expected|without this signature|around this|in front of this|argument after this|expressions both here) \(up to|the one (at)) (\d+):(\d+)(?:{BESIDE}| exchanged)|with '[;,]' before this)$", re.M)
 
 
 def notes_in(source, tokens, messages):

@@ -12,7 +12,8 @@ out of scope; a type or a value of Prelude declared again; a slip in an expressi
 - two types: they have no common instance, if the definition has no signature;
 - two expressions: with holes in both the definition has a type, with a hole in one of them it has none;
 - another expression: with a hole there, the definition has a type; an exchange, an argument left out, a text put in: the same with the changed source;
-- a type without a signature: the module without it is good, and has the same type with this one as the signature.
+- a type without a signature: the module without it is good, and has the same type with this one as the signature;
+- a fault that follows from a signature: without it, neither of the two definitions is a type fault.
 
 Prints how often each was tried, and each claim that is false. Ends with 1 if there is one. The sources are a function of the seed.
 """
@@ -217,7 +218,7 @@ def put_around(text):
         return "(", ")"
     if "with '[' and ']' around this" in text:
         return "[", "]"
-    if "with one more argument after this" in text:
+    if "one more argument after this" in text or "one more after this" in text:
         return "(", f" {HOLE})"
     found = re.search(r"with '([\w.']+)' in front of this", text)
     return (f"({found[1]} (", "))") if found else None
@@ -232,7 +233,7 @@ def changed_part(source, message):
     last = offset(source, {"line": int(end[1]), "byte": int(end[2])}) + 1 if end else None
     if "another expression here" in message["text"]:
         return with_text(source, start, last, HOLE)
-    if "if this is left out" in message["text"]:
+    if "if this is left out" in message["text"] or ", without this (" in message["text"]:
         return with_text(source, start, last, "")
     if found := re.search(r"with '([;,])' before this$", message["text"]):
         return with_text(source, start, start, f"{found[1]} ")
@@ -248,9 +249,37 @@ def changed_part(source, message):
     return source[:start] + source[other : ends[1]] + source[ends[0] : other] + source[start : ends[0]] + source[ends[1] :]
 
 
+COUNTS = re.compile(r"too (many|few) arguments: '(.+)' has (\d+) here, and '.+' has a type with (\d+), ")
+
+
+def arguments_at(tokens, at):
+    """Returns how many arguments the name of this number has. An argument of another name has none. Brackets around a function don't count."""
+    first, end, count = at, at + 1, 0
+    while not slips.is_applied(tokens, first):
+        while end < len(tokens) and (stop := slips.atom_end(tokens, end)):
+            end, count = stop, count + 1
+        if first == 0 or end == len(tokens) or tokens[first - 1].text != "(" or tokens[end].text != ")":
+            return count
+        first, end = first - 1, end + 1
+    return count
+
+
+def try_counts(source, message):
+    """Compares the numbers of arguments that a note names with the tokens of the source."""
+    found = COUNTS.match(message["text"])
+    if found is None:
+        return
+    tokens, start = slips.tokens_of(source), offset(source, message["start"])
+    here, then = int(found[3]), int(found[4])
+    names = [at for at, token in enumerate(tokens) if token.text == found[2] and (token.start == start if found[1] == "few" else token.start < start)]
+    if here not in {arguments_at(tokens, at) for at in names} or then != here + (1 if found[1] == "few" else -1):
+        raise Finding(f"'{found[2]}' hasn't {here} arguments")
+
+
 def try_part(program, source, message):
     if message["level"] != "note" or (changed := changed_part(source, message)) is None:
         return None
+    try_counts(source, message)
     after = ask(program, changed)[1]
     if is_untyped(after, message["name"]) or any(it["kind"] in ("syntax", "lexeme") for it in after):
         raise Finding("with the change the definition has no type")
@@ -295,7 +324,21 @@ def try_signature(program, source, message):
     return "a type without a signature"
 
 
-CLAIMS = [try_change, try_near, try_written, try_types, try_part, try_both, try_signature]
+def try_follows(program, source, message):
+    if message["kind"] != "follows":
+        return None
+    start, end = offset(source, message["start"]), UP_TO.search(message["text"])
+    last = offset(source, {"line": int(end[1]), "byte": int(end[2])}) + 1
+    other = re.search(r" and '([\w']+)' have types", message["text"])[1]
+    if not re.match(rf"{re.escape(other)}\b", source[start:last]):
+        raise Finding(f"no signature of '{other}'")
+    before, after = ask(program, source)[1], ask(program, with_text(source, start, last, ""))[1]
+    if not is_untyped(before, other) or is_untyped(after, other) or is_untyped(after, message["name"]) or any(it["kind"] in ("syntax", "lexeme") for it in after):
+        raise Finding("without the signature one of the definitions has no type")
+    return "a fault that follows from a signature"
+
+
+CLAIMS = [try_change, try_near, try_written, try_types, try_part, try_both, try_signature, try_follows]
 
 
 # Faults

@@ -28,10 +28,10 @@ import claims  # noqa: E402
 import forgotten  # noqa: E402
 import slips  # noqa: E402
 
-# What sentences with edits say, and those of notes at a part without edits.
+# What sentences with edits say, one or the other text, and those of notes at a part without edits.
 SAYS = {
     "exchange": " exchanged",
-    "removal": "if this is left out",
+    "removal": "if this is left out|, without this (up to",
     "brackets": "with brackets around this",
     "list brackets": "with '[' and ']' around this",
     "mark": " before this",
@@ -45,7 +45,7 @@ UNCHECKED = {
     "token left out": "unexpected '",
     "signature": "' without this signature",
 }
-SILENT = ("with another expression here", "with other expressions both here", "if this pattern ", "with one more argument after this", "this has type '")
+SILENT = ("with another expression here", "with other expressions both here", "if this pattern ", "with one more argument after this", "one more after this", "have types without this signature", "this has type '")
 
 
 def edited(source, edits):
@@ -67,7 +67,7 @@ def kind_of(message):
             return None
         return next(kind for kind, words in UNCHECKED.items() if kind.startswith("token") and words in text)
     table = UNCHECKED if message["level"] == "error" or message["kind"] == "signature" else SAYS
-    return next((kind for kind, words in table.items() if not kind.startswith("token") and words in text), None)
+    return next((kind for kind, words in table.items() if not kind.startswith("token") and any(it in text for it in words.split("|"))), None)
 
 
 def is_read(messages):

@@ -22,7 +22,7 @@ FURTHER = re.compile(r"^note: further skipped modules: (\d+); they have no notes
 # How many skipped modules, and how many imports of each, have notes for a reader.
 MOST_NOTED = 8
 # The kinds of notes that are about a part, and those that are about two.
-PARTS = {"replaceable", "both", "pattern", "exchange", "removal", "brackets", "argument", "mark", "constructor", "mistyped", "signature"}
+PARTS = {"replaceable", "both", "pattern", "exchange", "removal", "brackets", "argument", "mark", "constructor", "mistyped", "signature", "follows"}
 PAIRS = {"both", "exchange"}
 UP_TO = re.compile(r"\(up to (\d+):(\d+)\)")
 # More type faults than a run has trials for.

@@ -438,7 +438,7 @@ KINDS = [
         "No types fit this definition and those that refer back to it. All others that it refers to have types or signatures.\n"
         "module M where { f :: Bool -> Bool ; f x = not x x }\n"
         "                                     ^\n"
-        "M.hs:1:50: note: 'f' has a type if this is left out (up to 1:50)\n"
+        "M.hs:1:50: note: too many arguments: 'not' has 2 here, and 'f' has a type with 1, without this (up to 1:50)\n"
         "module M where { f :: Bool -> Bool ; f x = not x x }\n"
         "                                                 ^\n"
         "errors: 1, skipped modules: 0\n",
@@ -451,7 +451,7 @@ KINDS = [
         "No types fit this definition and those that refer back to it. All others that it refers to have types or signatures.\n"
         "module M where { f :: Bool ; f = maybe True not }\n"
         "                             ^\n"
-        "M.hs:1:34: note: 'f' has a type with one more argument after this (up to 1:47)\n"
+        "M.hs:1:34: note: too few arguments: 'maybe' has 2 here, and 'f' has a type with 3, one more after this (up to 1:47)\n"
         "module M where { f :: Bool ; f = maybe True not }\n"
         "                                 ^^^^^\n"
         "M.hs:1:18: note: 'f' has type 'Maybe Bool -> Bool' without this signature (up to 1:26)\n"
@@ -609,7 +609,7 @@ KINDS = [
         "No types fit this definition and those that refer back to it. All others that it refers to have types or signatures.\n"
         "module M where { f :: [Bool] -> Bool ; f xs = foldr (\\x y -> x) xs }\n"
         "                                       ^\n"
-        "M.hs:1:47: note: 'f' has a type with one more argument after this (up to 1:63)\n"
+        "M.hs:1:47: note: too few arguments: 'foldr' has 2 here, and 'f' has a type with 3, one more after this (up to 1:63)\n"
         "module M where { f :: [Bool] -> Bool ; f xs = foldr (\\x y -> x) xs }\n"
         "                                              ^^^^^\n"
         "M.hs:1:18: note: 'f' has type 'a -> [a] -> a' without this signature (up to 1:36)\n"
@@ -633,7 +633,7 @@ KINDS = [
         "                 ^\n"
         "errors: 1, skipped modules: 0\n",
     ),
-    # a signature without which the module is good: its note is first
+    # a signature without which the module is good: its note is first, and a fault that follows from it has that note alone
     (
         "module M where { f :: Bool -> Char ; f x = not x ; g = not (f True) }",
         1,
@@ -651,9 +651,9 @@ KINDS = [
         "No types fit this definition and those that refer back to it. All others that it refers to have types or signatures.\n"
         "module M where { f :: Bool -> Char ; f x = not x ; g = not (f True) }\n"
         "                                                   ^\n"
-        "M.hs:1:61: note: this has type 'Bool -> Char', but 'Bool -> Bool' is expected (up to 1:61)\n"
+        "M.hs:1:18: note: 'g' and 'f' have types without this signature (up to 1:34)\n"
         "module M where { f :: Bool -> Char ; f x = not x ; g = not (f True) }\n"
-        "                                                            ^\n"
+        "                 ^\n"
         "errors: 2, skipped modules: 0\n",
     ),
     # arguments that are exchanged, though another expression in place of the first one would do too

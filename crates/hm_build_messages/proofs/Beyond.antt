@@ -1,5 +1,5 @@
 -- Notes of the faults that the report leaves out.
-use Rattle.std.proofs.Common.{◌≡◌, ◌⊎◌, ◌<◌, ℕ, List, [], ◌++◌, length, get_or, inl, inr, subst}
+use Rattle.std.proofs.Common.{◌≡◌, ◌⊎◌, ◌<◌, ℕ, List, [], length, get_or, inl, inr, subst}
 use Rattle.hm_types.specs.Interfaces.{Exports as Interface}
 use Rattle.hm_names.specs.declared.faults.Fault.{Fault}
 use Rattle.hm_verdicts.specs.Sets.{ModuleSet, imports_of, module_at}

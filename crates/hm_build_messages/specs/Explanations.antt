@@ -18,11 +18,13 @@ use Rattle.hm_messages_excerpts.specs.declared.columns.Columns.{Columns}
 use Rattle.hm_messages.specs.Headings.{count_text, further_text}
 use Rattle.hm_messages.specs.Messages.{AreEach, IsFaultMessage, IsMessage, reader_place}
 use Rattle.hm_messages_json.specs.Edits.{Changed}
-use Rattle.hm_messages.specs.Subjects.{Subject, faulty, hidden, limit, mistyped, replaceable, skipped, unsigned, wrapped}
+use Rattle.hm_messages.specs.Subjects.{Subject, faulty, follows, hidden, limit, mistyped, replaceable, skipped, too_few_arguments, too_many_arguments, unsigned, wrapped}
 use Rattle.hm_messages.specs.declared.heading.Paint.{Paint}
 use Rattle.hm_messages.specs.declared.heading.Paint.TheVariants.{Plain, Coloured, Json}
 use Rattle.hm_messages.specs.declared.topic.Way.{Way}
 use Rattle.hm_messages.specs.declared.topic.Way.TheVariants as way
+use Rattle.hm_messages_arguments.specs.Counts.{HasOneFewer, HasOneMore}
+use Rattle.hm_messages_causes.specs.Causes.{IsCause}
 use Rattle.hm_messages_edits.specs.Edits.{HasChanges}
 use Rattle.hm_messages_edits.specs.Signatures.{IsRetyped}
 use Rattle.hm_messages_edits.specs.Spans.{first_part, second_part}
@@ -82,6 +84,30 @@ subject_of_mend x (Patterns first second) p = replaceable x (way.Patterns p)
 subject_of_mend x (insertion_mend insertion part) p = replaceable x (insertion_way insertion p)
 subject_of_mend x (Wrapped constructor part) p = wrapped x constructor.now p
 
+-- a name has so many arguments in the source, and so many with the change: it leaves an argument out, or adds one
+abbrev pub AreCounts : List ℕ → Mend → List ℕ → ℕ → ℕ → Type 0
+AreCounts source (Expression part) function here then = ⊥
+AreCounts source (Pattern part) function here then = ⊥
+AreCounts source (Exchange first second) function here then = ⊥
+AreCounts source (Removal part) function here then = HasOneFewer source part function here then
+AreCounts source (Sides first second) function here then = ⊥
+AreCounts source (Patterns first second) function here then = ⊥
+AreCounts source (insertion_mend Brackets part) function here then = ⊥
+AreCounts source (insertion_mend ListBrackets part) function here then = ⊥
+AreCounts source (insertion_mend Argument part) function here then = HasOneMore source part function here then
+AreCounts source (insertion_mend Semicolon part) function here then = ⊥
+AreCounts source (insertion_mend Comma part) function here then = ⊥
+AreCounts source (Wrapped constructor part) function here then = ⊥
+
+-- how the change of a definition is stated, with this as the other place. An argument that is left out, or one more, may be stated with the name that is
+-- applied, how many arguments that has, and how many with the change
+pub data IsSubjectOf (source definition : List ℕ) : Mend → Place → Subject → Type 0 where
+  by_way : {mend : Mend} {p : Place} → IsSubjectOf source definition mend p (subject_of_mend definition mend p)
+  too_many : {part : SourceRange} {p : Place} {function : List ℕ} {here then : ℕ} → HasOneFewer source part function here then
+      → IsSubjectOf source definition (Removal part) p (too_many_arguments definition function here then p)
+  too_few : {part : SourceRange} {p : Place} {function : List ℕ} {here then : ℕ} → HasOneMore source part function here then
+      → IsSubjectOf source definition (insertion_mend Argument part) p (too_few_arguments definition function here then p)
+
 -- these are the two types of the part that is to blame, and whether they are told as infinite
 abbrev pub ArePartTypes : List ℕ → List ℕ → List Interface → List ℕ → Mend → List ℕ → List ℕ → Bool → Type 0
 ArePartTypes source name fs definition (Expression part) expected actual infinite = HasShownTypes source name fs definition part expected actual infinite
@@ -97,7 +123,9 @@ ArePartTypes source name fs definition (Wrapped constructor part) expected actua
 pub record IsMendStated (paint : Paint) (file source definition : List ℕ) (mend : Mend) (other : Place) (text : List ℕ) : Type 0 where
   pub changes : List Changed
   pub edits : HasChanges source mend changes
-  pub told : IsPartMessage paint file source (first_part mend) (second_part mend) (subject_of_mend definition mend other) changes text
+  pub subject : Subject
+  pub means : IsSubjectOf source definition mend other subject
+  pub told : IsPartMessage paint file source (first_part mend) (second_part mend) subject changes text
 
 -- the text tells what gives the definition a type, or the two types of the part, with this as the other place
 pub data IsStatedOf (paint : Paint) (file source name : List ℕ) (fs : List Interface) (definition : List ℕ) (mend : Mend) (other : Place) (text : List ℕ) : Type 0 where
@@ -128,9 +156,19 @@ pub record IsSignatureNote (paint : Paint) (file source name : List ℕ) (fs : L
   pub retyped : IsRetyped source f.name signature own changes
   pub told : IsPartMessage paint file source signature None (unsigned f.name (reader_place signature.end columns) own) changes text
 
--- the notes of a type fault: that of its part, that of its signature and those of two parts, or some of them, or none. That of the signature is before that of
+-- the note of a type fault that follows from the signature of another definition says that both have types without it
+pub record IsCauseNote (paint : Paint) (file source name : List ℕ) (fs : List Interface) (f : Fault) (text : List ℕ) : Type 0 where
+  pub untyped : f.kind ≡ Untyped
+  pub other : List ℕ
+  pub signature : SourceRange
+  pub cause : IsCause source name fs f.name other signature
+  pub columns : Columns
+  pub columns_at : AreColumnsAt source signature.end columns
+  pub told : IsPartMessage paint file source signature None (follows f.name other (reader_place signature.end columns)) [] text
+
+-- the notes of a type fault by itself: that of its part, that of its signature and those of two parts, or some of them, or none. That of the signature is before that of
 -- the part if it leads. Those of two parts are last, and only if there is none of one part
-pub record AreNotes (paint : Paint) (file source name : List ℕ) (fs : List Interface) (f : Fault) (text : List ℕ) : Type 0 where
+pub record AreOwnNotes (paint : Paint) (file source name : List ℕ) (fs : List Interface) (f : Fault) (text : List ℕ) : Type 0 where
   pub note : List ℕ
   pub signed : List ℕ
   pub both : List ℕ
@@ -139,6 +177,11 @@ pub record AreNotes (paint : Paint) (file source name : List ℕ) (fs : List Int
   pub signature : (signed ≡ []) ⊎ IsSignatureNote paint file source name fs f leads signed
   pub jointly : (both ≡ []) ⊎ ((note ≡ []) × AreJointNotes paint file source name fs f both)
   pub whole : text ≡ cond leads (signed ++ note) (note ++ signed) ++ both
+
+-- the notes of a type fault: that of another definition's signature from which it follows, or else its own
+pub data AreNotes (paint : Paint) (file source name : List ℕ) (fs : List Interface) (f : Fault) (text : List ℕ) : Type 0 where
+  following : IsCauseNote paint file source name fs f text → AreNotes paint file source name fs f text
+  own_notes : AreOwnNotes paint file source name fs f text → AreNotes paint file source name fs f text
 
 -- the last note of a fault tells that the limit on trials is reached, or it is no text. The first truth value says whether a note told it before the fault,
 -- the second whether one has told it behind the fault. So it is told once

@@ -13,14 +13,16 @@ ghost use Rattle.hm_messages_trials.specs.Mends.{IsMend};
 ghost use Rattle.hm_messages_trials.specs.Signatures.{IsUnsigned, Leads};
 ghost use Rattle.hm_names.specs.declared.faults.Kind.TheVariants.{Untyped};
 ghost use Rattle.hm_build_messages.specs.Jointly.{AreJointNotes};
-ghost use Rattle.hm_build_messages.specs.Explanations.{AreInTurn, ArePartTypes, AreNotes, IsMendStated, IsNote, IsNoted, IsSignatureNote, IsStatedOf, insertion_way as stated_insertion, other_of as other_place, subject_of_mend as stated_subject};
+ghost use Rattle.hm_build_messages.specs.Explanations.{AreInTurn, ArePartTypes, AreNotes, AreOwnNotes, IsMendStated, IsNote, IsNoted, IsSignatureNote, IsStatedOf};
 
+use crate::causes::cause_note;
 use crate::joint::joint_notes;
 use crate::parts::{NotedPart, part_message};
+use crate::topics::{counts_of, other_of, topic_of};
 use crate::view::FaultyModule;
 use hm_lex::Place;
-use hm_messages::{BothTypes, Topic, Way, fault_message, message, reader_place};
-use hm_messages_changes::{Insertion, SourceRange};
+use hm_messages::{BothTypes, Topic, fault_message, message, reader_place};
+use hm_messages_changes::SourceRange;
 use hm_messages_details::Detail;
 use hm_messages_edits::{changes_of, first_part, second_part, signature_changes};
 use hm_messages_trials::{
@@ -69,53 +71,6 @@ fn mend_for<'f>(
     match mend_of(alloc, module.question, found, effort) {
         Ok(mend) => mend,
         Err(AllocError) => None,
-    }
-}
-
-/// Returns the other place of the note: where the part ends, or where the second one begins.
-fn other_of(mend: &Mend<'_>) -> Place
-    ensures { result ≡ other_place mend.now }
-{
-    match mend {
-        Mend::Expression(part) => part.end,
-        Mend::Pattern(part) => part.end,
-        Mend::Exchange(_, second) => second.start,
-        Mend::Removal(part) => part.end,
-        Mend::Sides(_, second) => second.start,
-        Mend::Patterns(_, second) => second.start,
-        Mend::Insertion(_, part) => part.end,
-        Mend::Wrapped(_, part) => part.end,
-    }
-}
-
-/// Returns the topic of the note of a text that is put in around a part, which ends at this place.
-fn insertion_way(insertion: Insertion, end: Place) -> Way
-    ensures { result ≡ stated_insertion insertion end }
-{
-    match insertion {
-        Insertion::Brackets => Way::Brackets(end),
-        Insertion::ListBrackets => Way::ListBrackets(end),
-        Insertion::Argument => Way::Argument(end),
-        Insertion::Semicolon => Way::Semicolon,
-        Insertion::Comma => Way::Comma,
-    }
-}
-
-/// Returns the topic of the note of a change that gives the definition a type, with this as the other place.
-fn topic_of<'a>(definition: &'a str, mend: &Mend<'a>, other: Place) -> Topic<'a>
-    ensures { subject_of result ≡ stated_subject definition.now mend.now other }
-{
-    match mend {
-        Mend::Expression(_) => Topic::Replaceable(definition, Way::Expression(other)),
-        Mend::Pattern(_) => Topic::Replaceable(definition, Way::Pattern(other)),
-        Mend::Exchange(_, _) => Topic::Replaceable(definition, Way::Exchange(other)),
-        Mend::Removal(_) => Topic::Replaceable(definition, Way::Removal(other)),
-        Mend::Sides(_, _) => Topic::Replaceable(definition, Way::Sides(other)),
-        Mend::Patterns(_, _) => Topic::Replaceable(definition, Way::Patterns(other)),
-        Mend::Insertion(insertion, _) => {
-            Topic::Replaceable(definition, insertion_way(*insertion, other))
-        }
-        Mend::Wrapped(name, _) => Topic::Wrapped(definition, name, other),
     }
 }
 
@@ -171,11 +126,13 @@ fn mend_text(
     requires parts { HasPartsIn «module».now.question.now.source.now mend.now }
     ensures { IfOk result (λ text. IsMendStated «module».now.paint «module».now.page.now.file.now «module».now.page.now.lines definition.now mend.now other text.items) }
 {
-    let changes = changes_of(alloc, module.question.source, mend)?;
+    let source = module.question.source;
+    let changes = changes_of(alloc, source, mend)?;
+    let counts = counts_of(alloc, source, mend);
     let noted = NotedPart {
         part: first_part(mend),
         second: second_part(mend),
-        topic: topic_of(definition, mend, other),
+        topic: topic_of(definition, mend, &counts, other),
         changes: changes.as_slice(),
     };
     Ok(part_message(alloc, module, &noted)?)
@@ -459,15 +416,15 @@ fn kept(alloc: Global, note: Vec<u8>, others: &[u8]) -> Vec<u8>
 }
 
 // Why: docs/DECISIONS.md, "The order of notes", "Two slips".
-/// Returns the notes of a fault, one after the other.
-fn notes_of(
+/// Returns the notes of a fault by itself, one after the other.
+fn own_notes(
     alloc: Global,
     module: &FaultyModule<'_, '_>,
     found: &TypeFault<'_>,
     effort: &mut Effort,
 ) -> Result<Vec<u8>, AllocError>
     requires { «module».now.question.now.source.now ≡ «module».now.page.now.lines }
-    ensures { IfOk result (λ text. AreNotes «module».now.paint «module».now.page.now.file.now «module».now.page.now.lines
+    ensures { IfOk result (λ text. AreOwnNotes «module».now.paint «module».now.page.now.file.now «module».now.page.now.lines
         «module».now.question.now.name.now (map arc_value «module».now.question.now.imports.now) found.now.fault.now text.items) }
 {
     let note = note_for(alloc, module, found, effort)?;
@@ -478,6 +435,25 @@ fn notes_of(
     let mut text = in_order(alloc, note.as_slice(), signed.text.as_slice(), signed.leads)?;
     text.extend_from_slice(both.as_slice())?;
     Ok(text)
+}
+
+// Why: docs/DECISIONS.md, "Faults that follow".
+/// Returns the notes of a fault: that of the signature from which it follows, or else its own.
+fn notes_of(
+    alloc: Global,
+    module: &FaultyModule<'_, '_>,
+    found: &TypeFault<'_>,
+    effort: &mut Effort,
+) -> Result<Vec<u8>, AllocError>
+    requires { «module».now.question.now.source.now ≡ «module».now.page.now.lines }
+    ensures { IfOk result (λ text. AreNotes «module».now.paint «module».now.page.now.file.now «module».now.page.now.lines
+        «module».now.question.now.name.now (map arc_value «module».now.question.now.imports.now) found.now.fault.now text.items) }
+{
+    let note = cause_note(alloc, module, found, effort)?;
+    match note {
+        Some(note) => Ok(note),
+        None => Ok(own_notes(alloc, module, found, effort)?),
+    }
 }
 
 /// Returns the notes of a fault, or no text without a reading of the module's source.

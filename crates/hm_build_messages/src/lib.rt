@@ -1,6 +1,7 @@
 //! Makes the messages of a build or of a refused set, with details and notes of its faults.
 #![tactic(auto)]
 
+mod causes;
 mod detailing;
 mod exhausted;
 mod explaining;
@@ -12,6 +13,7 @@ mod options;
 mod parts;
 mod refused;
 mod starts;
+mod topics;
 mod view;
 
 pub use crate::exhausted::module_message;

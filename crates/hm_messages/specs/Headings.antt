@@ -1,24 +1,18 @@
 -- The first line of a message behind its file's name, and the line of counts.
-use Rattle.std.specs.Prelude.{ℕ, cond, ◌==◌, ◌&&◌, List, [], ◌∷◌, ◌++◌, Option, Some, None, codes, if◌then◌else◌}
+use Rattle.std.specs.Prelude.{ℕ, ◌==◌, ◌&&◌, List, [], ◌∷◌, ◌++◌, Option, Some, None, codes, if◌then◌else◌}
 use Rattle.std.specs.Fmt.{decimal}
 use Rattle.hm_messages_excerpts.specs.Escapes.{shown}
 use Rattle.hm_messages_json.specs.Objects.{counts_text}
 use Rattle.hm_messages_json.specs.declared.message.Level.{Level}
 use Rattle.hm_messages_json.specs.declared.message.Level.TheVariants.{Error, Note}
 use Rattle.hm_messages_json.specs.declared.message.Position.{Position}
-use Rattle.hm_messages_details.specs.Candidates.{Candidate}
-use Rattle.hm_messages_details.specs.Details.{Known, nothing, near, of_report, either, first, arguments, lengths, not_from, near_binding, near_local, elsewhere, by_pattern}
 use Rattle.hm_messages_hints.specs.LexemeTexts.{lexeme_text}
 use Rattle.hm_messages_hints.specs.SyntaxTexts.{syntax_text}
 use Rattle.hm_lex.specs.declared.token.Place.{Place}
-use Rattle.hm_names.specs.declared.faults.Kind.{Kind}
-use Rattle.hm_names.specs.declared.namespace.Namespace.{Namespace}
-use Rattle.hm_names.specs.declared.namespace.Namespace.TheVariants.{Types, Constructors, Values}
-use Rattle.hm_names.specs.declared.faults.Kind.TheVariants.{NotExported, Duplicate, NoBinding, Unbound, Ambiguous, ExportClash, NotImported, NonLinear, Arity, ClauseLength, Untyped, Recursive}
-use Rattle.hm_names.specs.Faults.Phases.{written_in}
+use Rattle.hm_messages_titles.specs.Titles.{fault_title, hidden_title}
 use Rattle.hm_messages.specs.Notices.{notice_of}
 use Rattle.hm_messages.specs.Cuts.{shortened}
-use Rattle.hm_messages.specs.Subjects.{Subject, fault, replaceable, wrapped, mistyped, unsigned, faulty, skipped, too_long, lexeme, open_comment, too_deep, syntax_fault, too_many, twice, twin, missing, cycle, exhausted, limit, step, hidden}
+use Rattle.hm_messages.specs.Subjects.{Subject, fault, replaceable, wrapped, too_many_arguments, too_few_arguments, mistyped, unsigned, follows, faulty, skipped, too_long, lexeme, open_comment, too_deep, syntax_fault, too_many, twice, twin, missing, cycle, exhausted, limit, step, hidden}
 use Rattle.hm_messages.specs.declared.topic.Way.{Way}
 use Rattle.hm_messages.specs.declared.topic.Pair.{Pair}
 use Rattle.hm_messages.specs.declared.topic.Pair.TheVariants as pair
@@ -39,88 +33,6 @@ abbrev pub end : Paint → List ℕ
 end Plain = []
 end Json = []
 end Coloured = 27 ∷ codes "[0m"
-
--- what is wrong with a module, in a few words, by the kind and the name
-abbrev pub kind_title : Kind → List ℕ → List ℕ
-kind_title NotExported x = codes "cannot import '" ++ x ++ codes "'"
-kind_title Duplicate x = codes "a second declaration of '" ++ x ++ codes "'"
-kind_title NoBinding x = codes "the signature of '" ++ x ++ codes "' has no clauses"
-kind_title Unbound x = codes "'" ++ x ++ codes "' isn't in scope"
-kind_title Ambiguous x = codes "'" ++ x ++ codes "' is ambiguous"
-kind_title ExportClash x = codes "two different things are exported as '" ++ x ++ codes "'"
-kind_title NotImported x = codes "no import is called '" ++ x ++ codes "'"
-kind_title NonLinear x = codes "'" ++ x ++ codes "' occurs twice in these patterns"
-kind_title Arity x = codes "wrong number of arguments for '" ++ x ++ codes "'"
-kind_title ClauseLength x = codes "the clauses of '" ++ x ++ codes "' have different numbers of patterns"
-kind_title Untyped x = codes "type error in '" ++ x ++ codes "'"
-kind_title Recursive x = codes "the type synonym '" ++ x ++ codes "' is defined by itself"
-
--- a name that one may be meant for
-abbrev pub near_text : Option (List ℕ) → List ℕ → List ℕ
-near_text q x = codes " (did you mean '" ++ written_in q x ++ codes "'?)"
-
--- two entities of one name, by the modules that define them
-abbrev pub both_text : Candidate → Candidate → List ℕ
-both_text c d =
-    codes ": '" ++ c.entity.name ++ codes "' of module '" ++ c.entity.«module» ++ codes "' or '" ++ d.entity.name ++ codes "' of module '" ++ d.entity.«module» ++ codes "'"
-
-abbrev pub line_text : Option ℕ → List ℕ
-line_text None = []
-line_text (Some line) = codes " (imported in line " ++ decimal line ++ codes ")"
-
--- an entity by its name with a qualifier, and the line of the import that gives this
-abbrev pub qualified_text : List ℕ → Candidate → List ℕ
-qualified_text q c = (codes "'" ++ q ++ codes "." ++ c.entity.name ++ codes "'") ++ line_text c.line
-
--- how to hide an entity of Prelude that is imported implicitly
-abbrev pub hiding_text : Candidate → List ℕ
-hiding_text c = cond c.implicit (codes ", or add 'import Prelude hiding (" ++ c.entity.name ++ codes ")'") []
-
--- what to write for two entities of one name
-abbrev pub written_text : List ℕ → List ℕ → Candidate → Candidate → List ℕ
-written_text q r c d = codes ": write " ++ qualified_text q c ++ codes " or " ++ qualified_text r d ++ hiding_text c ++ hiding_text d
-
-abbrev pub either_by : Option (List ℕ) → Option (List ℕ) → Candidate → Candidate → List ℕ
-either_by (Some q) (Some r) c d = written_text q r c d
-either_by (Some q) None c d = both_text c d
-either_by None r c d = both_text c d
-
-abbrev pub either_text : Candidate → Candidate → List ℕ
-either_text c d = either_by c.qualifier d.qualifier c d
-
--- the module that doesn't export the name, or not as a constructor of this type
-abbrev pub not_from_text : List ℕ → Option (List ℕ) → List ℕ
-not_from_text x None = codes ": '" ++ x ++ codes "' doesn't export it"
-not_from_text x (Some t) = codes ": '" ++ x ++ codes "' doesn't export it as a constructor of '" ++ t ++ codes "'"
-
--- what has the name in this namespace
-abbrev pub space_noun : Namespace → List ℕ
-space_noun Types = codes "type"
-space_noun Constructors = codes "constructor"
-space_noun Values = codes "variable"
-
--- what is known beyond the kind and the name
-abbrev pub detail_text : Known → List ℕ
-detail_text nothing = []
-detail_text (near q x) = near_text q x
-detail_text of_report = codes ": this Prelude leaves it out"
-detail_text (either c d) = either_text c d
-detail_text (first p) = []
-detail_text (arguments here takes) = codes ": it has " ++ decimal here ++ codes " here, but takes " ++ decimal takes
-detail_text (lengths here others) = codes ": " ++ decimal here ++ codes " here, but " ++ decimal others ++ codes " in the first"
-detail_text (not_from x t) = not_from_text x t
-detail_text (near_binding x) = near_text None x
-detail_text (elsewhere s) = codes ": a " ++ space_noun s ++ codes " has this name, but can't stand here"
-detail_text by_pattern = codes ": a pattern binds it"
-detail_text (near_local x) = near_text None x
-
--- where the first of two names is, its column in characters
-abbrev pub first_text : Option Position → List ℕ
-first_text None = []
-first_text (Some p) = codes ": the first is at " ++ decimal p.line ++ codes ":" ++ decimal p.columns.characters
-
-abbrev pub fault_title : Kind → List ℕ → Known → Option Position → List ℕ
-fault_title k x known other = (kind_title k x ++ detail_text known) ++ first_text other
 
 -- what is said of an expression that ends at this place
 abbrev pub expression_title : List ℕ → Place → List ℕ
@@ -188,6 +100,21 @@ replaceable_title x (Both w p q) = pair_title x w p q
 abbrev pub wrapped_title : List ℕ → List ℕ → Place → List ℕ
 wrapped_title x c p = codes "'" ++ x ++ codes "' has a type with '" ++ c ++ codes "' in front of this (up to " ++ decimal p.line ++ codes ":" ++ decimal p.column ++ codes ")"
 
+-- how many arguments a name has, and with how many a definition has a type, with a change of an expression that ends at this place
+abbrev pub arguments_text : List ℕ → List ℕ → ℕ → List ℕ
+arguments_text front f here = front ++ codes " arguments: '" ++ f ++ codes "' has " ++ decimal here ++ codes " here, and "
+
+abbrev pub mended_text : List ℕ → ℕ → List ℕ → Place → List ℕ
+mended_text x count back p = codes "'" ++ x ++ codes "' has a type with " ++ decimal count ++ back ++ codes " (up to " ++ decimal p.line ++ codes ":" ++ decimal p.column ++ codes ")"
+
+-- what is said of an argument that ends at this place and is left out
+abbrev pub too_many_title : List ℕ → List ℕ → ℕ → ℕ → Place → List ℕ
+too_many_title x f here after p = arguments_text (codes "too many") f here ++ mended_text x after (codes ", without this") p
+
+-- what is said of an expression that ends at this place and gets one more argument
+abbrev pub too_few_title : List ℕ → List ℕ → ℕ → ℕ → Place → List ℕ
+too_few_title x f here after p = arguments_text (codes "too few") f here ++ mended_text x after (codes ", one more after this") p
+
 -- what is said of a part that ends at this place, with the type that is expected there and the one that it has
 abbrev pub mistyped_title : Place → List ℕ → List ℕ → List ℕ
 mistyped_title p expected actual = codes "this has type '" ++ actual ++ codes "', but '" ++ expected ++ codes "' is expected (up to " ++ decimal p.line ++ codes ":" ++ decimal p.column ++ codes ")"
@@ -196,9 +123,9 @@ mistyped_title p expected actual = codes "this has type '" ++ actual ++ codes "'
 abbrev pub unsigned_title : List ℕ → Place → List ℕ → List ℕ
 unsigned_title x p own = codes "'" ++ x ++ codes "' has type '" ++ own ++ codes "' without this signature (up to " ++ decimal p.line ++ codes ":" ++ decimal p.column ++ codes ")"
 
--- what is said of a fault that the report leaves out, because names aren't in scope
-abbrev pub hidden_title : Kind → List ℕ → List ℕ
-hidden_title k x = kind_title k x ++ codes ", whatever the names that aren't in scope mean"
+-- what is said of a signature that ends at this place, without which both definitions have types
+abbrev pub follows_title : List ℕ → List ℕ → Place → List ℕ
+follows_title x y p = codes "'" ++ x ++ codes "' and '" ++ y ++ codes "' have types without this signature (up to " ++ decimal p.line ++ codes ":" ++ decimal p.column ++ codes ")"
 
 -- where the token is that a hint is about, its column in characters
 abbrev pub token_place_text : Option Position → List ℕ
@@ -209,8 +136,11 @@ abbrev pub title : Subject → List ℕ
 title (fault k x known other) = fault_title k x known other
 title (replaceable x p) = replaceable_title x p
 title (wrapped x c p) = wrapped_title x c p
+title (too_many_arguments x f here after p) = too_many_title x f here after p
+title (too_few_arguments x f here after p) = too_few_title x f here after p
 title (mistyped x p expected actual infinite) = mistyped_title p expected actual
 title (unsigned x p own) = unsigned_title x p own
+title (follows x y p) = follows_title x y p
 title (faulty x) = codes "skipped, since '" ++ x ++ codes "' has errors"
 title (skipped x) = codes "skipped, since '" ++ x ++ codes "' is skipped"
 title too_long = codes "the source is too long"

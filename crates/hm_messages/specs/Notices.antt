@@ -11,7 +11,7 @@ use Rattle.hm_verdicts.specs.Reports.{kind_word}
 use Rattle.hm_messages.specs.Sentences.{fault_sentence, types_sentence}
 use Rattle.hm_messages.specs.declared.topic.Way.{Way}
 use Rattle.hm_messages.specs.declared.topic.Way.TheVariants as way
-use Rattle.hm_messages.specs.Subjects.{Subject, fault, replaceable, wrapped, mistyped, unsigned, faulty, skipped, too_long, lexeme, open_comment, too_deep, syntax_fault, too_many, twice, twin, missing, cycle, exhausted, limit, step, hidden}
+use Rattle.hm_messages.specs.Subjects.{Subject, fault, replaceable, wrapped, too_many_arguments, too_few_arguments, mistyped, unsigned, follows, faulty, skipped, too_long, lexeme, open_comment, too_deep, syntax_fault, too_many, twice, twin, missing, cycle, exhausted, limit, step, hidden}
 
 -- its level; the report's word for what is wrong, or the word for a sort of note; the name that it is about, if it is about one; the other place that it
 -- names; the rule that is broken or a hint; the type that is expected at a part, and the type that the part or a definition has
@@ -66,8 +66,11 @@ abbrev pub notice_of : Subject → Notice
 notice_of (fault k x known other) = fault_notice k x other
 notice_of (replaceable x w) = note (way_kind w) (Some x)
 notice_of (wrapped x c p) = note (codes "constructor") (Some x)
+notice_of (too_many_arguments x f here then p) = note (codes "removal") (Some x)
+notice_of (too_few_arguments x f here then p) = note (codes "argument") (Some x)
 notice_of (mistyped x p expected actual infinite) = types_notice x expected actual infinite
 notice_of (unsigned x p own) = signature_notice x own
+notice_of (follows x y p) = note (codes "follows") (Some x)
 notice_of (faulty x) = note (codes "skipped") (Some x)
 notice_of (skipped x) = note (codes "skipped") (Some x)
 notice_of too_long = error (codes "too-long") None (codes "A source has at most 1,048,576 bytes.\n")

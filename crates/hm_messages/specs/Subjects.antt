@@ -10,9 +10,10 @@ use Rattle.hm_messages.specs.declared.topic.Topic.{Topic}
 use Rattle.hm_messages.specs.declared.topic.Way.{Way}
 use Rattle.hm_messages.specs.declared.topic.Topic.TheVariants as topic
 
--- a fault of a module, with what is known of it and another place that this names; a way in which a definition has a type; a constructor with which it has one in front of an expression up to a place; a part of a definition up to
+-- a fault of a module, with what is known of it and another place that this names; a way in which a definition has a type; a constructor with which it has one in front of an expression up to a place; an argument up to a place without which it has one, or an expression after which it
+-- has one with one more argument, with the name that is applied, how many arguments that has and how many with the change; a part of a definition up to
 -- a place, with the type that is expected there and the one that it has, and whether no type is both because it would contain itself; a signature up to a
--- place, with the type that its definition has without it; a module is skipped for a faulty import, or for a skipped one; why a set is refused, of a syntax fault with the place of another token that the hint
+-- place, with the type that its definition has without it, or without which that of another name has a type too; a module is skipped for a faulty import, or for a skipped one; why a set is refused, of a syntax fault with the place of another token that the hint
 -- is about; a module
 -- with the name of a later one; a module that there is no memory to check; the trials of a run are used up; a step of a cycle; a fault that the report leaves out, because names aren't in
 -- scope
@@ -20,8 +21,11 @@ pub data Subject : Type 0 where
   fault : Kind → List ℕ → Known → Option Position → Subject
   replaceable : List ℕ → Way → Subject
   wrapped : List ℕ → List ℕ → Place → Subject
+  too_many_arguments : List ℕ → List ℕ → ℕ → ℕ → Place → Subject
+  too_few_arguments : List ℕ → List ℕ → ℕ → ℕ → Place → Subject
   mistyped : List ℕ → Place → List ℕ → List ℕ → Bool → Subject
   unsigned : List ℕ → Place → List ℕ → Subject
+  follows : List ℕ → List ℕ → Place → Subject
   faulty : List ℕ → Subject
   skipped : List ℕ → Subject
   too_long : Subject
@@ -43,8 +47,11 @@ abbrev pub subject_of : Topic → Subject
 subject_of (topic.Fault k n) = fault k n.name.now (known_of n.detail) n.other
 subject_of (topic.Replaceable x p) = replaceable x.now p
 subject_of (topic.Wrapped x c p) = wrapped x.now c.now p
+subject_of (topic.TooManyArguments x counts) = too_many_arguments x.now counts.function.now counts.here counts.then counts.end
+subject_of (topic.TooFewArguments x counts) = too_few_arguments x.now counts.function.now counts.here counts.then counts.end
 subject_of (topic.Mistyped x types) = mistyped x.now types.end types.expected.now types.actual.now types.infinite
 subject_of (topic.Unsigned x p t) = unsigned x.now p t.now
+subject_of (topic.Follows x y p) = follows x.now y.now p
 subject_of (topic.Faulty x) = faulty x.now
 subject_of (topic.Skipped x) = skipped x.now
 subject_of topic.TooLong = too_long

@@ -33,8 +33,11 @@ pub(crate) fn said_changes(
         }
         Topic::Replaceable(_, _) => Ok(Vec::new(alloc)),
         Topic::Wrapped(_, _, _) => Ok(Vec::new(alloc)),
+        Topic::TooManyArguments(_, _) => Ok(Vec::new(alloc)),
+        Topic::TooFewArguments(_, _) => Ok(Vec::new(alloc)),
         Topic::Mistyped(_, _) => Ok(Vec::new(alloc)),
         Topic::Unsigned(_, _, _) => Ok(Vec::new(alloc)),
+        Topic::Follows(_, _, _) => Ok(Vec::new(alloc)),
         Topic::Faulty(_) => Ok(Vec::new(alloc)),
         Topic::Skipped(_) => Ok(Vec::new(alloc)),
         Topic::TooLong => Ok(Vec::new(alloc)),

@@ -6,9 +6,10 @@ ghost use Rattle.hm_messages.specs.Messages.{IsFaultMessage, IsOther};
 use crate::heading::Paint;
 use crate::messages::message;
 use crate::pages::Page;
-use crate::topic::{Named, Topic};
+use crate::topic::Topic;
 use hm_messages_details::Detail;
 use hm_messages_json::{Position, position_at};
+use hm_messages_titles::Named;
 use hm_names::Fault;
 use std::alloc::{AllocError, Global};
 

@@ -1,16 +1,16 @@
 //! The first line of a message, after the name of its file.
 ghost use Rattle.std.specs.Prelude.{◌≡◌, IfOk, string_bytes};
-ghost use Rattle.hm_messages.specs.Headings.{argument_title as argument_title_bytes, begin, brackets_title as brackets_title_bytes, end, exchange_title as exchange_title_bytes, expression_title as expression_title_bytes, heading as heading_bytes, list_brackets_title as list_brackets_title_bytes, mark_title as mark_title_bytes, mistyped_title as mistyped_title_bytes, pair_title as pair_title_bytes, pattern_title as pattern_title_bytes, patterns_title as patterns_title_bytes, removal_title as removal_title_bytes, replaceable_title as replaceable_title_bytes, sides_title as sides_title_bytes, tag as tag_bytes, title as title_bytes, token_place_text as token_place_bytes, unsigned_title as unsigned_title_bytes, wrapped_title as wrapped_title_bytes};
+ghost use Rattle.hm_messages.specs.Headings.{argument_title as argument_title_bytes, begin, brackets_title as brackets_title_bytes, arguments_text as arguments_bytes, end, exchange_title as exchange_title_bytes, expression_title as expression_title_bytes, follows_title as follows_title_bytes, heading as heading_bytes, list_brackets_title as list_brackets_title_bytes, mark_title as mark_title_bytes, mended_text as mended_bytes, mistyped_title as mistyped_title_bytes, pair_title as pair_title_bytes, pattern_title as pattern_title_bytes, patterns_title as patterns_title_bytes, removal_title as removal_title_bytes, replaceable_title as replaceable_title_bytes, sides_title as sides_title_bytes, tag as tag_bytes, title as title_bytes, too_few_title as too_few_title_bytes, too_many_title as too_many_title_bytes, token_place_text as token_place_bytes, unsigned_title as unsigned_title_bytes, wrapped_title as wrapped_title_bytes};
 ghost use Rattle.hm_messages.specs.Subjects.{subject_of, syntax_fault};
 
 use crate::cutting::shortened;
-use crate::fault_titles::{fault_title, hidden_title};
 use crate::notices::notice_of;
-use crate::topic::{BothTypes, Pair, PlacedAdvice, Topic, Way};
+use crate::topic::{ArgumentCounts, BothTypes, Pair, PlacedAdvice, Topic, Way};
 use hm_lex::Place;
 use hm_messages_excerpts::shown;
 use hm_messages_hints::{lexeme_text, syntax_text};
 use hm_messages_json::{Level, Position};
+use hm_messages_titles::{fault_title, hidden_title};
 use std::alloc::{AllocError, Global};
 
 /// How messages are written.
@@ -228,6 +228,66 @@ fn wrapped_title(
     )
 }
 
+/// Returns the text about how many arguments a name has: `front` is `too many` or `too few`.
+fn arguments_text(
+    alloc: Global,
+    front: &str,
+    function: &str,
+    here: usize,
+) -> Result<String, AllocError>
+    ensures { IfOk result (λ text. string_bytes text ≡ arguments_bytes front.now function.now here) }
+{
+    format!(in alloc; "{front} arguments: '{function}' has {here} here, and ")
+}
+
+/// Returns the text about how many arguments a definition has a type with. `back` says the change of an expression that ends at this place.
+fn mended_text(
+    alloc: Global,
+    name: &str,
+    count: usize,
+    back: &str,
+    end: Place,
+) -> Result<String, AllocError>
+    ensures { IfOk result (λ text. string_bytes text ≡ mended_bytes name.now count back.now end) }
+{
+    let Place { line, column } = end;
+    format!(in alloc; "'{name}' has a type with {count}{back} (up to {line}:{column})")
+}
+
+/// Returns the text about an argument that is left out.
+fn too_many_title(
+    alloc: Global,
+    name: &str,
+    counts: &ArgumentCounts<'_>,
+) -> Result<String, AllocError>
+    ensures { IfOk result (λ text. string_bytes text ≡ too_many_title_bytes name.now counts.now.function.now counts.now.here counts.now.then counts.now.end) }
+{
+    let mut text = arguments_text(alloc, "too many", counts.function, counts.here)?;
+    let rest = mended_text(alloc, name, counts.then, ", without this", counts.end)?;
+    text.push_str(rest.as_str())?;
+    Ok(text)
+}
+
+/// Returns the text about an expression that gets one more argument.
+fn too_few_title(
+    alloc: Global,
+    name: &str,
+    counts: &ArgumentCounts<'_>,
+) -> Result<String, AllocError>
+    ensures { IfOk result (λ text. string_bytes text ≡ too_few_title_bytes name.now counts.now.function.now counts.now.here counts.now.then counts.now.end) }
+{
+    let mut text = arguments_text(alloc, "too few", counts.function, counts.here)?;
+    let rest = mended_text(
+        alloc,
+        name,
+        counts.then,
+        ", one more after this",
+        counts.end,
+    )?;
+    text.push_str(rest.as_str())?;
+    Ok(text)
+}
+
 /// Returns the text about a part with these two types.
 fn mistyped_title(alloc: Global, types: &BothTypes<'_>) -> Result<String, AllocError>
     ensures { IfOk result (λ text. string_bytes text ≡ mistyped_title_bytes types.now.end types.now.expected.now types.now.actual.now) }
@@ -252,6 +312,16 @@ fn unsigned_title(alloc: Global, name: &str, end: Place, own: &str) -> Result<St
     format!(in alloc; "'{name}' has type '{own}' without this signature (up to {line}:{column})")
 }
 
+/// Returns the text about a signature that ends at this place, without which both definitions have types.
+fn follows_title(alloc: Global, name: &str, other: &str, end: Place) -> Result<String, AllocError>
+    ensures { IfOk result (λ text. string_bytes text ≡ follows_title_bytes name.now other.now end) }
+{
+    let Place { line, column } = end;
+    format!(in alloc;
+        "'{name}' and '{other}' have types without this signature (up to {line}:{column})"
+    )
+}
+
 /// Returns what is wrong, in a few words.
 pub(crate) fn title(alloc: Global, topic: &Topic<'_>) -> Result<String, AllocError>
     ensures { IfOk result (λ text. string_bytes text ≡ title_bytes (subject_of topic.now)) }
@@ -260,8 +330,11 @@ pub(crate) fn title(alloc: Global, topic: &Topic<'_>) -> Result<String, AllocErr
         Topic::Fault(kind, named) => fault_title(alloc, *kind, named),
         Topic::Replaceable(name, way) => replaceable_title(alloc, name, *way),
         Topic::Wrapped(name, constructor, end) => wrapped_title(alloc, name, constructor, *end),
+        Topic::TooManyArguments(name, counts) => too_many_title(alloc, name, counts),
+        Topic::TooFewArguments(name, counts) => too_few_title(alloc, name, counts),
         Topic::Mistyped(_, types) => mistyped_title(alloc, types),
         Topic::Unsigned(name, end, own) => unsigned_title(alloc, name, *end, own),
+        Topic::Follows(name, other, end) => follows_title(alloc, name, other, *end),
         Topic::Faulty(name) => format!(in alloc; "skipped, since '{name}' has errors"),
         Topic::Skipped(name) => format!(in alloc; "skipped, since '{name}' is skipped"),
         Topic::TooLong => String::from_str(alloc, "the source is too long"),

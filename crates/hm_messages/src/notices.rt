@@ -5,9 +5,10 @@ ghost use Rattle.hm_messages.specs.Notices.{fault_notice, notice_of, signature_n
 ghost use Rattle.hm_messages.specs.Subjects.{subject_of};
 
 use crate::sentences::{fault_sentence, types_sentence};
-use crate::topic::{BothTypes, Named, PlacedAdvice, Topic, Way};
+use crate::topic::{BothTypes, PlacedAdvice, Topic, Way};
 use hm_messages_hints::{lexeme_help, syntax_help};
 use hm_messages_json::{Level, Position};
+use hm_messages_titles::Named;
 use hm_names::Kind;
 use hm_verdicts::kind_word;
 
@@ -184,8 +185,11 @@ pub(crate) fn notice_of<'a>(topic: &Topic<'a>) -> Notice<'a>
         Topic::Fault(kind, named) => fault_notice(*kind, named),
         Topic::Replaceable(name, way) => note(way_kind(*way), Some(name)),
         Topic::Wrapped(name, _, _) => note("constructor", Some(name)),
+        Topic::TooManyArguments(name, _) => note("removal", Some(name)),
+        Topic::TooFewArguments(name, _) => note("argument", Some(name)),
         Topic::Mistyped(name, types) => types_notice(name, types),
         Topic::Unsigned(name, _, own) => signature_notice(name, own),
+        Topic::Follows(name, _, _) => note("follows", Some(name)),
         Topic::Faulty(name) => note("skipped", Some(name)),
         Topic::Skipped(name) => note("skipped", Some(name)),
         Topic::TooLong => error("too-long", None, "A source has at most 1,048,576 bytes.\n"),

@@ -1,18 +1,9 @@
 //! The topics of messages.
 use hm_lex::Place;
-use hm_messages_details::Detail;
 use hm_messages_hints::{LexemeHint, SyntaxHint};
 use hm_messages_json::Position;
+use hm_messages_titles::Named;
 use hm_names::Kind;
-
-/// The name that a fault is about, as it is written, with the detail of the fault.
-#[derive(Clone, Copy)]
-pub struct Named<'a> {
-    pub name: &'a str,
-    pub detail: Detail<'a>,
-    /// The position of the place that the detail names, if it names one.
-    pub other: Option<Position>,
-}
 
 /// The advice for a fault of syntax.
 #[derive(Clone, Copy)]
@@ -75,6 +66,17 @@ pub struct BothTypes<'a> {
     pub infinite: bool,
 }
 
+/// How many arguments a name has in an expression, and how many it has with a change that gives a definition a type.
+#[derive(Clone, Copy)]
+pub struct ArgumentCounts<'a> {
+    /// The name that is applied, as it is written.
+    pub function: &'a str,
+    pub here: usize,
+    pub then: usize,
+    /// The place of the last character of the argument that is left out, or of the expression that gets one more.
+    pub end: Place,
+}
+
 /// What a message is about. Names are as they are written.
 #[derive(Clone, Copy)]
 pub enum Topic<'a> {
@@ -84,10 +86,16 @@ pub enum Topic<'a> {
     Replaceable(&'a str, Way),
     /// A definition has a type with this constructor in front of an expression, which ends at this place.
     Wrapped(&'a str, &'a str, Place),
+    /// A definition has a type if an argument is left out.
+    TooManyArguments(&'a str, ArgumentCounts<'a>),
+    /// A definition has a type with one more argument after an expression.
+    TooFewArguments(&'a str, ArgumentCounts<'a>),
     /// A part of a definition has one type, and another one is expected in its place.
     Mistyped(&'a str, BothTypes<'a>),
     /// A definition has this type without its signature, which ends here.
     Unsigned(&'a str, Place, &'a str),
+    /// Both definitions have types without the signature of the second, which ends here.
+    Follows(&'a str, &'a str, Place),
     /// A module is skipped because it imports this one, which is faulty.
     Faulty(&'a str),
     /// A module is skipped because it imports this one, which is skipped.

@@ -5,7 +5,7 @@ use Rattle.hm_messages_excerpts.specs.Columns.{AreColumnsAt}
 use Rattle.hm_messages.specs.Messages.{reader_place}
 use Rattle.hm_messages_edits.proofs.Parts.{parts_inside}
 use Rattle.hm_messages_trials.specs.Mends.{IsMend}
-use Rattle.hm_build_messages.specs.Explanations.{IsStatedOf, other_of}
+use Rattle.hm_build_messages.specs.Explanations.{IsStatedOf}
 use Rattle.hm_build_messages.proofs.faulty.note_for.Goals as goal
 
 pub returns : goal.returns

@@ -1,4 +1,4 @@
-use Rattle.std.proofs.Common.{rules, ◌≡◌, ◌⊎◌, ◌++◌, List, ℕ, [], inr, map, subst}
+use Rattle.std.proofs.Common.{rules, ◌≡◌, ◌⊎◌, List, ℕ, [], inr, map, subst}
 use Rattle.std.specs.Arc.{arc_value}
 use Rattle.hm_messages_joint.specs.Joints.{HasTypeWithBoth, NeedsBoth}
 use Rattle.hm_build_messages.specs.Jointly.{IsJointNote}

@@ -1,7 +1,6 @@
-use Rattle.std.proofs.Common.{rules, arith, ◌≡◌, ◌∙◌, ◌-◌, ◌<◌, ◌≤◌, ℕ, List, [], get_or, length, map, subst}
+use Rattle.std.proofs.Common.{rules, arith, ◌≡◌, ◌-◌, ◌<◌, ◌≤◌, ℕ, List, get_or, length, subst}
 use Rattle.std.proofs.lemmas.List.{length-map}
 use Rattle.hm_messages_excerpts.specs.Excerpts.{IsExcerptAt, IsRestOfLine}
-use Rattle.hm_messages.specs.Pages.{texts_in}
 use Rattle.hm_messages.specs.declared.pages.Page.{Page}
 use Rattle.hm_messages.proofs.AtPage.{text_is}
 use Rattle.hm_messages.proofs.refusals.lexeme_advice.Goals as goal

@@ -1,13 +1,21 @@
-//! What is wrong with a module, in a few words.
+//! What is wrong with a module, in a few words: the kind of a fault, its name, and what else is known of it.
 ghost use Rattle.std.specs.Prelude.{◌≡◌, ◌++◌, IfOk, option_map, string_bytes};
 ghost use Rattle.hm_messages_details.specs.Details.{candidate_of, elsewhere, known_of};
-ghost use Rattle.hm_messages.specs.Headings.{both_text as both_bytes, detail_text as detail_bytes, either_text as either_bytes, fault_title as fault_title_bytes, first_text, hidden_title as hidden_title_bytes, hiding_text as hiding_bytes, kind_title as kind_title_bytes, line_text as line_bytes, near_text, not_from_text as not_from_bytes, qualified_text as qualified_bytes, space_noun as noun_bytes, written_text as written_bytes};
+ghost use Rattle.hm_messages_titles.specs.Titles.{both_text as both_bytes, detail_text as detail_bytes, either_text as either_bytes, fault_title as fault_title_bytes, first_text, hidden_title as hidden_title_bytes, hiding_text as hiding_bytes, kind_title as kind_title_bytes, line_text as line_bytes, near_text, not_from_text as not_from_bytes, qualified_text as qualified_bytes, space_noun as noun_bytes, written_text as written_bytes};
 
-use crate::topic::Named;
 use hm_messages_details::{Candidate, Detail, Origin};
 use hm_messages_json::Position;
 use hm_names::{Kind, Namespace};
 use std::alloc::{AllocError, Global};
+
+/// The name that a fault is about, as it is written, with the detail of the fault.
+#[derive(Clone, Copy)]
+pub struct Named<'a> {
+    pub name: &'a str,
+    pub detail: Detail<'a>,
+    /// The position of the place that the detail names, if it names one.
+    pub other: Option<Position>,
+}
 
 /// Returns a text with a name in it.
 fn with_name(alloc: Global, front: &str, name: &str, back: &str) -> Result<String, AllocError>
@@ -223,11 +231,7 @@ fn first_text(alloc: Global, other: Option<Position>) -> Result<String, AllocErr
 }
 
 /// Returns what is wrong, with the detail beyond the kind and the name.
-pub(crate) fn fault_title(
-    alloc: Global,
-    kind: Kind,
-    named: &Named<'_>,
-) -> Result<String, AllocError>
+pub fn fault_title(alloc: Global, kind: Kind, named: &Named<'_>) -> Result<String, AllocError>
     ensures { IfOk result (λ text. string_bytes text ≡ fault_title_bytes kind named.now.name.now (known_of named.now.detail) named.now.other) }
 {
     let mut text = kind_title(alloc, kind, named.name)?;
@@ -237,7 +241,7 @@ pub(crate) fn fault_title(
 }
 
 /// Returns the text about a fault that the report leaves out.
-pub(crate) fn hidden_title(alloc: Global, kind: Kind, name: &str) -> Result<String, AllocError>
+pub fn hidden_title(alloc: Global, kind: Kind, name: &str) -> Result<String, AllocError>
     ensures { IfOk result (λ text. string_bytes text ≡ hidden_title_bytes kind name.now) }
 {
     let mut text = kind_title(alloc, kind, name)?;

@@ -1,5 +1,5 @@
 use Rattle.std.proofs.Common.{rules, append_assoc}
-use Rattle.hm_messages.proofs.fault_titles.detail_text.Goals as goal
+use Rattle.hm_messages_titles.proofs.titles.detail_text.Goals as goal
 
 pub returns-in-Arguments : goal.returns-in-Arguments
 returns-in-Arguments c = rw c.in-Arguments.is (simp append_assoc (search rules))

@@ -1,5 +1,5 @@
 use Rattle.std.proofs.Common.{rules, append_assoc}
-use Rattle.hm_messages.proofs.fault_titles.line_text.Goals as goal
+use Rattle.hm_messages_titles.proofs.titles.near_text.Goals as goal
 
 pub returns-in-Some : goal.returns-in-Some
 returns-in-Some c = rw c.in-Some.is (simp append_assoc (search rules))

@@ -1,0 +1,6 @@
+//! Writes what is wrong with a module, in a few words.
+#![tactic(auto)]
+
+mod titles;
+
+pub use crate::titles::{Named, fault_title, hidden_title};
