@@ -1,5 +1,5 @@
 -- What follows from the tables of decisions.
-use Rattle.std.proofs.Common.{◌≡◌, ℕ, List, Option, None, Some, codes, inl, inr, Bool, true, false, refl, sym, ap, subst, ◌∙◌}
+use Rattle.std.proofs.Common.{◌≡◌, ℕ, List, Option, None, Some, codes, inl, inr, map, string_bytes, Bool, true, false, refl, sym, ap, subst, ◌∙◌}
 use Rattle.std.proofs.lemmas.Bool.{false≢true}
 use Rattle.serde_json.specs.Data.{Data}
 use Rattle.serde_json.specs.declared.value.Value.{Value}
@@ -7,16 +7,17 @@ use Rattle.serde_json.specs.Find.{get}
 use Rattle.hm_lsp_positions.specs.declared.changes.Change.{Change}
 use Rattle.hm_lsp_positions.specs.declared.units.Encoding.{Encoding}
 use Rattle.hm_lsp_session.specs.Effects.{HasNoChange, IsIgnored, IsIgnoredIn, IsNotApplied, IsNothingOnlyFor, closed, reversed}
+use Rattle.hm_lsp_session.specs.Files.{IfBegun, IfFiles}
 use Rattle.hm_lsp_session.specs.Params.{AreListedIn, string_at}
 use Rattle.hm_lsp_session.specs.Stages.{notification_decision, ready_decision, request_decision}
 use Rattle.hm_lsp_session.specs.declared.documents.Documents.{Documents}
-use Rattle.hm_lsp_session.specs.Steps.{IsEdit, IsStep}
+use Rattle.hm_lsp_session.specs.Steps.{IsEdit, IsNews, IsStep}
 use Rattle.hm_lsp_session.specs.declared.session.Outcome.{Outcome}
-use Rattle.hm_lsp_session.specs.declared.session.Outcome.TheVariants.{Ask, Changed, Ended, Nothing, Reply}
+use Rattle.hm_lsp_session.specs.declared.session.Outcome.TheVariants.{Ask, Begun, Changed, Ended, Files, Nothing, Reply}
 use Rattle.hm_lsp_session.specs.declared.stages.Decision.{Decision}
 use Rattle.hm_lsp_session.specs.declared.stages.Decision.TheVariants.{End, Go, Ignore, Refuse}
 use Rattle.hm_lsp_session.specs.declared.stages.Method.{Method}
-use Rattle.hm_lsp_session.specs.declared.stages.Method.TheVariants.{DidChange, DidClose, DidOpen, Exit, Initialize, Question, Shutdown, Unknown}
+use Rattle.hm_lsp_session.specs.declared.stages.Method.TheVariants.{DidChange, DidChangeWatchedFiles, DidClose, DidOpen, Exit, Initialize, Initialized, Question, Shutdown, Unknown}
 use Rattle.hm_lsp_session.specs.declared.stages.Question.{Question as Asked}
 use Rattle.hm_lsp_session.specs.declared.stages.Refusal.{Refusal}
 use Rattle.hm_lsp_session.specs.declared.stages.Stage.{Stage}
@@ -31,20 +32,24 @@ is_go (End status) = false
 -- a notification that has an effect comes while the session is ready
 pub editing : (s : Stage) (m : Method) → notification_decision s m ≡ Go → s ≡ Ready
 editing New Initialize h = absurd (false≢true (ap is_go h))
+editing New Initialized h = absurd (false≢true (ap is_go h))
 editing New Shutdown h = absurd (false≢true (ap is_go h))
 editing New Exit h = absurd (false≢true (ap is_go h))
 editing New DidOpen h = absurd (false≢true (ap is_go h))
 editing New DidChange h = absurd (false≢true (ap is_go h))
 editing New DidClose h = absurd (false≢true (ap is_go h))
+editing New DidChangeWatchedFiles h = absurd (false≢true (ap is_go h))
 editing New (Question q) h = absurd (false≢true (ap is_go h))
 editing New Unknown h = absurd (false≢true (ap is_go h))
 editing Ready m h = refl
 editing ShutDown Initialize h = absurd (false≢true (ap is_go h))
+editing ShutDown Initialized h = absurd (false≢true (ap is_go h))
 editing ShutDown Shutdown h = absurd (false≢true (ap is_go h))
 editing ShutDown Exit h = absurd (false≢true (ap is_go h))
 editing ShutDown DidOpen h = absurd (false≢true (ap is_go h))
 editing ShutDown DidChange h = absurd (false≢true (ap is_go h))
 editing ShutDown DidClose h = absurd (false≢true (ap is_go h))
+editing ShutDown DidChangeWatchedFiles h = absurd (false≢true (ap is_go h))
 editing ShutDown (Question q) h = absurd (false≢true (ap is_go h))
 editing ShutDown Unknown h = absurd (false≢true (ap is_go h))
 
@@ -64,12 +69,61 @@ question_step New q request h = absurd (false≢true (ap is_go h))
 question_step Ready q request h = (refl, refl)
 question_step ShutDown q request h = absurd (false≢true (ap is_go h))
 
-pub edit_step : (before after : Stage) (outcome : Outcome) → before ≡ Ready → after ≡ before → IsEdit outcome → IsStep before outcome after
-edit_step before after (Reply reply) ready same h = absurd h
-edit_step before after (Ask question request) ready same h = absurd h
-edit_step before after Changed ready same h = (ready, same)
-edit_step before after Nothing ready same h = same
-edit_step before after (Ended status) ready same h = absurd h
+pub news_step : (before after : Stage) (outcome : Outcome) → before ≡ Ready → after ≡ before → IsNews outcome → IsStep before outcome after
+news_step before after (Reply reply) ready same h = absurd h
+news_step before after (Ask question request) ready same h = absurd h
+news_step before after Changed ready same h = (ready, same)
+news_step before after Begun ready same h = (ready, same)
+news_step before after (Files uris) ready same h = (ready, same)
+news_step before after Nothing ready same h = same
+news_step before after (Ended status) ready same h = absurd h
+
+-- an edit is neither of the other news
+pub edit_news : (outcome : Outcome) → IsEdit outcome → IsNews outcome
+edit_news (Reply reply) h = absurd h
+edit_news (Ask question request) h = absurd h
+edit_news Changed h = tt
+edit_news Begun h = absurd h
+edit_news (Files uris) h = absurd h
+edit_news Nothing h = tt
+edit_news (Ended status) h = absurd h
+
+pub not_begun : (outcome : Outcome) (why : Type 0) → IsEdit outcome → IfBegun outcome why
+not_begun (Reply reply) why h = tt
+not_begun (Ask question request) why h = tt
+not_begun Changed why h = tt
+not_begun Begun why h = absurd h
+not_begun (Files uris) why h = tt
+not_begun Nothing why h = tt
+not_begun (Ended status) why h = tt
+
+pub no_files : (outcome : Outcome) (P : List (List ℕ) → Type 0) → IsEdit outcome → IfFiles outcome P
+no_files (Reply reply) P h = tt
+no_files (Ask question request) P h = tt
+no_files Changed P h = tt
+no_files Begun P h = tt
+no_files (Files uris) P h = absurd h
+no_files Nothing P h = tt
+no_files (Ended status) P h = tt
+
+-- another reason
+pub begun_for : (outcome : Outcome) (why other : Type 0) → (why → other) → IfBegun outcome why → IfBegun outcome other
+begun_for (Reply reply) why other f h = tt
+begun_for (Ask question request) why other f h = tt
+begun_for Changed why other f h = tt
+begun_for Begun why other f h = f h
+begun_for (Files uris) why other f h = tt
+begun_for Nothing why other f h = tt
+begun_for (Ended status) why other f h = tt
+
+pub files_for : (outcome : Outcome) (P Q : List (List ℕ) → Type 0) → ((uris : List (List ℕ)) → P uris → Q uris) → IfFiles outcome P → IfFiles outcome Q
+files_for (Reply reply) P Q f h = tt
+files_for (Ask question request) P Q f h = tt
+files_for Changed P Q f h = tt
+files_for Begun P Q f h = tt
+files_for (Files uris) P Q f h = f (map string_bytes uris.items) h
+files_for Nothing P Q f h = tt
+files_for (Ended status) P Q f h = tt
 
 is_ignore : Decision → Bool
 is_ignore Go = false
@@ -82,6 +136,8 @@ unfolding is_ignore
 ignoring DidOpen h params encoding before = absurd (false≢true (ap is_ignore h))
 ignoring DidChange h params encoding before = absurd (false≢true (ap is_ignore h))
 ignoring DidClose h params encoding before = absurd (false≢true (ap is_ignore h))
+ignoring DidChangeWatchedFiles h params encoding before = absurd (false≢true (ap is_ignore h))
+ignoring Initialized h params encoding before = absurd (false≢true (ap is_ignore h))
 ignoring Initialize h params encoding before = tt
 ignoring Shutdown h params encoding before = tt
 ignoring Exit h params encoding before = tt
@@ -104,6 +160,8 @@ pub only_for : (why other : Type 0) (out : Outcome) → (why → other) → IsNo
 only_for why other (Reply reply) f h = tt
 only_for why other (Ask question asked) f h = tt
 only_for why other Changed f h = tt
+only_for why other Begun f h = tt
+only_for why other (Files uris) f h = tt
 only_for why other Nothing f h = f h
 only_for why other (Ended status) f h = tt
 
@@ -123,11 +181,13 @@ is_refusal (End status) = false
 ready_takes : (m : Method) → is_refusal (ready_decision m) ≡ false
 unfolding is_refusal
 ready_takes Initialize = refl
+ready_takes Initialized = refl
 ready_takes Shutdown = refl
 ready_takes Exit = refl
 ready_takes DidOpen = refl
 ready_takes DidChange = refl
 ready_takes DidClose = refl
+ready_takes DidChangeWatchedFiles = refl
 ready_takes (Question q) = refl
 ready_takes Unknown = refl
 

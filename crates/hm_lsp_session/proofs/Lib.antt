@@ -1,6 +1,9 @@
 mod Going
 mod Holding
+mod Identifiers
+mod Listing
 mod Reading
 mod Taking
+mod WorkedCancels
 mod WorkedChanges
 mod WorkedDecisions

@@ -11,7 +11,7 @@ pub taken : (body text : List ℕ) (message : Data) (outcome : Outcome) → text
 taken body text message outcome same is takes = understood (ap read (sym same) ∙ is) takes
 
 -- a body is one message
-one_message : (found : Option Data) (a b : Data) → found ≡ Some a → found ≡ Some b → a ≡ b
+pub one_message : (found : Option Data) (a b : Data) → found ≡ Some a → found ≡ Some b → a ≡ b
 one_message found a b one two = cc
 
 pub left_of : (body text : List ℕ) (message : Data) (stage : Stage) (outcome : Outcome) → text ≡ body → read text ≡ Some message → IsLeft stage message outcome → IsLeftOf body stage outcome

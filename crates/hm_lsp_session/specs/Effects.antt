@@ -8,15 +8,15 @@ use Rattle.hm_lsp_positions.specs.Changes.{AreApplied, HasReversed}
 use Rattle.hm_lsp_positions.specs.declared.changes.Change.{Change}
 use Rattle.hm_lsp_positions.specs.declared.units.Encoding.{Encoding}
 use Rattle.hm_lsp_session.specs.Documents.{IsHeldNow, held_text}
-use Rattle.hm_lsp_session.specs.Params.{AreListedIn, string_at}
+use Rattle.hm_lsp_session.specs.Params.{AreListedIn, changed_files, string_at}
 use Rattle.hm_lsp_session.specs.Replies.{method_of}
 use Rattle.hm_lsp_session.specs.Stages.{method_named}
 use Rattle.hm_lsp_session.specs.declared.documents.Documents.{Documents}
 use Rattle.hm_lsp_session.specs.declared.session.Outcome.{Outcome}
-use Rattle.hm_lsp_session.specs.declared.session.Outcome.TheVariants.{Ask, Changed, Ended, Nothing, Reply}
+use Rattle.hm_lsp_session.specs.declared.session.Outcome.TheVariants.{Ask, Begun, Changed, Ended, Files, Nothing, Reply}
 use Rattle.hm_lsp_session.specs.declared.session.Session.{Session}
 use Rattle.hm_lsp_session.specs.declared.stages.Method.{Method}
-use Rattle.hm_lsp_session.specs.declared.stages.Method.TheVariants.{DidChange, DidClose, DidOpen, Exit, Initialize, Question, Shutdown, Unknown}
+use Rattle.hm_lsp_session.specs.declared.stages.Method.TheVariants.{DidChange, DidChangeWatchedFiles, DidClose, DidOpen, Exit, Initialize, Initialized, Question, Shutdown, Unknown}
 use Rattle.hm_lsp_session.specs.declared.stages.Stage.{Stage}
 use Rattle.hm_lsp_session.specs.declared.stages.Stage.TheVariants.{Ready}
 
@@ -61,7 +61,9 @@ abbrev pub HasEffect : Method → Data → Encoding → Documents → Documents 
 HasEffect DidOpen params encoding before after = IsOpened params before after
 HasEffect DidChange params encoding before after = IsChanged encoding params before after
 HasEffect DidClose params encoding before after = IsClosed params before after
+HasEffect DidChangeWatchedFiles params encoding before after = ⊥
 HasEffect Initialize params encoding before after = ⊥
+HasEffect Initialized params encoding before after = ⊥
 HasEffect Shutdown params encoding before after = ⊥
 HasEffect Exit params encoding before after = ⊥
 HasEffect (Question q) params encoding before after = ⊥
@@ -91,6 +93,8 @@ abbrev pub TextsAre : Outcome → Type 0 → Documents → Documents → Type 0
 TextsAre (Reply reply) effect before after = after ≡ before
 TextsAre (Ask question asked) effect before after = after ≡ before
 TextsAre Changed effect before after = effect
+TextsAre Begun effect before after = after ≡ before
+TextsAre (Files uris) effect before after = after ≡ before
 TextsAre Nothing effect before after = after ≡ before
 TextsAre (Ended status) effect before after = after ≡ before
 
@@ -120,7 +124,9 @@ abbrev pub IsIgnored : Method → Data → Encoding → Documents → Type 0
 IsIgnored DidOpen params encoding before = HasNoText params
 IsIgnored DidChange params encoding before = HasNoChange encoding params before
 IsIgnored DidClose params encoding before = HasNoDocument params before
+IsIgnored DidChangeWatchedFiles params encoding before = changed_files params ≡ None
 IsIgnored Initialize params encoding before = Unit {0}
+IsIgnored Initialized params encoding before = ⊥
 IsIgnored Shutdown params encoding before = Unit {0}
 IsIgnored Exit params encoding before = Unit {0}
 IsIgnored (Question q) params encoding before = Unit {0}
@@ -135,6 +141,8 @@ abbrev pub IsNothingOnlyFor : Type 0 → Outcome → Type 0
 IsNothingOnlyFor why (Reply reply) = Unit {0}
 IsNothingOnlyFor why (Ask question asked) = Unit {0}
 IsNothingOnlyFor why Changed = Unit {0}
+IsNothingOnlyFor why Begun = Unit {0}
+IsNothingOnlyFor why (Files uris) = Unit {0}
 IsNothingOnlyFor why Nothing = why
 IsNothingOnlyFor why (Ended status) = Unit {0}
 

@@ -1,5 +1,7 @@
+pub mod Cancelled
 pub mod Documents
 pub mod Effects
+pub mod Files
 pub mod Params
 pub mod Replies
 pub mod Stages

@@ -1,5 +1,5 @@
 -- The parameters of messages (Language Server Protocol 3.17, `Position`, `Range`, `TextDocumentContentChangeEvent`).
-use Rattle.std.specs.Prelude.{◌≡◌, ℕ, List, [], ◌∷◌, Option, None, Some, codes, min, option_and_then}
+use Rattle.std.specs.Prelude.{◌≡◌, ℕ, List, [], ◌∷◌, ◌++◌, Option, None, Some, codes, min, option_and_then, option_map, option_to_list}
 use Rattle.serde_json.specs.Data.{Data, Items, no_items, item}
 use Rattle.serde_json.specs.Find.{as_array, as_number, as_str, as_u64, get, pointer}
 use Rattle.hm_lsp_positions.specs.declared.changes.Change.{Change}
@@ -53,3 +53,12 @@ pub record AreListedIn (params : Data) (changes : List Change) : Type 0 where
   pub given : get (codes "contentChanges") params ≡ Some list
   pub listed : as_array list ≡ Some items
   pub read : AreChangesIn items changes
+
+-- the URIs of these, in order. One without a URI is left out
+abbrev pub uris_in : Items → List (List ℕ)
+uris_in no_items = []
+uris_in (item d ds) = option_to_list (string_at (codes "/uri") d) ++ uris_in ds
+
+-- the files that a `didChangeWatchedFiles` names, if it has a list of them
+abbrev pub changed_files : Data → Option (List (List ℕ))
+changed_files params = option_map uris_in (option_and_then as_array (get (codes "changes") params))

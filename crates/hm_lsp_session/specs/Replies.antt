@@ -7,7 +7,7 @@ use Rattle.serde_json.specs.Read.{read}
 use Rattle.serde_json.specs.View.{view}
 use Rattle.hm_lsp_session.specs.Stages.{method_named}
 use Rattle.hm_lsp_session.specs.declared.session.Outcome.{Outcome}
-use Rattle.hm_lsp_session.specs.declared.session.Outcome.TheVariants.{Ask, Changed, Ended, Nothing, Reply}
+use Rattle.hm_lsp_session.specs.declared.session.Outcome.TheVariants.{Ask, Begun, Changed, Ended, Files, Nothing, Reply}
 use Rattle.hm_lsp_session.specs.declared.stages.Method.TheVariants.{Question}
 use Rattle.hm_lsp_session.specs.declared.stages.Question.{Question as Asked}
 use Rattle.hm_lsp_session.specs.declared.stages.Stage.{Stage}
@@ -39,6 +39,8 @@ abbrev pub AnswersRequest : Data → Data → Outcome → Type 0
 AnswersRequest request id (Reply reply) = IsReplyTo id (view reply)
 AnswersRequest request id (Ask question asked) = view asked ≡ request
 AnswersRequest request id Changed = ⊥
+AnswersRequest request id Begun = ⊥
+AnswersRequest request id (Files uris) = ⊥
 AnswersRequest request id Nothing = ⊥
 AnswersRequest request id (Ended status) = ⊥
 
@@ -47,6 +49,8 @@ abbrev pub IsAsked : Asked → Data → Outcome → Type 0
 IsAsked question request (Reply reply) = ⊥
 IsAsked question request (Ask own asked) = (own ≡ question) × (view asked ≡ request)
 IsAsked question request Changed = ⊥
+IsAsked question request Begun = ⊥
+IsAsked question request (Files uris) = ⊥
 IsAsked question request Nothing = ⊥
 IsAsked question request (Ended status) = ⊥
 
@@ -60,6 +64,8 @@ abbrev pub TakesNotification : Outcome → Type 0
 TakesNotification (Reply reply) = ⊥
 TakesNotification (Ask question asked) = ⊥
 TakesNotification Changed = Unit {0}
+TakesNotification Begun = Unit {0}
+TakesNotification (Files uris) = Unit {0}
 TakesNotification Nothing = Unit {0}
 TakesNotification (Ended status) = Unit {0}
 
@@ -68,6 +74,8 @@ abbrev pub RefusesMessage : Outcome → Type 0
 RefusesMessage (Reply reply) = IsReplyTo null (view reply)
 RefusesMessage (Ask question asked) = ⊥
 RefusesMessage Changed = ⊥
+RefusesMessage Begun = ⊥
+RefusesMessage (Files uris) = ⊥
 RefusesMessage Nothing = ⊥
 RefusesMessage (Ended status) = ⊥
 
@@ -77,6 +85,8 @@ TakesOther None (Reply reply) = IsReplyTo null (view reply)
 TakesOther (Some id) (Reply reply) = IsReplyTo id (view reply)
 TakesOther id (Ask question asked) = ⊥
 TakesOther id Changed = ⊥
+TakesOther id Begun = ⊥
+TakesOther id (Files uris) = ⊥
 TakesOther id Nothing = Unit {0}
 TakesOther id (Ended status) = ⊥
 

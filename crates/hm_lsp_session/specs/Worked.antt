@@ -1,8 +1,9 @@
--- Worked examples: what a server does with a message, and the changes that a message has.
-use Rattle.std.specs.Prelude.{◌≡◌, [], ◌∷◌, None, codes}
-use Rattle.serde_json.specs.Data.{Data, item, member, no_items, no_members, object, string}
+-- Worked examples: what a server does with a message, the changes and the files that a message has, and the request that one cancels.
+use Rattle.std.specs.Prelude.{◌≡◌, [], ◌∷◌, None, Some, codes}
+use Rattle.serde_json.specs.Data.{Data, array, item, member, no_items, no_members, number, object, string, unsigned}
 use Rattle.hm_lsp_positions.specs.declared.changes.Change.{Change}
-use Rattle.hm_lsp_session.specs.Params.{AreChangesIn}
+use Rattle.hm_lsp_session.specs.Cancelled.{IsOfId, IsSameId}
+use Rattle.hm_lsp_session.specs.Params.{AreChangesIn, changed_files}
 use Rattle.hm_lsp_session.specs.Stages.{method_named, notification_decision, request_decision}
 use Rattle.hm_lsp_session.specs.declared.stages.Decision.TheVariants.{End, Go, Ignore, Refuse}
 use Rattle.hm_lsp_session.specs.declared.stages.Method.TheVariants.{DidOpen, Exit, Initialize, Question}
@@ -30,3 +31,22 @@ pub record ChangesRow : Type 0 where
   pub whole : (change : Change) → change.range ≡ None → change.text.items ≡ codes "x" → AreChangesIn (item whole_text no_items) (change ∷ [])
   pub not_other : (change : Change) → change.text.items ≡ codes "y" → ¬ (AreChangesIn (item whole_text no_items) (change ∷ []))
   pub not_missing : ¬ (AreChangesIn (item whole_text no_items) [])
+
+-- a list of two files, of which the second has no URI
+abbrev pub two_files : Data
+two_files = object (member (codes "changes") (array (item (object (member (codes "uri") (string (codes "b")) no_members)) (item (object no_members) no_items))) no_members)
+
+-- the file with a URI, and no others. Without a list there are none
+pub record FilesRow : Type 0 where
+  pub named : changed_files two_files ≡ Some (codes "b" ∷ [])
+  pub not_listed : ¬ (changed_files (object no_members) ≡ Some [])
+
+-- the message that cancels request 7
+abbrev pub cancel : Data
+cancel = object (member (codes "method") (string (codes "$/cancelRequest")) (member (codes "params") (object (member (codes "id") (number (unsigned 7)) no_members)) no_members))
+
+-- it is of this request, and of no other. A text isn't a number
+pub record CancelRow : Type 0 where
+  pub own : IsOfId (number (unsigned 7)) cancel
+  pub not_other : ¬ (IsOfId (number (unsigned 8)) cancel)
+  pub not_text : ¬ (IsSameId (number (unsigned 7)) (string (codes "7")))

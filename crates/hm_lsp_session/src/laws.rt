@@ -1,5 +1,5 @@
 //! Worked examples. Each is a function with an empty body, and its contract states the example.
-ghost use Rattle.hm_lsp_session.specs.Worked.{ChangesRow, DecisionsRow};
+ghost use Rattle.hm_lsp_session.specs.Worked.{CancelRow, ChangesRow, DecisionsRow, FilesRow};
 
 /// What a server does with a message.
 #[tactic(auto, using(crate::proofs::WorkedDecisions::worked_decisions))]
@@ -7,8 +7,15 @@ pub fn worked_decisions()
     ensures { DecisionsRow }
 {}
 
-/// The changes of a message.
-#[tactic(auto, using(crate::proofs::WorkedChanges::worked_changes))]
+/// The changes of a message, and the files that one names.
+#[tactic(auto, using(crate::proofs::WorkedChanges::worked_changes, crate::proofs::WorkedChanges::worked_files))]
 pub fn worked_changes()
-    ensures { ChangesRow }
+    ensures changes { ChangesRow }
+    ensures files { FilesRow }
+{}
+
+/// The request that a message cancels.
+#[tactic(auto, using(crate::proofs::WorkedCancels::worked_cancel))]
+pub fn worked_cancels()
+    ensures { CancelRow }
 {}

@@ -3,6 +3,7 @@
 //! [`Session::take`] takes the body of a message. It does no work on texts but holding them: requests about what they mean are left to a service.
 #![tactic(auto)]
 
+mod cancelling;
 mod documents;
 pub mod laws;
 mod params;
@@ -10,6 +11,7 @@ mod replies;
 mod session;
 mod stages;
 
+pub use crate::cancelling::Cancelled;
 pub use crate::documents::{Document, Documents};
 pub use crate::params::{position_in, range_in, text_at};
 pub use crate::replies::{notice, refusal, reply};

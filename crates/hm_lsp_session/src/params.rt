@@ -1,12 +1,12 @@
 //! Parameters of messages.
-ghost use Rattle.std.specs.Prelude.{◌≡◌, IfNone, IfOk, IfSome, List, Some, ℕ, option_map};
+ghost use Rattle.std.specs.Prelude.{◌≡◌, ◌++◌, IfNone, IfOk, IfSome, List, OnOk, Some, codes, map, string_bytes, ℕ, option_map, option_to_list};
 ghost use Rattle.serde_json.specs.Data.{Items};
 ghost use Rattle.serde_json.specs.Find.{as_array};
 ghost use Rattle.serde_json.specs.View.{view};
 ghost use Rattle.hm_lsp_positions.specs.declared.changes.Change.{Change};
 ghost use Rattle.hm_lsp_positions.specs.declared.changes.Range.{Range};
 ghost use Rattle.hm_lsp_positions.specs.declared.positions.Position.{Position};
-ghost use Rattle.hm_lsp_session.specs.Params.{AreChangesIn, IsChangeIn, IsNumberUnder, IsPositionIn, IsRangeIn, string_at};
+ghost use Rattle.hm_lsp_session.specs.Params.{AreChangesIn, changed_files, IsChangeIn, IsNumberUnder, IsPositionIn, IsRangeIn, string_at};
 
 use hm_lsp_positions::{Change, Position, Range};
 use serde_json::Value;
@@ -99,4 +99,45 @@ pub fn changes_in(alloc: Global, value: &Value) -> Result<Option<Vec<Change>>, A
         }
     }
     Ok(Some(changes))
+}
+
+/// Returns the URI of a file that is named (`FileEvent`).
+fn uri_in(alloc: Global, value: &Value) -> Result<Option<String>, AllocError>
+    ensures { IfOk result (λ found. option_map string_bytes found ≡ string_at (codes "/uri") (view value.now)) }
+{
+    match text_at(value, "/uri") {
+        None => Ok(None),
+        Some(uri) => Ok(Some(String::from_str(alloc, uri)?)),
+    }
+}
+
+/// Appends a URI, if there is one.
+fn add(uris: &mut Vec<String>, uri: Option<String>) -> Result<(), AllocError>
+    ensures { OnOk result (map string_bytes uris.new.items ≡ map string_bytes uris.old.items ++ option_to_list (option_map string_bytes uri)) }
+{
+    match uri {
+        None => Ok(()),
+        Some(uri) => {
+            uris.push(uri)?;
+            Ok(())
+        }
+    }
+}
+
+/// Returns the URIs of the files that a `didChangeWatchedFiles` names, or `None` if its parameters have no list of them.
+pub fn files_in(alloc: Global, params: &Value) -> Result<Option<Vec<String>>, AllocError>
+    ensures { IfOk result (λ found. option_map (λ uris. map string_bytes uris.items) found ≡ changed_files (view params.now)) }
+{
+    let Some(changes) = params.get("changes") else {
+        return Ok(None);
+    };
+    let Some(changes) = changes.as_array() else {
+        return Ok(None);
+    };
+    let mut uris = Vec::new(alloc);
+    'changes: for change in changes {
+        let uri = uri_in(alloc, change)?;
+        add(&mut uris, uri)?;
+    }
+    Ok(Some(uris))
 }

@@ -5,12 +5,14 @@ ghost use Rattle.serde_json.specs.Find.{get};
 ghost use Rattle.serde_json.specs.View.{view};
 ghost use Rattle.hm_lsp_session.specs.Documents.{listed, SameTexts};
 ghost use Rattle.hm_lsp_session.specs.Effects.{documents_of, encoding_of, HasBodyEffect, HasEffect, HasMessageEffect, HasNoChange, HasNoDocument, HasNoText, HasParamsEffect, IsAppliedTo, IsChanged, IsBodyHeard, IsClosed, IsHeard, IsIgnored, IsIgnoredIn, IsNotApplied, IsNothingOnlyFor, IsOpened, TextsAre};
+ghost use Rattle.hm_lsp_session.specs.Files.{AreFilesIn, AreFilesOf, AreFilesSaid, IfBegun, IfFiles, IsBegin, IsBody, watches_files};
+ghost use Rattle.hm_lsp_session.specs.Params.{changed_files};
 ghost use Rattle.hm_lsp_session.specs.Stages.{request_decision};
-ghost use Rattle.hm_lsp_session.specs.Steps.{stage_of, IsEdit, IsStep};
+ghost use Rattle.hm_lsp_session.specs.Steps.{stage_of, IsEdit, IsNews, IsStep};
 ghost use Rattle.hm_lsp_session.specs.Replies.{method_of, AnswersRequest, IsAsked, IsLeft, IsLeftOf, IsReplyTo, RefusesMessage, Takes, TakesBody, TakesNotification, TakesOther};
 
 use crate::documents::Documents;
-use crate::params::{changes_in, text_at};
+use crate::params::{changes_in, files_in, text_at};
 use crate::replies::{refusal, reply};
 use crate::stages::{
     Decision, Method, Question, Refusal, Stage, notification_decision, request_decision,
@@ -18,6 +20,9 @@ use crate::stages::{
 use hm_lsp_positions::{Change, ChangeFault, Encoding, all_changed};
 use serde_json::{Value, json};
 use std::alloc::{AllocError, Global};
+
+/// Where a client offers to watch files.
+const WATCHES: &str = "/capabilities/workspace/didChangeWatchedFiles/dynamicRegistration";
 
 /// What a message of the client leads to. No message has more than one reply.
 #[derive(Drop)]
@@ -28,6 +33,10 @@ pub enum Outcome {
     Ask(Question, Value),
     /// The texts changed.
     Changed,
+    /// The client takes requests of the server from now on.
+    Begun,
+    /// The files with these URIs may have changed on the disk.
+    Files(Vec<String>),
     /// Nothing.
     Nothing,
     /// The server ends with this exit status.
@@ -41,7 +50,17 @@ pub struct Session {
     alloc: Global,
     stage: Stage,
     encoding: Encoding,
+    /// Whether the client offers to watch files.
+    watches_files: bool,
     documents: Documents,
+}
+
+/// Returns whether the client offers what is at this path of the parameters of `initialize`.
+fn offers(params: &Value, path: &str) -> bool {
+    match params.pointer(path) {
+        Some(offer) => offer.as_bool() == Some(true),
+        None => false,
+    }
 }
 
 /// Returns the encoding of columns: UTF-8 if the client offers it, or else UTF-16, which each client has.
@@ -60,13 +79,23 @@ fn offered_encoding(params: &Value) -> Encoding {
     Encoding::Utf16
 }
 
+/// Returns how the server renames. A client that doesn't ask for the range of a name first doesn't know the longer form.
+fn rename_provider(alloc: Global, params: &Value) -> Result<Value, AllocError> {
+    if offers(params, "/capabilities/textDocument/rename/prepareSupport") {
+        return json!(in alloc; {"prepareProvider": true});
+    }
+    Ok(Value::Bool(true))
+}
+
 /// Returns the result of `initialize`: the capabilities of the server.
-fn capabilities(alloc: Global, encoding: Encoding) -> Result<Value, AllocError> {
+fn capabilities(alloc: Global, encoding: Encoding, params: &Value) -> Result<Value, AllocError> {
     let encoding = match encoding {
         Encoding::Utf8 => "utf-8",
         Encoding::Utf16 => "utf-16",
         Encoding::Utf32 => "utf-32",
     };
+    let renames = rename_provider(alloc, params)?;
+    let renames = &renames;
     let capabilities = json!(in alloc; {
         "codeActionProvider": true,
         "definitionProvider": true,
@@ -75,7 +104,7 @@ fn capabilities(alloc: Global, encoding: Encoding) -> Result<Value, AllocError> 
         "hoverProvider": true,
         "positionEncoding": encoding,
         "referencesProvider": true,
-        "renameProvider": true,
+        "renameProvider": renames,
         "textDocumentSync": {"change": 2, "openClose": true},
         "workspaceSymbolProvider": true
     })?;
@@ -83,7 +112,7 @@ fn capabilities(alloc: Global, encoding: Encoding) -> Result<Value, AllocError> 
 }
 
 /// Returns the name of the method of a message.
-fn method_of(message: &Value) -> Option<&str>
+pub(crate) fn method_of(message: &Value) -> Option<&str>
     ensures { option_map (λ name. name.now) result ≡ method_of (view message.now) }
 {
     match message.get("method") {
@@ -110,6 +139,7 @@ impl Session {
             alloc,
             stage: Stage::New,
             encoding: Encoding::Utf16,
+            watches_files: false,
             documents: Documents::new(alloc),
         }
     }
@@ -135,6 +165,13 @@ impl Session {
         self.encoding
     }
 
+    /// Returns whether the client offers to watch files, so that it says when one changes.
+    pub fn watches_files(&self) -> bool
+        ensures { result ≡ watches_files self.now }
+    {
+        self.watches_files
+    }
+
     /// Replies to `initialize`, after which the session is ready.
     fn initialize(&mut self, id: &Value, params: &Value) -> Result<Value, AllocError>
         ensures stage { IfOk result (λ made. self.new.stage ≡ Stage.Ready) }
@@ -142,8 +179,9 @@ impl Session {
         ensures kept { self.new.documents ≡ self.old.documents }
     {
         let encoding = offered_encoding(params);
-        let made = reply(self.alloc, id, capabilities(self.alloc, encoding)?)?;
+        let made = reply(self.alloc, id, capabilities(self.alloc, encoding, params)?)?;
         self.encoding = encoding;
+        self.watches_files = offers(params, WATCHES);
         self.stage = Stage::Ready;
         Ok(made)
     }
@@ -243,11 +281,14 @@ impl Session {
     }
 
     /// Acts on a notification.
-    fn edit(&mut self, method: Method, params: &Value) -> Result<Outcome, AllocError>
+    #[tactic(auto, using(crate::proofs::Going::edit_news, crate::proofs::Going::no_files, crate::proofs::Going::not_begun))]
+    fn act(&mut self, method: Method, params: &Value) -> Result<Outcome, AllocError>
         ensures silent { IfOk result (λ out. TakesNotification out) }
         ensures stage { self.new.stage ≡ self.old.stage }
-        ensures edits { IfOk result (λ out. IsEdit out) }
+        ensures news { IfOk result (λ out. IsNews out) }
         ensures texts { IfOk result (λ out. TextsAre out (HasEffect method (view params.now) self.old.encoding self.old.documents self.new.documents) self.old.documents self.new.documents) }
+        ensures begun { IfOk result (λ out. IfBegun out (method ≡ Method.Initialized)) }
+        ensures files { IfOk result (λ out. IfFiles out (AreFilesOf method (view params.now))) }
         ensures ignored { IfOk result (λ out. IsNothingOnlyFor (IsIgnored method (view params.now) self.old.encoding self.old.documents) out) }
         ensures err { OnErr result (SameTexts self.old.documents self.new.documents) }
     {
@@ -255,7 +296,16 @@ impl Session {
             Method::DidOpen => Ok(self.open(params)?),
             Method::DidChange => Ok(self.change(params)?),
             Method::DidClose => Ok(self.close(params)?),
-            _ => Ok(Outcome::Nothing),
+            Method::Initialized => Ok(Outcome::Begun),
+            Method::DidChangeWatchedFiles => match files_in(self.alloc, params)? {
+                Some(uris) => Ok(Outcome::Files(uris)),
+                None => Ok(Outcome::Nothing),
+            },
+            Method::Initialize
+            | Method::Shutdown
+            | Method::Exit
+            | Method::Question(_)
+            | Method::Unknown => Ok(Outcome::Nothing),
         }
     }
 }
@@ -319,6 +369,8 @@ impl Session {
         ensures silent { IfOk result (λ out. TakesNotification out) }
         ensures step { IfOk result (λ out. IsStep self.old.stage out self.new.stage) }
         ensures texts { IfOk result (λ out. TextsAre out (HasParamsEffect method (view message.now) self.old.encoding self.old.documents self.new.documents) self.old.documents self.new.documents) }
+        ensures begun { IfOk result (λ out. IfBegun out (method ≡ Method.Initialized)) }
+        ensures files { IfOk result (λ out. IfFiles out (AreFilesIn method (view message.now))) }
         ensures ignored { IfOk result (λ out. self.old.stage ≡ Stage.Ready → IsNothingOnlyFor (IsIgnoredIn method (view message.now) self.old.encoding self.old.documents) out) }
         ensures err { OnErr result (SameTexts self.old.documents self.new.documents) }
     {
@@ -327,7 +379,7 @@ impl Session {
             Decision::Ignore | Decision::Refuse(_) => Ok(Outcome::Nothing),
             Decision::Go => match message.get("params") {
                 None => Ok(Outcome::Nothing),
-                Some(params) => Ok(self.edit(method, params)?),
+                Some(params) => Ok(self.act(method, params)?),
             },
         }
     }
@@ -342,6 +394,7 @@ fn text_of(why: Refusal) -> &'static str {
         Refusal::InvalidParams => "these parameters aren't valid",
         Refusal::NotInitialized => "the server isn't initialized",
         Refusal::RequestFailed => "this request failed",
+        Refusal::RequestCancelled => "the client cancelled this request",
     }
 }
 
@@ -371,6 +424,8 @@ impl Session {
     fn take_message(&mut self, message: Value) -> Result<Outcome, AllocError>
         ensures step { IfOk result (λ out. IsStep self.old.stage out self.new.stage) }
         ensures texts { IfOk result (λ out. TextsAre out (HasMessageEffect (view message) self.old.encoding self.old.documents self.new.documents) self.old.documents self.new.documents) }
+        ensures begun { IfOk result (λ out. IfBegun out (IsBegin (view message))) }
+        ensures files { IfOk result (λ out. IfFiles out (AreFilesSaid (view message))) }
         ensures heard { IfOk result (λ out. IsHeard self.old.stage (view message) self.old.encoding self.old.documents out) }
         ensures err { OnErr result (SameTexts self.old.documents self.new.documents) }
         ensures left { IfOk result (λ out. IsLeft self.old.stage (view message) out) }
@@ -396,6 +451,8 @@ impl Session {
         ensures left { IfOk result (λ out. IsLeftOf body.now (stage_of self.old) out) }
         ensures step { IfOk result (λ out. IsStep (stage_of self.old) out (stage_of self.new)) }
         ensures texts { IfOk result (λ out. TextsAre out (HasBodyEffect body.now (encoding_of self.old) (documents_of self.old) (documents_of self.new)) (documents_of self.old) (documents_of self.new)) }
+        ensures begun { IfOk result (λ out. IfBegun out (IsBody body.now IsBegin)) }
+        ensures files { IfOk result (λ out. IfFiles out (λ uris. IsBody body.now (λ message. AreFilesSaid message uris))) }
         ensures heard { IfOk result (λ out. IsBodyHeard body.now (stage_of self.old) (encoding_of self.old) (documents_of self.old) out) }
         ensures err { OnErr result (SameTexts (documents_of self.old) (documents_of self.new)) }
     {

@@ -23,6 +23,7 @@ pub enum Question {
     DocumentSymbol,
     CodeAction,
     Rename,
+    PrepareRename,
     /// The only one about the whole folder.
     WorkspaceSymbol,
 }
@@ -31,11 +32,13 @@ pub enum Question {
 #[derive(Clone, Copy, Debug, PartialEq, Eq)]
 pub enum Method {
     Initialize,
+    Initialized,
     Shutdown,
     Exit,
     DidOpen,
     DidChange,
     DidClose,
+    DidChangeWatchedFiles,
     /// A request about what texts mean.
     Question(Question),
     /// All others.
@@ -52,6 +55,8 @@ pub enum Refusal {
     NotInitialized,
     /// The request is valid, but it has no result.
     RequestFailed,
+    /// The client cancelled the request.
+    RequestCancelled,
 }
 
 /// What a server does with a message.
@@ -79,6 +84,7 @@ impl Refusal {
             Refusal::InvalidParams => -32602,
             Refusal::NotInitialized => -32002,
             Refusal::RequestFailed => -32803,
+            Refusal::RequestCancelled => -32800,
         }
     }
 }
@@ -96,6 +102,7 @@ impl Question {
             "textDocument/documentSymbol" => Some(Question::DocumentSymbol),
             "textDocument/codeAction" => Some(Question::CodeAction),
             "textDocument/rename" => Some(Question::Rename),
+            "textDocument/prepareRename" => Some(Question::PrepareRename),
             "workspace/symbol" => Some(Question::WorkspaceSymbol),
             _ => None,
         }
@@ -109,11 +116,13 @@ impl Method {
     {
         match name {
             "initialize" => Method::Initialize,
+            "initialized" => Method::Initialized,
             "shutdown" => Method::Shutdown,
             "exit" => Method::Exit,
             "textDocument/didOpen" => Method::DidOpen,
             "textDocument/didChange" => Method::DidChange,
             "textDocument/didClose" => Method::DidClose,
+            "workspace/didChangeWatchedFiles" => Method::DidChangeWatchedFiles,
             _ => match Question::of(name) {
                 Some(question) => Method::Question(question),
                 None => Method::Unknown,
@@ -129,21 +138,25 @@ pub fn request_decision(stage: Stage, method: Method) -> Decision
     match stage {
         Stage::New => match method {
             Method::Initialize => Decision::Go,
-            Method::Shutdown
+            Method::Initialized
+            | Method::Shutdown
             | Method::Exit
             | Method::DidOpen
             | Method::DidChange
             | Method::DidClose
+            | Method::DidChangeWatchedFiles
             | Method::Question(_)
             | Method::Unknown => Decision::Refuse(Refusal::NotInitialized),
         },
         Stage::Ready => match method {
             Method::Initialize => Decision::Refuse(Refusal::InvalidRequest),
             Method::Shutdown | Method::Question(_) => Decision::Go,
-            Method::Exit
+            Method::Initialized
+            | Method::Exit
             | Method::DidOpen
             | Method::DidChange
             | Method::DidClose
+            | Method::DidChangeWatchedFiles
             | Method::Unknown => Decision::Refuse(Refusal::MethodNotFound),
         },
         Stage::ShutDown => Decision::Refuse(Refusal::InvalidRequest),
@@ -159,7 +172,11 @@ pub fn notification_decision(stage: Stage, method: Method) -> Decision
             Stage::ShutDown => Decision::End(0),
             Stage::New | Stage::Ready => Decision::End(1),
         },
-        Method::DidOpen | Method::DidChange | Method::DidClose => match stage {
+        Method::Initialized
+        | Method::DidOpen
+        | Method::DidChange
+        | Method::DidClose
+        | Method::DidChangeWatchedFiles => match stage {
             Stage::Ready => Decision::Go,
             Stage::New | Stage::ShutDown => Decision::Ignore,
         },
