@@ -1,8 +1,8 @@
 //! Messages of one session, in order, and what each leads to.
-use hm_lsp_session::{Outcome, Session};
+use hm_lsp_session::{Cancelled, Outcome, Session};
 use std::alloc::{AllocError, Global};
 
-/// A reply without an error, a request for the service, a change, nothing, and an end with status 0.
+/// A reply without an error, a request for the service, a change, nothing, the beginning, and an end with status 0.
 const REPLY: i64 = 0;
 
 const ASK: i64 = 1;
@@ -11,7 +11,12 @@ const CHANGED: i64 = 2;
 
 const NOTHING: i64 = 3;
 
+const BEGUN: i64 = 4;
+
 const ENDED: i64 = 10;
+
+/// Files are named: this number and how many.
+const FILES: i64 = 20;
 
 /// A body, and what it leads to: one of these numbers, or the code of an error.
 struct Row {
@@ -20,7 +25,7 @@ struct Row {
 }
 
 // The codes are those of JSON-RPC 2.0, section 5.1, and of the Language Server Protocol 3.17, "Error Codes".
-const ROWS: [Row; 24] = [
+const ROWS: [Row; 30] = [
     Row {
         body: "{{{",
         wanted: -32700,
@@ -46,6 +51,10 @@ const ROWS: [Row; 24] = [
         wanted: NOTHING,
     },
     Row {
+        body: "{\"method\":\"workspace/didChangeWatchedFiles\",\"params\":{\"changes\":[{\"uri\":\"b\",\"type\":1}]}}",
+        wanted: NOTHING,
+    },
+    Row {
         body: "{\"id\":\"i\",\"method\":\"initialize\",\"params\":{\"capabilities\":{}}}",
         wanted: REPLY,
     },
@@ -55,7 +64,7 @@ const ROWS: [Row; 24] = [
     },
     Row {
         body: "{\"method\":\"initialized\",\"params\":{}}",
-        wanted: NOTHING,
+        wanted: BEGUN,
     },
     Row {
         body: "{\"id\":5,\"method\":\"textDocument/foo\"}",
@@ -98,6 +107,22 @@ const ROWS: [Row; 24] = [
         wanted: ASK,
     },
     Row {
+        body: "{\"id\":12,\"method\":\"textDocument/prepareRename\"}",
+        wanted: ASK,
+    },
+    Row {
+        body: "{\"method\":\"workspace/didChangeWatchedFiles\",\"params\":{\"changes\":[{\"uri\":\"b\",\"type\":1},{\"type\":2},{\"uri\":\"c\",\"type\":3}]}}",
+        wanted: FILES + 2,
+    },
+    Row {
+        body: "{\"method\":\"workspace/didChangeWatchedFiles\",\"params\":{}}",
+        wanted: NOTHING,
+    },
+    Row {
+        body: "{\"id\":13,\"method\":\"workspace/didChangeWatchedFiles\",\"params\":{\"changes\":[]}}",
+        wanted: -32601,
+    },
+    Row {
         body: "{\"id\":9,\"method\":\"textDocument/didClose\",\"params\":{\"textDocument\":{\"uri\":\"a\"}}}",
         wanted: -32601,
     },
@@ -111,6 +136,10 @@ const ROWS: [Row; 24] = [
     },
     Row {
         body: "{\"method\":\"textDocument/didClose\",\"params\":{\"textDocument\":{\"uri\":\"a\"}}}",
+        wanted: NOTHING,
+    },
+    Row {
+        body: "{\"method\":\"workspace/didChangeWatchedFiles\",\"params\":{\"changes\":[]}}",
         wanted: NOTHING,
     },
     Row {
@@ -131,6 +160,8 @@ fn number_of(outcome: &Outcome) -> i64 {
         },
         Outcome::Ask(_, _) => ASK,
         Outcome::Changed => CHANGED,
+        Outcome::Begun => BEGUN,
+        Outcome::Files(uris) => FILES + uris.len() as i64,
         Outcome::Nothing => NOTHING,
         Outcome::Ended(status) => ENDED + *status as i64,
     }
@@ -156,6 +187,26 @@ fn all_as_wanted(alloc: Global) -> Result<bool, AllocError> {
 #[test]
 fn messages_in_order(rt: HostRuntime) {
     match all_as_wanted(rt.alloc()) {
+        Ok(good) => assert!(rt; good),
+        Err(AllocError) => {}
+    }
+}
+
+/// Returns whether the one request that is cancelled has a reply, and others have none.
+fn is_one_cancelled(alloc: Global) -> Result<bool, AllocError> {
+    let mut cancelled = Cancelled::new(alloc);
+    cancelled.note(b"{\"method\":\"$/cancelRequest\",\"params\":{\"id\":7}}")?;
+    cancelled.note(b"{\"id\":8,\"method\":\"textDocument/hover\"}")?;
+    let own = cancelled.reply(b"{\"id\":7,\"method\":\"textDocument/hover\"}")?;
+    let other = cancelled.reply(b"{\"id\":8,\"method\":\"textDocument/hover\"}")?;
+    let text = cancelled.reply(b"{\"id\":\"7\",\"method\":\"textDocument/hover\"}")?;
+    let end = cancelled.reply(b"{\"id\":7,\"method\":\"shutdown\"}")?;
+    Ok(own.is_some() && other.is_none() && text.is_none() && end.is_none())
+}
+
+#[test]
+fn cancelled_requests(rt: HostRuntime) {
+    match is_one_cancelled(rt.alloc()) {
         Ok(good) => assert!(rt; good),
         Err(AllocError) => {}
     }
