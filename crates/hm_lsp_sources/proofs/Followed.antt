@@ -133,11 +133,15 @@ first_held : (held : List HeldSource) (n : ℕ) → n < length held → HeldSour
 first_held [] n low = absurd (omega (arith, low))
 first_held (h ∷ hs) n low = h
 
+-- sources that follow documents have the names of their URIs
+pub named_of : (ds : List Document) (sources : List Source) (held : List HeldSource) → AreFollowing ds sources held → AreNamed sources held
+named_of ds sources held own = record { as_many = own.as_many; each = λ n s low. (own.each n s (first_held held n (subst (λ k. n < k) (sym own.as_many) low)) low).named }
+
 -- all sources follow the documents
 pub all_follow : (ds : List Document) (added others : Bool) (before between after : Sources) → IsGrown (All (HasSource (named_in between)) ds) added before between → IsFollowedBelow ds (length (named_in between)) others between after
-    → (earlier : List Document) → AreFollowing earlier (named_in before) (held_in before) → AreFollowing ds (named_in after) (held_in after)
-all_follow ds added others before between after one two earlier own =
-    let named : AreNamed (named_in between) (held_in between) = one.named (record { as_many = own.as_many; each = λ n s low. (own.each n s (first_held (held_in before) n (subst (λ k. n < k) (sym own.as_many) low)) low).named }) in
+    → AreNamed (named_in before) (held_in before) → AreFollowing ds (named_in after) (held_in after)
+all_follow ds added others before between after one two own =
+    let named : AreNamed (named_in between) (held_in between) = one.named own in
     let same : length (named_in after) ≡ length (named_in between) = same_length (named_in between) (named_in after) two.names in
     record {
       as_many = two.as_many ∙ named.as_many ∙ sym same;

@@ -57,7 +57,7 @@ many_pushed uri file before after p same =
 abbrev IsNamed : Source → Type 0
 IsNamed s = s.name.items ≡ percent_decode (string_bytes s.uri)
 
-named_pushed : (uri file : List ℕ) (before after : Sources) → IsPushed uri file before after → AreNamed (named_in before) (held_in before) → AreNamed (named_in after) (held_in after)
+pub named_pushed : (uri file : List ℕ) (before after : Sources) → IsPushed uri file before after → AreNamed (named_in before) (held_in before) → AreNamed (named_in after) (held_in after)
 named_pushed uri file before after p own = record {
   as_many = many_pushed uri file before after p own.as_many;
   each = λ n d low. subst (λ l. IsNamed (get_or l n d)) (sym p.named)

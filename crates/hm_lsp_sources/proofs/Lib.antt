@@ -3,3 +3,4 @@ mod Grown
 mod Followed
 mod Schemes
 mod WorkedNames
+mod Placed

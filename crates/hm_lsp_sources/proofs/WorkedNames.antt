@@ -1,14 +1,15 @@
 -- Worked examples of sources.
-use Rattle.std.proofs.Common.{◌≡◌, ◌&&◌, ℕ, Option, Vec, is_some, string_bytes, true, false, not, [], ◌∷◌, None, Some, codes, refl, sym, ap, ◌∙◌, arith}
+use Rattle.std.proofs.Common.{◌≡◌, ◌&&◌, ℕ, List, length, Option, Vec, is_some, string_bytes, true, false, not, [], ◌∷◌, None, Some, codes, refl, sym, ap, ◌∙◌, arith}
 use Rattle.std.proofs.lemmas.Bool.{and_from, and_parts, cond-false, cond-true, false_from_ne_true, false≢true}
 use Rattle.std.specs.Str.{bytes_eq}
 use Rattle.std.specs.declared.alloc.Global.{Global}
 use Rattle.percent_encoding.specs.Percent.{percent_decode}
 use Rattle.hm_lsp_session.specs.declared.documents.Document.{Document}
+use Rattle.hm_lsp_sources.specs.Files.{IsFileIn, absent, added, known}
 use Rattle.hm_lsp_sources.specs.Following.{is_open_as}
 use Rattle.std.proofs.lemmas.Slice.Eq.{bytes_eq-Decides}
 use Rattle.hm_lsp_sources.specs.Names.{IsNumberOf, is_other}
-use Rattle.hm_lsp_sources.specs.Worked.{NumbersRow, TextsRow}
+use Rattle.hm_lsp_sources.specs.Worked.{FilesRow, NumbersRow, TextsRow}
 use Rattle.hm_lsp_sources.specs.declared.source.Source.{Source}
 
 same_name : (s : Source) → s.name.items ≡ codes "file:///a.hs" → is_other (codes "file:///a.hs") s ≡ false
@@ -45,3 +46,17 @@ worked_texts = record {
   escaped = λ d is apart. cond-true _ _ _ (shown d is apart);
   not_other = λ d is e. nothing d (sym (cond-false _ _ _ (hidden d is)) ∙ e);
 }
+
+one_none : (ss : List Source) (s : Source) → s ∷ ss ≡ [] → ⊥
+one_none ss s e = let z : length (s ∷ ss) ≡ 0 = ap (λ (l : List Source). length l) e in omega (arith, z)
+
+not_added : (s : Source) → IsFileIn (codes "file:///a.hs") None [] (s ∷ []) → ⊥
+not_added s (known {n = n} at names files) = absurd (omega (arith, at.0))
+not_added s (added {text = text} at is names files) = absurd (nothing_some text is)
+  where
+    nothing_some : (text : List ℕ) → None ≡ Some text → ⊥
+    nothing_some text e = cc
+not_added s (absent at is same) = one_none [] s same
+
+pub worked_files : FilesRow
+worked_files = record { new = λ s name file. added refl refl (ap (λ (x : List ℕ). x ∷ []) name) (ap (λ (x : List ℕ). x ∷ []) file); not_missing = not_added }

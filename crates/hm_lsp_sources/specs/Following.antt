@@ -38,6 +38,9 @@ IsFollowingIn documents s h = IsFollowing (last_open documents s.name.items) s h
 abbrev pub names_in : List Source → List (List ℕ)
 names_in sources = map (λ s. s.name.items) sources
 
+abbrev pub uris_in : List Source → List (List ℕ)
+uris_in sources = map (λ s. string_bytes s.uri) sources
+
 abbrev pub files_in : List Source → List (List ℕ)
 files_in sources = map (λ s. s.file.items) sources
 

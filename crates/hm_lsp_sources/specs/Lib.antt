@@ -1,4 +1,5 @@
 pub mod Names
+pub mod Files
 pub mod Following
 pub mod Held
 pub mod Steps

@@ -1,8 +1,9 @@
 -- The steps by which sources follow documents. No public clause names these.
-use Rattle.std.specs.Prelude.{◌≡◌, ◌≢◌, ◌<◌, ◌≤◌, ◌++◌, ℕ, Bool, false, List, [], ◌∷◌, None, Option, Some, get_or, length, string_bytes}
+use Rattle.std.specs.Prelude.{◌≡◌, ◌≢◌, ◌<◌, ◌≤◌, ◌++◌, ℕ, Bool, false, List, [], ◌∷◌, None, Option, Some, get_or, length, set, string_bytes}
 use Rattle.percent_encoding.specs.Percent.{percent_decode}
 use Rattle.hm_lsp_session.specs.declared.documents.Document.{Document}
-use Rattle.hm_lsp_sources.specs.Following.{AreKept, IsFollowing, IsFollowingIn, files_in, names_in}
+use Rattle.hm_lsp_sources.specs.Files.{IsFileIn}
+use Rattle.hm_lsp_sources.specs.Following.{AreKept, IsFollowing, IsFollowingIn, files_in, names_in, uris_in}
 use Rattle.hm_lsp_sources.specs.Held.{held_in, named_in}
 use Rattle.hm_lsp_sources.specs.declared.following.Sources.{Sources}
 use Rattle.hm_lsp_sources.specs.declared.source.Source.{Source}
@@ -62,3 +63,22 @@ pub record IsFollowedBelow (documents : List Document) (n : ℕ) (is_other : Boo
   pub above_named : (k : ℕ) (s : Source) → n ≤ k → get_or (named_in after) k s ≡ get_or (named_in before) k s
   pub above_held : (k : ℕ) (h : HeldSource) → n ≤ k → get_or (held_in after) k h ≡ get_or (held_in before) k h
   pub same : is_other ≡ false → IsAsBefore before after
+
+-- the source with number n has this file, and nothing else has changed
+pub record IsFileSet (n : ℕ) (file : List ℕ) (before after : Sources) : Type 0 where
+  pub s : Source
+  pub t : Source
+  pub at : s ≡ get_or (named_in before) n s
+  pub named : named_in after ≡ set (named_in before) n t
+  pub held : held_in after ≡ held_in before
+  pub name_is : t.name ≡ s.name
+  pub uri_is : t.uri ≡ s.uri
+  pub file_is : t.file.items ≡ file
+
+-- a file is read, before the sources follow documents
+pub record IsFilePlaced (name : List ℕ) (file : Option (List ℕ)) (is_added : Bool) (before after : Sources) : Type 0 where
+  pub is : IsFileIn name file (named_in before) (named_in after)
+  pub named : AreNamed (named_in before) (held_in before) → AreNamed (named_in after) (held_in after)
+  pub held : is_added ≡ false → held_in after ≡ held_in before
+  pub uris : is_added ≡ false → uris_in (named_in after) ≡ uris_in (named_in before)
+  pub names : is_added ≡ false → names_in (named_in after) ≡ names_in (named_in before)

@@ -1,9 +1,10 @@
 //! Sources that follow the documents of a client.
-ghost use Rattle.std.specs.Prelude.{◌≡◌, ◌++◌, ◌∷◌, [], false, All, IfOk, IfSome, List, None, OnOk, length, option_map, string_bytes};
+ghost use Rattle.std.specs.Prelude.{◌≡◌, ◌<◌, ◌++◌, ◌∷◌, [], false, All, IfOk, IfSome, List, None, OnOk, length, option_map, string_bytes};
 ghost use Rattle.percent_encoding.specs.Percent.{percent_decode};
-ghost use Rattle.hm_lsp_sources.specs.Following.{AreFollowing, AreKept, HasSource, HasText, files_in, last_open, names_in};
+ghost use Rattle.hm_lsp_sources.specs.Files.{IsFileRead, text_in};
+ghost use Rattle.hm_lsp_sources.specs.Following.{AreFollowing, AreKept, HasSource, HasText, files_in, last_open, names_in, uris_in};
 ghost use Rattle.hm_lsp_sources.specs.Held.{held_in, named_in};
-ghost use Rattle.hm_lsp_sources.specs.Steps.{IsFollowedAt, IsFollowedBelow, IsGrown, IsPushed};
+ghost use Rattle.hm_lsp_sources.specs.Steps.{AreNamed, IsFilePlaced, IsFileSet, IsFollowedAt, IsFollowedBelow, IsGrown, IsPushed};
 
 use crate::documents::{last_open, names_of};
 use crate::source::{Source, name_of, number_of};
@@ -86,6 +87,16 @@ fn held_with<T: Threads>(rt: &T, alloc: Global, text: &[u8]) -> Result<HeldSourc
     match change(rt, alloc, &mut held, text) {
         Ok(()) => Ok(held),
         Err(_) => Err(AllocError),
+    }
+}
+
+/// Returns the text of a file. One that isn't there has an empty text.
+fn file_text(alloc: Global, file: Option<Vec<u8>>) -> Vec<u8>
+    ensures { result.items ≡ text_in (option_map (λ t. t.items) file) }
+{
+    match file {
+        Some(text) => text,
+        None => Vec::new(alloc),
     }
 }
 
@@ -208,6 +219,22 @@ impl Sources {
         Ok(is_other)
     }
 
+    /// Lets the sources follow these documents, and adds those that are missing. Returns whether something is another.
+    fn follow_named<T: Threads>(
+        &mut self,
+        rt: &T,
+        documents: &[Document],
+    ) -> Result<bool, AllocError>
+        ensures following { OnOk result (AreNamed (named_in self.old) (held_in self.old) → AreFollowing documents.now (named_in self.new) (held_in self.new)) }
+        ensures kept { OnOk result (AreKept (named_in self.old) (named_in self.new)) }
+        ensures named { IfOk result (λ is_other. is_other ≡ false → named_in self.new ≡ named_in self.old) }
+        ensures held { IfOk result (λ is_other. is_other ≡ false → held_in self.new ≡ held_in self.old) }
+    {
+        let is_added = self.add_all(rt, documents)?;
+        let is_other = self.follow_all(rt, documents)?;
+        Ok(is_added || is_other)
+    }
+
     /// Gives the sources the texts of these documents, and adds those that are missing. Returns whether a text or a URI is another, or a source was
     /// added.
     ///
@@ -221,8 +248,65 @@ impl Sources {
         ensures named { IfOk result (λ is_other. is_other ≡ false → named_in self.new ≡ named_in self.old) }
         ensures held { IfOk result (λ is_other. is_other ≡ false → held_in self.new ≡ held_in self.old) }
     {
-        let is_added = self.add_all(rt, documents)?;
-        let is_other = self.follow_all(rt, documents)?;
+        Ok(self.follow_named(rt, documents)?)
+    }
+
+    /// Gives a source the text of its file.
+    fn set_file(&mut self, number: usize, file: Vec<u8>)
+        requires { number < length (named_in self.old) }
+        ensures { IsFileSet number file.items self.old self.new }
+    {
+        self.named[number].file = file;
+    }
+
+    /// Gives the source with this URI the text of its file, or adds one. Returns whether one was added.
+    fn place_file<T: Threads>(
+        &mut self,
+        rt: &T,
+        uri: &str,
+        file: Option<Vec<u8>>,
+    ) -> Result<bool, AllocError>
+        ensures { IfOk result (λ is_added. IsFilePlaced (percent_decode uri.now) (option_map (λ t. t.items) file) is_added self.old self.new) }
+    {
+        let name = name_of(self.alloc, uri)?;
+        match number_of(self.named.as_slice(), name.as_slice()) {
+            Some(number) => {
+                self.set_file(number, file_text(self.alloc, file));
+                Ok(false)
+            }
+            None => match file {
+                None => Ok(false),
+                Some(text) => {
+                    let uri = String::from_str(self.alloc, uri)?;
+                    self.push(rt, uri, text)?;
+                    Ok(true)
+                }
+            },
+        }
+    }
+
+    /// Takes the text that the file with this URI has on the disk now, or that it isn't there, and lets the sources follow these documents. Returns
+    /// whether a text or a URI is another, or a source was added.
+    ///
+    /// # Errors
+    ///
+    /// If memory ran out or no thread could start. Some sources may follow the documents then and others not.
+    pub fn read_file<T: Threads>(
+        &mut self,
+        rt: &T,
+        documents: &[Document],
+        uri: &str,
+        file: Option<Vec<u8>>,
+    ) -> Result<bool, AllocError>
+        ensures following { OnOk result ((before : List Document) → AreFollowing before (named_in self.old) (held_in self.old)
+            → AreFollowing documents.now (named_in self.new) (held_in self.new)) }
+        ensures read { OnOk result (IsFileRead (percent_decode uri.now) (option_map (λ t. t.items) file) (named_in self.old) (named_in self.new)) }
+        ensures names { IfOk result (λ is_other. is_other ≡ false → names_in (named_in self.new) ≡ names_in (named_in self.old)) }
+        ensures uris { IfOk result (λ is_other. is_other ≡ false → uris_in (named_in self.new) ≡ uris_in (named_in self.old)) }
+        ensures held { IfOk result (λ is_other. is_other ≡ false → held_in self.new ≡ held_in self.old) }
+    {
+        let is_added = self.place_file(rt, uri, file)?;
+        let is_other = self.follow_named(rt, documents)?;
         Ok(is_added || is_other)
     }
 }

@@ -1,10 +1,6 @@
-use Rattle.hm_lsp_sources.proofs.Followed.{all_follow}
+use Rattle.hm_lsp_sources.specs.Held.{held_in, named_in}
+use Rattle.hm_lsp_sources.proofs.Followed.{named_of}
 use Rattle.hm_lsp_sources.proofs.following.Sources.follow.Goals as goal
 
-pub returns-then-is_added-clause-following : goal.returns-then-is_added-clause-following
-returns-then-is_added-clause-following g c =
-    all_follow c.args.documents.now c.in_ok-is_added.is_added c.in_ok-is_other.is_other c.args.self.now c.add_all.new.self c.follow_all.new.self c.in_ok-is_added.ensures c.in_ok-is_other.ensures
-
-pub returns-else-is_added-clause-following : goal.returns-else-is_added-clause-following
-returns-else-is_added-clause-following g c =
-    all_follow c.args.documents.now c.in_ok-is_added.is_added c.in_ok-is_other.is_other c.args.self.now c.add_all.new.self c.follow_all.new.self c.in_ok-is_added.ensures c.in_ok-is_other.ensures
+pub returns-clause-following : goal.returns-clause-following
+returns-clause-following g c before own = c.in_ok-follow_named.ensures.following (named_of before (named_in c.args.self.now) (held_in c.args.self.now) own)
