@@ -1,5 +1,5 @@
 -- Spans that a cursor finds.
-use Rattle.std.proofs.Common.{◌≡◌, ℕ, ◌+◌, ◌-◌, List, length, min, ap, subst, sym, ◌∙◌}
+use Rattle.std.proofs.Common.{◌≡◌, ℕ, ◌+◌, ◌-◌, List, length, min, ap, subst, ◌∙◌}
 use Rattle.hm_lsp_positions.specs.Cursors.{Walk}
 use Rattle.hm_lsp_positions.specs.Positions.{IsOffsetOf, IsPositionOf}
 use Rattle.hm_lsp_positions.specs.declared.positions.Position.{Position}

@@ -6,8 +6,8 @@ use Rattle.hm_lsp_positions.specs.Positions.{IsColumn, IsOffsetOf, IsPositionOf}
 use Rattle.hm_lsp_positions.specs.Units.{units}
 use Rattle.hm_lsp_positions.specs.declared.units.Encoding.TheVariants.{Utf8, Utf16}
 use Rattle.hm_lsp_values.specs.References.{kind_of}
-use Rattle.serde_json.specs.Data.{Data, member, object, string}
-use Rattle.hm_lsp_values.specs.Renames.{IsReplacement, replacement_data}
+use Rattle.serde_json.specs.Data.{Data, Members, member, null, object, string}
+use Rattle.hm_lsp_values.specs.Renames.{IsReplacement, IsTargetValue, replacement_data, target_data}
 use Rattle.hm_lsp_values.specs.Spans.{IsSpan}
 use Rattle.hm_lsp_values.specs.Worked.{RenamesRow, SpanRow}
 use Rattle.hm_uses_references.specs.declared.finding.Reference.{Reference}
@@ -39,15 +39,20 @@ three r is e = omega (arith, cond-false {A = ℕ} _ 3 2 is, e)
 pub worked_spans : SpanRow
 worked_spans = record { second = second; bound = λ r is. cond-true _ _ _ is; not_bound = three }
 
+span_of : (r : Reference) → r.line ≡ 1 → r.column ≡ 5 → r.length ≡ 1 → IsSpan Utf16 (codes "f = f") r.line r.column r.length (record { line = 0; column = 4 }) (record { line = 0; column = 5 })
+span_of r line column size =
+    subst (λ n. IsSpan Utf16 (codes "f = f") n r.column r.length (record { line = 0; column = 4 }) (record { line = 0; column = 5 })) (sym line)
+    (subst (λ n. IsSpan Utf16 (codes "f = f") 1 n r.length (record { line = 0; column = 4 }) (record { line = 0; column = 5 })) (sym column)
+    (subst (λ n. IsSpan Utf16 (codes "f = f") 1 5 n (record { line = 0; column = 4 }) (record { line = 0; column = 5 })) (sym size) second))
+
 replaced : (r : Reference) → r.line ≡ 1 → r.column ≡ 5 → r.length ≡ 1 → IsReplacement Utf16 (codes "f = f") (codes "g") r (replacement_data (codes "g") (record { line = 0; column = 4 }) (record { line = 0; column = 5 }))
-replaced r line column size = record {
-  start = record { line = 0; column = 4 };
-  end = record { line = 0; column = 5 };
-  span = subst (λ n. IsSpan Utf16 (codes "f = f") n r.column r.length (record { line = 0; column = 4 }) (record { line = 0; column = 5 })) (sym line)
-      (subst (λ n. IsSpan Utf16 (codes "f = f") 1 n r.length (record { line = 0; column = 4 }) (record { line = 0; column = 5 })) (sym column)
-      (subst (λ n. IsSpan Utf16 (codes "f = f") 1 5 n (record { line = 0; column = 4 }) (record { line = 0; column = 5 })) (sym size) second));
-  whole = refl;
-}
+replaced r line column size = record { start = record { line = 0; column = 4 }; end = record { line = 0; column = 5 }; span = span_of r line column size; whole = refl }
+
+own_name : (r : Reference) → r.line ≡ 1 → r.column ≡ 5 → r.length ≡ 1 → IsTargetValue Utf16 (codes "f = f") (codes "f") r (target_data (codes "f") (record { line = 0; column = 4 }) (record { line = 0; column = 5 }))
+own_name r line column size = record { start = record { line = 0; column = 4 }; end = record { line = 0; column = 5 }; span = span_of r line column size; whole = refl }
+
+no_object : (ms : Members) → null ≡ object ms → ⊥
+no_object ms e = cc
 
 first_letter : List ℕ → ℕ
 first_letter [] = 0
@@ -62,4 +67,4 @@ apart x y a b e = omega (arith, a, b, e)
 
 pub worked_renames : RenamesRow
 unfolding first_letter letter_of
-worked_renames = record { second = replaced; not_other = λ e. apart _ _ refl refl (ap letter_of e); whole = refl }
+worked_renames = record { second = replaced; not_other = λ e. apart _ _ refl refl (ap letter_of e); whole = refl; target = own_name; not_target = λ r h. no_object _ h.whole }

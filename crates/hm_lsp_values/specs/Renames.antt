@@ -1,4 +1,4 @@
--- The edits of a rename (Language Server Protocol 3.17, "Rename Request", "TextEdit", "TextDocumentEdit", "WorkspaceEdit").
+-- The edits of a rename, and the name that it is of (Language Server Protocol 3.17, "Rename Request", "Prepare Rename Request", "TextEdit", "TextDocumentEdit", "WorkspaceEdit").
 use Rattle.std.specs.Prelude.{◌≡◌, List, ℕ, codes}
 use Rattle.serde_json.specs.Data.{Data, array, member, no_members, null, object, string}
 use Rattle.serde_json.specs.View.{items_of}
@@ -25,3 +25,13 @@ document_edit_data uri edits = object (member (codes "edits") (array (items_of e
 -- the edits of documents
 abbrev pub workspace_edit_data : List Data → Data
 workspace_edit_data documents = object (member (codes "documentChanges") (array (items_of documents)) no_members)
+
+abbrev pub target_data : List ℕ → Position → Position → Data
+target_data name start end = object (member (codes "placeholder") (string name) (member (codes "range") (span_data start end) no_members))
+
+-- a name, with where it is written in a text
+pub record IsTargetValue (encoding : Encoding) (text name : List ℕ) (r : Reference) (value : Data) : Type 0 where
+  pub start : Position
+  pub end : Position
+  pub span : IsSpan encoding text r.line r.column r.length start end
+  pub whole : value ≡ target_data name start end

@@ -8,7 +8,7 @@ use Rattle.hm_lsp_values.specs.Diagnostics.{severity_of, text_with}
 use Rattle.hm_lsp_values.specs.Names.{IsShown}
 use Rattle.hm_lsp_values.specs.Places.{position_of_place}
 use Rattle.hm_lsp_values.specs.References.{kind_of}
-use Rattle.hm_lsp_values.specs.Renames.{IsReplacement, document_edit_data, replacement_data, workspace_edit_data}
+use Rattle.hm_lsp_values.specs.Renames.{IsReplacement, IsTargetValue, document_edit_data, replacement_data, target_data, workspace_edit_data}
 use Rattle.hm_lsp_values.specs.Spans.{IsSpan}
 use Rattle.hm_lsp_values.specs.Symbols.{symbol_data, symbol_kind}
 use Rattle.hm_names.specs.Worked.{at}
@@ -44,10 +44,12 @@ pub record SymbolsRow : Type 0 where
       ≡ object (member (codes "kind") (number (unsigned 12)) (member (codes "name") (string (codes "f")) (member (codes "range") null (member (codes "selectionRange") null no_members))))
   pub not_alike : ¬ (symbol_kind DataType ≡ symbol_kind Constructor)
 
--- the second name in `f = f` gets the name `g`, and only that one. All edits of a document are in one value
+-- the second name in `f = f` gets the name `g`, and only that one. All edits of a document are in one value. A rename there is of `f`, and of nothing else
 pub record RenamesRow : Type 0 where
   pub second : (r : Reference) → r.line ≡ 1 → r.column ≡ 5 → r.length ≡ 1 → IsReplacement Utf16 (codes "f = f") (codes "g") r (replacement_data (codes "g") (record { line = 0; column = 4 }) (record { line = 0; column = 5 }))
   pub not_other : ¬ (replacement_data (codes "g") (record { line = 0; column = 4 }) (record { line = 0; column = 5 }) ≡ replacement_data (codes "h") (record { line = 0; column = 4 }) (record { line = 0; column = 5 }))
   pub whole : workspace_edit_data (document_edit_data (codes "u") (null ∷ []) ∷ [])
       ≡ object (member (codes "documentChanges") (array (item (object (member (codes "edits") (array (item null no_items))
       (member (codes "textDocument") (object (member (codes "uri") (string (codes "u")) (member (codes "version") null no_members))) no_members))) no_items)) no_members)
+  pub target : (r : Reference) → r.line ≡ 1 → r.column ≡ 5 → r.length ≡ 1 → IsTargetValue Utf16 (codes "f = f") (codes "f") r (target_data (codes "f") (record { line = 0; column = 4 }) (record { line = 0; column = 5 }))
+  pub not_target : (r : Reference) → ¬ (IsTargetValue Utf16 (codes "f = f") (codes "f") r null)

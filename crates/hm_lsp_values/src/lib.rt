@@ -16,5 +16,7 @@ pub use crate::diagnostics::{action_value, diagnostic_value};
 pub use crate::names::{hover_value, location_value};
 pub use crate::positions::place_at;
 pub use crate::references::{highlight_value, reference_value};
-pub use crate::renames::{document_edit_value, replacement_value, workspace_edit_value};
+pub use crate::renames::{
+    document_edit_value, replacement_value, target_value, workspace_edit_value,
+};
 pub use crate::symbols::{located_symbol_value, symbol_value};

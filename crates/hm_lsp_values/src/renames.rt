@@ -1,7 +1,7 @@
 //! The edits of a rename.
 ghost use Rattle.std.specs.Prelude.{◌≡◌, IfOk, map};
 ghost use Rattle.serde_json.specs.View.{view};
-ghost use Rattle.hm_lsp_values.specs.Renames.{IsReplacement, document_edit_data, workspace_edit_data};
+ghost use Rattle.hm_lsp_values.specs.Renames.{IsReplacement, IsTargetValue, document_edit_data, workspace_edit_data};
 
 use crate::references::reference_span;
 use crate::spans::span_value;
@@ -42,4 +42,20 @@ pub fn workspace_edit_value(alloc: Global, documents: Vec<Value>) -> Result<Valu
     let documents = Value::Array(documents);
     let documents = &documents;
     json!(in alloc; {"documentChanges": documents})
+}
+
+/// Returns the name that a rename is of, with where it is written in the text of a cursor.
+pub fn target_value(
+    alloc: Global,
+    cursor: &mut Cursor<'_>,
+    name: &str,
+    reference: &Reference,
+) -> Result<Value, AllocError>
+    ensures same { cursor.new ≡ cursor.old }
+    ensures value { IfOk result (λ value. IsTargetValue cursor.old.encoding cursor.old.text name.now reference.now (view value)) }
+{
+    let span = reference_span(cursor, reference);
+    let range = span_value(alloc, span)?;
+    let range = &range;
+    json!(in alloc; {"placeholder": name, "range": range})
 }

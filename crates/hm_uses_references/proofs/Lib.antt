@@ -2,4 +2,4 @@ mod Chosen
 pub mod Classes
 mod Referred
 mod Sought
-mod WorkedNames
+pub mod WorkedNames

@@ -56,7 +56,7 @@ pub fn names_at<'u, 'a>(
 }
 
 /// Returns where a name is written, without its qualifier.
-fn reference_of(one: &SetUse<'_>) -> Reference
+pub fn reference_of(one: &SetUse<'_>) -> Reference
     ensures { result ≡ reference_of one.now }
 {
     let name = one.used.name();

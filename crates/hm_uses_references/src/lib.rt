@@ -9,6 +9,6 @@ mod same;
 mod set_uses;
 mod spelling;
 
-pub use crate::finding::{Reference, names_at, references_at};
+pub use crate::finding::{Reference, names_at, reference_of, references_at};
 pub use crate::same::{is_meaning, is_same};
 pub use crate::set_uses::{SetUse, add_uses};
