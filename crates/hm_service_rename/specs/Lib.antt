@@ -4,4 +4,6 @@ pub mod Spelling
 pub mod Renames
 pub mod Compared
 pub mod Made
+pub mod Prepared
+pub mod PreparedRow
 pub mod Worked

@@ -21,7 +21,7 @@ use std::sync::Wait;
 use std::thread::Threads;
 
 /// Returns whether a name is bound at one of these references.
-fn is_bound(references: &[Reference]) -> bool
+pub(crate) fn is_bound(references: &[Reference]) -> bool
     ensures yes { IsTrue result → Any (λ r. r.binds ≡ true) references.now }
     ensures no { result ≡ false → All (λ r. r.binds ≡ false) references.now }
 {

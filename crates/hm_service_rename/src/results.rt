@@ -20,6 +20,14 @@ pub struct Rename<'a> {
     pub name: &'a str,
 }
 
+/// A place of a source. The column counts bytes, from 1.
+#[derive(Clone, Copy)]
+pub struct SourcePlace {
+    pub source: usize,
+    pub line: u32,
+    pub column: usize,
+}
+
 /// Why a name isn't renamed.
 #[derive(Clone, Copy, Debug, PartialEq, Eq)]
 pub enum RenameRefusal {
@@ -41,5 +49,21 @@ pub enum RenameRefusal {
 #[derive(Debug, Drop)]
 pub enum Renamed {
     Edits(Vec<Reference>),
+    Refused(RenameRefusal),
+}
+
+/// A name that can be renamed.
+#[derive(Debug, Drop)]
+pub struct Target {
+    /// Where it is written, without its qualifier.
+    pub reference: Reference,
+    /// Its text, without its qualifier.
+    pub name: String,
+}
+
+/// The name at a place, or why a rename of it is refused, whatever its new name is.
+#[derive(Debug, Drop)]
+pub enum Prepared {
+    Renamable(Target),
     Refused(RenameRefusal),
 }
