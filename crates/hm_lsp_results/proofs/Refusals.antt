@@ -7,10 +7,11 @@ use Rattle.serde_json.specs.declared.value.Value.{Value}
 use Rattle.hm_lsp_positions.specs.declared.positions.Position.{Position}
 use Rattle.hm_lsp_session.specs.Params.{string_at}
 use Rattle.hm_lsp_session.specs.declared.stages.Question.{Question}
-use Rattle.hm_lsp_session.specs.declared.stages.Question.TheVariants.{CodeAction, Definition, DocumentHighlight, DocumentSymbol, Hover, References, Rename, WorkspaceSymbol}
+use Rattle.hm_lsp_session.specs.declared.stages.Question.TheVariants.{CodeAction, Definition, DocumentHighlight, DocumentSymbol, Hover, PrepareRename, References, Rename, WorkspaceSymbol}
 use Rattle.hm_lsp_results.specs.Asked.{IsSourceIn, Subject}
+use Rattle.hm_lsp_results.specs.Prepared.{IsNotRenamableAt, IsPrepareValue}
 use Rattle.hm_lsp_results.specs.Renames.{IsFaultBy, IsRefusedAt}
-use Rattle.hm_lsp_results.specs.Results.{HasPosition, IsDocumentResult, IsRefusedIn, IsRefusedOf, IsRefusedRename, IsRenameRequestResult, IsResult, IsResultOf}
+use Rattle.hm_lsp_results.specs.Results.{HasPosition, IsDocumentResult, IsNotRenamableIn, IsRefusedIn, IsRefusedOf, IsRefusedRename, IsRenameRequestResult, IsResult, IsResultAtPosition, IsResultOf, prepared, renamed}
 use Rattle.hm_lsp_results.specs.declared.faults.RequestFault.{RequestFault}
 use Rattle.hm_lsp_results.specs.declared.faults.RequestFault.TheVariants.{Refused, Server}
 use Rattle.hm_service_rename.specs.declared.results.RenameRefusal.{RenameRefusal}
@@ -45,7 +46,23 @@ renamed_of asked question n request r is h =
 pub refused_of : (asked : Subject) (question : Question) (n : ℕ) (request : Data) (r : Result (Option Value) RequestFault) → question ≡ Rename → IfErr r (IsFaultBy (IsRefusedIn asked n request)) → IfErr r (IsFaultBy (IsRefusedOf asked question n request))
 refused_of asked question n request r is h =
     weaker_err (IsFaultBy (IsRefusedIn asked n request)) (IsFaultBy (IsRefusedOf asked question n request)) r
-    (weaker_fault (IsRefusedIn asked n request) (IsRefusedOf asked question n request) (λ refusal k. record { rename = is; is = k })) h
+    (weaker_fault (IsRefusedIn asked n request) (IsRefusedOf asked question n request) (λ refusal k. renamed is k)) h
+
+-- a request for the name that a rename is of
+pub not_renamable_in : (asked : Subject) (n : ℕ) (request : Data) (p : Position) (fault : RequestFault) → HasPosition request (Some p) → IsFaultBy (IsNotRenamableAt asked n p) fault → IsFaultBy (IsNotRenamableIn asked n request) fault
+not_renamable_in asked n request p fault at h = weaker_fault (IsNotRenamableAt asked n p) (IsNotRenamableIn asked n request) (λ refusal is. record { position = p; at = at; is = is }) fault h
+
+pub prepared_of : (asked : Subject) (question : Question) (n : ℕ) (request : Data) (r : Result (Option Value) RequestFault) → question ≡ PrepareRename → IfOk r (λ made. IsResultAtPosition (IsPrepareValue asked n) request (option_map view made))
+    → IfOk r (λ made. IsResultOf asked question n request (option_map view made))
+prepared_of asked question n request r is h =
+    weaker_ok (λ made. IsResultAtPosition (IsPrepareValue asked n) request (option_map view made)) (λ made. IsResultOf asked question n request (option_map view made)) r
+    (λ made k. subst (λ (q : Question). IsResultOf asked q n request (option_map view made)) (sym is) k) h
+
+pub not_renamable_of : (asked : Subject) (question : Question) (n : ℕ) (request : Data) (r : Result (Option Value) RequestFault) → question ≡ PrepareRename → IfErr r (IsFaultBy (IsNotRenamableIn asked n request))
+    → IfErr r (IsFaultBy (IsRefusedOf asked question n request))
+not_renamable_of asked question n request r is h =
+    weaker_err (IsFaultBy (IsNotRenamableIn asked n request)) (IsFaultBy (IsRefusedOf asked question n request)) r
+    (weaker_fault (IsNotRenamableIn asked n request) (IsRefusedOf asked question n request) (λ refusal k. prepared is k)) h
 
 -- a request about a source
 pub result_of_document : (asked : Subject) (question : Question) (n : ℕ) (request : Data) (r : Result (Option Value) RequestFault) → IsSourceIn asked.sources request (Some n) → IfOk r (λ made. IsResultOf asked question n request (option_map view made))
@@ -68,6 +85,7 @@ in_document asked DocumentHighlight request result other h = h
 in_document asked DocumentSymbol request result other h = h
 in_document asked CodeAction request result other h = h
 in_document asked Rename request result other h = h
+in_document asked PrepareRename request result other h = h
 in_document asked WorkspaceSymbol request result other h = absurd (other refl)
 
 pub result_in_document : (asked : Subject) (question : Question) (request : Data) (r : Result (Option Value) RequestFault) → ¬ (question ≡ WorkspaceSymbol) → IfOk r (λ made. IsDocumentResult asked question request (option_map view made))

@@ -1,6 +1,7 @@
 pub mod Asked
 pub mod References
 pub mod Matches
+pub mod Prepared
 pub mod Renames
 pub mod Symbols
 pub mod Results

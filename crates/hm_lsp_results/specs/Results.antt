@@ -1,4 +1,4 @@
--- The results of requests about the texts, and their replies (Language Server Protocol 3.17, "Hover Request", "Goto Definition Request", "Code Action Request"; "Find References Request" and "Document Highlights Request" are in References, "Document Symbols Request" and "Workspace Symbols Request" in Symbols, and "Rename Request" in Renames).
+-- The results of requests about the texts, and their replies (Language Server Protocol 3.17, "Hover Request", "Goto Definition Request", "Code Action Request"; "Find References Request" and "Document Highlights Request" are in References, "Document Symbols Request" and "Workspace Symbols Request" in Symbols, "Rename Request" in Renames, and "Prepare Rename Request" in Prepared).
 use Rattle.std.specs.Prelude.{◌≡◌, ◌≤◌, ◌⊎◌, ℕ, negsuc, Bool, true, List, Option, None, Some, codes, length, map, option_and_then, slice_get, string_bytes}
 use Rattle.serde_json.specs.Data.{Data, array, no_items, null}
 use Rattle.serde_json.specs.Find.{as_bool, pointer}
@@ -11,7 +11,7 @@ use Rattle.hm_lsp_session.specs.Params.{IsPositionIn, IsRangeIn, string_at}
 use Rattle.hm_lsp_session.specs.Replies.{refusal_data, reply_data}
 use Rattle.hm_lsp_session.specs.Stages.{code_of}
 use Rattle.hm_lsp_session.specs.declared.stages.Question.{Question}
-use Rattle.hm_lsp_session.specs.declared.stages.Question.TheVariants.{CodeAction, Definition, DocumentHighlight, DocumentSymbol, Hover, References, Rename, WorkspaceSymbol}
+use Rattle.hm_lsp_session.specs.declared.stages.Question.TheVariants.{CodeAction, Definition, DocumentHighlight, DocumentSymbol, Hover, PrepareRename, References, Rename, WorkspaceSymbol}
 use Rattle.hm_lsp_session.specs.declared.stages.Refusal.TheVariants.{InvalidParams, RequestFailed}
 use Rattle.hm_lsp_values.specs.Diagnostics.{action_data}
 use Rattle.hm_lsp_values.specs.Names.{IsHover, IsLocation}
@@ -25,6 +25,7 @@ use Rattle.hm_service_places.specs.declared.places.AtPlace.{AtPlace}
 use Rattle.hm_service_rename.specs.declared.results.RenameRefusal.{RenameRefusal}
 use Rattle.hm_service_sources.specs.declared.held.HeldSource.{HeldSource}
 use Rattle.hm_lsp_results.specs.Asked.{HasNothingAt, HasUri, IsNamedAt, IsReadText, IsSourceIn, Subject}
+use Rattle.hm_lsp_results.specs.Prepared.{IsNotRenamableAt, IsPrepareValue}
 use Rattle.hm_lsp_results.specs.References.{IsHighlightsResult, IsReferencesResult}
 use Rattle.hm_lsp_results.specs.Renames.{IsRefusedAt, IsRenameValue, sentence_of}
 use Rattle.hm_lsp_results.specs.Symbols.{AreFound, IsSymbolsResult}
@@ -123,6 +124,7 @@ IsResultOf asked DocumentHighlight n request result = IsResultAtPosition (IsHigh
 IsResultOf asked DocumentSymbol n request result = (value : Data) × (IsSymbolsResult asked n value × (result ≡ Some value))
 IsResultOf asked CodeAction n request result = (r : Option Range) × (HasRange request r × IsResultFor (IsActionsResult asked.encoding asked.sources asked.held asked.checked n) r result)
 IsResultOf asked Rename n request result = IsRenameRequestResult asked n request result
+IsResultOf asked PrepareRename n request result = IsResultAtPosition (IsPrepareValue asked n) request result
 -- it is about no source
 IsResultOf asked WorkspaceSymbol n request result = result ≡ None
 
@@ -159,10 +161,16 @@ pub record IsRefusedIn (asked : Subject) (n : ℕ) (request : Data) (refusal : R
   pub at : HasPosition request (Some position)
   pub is : IsRefusedAt asked n new position refusal
 
--- the same of a request that is a rename
-pub record IsRefusedOf (asked : Subject) (question : Question) (n : ℕ) (request : Data) (refusal : RenameRefusal) : Type 0 where
-  pub rename : question ≡ Rename
-  pub is : IsRefusedIn asked n request refusal
+-- each rename of the name at the position of a request about source number n is refused for this reason
+pub record IsNotRenamableIn (asked : Subject) (n : ℕ) (request : Data) (refusal : RenameRefusal) : Type 0 where
+  pub position : Position
+  pub at : HasPosition request (Some position)
+  pub is : IsNotRenamableAt asked n position refusal
+
+-- the request is a rename, or is for the name that one is of, and is refused for this reason
+pub data IsRefusedOf (asked : Subject) (question : Question) (n : ℕ) (request : Data) (refusal : RenameRefusal) : Type 0 where
+  renamed : question ≡ Rename → IsRefusedIn asked n request refusal → IsRefusedOf asked question n request refusal
+  prepared : question ≡ PrepareRename → IsNotRenamableIn asked n request refusal → IsRefusedOf asked question n request refusal
 
 -- the same of a request about a document
 pub record IsRefusedRename (asked : Subject) (question : Question) (request : Data) (refusal : RenameRefusal) : Type 0 where

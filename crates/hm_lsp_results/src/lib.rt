@@ -6,6 +6,7 @@ mod declared;
 mod faults;
 mod folder;
 pub mod laws;
+mod preparing;
 mod queries;
 mod referring;
 mod renames;

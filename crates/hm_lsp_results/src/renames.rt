@@ -19,7 +19,7 @@ use std::sync::Wait;
 use std::thread::Threads;
 
 /// The number of workers that check the set after a rename.
-const WORKERS: usize = 4;
+pub(crate) const WORKERS: usize = 4;
 
 /// Returns the edits that put a new name in place of references, in order.
 fn replacements(

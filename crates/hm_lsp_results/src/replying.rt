@@ -4,14 +4,16 @@ ghost use Rattle.serde_json.specs.View.{view};
 ghost use Rattle.hm_lsp_session.specs.Params.{string_at};
 ghost use Rattle.hm_lsp_session.specs.Replies.{IsReplyTo, method_of};
 ghost use Rattle.hm_lsp_results.specs.Asked.{subject_of};
+ghost use Rattle.hm_lsp_results.specs.Prepared.{IsPrepareValue};
 ghost use Rattle.hm_lsp_results.specs.Renames.{IsFaultBy, sentence_of};
-ghost use Rattle.hm_lsp_results.specs.Results.{HasPosition, HasRange, IsDocumentResult, IsRefusedIn, IsRefusedOf, IsRefusedRename, IsReply, IsRenameRequestResult, IsResult, IsResultFor, IsResultOf, failure_data, with_declarations};
+ghost use Rattle.hm_lsp_results.specs.Results.{HasPosition, HasRange, IsDocumentResult, IsNotRenamableIn, IsRefusedIn, IsRefusedOf, IsRefusedRename, IsReply, IsRenameRequestResult, IsResult, IsResultAtPosition, IsResultFor, IsResultOf, failure_data, with_declarations};
 ghost use Rattle.hm_lsp_results.specs.Symbols.{AreFound};
 
 use crate::asking::{Asked, actions, definition, hover, source_in};
 use crate::declared::symbols;
 use crate::faults::RequestFault;
 use crate::folder::found_symbols;
+use crate::preparing::prepare;
 use crate::referring::{highlights, references};
 use crate::renames::rename;
 use hm_lsp_positions::{Position, Range};
@@ -74,6 +76,25 @@ fn rename_result<T: Threads + Wait + Sync>(
     }
 }
 
+/// Returns the name that a rename in a source is of, or `None` if the request's parameters aren't valid.
+fn prepare_result<T: Threads + Wait + Sync>(
+    rt: &T,
+    asked: &Asked<'_>,
+    source: usize,
+    request: &Value,
+) -> Result<Option<Value>, RequestFault>
+    ensures result { IfOk result (λ made. IsResultAtPosition (IsPrepareValue (subject_of asked.now) source) (view request.now) (option_map view made)) }
+    ensures refused { IfErr result (IsFaultBy (IsNotRenamableIn (subject_of asked.now) source (view request.now))) }
+{
+    let Some(position) = position_of_request(request) else {
+        return Ok(None);
+    };
+    match prepare(rt, asked, source, position) {
+        Ok(value) => Ok(Some(value)),
+        Err(fault) => Err(fault),
+    }
+}
+
 /// Returns the result of a request about a source, or `None` if its parameters aren't valid.
 fn result_of<T: Threads + Wait + Sync>(
     rt: &T,
@@ -97,6 +118,9 @@ fn result_of<T: Threads + Wait + Sync>(
     if question == Question::Rename {
         return rename_result(rt, asked, source, request);
     }
+    if question == Question::PrepareRename {
+        return prepare_result(rt, asked, source, request);
+    }
     let Some(position) = position_of_request(request) else {
         return Ok(None);
     };
@@ -111,6 +135,7 @@ fn result_of<T: Threads + Wait + Sync>(
         Question::DocumentSymbol
         | Question::CodeAction
         | Question::Rename
+        | Question::PrepareRename
         | Question::WorkspaceSymbol => Ok(None),
     }
 }

@@ -1,9 +1,9 @@
 use Rattle.std.proofs.Common.{rules, ◌≡◌}
 use Rattle.serde_json.specs.View.{view}
-use Rattle.hm_lsp_session.specs.declared.stages.Question.TheVariants.{DocumentSymbol, Rename}
+use Rattle.hm_lsp_session.specs.declared.stages.Question.TheVariants.{DocumentSymbol, PrepareRename, Rename}
 use Rattle.hm_lsp_results.specs.Asked.{subject_of}
 use Rattle.hm_lsp_results.proofs.DeclaredValues.{symbols_result}
-use Rattle.hm_lsp_results.proofs.Refusals.{refused_of, renamed_of}
+use Rattle.hm_lsp_results.proofs.Refusals.{not_renamable_of, prepared_of, refused_of, renamed_of}
 use Rattle.hm_lsp_results.proofs.replying.result_of.Goals as goal
 
 pub returns-then-eq-2-clause-result : goal.returns-then-eq-2-clause-result
@@ -20,3 +20,13 @@ pub returns-then-eq-3-clause-refused : goal.returns-then-eq-3-clause-refused
 returns-then-eq-3-clause-refused g c =
     let is : c.args.question ≡ Rename = search rules in
     refused_of (subject_of c.args.asked.now) c.args.question c.args.source (view c.args.request.now) c.rename_result.result is c.rename_result.ensures.refused
+
+pub returns-then-eq-4-clause-result : goal.returns-then-eq-4-clause-result
+returns-then-eq-4-clause-result g c =
+    let is : c.args.question ≡ PrepareRename = search rules in
+    prepared_of (subject_of c.args.asked.now) c.args.question c.args.source (view c.args.request.now) c.prepare_result.result is c.prepare_result.ensures.result
+
+pub returns-then-eq-4-clause-refused : goal.returns-then-eq-4-clause-refused
+returns-then-eq-4-clause-refused g c =
+    let is : c.args.question ≡ PrepareRename = search rules in
+    not_renamable_of (subject_of c.args.asked.now) c.args.question c.args.source (view c.args.request.now) c.prepare_result.result is c.prepare_result.ensures.refused
