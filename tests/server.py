@@ -22,7 +22,7 @@ class Client(lsp.Client):
 
     def __init__(self, program, folder):
         super().__init__(program, folder)
-        self.rows, self.wrong = 0, 0
+        self.program, self.rows, self.wrong = program, 0, 0
 
     def reply(self):
         """Returns the next reply, and passes over notifications."""
@@ -78,6 +78,7 @@ def start_and_check(it):
     it.row("before initialize", it.ask("textDocument/hover")["error"]["code"], -32002)
     made = it.ask("initialize", capabilities={"general": {"positionEncodings": ["utf-16"]}})["result"]["capabilities"]
     it.row("encoding", made["positionEncoding"], "utf-16")
+    it.row("renames", made["renameProvider"], True)
     it.notify("initialized")
     found = it.published(1)
     it.row("diagnostics of the folder", codes(found["B.hs"]), ["type"])
@@ -133,6 +134,25 @@ def refuse_renames(it, doc, at):
         it.row(what, it.ask("textDocument/rename", **where, newName=name).get("error"), {"code": -32803, "message": why})
 
 
+def prepare_renames(it, doc, at):
+    """Asks for the name that a rename is of. It is without its qualifier, and has to be bound in one of the files."""
+    it.row("the name of a rename", it.ask("textDocument/prepareRename", **at)["result"], {"placeholder": "g", "range": between(B, "g }", 1)})
+    for what, part, why in (("Prelude's", "True", "this name isn't bound in these sources"), ("no name", "{", "no name is at this position")):
+        found = it.ask("textDocument/prepareRename", textDocument=doc, position=position(B, part)).get("error")
+        it.row(f"{what} before a rename", found, {"code": -32803, "message": why})
+    it.row("no position before a rename", it.ask("textDocument/prepareRename", textDocument=doc)["error"]["code"], -32602)
+    qualified, text = {"uri": it.uri("Q.hs")}, "module Q where { import A ; q = A.g }"
+    it.notify("textDocument/didOpen", textDocument={**qualified, "languageId": "haskell", "version": 1, "text": text})
+    for after in range(3):
+        found = it.ask("textDocument/prepareRename", textDocument=qualified, position=position(text, "A.g", after))["result"]
+        it.row("a qualified name before a rename", found, {"placeholder": "g", "range": between(text, "g }", 1)})
+    it.notify("textDocument/didChange", textDocument={**qualified, "version": 2}, contentChanges=[{"text": "module Q where {"}])
+    found = it.ask("textDocument/prepareRename", **at).get("error")
+    it.row("before a rename in a set with a text that can't be read", found, {"code": -32803, "message": "hmc hasn't checked every module as it is now"})
+    it.notify("textDocument/didClose", textDocument=qualified)
+    it.settle()
+
+
 def rename(it, doc):
     """Renames 'g' of A, which B imports, and asks for names that it can't have. The renamed texts have the faults of the old ones."""
     at = {"textDocument": doc, "position": position(B, "m = g", 4)}
@@ -141,6 +161,7 @@ def rename(it, doc):
     made = it.ask("textDocument/rename", **at, newName="fresh")["result"]
     it.row("a rename in both files", made, {"documentChanges": wanted})
     refuse_renames(it, doc, at)
+    prepare_renames(it, doc, at)
     it.row("a rename without a name", it.ask("textDocument/rename", **at)["error"]["code"], -32602)
     it.row("a rename without a position", it.ask("textDocument/rename", textDocument=doc, newName="fresh")["error"]["code"], -32602)
     a, b = (renamed(text, its["edits"]) for text, its in zip((A, B), made["documentChanges"]))
@@ -219,6 +240,67 @@ def move_diagnostics(it):
     it.row("a closed file has no diagnostics", [it.shown.get(uri) for uri in uris], [[], []])
 
 
+def watch_files(it):
+    """Writes and deletes files, and says so. Their texts count while they aren't open."""
+    faulty, good = "module W where { w = missing }", "module W where { w = True }"
+    path, uri = os.path.join(it.folder, "W.hs"), it.uri("W.hs")
+
+    def write(text, kind, name=path, where=uri):
+        os.makedirs(os.path.dirname(name), exist_ok=True)
+        with open(name, "w", encoding="utf-8") as file:
+            file.write(text)
+        it.notify("workspace/didChangeWatchedFiles", changes=[{"uri": where, "type": kind}])
+        it.settle()
+
+    write(faulty, 1)
+    it.row("a new file", codes(it.shown.get(uri, [])), ["unbound"])
+    write(good, 2)
+    it.row("a changed file", it.shown.get(uri), [])
+    it.notify("textDocument/didOpen", textDocument={"uri": uri, "languageId": "haskell", "version": 1, "text": good})
+    write(faulty, 2)
+    it.row("a changed file that is open", it.shown.get(uri), [])
+    it.notify("textDocument/didClose", textDocument={"uri": uri})
+    it.settle()
+    it.row("the text of the file after that", codes(it.shown.get(uri, [])), ["unbound"])
+    os.remove(path)
+    it.notify("workspace/didChangeWatchedFiles", changes=[{"uri": uri, "type": 3}])
+    it.settle()
+    it.row("a deleted file", it.shown.get(uri), [])
+    for name in (".hidden/W.hs", "W.txt"):
+        write(faulty, 1, os.path.join(it.folder, name), it.uri(name))
+        it.row("a file that is no source", it.shown.get(it.uri(name), []), [])
+
+
+def cancel(it):
+    """Cancels the second of three requests that wait. Each has a reply, in order."""
+    where = {"textDocument": {"uri": it.uri("B.hs")}, "position": position(B, "h ::")}
+    asked = [{"id": f"{number}", "method": "textDocument/hover", "params": where} for number in range(3)]
+    cancels = [{"method": "$/cancelRequest", "params": {"id": name}} for name in ("1", 2)]
+    it.write(b"".join(map(lsp.frame, asked + cancels)))
+    found = [it.reply() for _ in asked]
+    it.row("the replies", [(reply["id"], reply.get("error", {}).get("code")) for reply in found], [("0", None), ("1", -32800), ("2", None)])
+    it.notify("$/cancelRequest", id="2")
+    it.row("after a cancel that comes too late", it.ask("textDocument/hover", **where)["result"] is None, False)
+
+
+def offer(it):
+    """Starts another server for a client that offers more: to watch files, and to ask for the name of a rename first."""
+    plain = it.ask("initialize", capabilities={})["error"]["code"]
+    it.row("initialize again", plain, -32600)
+    other = Client(it.program, it.folder)
+    offered = {"textDocument": {"rename": {"prepareSupport": True}}, "workspace": {"didChangeWatchedFiles": {"dynamicRegistration": True}}}
+    made = other.ask("initialize", capabilities=offered)["result"]["capabilities"]
+    other.row("renames with their names", made["renameProvider"], {"prepareProvider": True})
+    other.notify("initialized")
+    while (message := other.receive()).get("method") == lsp.PUBLISHED:
+        pass
+    watched = [it["registerOptions"] for it in message["params"]["registrations"] if it["method"] == "workspace/didChangeWatchedFiles"]
+    other.row("a request to watch files", (message["method"], watched), ("client/registerCapability", [{"watchers": [{"globPattern": "**/*.hs"}]}]))
+    other.send({"id": message["id"], "result": None})
+    finish(other)
+    it.rows, it.wrong = it.rows + other.rows, it.wrong + other.wrong
+
+
 def refer_often(it):
     """Asks for the references of a name that 60,000 definitions use, and what the source declares. Finding each place from the start would take longer."""
     doc, count = {"uri": it.uri("F.hs")}, 60000
@@ -267,7 +349,7 @@ def main(program=lsp.PROVED):
             with open(os.path.join(folder, name), "w", encoding="utf-8") as file:
                 file.write(text)
         it = Client(os.path.abspath(program), folder)
-        for part in (start_and_check, look, mend, type_letters, escape_letters, move_diagnostics, refer_often, nest_deeply, bad_input, finish):
+        for part in (start_and_check, look, mend, type_letters, escape_letters, move_diagnostics, watch_files, cancel, offer, refer_often, nest_deeply, bad_input, finish):
             part(it)
     print(f"{it.rows - it.wrong} of {it.rows} rows as wanted")
     return 1 if it.wrong else 0

@@ -213,7 +213,7 @@ class Walk:
         document = self.chance.choice([it for it in self.documents if it.version is not None or it.file is not None])
         line, column = position_of(document.text, place_of(self.chance, document.text), self.encoding)
         position = {"line": line, "character": column}
-        method = self.chance.choice(["hover", "definition", "references", "documentHighlight", "documentSymbol", "codeAction", "rename"])
+        method = self.chance.choice(["hover", "definition", "references", "documentHighlight", "documentSymbol", "codeAction", "prepareRename", "rename"])
         where = {"range": {"start": position, "end": position}} if method == "codeAction" else {"position": position}
         context = {"diagnostics": [], "includeDeclaration": self.chance.random() < 0.5}
         name = self.chance.choice(["x", "renamed", "Renamed", "of"])

@@ -1,5 +1,5 @@
 -- What a server sends for each outcome of its session.
-use Rattle.std.proofs.Common.{◌≡◌, ◌⊎◌, inl, inr, ℕ, List, [], ◌∷◌, Option, None, Some, codes, refl}
+use Rattle.std.proofs.Common.{◌≡◌, inl, inr, ℕ, List, [], ◌∷◌, Option, None, Some, codes, refl}
 use Rattle.serde_json.specs.Data.{Data}
 use Rattle.serde_json.specs.Find.{get}
 use Rattle.serde_json.specs.View.{view}
@@ -7,7 +7,7 @@ use Rattle.serde_json.specs.declared.value.Value.{Value}
 use Rattle.hm_lsp_session.specs.Replies.{IsReplyTo, RefusesMessage, Takes, TakesBody, TakesOther, method_of, unread, understood}
 use Rattle.hm_lsp_session.specs.declared.session.Outcome.{Outcome}
 use Rattle.hm_lsp_session.specs.declared.stages.Question.{Question}
-use Rattle.hm_lsp_session.specs.declared.session.Outcome.TheVariants.{Ask, Changed, Ended, Nothing, Reply}
+use Rattle.hm_lsp_session.specs.declared.session.Outcome.TheVariants.{Ask, Begun, Changed, Ended, Files, Nothing, Reply}
 use Rattle.hm_lsp_server.specs.Replied.{IsOneReply, AreOther, AreRepliesTo, IsReplyOf}
 use Rattle.hm_lsp_server.specs.Replied as replied
 
@@ -34,36 +34,37 @@ pub body_asked : (body : List ℕ) (k : Question) (q r : Value) → TakesBody bo
 body_asked body k q r (unread n t) f = absurd t
 body_asked body k q r (understood {message} e t) f = replied.understood e (takes_asked message (method_of message) (get (codes "id") message) k q r t f refl)
 
--- without a reply
-takes_none : (m : Data) (name : Option (List ℕ)) (id : Option Data) (out : Outcome) → Takes m name id out → (out ≡ Changed) ⊎ ((out ≡ Nothing) ⊎ ((s : ℕ) × (out ≡ Ended s))) → AreRepliesTo name id []
-takes_none m None None out t o = inl refl
-takes_none m None (Some id) out t o = inl refl
-takes_none m (Some n) None out t o = refl
-takes_none m (Some n) (Some id) (Reply r) t o = absurd (no_reply o)
-  where
-    no_reply : (Reply r ≡ Changed) ⊎ ((Reply r ≡ Nothing) ⊎ ((s : ℕ) × (Reply r ≡ Ended s))) → ⊥
-    no_reply (inl e) = cc
-    no_reply (inr (inl e)) = cc
-    no_reply (inr (inr e)) = let k = e.1 in cc
-takes_none m (Some n) (Some id) (Ask k q) t o = absurd (no_ask o)
-  where
-    no_ask : (Ask k q ≡ Changed) ⊎ ((Ask k q ≡ Nothing) ⊎ ((s : ℕ) × (Ask k q ≡ Ended s))) → ⊥
-    no_ask (inl e) = cc
-    no_ask (inr (inl e)) = cc
-    no_ask (inr (inr e)) = let same = e.1 in cc
-takes_none m (Some n) (Some id) Changed t o = absurd t
-takes_none m (Some n) (Some id) Nothing t o = absurd t
-takes_none m (Some n) (Some id) (Ended s) t o = absurd t
+-- an outcome without a reply
+abbrev pub IsSilent : Outcome → Type 0
+IsSilent (Reply r) = ⊥
+IsSilent (Ask k q) = ⊥
+IsSilent Changed = Unit {0}
+IsSilent Begun = Unit {0}
+IsSilent (Files uris) = Unit {0}
+IsSilent Nothing = Unit {0}
+IsSilent (Ended s) = Unit {0}
 
-pub body_none : (body : List ℕ) (out : Outcome) → TakesBody body out → (out ≡ Changed) ⊎ ((out ≡ Nothing) ⊎ ((s : ℕ) × (out ≡ Ended s))) → IsReplyOf body []
-body_none body out (unread n t) o = absurd (no_refusal out t o)
-  where
-    no_refusal : (out : Outcome) → RefusesMessage out → (out ≡ Changed) ⊎ ((out ≡ Nothing) ⊎ ((s : ℕ) × (out ≡ Ended s))) → ⊥
-    no_refusal (Reply r) t (inl e) = cc
-    no_refusal (Reply r) t (inr (inl e)) = cc
-    no_refusal (Reply r) t (inr (inr e)) = let k = e.1 in cc
-    no_refusal (Ask k q) t o = absurd t
-    no_refusal Changed t o = absurd t
-    no_refusal Nothing t o = absurd t
-    no_refusal (Ended s) t o = absurd t
-body_none body out (understood {message} e t) o = replied.understood e (takes_none message (method_of message) (get (codes "id") message) out t o)
+takes_none : (m : Data) (name : Option (List ℕ)) (id : Option Data) (out : Outcome) → Takes m name id out → IsSilent out → AreRepliesTo name id []
+takes_none m None None out t s = inl refl
+takes_none m None (Some id) out t s = inl refl
+takes_none m (Some n) None out t s = refl
+takes_none m (Some n) (Some id) (Reply r) t s = absurd s
+takes_none m (Some n) (Some id) (Ask k q) t s = absurd s
+takes_none m (Some n) (Some id) Changed t s = absurd t
+takes_none m (Some n) (Some id) Begun t s = absurd t
+takes_none m (Some n) (Some id) (Files uris) t s = absurd t
+takes_none m (Some n) (Some id) Nothing t s = absurd t
+takes_none m (Some n) (Some id) (Ended status) t s = absurd t
+
+no_refusal : (out : Outcome) → RefusesMessage out → IsSilent out → ⊥
+no_refusal (Reply r) t s = s
+no_refusal (Ask k q) t s = s
+no_refusal Changed t s = t
+no_refusal Begun t s = t
+no_refusal (Files uris) t s = t
+no_refusal Nothing t s = t
+no_refusal (Ended status) t s = t
+
+pub body_none : (body : List ℕ) (out : Outcome) → TakesBody body out → IsSilent out → IsReplyOf body []
+body_none body out (unread n t) s = absurd (no_refusal out t s)
+body_none body out (understood {message} e t) s = replied.understood e (takes_none message (method_of message) (get (codes "id") message) out t s)

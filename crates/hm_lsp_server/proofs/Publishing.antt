@@ -4,13 +4,16 @@ use Rattle.std.specs.Prelude.{slice_index_or}
 use Rattle.serde_json.specs.Data.{Data}
 use Rattle.hm_lsp_session.specs.Documents.{listed}
 use Rattle.hm_lsp_session.specs.Effects.{documents_of, encoding_of}
+use Rattle.hm_lsp_session.specs.declared.documents.Document.{Document}
 use Rattle.hm_lsp_sources.specs.Following.{AreFollowing}
+use Rattle.hm_lsp_sources.specs.Held.{held_in, named_in}
+use Rattle.hm_lsp_sources.specs.declared.following.Sources.{Sources}
 use Rattle.hm_service.specs.Checks.{IsHeldCheck}
 use Rattle.hm_service_places.specs.declared.checked.Checked.{Checked}
 use Rattle.hm_lsp_server.specs.Published.{AreTold, IsShown, IsTold, no_check, told}
 use Rattle.hm_lsp_results.specs.Asked.{Subject}
 use Rattle.hm_lsp_server.specs.Served.{subject_in}
-use Rattle.hm_lsp_server.specs.Servers.{IsCurrent, IsFollowing, checked_of, documents_in, held_of, session_of, shown_of, sources_of, workers}
+use Rattle.hm_lsp_server.specs.Servers.{IsCurrent, IsFollowing, IsOrderly, checked_of, documents_in, held_of, session_of, shown_of, sources_of, workers}
 use Rattle.hm_lsp_server.specs.declared.server.Server.{Server}
 
 -- the diagnostics by the check of a server
@@ -37,3 +40,10 @@ pub same_following : (s t : Server) → documents_of (session_of t) ≡ document
 same_following s t documents sources held h =
     subst (λ x. AreFollowing x (sources_of t) (held_of t)) (ap listed (sym documents))
     (subst (λ x. AreFollowing (documents_in s) x (held_of t)) (sym sources) (subst (λ x. AreFollowing (documents_in s) (sources_of s) x) (sym held) h))
+
+-- a server whose check is forgotten, and whose sources follow the documents
+pub orderly_without : (s : Server) (documents : List Document) (x : Sources) → checked_of s ≡ None → s.sources ≡ x → documents ≡ documents_in s → AreFollowing documents (named_in x) (held_in x) → IsOrderly s
+orderly_without s documents x none sources are h = record {
+  current = subst (λ o. IfSome o (IsHeldCheck workers (held_of s))) (sym none) tt;
+  follows = subst (λ y. AreFollowing (documents_in s) (named_in y) (held_in y)) (sym sources) (subst (λ d. AreFollowing d (named_in x) (held_in x)) are h);
+}

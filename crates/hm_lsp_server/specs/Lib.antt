@@ -2,4 +2,5 @@ pub mod Published
 pub mod Replied
 pub mod Served
 pub mod Servers
+pub mod Taken
 pub mod Worked

@@ -4,7 +4,7 @@ use Rattle.hm_lsp_session.specs.Documents.{listed}
 use Rattle.hm_lsp_session.specs.Effects.{documents_of}
 use Rattle.hm_lsp_session.specs.declared.documents.Document.{Document}
 use Rattle.hm_lsp_session.specs.declared.session.Session.{Session}
-use Rattle.hm_lsp_sources.specs.Following.{AreFollowing, files_in, names_in}
+use Rattle.hm_lsp_sources.specs.Following.{AreFollowing, files_in, names_in, uris_in}
 use Rattle.hm_lsp_sources.specs.Held.{held_in, named_in}
 use Rattle.hm_service.specs.Checks.{IsHeldCheck}
 use Rattle.hm_service_places.specs.declared.checked.Checked.{Checked}
@@ -61,6 +61,11 @@ pub record HasFiles (files : List SourceFile) (sources : List Source) : Type 0 w
 pub data IsNoted (before after : Server) : Type 0 where
   changed : is_changed after ≡ true → IsNoted before after
   as_before : is_changed after ≡ is_changed before → sources_of after ≡ sources_of before → held_of after ≡ held_of before → IsNoted before after
+
+-- the same after a file is read. The texts of files that aren't shown may be others
+pub data IsFileNoted (before after : Server) : Type 0 where
+  changed : is_changed after ≡ true → IsFileNoted before after
+  as_before : is_changed after ≡ is_changed before → names_in (sources_of after) ≡ names_in (sources_of before) → uris_in (sources_of after) ≡ uris_in (sources_of before) → held_of after ≡ held_of before → IsFileNoted before after
 
 -- the sources follow the client's documents, and a check is one of the texts that are held
 pub record IsOrderly (s : Server) : Type 0 where

@@ -1,9 +1,12 @@
--- Worked examples: replies to a notification and to a request, and what is sent of a source.
-use Rattle.std.specs.Prelude.{[], ◌∷◌, None, Some, codes}
+-- Worked examples: replies to a notification and to a request, what else follows from a message, and what is sent of a source.
+use Rattle.std.specs.Prelude.{◌≡◌, ℕ, List, [], ◌∷◌, None, Some, codes}
 use Rattle.serde_json.specs.Data.{Data, null}
 use Rattle.hm_lsp_positions.specs.declared.units.Encoding.TheVariants.{Utf16}
 use Rattle.hm_lsp_server.specs.Published.{AreCleared, AreSent, diagnostics_notice}
 use Rattle.hm_lsp_server.specs.Replied.{AreRepliesTo}
+use Rattle.hm_lsp_server.specs.Taken.{IsRegistration, replies_in}
+use Rattle.hm_lsp_server.specs.declared.taken.Taken.TheVariants.{Ended}
+use Rattle.hm_lsp_session.specs.declared.session.Session.{Session}
 
 -- a notification has no reply, and a request has one
 pub record RepliesRow : Type 0 where
@@ -18,3 +21,8 @@ pub record SentRow : Type 0 where
   pub not_silent : ¬ (AreSent Utf16 (Some (codes "file:///a.hs")) (codes "file:///a.hs") [] [])
   pub moved : AreCleared Utf16 (Some (codes "file:///%61.hs")) (codes "file:///a.hs") (diagnostics_notice Utf16 (codes "file:///%61.hs") [] ∷ [])
   pub not_kept : ¬ (AreCleared Utf16 (Some (codes "file:///%61.hs")) (codes "file:///a.hs") [])
+
+-- an end is no reply. The client is sent no other request than the registration
+pub record TakenRow : Type 0 where
+  pub ended : replies_in (Ended 0) ≡ []
+  pub not_other : (s : Session) (body : List ℕ) → ¬ (IsRegistration s body null)

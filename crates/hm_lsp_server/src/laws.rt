@@ -1,10 +1,11 @@
 //! Worked examples.
-ghost use Rattle.hm_lsp_server.specs.Worked.{RepliesRow, SentRow};
+ghost use Rattle.hm_lsp_server.specs.Worked.{RepliesRow, SentRow, TakenRow};
 
-/// Replies to a notification and to a request.
-#[tactic(auto, using(crate::proofs::WorkedReplies::worked_replies))]
+/// Replies to a notification and to a request, and what else follows from a message.
+#[tactic(auto, using(crate::proofs::WorkedReplies::worked_replies, crate::proofs::WorkedReplies::worked_taken))]
 pub fn worked_replies()
-    ensures { RepliesRow }
+    ensures replies { RepliesRow }
+    ensures taken { TakenRow }
 {}
 
 /// What is sent of a source.

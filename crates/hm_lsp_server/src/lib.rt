@@ -5,6 +5,8 @@
 
 pub mod laws;
 mod server;
+mod taken;
 mod telling;
 
-pub use crate::server::{Server, SourceFile, Taken};
+pub use crate::server::{Server, SourceFile};
+pub use crate::taken::Taken;

@@ -1,19 +1,23 @@
 //! The server: the session of a client, and the sources that are held for it.
 
-ghost use Rattle.std.specs.Prelude.{◌≡◌, ◌++◌, [], IfOk, List, OnOk, Some, codes, map, option_to_list, true};
+ghost use Rattle.std.specs.Prelude.{◌≡◌, ◌++◌, [], IfOk, List, None, OnOk, Some, codes, map, option_map, true};
+ghost use Rattle.percent_encoding.specs.Percent.{percent_decode};
 ghost use Rattle.serde_json.specs.Data.{Data};
 ghost use Rattle.serde_json.specs.Find.{get};
 ghost use Rattle.serde_json.specs.View.{view};
 ghost use Rattle.hm_lsp_results.specs.Asked.{subject_of};
 ghost use Rattle.hm_lsp_session.specs.Replies.{IsReplyTo};
 ghost use Rattle.hm_lsp_session.specs.declared.documents.Document.{Document};
+ghost use Rattle.hm_lsp_sources.specs.Files.{IsFileRead};
 ghost use Rattle.hm_lsp_sources.specs.Following.{AreFollowing, AreKept};
 ghost use Rattle.hm_lsp_sources.specs.Held.{held_in, named_in};
 ghost use Rattle.hm_lsp_server.specs.Published.{IsPublished, IsSameButShown, IsShown, no_check_notice};
 ghost use Rattle.hm_lsp_server.specs.Replied.{IsReplyOf};
 ghost use Rattle.hm_lsp_server.specs.Served.{IsServed, IsServedBy, subject_in};
-ghost use Rattle.hm_lsp_server.specs.Servers.{HasFiles, IsCurrent, IsFollowing, IsNoted, IsOrderly, documents_in, held_of, is_changed, session_of, sources_of};
+ghost use Rattle.hm_lsp_server.specs.Taken.{IsTakenFrom, replies_in};
+ghost use Rattle.hm_lsp_server.specs.Servers.{HasFiles, IsCurrent, IsFileNoted, IsFollowing, IsNoted, IsOrderly, checked_of, documents_in, held_of, is_changed, session_of, sources_of};
 
+use crate::taken::{Taken, registration};
 use crate::telling::tell;
 use hm_lsp_results::{Asked, failure, replied};
 use hm_lsp_session::{Outcome, Question, Session, Stage, notice};
@@ -32,32 +36,6 @@ const WORKERS: usize = 4;
 pub struct SourceFile {
     pub path: String,
     pub text: Vec<u8>,
-}
-
-/// What follows from a message.
-#[derive(Drop)]
-pub struct Taken {
-    /// The reply to it.
-    pub reply: Option<Value>,
-    /// The exit status, if the server ends.
-    pub status: Option<u8>,
-}
-
-impl Taken {
-    const NOTHING: Taken = Taken {
-        reply: None,
-        status: None,
-    };
-
-    /// Returns a reply.
-    fn reply(reply: Value) -> Taken
-        ensures { result.reply ≡ Some reply }
-    {
-        Taken {
-            reply: Some(reply),
-            status: None,
-        }
-    }
 }
 
 /// Returns the sources of files.
@@ -118,6 +96,19 @@ impl Server {
         })
     }
 
+    /// Forgets the check, because a text or a URI is another.
+    fn forget(&mut self)
+        ensures checked { checked_of self.new ≡ None }
+        ensures sources { self.new.sources ≡ self.old.sources }
+        ensures shown { self.new.shown ≡ self.old.shown }
+        ensures session { self.new.session ≡ self.old.session }
+        ensures changed { is_changed self.new ≡ true }
+    {
+        self.checked = None;
+        self.has_failed = false;
+        self.is_changed = true;
+    }
+
     // Why: docs/DECISIONS.md, "Bursts".
     /// Lets the sources follow the client's documents. If a text or a URI is another, the check is forgotten.
     fn follow<T: Threads>(&mut self, rt: &T) -> Result<(), AllocError>
@@ -133,9 +124,7 @@ impl Server {
         if !is_other {
             return Ok(());
         }
-        self.checked = None;
-        self.has_failed = false;
-        self.is_changed = true;
+        self.forget();
         Ok(())
     }
 
@@ -223,26 +212,58 @@ impl Server {
     ) -> Result<Taken, AllocError>
         requires orderly { IsOrderly self.old }
         ensures orderly { OnOk result (IsOrderly self.new) }
-        ensures reply { IfOk result (λ t. IsReplyOf body.now (map view (option_to_list t.reply))) }
-        ensures served { IfOk result (λ t. IsServed self.old self.new body.now (map view (option_to_list t.reply))) }
+        ensures reply { IfOk result (λ t. IsReplyOf body.now (replies_in t)) }
+        ensures served { IfOk result (λ t. IsServed self.old self.new body.now (replies_in t)) }
+        ensures taken { IfOk result (IsTakenFrom (session_of self.new) body.now) }
         ensures kept { OnOk result (AreKept (sources_of self.old) (sources_of self.new)) }
         ensures noted { OnOk result (IsNoted self.old self.new) }
     {
         match self.session.take(body)? {
-            Outcome::Reply(reply) => Ok(Taken::reply(reply)),
+            Outcome::Reply(reply) => Ok(Taken::Reply(reply)),
             Outcome::Ask(question, request) => {
-                Ok(Taken::reply(self.reply_to(rt, question, &request)?))
+                Ok(Taken::Reply(self.reply_to(rt, question, &request)?))
             }
             Outcome::Changed => {
                 self.follow(rt)?;
-                Ok(Taken::NOTHING)
+                Ok(Taken::Nothing)
             }
-            Outcome::Nothing => Ok(Taken::NOTHING),
-            Outcome::Ended(status) => Ok(Taken {
-                reply: None,
-                status: Some(status),
-            }),
+            Outcome::Begun => {
+                if !self.session.watches_files() {
+                    return Ok(Taken::Nothing);
+                }
+                Ok(Taken::Request(registration(self.alloc)?))
+            }
+            Outcome::Files(uris) => Ok(Taken::Files(uris)),
+            Outcome::Nothing => Ok(Taken::Nothing),
+            Outcome::Ended(status) => Ok(Taken::Ended(status)),
         }
+    }
+
+    /// Takes the text that the file with this URI has on the disk now, or that it isn't there. Its source has this text, unless a document of its name
+    /// is open.
+    ///
+    /// # Errors
+    ///
+    /// If memory runs out, or no thread can start. A text of the client may be lost then, so the server should end.
+    pub fn read_file<T: Threads>(
+        &mut self,
+        rt: &T,
+        uri: &str,
+        file: Option<Vec<u8>>,
+    ) -> Result<(), AllocError>
+        requires orderly { IsOrderly self.old }
+        ensures orderly { OnOk result (IsOrderly self.new) }
+        ensures read { OnOk result (IsFileRead (percent_decode uri.now) (option_map (λ t. t.items) file) (sources_of self.old) (sources_of self.new)) }
+        ensures session { session_of self.new ≡ session_of self.old }
+        ensures noted { OnOk result (IsFileNoted self.old self.new) }
+    {
+        let documents = self.session.documents().as_slice();
+        let is_other = self.sources.read_file(rt, documents, uri, file)?;
+        if !is_other {
+            return Ok(());
+        }
+        self.forget();
+        Ok(())
     }
 
     /// Adds the diagnostics of all sources, if the texts have changed since the last call and the client has initialized the server. If the check

@@ -8,17 +8,26 @@ mod disk;
 ghost use Rattle.std.specs.Prelude.{OnOk};
 ghost use Rattle.hm_lsp_server.specs.Servers.{IsOrderly};
 
-use crate::disk::sources_below;
+use crate::disk::{source_path, sources_below};
 use core::thread::Stack;
 use hm_lsp_frames::{Frame, Frames, framed};
 use hm_lsp_server::{Server, Taken};
+use hm_lsp_session::Cancelled;
 use serde_json::{Value, json};
 use std::alloc::{AllocError, Global};
 use std::io::{Read, Write};
 use std::process::ExitCode;
 use std::sync::Wait;
 use std::thread::{Promise, Threads};
-use std::{env, slice, thread};
+use std::{env, fs, slice, thread};
+
+/// Where the program runs.
+#[derive(Clone, Copy)]
+struct Place<'a> {
+    host: &'a HostRuntime,
+    /// The folder whose files are sources, if there is one.
+    folder: Option<&'a str>,
+}
 
 // Why: docs/DECISIONS.md, "The server's stack".
 /// The bytes of stack for the server.
@@ -42,49 +51,124 @@ fn protocol_error(alloc: Global, code: i64, text: &str) -> Result<Value, AllocEr
     json!(in alloc; {"error": {"code": code, "message": text}, "id": null, "jsonrpc": "2.0"})
 }
 
-/// Takes a frame.
+/// Takes a frame. A request that the client cancels has a reply that says so.
 fn take_frame<T: Threads + Wait + Sync>(
     rt: &T,
     alloc: Global,
     server: &mut Server,
+    cancelled: &Cancelled,
     frame: Frame,
 ) -> Result<Taken, AllocError>
     requires { IsOrderly server.old }
     ensures { OnOk result (IsOrderly server.new) }
 {
     let reply = match frame {
-        Frame::Body(body) => return server.take(rt, &body),
+        Frame::Body(body) => {
+            match cancelled.reply(&body)? {
+                Some(reply) => return Ok(Taken::Reply(reply)),
+                None => {}
+            }
+            return server.take(rt, &body);
+        }
         Frame::TooLong => protocol_error(alloc, -32600, "this message is too long")?,
         Frame::Malformed => protocol_error(alloc, -32700, "this is no header")?,
     };
-    Ok(Taken {
-        reply: Some(reply),
-        status: None,
-    })
+    Ok(Taken::Reply(reply))
 }
 
+/// Reads the files with these URIs that are sources below the folder.
+fn read_files<T: Threads + Wait + Sync>(
+    rt: &T,
+    place: &Place<'_>,
+    server: &mut Server,
+    uris: &[String],
+) -> Result<(), AllocError>
+    requires { IsOrderly server.old }
+    ensures { OnOk result (IsOrderly server.new) }
+{
+    let Some(folder) = place.folder else {
+        return Ok(());
+    };
+    'files: for uri in uris {
+        let Some(path) = source_path(place.host.alloc(), folder, uri.as_str())? else {
+            continue;
+        };
+        let text = fs::read(place.host, path.as_str()).ok();
+        server.read_file(rt, uri.as_str(), text)?;
+    }
+    Ok(())
+}
+
+/// Does what follows from a message. Returns the exit status if the server ends.
+fn act<T: Threads + Wait + Sync>(
+    rt: &T,
+    place: &Place<'_>,
+    server: &mut Server,
+    taken: Taken,
+) -> Result<Option<u8>, AllocError>
+    requires { IsOrderly server.old }
+    ensures { OnOk result (IsOrderly server.new) }
+{
+    match taken {
+        Taken::Nothing => Ok(None),
+        Taken::Reply(value) | Taken::Request(value) => {
+            let is_sent = send(place.host, slice::from_ref(&value))?;
+            Ok(if is_sent { None } else { Some(4) })
+        }
+        Taken::Files(uris) => {
+            read_files(rt, place, server, &uris)?;
+            Ok(None)
+        }
+        Taken::Ended(status) => Ok(Some(status)),
+    }
+}
+
+/// The frames that are whole, and those of them that cancel requests.
+#[derive(Drop)]
+struct Waiting {
+    frames: Vec<Frame>,
+    cancelled: Cancelled,
+}
+
+/// Returns all frames that are whole.
+fn waiting(alloc: Global, frames: &mut Frames) -> Result<Waiting, AllocError> {
+    let mut waiting = Waiting {
+        frames: Vec::new(alloc),
+        cancelled: Cancelled::new(alloc),
+    };
+    'frames: for _ in 0..u64::MAX {
+        let Some(frame) = frames.next()? else {
+            return Ok(waiting);
+        };
+        // The first frame cancels no request that waits.
+        if !waiting.frames.is_empty() {
+            if let Frame::Body(body) = &frame {
+                waiting.cancelled.note(body)?;
+            }
+        }
+        waiting.frames.push(frame)?;
+    }
+    Ok(waiting)
+}
+
+// Why: docs/DECISIONS.md, "Cancelled requests".
 /// Takes all frames that are whole. Returns the exit status if the server ends.
 fn take_all<T: Threads + Wait + Sync>(
     rt: &T,
-    host: &HostRuntime,
+    place: &Place<'_>,
     server: &mut Server,
     frames: &mut Frames,
 ) -> Result<Option<u8>, AllocError>
     requires { IsOrderly server.old }
     ensures { OnOk result (IsOrderly server.new) }
 {
-    'frames: for _ in 0..u64::MAX {
-        let Some(frame) = frames.next()? else {
-            return Ok(None);
-        };
-        let taken = take_frame(rt, host.alloc(), server, frame)?;
-        if let Some(reply) = &taken.reply {
-            if !send(host, slice::from_ref(reply))? {
-                return Ok(Some(4));
-            }
-        }
-        if taken.status.is_some() {
-            return Ok(taken.status);
+    let alloc = place.host.alloc();
+    let Waiting { frames, cancelled } = waiting(alloc, frames)?;
+    'frames: for frame in frames {
+        let taken = take_frame(rt, alloc, server, &cancelled, frame)?;
+        let status = act(rt, place, server, taken)?;
+        if status.is_some() {
+            return Ok(status);
         }
     }
     Ok(None)
@@ -93,7 +177,7 @@ fn take_all<T: Threads + Wait + Sync>(
 /// Takes what was read, and sends the diagnostics if no byte of a message is left. Returns the exit status if the server ends.
 fn take_bytes<T: Threads + Wait + Sync>(
     rt: &T,
-    host: &HostRuntime,
+    place: &Place<'_>,
     server: &mut Server,
     frames: &mut Frames,
     bytes: &[u8],
@@ -102,15 +186,19 @@ fn take_bytes<T: Threads + Wait + Sync>(
     ensures { OnOk result (IsOrderly server.new) }
 {
     frames.add(bytes)?;
-    if let Some(status) = take_all(rt, host, server, frames)? {
+    if let Some(status) = take_all(rt, place, server, frames)? {
         return Ok(Some(status));
     }
     if !frames.is_empty() {
         return Ok(None);
     }
-    let mut sent = Vec::new(host.alloc());
+    let mut sent = Vec::new(place.host.alloc());
     server.publish(rt, &mut sent)?;
-    Ok(if send(host, &sent)? { None } else { Some(4) })
+    Ok(if send(place.host, &sent)? {
+        None
+    } else {
+        Some(4)
+    })
 }
 
 /// Returns the folder that the command line names, if it names one.
@@ -132,10 +220,13 @@ fn folder(host: &HostRuntime) -> Result<Option<String>, AllocError> {
 /// Serves one client until it ends the server or the input ends. Returns the exit status.
 fn serve<T: Threads + Wait + Sync>(rt: &T, host: &HostRuntime) -> Result<u8, AllocError> {
     let alloc = host.alloc();
-    let files = match folder(host)? {
-        Some(folder) => sources_below(host, alloc, folder.as_str())?,
+    let folder = folder(host)?;
+    let folder = folder.as_deref();
+    let files = match folder {
+        Some(folder) => sources_below(host, alloc, folder)?,
         None => Vec::new(alloc),
     };
+    let place = Place { host, folder };
     let mut server = Server::new(rt, alloc, files)?;
     let mut frames = Frames::new(alloc);
     let mut stdin = host.stdin();
@@ -147,7 +238,7 @@ fn serve<T: Threads + Wait + Sync>(rt: &T, host: &HostRuntime) -> Result<u8, All
         if count == 0 {
             return Ok(1);
         }
-        if let Some(status) = take_bytes(rt, host, &mut server, &mut frames, &buffer[..count])? {
+        if let Some(status) = take_bytes(rt, &place, &mut server, &mut frames, &buffer[..count])? {
             return Ok(status);
         }
     }

@@ -1,5 +1,6 @@
 use Rattle.std.proofs.Common.{◌≡◌, IfSome, subst, sym, ap, ◌∙◌}
 use Rattle.hm_service.specs.Checks.{IsHeldCheck}
+use Rattle.hm_lsp_server.proofs.Publishing.{orderly_without}
 use Rattle.hm_lsp_server.specs.Servers.{workers}
 use Rattle.hm_lsp_session.specs.Documents.{listed}
 use Rattle.hm_lsp_session.specs.Effects.{documents_of}
@@ -15,6 +16,5 @@ returns-then-not-is_other-clause-orderly g c =
 
 pub returns-clause-orderly : goal.returns-clause-orderly
 returns-clause-orderly g c =
-    let same : c.as_slice-documents.result.now ≡ listed (documents_of c.args.self.now.session) = c.as_slice-documents.ensures ∙ ap listed c.documents.ensures in
-    let follows = subst (λ l. AreFollowing l (named_in c.follow.new.self) (held_in c.follow.new.self)) same (c.in_ok-is_other.ensures.following c.requires.followed.0 c.requires.followed.1) in
-    record { current = tt; follows = follows }
+    let same = c.as_slice-documents.ensures ∙ ap listed c.documents.ensures ∙ ap (λ x. listed (documents_of x)) (sym c.forget.ensures.session) in
+    orderly_without c.forget.new.self c.as_slice-documents.result.now c.follow.new.self c.forget.ensures.checked c.forget.ensures.sources same (c.in_ok-is_other.ensures.following c.requires.followed.0 c.requires.followed.1)

@@ -1,11 +1,8 @@
-use Rattle.std.proofs.Common.{◌∙◌, ap, inl, inr, map, option_to_list, subst, sym}
-use Rattle.serde_json.specs.View.{view}
+use Rattle.std.proofs.Common.{◌∙◌, ap, subst, sym}
 use Rattle.hm_lsp_session.specs.Effects.{HasBodyEffect, TextsAre, documents_of, encoding_of}
 use Rattle.hm_lsp_session.specs.Replies.{IsAsked, IsLeftOf, TakesBody}
 use Rattle.hm_lsp_session.specs.Steps.{stage_of}
-use Rattle.hm_lsp_server.specs.Replied.{IsReplyOf}
-use Rattle.hm_lsp_server.specs.Served.{IsServed}
-use Rattle.hm_lsp_server.proofs.OneReply.{body_asked, body_none, body_reply}
+use Rattle.hm_lsp_server.proofs.OneReply.{IsSilent, body_asked, body_none, body_reply}
 use Rattle.hm_lsp_sources.specs.Held.{held_in, named_in}
 use Rattle.hm_lsp_server.proofs.Publishing.{same_following}
 use Rattle.hm_lsp_server.proofs.Serving.{never_left, served_asked}
@@ -14,7 +11,7 @@ use Rattle.hm_lsp_server.proofs.server.Server.take.Goals as goal
 pub returns-in-Reply-clause-reply : goal.returns-in-Reply-clause-reply
 returns-in-Reply-clause-reply g c =
     let t = subst (TakesBody c.args.body.now) c.in-Reply.is c.in_ok-reply.ensures.takes in
-    subst (λ r. IsReplyOf c.args.body.now (map view (option_to_list r))) (sym c.reply.ensures) (body_reply c.args.body.now c.in-Reply.reply t)
+    body_reply c.args.body.now c.in-Reply.reply t
 
 pub returns-in-Reply-clause-served : goal.returns-in-Reply-clause-served
 returns-in-Reply-clause-served g c message name id q u e n i ready is =
@@ -23,7 +20,7 @@ returns-in-Reply-clause-served g c message name id q u e n i ready is =
 pub returns-in_ok-reply_to-in-Ask-clause-reply : goal.returns-in_ok-reply_to-in-Ask-clause-reply
 returns-in_ok-reply_to-in-Ask-clause-reply g c =
     let t = subst (TakesBody c.args.body.now) c.in-Ask.is c.in_ok-reply.ensures.takes in
-    subst (λ r. IsReplyOf c.args.body.now (map view (option_to_list r))) (sym c.reply-in-Ask.ensures) (body_asked c.args.body.now c.in-Ask.question c.in-Ask.request c.in_ok-reply_to-in-Ask.field-0 t c.in_ok-reply_to-in-Ask.ensures.reply)
+    body_asked c.args.body.now c.in-Ask.question c.in-Ask.request c.in_ok-reply_to-in-Ask.field-0 t c.in_ok-reply_to-in-Ask.ensures.reply
 
 pub returns-in_ok-reply_to-in-Ask-clause-served : goal.returns-in_ok-reply_to-in-Ask-clause-served
 returns-in_ok-reply_to-in-Ask-clause-served g c =
@@ -32,26 +29,46 @@ returns-in_ok-reply_to-in-Ask-clause-served g c =
     c.in_ok-reply.ensures.texts in
     let follows = same_following c.args.self.now c.reply_to.new.self (ap documents_of c.in_ok-reply_to-in-Ask.ensures.session ∙ same) (ap named_in c.in_ok-reply_to-in-Ask.ensures.sources) (ap held_in c.in_ok-reply_to-in-Ask.ensures.sources)
     c.requires.orderly.follows in
-    subst (λ r. IsServed c.args.self.now c.reply_to.new.self c.args.body.now (map view (option_to_list r))) (sym c.reply-in-Ask.ensures)
-    (served_asked c.args.self.now c.reply_to.new.self c.args.body.now c.in-Ask.question c.in-Ask.request c.in_ok-reply_to-in-Ask.field-0 left follows c.in_ok-reply_to-in-Ask.ensures.served)
+    served_asked c.args.self.now c.reply_to.new.self c.args.body.now c.in-Ask.question c.in-Ask.request c.in_ok-reply_to-in-Ask.field-0 left follows c.in_ok-reply_to-in-Ask.ensures.served
 
 pub returns-in_ok-follow-in-Changed-clause-reply : goal.returns-in_ok-follow-in-Changed-clause-reply
-returns-in_ok-follow-in-Changed-clause-reply g c = body_none c.args.body.now c.in_ok-reply.field-0 c.in_ok-reply.ensures.takes (inl c.in-Changed.is)
+returns-in_ok-follow-in-Changed-clause-reply g c = body_none c.args.body.now c.in_ok-reply.field-0 c.in_ok-reply.ensures.takes (subst IsSilent (sym c.in-Changed.is) tt)
 
 pub returns-in_ok-follow-in-Changed-clause-served : goal.returns-in_ok-follow-in-Changed-clause-served
 returns-in_ok-follow-in-Changed-clause-served g c message name id q u e n i ready is =
     absurd (never_left c.args.self.now c.args.body.now c.in_ok-reply.field-0 c.in_ok-reply.ensures.left (λ k m h. subst (IsAsked k m) c.in-Changed.is h) message name id q u e n i ready is)
 
 pub returns-in-Nothing-clause-reply : goal.returns-in-Nothing-clause-reply
-returns-in-Nothing-clause-reply g c = body_none c.args.body.now c.in_ok-reply.field-0 c.in_ok-reply.ensures.takes (inr (inl c.in-Nothing.is))
+returns-in-Nothing-clause-reply g c = body_none c.args.body.now c.in_ok-reply.field-0 c.in_ok-reply.ensures.takes (subst IsSilent (sym c.in-Nothing.is) tt)
 
 pub returns-in-Nothing-clause-served : goal.returns-in-Nothing-clause-served
 returns-in-Nothing-clause-served g c message name id q u e n i ready is =
     absurd (never_left c.args.self.now c.args.body.now c.in_ok-reply.field-0 c.in_ok-reply.ensures.left (λ k m h. subst (IsAsked k m) c.in-Nothing.is h) message name id q u e n i ready is)
 
 pub returns-in-Ended-clause-reply : goal.returns-in-Ended-clause-reply
-returns-in-Ended-clause-reply g c = body_none c.args.body.now c.in_ok-reply.field-0 c.in_ok-reply.ensures.takes (inr (inr (c.in-Ended.status, c.in-Ended.is)))
+returns-in-Ended-clause-reply g c = body_none c.args.body.now c.in_ok-reply.field-0 c.in_ok-reply.ensures.takes (subst IsSilent (sym c.in-Ended.is) tt)
 
 pub returns-in-Ended-clause-served : goal.returns-in-Ended-clause-served
 returns-in-Ended-clause-served g c message name id q u e n i ready is =
     absurd (never_left c.args.self.now c.args.body.now c.in_ok-reply.field-0 c.in_ok-reply.ensures.left (λ k m h. subst (IsAsked k m) c.in-Ended.is h) message name id q u e n i ready is)
+
+pub returns-then-not-watches_files-clause-reply : goal.returns-then-not-watches_files-clause-reply
+returns-then-not-watches_files-clause-reply g c = body_none c.args.body.now c.in_ok-reply.field-0 c.in_ok-reply.ensures.takes (subst IsSilent (sym c.in-Begun.is) tt)
+
+pub returns-then-not-watches_files-clause-served : goal.returns-then-not-watches_files-clause-served
+returns-then-not-watches_files-clause-served g c message name id q u e n i ready is =
+    absurd (never_left c.args.self.now c.args.body.now c.in_ok-reply.field-0 c.in_ok-reply.ensures.left (λ k m h. subst (IsAsked k m) c.in-Begun.is h) message name id q u e n i ready is)
+
+pub returns-in_ok-registration-in-Begun-clause-reply : goal.returns-in_ok-registration-in-Begun-clause-reply
+returns-in_ok-registration-in-Begun-clause-reply g c = body_none c.args.body.now c.in_ok-reply.field-0 c.in_ok-reply.ensures.takes (subst IsSilent (sym c.in-Begun.is) tt)
+
+pub returns-in_ok-registration-in-Begun-clause-served : goal.returns-in_ok-registration-in-Begun-clause-served
+returns-in_ok-registration-in-Begun-clause-served g c message name id q u e n i ready is =
+    absurd (never_left c.args.self.now c.args.body.now c.in_ok-reply.field-0 c.in_ok-reply.ensures.left (λ k m h. subst (IsAsked k m) c.in-Begun.is h) message name id q u e n i ready is)
+
+pub returns-in-Files-clause-reply : goal.returns-in-Files-clause-reply
+returns-in-Files-clause-reply g c = body_none c.args.body.now c.in_ok-reply.field-0 c.in_ok-reply.ensures.takes (subst IsSilent (sym c.in-Files.is) tt)
+
+pub returns-in-Files-clause-served : goal.returns-in-Files-clause-served
+returns-in-Files-clause-served g c message name id q u e n i ready is =
+    absurd (never_left c.args.self.now c.args.body.now c.in_ok-reply.field-0 c.in_ok-reply.ensures.left (λ k m h. subst (IsAsked k m) c.in-Files.is h) message name id q u e n i ready is)

@@ -1,0 +1,26 @@
+use Rattle.std.proofs.Common.{◌≡◌, ◌∙◌, IfSome, ap, option_map, subst, sym}
+use Rattle.percent_encoding.specs.Percent.{percent_decode}
+use Rattle.hm_service.specs.Checks.{IsHeldCheck}
+use Rattle.hm_lsp_server.proofs.Publishing.{orderly_without}
+use Rattle.hm_lsp_server.specs.Servers.{sources_of, workers}
+use Rattle.hm_lsp_session.specs.Documents.{listed}
+use Rattle.hm_lsp_session.specs.Effects.{documents_of}
+use Rattle.hm_lsp_sources.specs.Files.{IsFileRead}
+use Rattle.hm_lsp_sources.specs.Following.{AreFollowing}
+use Rattle.hm_lsp_sources.specs.Held.{held_in, named_in}
+use Rattle.hm_lsp_server.proofs.server.Server.read_file.Goals as goal
+
+pub returns-then-not-is_other-clause-orderly : goal.returns-then-not-is_other-clause-orderly
+returns-then-not-is_other-clause-orderly g c =
+    let same : c.as_slice-documents.result.now ≡ listed (documents_of c.args.self.now.session) = c.as_slice-documents.ensures ∙ ap listed c.documents.ensures in
+    let follows = subst (λ l. AreFollowing l (named_in c.read_file.new.self) (held_in c.read_file.new.self)) same (c.in_ok-is_other.ensures.following (listed (documents_of c.args.self.now.session)) c.requires.orderly.follows) in
+    record { current = subst (λ h. IfSome c.args.self.now.checked (IsHeldCheck workers h)) (sym (c.in_ok-is_other.ensures.held c.if-not-is_other.true)) c.requires.orderly.current; follows = follows }
+
+pub returns-clause-orderly : goal.returns-clause-orderly
+returns-clause-orderly g c =
+    let same = c.as_slice-documents.ensures ∙ ap listed c.documents.ensures ∙ ap (λ x. listed (documents_of x)) (sym c.forget.ensures.session) in
+    orderly_without c.forget.new.self c.as_slice-documents.result.now c.read_file.new.self c.forget.ensures.checked c.forget.ensures.sources same (c.in_ok-is_other.ensures.following (listed (documents_of c.args.self.now.session)) c.requires.orderly.follows)
+
+pub returns-clause-read : goal.returns-clause-read
+returns-clause-read g c =
+    subst (λ x. IsFileRead (percent_decode c.args.uri.now) (option_map (λ t. t.items) c.args.file) (sources_of c.args.self.now) (named_in x)) (sym c.forget.ensures.sources) c.in_ok-is_other.ensures.read
