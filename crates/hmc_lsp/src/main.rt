@@ -131,7 +131,7 @@ struct Waiting {
 }
 
 /// Returns all frames that are whole.
-fn waiting(alloc: Global, frames: &mut Frames) -> Result<Waiting, AllocError> {
+fn all_waiting(alloc: Global, frames: &mut Frames) -> Result<Waiting, AllocError> {
     let mut waiting = Waiting {
         frames: Vec::new(alloc),
         cancelled: Cancelled::new(alloc),
@@ -163,7 +163,7 @@ fn take_all<T: Threads + Wait + Sync>(
     ensures { OnOk result (IsOrderly server.new) }
 {
     let alloc = place.host.alloc();
-    let Waiting { frames, cancelled } = waiting(alloc, frames)?;
+    let Waiting { frames, cancelled } = all_waiting(alloc, frames)?;
     'frames: for frame in frames {
         let taken = take_frame(rt, alloc, server, &cancelled, frame)?;
         let status = act(rt, place, server, taken)?;

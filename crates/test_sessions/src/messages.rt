@@ -161,7 +161,7 @@ fn number_of(outcome: &Outcome) -> i64 {
         Outcome::Ask(_, _) => ASK,
         Outcome::Changed => CHANGED,
         Outcome::Begun => BEGUN,
-        Outcome::Files(uris) => FILES + uris.len() as i64,
+        Outcome::Files(uris) => FILES.saturating_add(uris.len() as i64),
         Outcome::Nothing => NOTHING,
         Outcome::Ended(status) => ENDED + *status as i64,
     }
