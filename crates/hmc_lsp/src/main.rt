@@ -26,7 +26,7 @@ use std::{env, fs, slice, thread};
 struct Place<'a> {
     host: &'a HostRuntime,
     /// The folder whose files are sources, if there is one.
-    folder: Option<&'a str>,
+    folder: &'a Option<String>,
 }
 
 // Why: docs/DECISIONS.md, "The server's stack".
@@ -90,7 +90,7 @@ fn read_files<T: Threads + Wait + Sync>(
         return Ok(());
     };
     'files: for uri in uris {
-        let Some(path) = source_path(place.host.alloc(), folder, uri.as_str())? else {
+        let Some(path) = source_path(place.host.alloc(), folder.as_str(), uri.as_str())? else {
             continue;
         };
         let text = fs::read(place.host, path.as_str()).ok();
@@ -220,13 +220,15 @@ fn folder(host: &HostRuntime) -> Result<Option<String>, AllocError> {
 /// Serves one client until it ends the server or the input ends. Returns the exit status.
 fn serve<T: Threads + Wait + Sync>(rt: &T, host: &HostRuntime) -> Result<u8, AllocError> {
     let alloc = host.alloc();
-    let folder = folder(host)?;
-    let folder = folder.as_deref();
-    let files = match folder {
-        Some(folder) => sources_below(host, alloc, folder)?,
+    let named = folder(host)?;
+    let files = match &named {
+        Some(folder) => sources_below(host, alloc, folder.as_str())?,
         None => Vec::new(alloc),
     };
-    let place = Place { host, folder };
+    let place = Place {
+        host,
+        folder: &named,
+    };
     let mut server = Server::new(rt, alloc, files)?;
     let mut frames = Frames::new(alloc);
     let mut stdin = host.stdin();
