@@ -267,7 +267,8 @@ def arguments_at(tokens, at):
 def try_counts(source, message):
     """Compares the numbers of arguments that a note names with the tokens of the source."""
     found = COUNTS.match(message["text"])
-    if found is None:
+    # Special constructors, such as `[]`, are more than one token.
+    if found is None or not re.match(r"\w", found[2]):
         return
     tokens, start = slips.tokens_of(source), offset(source, message["start"])
     here, then = int(found[3]), int(found[4])
@@ -330,7 +331,7 @@ def try_follows(program, source, message):
     start, end = offset(source, message["start"]), UP_TO.search(message["text"])
     last = offset(source, {"line": int(end[1]), "byte": int(end[2])}) + 1
     other = re.search(r" and '([\w']+)' have types", message["text"])[1]
-    if not re.match(rf"{re.escape(other)}\b", source[start:last]):
+    if other not in source[start:last].split("::")[0].replace(",", " ").split():
         raise Finding(f"no signature of '{other}'")
     before, after = ask(program, source)[1], ask(program, with_text(source, start, last, ""))[1]
     if not is_untyped(before, other) or is_untyped(after, other) or is_untyped(after, message["name"]) or any(it["kind"] in ("syntax", "lexeme") for it in after):
