@@ -5,7 +5,7 @@ ghost use Rattle.hm_build_messages.specs.Explained.{IsExplained, IsStatedTo, Sta
 ghost use Rattle.hm_build_output.specs.JournalledRuns.{IsRun};
 ghost use Rattle.hm_run_io.specs.Sources.{AreReadUp, Stops, StopsAtFault, Tell, WritesPrefix, held_of};
 ghost use Rattle.hm_run_sources.specs.declared.status.Status.{Status};
-ghost use Rattle.hm_run_io.specs.Watching.{device_of, failures_of, HasReadFault, HasWriteFault, IsFlushedBehind, IsFresh, IsReadWithin, IsWritten, IsWrittenOnce};
+ghost use Rattle.hm_run_io.specs.Watching.{device_of, failures_of, given_of, HasReadFault, HasWriteFault, IsFlushedBehind, IsFresh, IsReadWhole, IsReadWithin, IsWritten, IsWrittenOnce};
 
 use crate::Explaining;
 use crate::reading::read_and_check;
@@ -66,6 +66,13 @@ pub fn run_explained<T: Threads + Wait + Sync, R: Read, W: Write, E: Write>(
     ensures ok { IfOk result (λ status. (sources : List (List ℕ)) → Tell (λ r. R.remaining (device_of r)) readers.old sources
         → (text : List ℕ) × IsRun run_options.options.workers run_options.options.journal sources status text
         × Appends (W.contents (device_of outputs.old.writer)) (W.contents (device_of outputs.new.writer)) text) }
+    // For every device, report and messages are those of the bytes that the readers gave. Each gave all that it had, or more than a source may have.
+    ensures given { IfOk result (λ status. (text : List ℕ) × (messages : List ℕ)
+        × IsRun run_options.options.workers run_options.options.journal (map given_of readers.new) status text
+        × IsExplained run_options.explain.paint (map (λ s. s.items) run_options.explain.names.items) (map given_of readers.new) status text messages
+        × Appends (W.contents (device_of outputs.old.writer)) (W.contents (device_of outputs.new.writer)) text
+        × IsStatedTo (E.contents (device_of outputs.old.errors)) (E.contents (device_of outputs.new.errors)) messages (HasWriteFault outputs.new.errors)) }
+    ensures whole { OnOk result (All IsReadWhole readers.new) }
     // The writer was flushed once, after that text.
     ensures flushed { OnOk result (IsFlushedBehind outputs.new.writer) }
     // If the writer failed, it got a prefix of that text.

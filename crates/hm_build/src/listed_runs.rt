@@ -6,7 +6,7 @@ ghost use Rattle.hm_build_messages.specs.Explained.{IsExplained, IsStatedTo, Sta
 ghost use Rattle.hm_build_output.specs.JournalledRuns.{IsRun};
 ghost use Rattle.hm_run_io.specs.Sources.{AreReadUp, Stops, StopsAtFault, Tell, WritesPrefix, held_of};
 ghost use Rattle.hm_run_sources.specs.declared.status.Status.{Status};
-ghost use Rattle.hm_run_io.specs.Watching.{device_of, failures_of, HasReadFault, HasWriteFault, IsFlushedBehind, IsFresh, IsReadWithin, IsWritten, IsWrittenOnce};
+ghost use Rattle.hm_run_io.specs.Watching.{device_of, failures_of, given_of, HasReadFault, HasWriteFault, IsFlushedBehind, IsFresh, IsReadWhole, IsReadWithin, IsWritten, IsWrittenOnce};
 
 use crate::explained_runs::Outputs;
 use crate::reading::read_and_check;
@@ -43,6 +43,14 @@ pub fn run_listed<T: Threads + Wait + Sync, R: Read, W: Write, E: Write>(
         × IfSome run_options.explain (λ e. IsExplained e.paint (map (λ s. s.items) e.names.items) (map held_of sources) status text messages)
         × Appends (W.contents (device_of outputs.old.writer)) (W.contents (device_of outputs.new.writer)) listing
         × IsStatedTo (E.contents (device_of outputs.old.errors)) (E.contents (device_of outputs.new.errors)) messages (HasWriteFault outputs.new.errors)) }
+    // For every device, listing and messages are those of the bytes that the readers gave. Each gave all that it had, or more than a source may have.
+    ensures given { IfOk result (λ status. (text : List ℕ) × (listing : List ℕ) × (messages : List ℕ)
+        × IsRun run_options.options.workers run_options.options.journal (map given_of readers.new) status text
+        × IsListed (map string_bytes run_options.names.items) (map given_of readers.new) status text listing
+        × IfSome run_options.explain (λ e. IsExplained e.paint (map (λ s. s.items) e.names.items) (map given_of readers.new) status text messages)
+        × Appends (W.contents (device_of outputs.old.writer)) (W.contents (device_of outputs.new.writer)) listing
+        × IsStatedTo (E.contents (device_of outputs.old.errors)) (E.contents (device_of outputs.new.errors)) messages (HasWriteFault outputs.new.errors)) }
+    ensures whole { OnOk result (All IsReadWhole readers.new) }
     // If the writer failed, it got a prefix of such a listing.
     ensures prefix { IsErrOf result RunFault.Write → (sources : List (List ℕ)) → Tell (λ r. R.remaining (device_of r)) readers.old sources
         → (status : Status) × (text : List ℕ) × (listing : List ℕ) × IsRun run_options.options.workers run_options.options.journal sources status text

@@ -4,7 +4,7 @@ ghost use Rattle.hm_build_messages.specs.Explained.{IsExplained, StatesExhaustio
 ghost use Rattle.hm_build_listing.specs.Listed.{IsListed};
 ghost use Rattle.hm_build_output.specs.JournalledRuns.{IsRun};
 ghost use Rattle.hm_run_io.specs.Sources.{AreReadUp, Stops, StopsAtFault, Tell, held_of};
-ghost use Rattle.hm_run_io.specs.Watching.{device_of, failures_of, HasReadFault, IsFresh, IsReadWithin};
+ghost use Rattle.hm_run_io.specs.Watching.{device_of, failures_of, given_of, HasReadFault, IsFresh, IsReadWhole, IsReadWithin};
 
 use crate::stacks::build_answer_on_thread;
 use hm_build_output::{Explained, RunOptions};
@@ -37,6 +37,12 @@ pub(crate) fn read_and_check<T: Threads + Wait + Sync, R: Read>(
         s.items) e.names.items) (map held_of sources) a.answer.status (string_bytes a.answer.text) a.messages.items)) }
     ensures listed { IfOk result (λ a. (sources : List (List ℕ)) → Tell (λ r. R.remaining (device_of r)) readers.old sources
         → IfSome run_options.listed (λ names. IsListed (map string_bytes names.items) (map held_of sources) a.answer.status (string_bytes a.answer.text) (string_bytes a.listing))) }
+    ensures given { IfOk result (λ a. IsRun run_options.options.workers run_options.options.journal (map given_of readers.new) a.answer.status (string_bytes a.answer.text)) }
+    ensures given_told { IfOk result (λ a. IfSome run_options.explain (λ e. IsExplained e.paint (map (λ s.
+        s.items) e.names.items) (map given_of readers.new) a.answer.status (string_bytes a.answer.text) a.messages.items)) }
+    ensures given_listed { IfOk result (λ a. IfSome run_options.listed (λ names. IsListed (map string_bytes names.items) (map given_of readers.new)
+        a.answer.status (string_bytes a.answer.text) (string_bytes a.listing))) }
+    ensures whole { OnOk result (All IsReadWhole readers.new) }
     ensures exhausted { IfSome note.new (λ m. (sources : List (List ℕ)) → Tell (λ r. R.remaining (device_of r)) readers.old sources
         → IfSome run_options.explain (λ e. StatesExhaustion e.paint (map (λ s. s.items) e.names.items) (map held_of sources) m.items)) }
     ensures silent { IsErrOf result RunFault.Memory ⊎ (note.new ≡ None) }

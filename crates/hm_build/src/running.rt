@@ -1,10 +1,10 @@
 //! Runs with one writer, which gets the report.
-ghost use Rattle.std.specs.Prelude.{◌≡◌, ◌<◌, ◌⊎◌, ◌↔◌, ℕ, List, All, Any, IfOk, IfErr, IsErrOf, OnErr, OnOk};
+ghost use Rattle.std.specs.Prelude.{◌≡◌, ◌<◌, ◌⊎◌, ◌↔◌, ℕ, List, All, Any, IfOk, IfErr, IsErrOf, OnErr, OnOk, map};
 ghost use Rattle.std.specs.Io.KnownBytes.{Appends};
 ghost use Rattle.hm_build_output.specs.JournalledRuns.{IsRun};
 ghost use Rattle.hm_run_io.specs.Sources.{AreReadUp, Stops, StopsAtFault, Tell, WritesPrefix};
 ghost use Rattle.hm_run_sources.specs.declared.status.Status.{Status};
-ghost use Rattle.hm_run_io.specs.Watching.{device_of, failures_of, HasReadFault, HasWriteFault, IsFlushedBehind, IsFresh, IsReadWithin, IsWritten, IsWrittenOnce};
+ghost use Rattle.hm_run_io.specs.Watching.{device_of, failures_of, given_of, HasReadFault, HasWriteFault, IsFlushedBehind, IsFresh, IsReadWhole, IsReadWithin, IsWritten, IsWrittenOnce};
 
 use crate::Options;
 use crate::reading::read_and_check;
@@ -41,6 +41,10 @@ pub fn run<T: Threads + Wait + Sync, R: Read, W: Write>(
     ensures ok { IfOk result (λ status. (sources : List (List ℕ)) → Tell (λ r. R.remaining (device_of r)) readers.old sources
         → (text : List ℕ) × IsRun options.workers options.journal sources status text
         × Appends (W.contents (device_of writer.old)) (W.contents (device_of writer.new)) text) }
+    // For every device, the report or the refusal is that of the bytes that the readers gave. Each gave all that it had, or more than a source may have.
+    ensures given { IfOk result (λ status. (text : List ℕ) × IsRun options.workers options.journal (map given_of readers.new) status text
+        × Appends (W.contents (device_of writer.old)) (W.contents (device_of writer.new)) text) }
+    ensures whole { OnOk result (All IsReadWhole readers.new) }
     // The writer was flushed once, after that text.
     ensures flushed { OnOk result (IsFlushedBehind writer.new) }
     // If the writer failed, it got a prefix of that text.

@@ -2,7 +2,7 @@
 ghost use Rattle.std.specs.Prelude.{◌≡◌, ◌<◌, ◌⊎◌, ◌↔◌, ℕ, List, All, Any, IfOk, IfErr, IsErrOf, OnOk, map, string_bytes};
 ghost use Rattle.hm_build_place_runs.specs.Runs.{IsPlaceRun};
 ghost use Rattle.hm_run_io.specs.Sources.{AreReadUp, Stops, StopsAtFault, Tell, held_of};
-ghost use Rattle.hm_run_io.specs.Watching.{device_of, failures_of, HasReadFault, IsFresh, IsReadWithin};
+ghost use Rattle.hm_run_io.specs.Watching.{device_of, failures_of, given_of, HasReadFault, IsFresh, IsReadWhole, IsReadWithin};
 
 use crate::answers::AskedPlace;
 use crate::stacks::answer_on_thread;
@@ -25,6 +25,9 @@ pub(crate) fn read_and_answer<T: Threads + Wait + Sync, R: Read>(
     ensures ok { IfOk result (λ a. (sources : List (List ℕ)) → Tell (λ r. R.remaining (device_of r)) readers.old sources
         → IsPlaceRun (map (λ n. n.items) asked.question.names.items) (map held_of sources)
         (record { source = asked.question.source; line = asked.question.line; column = asked.question.column; format = asked.question.format }) a.status (string_bytes a.text)) }
+    ensures given { IfOk result (λ a. IsPlaceRun (map (λ n. n.items) asked.question.names.items) (map given_of readers.new)
+        (record { source = asked.question.source; line = asked.question.line; column = asked.question.column; format = asked.question.format }) a.status (string_bytes a.text)) }
+    ensures whole { OnOk result (All IsReadWhole readers.new) }
     ensures unread { IsErrOf result RunFault.Workers → readers.new ≡ readers.old }
     ensures read_up { OnOk result (AreReadUp (λ r. R.remaining (device_of r)) readers.old readers.new) }
     ensures read_up_before_a_build { (IsErrOf result RunFault.NoWorker ⊎ IsErrOf result RunFault.Mixed)

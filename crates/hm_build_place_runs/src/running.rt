@@ -4,7 +4,7 @@ ghost use Rattle.std.specs.Io.KnownBytes.{Appends};
 ghost use Rattle.hm_build_place_runs.specs.Runs.{IsPlaceRun};
 ghost use Rattle.hm_run_io.specs.Sources.{AreReadUp, Stops, StopsAtFault, Tell, WritesPrefix, held_of};
 ghost use Rattle.hm_run_sources.specs.declared.status.Status.{Status};
-ghost use Rattle.hm_run_io.specs.Watching.{device_of, failures_of, HasReadFault, HasWriteFault, IsFlushedBehind, IsFresh, IsReadWithin, IsWritten, IsWrittenOnce};
+ghost use Rattle.hm_run_io.specs.Watching.{device_of, failures_of, given_of, HasReadFault, HasWriteFault, IsFlushedBehind, IsFresh, IsReadWhole, IsReadWithin, IsWritten, IsWrittenOnce};
 
 use crate::AskedPlace;
 use crate::reading::read_and_answer;
@@ -43,6 +43,11 @@ pub fn run_place<T: Threads + Wait + Sync, R: Read, W: Write>(
         → (text : List ℕ) × IsPlaceRun (map (λ n. n.items) asked.question.names.items) (map held_of sources)
         (record { source = asked.question.source; line = asked.question.line; column = asked.question.column; format = asked.question.format }) status text
         × Appends (W.contents (device_of writer.old)) (W.contents (device_of writer.new)) text) }
+    // For every device, the text is that of the bytes that the readers gave. Each gave all that it had, or more than a source may have.
+    ensures given { IfOk result (λ status. (text : List ℕ) × IsPlaceRun (map (λ n. n.items) asked.question.names.items) (map given_of readers.new)
+        (record { source = asked.question.source; line = asked.question.line; column = asked.question.column; format = asked.question.format }) status text
+        × Appends (W.contents (device_of writer.old)) (W.contents (device_of writer.new)) text) }
+    ensures whole { OnOk result (All IsReadWhole readers.new) }
     // The writer was flushed once, after that text.
     ensures flushed { OnOk result (IsFlushedBehind writer.new) }
     // If the writer failed, it got a prefix of that text.

@@ -1,6 +1,6 @@
 -- What readers tell, one reader after the other, and how far they are read.
 use Rattle.std.proofs.Common.{◌≡◌, ℕ, ◌+◌, ◌<◌, ◌≤◌, List, [], ◌∷◌, ◌++◌, Option, Some, IfSome, length, take, map, get_or, refl, sym, ap, subst, ◌∙◌, arith, inl, inr}
-use Rattle.std.proofs.lemmas.List.{take_more, map-append, get_or-set_other, get_or-set_same, length-set}
+use Rattle.std.proofs.lemmas.List.{take_more, take_more_set, map-append, get_or-set_other, get_or-set_same, length-set}
 use Rattle.std.proofs.lemmas.Bool.{cases_order}
 use Rattle.std.proofs.Math.ListN.{set}
 use Rattle.std.proofs.lemmas.List.Elements.{All-append, All-cons, All-nil, All-set}
@@ -79,3 +79,14 @@ all_more P old new y e h p = subst (All P) (sym e) (All-append P old (y ∷ []) 
 pub answered : {T E P : Type 0} (r : Result T E) → P → OnErr r P
 answered (Ok x) p = tt
 answered (Err e) p = p
+
+-- one more source is what its reader gave
+pub given_more : {X R : Type 0} (f : X → List ℕ) (g : R → List ℕ) (xs ys : List X) (x : X) (rs : List R) (i : ℕ) (r : R) → i < length rs → ys ≡ xs ++ x ∷ []
+    → map f xs ≡ map g (take i rs) → f x ≡ g r → map f ys ≡ map g (take (i + 1) (set rs i r))
+given_more f g xs ys x rs i r within pushed before last =
+    ap (map f) pushed ∙ map-append f xs (x ∷ []) ∙ ap (λ l. l ++ f x ∷ []) before ∙ ap (λ b. map g (take i rs) ++ b ∷ []) last
+    ∙ sym (map-append g (take i rs) (r ∷ [])) ∙ sym (ap (map g) (take_more_set rs i r within))
+
+-- one more reader of which P holds
+pub all_taken : {R : Type 0} (P : R → Type 0) (rs : List R) (i : ℕ) (r : R) → i < length rs → All P (take i rs) → P r → All P (take (i + 1) (set rs i r))
+all_taken P rs i r within before last = all_more P (take i rs) (take (i + 1) (set rs i r)) r (take_more_set rs i r within) before last

@@ -1,5 +1,8 @@
 -- The parts of a watched device that clauses read.
-use Rattle.std.specs.Prelude.{◌≡◌, ℕ, ◌<◌, ◌≤◌, ◌⊎◌, Bool, false, true}
+use Rattle.std.specs.Prelude.{◌≡◌, ℕ, ◌<◌, ◌≤◌, ◌⊎◌, Bool, false, true, List, [], Option, None, Some, length}
+use Rattle.std.specs.declared.snapshot.Snapshot.{Snapshot}
+use Rattle.std.specs.declared.vec.Vec.{Vec}
+use Rattle.std.specs.declared.alloc.Global.{Global}
 use Rattle.hm_run_io.specs.declared.watched.Watched.{Watched}
 
 -- the device inside
@@ -30,7 +33,20 @@ flushes_of w = w.flushes
 abbrev pub is_flushed_of : {D : Type 0} → Watched D → Bool
 is_flushed_of w = w.is_flushed
 
--- all counts are 0, and nothing was flushed
+-- the bytes that were noted, if any were
+abbrev pub noted : Option (Snapshot (Vec ℕ Global)) → List ℕ
+noted None = []
+noted (Some s) = s.value.items
+
+-- the bytes that the device gave to `read_all`, in order
+abbrev pub given_of : {D : Type 0} → Watched D → List ℕ
+given_of w = noted w.given
+
+-- whether the last read was for at least one byte and got none
+abbrev pub has_ended_of : {D : Type 0} → Watched D → Bool
+has_ended_of w = w.has_ended
+
+-- all counts are 0, nothing was given, and nothing was flushed
 pub record IsFresh {D : Type 0} (w : Watched D) : Type 0 where
   pub reads : reads_of w ≡ 0
   pub bytes : bytes_of w ≡ 0
@@ -38,6 +54,12 @@ pub record IsFresh {D : Type 0} (w : Watched D) : Type 0 where
   pub failures : failures_of w ≡ 0
   pub flushes : flushes_of w ≡ 0
   pub unflushed : is_flushed_of w ≡ false
+  pub none : given_of w ≡ []
+
+-- the bytes that were given are those of all reads, to the end of the device or just past the limit of a source
+pub record IsReadWhole {R : Type 0} (r : Watched R) : Type 0 where
+  pub all : bytes_of r ≡ length (given_of r)
+  pub whole : (has_ended_of r ≡ true) ⊎ (bytes_of r ≡ 1048577)
 
 -- why reading may stop
 abbrev pub HasReadFault : {R : Type 0} → Watched R → Type 0

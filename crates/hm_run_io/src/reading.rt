@@ -1,9 +1,9 @@
 //! Reads sources.
-ghost use Rattle.std.specs.Prelude.{All, Any, map, ◌≡◌, ℕ, List, ◌⊎◌, ◌+◌, ◌++◌, ◌<◌, ◌≤◌, Some, Ok, IfErr, IfOk, IfSome, IsErrOf, OnErr, OnOk, vec_len};
+ghost use Rattle.std.specs.Prelude.{All, Any, map, true, ◌≡◌, ℕ, List, ◌⊎◌, ◌+◌, ◌++◌, ◌<◌, ◌≤◌, Some, Ok, IfErr, IfOk, IfSome, IsErrOf, OnErr, OnOk, vec_len};
 ghost use Rattle.std.specs.Io.KnownBytes.{Consumes, IsAtEnd};
 ghost use Rattle.hm_run_io.specs.Counting.{one_more};
 ghost use Rattle.hm_run_io.specs.Sources.{held_of, AreReadUp, IsReadUp, Stops, StopsAtFault, Tell};
-ghost use Rattle.hm_run_io.specs.Watching.{device_of, reads_of, bytes_of, failures_of, HasReadFault, IsFresh, IsReadWithin};
+ghost use Rattle.hm_run_io.specs.Watching.{device_of, reads_of, bytes_of, given_of, failures_of, has_ended_of, HasReadFault, IsFresh, IsReadWhole, IsReadWithin};
 
 use crate::{RunFault, Watched};
 use std::alloc::Global;
@@ -25,6 +25,9 @@ fn read_once<R: Read>(
 ) -> Result<Option<usize>, RunFault>
     requires room { vec_len held.old < 1048577 }
     requires held { bytes_of reader.old ≡ vec_len held.old }
+    requires given { given_of reader.old ≡ held.old.items }
+    ensures given { OnOk result (given_of reader.new ≡ held.new.items) }
+    ensures ended { result ≡ Ok (Some 0) → has_ended_of reader.new ≡ true }
     ensures bytes { OnOk result ((came : List ℕ) × (held.new.items ≡ held.old.items ++ came)
         × Consumes (R.remaining (device_of reader.old)) (R.remaining (device_of reader.new)) came) }
     ensures end { result ≡ Ok (Some 0) → IsAtEnd (R.remaining (device_of reader.new)) }
@@ -44,6 +47,7 @@ fn read_once<R: Read>(
         Ok(count) => {
             held.extend_from_slice(&part[..count])
                 .map_err(|_| RunFault::Memory)?;
+            reader.note_given(held);
             Ok(Some(count))
         }
         Err(error) => {
@@ -65,6 +69,8 @@ pub(crate) fn read_source<R: Read>(
     requires { IsFresh reader.old }
     ensures bytes { IfOk result (λ source. IfSome (R.remaining (device_of reader.old)) (λ all. source.items ≡ held_of all)) }
     ensures len { IfOk result (λ source. vec_len source ≤ 1048577) }
+    ensures given { IfOk result (λ source. source.items ≡ given_of reader.new) }
+    ensures whole { OnOk result (IsReadWhole reader.new) }
     ensures read_up { OnOk result (IsReadUp (R.remaining (device_of reader.old)) (R.remaining (device_of reader.new))) }
     ensures within { IsReadWithin reader.new }
     ensures ok { OnOk result (failures_of reader.new ≡ 0) }
@@ -97,6 +103,8 @@ pub fn read_all<R: Read>(
     ensures len { IfOk result (λ sources. All (λ s. vec_len s ≤ 1048577) sources.items) }
     ensures bytes { IfOk result (λ sources. (told : List (List ℕ)) → Tell (λ r. R.remaining (device_of r)) readers.old told
         → map (λ s. s.items) sources.items ≡ map held_of told) }
+    ensures given { IfOk result (λ sources. map (λ s. s.items) sources.items ≡ map given_of readers.new) }
+    ensures whole { OnOk result (All IsReadWhole readers.new) }
     ensures read_up { OnOk result (AreReadUp (λ r. R.remaining (device_of r)) readers.old readers.new) }
     ensures stops { OnErr result (Stops (λ r. R.remaining (device_of r)) readers.old readers.new) }
     ensures stops_at_fault { IsErrOf result RunFault.Read → StopsAtFault (λ r. R.remaining (device_of r)) readers.old readers.new }

@@ -1,12 +1,13 @@
 //! Readers and writers that count the replies of their devices.
-ghost use Rattle.std.specs.Prelude.{◌≡◌, ◌<◌, false, IfErr, IfOk, IsTrue, OnOk, OnErr};
+ghost use Rattle.std.specs.Prelude.{◌≡◌, ◌<◌, Ok, false, true, length, IfErr, IfOk, IsTrue, OnOk, OnErr};
 ghost use Rattle.std.specs.Io.{ReadsAtMost, WritesAtMost};
 ghost use Rattle.std.specs.Io.KnownBytes.{Keeps, ReadConsumes, WriteAppends};
 ghost use Rattle.hm_run_io.specs.Counting.{more, one_more, CountsError};
-ghost use Rattle.hm_run_io.specs.Watching.{device_of, reads_of, bytes_of, interrupts_of, failures_of, flushes_of, is_flushed_of, IsFresh};
+ghost use Rattle.hm_run_io.specs.Watching.{device_of, reads_of, bytes_of, given_of, interrupts_of, failures_of, flushes_of, has_ended_of, is_flushed_of, IsFresh};
 
 use std::io;
 use std::io::{ErrorKind, Read, Write};
+use std::snapshot::Snapshot;
 
 // Why: docs/DECISIONS.md, "Results of devices".
 /// A reader or a writer that returns each reply of its device, and counts it.
@@ -19,6 +20,8 @@ pub struct Watched<D> {
     failures: u64,
     flushes: u64,
     is_flushed: bool,
+    has_ended: bool,
+    given: Option<Snapshot<Vec<u8>>>,
 }
 
 impl<D> Watched<D> {
@@ -35,6 +38,8 @@ impl<D> Watched<D> {
             failures: 0,
             flushes: 0,
             is_flushed: false,
+            has_ended: false,
+            given: None,
         }
     }
 
@@ -80,6 +85,22 @@ impl<D> Watched<D> {
         self.is_flushed
     }
 
+    // Why: docs/DECISIONS.md, "Bytes of a reader".
+    /// Notes these bytes as those that the device gave. Only contracts see them.
+    pub(crate) fn note_given(&mut self, given: &Vec<u8>)
+        ensures given { given_of self.new ≡ given.now.items }
+        ensures device { device_of self.new ≡ device_of self.old }
+        ensures reads { reads_of self.new ≡ reads_of self.old }
+        ensures count { bytes_of self.new ≡ bytes_of self.old }
+        ensures interrupts { interrupts_of self.new ≡ interrupts_of self.old }
+        ensures failures { failures_of self.new ≡ failures_of self.old }
+        ensures flushes { flushes_of self.new ≡ flushes_of self.old }
+        ensures flushed { is_flushed_of self.new ≡ is_flushed_of self.old }
+        ensures ended { has_ended_of self.new ≡ has_ended_of self.old }
+    {
+        self.given = Some(Snapshot::of(given));
+    }
+
     /// Counts a failure.
     fn count_failure(&mut self)
         ensures device { device_of self.new ≡ device_of self.old }
@@ -89,6 +110,8 @@ impl<D> Watched<D> {
         ensures failures { failures_of self.new ≡ one_more (failures_of self.old) }
         ensures flushes { flushes_of self.new ≡ flushes_of self.old }
         ensures flushed { is_flushed_of self.new ≡ is_flushed_of self.old }
+        ensures given { given_of self.new ≡ given_of self.old }
+        ensures ended { has_ended_of self.new ≡ has_ended_of self.old }
     {
         self.failures = self.failures.saturating_add(1);
     }
@@ -100,6 +123,8 @@ impl<D> Watched<D> {
         ensures count { bytes_of self.new ≡ bytes_of self.old }
         ensures flushes { flushes_of self.new ≡ flushes_of self.old }
         ensures flushed { is_flushed_of self.new ≡ is_flushed_of self.old }
+        ensures given { given_of self.new ≡ given_of self.old }
+        ensures ended { has_ended_of self.new ≡ has_ended_of self.old }
         ensures counts { CountsError error.now (interrupts_of self.old) (interrupts_of self.new) (failures_of self.old) (failures_of self.new) }
     {
         if error.kind() == ErrorKind::Interrupted {
@@ -123,9 +148,13 @@ impl<R: Read> Read for Watched<R> {
         ensures flushed { is_flushed_of self.new ≡ is_flushed_of self.old }
         ensures ok { OnOk result ((interrupts_of self.new ≡ interrupts_of self.old) × (failures_of self.new ≡ failures_of self.old)) }
         ensures err { IfErr result (λ e. CountsError e (interrupts_of self.old) (interrupts_of self.new) (failures_of self.old) (failures_of self.new)) }
+        ensures given { given_of self.new ≡ given_of self.old }
+        ensures ended { IfOk result (λ n. n ≡ 0 → 0 < length buf.new → has_ended_of self.new ≡ true) }
+        ensures unended { has_ended_of self.new ≡ true → (result ≡ Ok 0) × (0 < length buf.new) }
     {
         self.reads = self.reads.saturating_add(1);
         let answer = self.device.read(buf);
+        self.has_ended = matches!(&answer, Ok(0)) && !buf.is_empty();
         match &answer {
             Ok(count) => self.bytes = self.bytes.saturating_add(*count as u64),
             Err(error) => self.count_error(error),

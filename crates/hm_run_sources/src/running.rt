@@ -1,10 +1,10 @@
 //! Runs of the plan, from readers to a writer.
-ghost use Rattle.std.specs.Prelude.{◌≡◌, ◌⊎◌, ℕ, List, All, Any, IfOk, IfErr, IsErrOf, OnErr, OnOk};
+ghost use Rattle.std.specs.Prelude.{◌≡◌, ◌⊎◌, ℕ, List, All, Any, IfOk, IfErr, IsErrOf, OnErr, OnOk, map};
 ghost use Rattle.std.specs.Io.KnownBytes.{Appends};
 ghost use Rattle.hm_run_sources.specs.Runs.{IsPlanRun};
 ghost use Rattle.hm_run_io.specs.Sources.{AreReadUp, Stops, StopsAtFault, Tell, WritesPrefix};
 ghost use Rattle.hm_run_sources.specs.declared.status.Status.{Status};
-ghost use Rattle.hm_run_io.specs.Watching.{device_of, failures_of, HasReadFault, HasWriteFault, IsFlushedBehind, IsFresh, IsReadWithin, IsWritten, IsWrittenOnce};
+ghost use Rattle.hm_run_io.specs.Watching.{device_of, failures_of, given_of, HasReadFault, HasWriteFault, IsFlushedBehind, IsFresh, IsReadWhole, IsReadWithin, IsWritten, IsWrittenOnce};
 
 use crate::answers::Answer;
 use crate::stacks::plan_on_thread;
@@ -35,6 +35,10 @@ pub fn run_plan<T: Threads, R: Read, W: Write>(
     // If readers and writer report their bytes exactly, the plan's text or the refusal is written, and nothing else.
     ensures ok { IfOk result (λ status. (sources : List (List ℕ)) → Tell (λ r. R.remaining (device_of r)) readers.old sources
         → (text : List ℕ) × IsPlanRun sources status text × Appends (W.contents (device_of writer.old)) (W.contents (device_of writer.new)) text) }
+    // For every device, the text is that of the bytes that the readers gave, and each gave all that it had or more than a source may have.
+    ensures given { IfOk result (λ status. (text : List ℕ) × IsPlanRun (map given_of readers.new) status text
+        × Appends (W.contents (device_of writer.old)) (W.contents (device_of writer.new)) text) }
+    ensures whole { OnOk result (All IsReadWhole readers.new) }
     // The writer was flushed once, after that text.
     ensures flushed { OnOk result (IsFlushedBehind writer.new) }
     // If the writer failed, it got a prefix of that text.

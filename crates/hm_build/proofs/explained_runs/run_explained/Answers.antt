@@ -75,3 +75,14 @@ returns-clause-told g c sources told =
       search rules,
       stated_to c.write_text-3.result _ _ a.messages.items _ (search rules) (search rules) (search rules),
     )
+
+pub returns-clause-given : goal.returns-clause-given
+returns-clause-given g c =
+    let a = c.in-Ok.explained in (
+      string_bytes a.answer.text,
+      a.messages.items,
+      c.in-Ok.ensures.given,
+      c.in-Ok.ensures.given_told,
+      search rules,
+      stated_to c.write_text-3.result _ _ a.messages.items _ (search rules) (search rules) (search rules),
+    )

@@ -73,3 +73,16 @@ returns-clause-ok g c sources told =
       search rules,
       stated_to c.write_text-3.result _ _ x.messages.items _ (search rules) (search rules) (search rules),
     )
+
+pub returns-clause-given : goal.returns-clause-given
+returns-clause-given g c =
+    let x = c.in-Ok.explained in (
+      string_bytes x.answer.text,
+      string_bytes x.listing,
+      x.messages.items,
+      c.in-Ok.ensures.given,
+      c.in-Ok.ensures.given_listed,
+      c.in-Ok.ensures.given_told,
+      search rules,
+      stated_to c.write_text-3.result _ _ x.messages.items _ (search rules) (search rules) (search rules),
+    )

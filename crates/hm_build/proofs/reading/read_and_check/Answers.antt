@@ -46,3 +46,21 @@ returns-in_err-sources-clause-workers g c =
 
 pub returns-in-Ok-clause-failed : goal.returns-in-Ok-clause-failed
 returns-in-Ok-clause-failed g c = inr (no_failure (λ r. failures_of r ≡ 0) c.read_all.new.readers c.in_ok-sources.sources c.in_ok-sources.ensures.failed)
+
+pub returns-in-Ok-clause-given : goal.returns-in-Ok-clause-given
+returns-in-Ok-clause-given g c =
+    let a = c.in-Ok.explained.answer in
+    let options = c.args.run_options.options in
+    subst (λ l. IsRun options.workers options.journal l a.status (string_bytes a.text)) c.in_ok-sources.ensures.given c.in-Ok.ensures.ok
+
+pub returns-in-Ok-clause-given_told : goal.returns-in-Ok-clause-given_told
+returns-in-Ok-clause-given_told g c =
+    let a = c.in-Ok.explained in
+    subst (λ l. IfSome c.args.run_options.explain (λ e. IsExplained e.paint (map (λ s. s.items) e.names.items) l a.answer.status (string_bytes a.answer.text) a.messages.items)) c.in_ok-sources.ensures.given
+    c.in-Ok.ensures.told
+
+pub returns-in-Ok-clause-given_listed : goal.returns-in-Ok-clause-given_listed
+returns-in-Ok-clause-given_listed g c =
+    let a = c.in-Ok.explained in
+    subst (λ l. IfSome c.args.run_options.listed (λ names. IsListed (map string_bytes names.items) l a.answer.status (string_bytes a.answer.text) (string_bytes a.listing))) c.in_ok-sources.ensures.given
+    c.in-Ok.ensures.listed

@@ -43,3 +43,8 @@ returns-in_err-explained-clause-others g c =
     let e = c.in_err-explained.field-0.0 in
     let is : c.from_residual.result ≡ Err e = search rules in
     one_of_all c.from_residual.result e is c.in_err-explained.ensures.others
+
+pub returns-clause-given : goal.returns-clause-given
+returns-clause-given g c =
+    let a = c.in_ok-explained.explained.answer in
+    (string_bytes a.text, c.in_ok-explained.ensures.given, search rules)

@@ -24,3 +24,10 @@ returns-in_err-sources-clause-workers g c =
 
 pub returns-clause-failed : goal.returns-clause-failed
 returns-clause-failed g c = inr (no_failure (λ r. failures_of r ≡ 0) c.read_all.new.readers c.in_ok-sources.sources c.in_ok-sources.ensures.failed)
+
+pub returns-clause-given : goal.returns-clause-given
+returns-clause-given g c =
+    let a = c.in_ok-answer_on_thread.field-0 in
+    let question = c.args.asked.question in
+    subst (λ l. IsPlaceRun (map (λ n. n.items) question.names.items) l (record { source = question.source; line = question.line; column = question.column; format = question.format }) a.status (string_bytes a.text)) c.in_ok-sources.ensures.given
+    c.in_ok-answer_on_thread.ensures.ok

@@ -43,3 +43,8 @@ returns-in_err-answer-clause-others g c =
     let e = c.in_err-answer.field-0.0 in
     let is : c.from_residual.result ≡ Err e = search rules in
     one_of_all c.from_residual.result e is c.in_err-answer.ensures.others
+
+pub returns-clause-given : goal.returns-clause-given
+returns-clause-given g c =
+    let a = c.in_ok-answer.answer in
+    (string_bytes a.text, c.in_ok-answer.ensures.given, search rules)

@@ -1,9 +1,10 @@
 use Rattle.std.proofs.Common.{rules, ◌≡◌, ◌++◌, ◌∷◌, [], map, take, get_or, sym, ap, subst, ◌∙◌, arith, IfSome, inl, inr, ◌≤◌, vec_len}
 use Rattle.std.proofs.lemmas.List.{take_all, map-append, places, get_or_default}
 use Rattle.std.proofs.lemmas.Result.{err_from_is_err_and}
-use Rattle.hm_run_io.specs.Watching.{device_of, failures_of, HasReadFault, IsReadWithin}
+use Rattle.std.specs.Prelude.{All}
+use Rattle.hm_run_io.specs.Watching.{device_of, failures_of, given_of, HasReadFault, IsReadWhole, IsReadWithin}
 use Rattle.hm_run_io.specs.Sources.{IsReadUp, Tell, held_of}
-use Rattle.hm_run_io.proofs.ReadUp.{all_more, all_set, answered, found_set, read_up_more, set_past, stops, stops_at, told_more}
+use Rattle.hm_run_io.proofs.ReadUp.{all_more, all_set, all_taken, answered, found_set, given_more, read_up_more, set_past, stops, stops_at, told_more}
 use Rattle.hm_run_io.proofs.reading.read_all.Goals as goal
 
 pub returns-in_err-source-clause-read : goal.returns-in_err-source-clause-read
@@ -24,6 +25,8 @@ loop-index-preserved g c =
       all_set (λ r. failures_of r ≡ 0) c.loop-index.readers c.loop-index.index c.read_source.new.reader c.loop-index.invariant.4 (search rules),
       read_up_more (λ r. g.R.Read.remaining (device_of r)) c.args.readers.now c.loop-index.readers c.loop-index.index c.read_source.new.reader (search rules) c.loop-index.invariant.5 (λ e. subst (λ r. IsReadUp (g.R.Read.remaining (device_of r)) (g.R.Read.remaining (device_of c.read_source.new.reader))) (same ∙ get_or_default c.args.readers.now c.loop-index.index d e (search rules)) c.in_ok-source.ensures.read_up),
       all_more (λ s. vec_len s ≤ 1048577) c.loop-index.sources.items c.push.new.self.items c.in_ok-source.source pushed c.loop-index.invariant.6 c.in_ok-source.ensures.len,
+      given_more (λ s. s.items) given_of c.loop-index.sources.items c.push.new.self.items c.in_ok-source.source c.loop-index.readers c.loop-index.index c.read_source.new.reader (search rules) pushed c.loop-index.invariant.7 c.in_ok-source.ensures.given,
+      all_taken IsReadWhole c.loop-index.readers c.loop-index.index c.read_source.new.reader (search rules) c.loop-index.invariant.8 c.in_ok-source.ensures.whole,
     )
 
 pub returns-in_err-source-clause-failed : goal.returns-in_err-source-clause-failed
@@ -68,3 +71,9 @@ returns-clause-read_up g c = record { as_many = c.loop-index.invariant.1; each =
 pub returns-in_err-source-clause-within : goal.returns-in_err-source-clause-within
 returns-in_err-source-clause-within g c =
     all_set IsReadWithin c.loop-index.readers c.loop-index.index c.read_source.new.reader c.loop-index.invariant.3 c.in_err-source.ensures.within
+
+pub returns-clause-given : goal.returns-clause-given
+returns-clause-given g c = c.loop-index.invariant.7 ∙ ap (map given_of) (take_all _ _ (search rules))
+
+pub returns-clause-whole : goal.returns-clause-whole
+returns-clause-whole g c = subst (All IsReadWhole) (take_all _ _ (search rules)) c.loop-index.invariant.8

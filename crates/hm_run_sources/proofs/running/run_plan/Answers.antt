@@ -14,3 +14,9 @@ returns-clause-ok g c sources told =
     let a = c.in_ok-status.field-0 in
     let held : IsPlanRun (map (λ s. s.items) c.in_ok-sources.sources.items) a.status (string_bytes a.text) = search rules in
     (string_bytes a.text, run_held sources a.status (string_bytes a.text) (subst (λ l. IsPlanRun l a.status (string_bytes a.text)) (c.in_ok-sources.ensures.bytes sources told) held), search rules)
+
+pub returns-clause-given : goal.returns-clause-given
+returns-clause-given g c =
+    let a = c.in_ok-status.field-0 in
+    let held : IsPlanRun (map (λ s. s.items) c.in_ok-sources.sources.items) a.status (string_bytes a.text) = search rules in
+    (string_bytes a.text, subst (λ l. IsPlanRun l a.status (string_bytes a.text)) c.in_ok-sources.ensures.given held, search rules)
