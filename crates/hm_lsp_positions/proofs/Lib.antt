@@ -1,4 +1,6 @@
 mod Applying
+mod Kept
+mod KnownStarts
 mod Returns
 mod Starts
 mod Sums

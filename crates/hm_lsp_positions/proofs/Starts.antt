@@ -72,11 +72,11 @@ pub start_zero : (text : List ℕ) → line_start 0 text ≡ Some 0
 unfolding line_start
 start_zero text = refl
 
-start_suc : (n : ℕ) (text : List ℕ) → line_length text < length text → line_start (suc n) text ≡ option_map (λ k. whole_length text + k) (line_start n (drop (whole_length text) text))
+pub start_suc : (n : ℕ) (text : List ℕ) → line_length text < length text → line_start (suc n) text ≡ option_map (λ k. whole_length text + k) (line_start n (drop (whole_length text) text))
 unfolding line_start
 start_suc n text less = cond-true _ _ _ (lt-ltb _ _ less)
 
-start_end : (n : ℕ) (text : List ℕ) → length text ≤ line_length text → line_start (suc n) text ≡ None
+pub start_end : (n : ℕ) (text : List ℕ) → length text ≤ line_length text → line_start (suc n) text ≡ None
 unfolding line_start
 start_end n text ends = cond-false _ _ _ (false_from_ne_true _ (λ t. let less = ltb-true (line_length text) (length text) t in let never : ⊥ = omega (arith, less, ends) in never))
 

@@ -1,8 +1,10 @@
 //! Changes of a text (Language Server Protocol 3.17, `TextDocumentContentChangeEvent`).
 ghost use Rattle.std.specs.Prelude.{◌≡◌, ◌≤◌, ◌++◌, IfErr, IfOk, IsErrOf, drop, length, take};
 ghost use Rattle.hm_lsp_positions.specs.Changes.{AreApplied, HasReversed, IsApplied, IsReversed};
+ghost use Rattle.hm_lsp_positions.specs.Starts.{AreStarts};
 
-use crate::positions::{Position, offset_of};
+use crate::known_starts::{first_start, keep_before, offset_in};
+use crate::positions::Position;
 use crate::units::Encoding;
 use std::alloc::{AllocError, Global};
 use thiserror::Error;
@@ -62,33 +64,41 @@ fn replaced(
     Ok(made)
 }
 
-/// Returns a text after a change.
+/// Returns a text after a change. The starts of its lines are those that are known of the text before, which it keeps.
 ///
 /// # Errors
 ///
 /// `Reversed` if the range ends before it starts, and `Memory` if memory runs out.
-pub fn changed(
+fn changed(
     alloc: Global,
     encoding: Encoding,
     text: &[u8],
+    starts: &mut Vec<usize>,
     change: &Change,
 ) -> Result<Vec<u8>, ChangeFault>
+    requires { AreStarts text.now starts.old.items }
     ensures made { IfOk result (λ made. IsApplied encoding text.now change.now made.items) }
+    ensures starts { IfOk result (λ made. AreStarts made.items starts.new.items) }
     ensures reversed { IsErrOf result ChangeFault.Reversed → IsReversed encoding text.now change.now }
 {
     match change.range {
-        None => Ok(Vec::from_slice(alloc, change.text.as_slice())?),
+        None => {
+            keep_before(starts, 0);
+            Ok(Vec::from_slice(alloc, change.text.as_slice())?)
+        }
         Some(range) => {
-            let from = offset_of(encoding, text, range.start);
-            let to = offset_of(encoding, text, range.end);
+            let from = offset_in(encoding, text, starts, range.start)?;
+            let to = offset_in(encoding, text, starts, range.end)?;
             if to < from {
                 return Err(ChangeFault::Reversed);
             }
+            keep_before(starts, from);
             Ok(replaced(alloc, text, from, to, change.text.as_slice())?)
         }
     }
 }
 
+// Why: docs/DECISIONS.md, "Many changes".
 /// Returns a text after changes, each of the text after those before it.
 ///
 /// # Errors
@@ -103,9 +113,10 @@ pub fn all_changed(
     ensures made { IfOk result (λ made. AreApplied encoding text.now changes.now made.items) }
     ensures reversed { IsErrOf result ChangeFault.Reversed → HasReversed encoding text.now changes.now }
 {
+    let mut starts = first_start(alloc)?;
     let mut made = Vec::from_slice(alloc, text)?;
     'changes: for change in changes {
-        match changed(alloc, encoding, made.as_slice(), change) {
+        match changed(alloc, encoding, made.as_slice(), &mut starts, change) {
             Ok(next) => made = next,
             Err(fault) => return Err(fault),
         }

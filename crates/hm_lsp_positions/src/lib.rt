@@ -3,12 +3,13 @@
 
 mod changes;
 mod cursors;
+mod known_starts;
 pub mod laws;
 mod lines;
 mod positions;
 mod units;
 
-pub use crate::changes::{Change, ChangeFault, Range, all_changed, changed};
+pub use crate::changes::{Change, ChangeFault, Range, all_changed};
 pub use crate::cursors::Cursor;
 pub use crate::positions::{Position, offset_of, position_of};
 pub use crate::units::Encoding;

@@ -55,7 +55,7 @@ fn boundary(line: &[u8], most: usize) -> usize
 }
 
 /// Returns the number of bytes of a line before a column.
-fn column_bytes(encoding: Encoding, line: &[u8], column: usize) -> usize
+pub(crate) fn column_bytes(encoding: Encoding, line: &[u8], column: usize) -> usize
     ensures { IsColumn encoding line.now column result }
 {
     boundary(line, most_bytes(encoding, line, column))
