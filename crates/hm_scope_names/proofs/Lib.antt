@@ -1,0 +1,3 @@
+mod MeantOnce
+mod ScopeMeanings
+pub mod WorkedNames
