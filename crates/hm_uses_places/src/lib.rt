@@ -6,4 +6,4 @@ pub mod laws;
 mod on_names;
 
 pub use crate::declared::declared_at;
-pub use crate::on_names::uses_at;
+pub use crate::on_names::{is_on, qualifier_len, uses_at};

@@ -8,8 +8,8 @@ use hm_types::Text;
 use hm_uses_declarations::Use;
 use std::alloc::{AllocError, Global};
 
-/// Returns the number of bytes of a qualifier with the dot after it.
-fn qualifier_len(qualifier: &Option<Text>) -> u64
+/// Returns the number of bytes of a qualifier with the dot after it, or 0 if there is none.
+pub fn qualifier_len(qualifier: &Option<Text>) -> u64
     ensures length { result ≡ qualifier_length qualifier.now }
     ensures few { result ≤ 2 ^ 63 }
 {
@@ -26,8 +26,8 @@ fn written_len(name: &Name) -> u64
     qualifier_len(&name.qualifier) + name.as_str().len() as u64
 }
 
-/// Returns whether a name is at a place.
-fn is_on(line: u32, column: usize, name: &Name) -> bool
+/// Returns whether a name is at a place. The column counts bytes, from 1.
+pub fn is_on(line: u32, column: usize, name: &Name) -> bool
     ensures { result ≡ is_on (record { line = line; column = column }) name.now }
 {
     if name.place.line != line {

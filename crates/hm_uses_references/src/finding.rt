@@ -4,7 +4,7 @@ ghost use Rattle.hm_uses_references.specs.References.{AreReferences, AreReferred
 
 use crate::same::is_same_as_any;
 use crate::set_uses::SetUse;
-use crate::spelling::{is_on, qualifier_len};
+use hm_uses_places::{is_on, qualifier_len};
 use std::alloc::{AllocError, Global};
 
 /// A name in a source, without its qualifier.

@@ -7,7 +7,6 @@ mod finding;
 pub mod laws;
 mod same;
 mod set_uses;
-mod spelling;
 
 pub use crate::finding::{Reference, names_at, reference_of, references_at};
 pub use crate::same::{is_meaning, is_same};

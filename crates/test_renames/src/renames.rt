@@ -1,7 +1,9 @@
 //! Renames in sets of two sources.
 use hm_service::check;
 use hm_service_places::Checked;
-use hm_service_rename::{CheckedSet, Rename, RenameRefusal, Renamed, rename_of};
+use hm_service_rename::{
+    CheckedSet, Prepared, Rename, RenameRefusal, Renamed, SourcePlace, prepare_rename, rename_of,
+};
 use hm_service_sources::{HeldSource, change};
 use std::alloc::{AllocError, Global};
 use std::sync::Wait;
@@ -389,6 +391,112 @@ fn renames_have_their_outcomes(rt: HostRuntime) -> Result<(), Fail> {
     for row in ROWS.as_slice() {
         let held = held_by(&rt, alloc, row)?;
         if outcome_in(&rt, alloc, held.as_slice(), row)? != row.outcome {
+            return Err(Fail::from(row.what));
+        }
+    }
+    Ok(())
+}
+
+/// What is found for a rename: the name's column and the number of its bytes, or a refusal.
+#[derive(Clone, Copy, PartialEq, Eq)]
+enum Found {
+    Name(usize, usize),
+    Refused(RenameRefusal),
+}
+
+/// The name that a rename at a place of line 1 of the first source is of.
+struct PreparedRow {
+    what: &'static str,
+    first: &'static [u8],
+    second: &'static [u8],
+    column: usize,
+    found: Found,
+}
+
+const PREPARED: [PreparedRow; 6] = [
+    PreparedRow {
+        what: "a name before a rename",
+        first: EXPORTS_X,
+        second: IMPORTS_X,
+        column: 22,
+        found: Found::Name(22, 1),
+    },
+    PreparedRow {
+        what: "a qualifier before a rename",
+        first: IMPORTS_X,
+        second: EXPORTS_X,
+        column: 37,
+        found: Found::Name(39, 1),
+    },
+    PreparedRow {
+        what: "after a qualifier before a rename",
+        first: IMPORTS_X,
+        second: EXPORTS_X,
+        column: 39,
+        found: Found::Name(39, 1),
+    },
+    PreparedRow {
+        what: "Prelude's before a rename",
+        first: b"module A where { x = not True }",
+        second: IMPORTS_X,
+        column: 22,
+        found: Found::Refused(RenameRefusal::NotBound),
+    },
+    PreparedRow {
+        what: "no name before a rename",
+        first: EXPORTS_X,
+        second: IMPORTS_X,
+        column: 20,
+        found: Found::Refused(RenameRefusal::NoName),
+    },
+    PreparedRow {
+        what: "a text that can't be read before a rename",
+        first: EXPORTS_X,
+        second: b"module B where {",
+        column: 22,
+        found: Found::Refused(RenameRefusal::NotWhole),
+    },
+];
+
+/// Returns what was found for a rename.
+fn found_by(prepared: &Prepared) -> Found {
+    match prepared {
+        Prepared::Renamable(target) => {
+            Found::Name(target.reference.column, target.reference.length)
+        }
+        Prepared::Refused(refusal) => Found::Refused(*refusal),
+    }
+}
+
+/// Returns what is found for a rename at the place of a row.
+fn found_in<T: Threads + Wait + Sync>(
+    rt: &T,
+    alloc: Global,
+    row: &PreparedRow,
+) -> Result<Found, Fail> {
+    let mut held = Vec::new(alloc);
+    held.push(source_with(rt, alloc, row.first)?)?;
+    held.push(source_with(rt, alloc, row.second)?)?;
+    let checked = check(rt, alloc, held.as_slice(), 2).map_err(|_| "no check")?;
+    let set = CheckedSet {
+        held: held.as_slice(),
+        checked: &checked,
+        workers: 2,
+    };
+    let place = SourcePlace {
+        source: 0,
+        line: 1,
+        column: row.column,
+    };
+    let prepared = prepare_rename(rt, alloc, &set, &place).map_err(|_| "nothing prepared")?;
+    Ok(found_by(&prepared))
+}
+
+#[test]
+fn names_are_found_before_renames(rt: HostRuntime) -> Result<(), Fail> {
+    let alloc = rt.alloc();
+    for row in PREPARED.as_slice() {
+        if found_in(&rt, alloc, row)? != row.found {
             return Err(Fail::from(row.what));
         }
     }
