@@ -1,6 +1,6 @@
 -- What states something of a part of a module states it somewhere in the module.
-use Rattle.std.proofs.Common.{◌≡◌, List, [], ◌∷◌, ◌++◌, ⊎_elim, inl, inr, subst, sym}
-use Rattle.std.proofs.lemmas.List.Elements.{Contains-append_cases}
+use Rattle.std.proofs.Common.{◌⊎◌, List, [], ◌∷◌, ◌++◌, ⊎_elim, inl, inr, subst, sym, append_assoc}
+use Rattle.std.proofs.lemmas.List.{append-nil}
 use Rattle.std.specs.Prelude.{ℕ, Contains}
 use Rattle.hm_types.specs.Interfaces.{Exports as Interface}
 use Rattle.hm_lex.specs.declared.token.Place.{Place}
@@ -8,7 +8,7 @@ use Rattle.hm_syntax.specs.Trees.{TypeTree, variable_type, constructor_type, fun
 use Rattle.hm_syntax.specs.Lists.{declarations}
 use Rattle.hm_syntax.specs.declared.ast.Module.{Module}
 use Rattle.hm_names.specs.declared.faults.Fault.{Fault}
-use Rattle.hm_names.specs.Walk.{Locals, Node, Somewhere, at_expression, at_pattern, at_type, at_head, at_parameters, at_list, InType, InTypes, InConstructor, InConstructors, InPattern, InPatterns, InHead, InExpression, InExpressions, InAlternatives, InRightSide, InBodies, InDeclarations, InDeclaration, InTop, with_patterns, with_list}
+use Rattle.hm_names.specs.Walk.{Rule, Node, Somewhere, at_expression, at_pattern, at_type, at_head, at_parameters, at_list, InType, InTypes, InConstructor, InConstructors, InPattern, InPatterns, InHead, InExpression, InExpressions, InAlternatives, InRightSide, InBodies, InDeclarations, InDeclaration, InTop}
 use Rattle.hm_names.specs.Variables.{type_variables, constructor_variables, constructors_variables}
 use Rattle.hm_names.proofs.Members.{none_in, cases}
 use Rattle.hm_messages_details.specs.Counts.{HasArguments, of_type, of_constructor, HasLengthsAt}
@@ -18,106 +18,167 @@ use Rattle.hm_messages_details.specs.PatternBindings.{HasPatternBound, IsPattern
 use Rattle.hm_messages_details.specs.Roles.{IsRoleAt, a_variable, a_constructor, a_pattern as a_pattern_role, a_type as a_type_role, a_type_variable}
 use Rattle.hm_messages_details.specs.declared.role.Role.{Role}
 use Rattle.hm_messages_details.specs.declared.role.Role.TheVariants.{Variable, Constructor, TypeVariable}
-use Rattle.hm_messages_details.specs.Parts.{Part, a_list, a_head, a_row, a_pattern, a_type, a_use, IsPart, list_is, head_is, parameters_are, pattern_is, type_is, variable_is, constructor_is, type_variable_is, type_parts, types_parts, constructor_parts, constructors_parts, pattern_parts, patterns_parts, head_parts, expression_parts, expressions_parts, alternative_parts, alternatives_parts, right_side_parts, bodies_parts, declarations_parts, declaration_parts, module_parts, IsFirstIn, IsPartRole, HasArgumentsIn, HasLengthsIn, IsNearBindingIn, IsPatternBoundIn}
+use Rattle.hm_messages_details.specs.Scopes.{Scopes, Occurs, locals_at, locals_of, open_after, outer_of}
+use Rattle.hm_messages_details.specs.Parts.{Part, a_list, a_head, a_row, a_pattern, a_type, a_use, an_end, ended, IsPart, list_is, head_is, parameters_are, pattern_is, type_is, variable_is, constructor_is, type_variable_is, type_parts, types_parts, constructor_parts, constructors_parts, pattern_parts, patterns_parts, head_parts, expression_parts, expressions_parts, alternative_parts, alternatives_parts, right_side_parts, bodies_parts, declarations_parts, declaration_parts, module_parts, IsFirstIn, IsPartRole, HasArgumentsIn, HasLengthsIn, IsNearBindingIn, IsPatternBoundIn}
 
-module _ (Q : Locals → Node → Type 0) (p : Part) (h : (xs : Locals) (k : Node) → IsPart k p → Q xs k) where
-  -- the node of the part
-  at_node : (xs : Locals) (k : Node) (q : Part) → IsPart k q → p ≡ q → Q xs k
-  at_node xs k q is e = h xs k (subst (IsPart k) (sym e) is)
+swap : {A B : Type 0} → A ⊎ B → B ⊎ A
+swap (inl a) = inr a
+swap (inr b) = inl b
 
-  mutual
-    pub in_type : (xs : Locals) (t : TypeTree) → Contains (type_parts t) p → InType Q xs t
-    in_type xs (variable_type n) c = ⊎_elim (λ e. at_node xs (at_type (variable_type n)) (a_use TypeVariable n) type_variable_is e) (λ o. absurd (none_in p o)) (cases (a_use TypeVariable n) [] p c)
-    in_type xs (constructor_type n ts) c = ⊎_elim (λ e. inl (at_node xs (at_type (constructor_type n ts)) (a_type n ts) type_is e)) (λ o. inr (in_types xs ts o)) (cases (a_type n ts) (types_parts ts) p c)
-    in_type xs (function_type a b) c = ⊎_elim (λ o. inl (in_type xs a o)) (λ o. inr (in_type xs b o)) (Contains-append_cases (type_parts a) (type_parts b) p c)
-    in_type xs (tuple_type ts) c = in_types xs ts c
-    in_type xs (list_type t) c = in_type xs t c
-    in_type xs unit_type c = absurd (none_in p c)
+grouped : {A B C : Type 0} → (A ⊎ B) ⊎ C → A ⊎ (B ⊎ C)
+grouped (inl (inl a)) = inl a
+grouped (inl (inr b)) = inr (inl b)
+grouped (inr c) = inr (inr c)
 
-    pub in_types : (xs : Locals) (ts : TypeTrees) → Contains (types_parts ts) p → InTypes Q xs ts
-    in_types xs no_types c = absurd (none_in p c)
-    in_types xs (more_types t ts) c = ⊎_elim (λ o. inl (in_type xs t o)) (λ o. inr (in_types xs ts o)) (Contains-append_cases (type_parts t) (types_parts ts) p c)
+first_as : {A B C : Type 0} → (A → B) → A ⊎ C → B ⊎ C
+first_as f (inl a) = inl (f a)
+first_as f (inr c) = inr c
 
-  pub in_constructor : (xs : Locals) (d : DataConstructor) → Contains (constructor_parts d) p → InConstructor Q xs d
-  in_constructor xs (data_constructor n ts) c = in_types xs ts c
+-- R occurs in a tree, whose node then is as Q says, or it occurs after the tree, where the scopes are those of before
+module _ (Q : Rule) (R : Scopes → Part → Type 0) (h : (ss : Scopes) (k : Node) (p : Part) → IsPart k p → R ss p → Q (locals_at ss p) k) (ends : (ss : Scopes) → ¬ (R ss an_end)) where
+  one : {A B : Type 0} (ss ts : Scopes) (p : Part) (ps rest : List Part) → (R ss p → A) → (Occurs R (open_after ss p) ps → B ⊎ Occurs R ts rest) → Occurs R ss (p ∷ ps) → (A ⊎ B) ⊎ Occurs R ts rest
+  one ss ts p ps rest f g (inl r) = inl (inl (f r))
+  one ss ts p ps rest f g (inr o) = first_as (λ b. inr b) (g o)
 
-  pub in_constructors : (xs : Locals) (ds : DataConstructors) → Contains (constructors_parts ds) p → InConstructors Q xs ds
-  in_constructors xs no_constructors c = absurd (none_in p c)
-  in_constructors xs (more_constructors d ds) c = ⊎_elim (λ o. inl (in_constructor xs d o)) (λ o. inr (in_constructors xs ds o)) (Contains-append_cases (constructor_parts d) (constructors_parts ds) p c)
+  both : {A B : Type 0} (ss ts us : Scopes) (ps qs rest : List Part) → (Occurs R ss (ps ++ (qs ++ rest)) → A ⊎ Occurs R ts (qs ++ rest)) → (Occurs R ts (qs ++ rest) → B ⊎ Occurs R us rest) → Occurs R ss ((ps ++ qs) ++ rest) → (A ⊎ B) ⊎ Occurs R us rest
+  both ss ts us ps qs rest f g o = ⊎_elim (λ a. inl (inl a)) (λ q. first_as (λ b. inr b) (g q)) (f (subst (Occurs R ss) (append_assoc ps qs rest) o))
 
-  mutual
-    pub in_pattern : (xs : Locals) (t : Pattern) → Contains (pattern_parts t) p → InPattern Q xs t
-    in_pattern xs (variable_pattern n) c = absurd (none_in p c)
-    in_pattern xs (bound_pattern n t) c = in_pattern xs t c
-    in_pattern xs (constructor_pattern n ps) c = ⊎_elim (λ e. inl (at_node xs (at_pattern (constructor_pattern n ps)) (a_pattern n ps) pattern_is e)) (λ o. inr (in_patterns xs ps o)) (cases (a_pattern n ps) (patterns_parts ps) p c)
-    in_pattern xs (literal_pattern l) c = absurd (none_in p c)
-    in_pattern xs wildcard_pattern c = absurd (none_in p c)
-    in_pattern xs (tuple_pattern ps) c = in_patterns xs ps c
-    in_pattern xs (list_pattern ps) c = in_patterns xs ps c
-    in_pattern xs (lazy_pattern t) c = in_pattern xs t c
+  -- the end of the innermost scope
+  outside : (ss : Scopes) (rest : List Part) → Occurs R ss (an_end ∷ rest) → Occurs R (outer_of ss) rest
+  outside ss rest (inl r) = absurd (ends ss r)
+  outside ss rest (inr o) = o
 
-    pub in_patterns : (xs : Locals) (ts : Patterns) → Contains (patterns_parts ts) p → InPatterns Q xs ts
-    in_patterns xs no_patterns c = absurd (none_in p c)
-    in_patterns xs (more_patterns t ts) c = ⊎_elim (λ o. inl (in_pattern xs t o)) (λ o. inr (in_patterns xs ts o)) (Contains-append_cases (pattern_parts t) (patterns_parts ts) p c)
-
-  pub in_head : (xs : Locals) (ps : Patterns) → Contains (head_parts ps) p → InHead Q xs ps
-  in_head xs ps c = ⊎_elim (λ e. inl (at_node xs (at_head ps) (a_head ps) head_is e)) (λ o. inr (in_patterns xs ps o)) (cases (a_head ps) (patterns_parts ps) p c)
+  closed : {A : Type 0} (ss ts : Scopes) (ps rest : List Part) → (Occurs R ss (ps ++ (an_end ∷ rest)) → A ⊎ Occurs R ts (an_end ∷ rest)) → Occurs R ss (ended ps ++ rest) → A ⊎ Occurs R (outer_of ts) rest
+  closed ss ts ps rest f o = ⊎_elim (λ a. inl a) (λ q. inr (outside ts rest q)) (f (subst (Occurs R ss) (append_assoc ps (an_end ∷ []) rest) o))
 
   mutual
-    pub in_expression : (xs : Locals) (t : Expression) → Contains (expression_parts t) p → InExpression Q xs t
-    in_expression xs (variable_expression n) c = ⊎_elim (λ e. at_node xs (at_expression (variable_expression n)) (a_use Variable n) variable_is e) (λ o. absurd (none_in p o)) (cases (a_use Variable n) [] p c)
-    in_expression xs (constructor_expression n) c = ⊎_elim (λ e. at_node xs (at_expression (constructor_expression n)) (a_use Constructor n) constructor_is e) (λ o. absurd (none_in p o)) (cases (a_use Constructor n) [] p c)
-    in_expression xs (literal_expression l) c = absurd (none_in p c)
-    in_expression xs (application f e) c = ⊎_elim (λ o. inl (in_expression xs f o)) (λ o. inr (in_expression xs e o)) (Contains-append_cases (expression_parts f) (expression_parts e) p c)
-    in_expression xs (lambda ps e) c = ⊎_elim (λ o. inl (in_head xs ps o)) (λ o. inr (in_expression (with_patterns ps xs) e o)) (Contains-append_cases (head_parts ps) (expression_parts e) p c)
-    in_expression xs (let_expression ds e) c = ⊎_elim
-        (λ o. inl (⊎_elim (λ q. inl (at_node (with_list ds xs) (at_list ds) (a_list ds) list_is q)) (λ q. inr (in_declarations (with_list ds xs) ds q)) (cases (a_list ds) (declarations_parts ds) p o)))
-        (λ o. inr (in_expression (with_list ds xs) e o)) (Contains-append_cases (a_list ds ∷ declarations_parts ds) (expression_parts e) p c)
-    in_expression xs (if_expression a b d) c = ⊎_elim (λ o. inl (in_expression xs a o))
-        (λ o. inr (⊎_elim (λ q. inl (in_expression xs b q)) (λ q. inr (in_expression xs d q)) (Contains-append_cases (expression_parts b) (expression_parts d) p o)))
-        (Contains-append_cases (expression_parts a) (expression_parts b ++ expression_parts d) p c)
-    in_expression xs (case_expression e bs) c = ⊎_elim (λ o. inl (in_expression xs e o)) (λ o. inr (in_alternatives xs bs o)) (Contains-append_cases (expression_parts e) (alternatives_parts bs) p c)
-    in_expression xs (tuple_expression es) c = in_expressions xs es c
-    in_expression xs (list_expression es) c = in_expressions xs es c
-    in_expression xs (typed_expression e t) c = ⊎_elim (λ o. inl (in_expression xs e o)) (λ o. inr (in_type xs t o)) (Contains-append_cases (expression_parts e) (type_parts t) p c)
+    in_type : (ss : Scopes) (t : TypeTree) (rest : List Part) → Occurs R ss (type_parts t ++ rest) → InType Q (locals_of ss) t ⊎ Occurs R ss rest
+    in_type ss (variable_type n) rest o = first_as (λ r. h ss (at_type (variable_type n)) (a_use TypeVariable n) type_variable_is r) o
+    in_type ss (constructor_type n ts) rest o = one ss ss (a_type n ts) (types_parts ts ++ rest) rest (λ r. h ss (at_type (constructor_type n ts)) (a_type n ts) type_is r) (λ q. in_types ss ts rest q) o
+    in_type ss (function_type a b) rest o = both ss ss ss (type_parts a) (type_parts b) rest (λ q. in_type ss a (type_parts b ++ rest) q) (λ q. in_type ss b rest q) o
+    in_type ss (tuple_type ts) rest o = in_types ss ts rest o
+    in_type ss (list_type t) rest o = in_type ss t rest o
+    in_type ss unit_type rest o = inr o
 
-    pub in_expressions : (xs : Locals) (ts : Expressions) → Contains (expressions_parts ts) p → InExpressions Q xs ts
-    in_expressions xs no_expressions c = absurd (none_in p c)
-    in_expressions xs (more_expressions e es) c = ⊎_elim (λ o. inl (in_expression xs e o)) (λ o. inr (in_expressions xs es o)) (Contains-append_cases (expression_parts e) (expressions_parts es) p c)
+    in_types : (ss : Scopes) (ts : TypeTrees) (rest : List Part) → Occurs R ss (types_parts ts ++ rest) → InTypes Q (locals_of ss) ts ⊎ Occurs R ss rest
+    in_types ss no_types rest o = inr o
+    in_types ss (more_types t ts) rest o = both ss ss ss (type_parts t) (types_parts ts) rest (λ q. in_type ss t (types_parts ts ++ rest) q) (λ q. in_types ss ts rest q) o
 
-    pub in_alternatives : (xs : Locals) (ts : Alternatives) → Contains (alternatives_parts ts) p → InAlternatives Q xs ts
-    in_alternatives xs no_alternatives c = absurd (none_in p c)
-    in_alternatives xs (more_alternatives (alternative t r) bs) c = ⊎_elim
-        (λ o. ⊎_elim (λ q. inl (in_head xs (more_patterns t no_patterns) q)) (λ q. inr (inl (in_right_side (with_patterns (more_patterns t no_patterns) xs) r q)))
-        (Contains-append_cases (head_parts (more_patterns t no_patterns)) (right_side_parts r) p o))
-        (λ o. inr (inr (in_alternatives xs bs o))) (Contains-append_cases (alternative_parts (alternative t r)) (alternatives_parts bs) p c)
+  in_constructor : (ss : Scopes) (d : DataConstructor) (rest : List Part) → Occurs R ss (constructor_parts d ++ rest) → InConstructor Q (locals_of ss) d ⊎ Occurs R ss rest
+  in_constructor ss (data_constructor n ts) rest o = in_types ss ts rest o
 
-    pub in_right_side : (xs : Locals) (r : RightSide) → Contains (right_side_parts r) p → InRightSide Q xs r
-    in_right_side xs (right_side gs ds) c = ⊎_elim (λ o. inl (in_bodies (with_list ds xs) gs o))
-        (λ o. inr (⊎_elim (λ q. inl (at_node (with_list ds xs) (at_list ds) (a_list ds) list_is q)) (λ q. inr (in_declarations (with_list ds xs) ds q)) (cases (a_list ds) (declarations_parts ds) p o)))
-        (Contains-append_cases (bodies_parts gs) (a_list ds ∷ declarations_parts ds) p c)
+  in_constructors : (ss : Scopes) (ds : DataConstructors) (rest : List Part) → Occurs R ss (constructors_parts ds ++ rest) → InConstructors Q (locals_of ss) ds ⊎ Occurs R ss rest
+  in_constructors ss no_constructors rest o = inr o
+  in_constructors ss (more_constructors d ds) rest o =
+      both ss ss ss (constructor_parts d) (constructors_parts ds) rest (λ q. in_constructor ss d (constructors_parts ds ++ rest) q) (λ q. in_constructors ss ds rest q) o
 
-    pub in_bodies : (xs : Locals) (gs : Bodies) → Contains (bodies_parts gs) p → InBodies Q xs gs
-    in_bodies xs no_bodies c = absurd (none_in p c)
-    in_bodies xs (plain_body e gs) c = ⊎_elim (λ o. inl (in_expression xs e o)) (λ o. inr (in_bodies xs gs o)) (Contains-append_cases (expression_parts e) (bodies_parts gs) p c)
-    in_bodies xs (guarded_body g e gs) c = ⊎_elim (λ o. inl (in_expression xs g o))
-        (λ o. inr (⊎_elim (λ q. inl (in_expression xs e q)) (λ q. inr (in_bodies xs gs q)) (Contains-append_cases (expression_parts e) (bodies_parts gs) p o)))
-        (Contains-append_cases (expression_parts g) (expression_parts e ++ bodies_parts gs) p c)
+  mutual
+    in_pattern : (ss : Scopes) (t : Pattern) (rest : List Part) → Occurs R ss (pattern_parts t ++ rest) → InPattern Q (locals_of ss) t ⊎ Occurs R ss rest
+    in_pattern ss (variable_pattern n) rest o = inr o
+    in_pattern ss (bound_pattern n t) rest o = in_pattern ss t rest o
+    in_pattern ss (constructor_pattern n ps) rest o =
+        one ss ss (a_pattern n ps) (patterns_parts ps ++ rest) rest (λ r. h ss (at_pattern (constructor_pattern n ps)) (a_pattern n ps) pattern_is r) (λ q. in_patterns ss ps rest q) o
+    in_pattern ss (literal_pattern l) rest o = inr o
+    in_pattern ss wildcard_pattern rest o = inr o
+    in_pattern ss (tuple_pattern ps) rest o = in_patterns ss ps rest o
+    in_pattern ss (list_pattern ps) rest o = in_patterns ss ps rest o
+    in_pattern ss (lazy_pattern t) rest o = in_pattern ss t rest o
 
-    pub in_declarations : (xs : Locals) (ds : Declarations) → Contains (declarations_parts ds) p → InDeclarations Q xs ds
-    in_declarations xs no_declarations c = absurd (none_in p c)
-    in_declarations xs (more_declarations d ds) c = ⊎_elim (λ o. inl (in_declaration xs d o)) (λ o. inr (in_declarations xs ds o)) (Contains-append_cases (declaration_parts d) (declarations_parts ds) p c)
+    in_patterns : (ss : Scopes) (ts : Patterns) (rest : List Part) → Occurs R ss (patterns_parts ts ++ rest) → InPatterns Q (locals_of ss) ts ⊎ Occurs R ss rest
+    in_patterns ss no_patterns rest o = inr o
+    in_patterns ss (more_patterns t ts) rest o = both ss ss ss (pattern_parts t) (patterns_parts ts) rest (λ q. in_pattern ss t (patterns_parts ts ++ rest) q) (λ q. in_patterns ss ts rest q) o
 
-    pub in_declaration : (xs : Locals) (d : Declaration) → Contains (declaration_parts d) p → InDeclaration Q xs d
-    in_declaration xs (data_declaration n ps cs) c = ⊎_elim (λ e. inl (at_node xs (at_parameters ps (constructors_variables cs)) (a_row ps) parameters_are e)) (λ o. inr (in_constructors xs cs o)) (cases (a_row ps) (constructors_parts cs) p c)
-    in_declaration xs (newtype_declaration n ps d) c = ⊎_elim (λ e. inl (at_node xs (at_parameters ps (constructor_variables d)) (a_row ps) parameters_are e)) (λ o. inr (in_constructor xs d o)) (cases (a_row ps) (constructor_parts d) p c)
-    in_declaration xs (synonym_declaration n ps t) c = ⊎_elim (λ e. inl (at_node xs (at_parameters ps (type_variables t)) (a_row ps) parameters_are e)) (λ o. inr (in_type xs t o)) (cases (a_row ps) (type_parts t) p c)
-    in_declaration xs (signature ns t) c = in_type xs t c
-    in_declaration xs (clause n ps r) c = ⊎_elim (λ o. inl (in_head xs ps o)) (λ o. inr (in_right_side (with_patterns ps xs) r o)) (Contains-append_cases (head_parts ps) (right_side_parts r) p c)
-    in_declaration xs (pattern_binding line column t r) c = ⊎_elim (λ o. inl (in_head xs (more_patterns t no_patterns) o)) (λ o. inr (in_right_side xs r o)) (Contains-append_cases (head_parts (more_patterns t no_patterns)) (right_side_parts r) p c)
+  in_head : (ss : Scopes) (ps : Patterns) (rest : List Part) → Occurs R ss (head_parts ps ++ rest) → InHead Q (locals_of ss) ps ⊎ Occurs R (a_head ps ∷ ss) rest
+  in_head ss ps rest o = first_as swap
+      (both ss ss (a_head ps ∷ ss) (patterns_parts ps) (a_head ps ∷ []) rest (λ q. in_patterns ss ps (a_head ps ∷ rest) q) (λ q. first_as (λ r. h ss (at_head ps) (a_head ps) head_is r) q) o)
 
-  pub in_top : (ds : List Declaration) → Contains (module_parts ds) p → InTop Q ds
-  in_top ds c = ⊎_elim (λ e. inl (at_node [] (at_list (declarations ds)) (a_list (declarations ds)) list_is e)) (λ o. inr (in_declarations [] (declarations ds) o)) (cases (a_list (declarations ds)) (declarations_parts (declarations ds)) p c)
+  mutual
+    in_expression : (ss : Scopes) (t : Expression) (rest : List Part) → Occurs R ss (expression_parts t ++ rest) → InExpression Q (locals_of ss) t ⊎ Occurs R ss rest
+    in_expression ss (variable_expression n) rest o = first_as (λ r. h ss (at_expression (variable_expression n)) (a_use Variable n) variable_is r) o
+    in_expression ss (constructor_expression n) rest o = first_as (λ r. h ss (at_expression (constructor_expression n)) (a_use Constructor n) constructor_is r) o
+    in_expression ss (literal_expression l) rest o = inr o
+    in_expression ss (application f e) rest o = both ss ss ss (expression_parts f) (expression_parts e) rest (λ q. in_expression ss f (expression_parts e ++ rest) q) (λ q. in_expression ss e rest q) o
+    in_expression ss (lambda ps e) rest o =
+        both ss (a_head ps ∷ ss) ss (head_parts ps) (ended (expression_parts e)) rest (λ q. in_head ss ps (ended (expression_parts e) ++ rest) q)
+        (λ q. closed (a_head ps ∷ ss) (a_head ps ∷ ss) (expression_parts e) rest (λ r. in_expression (a_head ps ∷ ss) e (an_end ∷ rest) r) q) o
+    in_expression ss (let_expression ds e) rest o =
+        both ss (a_list ds ∷ ss) ss (a_list ds ∷ declarations_parts ds) (ended (expression_parts e)) rest
+        (λ q. one ss (a_list ds ∷ ss) (a_list ds) (declarations_parts ds ++ (ended (expression_parts e) ++ rest)) (ended (expression_parts e) ++ rest) (λ r. h ss (at_list ds) (a_list ds) list_is r)
+        (λ r. in_declarations (a_list ds ∷ ss) ds (ended (expression_parts e) ++ rest) r) q)
+        (λ q. closed (a_list ds ∷ ss) (a_list ds ∷ ss) (expression_parts e) rest (λ r. in_expression (a_list ds ∷ ss) e (an_end ∷ rest) r) q) o
+    in_expression ss (if_expression a b d) rest o =
+        both ss ss ss (expression_parts a) (expression_parts b ++ expression_parts d) rest (λ q. in_expression ss a ((expression_parts b ++ expression_parts d) ++ rest) q)
+        (λ q. both ss ss ss (expression_parts b) (expression_parts d) rest (λ r. in_expression ss b (expression_parts d ++ rest) r) (λ r. in_expression ss d rest r) q) o
+    in_expression ss (case_expression e bs) rest o =
+        both ss ss ss (expression_parts e) (alternatives_parts bs) rest (λ q. in_expression ss e (alternatives_parts bs ++ rest) q) (λ q. in_alternatives ss bs rest q) o
+    in_expression ss (tuple_expression es) rest o = in_expressions ss es rest o
+    in_expression ss (list_expression es) rest o = in_expressions ss es rest o
+    in_expression ss (typed_expression e t) rest o = both ss ss ss (expression_parts e) (type_parts t) rest (λ q. in_expression ss e (type_parts t ++ rest) q) (λ q. in_type ss t rest q) o
+
+    in_expressions : (ss : Scopes) (ts : Expressions) (rest : List Part) → Occurs R ss (expressions_parts ts ++ rest) → InExpressions Q (locals_of ss) ts ⊎ Occurs R ss rest
+    in_expressions ss no_expressions rest o = inr o
+    in_expressions ss (more_expressions e es) rest o =
+        both ss ss ss (expression_parts e) (expressions_parts es) rest (λ q. in_expression ss e (expressions_parts es ++ rest) q) (λ q. in_expressions ss es rest q) o
+
+    in_alternatives : (ss : Scopes) (ts : Alternatives) (rest : List Part) → Occurs R ss (alternatives_parts ts ++ rest) → InAlternatives Q (locals_of ss) ts ⊎ Occurs R ss rest
+    in_alternatives ss no_alternatives rest o = inr o
+    in_alternatives ss (more_alternatives (alternative t r) bs) rest o =
+        let ps : Patterns = more_patterns t no_patterns in
+        let after : List Part = alternatives_parts bs ++ rest in
+        first_as grouped
+        (both ss ss ss (alternative_parts (alternative t r)) (alternatives_parts bs) rest
+        (λ q. both ss (a_head ps ∷ ss) ss (head_parts ps) (ended (right_side_parts r)) after (λ s. in_head ss ps (ended (right_side_parts r) ++ after) s)
+        (λ s. closed (a_head ps ∷ ss) (a_head ps ∷ ss) (right_side_parts r) after (λ i. in_right_side (a_head ps ∷ ss) r (an_end ∷ after) i) s) q)
+        (λ q. in_alternatives ss bs rest q) o)
+
+    in_right_side : (ss : Scopes) (r : RightSide) (rest : List Part) → Occurs R ss (right_side_parts r ++ rest) → InRightSide Q (locals_of ss) r ⊎ Occurs R ss rest
+    in_right_side ss (right_side gs ds) rest o = first_as swap
+        (both ss (a_list ds ∷ ss) ss (a_list ds ∷ declarations_parts ds) (ended (bodies_parts gs)) rest
+        (λ q. one ss (a_list ds ∷ ss) (a_list ds) (declarations_parts ds ++ (ended (bodies_parts gs) ++ rest)) (ended (bodies_parts gs) ++ rest) (λ r. h ss (at_list ds) (a_list ds) list_is r)
+        (λ r. in_declarations (a_list ds ∷ ss) ds (ended (bodies_parts gs) ++ rest) r) q)
+        (λ q. closed (a_list ds ∷ ss) (a_list ds ∷ ss) (bodies_parts gs) rest (λ r. in_bodies (a_list ds ∷ ss) gs (an_end ∷ rest) r) q) o)
+
+    in_bodies : (ss : Scopes) (gs : Bodies) (rest : List Part) → Occurs R ss (bodies_parts gs ++ rest) → InBodies Q (locals_of ss) gs ⊎ Occurs R ss rest
+    in_bodies ss no_bodies rest o = inr o
+    in_bodies ss (plain_body e gs) rest o = both ss ss ss (expression_parts e) (bodies_parts gs) rest (λ q. in_expression ss e (bodies_parts gs ++ rest) q) (λ q. in_bodies ss gs rest q) o
+    in_bodies ss (guarded_body g e gs) rest o =
+        both ss ss ss (expression_parts g) (expression_parts e ++ bodies_parts gs) rest (λ q. in_expression ss g ((expression_parts e ++ bodies_parts gs) ++ rest) q)
+        (λ q. both ss ss ss (expression_parts e) (bodies_parts gs) rest (λ r. in_expression ss e (bodies_parts gs ++ rest) r) (λ r. in_bodies ss gs rest r) q) o
+
+    in_declarations : (ss : Scopes) (ds : Declarations) (rest : List Part) → Occurs R ss (declarations_parts ds ++ rest) → InDeclarations Q (locals_of ss) ds ⊎ Occurs R ss rest
+    in_declarations ss no_declarations rest o = inr o
+    in_declarations ss (more_declarations d ds) rest o =
+        both ss ss ss (declaration_parts d) (declarations_parts ds) rest (λ q. in_declaration ss d (declarations_parts ds ++ rest) q) (λ q. in_declarations ss ds rest q) o
+
+    in_declaration : (ss : Scopes) (d : Declaration) (rest : List Part) → Occurs R ss (declaration_parts d ++ rest) → InDeclaration Q (locals_of ss) d ⊎ Occurs R ss rest
+    in_declaration ss (data_declaration n ps cs) rest o =
+        one ss ss (a_row ps) (constructors_parts cs ++ rest) rest (λ r. h ss (at_parameters ps (constructors_variables cs)) (a_row ps) parameters_are r) (λ q. in_constructors ss cs rest q) o
+    in_declaration ss (newtype_declaration n ps d) rest o =
+        one ss ss (a_row ps) (constructor_parts d ++ rest) rest (λ r. h ss (at_parameters ps (constructor_variables d)) (a_row ps) parameters_are r) (λ q. in_constructor ss d rest q) o
+    in_declaration ss (synonym_declaration n ps t) rest o =
+        one ss ss (a_row ps) (type_parts t ++ rest) rest (λ r. h ss (at_parameters ps (type_variables t)) (a_row ps) parameters_are r) (λ q. in_type ss t rest q) o
+    in_declaration ss (signature ns t) rest o = in_type ss t rest o
+    in_declaration ss (clause n ps r) rest o =
+        both ss (a_head ps ∷ ss) ss (head_parts ps) (ended (right_side_parts r)) rest (λ q. in_head ss ps (ended (right_side_parts r) ++ rest) q)
+        (λ q. closed (a_head ps ∷ ss) (a_head ps ∷ ss) (right_side_parts r) rest (λ i. in_right_side (a_head ps ∷ ss) r (an_end ∷ rest) i) q) o
+    in_declaration ss (pattern_binding line column t r) rest o =
+        let ps : Patterns = more_patterns t no_patterns in
+        both ss ss ss (ended (head_parts ps)) (right_side_parts r) rest
+        (λ q. closed ss (a_head ps ∷ ss) (head_parts ps) (right_side_parts r ++ rest) (λ s. in_head ss ps (an_end ∷ (right_side_parts r ++ rest)) s) q)
+        (λ q. in_right_side ss r rest q) o
+
+  pub in_all : (ds : Declarations) → Occurs R [] (declarations_parts ds) → InDeclarations Q [] ds
+  in_all ds o = ⊎_elim (λ i. i) (λ none. absurd none) (in_declarations [] ds [] (subst (Occurs R []) (sym (append-nil (declarations_parts ds))) o))
+
+-- what is so of a part of a list occurs there, whatever the scopes
+occurs : (S : Part → Type 0) (p : Part) → S p → (ss : Scopes) (ps : List Part) → Contains ps p → Occurs (λ ts q. S q) ss ps
+occurs S p s ss [] c = absurd (none_in p c)
+occurs S p s ss (q ∷ ps) c = ⊎_elim (λ e. inl (subst S e s)) (λ o. inr (occurs S p s (open_after ss q) ps o)) (cases q ps p c)
+
+in_top : (Q : Node → Type 0) (S : Part → Type 0) → ((k : Node) (p : Part) → IsPart k p → S p → Q k) → ¬ (S an_end) → (ds : List Declaration) (p : Part) → Contains (module_parts ds) p → S p → InTop (λ xs k. Q k) ds
+in_top Q S h ends ds p c s = ⊎_elim (λ e. inl (h (at_list (declarations ds)) (a_list (declarations ds)) list_is (subst S e s)))
+    (λ o. inr (in_all (λ xs k. Q k) (λ ss q. S q) (λ ss k q is t. h k q is t) (λ ss t. ends t) (declarations ds) (occurs S p s [] (declarations_parts (declarations ds)) o)))
+    (cases (a_list (declarations ds)) (declarations_parts (declarations ds)) p c)
 
 -- what a part states, its node states
 
@@ -184,19 +245,19 @@ bound_of f type_variable_is s = absurd s
 -- and so it stands somewhere in the module
 
 pub somewhere_first : (m : Module) (f : Fault) (q : Place) (p : Part) → Contains (module_parts m.decls) p → IsFirstIn p f q → Somewhere m (λ xs k. IsFirstOf k f q)
-somewhere_first m f q p c s = in_top (λ xs k. IsFirstOf k f q) p (λ xs k is. first_of f q is s) m.decls c
+somewhere_first m f q p c s = in_top (λ k. IsFirstOf k f q) (λ r. IsFirstIn r f q) (λ k r is t. first_of f q is t) (λ none. none) m.decls p c s
 
 pub somewhere_arguments : (m : Module) (fs : List Interface) (f : Fault) (here takes : ℕ) (p : Part) → Contains (module_parts m.decls) p → HasArgumentsIn m fs f here takes p → Somewhere m (λ xs k. HasArguments m fs f here takes k)
-somewhere_arguments m fs f here takes p c s = in_top (λ xs k. HasArguments m fs f here takes k) p (λ xs k is. arguments_of m fs f here takes is s) m.decls c
+somewhere_arguments m fs f here takes p c s = in_top (λ k. HasArguments m fs f here takes k) (λ r. HasArgumentsIn m fs f here takes r) (λ k r is t. arguments_of m fs f here takes is t) (λ none. none) m.decls p c s
 
 pub somewhere_lengths : (m : Module) (f : Fault) (here first : ℕ) (p : Part) → Contains (module_parts m.decls) p → HasLengthsIn f here first p → Somewhere m (λ xs k. HasLengthsAt f here first k)
-somewhere_lengths m f here first p c s = in_top (λ xs k. HasLengthsAt f here first k) p (λ xs k is. lengths_of f here first is s) m.decls c
+somewhere_lengths m f here first p c s = in_top (λ k. HasLengthsAt f here first k) (λ r. HasLengthsIn f here first r) (λ k r is t. lengths_of f here first is t) (λ none. none) m.decls p c s
 
 pub somewhere_near : (m : Module) (f : Fault) (x : List ℕ) (p : Part) → Contains (module_parts m.decls) p → IsNearBindingIn p f x → HasNearBinding m f x
-somewhere_near m f x p c s = in_top (λ xs k. IsNearBindingAt k f x) p (λ xs k is. near_of f x is s) m.decls c
+somewhere_near m f x p c s = in_top (λ k. IsNearBindingAt k f x) (λ r. IsNearBindingIn r f x) (λ k r is t. near_of f x is t) (λ none. none) m.decls p c s
 
 pub somewhere_bound : (m : Module) (f : Fault) (p : Part) → Contains (module_parts m.decls) p → IsPatternBoundIn p f → HasPatternBound m f
-somewhere_bound m f p c s = in_top (λ xs k. IsPatternBoundAt k f) p (λ xs k is. bound_of f is s) m.decls c
+somewhere_bound m f p c s = in_top (λ k. IsPatternBoundAt k f) (λ r. IsPatternBoundIn r f) (λ k r is t. bound_of f is t) (λ none. none) m.decls p c s
 
 pub somewhere_role : (m : Module) (f : Fault) (r : Role) (p : Part) → Contains (module_parts m.decls) p → IsPartRole p f r → Somewhere m (λ xs k. IsRoleAt f r k)
-somewhere_role m f r p c s = in_top (λ xs k. IsRoleAt f r k) p (λ xs k is. role_of f r is s) m.decls c
+somewhere_role m f r p c s = in_top (λ k. IsRoleAt f r k) (λ q. IsPartRole q f r) (λ k q is t. role_of f r is t) (λ none. none) m.decls p c s

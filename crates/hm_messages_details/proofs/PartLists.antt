@@ -2,7 +2,7 @@
 use Rattle.std.proofs.Common.{◌≡◌, List, [], ◌∷◌, ◌++◌, Option, None, Some, refl, sym, ap, ◌∙◌, append_assoc, append-nil}
 use Rattle.hm_syntax.specs.Trees.{Expression}
 use Rattle.hm_syntax.specs.Lists.{bodies}
-use Rattle.hm_messages_details.specs.Parts.{Part, expression_parts, bodies_parts, bodies_of_parts}
+use Rattle.hm_messages_details.specs.Parts.{Part, an_end, ended, expression_parts, bodies_parts, bodies_of_parts}
 
 pub bodies_are : (ps : List (Option Expression × Expression)) → bodies_of_parts ps ≡ bodies_parts (bodies ps)
 bodies_are [] = refl
@@ -17,6 +17,11 @@ both_added old middle new one two first second = second ∙ (ap (λ (l : List Pa
 pub both_of : {X Y : Type 0} (f : X → List Part) (g : Y → List Part) (old middle new : List Part) (x x' : X) (y y' : Y) → x ≡ x' → y ≡ y' → middle ≡ old ++ f x → new ≡ middle ++ g y → new ≡ old ++ (f x' ++ g y')
 both_of f g old middle new x x' y y' one two first second =
     both_added old middle new (f x) (g y) first second ∙ (ap (λ z. old ++ (f z ++ g y)) one ∙ ap (λ z. old ++ (f x' ++ g z)) two)
+
+-- the same, of parts in a scope and its end
+pub in_scope : {X Y : Type 0} (f : X → List Part) (g : Y → List Part) (old middle last new : List Part) (x x' : X) (y y' : Y) → x ≡ x' → y ≡ y' → middle ≡ old ++ f x → last ≡ middle ++ g y → new ≡ last ++ an_end ∷ [] → new ≡ old ++ (f x' ++ ended (g y'))
+in_scope f g old middle last new x x' y y' one two first second third =
+    both_of f (λ z. ended (g z)) old middle new x x' y y' one two first (both_added middle last new (g y) (an_end ∷ []) second third)
 
 -- the step of a loop over a row
 pub row_more : (old new one rest all whole : List Part) → all ≡ one ++ rest → old ++ all ≡ whole → new ≡ old ++ one → new ++ rest ≡ whole

@@ -1,7 +1,6 @@
 pub mod Candidates
 pub mod Counts
 pub mod Details
-pub mod Enclosing
 pub mod Firsts
 pub mod LeftOut
 pub mod Listed
@@ -11,4 +10,5 @@ pub mod Nearness
 pub mod Parts
 pub mod PatternBindings
 pub mod Roles
+pub mod Scopes
 pub mod Worked

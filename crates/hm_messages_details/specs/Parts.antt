@@ -1,4 +1,5 @@
--- The parts of a module in which details of faults are found, in order. No public clause names these.
+-- The parts of a module in which details of faults are found. A declaration list and patterns are before all that is in the scope of their variables, and the end
+-- of their scope is after that. No public clause names these.
 use Rattle.std.specs.Prelude.{ℕ, List, [], ◌∷◌, ◌++◌, Option, Some, None, ◌⊎◌, ◌≡◌}
 use Rattle.hm_syntax.specs.Names.{Identifier}
 use Rattle.hm_syntax.specs.Trees.{TypeTree, variable_type, constructor_type, function_type, tuple_type, list_type, unit_type, TypeTrees, no_types, more_types, DataConstructor, data_constructor, DataConstructors, no_constructors, more_constructors, Pattern, variable_pattern, bound_pattern, constructor_pattern, literal_pattern, wildcard_pattern, tuple_pattern, list_pattern, lazy_pattern, Patterns, no_patterns, more_patterns, Expression, variable_expression, constructor_expression, literal_expression, application, lambda, let_expression, if_expression, case_expression, tuple_expression, list_expression, typed_expression, Expressions, no_expressions, more_expressions, Declaration, data_declaration, newtype_declaration, synonym_declaration, signature, clause, pattern_binding, Declarations, no_declarations, more_declarations, RightSide, right_side, Bodies, no_bodies, plain_body, guarded_body, Alternative, alternative, Alternatives, no_alternatives, more_alternatives}
@@ -21,7 +22,7 @@ use Rattle.hm_messages_details.specs.declared.role.Role.{Role}
 use Rattle.hm_messages_details.specs.declared.role.Role.TheVariants.{Variable, Constructor, TypeConstructor, TypeVariable}
 
 -- a declaration list; the patterns of one clause, lambda or alternative; the parameters of a type's declaration; a constructor in a pattern, and a
--- type constructor, each with its arguments; a variable or a constructor of an expression, or a type variable
+-- type constructor, each with its arguments; a variable or a constructor of an expression, or a type variable; the end of the scope of a list or of patterns
 pub data Part : Type 0 where
   a_list : Declarations → Part
   a_head : Patterns → Part
@@ -29,6 +30,7 @@ pub data Part : Type 0 where
   a_pattern : Identifier → Patterns → Part
   a_type : Identifier → TypeTrees → Part
   a_use : Role → Identifier → Part
+  an_end : Part
 
 -- the node of a tree is this part
 pub data IsPart : Node → Part → Type 0 where
@@ -49,6 +51,7 @@ part_of (lent.Parameters ps) = a_row ps.now
 part_of (lent.Pattern n ps) = a_pattern n.now (patterns ps.now)
 part_of (lent.Type n ts) = a_type n.now (types ts.now)
 part_of (lent.Use r n) = a_use r n.now
+part_of lent.End = an_end
 
 abbrev mutual
   pub type_parts : TypeTree → List Part
@@ -86,7 +89,11 @@ abbrev mutual
   patterns_parts (more_patterns p ps) = pattern_parts p ++ patterns_parts ps
 
 abbrev pub head_parts : Patterns → List Part
-head_parts ps = a_head ps ∷ patterns_parts ps
+head_parts ps = patterns_parts ps ++ a_head ps ∷ []
+
+-- parts in a scope, and its end
+abbrev pub ended : List Part → List Part
+ended ps = ps ++ an_end ∷ []
 
 abbrev mutual
   pub expression_parts : Expression → List Part
@@ -94,8 +101,8 @@ abbrev mutual
   expression_parts (constructor_expression n) = a_use Constructor n ∷ []
   expression_parts (literal_expression l) = []
   expression_parts (application f e) = expression_parts f ++ expression_parts e
-  expression_parts (lambda ps e) = head_parts ps ++ expression_parts e
-  expression_parts (let_expression ds e) = (a_list ds ∷ declarations_parts ds) ++ expression_parts e
+  expression_parts (lambda ps e) = head_parts ps ++ ended (expression_parts e)
+  expression_parts (let_expression ds e) = (a_list ds ∷ declarations_parts ds) ++ ended (expression_parts e)
   expression_parts (if_expression a b c) = expression_parts a ++ (expression_parts b ++ expression_parts c)
   expression_parts (case_expression e bs) = expression_parts e ++ alternatives_parts bs
   expression_parts (tuple_expression es) = expressions_parts es
@@ -107,14 +114,14 @@ abbrev mutual
   expressions_parts (more_expressions e es) = expression_parts e ++ expressions_parts es
 
   pub alternative_parts : Alternative → List Part
-  alternative_parts (alternative p r) = head_parts (more_patterns p no_patterns) ++ right_side_parts r
+  alternative_parts (alternative p r) = head_parts (more_patterns p no_patterns) ++ ended (right_side_parts r)
 
   pub alternatives_parts : Alternatives → List Part
   alternatives_parts no_alternatives = []
   alternatives_parts (more_alternatives a bs) = alternative_parts a ++ alternatives_parts bs
 
   pub right_side_parts : RightSide → List Part
-  right_side_parts (right_side gs ds) = bodies_parts gs ++ (a_list ds ∷ declarations_parts ds)
+  right_side_parts (right_side gs ds) = (a_list ds ∷ declarations_parts ds) ++ ended (bodies_parts gs)
 
   pub bodies_parts : Bodies → List Part
   bodies_parts no_bodies = []
@@ -130,8 +137,8 @@ abbrev mutual
   declaration_parts (newtype_declaration n ps c) = a_row ps ∷ constructor_parts c
   declaration_parts (synonym_declaration n ps t) = a_row ps ∷ type_parts t
   declaration_parts (signature ns t) = type_parts t
-  declaration_parts (clause n ps r) = head_parts ps ++ right_side_parts r
-  declaration_parts (pattern_binding line column p r) = head_parts (more_patterns p no_patterns) ++ right_side_parts r
+  declaration_parts (clause n ps r) = head_parts ps ++ ended (right_side_parts r)
+  declaration_parts (pattern_binding line column p r) = ended (head_parts (more_patterns p no_patterns)) ++ right_side_parts r
 
 -- the parts of the module with these declarations
 abbrev pub module_parts : List Declaration → List Part
@@ -155,6 +162,7 @@ IsFirstIn (a_row ps) f p = IsFirstAt ps f p
 IsFirstIn (a_pattern n ps) f p = ⊥
 IsFirstIn (a_type n ts) f p = ⊥
 IsFirstIn (a_use r n) f p = ⊥
+IsFirstIn an_end f p = ⊥
 
 abbrev pub IsPartRole : Part → Fault → Role → Type 0
 IsPartRole (a_list ds) f r = ⊥
@@ -163,6 +171,7 @@ IsPartRole (a_row ps) f r = ⊥
 IsPartRole (a_pattern n ps) f r = (r ≡ Constructor) × IsAt f n
 IsPartRole (a_type n ts) f r = (r ≡ TypeConstructor) × IsAt f n
 IsPartRole (a_use s n) f r = (r ≡ s) × IsAt f n
+IsPartRole an_end f r = ⊥
 
 abbrev pub HasArgumentsIn : Module → List Interface → Fault → ℕ → ℕ → Part → Type 0
 HasArgumentsIn m fs f here takes (a_list ds) = ⊥
@@ -171,6 +180,7 @@ HasArgumentsIn m fs f here takes (a_row ps) = ⊥
 HasArgumentsIn m fs f here takes (a_pattern n ps) = IsAt f n × (here ≡ pattern_count ps) × ConstructorTakes m fs n takes
 HasArgumentsIn m fs f here takes (a_type n ts) = IsAt f n × (here ≡ type_count ts) × TypeTakes m fs n takes
 HasArgumentsIn m fs f here takes (a_use r n) = ⊥
+HasArgumentsIn m fs f here takes an_end = ⊥
 
 abbrev pub HasLengthsIn : Fault → ℕ → ℕ → Part → Type 0
 HasLengthsIn f here first (a_list ds) = HasLengths f here first ds
@@ -179,6 +189,7 @@ HasLengthsIn f here first (a_row ps) = ⊥
 HasLengthsIn f here first (a_pattern n ps) = ⊥
 HasLengthsIn f here first (a_type n ts) = ⊥
 HasLengthsIn f here first (a_use r n) = ⊥
+HasLengthsIn f here first an_end = ⊥
 
 abbrev pub IsNearBindingIn : Part → Fault → List ℕ → Type 0
 IsNearBindingIn (a_list ds) f x = IsNearBinding ds f x
@@ -187,6 +198,7 @@ IsNearBindingIn (a_row ps) f x = ⊥
 IsNearBindingIn (a_pattern n ps) f x = ⊥
 IsNearBindingIn (a_type n ts) f x = ⊥
 IsNearBindingIn (a_use r n) f x = ⊥
+IsNearBindingIn an_end f x = ⊥
 
 abbrev pub IsPatternBoundIn : Part → Fault → Type 0
 IsPatternBoundIn (a_list ds) f = IsPatternBound ds f
@@ -195,6 +207,7 @@ IsPatternBoundIn (a_row ps) f = ⊥
 IsPatternBoundIn (a_pattern n ps) f = ⊥
 IsPatternBoundIn (a_type n ts) f = ⊥
 IsPatternBoundIn (a_use r n) f = ⊥
+IsPatternBoundIn an_end f = ⊥
 
 -- a clause that continues a binding, as the code has it
 abbrev pub later_of : Later → LaterClause

@@ -97,6 +97,7 @@ fn counts_in(site: &Site<'_, '_, '_>, fault: &Fault, part: Part<'_>) -> Option<C
         Part::Alone(_) => None,
         Part::Parameters(_) => None,
         Part::Use(_, _) => None,
+        Part::End => None,
     }
 }
 

@@ -107,6 +107,7 @@ fn first_in(alloc: Global, fault: &Fault, part: Part<'_>) -> Result<Option<Place
         Part::Pattern(_, _) => Ok(None),
         Part::Type(_, _) => Ok(None),
         Part::Use(_, _) => Ok(None),
+        Part::End => Ok(None),
     }
 }
 

@@ -1,10 +1,11 @@
 //! The details of faults of names.
-ghost use Rattle.std.specs.Prelude.{◌≡◌, ◌⊎◌, List, IfOk, IfSome};
+ghost use Rattle.std.specs.Prelude.{◌≡◌, ◌⊎◌, List, IfOk, IfSome, map};
 ghost use Rattle.hm_types.specs.Interfaces.{Exports as Interface};
 ghost use Rattle.hm_names.specs.Bindings.{IsScopeOf};
 ghost use Rattle.hm_names.specs.declared.faults.Kind.TheVariants.{Ambiguous, Arity, ClauseLength, Duplicate, NoBinding, NonLinear, Unbound};
 ghost use Rattle.hm_scope_tables.specs.KnownTables.{AreTablesOf};
 ghost use Rattle.hm_messages_details.specs.Details.{IsKnown, known_of};
+ghost use Rattle.hm_messages_details.specs.Parts.{module_parts, part_of};
 ghost use Rattle.hm_messages_details.specs.Roles.{HasRole};
 
 use crate::candidates::candidate;
@@ -16,6 +17,7 @@ use crate::lengths::pattern_counts;
 use crate::listed::import_detail;
 use crate::locals::near_local;
 use crate::nearest::{entity_of, nearest, other_entity_of, space_of};
+use crate::parts::{Part, parts_of};
 use crate::patterned::is_pattern_bound;
 use crate::role::Role;
 use crate::roles::role_of;
@@ -26,47 +28,50 @@ use hm_scope_tables::Scope;
 use hm_syntax::Module;
 use std::alloc::{AllocError, Global};
 
-/// Returns the detail of an unbound name with this role, if there is one.
-fn unbound_detail<'a>(
+/// Returns the detail of an unbound name with this role, if there is one. `parts` are those of the module.
+fn unbound_detail<'s>(
     alloc: Global,
-    program: &'a Module,
-    scope: &Scope<'a>,
+    site: &Site<'_, 's, '_>,
     fault: &Fault,
     role: Role,
-) -> Result<Detail<'a>, AllocError>
+    parts: &[Part<'s>],
+) -> Result<Detail<'s>, AllocError>
     requires unbound { fault.now.kind ≡ Unbound }
-    requires stands { HasRole program.now fault.now role }
-    ensures { IfOk result (λ detail. (fs : List Interface) → IsScopeOf program.now fs scope.now → IsKnown program.now fs fault.now (known_of detail)) }
+    requires stands { HasRole site.now.program.now fault.now role }
+    requires parts { map part_of parts.now ≡ module_parts site.now.program.now.decls }
+    ensures { IfOk result (λ detail. (fs : List Interface) → IsScopeOf site.now.program.now fs site.now.scope.now
+        → IsKnown site.now.program.now fs fault.now (known_of detail)) }
 {
     if is_left_out(fault.name.as_str(), role) {
         return Ok(Detail::LeftOut);
     }
-    match near_local(alloc, program, fault)? {
+    match near_local(alloc, parts, fault)? {
         Some(near) => return Ok(Detail::NearLocal(near)),
         None => {}
     }
-    match nearest(alloc, fault.name.as_str(), role, scope.pairs())? {
+    match nearest(alloc, fault.name.as_str(), role, site.scope.pairs())? {
         Some(pair) => Ok(Detail::Near(pair.qualifier(), pair.text())),
         None => Ok(Detail::Nothing),
     }
 }
 
 /// Returns the detail of an unbound name: a namespace in which it is in scope, or another detail, if there is one.
-fn name_detail<'a>(
+fn name_detail<'s>(
     alloc: Global,
-    program: &'a Module,
-    scope: &Scope<'a>,
+    site: &Site<'_, 's, '_>,
     fault: &Fault,
-) -> Result<Detail<'a>, AllocError>
+) -> Result<Detail<'s>, AllocError>
     requires { fault.now.kind ≡ Unbound }
-    ensures { IfOk result (λ detail. (fs : List Interface) → IsScopeOf program.now fs scope.now → IsKnown program.now fs fault.now (known_of detail)) }
+    ensures { IfOk result (λ detail. (fs : List Interface) → IsScopeOf site.now.program.now fs site.now.scope.now
+        → IsKnown site.now.program.now fs fault.now (known_of detail)) }
 {
-    match space_of(fault.name.as_str(), scope.pairs()) {
+    match space_of(fault.name.as_str(), site.scope.pairs()) {
         Some(space) => return Ok(Detail::Elsewhere(space)),
         None => {}
     }
-    match role_of(alloc, program, fault)? {
-        Some(role) => Ok(unbound_detail(alloc, program, scope, fault, role)?),
+    let parts = parts_of(alloc, site.program)?;
+    match role_of(site.program, parts.as_slice(), fault) {
+        Some(role) => Ok(unbound_detail(alloc, site, fault, role, parts.as_slice())?),
         None => Ok(Detail::Nothing),
     }
 }
@@ -180,7 +185,7 @@ pub fn detail_of<'s>(
         → IsKnown site.now.program.now fs fault.now (known_of detail)) }
 {
     match fault.kind {
-        Kind::Unbound => Ok(name_detail(alloc, site.program, site.scope, fault)?),
+        Kind::Unbound => Ok(name_detail(alloc, site, fault)?),
         Kind::Ambiguous => Ok(ambiguous_detail(site.program, site.scope, fault)),
         Kind::Duplicate => Ok(second_detail(alloc, site.program, fault)?),
         Kind::NonLinear => Ok(second_detail(alloc, site.program, fault)?),

@@ -23,4 +23,5 @@ mod written;
 
 pub use crate::detail::{Candidate, Detail, Origin};
 pub use crate::known::detail_of;
+pub use crate::nearest::is_near;
 pub use crate::site::Site;

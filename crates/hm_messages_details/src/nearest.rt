@@ -55,7 +55,7 @@ fn are_alike(text: &[u8], other: &[u8]) -> bool {
 }
 
 /// Returns whether two texts are one edit apart, and both or neither begin with a capital letter.
-pub(crate) fn is_near(alloc: Global, text: &str, other: &str) -> Result<bool, AllocError>
+pub fn is_near(alloc: Global, text: &str, other: &str) -> Result<bool, AllocError>
     ensures { IfOk result (λ is. is ≡ true → AreNear text.now other.now) }
 {
     if text.len() < SHORTEST || !are_alike(text.as_bytes(), other.as_bytes()) {

@@ -28,6 +28,8 @@ pub(crate) enum Part<'a> {
     Type(&'a Name, &'a [TypeExpr]),
     /// A variable or a constructor of an expression, or a type variable.
     Use(Role, &'a Name),
+    /// The end of the scope of a list, or of patterns.
+    End,
 }
 
 /// Adds a part.
@@ -126,21 +128,21 @@ fn add_patterns<'a>(out: &mut Vec<Part<'a>>, row: &'a [Pat]) -> Result<(), Alloc
     Ok(())
 }
 
-/// Adds the patterns of a clause or a lambda, and their parts.
+/// Adds the parts of the patterns of a clause or a lambda, and the patterns. What is added up to the next end is in their scope.
 fn add_head<'a>(out: &mut Vec<Part<'a>>, pats: &'a [Pat]) -> Result<(), AllocError>
     ensures { OnOk result (map part_of out.new.items ≡ map part_of out.old.items ++ head_parts (patterns pats.now)) }
 {
-    add_part(out, Part::Head(pats))?;
     add_patterns(out, pats)?;
+    add_part(out, Part::Head(pats))?;
     Ok(())
 }
 
-/// Adds the pattern of an alternative or a pattern binding, and its parts.
+/// Adds the parts of the pattern of an alternative or a pattern binding, and the pattern.
 fn add_alone<'a>(out: &mut Vec<Part<'a>>, pat: &'a Pat) -> Result<(), AllocError>
     ensures { OnOk result (map part_of out.new.items ≡ map part_of out.old.items ++ head_parts (more_patterns pat.now no_patterns)) }
 {
-    add_part(out, Part::Alone(pat))?;
     add_pattern(out, pat)?;
+    add_part(out, Part::Alone(pat))?;
     Ok(())
 }
 
@@ -161,11 +163,13 @@ fn add_expr<'a>(out: &mut Vec<Part<'a>>, expr: &'a Expr) -> Result<(), AllocErro
         ExprKind::Lambda(pats, body) => {
             add_head(out, pats)?;
             add_expr(out, body)?;
+            add_part(out, Part::End)?;
             Ok(())
         }
         ExprKind::Let(decls, body) => {
             add_list(out, decls)?;
             add_expr(out, body)?;
+            add_part(out, Part::End)?;
             Ok(())
         }
         ExprKind::If(condition, yes, no) => {
@@ -210,17 +214,19 @@ fn add_alts<'a>(out: &mut Vec<Part<'a>>, row: &'a [Alt]) -> Result<(), AllocErro
     'row: for alt in row {
         add_alone(out, &alt.pat)?;
         add_rhs(out, &alt.rhs)?;
+        add_part(out, Part::End)?;
     }
     Ok(())
 }
 
-/// Adds the parts of a right side with its `where`.
+/// Adds the parts of a right side, those of its `where` first.
 #[cycle(exprs)]
 fn add_rhs<'a>(out: &mut Vec<Part<'a>>, rhs: &'a Rhs) -> Result<(), AllocError>
     ensures { OnOk result (map part_of out.new.items ≡ map part_of out.old.items ++ right_side_parts rhs.now) }
 {
-    add_bodies(out, &rhs.parts)?;
     add_list(out, &rhs.local)?;
+    add_bodies(out, &rhs.parts)?;
+    add_part(out, Part::End)?;
     Ok(())
 }
 
@@ -293,17 +299,19 @@ fn add_decl<'a>(out: &mut Vec<Part<'a>>, decl: &'a Decl) -> Result<(), AllocErro
         DeclKind::Clause { pats, rhs, .. } => {
             add_head(out, pats)?;
             add_rhs(out, rhs)?;
+            add_part(out, Part::End)?;
             Ok(())
         }
         DeclKind::Pattern { pat, rhs, .. } => {
             add_alone(out, pat)?;
+            add_part(out, Part::End)?;
             add_rhs(out, rhs)?;
             Ok(())
         }
     }
 }
 
-/// Returns the parts of a module.
+/// Returns the parts of a module. A declaration list and patterns are before what is in their scope, and an end is after that; there is none for the module's own list.
 pub(crate) fn parts_of(alloc: Global, program: &Module) -> Result<Vec<Part<'_>>, AllocError>
     ensures { IfOk result (λ parts. map part_of parts.items ≡ module_parts program.now.decls) }
 {

@@ -1,16 +1,16 @@
 //! Finds what the name of a fault stands for at its place.
-ghost use Rattle.std.specs.Prelude.{◌≡◌, IfOk, IfSome};
+ghost use Rattle.std.specs.Prelude.{◌≡◌, IfSome, map};
+ghost use Rattle.hm_syntax.specs.declared.ast.Module.{Module as ModuleTree};
 ghost use Rattle.hm_names.specs.Walk.{Somewhere};
 ghost use Rattle.hm_messages_details.specs.Firsts.{IsAt};
-ghost use Rattle.hm_messages_details.specs.Parts.{IsPartRole, part_of};
+ghost use Rattle.hm_messages_details.specs.Parts.{IsPartRole, module_parts, part_of};
 ghost use Rattle.hm_messages_details.specs.Roles.{HasRole, IsExportedAs, IsRoleAt, IsRoleIn};
 
 use crate::firsts::is_at;
-use crate::parts::{Part, parts_of};
+use crate::parts::Part;
 use crate::role::Role;
 use hm_names::Fault;
 use hm_syntax::{Export, Module, Name};
-use std::alloc::{AllocError, Global};
 
 /// Returns a role of the name of a fault, if the fault is at this name.
 fn role_at(fault: &Fault, name: &Name, role: Role) -> Option<Role>
@@ -34,22 +34,22 @@ fn role_in_part(fault: &Fault, part: Part<'_>) -> Option<Role>
         Part::Head(_) => None,
         Part::Alone(_) => None,
         Part::Parameters(_) => None,
+        Part::End => None,
     }
 }
 
-/// Returns the role of the name of a fault in the declarations of a module, if the fault is in a tree there.
-fn role_in_trees(alloc: Global, program: &Module, fault: &Fault) -> Result<Option<Role>, AllocError>
-    ensures { IfOk result (λ found. IfSome found (λ r. Somewhere program.now (λ xs k. IsRoleAt fault.now r k))) }
+/// Returns the role of the name of a fault in the parts of a module, if the fault is in a tree there.
+fn role_in_trees(parts: &[Part<'_>], fault: &Fault) -> Option<Role>
+    ensures { IfSome result (λ r. («module» : ModuleTree) → map part_of parts.now ≡ module_parts «module».decls
+        → Somewhere «module» (λ xs k. IsRoleAt fault.now r k)) }
 {
-    let parts = parts_of(alloc, program)?;
-    let row = parts.as_slice();
-    'row: for part in row {
+    'parts: for part in parts {
         match role_in_part(fault, *part) {
-            Some(role) => return Ok(Some(role)),
+            Some(role) => return Some(role),
             None => {}
         }
     }
-    Ok(None)
+    None
 }
 
 /// Returns the role of the name of a fault in an export, if the fault is at its variable or its type.
@@ -83,17 +83,14 @@ fn role_in_exports(program: &Module, fault: &Fault) -> Option<Role>
     }
 }
 
-/// Returns what the name of a fault stands for at its place, if it has a role there.
-pub(crate) fn role_of(
-    alloc: Global,
-    program: &Module,
-    fault: &Fault,
-) -> Result<Option<Role>, AllocError>
-    ensures { IfOk result (λ found. IfSome found (HasRole program.now fault.now)) }
+/// Returns what the name of a fault stands for at its place, if it has a role there. `parts` are those of the module.
+pub(crate) fn role_of(program: &Module, parts: &[Part<'_>], fault: &Fault) -> Option<Role>
+    requires { map part_of parts.now ≡ module_parts program.now.decls }
+    ensures { IfSome result (HasRole program.now fault.now) }
 {
     match role_in_exports(program, fault) {
-        Some(role) => return Ok(Some(role)),
+        Some(role) => return Some(role),
         None => {}
     }
-    Ok(role_in_trees(alloc, program, fault)?)
+    role_in_trees(parts, fault)
 }

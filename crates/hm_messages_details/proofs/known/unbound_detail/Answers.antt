@@ -1,12 +1,17 @@
-use Rattle.std.proofs.Common.{sym, subst, IfSome}
+use Rattle.std.proofs.Common.{◌≡◌, sym, subst, map, IfSome}
 use Rattle.std.specs.Prelude.{Contains}
 use Rattle.hm_names.specs.Bindings.{Pair}
 use Rattle.hm_messages_details.specs.Details.{IsNearPair}
+use Rattle.hm_syntax.specs.declared.ast.Module.{Module}
 use Rattle.hm_messages_details.specs.NearLocals.{HasNearLocal}
+use Rattle.hm_messages_details.specs.Parts.{module_parts, part_of}
 use Rattle.hm_messages_details.proofs.known.unbound_detail.Goals as goal
 
 pub returns-in-Some : goal.returns-in-Some
-returns-in-Some c = λ fs scope. (c.requires.unbound, subst (λ o. IfSome o (λ x. HasNearLocal c.args.program.now c.args.fault.now x.now)) c.in-Some.is c.in_ok-near.ensures)
+returns-in-Some c = λ fs scope. (
+  c.requires.unbound,
+  subst (λ o. IfSome o (λ x. (m : Module) → map part_of c.args.parts.now ≡ module_parts m.decls → HasNearLocal m c.args.fault.now x.now)) c.in-Some.is c.in_ok-near.ensures c.args.site.now.program.now c.requires.parts,
+)
 
 pub returns-in-Some-2 : goal.returns-in-Some-2
 returns-in-Some-2 c =

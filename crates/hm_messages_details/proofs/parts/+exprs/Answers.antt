@@ -3,8 +3,8 @@ use Rattle.hm_syntax.specs.Lists.{alternatives, bodies, constructors, declaratio
 use Rattle.hm_syntax.specs.Trees.{more_patterns, no_patterns}
 use Rattle.hm_syntax.specs.Views.OfExpressions.{declaration_of, expression_of}
 use Rattle.hm_names.proofs.Rows.{past, unrolled}
-use Rattle.hm_messages_details.specs.Parts.{Part, a_list, a_row, alternative_parts, alternatives_parts, constructors_parts, bodies_of_parts, bodies_parts, declaration_parts, declarations_parts, expression_parts, expressions_parts, guard_parts, head_parts, module_parts, part_of, right_side_parts, type_parts}
-use Rattle.hm_messages_details.proofs.PartLists.{bodies_are, both_added, both_of, row_end, row_more}
+use Rattle.hm_messages_details.specs.Parts.{Part, a_list, a_row, an_end, ended, alternative_parts, alternatives_parts, constructors_parts, bodies_of_parts, bodies_parts, declaration_parts, declarations_parts, expression_parts, expressions_parts, guard_parts, head_parts, module_parts, part_of, right_side_parts, type_parts}
+use Rattle.hm_messages_details.proofs.PartLists.{bodies_are, both_added, both_of, in_scope, row_end, row_more}
 use Rattle.hm_messages_details.proofs.parts.+exprs.Goals as goal
 
 pub add_rhs-returns : goal.add_rhs-returns
@@ -12,13 +12,14 @@ add_rhs-returns t c =
     let gs = c.rhs.inside.parts.items in
     let ds = c.rhs.inside.local.items in
     let old = map part_of c.args.out.now.items in
+    let listed = map part_of c.add_list.new.out.items in
     let middle = map part_of c.add_bodies.new.out.items in
-    let new = map part_of c.add_list.new.out.items in
-    let first : middle ≡ old ++ bodies_parts (bodies gs) =
-    subst (λ l. middle ≡ old ++ bodies_of_parts l) c.deref.ensures.value c.in_ok-add_bodies.ensures ∙ ap (λ l. old ++ l) (bodies_are gs) in
-    let second : new ≡ middle ++ module_parts ds = subst (λ l. new ≡ middle ++ module_parts l) c.deref-2.ensures.value c.in_ok-add_list.ensures in
+    let new = map part_of c.add_part.new.out.items in
+    let first : listed ≡ old ++ module_parts ds = subst (λ l. listed ≡ old ++ module_parts l) c.deref.ensures.value c.in_ok-add_list.ensures in
+    let second : middle ≡ listed ++ bodies_parts (bodies gs) =
+    subst (λ l. middle ≡ listed ++ bodies_of_parts l) c.deref-2.ensures.value c.in_ok-add_bodies.ensures ∙ ap (λ l. listed ++ l) (bodies_are gs) in
     subst (λ r. new ≡ old ++ right_side_parts r) c.rhs.view_is
-    (second ∙ (ap (λ l. l ++ module_parts ds) first ∙ append_assoc old (bodies_parts (bodies gs)) (module_parts ds)))
+    (both_added old listed new (module_parts ds) (ended (bodies_parts (bodies gs))) first (both_added listed middle new (bodies_parts (bodies gs)) (an_end ∷ []) second c.in_ok-add_part.ensures))
 
 pub add_exprs-row-preserved : goal.add_exprs-row-preserved
 add_exprs-row-preserved t c =
@@ -60,19 +61,19 @@ add_expr-returns-in_ok-add_expr-in-Apply-2 t c =
     subst (λ d. new ≡ old ++ expression_parts d) (ap expression_of (sym c.in-Apply.is) ∙ c.expr.view_is)
     (both_of expression_parts expression_parts old (map part_of c.add_expr.new.out.items) new _ c.in-Apply.function.value _ c.in-Apply.argument.value c.deref.ensures c.deref-in-Apply.ensures c.in_ok-add_expr-in-Apply.ensures c.in_ok-add_expr-in-Apply-2.ensures)
 
-pub add_expr-returns-in_ok-add_expr-in-Lambda : goal.add_expr-returns-in_ok-add_expr-in-Lambda
-add_expr-returns-in_ok-add_expr-in-Lambda t c =
+pub add_expr-returns-in_ok-add_part-in-Lambda : goal.add_expr-returns-in_ok-add_part-in-Lambda
+add_expr-returns-in_ok-add_part-in-Lambda t c =
     let old = map part_of c.args.out.now.items in
-    let new = map part_of c.add_expr-in-Lambda.new.out.items in
+    let new = map part_of c.add_part-in-Lambda.new.out.items in
     subst (λ d. new ≡ old ++ expression_parts d) (ap expression_of (sym c.in-Lambda.is) ∙ c.expr.view_is)
-    (both_of (λ l. head_parts (patterns l)) expression_parts old (map part_of c.add_head.new.out.items) new _ c.in-Lambda.pats.items _ c.in-Lambda.body.value c.deref-in-Lambda.ensures.value c.deref-in-Lambda-2.ensures c.in_ok-add_head-in-Lambda.ensures c.in_ok-add_expr-in-Lambda.ensures)
+    (in_scope (λ l. head_parts (patterns l)) expression_parts old (map part_of c.add_head.new.out.items) (map part_of c.add_expr-in-Lambda.new.out.items) new _ c.in-Lambda.pats.items _ c.in-Lambda.body.value c.deref-in-Lambda.ensures.value c.deref-in-Lambda-2.ensures c.in_ok-add_head-in-Lambda.ensures c.in_ok-add_expr-in-Lambda.ensures c.in_ok-add_part-in-Lambda.ensures)
 
-pub add_expr-returns-in_ok-add_expr-in-Let : goal.add_expr-returns-in_ok-add_expr-in-Let
-add_expr-returns-in_ok-add_expr-in-Let t c =
+pub add_expr-returns-in_ok-add_part-in-Let : goal.add_expr-returns-in_ok-add_part-in-Let
+add_expr-returns-in_ok-add_part-in-Let t c =
     let old = map part_of c.args.out.now.items in
-    let new = map part_of c.add_expr-in-Let.new.out.items in
+    let new = map part_of c.add_part-in-Let.new.out.items in
     subst (λ d. new ≡ old ++ expression_parts d) (ap expression_of (sym c.in-Let.is) ∙ c.expr.view_is)
-    (both_of module_parts expression_parts old (map part_of c.add_list.new.out.items) new _ c.in-Let.decls.items _ c.in-Let.body.value c.deref-in-Let.ensures.value c.deref-in-Let-2.ensures c.in_ok-add_list-in-Let.ensures c.in_ok-add_expr-in-Let.ensures)
+    (in_scope module_parts expression_parts old (map part_of c.add_list.new.out.items) (map part_of c.add_expr-in-Let.new.out.items) new _ c.in-Let.decls.items _ c.in-Let.body.value c.deref-in-Let.ensures.value c.deref-in-Let-2.ensures c.in_ok-add_list-in-Let.ensures c.in_ok-add_expr-in-Let.ensures c.in_ok-add_part-in-Let.ensures)
 
 pub add_expr-returns-in_ok-add_expr-in-If-3 : goal.add_expr-returns-in_ok-add_expr-in-If-3
 add_expr-returns-in_ok-add_expr-in-If-3 t c =
@@ -106,16 +107,19 @@ add_decl-returns-in_ok-add_constructors-in-DataType t c =
 pub add_decl-returns-in_ok-add_rhs-in-Pattern : goal.add_decl-returns-in_ok-add_rhs-in-Pattern
 add_decl-returns-in_ok-add_rhs-in-Pattern t c =
     let old = map part_of c.args.out.now.items in
+    let alone = map part_of c.add_alone.new.out.items in
+    let middle = map part_of c.add_part-in-Pattern.new.out.items in
     let new = map part_of c.add_rhs-in-Pattern.new.out.items in
     subst (λ d. new ≡ old ++ declaration_parts d) (ap declaration_of (sym c.in-Pattern.is) ∙ c.decl.view_is)
-    (both_of (λ p. head_parts (more_patterns p no_patterns)) right_side_parts old (map part_of c.add_alone.new.out.items) new c.in-Pattern.pat c.in-Pattern.pat c.in-Pattern.rhs c.in-Pattern.rhs refl refl c.in_ok-add_alone-in-Pattern.ensures c.in_ok-add_rhs-in-Pattern.ensures)
+    (both_added old middle new (ended (head_parts (more_patterns c.in-Pattern.pat no_patterns))) (right_side_parts c.in-Pattern.rhs)
+    (both_added old alone middle (head_parts (more_patterns c.in-Pattern.pat no_patterns)) (an_end ∷ []) c.in_ok-add_alone-in-Pattern.ensures c.in_ok-add_part-in-Pattern.ensures) c.in_ok-add_rhs-in-Pattern.ensures)
 
-pub add_decl-returns-in_ok-add_rhs-in-Clause : goal.add_decl-returns-in_ok-add_rhs-in-Clause
-add_decl-returns-in_ok-add_rhs-in-Clause t c =
+pub add_decl-returns-in_ok-add_part-in-Clause : goal.add_decl-returns-in_ok-add_part-in-Clause
+add_decl-returns-in_ok-add_part-in-Clause t c =
     let old = map part_of c.args.out.now.items in
-    let new = map part_of c.add_rhs.new.out.items in
+    let new = map part_of c.add_part-in-Clause.new.out.items in
     subst (λ d. new ≡ old ++ declaration_parts d) (ap declaration_of (sym c.in-Clause.is) ∙ c.decl.view_is)
-    (both_of (λ l. head_parts (patterns l)) right_side_parts old (map part_of c.add_head.new.out.items) new _ c.in-Clause.pats.items c.in-Clause.rhs c.in-Clause.rhs c.deref-in-Clause.ensures.value refl c.in_ok-add_head-in-Clause.ensures c.in_ok-add_rhs-in-Clause.ensures)
+    (in_scope (λ l. head_parts (patterns l)) right_side_parts old (map part_of c.add_head.new.out.items) (map part_of c.add_rhs.new.out.items) new _ c.in-Clause.pats.items c.in-Clause.rhs c.in-Clause.rhs c.deref-in-Clause.ensures.value refl c.in_ok-add_head-in-Clause.ensures c.in_ok-add_rhs-in-Clause.ensures c.in_ok-add_part-in-Clause.ensures)
 
 pub add_list-row-init : goal.add_list-row-init
 add_list-row-init t c =
@@ -127,11 +131,14 @@ add_alts-row-preserved t c =
     let row = c.args.row.now in
     let i = c.row.alt-index in
     let old = map part_of c.row.out.items in
-    let new = map part_of c.add_rhs.new.out.items in
+    let new = map part_of c.add_part.new.out.items in
+    let head = head_parts (more_patterns c.alt.inside.pat no_patterns) in
+    let side = right_side_parts c.alt.inside.rhs in
     row_more old new (alternative_parts c.alt-item.result) (alternatives_parts (alternatives (drop (i + 1) row))) (alternatives_parts (alternatives (drop i row))) _
     (ap (λ l. alternatives_parts (alternatives l)) (unrolled row i c.alt-item.result c.row-test.true c.alt-item.is)) c.row.invariant
     (subst (λ a. new ≡ old ++ alternative_parts a) c.alt.view_is
-    (both_added old (map part_of c.add_alone.new.out.items) new (head_parts (more_patterns c.alt.inside.pat no_patterns)) (right_side_parts c.alt.inside.rhs) c.in_ok-add_alone.ensures c.in_ok-add_rhs.ensures))
+    (both_added old (map part_of c.add_alone.new.out.items) new head (ended side) c.in_ok-add_alone.ensures
+    (both_added (map part_of c.add_alone.new.out.items) (map part_of c.add_rhs.new.out.items) new side (an_end ∷ []) c.in_ok-add_rhs.ensures c.in_ok-add_part.ensures)))
 
 pub add_alts-returns : goal.add_alts-returns
 add_alts-returns t c = row_end (map part_of c.row.out.items) _ _ (ap (λ l. alternatives_parts (alternatives l)) (past c.args.row.now c.row.alt-index c.row-test.false)) c.row.invariant
