@@ -42,7 +42,7 @@ written source (Expression s) = beside (slice_range source s.from s.to)
 written source (Variable x at f) = scoped f (sharing (slice_range source x.from x.to))
 
 -- a definition: its bytes, its name, an expression that it is the value of, and the name that its copy has. A recursive definition with a signature has another name there,
--- so its own one means the definition with the signature (Report 4.4.1). A pattern binding has () for all three
+-- so its own one means the definition with the signature (Report 4.4.1). In place of the name that its copy has there may be another expression after the copy
 pub record Definition : Type 0 where
   pub whole : Span
   pub name : List ℕ

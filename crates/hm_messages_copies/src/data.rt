@@ -38,7 +38,7 @@ pub enum Point {
 pub struct Copied<'a> {
     /// The bytes of the definition.
     pub whole: Span,
-    /// Its name, or `()` for a pattern binding.
+    /// Its name. A pattern binding has `()` at top level, and the tuple of its variables elsewhere.
     pub name: &'a str,
     /// An expression outside of it that has its value: its name, perhaps with a qualifier, or `()`.
     pub value: &'a str,

@@ -77,28 +77,50 @@ pub fn is_definition(outline: &Outline, run: Run) -> bool {
     }
 }
 
-/// Returns whether a definition is that of a function or a variable, and not a pattern binding.
-pub(crate) fn has_name(lexed: &Lexed<'_>, run: Run) -> bool {
-    is_clause_of(
-        lexed.source,
-        lexed.tokens,
-        lexed.outline,
-        run.start,
-        run.start,
-    )
+/// Returns the first of these tokens that isn't an open bracket.
+fn past_brackets(outline: &Outline, run: Run) -> usize {
+    for at in run.start..run.end {
+        if !outline.symbol(at).is(Symbol::Open) {
+            return at;
+        }
+    }
+    run.end
+}
+
+/// Returns the token of the variable that a definition or its first clause defines, or `None` for a pattern binding. `(x) = e` is the clause `x = e`.
+pub(crate) fn variable_of(lexed: &Lexed<'_>, run: Run) -> Option<usize> {
+    let outline = lexed.outline;
+    let at = past_brackets(outline, run);
+    if !is_clause_of(lexed.source, lexed.tokens, outline, at, at) {
+        return None;
+    }
+    let brackets = at.saturating_sub(run.start);
+    if brackets == 0 {
+        return Some(at);
+    }
+    let close = outline.closing(run.start);
+    let after = outline.symbol(close.saturating_add(1));
+    let is_lone = close == at.saturating_add(brackets);
+    if is_lone && (after.is(Symbol::Equals) || after.is(Symbol::Bar)) {
+        return Some(at);
+    }
+    None
 }
 
 /// Returns the name of a definition of a source, or `()` for a pattern binding.
 pub fn name_of<'a>(source: &'a [u8], lexed: &Lexed<'_>, run: Run) -> &'a str {
-    if !has_name(lexed, run) || run.start >= lexed.tokens.len() {
-        return "()";
+    match variable_of(lexed, run) {
+        Some(at) if at < lexed.tokens.len() => name_at(source, &lexed.tokens[at]),
+        _ => "()",
     }
-    name_at(source, &lexed.tokens[run.start])
 }
 
 /// Returns whether the list of a definition has a signature of it.
 pub fn is_signed(lexed: &Lexed<'_>, declared: Declared) -> bool {
     let Declared { list, run } = declared;
+    let Some(variable) = variable_of(lexed, run) else {
+        return false;
+    };
     let mut at = list.start;
     for _ in list.start..list.end {
         at = past_semicolons(lexed.outline, at);
@@ -110,7 +132,7 @@ pub fn is_signed(lexed: &Lexed<'_>, declared: Declared) -> bool {
         let signature = Run { start: at, end };
         if lexed.outline.symbol(at).is(Symbol::Var)
             && after.begins_signature()
-            && has_clause(lexed, signature, run.start)
+            && has_clause(lexed, signature, variable)
         {
             return true;
         }

@@ -3,9 +3,9 @@ ghost use Rattle.std.specs.Prelude.{◌≡◌, IfSome};
 ghost use Rattle.hm_messages_copies.specs.Changes.{part_of};
 
 use crate::data::{Asked, Copied, Point, Scoped};
-use crate::definitions::{Declared, clause_with, has_name, is_definition, is_signed, name_of};
+use crate::definitions::{Declared, clause_with, is_definition, is_signed, name_of, variable_of};
 use hm_messages_changes::{Span, bytes_of, local_of};
-use hm_messages_outline::{Lexed, Outline, Run, declaration_end, one, past_semicolons};
+use hm_messages_outline::{Lexed, Outline, Run, declaration_end, name_at, one, past_semicolons};
 use hm_parse_grammar::Symbol;
 use std::alloc::{AllocError, Global};
 
@@ -34,8 +34,8 @@ fn is_declared_name(lexed: &Lexed<'_>, declared: Declared, token: usize) -> bool
     let Some(clause) = clause_with(lexed.outline, run, token) else {
         return false;
     };
-    if has_name(lexed, run) {
-        return clause.start == token;
+    if let Some(variable) = variable_of(lexed, clause) {
+        return variable == token;
     }
     token < first_of(lexed.outline, clause, Symbol::Equals, Symbol::Bar)
 }
@@ -145,23 +145,43 @@ fn heads_of(alloc: Global, lexed: &Lexed<'_>, declared: Declared) -> Result<Vec<
         if at >= run.end {
             return Ok(heads);
         }
-        heads.push(Span {
-            from: lexed.start(at),
-            to: lexed.end(one(at)),
-        })?;
-        at = past_semicolons(lexed.outline, declaration_end(lexed.outline, at));
+        let end = declaration_end(lexed.outline, at);
+        if let Some(head) = variable_of(lexed, Run { start: at, end }) {
+            heads.push(Span {
+                from: lexed.start(head),
+                to: lexed.end(one(head)),
+            })?;
+        }
+        at = past_semicolons(lexed.outline, end);
     }
     Ok(heads)
 }
 
-/// A definition, with the names at the beginnings of its clauses if it has a signature.
+/// Returns the tuple of the variables that a pattern binding binds.
+fn tuple_of(alloc: Global, lexed: &Lexed<'_>, run: Run) -> Result<String, AllocError> {
+    let end = first_of(lexed.outline, run, Symbol::Equals, Symbol::Bar);
+    let mut tuple = String::from_str(alloc, "(")?;
+    let mut separator = "";
+    for at in run.start..end.min(lexed.tokens.len()) {
+        if lexed.outline.symbol(at).is(Symbol::Var) {
+            tuple.push_str(separator)?;
+            tuple.push_str(name_at(lexed.source, &lexed.tokens[at]))?;
+            separator = ", ";
+        }
+    }
+    tuple.push_str(")")?;
+    Ok(tuple)
+}
+
+/// A definition, with the names at the beginnings of its clauses if it has a signature, and the tuple of its variables if it is a pattern binding.
 #[derive(Drop)]
 pub struct Headed {
     run: Run,
     heads: Vec<Span>,
+    tuple: Option<String>,
 }
 
-/// Returns definitions with the names at the beginnings of the clauses of those that have signatures.
+/// Returns definitions with the names at the beginnings of the clauses of those that have signatures, and with the variables of pattern bindings.
 pub fn with_heads(
     alloc: Global,
     lexed: &Lexed<'_>,
@@ -170,15 +190,22 @@ pub fn with_heads(
     let mut all = Vec::new(alloc);
     for declared in definitions {
         let heads = heads_of(alloc, lexed, *declared)?;
+        let tuple = match variable_of(lexed, declared.run) {
+            Some(_) => None,
+            None => Some(tuple_of(alloc, lexed, declared.run)?),
+        };
         all.push(Headed {
             run: declared.run,
             heads,
+            tuple,
         })?;
     }
     Ok(all)
 }
 
 /// Returns how the copies of these definitions of a source are written, around a part that begins at a byte. Returns `None` if one of them isn't in the source.
+///
+/// A local pattern binding has the tuple of its variables for a name, so its copy is in one list with them. At top level its name is `()`.
 pub fn copies_of<'a>(
     alloc: Global,
     source: &'a [u8],
@@ -191,7 +218,10 @@ pub fn copies_of<'a>(
         let Some((from, to)) = bytes_of(lexed.tokens, definition.run, source) else {
             return Ok(None);
         };
-        let name = name_of(source, lexed, definition.run);
+        let name = match &definition.tuple {
+            Some(tuple) if !copies.is_empty() => tuple.as_str(),
+            _ => name_of(source, lexed, definition.run),
+        };
         copies.push(Copied {
             whole: Span { from, to },
             name,

@@ -1,1 +1,2 @@
+mod Sharing
 pub mod WorkedHere

@@ -1,5 +1,5 @@
 -- The worked types of names at their places.
-use Rattle.std.proofs.Common.{◌≡◌, ◌∙◌, inl, inr, Bool, true, false, ℕ, ◌+◌, List, [], ◌∷◌, ◌++◌, Contains, length, map, take, drop, get_or, refl, sym, ap, subst, arith}
+use Rattle.std.proofs.Common.{◌≡◌, ◌∙◌, inl, inr, ⊎_elim, Bool, true, false, ℕ, ◌+◌, List, [], ◌∷◌, ◌++◌, Contains, length, map, take, drop, get_or, refl, sym, ap, subst, arith}
 use Rattle.std.specs.Prelude.{codes, flat_map, slice_range}
 use Rattle.std.proofs.lemmas.List.{take-append-drop}
 use Rattle.std.proofs.lemmas.List.Elements.{All-contains, All-cons}
@@ -10,10 +10,13 @@ use Rattle.hm_types.specs.StandardPrelude.{prelude_interface}
 use Rattle.hm_types.specs.Types.{Var as leaf, App as app, done as none, more}
 use Rattle.hm_types.specs.declared.entries.ValueEntry.{ValueEntry}
 use Rattle.hm_types_display.specs.Texts.{scheme_text_of}
+use Rattle.hm_syntax.specs.Names.{Identifier}
+use Rattle.hm_syntax.specs.Trees.{Declaration, Pattern, Patterns, RightSide, clause, pattern_binding}
 use Rattle.hm_syntax.specs.declared.ast.Module.{Module}
 use Rattle.hm_run_sources.specs.SourceModules.{HasModules}
 use Rattle.hm_verdicts.specs.ModuleVerdicts.{Verdict, Good, Faulty, IsVerdict}
-use Rattle.hm_verdicts.specs.Worked.{module_A}
+use Rattle.hm_names.proofs.Members.{cases, none_in}
+use Rattle.hm_verdicts.specs.Worked.{letter, module_A}
 use Rattle.hm_verdicts.specs.WorkedVerdicts.{character, entry_x, interface_A}
 use Rattle.hm_verdicts.proofs.OneModuleVerdict.{one_module_verdict}
 use Rattle.hm_verdicts.proofs.WorkedModules.{good_A}
@@ -21,7 +24,8 @@ use Rattle.hm_messages_changes.specs.Blanks.{all_blanked, blank, defined, with_d
 use Rattle.hm_messages_changes.specs.declared.data.Other.{Other}
 use Rattle.hm_messages_trials.proofs.WorkedHoles.{only_module}
 use Rattle.hm_messages_here.specs.TypesHere.{AreTextsOf, HasTypes, IsWithout}
-use Rattle.hm_messages_here.specs.Worked.{TextsRow, TypesRow, WithoutRow, a, b, function, second_parameter}
+use Rattle.hm_messages_here.specs.Patterns.{IsTied, by_name, by_variables}
+use Rattle.hm_messages_here.specs.Worked.{TextsRow, TiesRow, TypesRow, WithoutRow, a, b, function, second_parameter}
 
 -- the arguments of a type, and the first one and the rest of some
 abbrev arguments : Mono → Monos
@@ -102,3 +106,16 @@ not_empty (inr (at, (d ∷ ds, e))) =
 
 pub worked_without : WithoutRow
 worked_without = record { itself = inl refl; hole = hole_f; not_empty = not_empty }
+
+no_clause : (line column : ℕ) (p : Pattern) (r : RightSide) (n : Identifier) (ps : Patterns) (s : RightSide) → ¬ (pattern_binding line column p r ≡ clause n ps s)
+no_clause line column p r n ps s e = cc
+
+untied : (source local : List ℕ) (from : ℕ) → HasModules source (module_A ∷ []) → ¬ (IsTied source (codes "A") from (codes "()") (codes "()") local)
+untied source local from h (by_name e) = absurd (omega (arith, ap length e))
+untied source local from h (by_variables name value s) =
+    let same : s.«module» ≡ module_A = only_module source (codes "A") module_A s.«module» h s.spelled in
+    let declared = subst (λ (m : Module). Contains m.decls (pattern_binding _ _ s.pattern s.side)) same s.declared in
+    ⊎_elim (λ e. no_clause _ _ s.pattern s.side _ _ _ e) (λ o. none_in _ o) (cases letter [] _ declared)
+
+pub worked_ties : TiesRow
+worked_ties = record { both = refl; named = λ source local. by_name refl; no_pattern = untied }

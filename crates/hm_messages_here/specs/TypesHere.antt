@@ -12,6 +12,7 @@ use Rattle.hm_messages_changes.specs.declared.data.SourceRange.{SourceRange}
 use Rattle.hm_messages_changes.specs.declared.data.Span.{Span}
 use Rattle.hm_messages_copies.specs.Changes.{AreNested, Definition, Place as Target, function_of, part_of, variable_of, with_declaration}
 use Rattle.hm_messages_copies.specs.declared.data.Point.{Point}
+use Rattle.hm_messages_here.specs.Patterns.{IsTied}
 use Rattle.hm_messages_trials.specs.PartTypes.{ExportsIn, from_pair, text_in}
 use Rattle.hm_messages_trials.specs.ShownTypes.{ExportsNames}
 use Rattle.hm_messages_types.specs.Shown.{IsFolded, NamedType}
@@ -48,7 +49,7 @@ pub record HasTypeHere (source name : List ℕ) (fs : List Interface) (part : Sp
   pub others : List Definition
   pub point : Point
   pub named : first.name ≡ definition
-  pub value : (first.value ≡ name ++ (codes "." ++ definition)) ⊎ (first.value ≡ codes "()")
+  pub tied : IsTied source name first.whole.from definition first.value first.local.name
   pub of_part : part_of point ≡ part
   pub nested : AreNested source 0 (length source) (first ∷ others) point
   pub scheme : TypeScheme

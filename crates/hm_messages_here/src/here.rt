@@ -1,13 +1,15 @@
 //! The types of names at their places.
-ghost use Rattle.std.specs.Prelude.{◌≡◌, ◌⊎◌, ◌++◌, IfOk, IfSome, codes, map, slice_range, string_bytes};
+ghost use Rattle.std.specs.Prelude.{◌≡◌, IfOk, IfSome, map, slice_range, string_bytes};
 ghost use Rattle.std.specs.Arc.{arc_value};
 ghost use Rattle.hm_messages_changes.specs.Holes.{IsPartOf};
 ghost use Rattle.hm_messages_copies.specs.Changes.{part_of as point_part};
+ghost use Rattle.hm_messages_here.specs.Patterns.{IsTied};
 ghost use Rattle.hm_messages_here.specs.TypesHere.{HasTypeAt, HasTypeHere};
 ghost use Rattle.hm_messages_types.specs.Aliases.{alias_of as named_type};
 ghost use Rattle.hm_messages_types.specs.Shown.{IsFolded};
 
 use crate::pairs::{Pair, pair_of};
+use crate::patterns::tie_of;
 use crate::targets::target_of;
 use crate::typed::typed_in;
 use crate::without::Whole;
@@ -62,7 +64,8 @@ fn type_inside(
     target: &Target<'_>,
     inside: &Inside<'_, '_, '_>,
 ) -> Result<Option<TypeHere>, AllocError>
-    requires { (inside.now.first.value.now ≡ question.now.name.now ++ (codes "." ++ inside.now.first.name.now)) ⊎ (inside.now.first.value.now ≡ codes "()") }
+    requires { IsTied target.now.source.now question.now.name.now inside.now.first.whole.from inside.now.first.name.now inside.now.first.value.now
+        inside.now.first.local.name.now }
     ensures { IfOk result (λ found. IfSome found (λ t. HasTypeHere target.now.source.now question.now.name.now (map arc_value question.now.imports.now)
         (point_part inside.now.point) (string_bytes t.definition) (string_bytes t.own) (string_bytes t.here))) }
 {
@@ -77,16 +80,6 @@ fn type_inside(
     };
     let aliases = typed.aliases.as_slice();
     Ok(Some(shown_pair(alloc, inside.first.name, &pair, aliases)?))
-}
-
-/// Returns an expression that has the value of a definition at top level: its name with its module, or `()` for a pattern binding.
-fn value_of(alloc: Global, module: &str, definition: &str) -> Result<String, AllocError>
-    ensures { IfOk result (λ value. (string_bytes value ≡ «module».now ++ (codes "." ++ definition.now)) ⊎ (string_bytes value ≡ codes "()")) }
-{
-    if definition == "()" {
-        return Ok(String::from_str(alloc, definition)?);
-    }
-    format!(in alloc; "{module}.{definition}")
 }
 
 /// Returns the type of the part of a point inside of definitions with these copies.
@@ -108,14 +101,16 @@ fn type_in_copies(
     let Some(target) = target_of(source, question.name, lexed, names.as_slice()) else {
         return Ok(None);
     };
-    let value = value_of(alloc, question.name, first.name)?;
+    let Some(tie) = tie_of(alloc, question, first)? else {
+        return Ok(None);
+    };
     let inside = Inside {
         first: Copied {
             whole: first.whole,
             name: first.name,
-            value: value.as_str(),
+            value: tie.value.as_str(),
             local: Local {
-                name: first.local.name,
+                name: tie.local.as_str(),
                 before: first.local.before,
                 after: first.local.after,
             },

@@ -7,6 +7,7 @@
 mod here;
 pub mod laws;
 mod pairs;
+mod patterns;
 mod scheme;
 mod targets;
 mod typed;
