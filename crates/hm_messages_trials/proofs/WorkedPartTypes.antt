@@ -80,26 +80,26 @@ expected_in t = first_of t (last_two t)
 abbrev actual_in : Mono → Mono
 actual_in t = first_of t (rest_of (last_two t))
 
-not_exchanged : (signed infinite : Bool) → ¬ (AreTextsOf applied_to_itself signed (codes "a -> b") (codes "a") infinite)
+not_exchanged : (signed infinite : Bool) → ¬ (AreTextsOf applied_to_itself signed (codes "a -> b") (codes "a -> b") (codes "a") infinite)
 not_exchanged signed infinite h =
     let first : a ≡ h.expected_type = ap expected_in h.three in
     let text : codes "a -> b" ≡ codes "a" = subst (λ (t : Mono). codes "a -> b" ≡ scheme_text_of (record { vars = 2; body = t })) (sym first) h.expected_is in
     absurd (omega (arith, ap length text))
 
-not_equal : (signed : Bool) (t u : List ℕ) (infinite : Bool) → ¬ (AreTextsOf equal_types signed t u infinite)
-not_equal signed t u infinite h = h.apart (sym (ap expected_in h.three) ∙ ap actual_in h.three)
+not_equal : (signed : Bool) (o t u : List ℕ) (infinite : Bool) → ¬ (AreTextsOf equal_types signed o t u infinite)
+not_equal signed o t u infinite h = h.apart (sym (ap expected_in h.three) ∙ ap actual_in h.three)
 
 -- two variables need no infinite type
-not_infinite : (signed : Bool) (t u : List ℕ) → ¬ (AreTextsOf two_variables signed t u true)
-not_infinite signed t u h =
+not_infinite : (signed : Bool) (o t u : List ℕ) → ¬ (AreTextsOf two_variables signed o t u true)
+not_infinite signed o t u h =
     subst (λ (x : Mono). NeedInfinite a x) (sym (ap actual_in h.three)) (subst (λ (x : Mono). NeedInfinite x h.actual_type) (sym (ap expected_in h.three)) (h.contained refl))
 
 a_function : ¬ (a ≡ function a b)
 a_function e = cc
 
 -- with () for both variables (a, b) and (b, a) are equal
-not_agreeing : (t u : List ℕ) (infinite : Bool) → ¬ (AreTextsOf swapped false t u infinite)
-not_agreeing t u infinite h =
+not_agreeing : (o t u : List ℕ) (infinite : Bool) → ¬ (AreTextsOf swapped false o t u infinite)
+not_agreeing o t u infinite h =
     let units : HaveCommonInstance (tuple b a) (tuple a b) = (λ n. app head.Unit none, refl) in
     let first : HaveCommonInstance h.expected_type (tuple a b) = subst (λ (x : Mono). HaveCommonInstance x (tuple a b)) (ap expected_in h.three) units in
     h.clash refl (subst (HaveCommonInstance h.expected_type) (ap actual_in h.three) first)
@@ -112,8 +112,8 @@ swapped_tuples e = cc
 
 pub worked_texts : TextsRow
 worked_texts = record {
-  itself = record { own_type = function a b; expected_type = a; actual_type = function a b; three = refl; apart = a_function; clash = λ e. apart_from_a; expected_is = refl; actual_is = refl; contained = λ e. refl };
-  lettered = record { own_type = function (tuple a b) (tuple b a); expected_type = tuple b a; actual_type = tuple a b; three = refl; apart = swapped_tuples; clash = λ e. cc; expected_is = refl; actual_is = refl; contained = λ e. cc };
+  itself = record { own_type = function a b; expected_type = a; actual_type = function a b; three = refl; apart = a_function; clash = λ e. apart_from_a; own_is = refl; expected_is = refl; actual_is = refl; contained = λ e. refl };
+  lettered = record { own_type = function (tuple a b) (tuple b a); expected_type = tuple b a; actual_type = tuple a b; three = refl; apart = swapped_tuples; clash = λ e. cc; own_is = refl; expected_is = refl; actual_is = refl; contained = λ e. cc };
   agreeing = not_agreeing;
   exchanged = not_exchanged;
   equal = not_equal;

@@ -46,23 +46,24 @@ from_three t u v = app Arrow (more (app (Tuple 3) (more t (more u (more v none))
 abbrev pub text_in : TypeScheme → Mono → List ℕ
 text_in s t = scheme_text_of (record { vars = s.vars; body = t })
 
--- A function with this scheme takes a type of a definition and two types that differ, and these are the texts of the two. The type of the definition is first, so its
+-- A function with this scheme takes a type of a definition and two types that differ, and these are the texts of the three. The type of the definition is first, so its
 -- variables have the first letters. Only a definition with a signature has variables that stand for no other types. So without one the two types have no common
 -- instance. If they are reported as infinite, they are equal only if a type contains itself
-pub record AreTextsOf (scheme : TypeScheme) (signed : Bool) (expected actual : List ℕ) (infinite : Bool) : Type 0 where
+pub record AreTextsOf (scheme : TypeScheme) (signed : Bool) (own expected actual : List ℕ) (infinite : Bool) : Type 0 where
   pub own_type : Mono
   pub expected_type : Mono
   pub actual_type : Mono
   pub three : scheme.body ≡ from_three own_type expected_type actual_type
   pub apart : ¬ (expected_type ≡ actual_type)
   pub clash : signed ≡ false → ¬ (HaveCommonInstance expected_type actual_type)
+  pub own_is : own ≡ text_in scheme own_type
   pub expected_is : expected ≡ text_in scheme expected_type
   pub actual_is : actual ≡ text_in scheme actual_type
   pub contained : infinite ≡ true → NeedInfinite expected_type actual_type
 
--- With the function in place of the definition, the module is good, and the function takes the two types. Where the definition is local, another name may be
+-- With the function in place of the definition, the module is good, and the function takes the type of the definition and the two types. Where the definition is local, another name may be
 -- written in place of its own. It counts as signed only if the module has its signature
-pub record HasPartTypes (source name : List ℕ) (fs : List Interface) (definition : List ℕ) (part : SourceRange) (expected actual : List ℕ) (infinite : Bool) : Type 0 where
+pub record HasPartTypes (source name : List ℕ) (fs : List Interface) (definition : List ℕ) (part : SourceRange) (own expected actual : List ℕ) (infinite : Bool) : Type 0 where
   pub place : Surroundings
   pub starts : place.whole.from ≤ part.from
   pub ordered : part.from ≤ part.to
@@ -74,4 +75,4 @@ pub record HasPartTypes (source name : List ℕ) (fs : List Interface) (definiti
   pub typed : ExportsIn (with_probe source definition place part) name fs (codes "part'types") scheme
   pub signed : Bool
   pub declared : signed ≡ true → IsSignedIn source name definition
-  pub texts : AreTextsOf scheme signed expected actual infinite
+  pub texts : AreTextsOf scheme signed own expected actual infinite

@@ -81,12 +81,12 @@ swapped = record { vars = 2; body = from_three (function (tuple a b) (tuple b a)
 -- The expected type is the first of the two, with the letters of the definition's type, and two equal types are none. Without a signature (a, b) and (b, a) can be
 -- the same type, so there are none. A type that would be infinite is reported as such, and two variables aren't
 pub record TextsRow : Type 0 where
-  pub itself : AreTextsOf applied_to_itself false (codes "a") (codes "a -> b") true
-  pub lettered : AreTextsOf swapped true (codes "(b, a)") (codes "(a, b)") false
-  pub agreeing : (t u : List ℕ) (infinite : Bool) → ¬ (AreTextsOf swapped false t u infinite)
-  pub exchanged : (signed infinite : Bool) → ¬ (AreTextsOf applied_to_itself signed (codes "a -> b") (codes "a") infinite)
-  pub equal : (signed : Bool) (t u : List ℕ) (infinite : Bool) → ¬ (AreTextsOf equal_types signed t u infinite)
-  pub finite : (signed : Bool) (t u : List ℕ) → ¬ (AreTextsOf two_variables signed t u true)
+  pub itself : AreTextsOf applied_to_itself false (codes "a -> b") (codes "a") (codes "a -> b") true
+  pub lettered : AreTextsOf swapped true (codes "(a, b) -> (b, a)") (codes "(b, a)") (codes "(a, b)") false
+  pub agreeing : (own t u : List ℕ) (infinite : Bool) → ¬ (AreTextsOf swapped false own t u infinite)
+  pub exchanged : (signed infinite : Bool) → ¬ (AreTextsOf applied_to_itself signed (codes "a -> b") (codes "a -> b") (codes "a") infinite)
+  pub equal : (signed : Bool) (own t u : List ℕ) (infinite : Bool) → ¬ (AreTextsOf equal_types signed own t u infinite)
+  pub finite : (signed : Bool) (own t u : List ℕ) → ¬ (AreTextsOf two_variables signed own t u true)
 
 -- a and a -> b are equal only as an infinite type, and so are b -> a and b -> a -> b. Two variables aren't, nor is a with a type without it
 pub record InfiniteRow : Type 0 where

@@ -24,5 +24,5 @@ pub use crate::part_typing::{PartTypes, part_types_of};
 pub use crate::reading::{Reading, TypeFault, read, reading_of};
 pub use crate::search::{mend_of, mend_within, names_of, token_at};
 pub use crate::signatures::{Unsigned, unsigned_of};
-pub use crate::trial::{has_types_in, judged};
+pub use crate::trial::{has_types_in, judged, module_in};
 pub use hm_messages_types::Question;

@@ -13,7 +13,7 @@ ghost use Rattle.hm_messages_types.specs.Shown.{IsFolded};
 ghost use Rattle.hm_messages_type_names.specs.TypeNames.{IsTypeName};
 ghost use Rattle.hm_names.specs.Imports.{AreImportsOf};
 ghost use Rattle.hm_types.specs.StandardPrelude.{prelude_interface};
-ghost use Rattle.hm_messages_trials.specs.ShownTypes.{ExportsNames, HasShownTypes};
+ghost use Rattle.hm_messages_trials.specs.ShownTypes.{AreShownOf, ExportsNames, HasFoldedTypes, HasShownTypes};
 
 use crate::costs::{Effort, cost_of};
 use crate::reading::TypeFault;
@@ -22,10 +22,11 @@ use crate::trial::judged;
 use hm_messages_changes::{
     Layout, Local, Other, SourceRange, Span, bytes_of, local_of, signed_heads, with_probe,
 };
-use hm_messages_outline::{Lexed, Run, binding_at, header_of, one};
+use hm_messages_outline::{Lexed, Run, binding_at, header_of, one, signature_of};
 use hm_messages_type_names::{Home, type_names};
 use hm_messages_types::{
-    Alias, Question, are_apart, between, folded, names_in, need_infinite, text_of,
+    Alias, Question, Texts, are_apart, between, folded, names_in, need_infinite, text_of,
+    with_letters,
 };
 use hm_names::Fault;
 use hm_parse_grammar::Symbol;
@@ -191,6 +192,15 @@ fn taken_by(alloc: Global, body: &Ty) -> Result<Option<Taken<'_>>, AllocError>
     Ok(None)
 }
 
+/// The texts of the type of a definition and of the two types of a part of it, with the same letters for the same variables.
+#[derive(Drop)]
+struct ThreeTypes {
+    own: String,
+    expected: String,
+    actual: String,
+    infinite: bool,
+}
+
 /// The texts of a definition's type and of the expected type.
 #[derive(Drop)]
 struct Front {
@@ -263,14 +273,14 @@ fn may_have(
 }
 
 // Why: docs/DECISIONS.md, "The text of two types".
-/// Returns the texts of the two types that a function with this scheme takes after a definition's, if they differ. Without a signature they have no common instance.
+/// Returns the texts of the types that a function with this scheme takes, if those after a definition's differ. Without a signature these two have no common instance.
 fn texts_of(
     alloc: Global,
     scheme: &Scheme,
     is_signed: bool,
-) -> Result<Option<PartTypes>, AllocError>
-    ensures { IfOk result (λ found. IfSome found (λ types. AreTextsOf scheme.now is_signed (string_bytes types.expected) (string_bytes types.actual)
-        types.infinite)) }
+) -> Result<Option<ThreeTypes>, AllocError>
+    ensures { IfOk result (λ found. IfSome found (λ types. AreTextsOf scheme.now is_signed (string_bytes types.own) (string_bytes types.expected)
+        (string_bytes types.actual) types.infinite)) }
 {
     let Some(taken) = taken_by(alloc, scheme.body())? else {
         return Ok(None);
@@ -286,7 +296,8 @@ fn texts_of(
         return Ok(None);
     };
     match last_text(alloc, scheme, own.as_str(), expected.as_str())? {
-        Some(actual) => Ok(Some(PartTypes {
+        Some(actual) => Ok(Some(ThreeTypes {
+            own,
             expected,
             actual,
             infinite,
@@ -371,30 +382,37 @@ pub(crate) fn layout_of<'a>(
 }
 
 /// Returns the texts of types with names for some of them.
-fn shown_types(alloc: Global, types: &PartTypes, aliases: &[Alias]) -> Result<PartTypes, AllocError>
+fn folded_types(
+    alloc: Global,
+    types: &ThreeTypes,
+    aliases: &[Alias],
+) -> Result<ThreeTypes, AllocError>
+    ensures own { IfOk result (λ shown. IsFolded (map named_type aliases.now) (string_bytes types.now.own) (string_bytes shown.own)) }
     ensures expected { IfOk result (λ shown. IsFolded (map named_type aliases.now) (string_bytes types.now.expected) (string_bytes shown.expected)) }
     ensures actual { IfOk result (λ shown. IsFolded (map named_type aliases.now) (string_bytes types.now.actual) (string_bytes shown.actual)) }
     ensures infinite { IfOk result (λ shown. shown.infinite ≡ types.now.infinite) }
 {
+    let own = folded(alloc, aliases, types.own.as_str())?;
     let expected = folded(alloc, aliases, types.expected.as_str())?;
     let actual = folded(alloc, aliases, types.actual.as_str())?;
-    Ok(PartTypes {
+    Ok(ThreeTypes {
+        own,
         expected,
         actual,
         infinite: types.infinite,
     })
 }
 
-/// Returns the types of a part for a layout.
+/// Returns the types of a definition and of a part of it for a layout.
 fn types_for(
     alloc: Global,
     question: &Question<'_>,
     lexed: &Lexed<'_>,
     layout: &Layout<'_>,
     part: SourceRange,
-) -> Result<Option<PartTypes>, AllocError>
-    ensures { IfOk result (λ found. IfSome found (λ types. HasShownTypes layout.now.source.now question.now.name.now (map arc_value question.now.imports.now)
-        layout.now.name.now part (string_bytes types.expected) (string_bytes types.actual) types.infinite)) }
+) -> Result<Option<ThreeTypes>, AllocError>
+    ensures { IfOk result (λ found. IfSome found (λ types. HasFoldedTypes layout.now.source.now question.now.name.now (map arc_value question.now.imports.now)
+        layout.now.name.now part (string_bytes types.own) (string_bytes types.expected) (string_bytes types.actual) types.infinite)) }
 {
     let Some(changed) = with_probe(alloc, layout, part)? else {
         return Ok(None);
@@ -406,7 +424,42 @@ fn types_for(
     let Some(types) = texts_of(alloc, &typed.scheme, is_signed)? else {
         return Ok(None);
     };
-    Ok(Some(shown_types(alloc, &types, typed.aliases.as_slice())?))
+    Ok(Some(folded_types(alloc, &types, typed.aliases.as_slice())?))
+}
+
+/// Returns the types of a part of a definition with the letters of its signature, or as they are if there is none or if the definition's type isn't shown as it is
+/// written there.
+fn shown_types(
+    alloc: Global,
+    lexed: &Lexed<'_>,
+    definition: &str,
+    signature: Option<Run>,
+    types: ThreeTypes,
+) -> Result<PartTypes, AllocError>
+    ensures infinite { IfOk result (λ shown. shown.infinite ≡ types.infinite) }
+    ensures types { IfOk result (λ shown. AreShownOf lexed.now.source.now definition.now (string_bytes types.own) (string_bytes types.expected) (string_bytes types.actual)
+        (string_bytes shown.expected) (string_bytes shown.actual)) }
+{
+    let infinite = types.infinite;
+    if let Some(signature) = signature {
+        let texts = Texts {
+            own: types.own.as_str(),
+            expected: types.expected.as_str(),
+            actual: types.actual.as_str(),
+        };
+        if let Some(lettered) = with_letters(alloc, lexed, signature, definition, &texts)? {
+            return Ok(PartTypes {
+                expected: lettered.expected,
+                actual: lettered.actual,
+                infinite,
+            });
+        }
+    }
+    Ok(PartTypes {
+        expected: types.expected,
+        actual: types.actual,
+        infinite,
+    })
 }
 
 /// Returns the types of a part of the definition of a fault, whose tokens are these.
@@ -432,7 +485,12 @@ fn types_at(
     let Some(layout) = layout_of(question.source, &lexed, found.fault, binding, setting) else {
         return Ok(None);
     };
-    Ok(types_for(alloc, question, &lexed, &layout, part)?)
+    let Some(types) = types_for(alloc, question, &lexed, &layout, part)? else {
+        return Ok(None);
+    };
+    let signature = signature_of(&lexed, binding.start);
+    let definition = found.fault.name.as_str();
+    Ok(Some(shown_types(alloc, &lexed, definition, signature, types)?))
 }
 
 // Why: docs/DECISIONS.md, "Both types".

@@ -69,11 +69,11 @@ fn first_named(modules: Vec<Module>, name: &str) -> Option<Module>
 }
 
 /// Returns the first module with this name that a source spells.
-pub(crate) fn module_in(
-    alloc: Global,
-    source: &[u8],
-    name: &str,
-) -> Result<Option<Module>, AllocError>
+///
+/// # Errors
+///
+/// Memory ran out.
+pub fn module_in(alloc: Global, source: &[u8], name: &str) -> Result<Option<Module>, AllocError>
     ensures { IfOk result (λ found. IfSome found (IsModuleIn source.now name.now)) }
 {
     match modules_in(alloc, source)? {

@@ -1,13 +1,14 @@
 -- Texts with names for pieces.
-use Rattle.std.proofs.Common.{◌≡◌, ◌∙◌, inl, ℕ, zero, suc, ◌+◌, ◌<◌, ◌≤◌, ◌&&◌, All, Bool, true, false, cond, List, [], ◌∷◌, ◌++◌, drop, length, map, max, min, take, get_or, append_assoc, append-nil, arith, ap, sym, refl, subst}
+use Rattle.std.proofs.Common.{◌≡◌, ◌∙◌, inl, inr, ℕ, zero, suc, ◌+◌, ◌<◌, ◌≤◌, ◌&&◌, All, Bool, true, false, cond, List, [], ◌∷◌, ◌++◌, drop, length, map, max, min, take, get_or, append_assoc, append-nil, arith, ap, sym, refl, subst}
 use Rattle.std.specs.Prelude.{Contains, flat_map}
 use Rattle.std.specs.List.{prefix_len}
-use Rattle.std.proofs.lemmas.List.{get_or-map, length-map}
+use Rattle.std.proofs.lemmas.List.{get_or-map, length-map, length-take-le}
 use Rattle.std.proofs.lemmas.List.Concat.{flat_map-append}
-use Rattle.std.proofs.lemmas.List.Elements.{All-append}
+use Rattle.std.proofs.lemmas.List.Elements.{All-append, All-cons}
 use Rattle.std.proofs.lemmas.List.Sums.{prefix_len-le-length}
 use Rattle.hm_lex.specs.Bytes.{is_name_byte}
 use Rattle.hm_messages_types.specs.Aliases.{alias_of}
+use Rattle.hm_messages_types.specs.Letters.{IsLettered, IsOneWord, IsWord}
 use Rattle.hm_messages_types.specs.Shown.{AreWhole, IsFolded, IsPiece, NamedType, ends_name, starts_name}
 use Rattle.hm_messages_types.specs.declared.shown.Alias.{Alias}
 
@@ -17,12 +18,19 @@ AreWholeTo rest [] = Unit {0}
 AreWholeTo rest (p ∷ ps) = ((ends_name p.text && starts_name (flat_map (λ q. q.text) ps ++ rest)) ≡ false) × AreWholeTo rest ps
 
 -- the pieces of a text up to a rest, and what is shown of them
-pub record IsFoldedTo (names : List NamedType) (text rest shown : List ℕ) : Type 0 where
+pub record IsShownTo (P : NamedType → Type 0) (text rest shown : List ℕ) : Type 0 where
   pub pieces : List NamedType
-  pub each : All (IsPiece names) pieces
+  pub each : All P pieces
   pub whole : AreWholeTo rest pieces
   pub text_is : text ≡ flat_map (λ p. p.text) pieces ++ rest
   pub shown_is : shown ≡ flat_map (λ p. p.name) pieces
+
+abbrev pub IsFoldedTo : List NamedType → List ℕ → List ℕ → List ℕ → Type 0
+IsFoldedTo names text rest shown = IsShownTo (IsPiece names) text rest shown
+
+-- the pieces of letters and other words
+abbrev pub IsLetteredTo : List NamedType → List ℕ → List ℕ → List ℕ → Type 0
+IsLetteredTo letters text rest shown = IsShownTo (IsWord letters) text rest shown
 
 none : {X : Type 0} (P : X → Type 0) → All P []
 none P k d l = absurd (omega (arith, l))
@@ -85,20 +93,34 @@ word_ends (b ∷ bs) n e = at (is_name_byte b) refl
         let one : 1 ≡ n = omega (arith, e, run) in
         subst (λ (k : ℕ). (ends_name (take k (b ∷ bs)) && starts_name (drop k (b ∷ bs))) ≡ false) one (ap (λ (x : Bool). x && starts_name bs) is)
 
-pub begun : (names : List NamedType) (text rest shown : List ℕ) → rest ≡ text → shown ≡ [] → IsFoldedTo names text rest shown
-begun names text rest shown same nothing = record { pieces = []; each = none (IsPiece names); whole = tt; text_is = sym same; shown_is = nothing }
+begun_by : (P : NamedType → Type 0) (text rest shown : List ℕ) → rest ≡ text → shown ≡ [] → IsShownTo P text rest shown
+begun_by P text rest shown same nothing = record { pieces = []; each = none P; whole = tt; text_is = sym same; shown_is = nothing }
 
-pub grown : (names : List NamedType) (text rest after shown next : List ℕ) (p : NamedType) → IsFoldedTo names text rest shown → IsPiece names p → rest ≡ p.text ++ after → next ≡ shown ++ p.name
-    → (ends_name p.text && starts_name after) ≡ false → IsFoldedTo names text after next
-grown names text rest after shown next p so piece split pushed end =
+pub begun : (names : List NamedType) (text rest shown : List ℕ) → rest ≡ text → shown ≡ [] → IsFoldedTo names text rest shown
+begun names text rest shown same nothing = begun_by (IsPiece names) text rest shown same nothing
+
+pub letters_begun : (letters : List NamedType) (text rest shown : List ℕ) → rest ≡ text → shown ≡ [] → IsLetteredTo letters text rest shown
+letters_begun letters text rest shown same nothing = begun_by (IsWord letters) text rest shown same nothing
+
+grown_by : (P : NamedType → Type 0) (text rest after shown next : List ℕ) (p : NamedType) → IsShownTo P text rest shown → P p → rest ≡ p.text ++ after → next ≡ shown ++ p.name
+    → (ends_name p.text && starts_name after) ≡ false → IsShownTo P text after next
+grown_by P text rest after shown next p so piece split pushed end =
     let before : List ℕ = flat_map (λ (q : NamedType). q.text) so.pieces in
     record {
       pieces = so.pieces ++ p ∷ [];
-      each = All-append (IsPiece names) so.pieces (p ∷ []) so.each (one (IsPiece names) p piece);
+      each = All-append P so.pieces (p ∷ []) so.each (one P p piece);
       whole = whole_more so.pieces rest after p split end so.whole;
       text_is = so.text_is ∙ (ap (λ (l : List ℕ). before ++ l) split ∙ (sym (append_assoc before p.text after) ∙ ap (λ (l : List ℕ). l ++ after) (sym (piece_more (λ (q : NamedType). q.text) so.pieces p))));
       shown_is = pushed ∙ (ap (λ (l : List ℕ). l ++ p.name) so.shown_is ∙ sym (piece_more (λ (q : NamedType). q.name) so.pieces p));
     }
+
+pub grown : (names : List NamedType) (text rest after shown next : List ℕ) (p : NamedType) → IsFoldedTo names text rest shown → IsPiece names p → rest ≡ p.text ++ after → next ≡ shown ++ p.name
+    → (ends_name p.text && starts_name after) ≡ false → IsFoldedTo names text after next
+grown names text rest after shown next p so piece split pushed end = grown_by (IsPiece names) text rest after shown next p so piece split pushed end
+
+pub letters_grown : (letters : List NamedType) (text rest after shown next : List ℕ) (p : NamedType) → IsLetteredTo letters text rest shown → IsWord letters p → rest ≡ p.text ++ after → next ≡ shown ++ p.name
+    → (ends_name p.text && starts_name after) ≡ false → IsLetteredTo letters text after next
+letters_grown letters text rest after shown next p so piece split pushed end = grown_by (IsWord letters) text rest after shown next p so piece split pushed end
 
 no_items : (l : List ℕ) → length l ≡ 0 → l ≡ []
 no_items [] e = refl
@@ -106,6 +128,15 @@ no_items (x ∷ l) e = absurd (omega (arith, e))
 
 pub ended : (names : List NamedType) (text rest shown : List ℕ) → IsFoldedTo names text rest shown → length rest ≡ 0 → IsFolded names text shown
 ended names text rest shown so nothing = record {
+  pieces = so.pieces;
+  each = so.each;
+  whole = whole_all so.pieces rest (no_items rest nothing) so.whole;
+  text_is = so.text_is ∙ (ap (λ (l : List ℕ). flat_map (λ (q : NamedType). q.text) so.pieces ++ l) (no_items rest nothing) ∙ append-nil _);
+  shown_is = so.shown_is;
+}
+
+pub letters_ended : (letters : List NamedType) (text rest shown : List ℕ) → IsLetteredTo letters text rest shown → length rest ≡ 0 → IsLettered letters text shown
+letters_ended letters text rest shown so nothing = record {
   pieces = so.pieces;
   each = so.each;
   whole = whole_all so.pieces rest (no_items rest nothing) so.whole;
@@ -127,3 +158,33 @@ unfolded names text shown same = record {
 pub alias_there : (aliases : List Alias) (k : ℕ) (a : Alias) → k < length aliases → a ≡ get_or aliases k a → Contains (map alias_of aliases) (alias_of a)
 alias_there aliases k a within is =
     (k, subst (λ (n : ℕ). k < n) (sym (length-map aliases alias_of)) within, get_or-map alias_of aliases k a (alias_of a) within ∙ ap alias_of (sym is))
+
+-- the bytes of names at the beginning are of names
+run_all : (l : List ℕ) → All (λ (b : ℕ). is_name_byte b ≡ true) (take (prefix_len is_name_byte l) l)
+run_all [] = none (λ (b : ℕ). is_name_byte b ≡ true)
+run_all (b ∷ bs) = at (is_name_byte b) refl (run_all bs)
+  where
+    P : ℕ → Type 0
+    P c = is_name_byte c ≡ true
+
+    at : (x : Bool) → is_name_byte b ≡ x → All P (take (prefix_len is_name_byte bs) bs) → All P (take (cond x (1 + prefix_len is_name_byte bs) 0) (b ∷ bs))
+    at true e later =
+        let one : suc (prefix_len is_name_byte bs) ≡ 1 + prefix_len is_name_byte bs = omega arith in
+        subst (λ (k : ℕ). All P (take k (b ∷ bs))) one (All-cons P b (take (prefix_len is_name_byte bs) bs) e later)
+    at false e later = none P
+
+-- the first word of a text
+pub word_is_one : (l : List ℕ) (n : ℕ) → n ≡ min (max (prefix_len is_name_byte l) 1) (length l) → IsOneWord (take n l)
+word_is_one l n e = at (prefix_len is_name_byte l) refl
+  where
+    within : prefix_len is_name_byte l ≤ length l
+    within = prefix_len-le-length is_name_byte l
+
+    at : (k : ℕ) → prefix_len is_name_byte l ≡ k → IsOneWord (take n l)
+    at zero z =
+        let small : n ≤ 1 = omega (arith, e, z) in
+        let inside : n ≤ length l = omega (arith, e, z) in
+        inl (omega (arith, small, length-take-le n l inside))
+    at (suc k) z =
+        let all : prefix_len is_name_byte l ≡ n = omega (arith, e, z, within) in
+        inr (subst (λ (m : ℕ). All (λ (b : ℕ). is_name_byte b ≡ true) (take m l)) all (run_all l))

@@ -2,3 +2,5 @@ pub mod Folding
 pub mod NoFiniteType
 pub mod WorkedShown
 pub mod WorkedInstances
+pub mod Differing
+pub mod WorkedLetters

@@ -1,6 +1,9 @@
 pub mod Aliases
 pub mod CommonInstances
 pub mod InfiniteTypes
+pub mod Lettered
+pub mod Letters
 pub mod Shown
 pub mod WorkedInstances
+pub mod WorkedLetters
 pub mod WorkedShown

@@ -1,6 +1,7 @@
 //! Worked examples, and a law: functions with empty bodies, whose contracts have the facts.
 ghost use Rattle.hm_messages_types.specs.InfiniteTypes.{NoCommonInstance};
 ghost use Rattle.hm_messages_types.specs.WorkedInstances.{InstancesRow};
+ghost use Rattle.hm_messages_types.specs.WorkedLetters.{LettersRow, SignedRow};
 ghost use Rattle.hm_messages_types.specs.WorkedShown.{AliasRow, FoldedRow, WholeNamesRow};
 
 /// No substitution makes two types equal that are equal only if a type contains itself.
@@ -20,4 +21,11 @@ pub fn worked_names()
 #[tactic(auto, using(crate::proofs::WorkedInstances::worked_instances_row))]
 pub fn worked_instances()
     ensures { InstancesRow }
+{}
+
+/// Types with the letters of a signature, and signatures of a source.
+#[tactic(auto, using(crate::proofs::WorkedLetters::worked_letters, crate::proofs::WorkedLetters::worked_signatures))]
+pub fn worked_letters()
+    ensures letters { LettersRow }
+    ensures signed { SignedRow }
 {}

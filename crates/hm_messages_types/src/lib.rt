@@ -5,6 +5,7 @@
 mod apart;
 mod infinite;
 pub mod laws;
+mod letters;
 mod names;
 mod question;
 mod shown;
@@ -12,6 +13,7 @@ mod texts;
 
 pub use crate::apart::are_apart;
 pub use crate::infinite::need_infinite;
+pub use crate::letters::{Lettered, Texts, with_letters};
 pub use crate::question::Question;
-pub use crate::shown::{Alias, aliases_in, folded, names_in, text_of};
+pub use crate::shown::{Alias, aliases_in, folded, is_type_name, names_in, text_of};
 pub use crate::texts::between;

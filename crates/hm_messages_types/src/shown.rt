@@ -138,6 +138,14 @@ fn have_name(interfaces: &[Arc<Interface>], name: &str) -> bool {
     false
 }
 
+/// Returns whether Prelude, an import or the module of a question has a type or a synonym with this name. Whether it is in scope isn't looked up: a trial decides.
+pub fn is_type_name(question: &Question<'_>, lexed: &Lexed<'_>, name: &str) -> bool {
+    if has_name(question.prelude.interface(), name) || have_name(question.imports, name) {
+        return true;
+    }
+    is_declared(lexed, body_of(lexed, question.name), name)
+}
+
 /// Returns whether a type is written in brackets of its own.
 fn is_bracketed(ty: &Ty) -> bool
     ensures { result ≡ true → is_bracketed (type_of ty.now) ≡ true }

@@ -29,6 +29,7 @@ returns-in-Some-3 c =
       three = three;
       apart = search rules;
       clash = search rules;
+      own_is = search rules;
       expected_is = search rules;
       actual_is = third_text (text_in scheme own) (text_in scheme expected) (text_in scheme actual) (string_bytes c.in-Some-3.actual) (scheme_text_of scheme)
           (codes "(" ++ first ++ codes ", " ++ second ++ codes ", ") (ap (λ (t : Mono). text_in scheme t) three) parts front;

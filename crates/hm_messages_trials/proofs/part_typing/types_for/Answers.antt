@@ -17,7 +17,7 @@ returns c =
     let imports = map arc_value c.args.question.now.imports.now in
     let typed = c.in-Some-2.typed in
     let types = c.in-Some-3.types in
-    let shown = c.in_ok-shown_types.field-0 in
+    let shown = c.in_ok-folded_types.field-0 in
     let place = surroundings_of layout in
     let names = map alias_of typed.aliases.items in
     let starts : layout.whole.from ≤ part.from = search rules in
@@ -31,9 +31,9 @@ returns c =
     let exported : ExportsNames c.in-Some.changed.items name imports names = search rules in
     let signed : Bool = c.in_ok-is_signed.is_signed in
     let declared : signed ≡ true → IsSignedIn layout.source.now name layout.name.now = search rules in
-    let texts : AreTextsOf typed.scheme signed (string_bytes types.expected) (string_bytes types.actual) types.infinite = search rules in
+    let texts : AreTextsOf typed.scheme signed (string_bytes types.own) (string_bytes types.expected) (string_bytes types.actual) types.infinite = search rules in
     let there : ExportsNames (with_probe layout.source.now layout.name.now place part) name imports names = subst (λ (s : List ℕ). ExportsNames s name imports names) changed exported in
-    let whole : HasPartTypes layout.source.now name imports layout.name.now part (string_bytes types.expected) (string_bytes types.actual) types.infinite
+    let whole : HasPartTypes layout.source.now name imports layout.name.now part (string_bytes types.own) (string_bytes types.expected) (string_bytes types.actual) types.infinite
     = record {
       place = place;
       starts = starts;
@@ -50,9 +50,11 @@ returns c =
     } in
     let same : types.infinite ≡ shown.infinite = search rules in
     record {
+      whole_own = string_bytes types.own;
       whole_expected = string_bytes types.expected;
       whole_actual = string_bytes types.actual;
-      types = subst (λ (b : Bool). HasPartTypes layout.source.now name imports layout.name.now part (string_bytes types.expected) (string_bytes types.actual) b) same whole;
+      types = subst (λ (b : Bool). HasPartTypes layout.source.now name imports layout.name.now part (string_bytes types.own) (string_bytes types.expected) (string_bytes types.actual) b) same whole;
+      own_shown = record { place = place; names = names; exported = there; folded = search rules };
       expected_shown = record { place = place; names = names; exported = there; folded = search rules };
       actual_shown = record { place = place; names = names; exported = there; folded = search rules };
     }
