@@ -90,29 +90,51 @@ fn add_exchanges(
     Ok(())
 }
 
-/// Adds the changes that leave an argument out, the last one first.
+/// Returns whether two runs have the same tokens.
+fn are_same(lexed: &Lexed<'_>, first: Run, second: Run) -> bool {
+    let length = first.end.saturating_sub(first.start);
+    if length != second.end.saturating_sub(second.start) {
+        return false;
+    }
+    for at in 0..length {
+        let other = second.start.saturating_add(at);
+        if lexed.text(first.start.saturating_add(at)) != lexed.text(other) {
+            return false;
+        }
+    }
+    true
+}
+
+/// Returns the change that leaves an argument out. What is reported otherwise begins at this token.
+fn removal_of(lexed: &Lexed<'_>, whole: Run, argument: Run, start: usize) -> SmallChange {
+    let around = Run {
+        start,
+        end: argument.end,
+    };
+    SmallChange {
+        reported: Reported::Removal(argument, around),
+        first: in_place(lexed, argument, NOTHING),
+        second: after(lexed, whole, NOTHING),
+    }
+}
+
+/// Adds the changes that leave an argument out: those that repeat the one before them first, and then the last one first.
 fn add_without_one(
     found: &mut Vec<SmallChange>,
     lexed: &Lexed<'_>,
     whole: Run,
     atoms: &[Run],
 ) -> Result<(), AllocError> {
-    for back in 1..atoms.len() {
-        let number = atoms.len() - back;
-        let start = if number > 1 {
-            atoms[number - 1].start
-        } else {
-            whole.start
-        };
-        let around = Run {
-            start,
-            end: atoms[number].end,
-        };
-        found.push(SmallChange {
-            reported: Reported::Removal(atoms[number], around),
-            first: in_place(lexed, atoms[number], NOTHING),
-            second: after(lexed, whole, NOTHING),
-        })?;
+    for is_repeated in [true, false] {
+        for back in 1..atoms.len() {
+            let number = atoms.len() - back;
+            let before = atoms[number - 1];
+            let is_first = number == 1;
+            if (!is_first && are_same(lexed, before, atoms[number])) == is_repeated {
+                let start = if is_first { whole.start } else { before.start };
+                found.push(removal_of(lexed, whole, atoms[number], start))?;
+            }
+        }
     }
     Ok(())
 }
