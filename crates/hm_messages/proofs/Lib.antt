@@ -11,3 +11,4 @@ pub mod WorkedFaults
 pub mod WorkedMessages
 pub mod WorkedPlaces
 pub mod WorkedTexts
+pub mod NearModules

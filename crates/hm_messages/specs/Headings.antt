@@ -127,6 +127,14 @@ unsigned_title x p own = codes "'" ++ x ++ codes "' has type '" ++ own ++ codes 
 abbrev pub follows_title : List ℕ → List ℕ → Place → List ℕ
 follows_title x y p = codes "'" ++ x ++ codes "' and '" ++ y ++ codes "' have types without this signature (up to " ++ decimal p.line ++ codes ":" ++ decimal p.column ++ codes ")"
 
+-- what is said of an import that names no module, with a near name
+abbrev pub near_module_text : Option (List ℕ) → List ℕ
+near_module_text None = []
+near_module_text (Some y) = codes " (did you mean '" ++ y ++ codes "'?)"
+
+abbrev pub missing_title : List ℕ → Option (List ℕ) → List ℕ
+missing_title x y = codes "no module '" ++ x ++ codes "' is given" ++ near_module_text y
+
 -- where the token is that a hint is about, its column in characters
 abbrev pub token_place_text : Option Position → List ℕ
 token_place_text None = []
@@ -151,7 +159,7 @@ title (syntax_fault h x other) = syntax_text h x ++ token_place_text other
 title too_many = codes "too many modules"
 title (twice x) = codes "the module name '" ++ x ++ codes "' is taken"
 title (twin x) = codes "this module has the name '" ++ x ++ codes "' too"
-title (missing x) = codes "no module '" ++ x ++ codes "' is given"
+title (missing x y) = missing_title x y
 title (cycle x) = codes "the imports of module '" ++ x ++ codes "' lead back to it"
 title (exhausted x) = codes "there is no memory to check module '" ++ x ++ codes "'"
 title limit = codes "type errors after this one have no notes: the limit on trials is reached"

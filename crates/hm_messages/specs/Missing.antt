@@ -1,10 +1,12 @@
 -- The imports of a set that name no module (Haskell 98 Report, section 5.3).
-use Rattle.std.specs.Prelude.{ℕ, Bool, not, List, [], ◌∷◌, ◌++◌, filter, map}
+use Rattle.std.specs.Prelude.{ℕ, Bool, not, List, [], ◌∷◌, ◌++◌, Contains, None, Option, Some, filter, map, ⊤}
 use Rattle.hm_lex.specs.declared.token.Place.{Place}
 use Rattle.hm_syntax.specs.declared.ast.Import.{Import}
 use Rattle.hm_names.specs.Scope.{prelude_name}
 use Rattle.hm_names.specs.Texts.{is_text_among}
+use Rattle.hm_run_sources.specs.Origins.{AreLocated}
 use Rattle.hm_run_sources.specs.declared.located.Located.{Located}
+use Rattle.hm_messages_details.specs.Nearness.{AreNear}
 use Rattle.hm_messages.specs.declared.missing.MissingImport.{MissingImport}
 
 -- an import of a set: the source that it is in, counted from 0, its place there, and the module that it names
@@ -30,6 +32,11 @@ names_none names i = not (is_text_among i.name names)
 
 abbrev pub missing_imports : List Located → List SetImport
 missing_imports ls = filter (names_none (prelude_name ∷ module_names ls)) (set_imports ls)
+
+-- if there is a near name, one edit makes it of this one, and a module of these sources or Prelude has it
+abbrev pub HasNearModule : List (List ℕ) → List ℕ → Option (List ℕ) → Type 0
+HasNearModule sources name None = ⊤
+HasNearModule sources name (Some near) = (ls : List Located) × AreLocated sources ls × Contains (prelude_name ∷ module_names ls) near × AreNear name near
 
 abbrev pub import_of : MissingImport → SetImport
 import_of m = record { number = m.source; place = m.place; name = m.name.now }

@@ -21,7 +21,7 @@ use Rattle.hm_run_sources.specs.Refusals.{Refusal, lex, parse, plan}
 use Rattle.hm_messages.specs.FurtherFaults.{AreFurtherFaults}
 use Rattle.hm_messages.specs.Headings.{count_text}
 use Rattle.hm_messages.specs.Messages.{AreEach, IsHeadingAt, IsMessage}
-use Rattle.hm_messages.specs.Missing.{SetImport, missing_imports}
+use Rattle.hm_messages.specs.Missing.{HasNearModule, SetImport, missing_imports}
 use Rattle.hm_messages.specs.Subjects.{Subject, too_long, lexeme, open_comment, too_deep, syntax_fault, too_many, twice, twin, missing, cycle, step}
 use Rattle.hm_messages.specs.Twins.{IsTwinOf}
 use Rattle.hm_messages.specs.declared.heading.Paint.{Paint}
@@ -67,7 +67,7 @@ IsRefusedSubject sources (parse n (parsing.Syntax p)) s =
 IsRefusedSubject sources (parse n parsing.Memory) s = s ≡ too_long
 IsRefusedSubject sources (plan planning.TooMany m i) s = s ≡ too_many
 IsRefusedSubject sources (plan (planning.Duplicate k) m i) s = s ≡ twice m
-IsRefusedSubject sources (plan (planning.Missing k j) m i) s = s ≡ missing i
+IsRefusedSubject sources (plan (planning.Missing k j) m i) s = (near : Option (List ℕ)) × HasNearModule sources i near × (s ≡ missing i near)
 IsRefusedSubject sources (plan (planning.Cycle k) m i) s = s ≡ cycle m
 IsRefusedSubject sources (plan planning.Memory m i) s = s ≡ too_long
 
@@ -135,9 +135,9 @@ pub record AreMessagesOf (paint : Paint) (files sources : List (List ℕ)) (numb
   pub steps : AreEach (IsWayStated paint files sources) ways lines
   pub whole : text ≡ first ++ lines
 
--- a message at an import that names no module
+-- a message at an import that names no module, perhaps with a near name
 abbrev pub IsMissingStated : Paint → List (List ℕ) → List (List ℕ) → SetImport → List ℕ → Type 0
-IsMissingStated paint files sources i text = IsMessageAt paint files sources i.number i.place (missing i.name) text
+IsMissingStated paint files sources i text = (near : Option (List ℕ)) × HasNearModule sources i.name near × IsMessageAt paint files sources i.number i.place (missing i.name near) text
 
 -- the first import that names no module is this one, and the text has a message for each further one, in order. The number of errors is that of all of
 -- them

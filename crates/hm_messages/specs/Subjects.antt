@@ -1,5 +1,5 @@
 -- What a message tells, without where its names lie in memory.
-use Rattle.std.specs.Prelude.{Bool, List, Option, ℕ}
+use Rattle.std.specs.Prelude.{Bool, List, Option, ℕ, option_map}
 use Rattle.hm_lex.specs.declared.token.Place.{Place}
 use Rattle.hm_messages_details.specs.Details.{Known, known_of}
 use Rattle.hm_messages_hints.specs.declared.lexeme_hints.LexemeHint.{LexemeHint}
@@ -14,7 +14,7 @@ use Rattle.hm_messages.specs.declared.topic.Topic.TheVariants as topic
 -- has one with one more argument, with the name that is applied, how many arguments that has and how many with the change; a part of a definition up to
 -- a place, with the type that is expected there and the one that it has, and whether no type is both because it would contain itself; a signature up to a
 -- place, with the type that its definition has without it, or without which that of another name has a type too; a module is skipped for a faulty import, or for a skipped one; why a set is refused, of a syntax fault with the place of another token that the hint
--- is about; a module
+-- is about, and of an import that names no module with a near name; a module
 -- with the name of a later one; a module that there is no memory to check; the trials of a run are used up; a step of a cycle; a fault that the report leaves out, because names aren't in
 -- scope
 pub data Subject : Type 0 where
@@ -36,7 +36,7 @@ pub data Subject : Type 0 where
   too_many : Subject
   twice : List ℕ → Subject
   twin : List ℕ → Subject
-  missing : List ℕ → Subject
+  missing : List ℕ → Option (List ℕ) → Subject
   cycle : List ℕ → Subject
   exhausted : List ℕ → Subject
   limit : Subject
@@ -62,7 +62,7 @@ subject_of (topic.Syntax a) = syntax_fault a.hint a.text.now a.other
 subject_of topic.TooMany = too_many
 subject_of (topic.Twice x) = twice x.now
 subject_of (topic.Twin x) = twin x.now
-subject_of (topic.Missing x) = missing x.now
+subject_of (topic.Missing x y) = missing x.now (option_map (λ n. n.now) y)
 subject_of (topic.Cycle x) = cycle x.now
 subject_of (topic.Exhausted x) = exhausted x.now
 subject_of topic.Limit = limit

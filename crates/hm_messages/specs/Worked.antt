@@ -6,15 +6,18 @@ use Rattle.hm_lex.specs.Faults.{IsRefusal}
 use Rattle.hm_lex.specs.declared.token.Place.{Place}
 use Rattle.hm_lex.specs.declared.token.LexFault.TheVariants.{Lexeme}
 use Rattle.hm_syntax.specs.declared.ast.Module.{Module}
+use Rattle.hm_run_sources.specs.Origins.{AreLocated}
 use Rattle.hm_run_sources.specs.Refusals.{lex}
 use Rattle.hm_run_sources.specs.SourceModules.{HasModules}
 use Rattle.hm_run_sources.specs.declared.located.Located.{Located}
+use Rattle.hm_messages_details.specs.Nearness.{AreNear}
 use Rattle.hm_messages_json.specs.declared.message.Position.{Position}
 use Rattle.hm_messages.specs.Cuts.{shortened}
 use Rattle.hm_messages.specs.Foreign.{IsForeign}
 use Rattle.hm_messages.specs.FurtherFaults.{AreFirstFaults}
 use Rattle.hm_messages.specs.Headings.{further_text}
 use Rattle.hm_messages.specs.Messages.{IsMessage}
+use Rattle.hm_messages.specs.Missing.{HasNearModule}
 use Rattle.hm_messages.specs.ModuleStarts.{IsModuleAround, module_start}
 use Rattle.hm_messages.specs.Refused.{IsNamedAt, IsPositionOf, IsRefusedAt, place_of}
 use Rattle.hm_messages.specs.Subjects.{Subject}
@@ -37,6 +40,12 @@ pub record ForeignRow : Type 0 where
 pub record FurtherRow : Type 0 where
   pub third : (s t : List ℕ) (modules : List Module) (p : Place) → HasModules s modules → IsRefusal t (Lexeme p) → AreFirstFaults 2 (s ∷ t ∷ []) (lex 3 (Lexeme p) ∷ [])
   pub none_left : (p : Place) → ¬ (AreFirstFaults 2 [] (lex 2 (Lexeme p) ∷ []))
+
+-- Prelude and a module of the sources are near names. A set of no sources has no module List
+pub record NearModuleRow : Type 0 where
+  pub prelude : AreLocated [] [] → AreNear (codes "Prelud") (codes "Prelude") → HasNearModule [] (codes "Prelud") (Some (codes "Prelude"))
+  pub own : (sources : List (List ℕ)) (l : Located) (y : List ℕ) → AreLocated sources (l ∷ []) → AreNear y l.header.name.text → HasNearModule sources y (Some l.header.name.text)
+  pub none_there : ¬ (HasNearModule [] (codes "Lists") (Some (codes "List")))
 
 -- without a place no position is named. The place of the first byte of an empty source has one, so its position isn't left out
 pub record PositionRow : Type 0 where

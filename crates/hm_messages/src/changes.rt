@@ -1,15 +1,36 @@
 //! The changes of the source that a message says.
-ghost use Rattle.std.specs.Prelude.{IfOk, map};
+ghost use Rattle.std.specs.Prelude.{IfOk, map, option_map};
 ghost use Rattle.hm_messages_json.specs.Edits.{changed_of};
+ghost use Rattle.hm_messages_rewrites.specs.Rewrites.{IsRewrittenBy};
 ghost use Rattle.hm_messages.specs.Changes.{AreSaid};
 ghost use Rattle.hm_messages.specs.Subjects.{subject_of};
 
 use crate::topic::{PlacedAdvice, Topic};
 use hm_lex::Place;
+use hm_messages_details::Detail;
 use hm_messages_excerpts::SourceLines;
 use hm_messages_json::Change;
 use hm_messages_rewrites::{PlacedToken, name_changes, token_changes};
 use std::alloc::{AllocError, Global};
+
+/// Returns the change that writes a near name in place of the name at this place, if there is one.
+fn near_changes(
+    alloc: Global,
+    lines: &SourceLines<'_>,
+    place: Place,
+    name: &str,
+    near: Option<&str>,
+) -> Result<Vec<Change>, AllocError>
+    ensures { IfOk result (λ changes. IsRewrittenBy lines.now place name.now (option_map (λ y. y.now) near.entry) (map changed_of changes.items)) }
+{
+    match near {
+        Some(near) => {
+            let detail = Detail::NearBinding(near);
+            Ok(name_changes(alloc, lines, place, name, &detail)?)
+        }
+        None => Ok(Vec::new(alloc)),
+    }
+}
 
 // Why: docs/DECISIONS.md, "Edits that aren't checked".
 /// Returns the changes of the source that a topic says at a place.
@@ -26,6 +47,7 @@ pub(crate) fn said_changes(
             let detail = named.detail;
             Ok(name_changes(alloc, lines, place, named.name, &detail)?)
         }
+        Topic::Missing(name, near) => Ok(near_changes(alloc, lines, place, name, *near)?),
         Topic::Syntax(advice) => {
             let PlacedAdvice { hint, text, other } = *advice;
             let token = PlacedToken { place, text, other };
@@ -47,7 +69,6 @@ pub(crate) fn said_changes(
         Topic::TooMany => Ok(Vec::new(alloc)),
         Topic::Twice(_) => Ok(Vec::new(alloc)),
         Topic::Twin(_) => Ok(Vec::new(alloc)),
-        Topic::Missing(_) => Ok(Vec::new(alloc)),
         Topic::Cycle(_) => Ok(Vec::new(alloc)),
         Topic::Exhausted(_) => Ok(Vec::new(alloc)),
         Topic::Limit => Ok(Vec::new(alloc)),

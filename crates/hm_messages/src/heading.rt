@@ -1,6 +1,6 @@
 //! The first line of a message, after the name of its file.
-ghost use Rattle.std.specs.Prelude.{◌≡◌, IfOk, string_bytes};
-ghost use Rattle.hm_messages.specs.Headings.{argument_title as argument_title_bytes, begin, brackets_title as brackets_title_bytes, arguments_text as arguments_bytes, end, exchange_title as exchange_title_bytes, expression_title as expression_title_bytes, follows_title as follows_title_bytes, heading as heading_bytes, list_brackets_title as list_brackets_title_bytes, mark_title as mark_title_bytes, mended_text as mended_bytes, mistyped_title as mistyped_title_bytes, pair_title as pair_title_bytes, pattern_title as pattern_title_bytes, patterns_title as patterns_title_bytes, removal_title as removal_title_bytes, replaceable_title as replaceable_title_bytes, sides_title as sides_title_bytes, tag as tag_bytes, title as title_bytes, too_few_title as too_few_title_bytes, too_many_title as too_many_title_bytes, token_place_text as token_place_bytes, unsigned_title as unsigned_title_bytes, wrapped_title as wrapped_title_bytes};
+ghost use Rattle.std.specs.Prelude.{◌≡◌, IfOk, option_map, string_bytes};
+ghost use Rattle.hm_messages.specs.Headings.{argument_title as argument_title_bytes, begin, brackets_title as brackets_title_bytes, arguments_text as arguments_bytes, end, exchange_title as exchange_title_bytes, expression_title as expression_title_bytes, follows_title as follows_title_bytes, heading as heading_bytes, list_brackets_title as list_brackets_title_bytes, mark_title as mark_title_bytes, missing_title as missing_title_bytes, near_module_text as near_module_bytes, mended_text as mended_bytes, mistyped_title as mistyped_title_bytes, pair_title as pair_title_bytes, pattern_title as pattern_title_bytes, patterns_title as patterns_title_bytes, removal_title as removal_title_bytes, replaceable_title as replaceable_title_bytes, sides_title as sides_title_bytes, tag as tag_bytes, title as title_bytes, too_few_title as too_few_title_bytes, too_many_title as too_many_title_bytes, token_place_text as token_place_bytes, unsigned_title as unsigned_title_bytes, wrapped_title as wrapped_title_bytes};
 ghost use Rattle.hm_messages.specs.Subjects.{subject_of, syntax_fault};
 
 use crate::cutting::shortened;
@@ -193,6 +193,25 @@ fn pair_title(
     }
 }
 
+/// Returns the text about the near name of a module.
+fn near_module_text(alloc: Global, near: Option<&str>) -> Result<String, AllocError>
+    ensures { IfOk result (λ text. string_bytes text ≡ near_module_bytes (option_map (λ y. y.now) near.entry)) }
+{
+    match near {
+        Some(near) => format!(in alloc; " (did you mean '{near}'?)"),
+        None => Ok(String::new(alloc)),
+    }
+}
+
+/// Returns the text about an import that names no module.
+fn missing_title(alloc: Global, name: &str, near: Option<&str>) -> Result<String, AllocError>
+    ensures { IfOk result (λ text. string_bytes text ≡ missing_title_bytes name.now (option_map (λ y. y.now) near.entry)) }
+{
+    let mut text = format!(in alloc; "no module '{name}' is given")?;
+    text.push_str(near_module_text(alloc, near)?.as_str())?;
+    Ok(text)
+}
+
 /// Returns the text about the change with which a definition has a type.
 fn replaceable_title(alloc: Global, name: &str, way: Way) -> Result<String, AllocError>
     ensures { IfOk result (λ text. string_bytes text ≡ replaceable_title_bytes name.now way) }
@@ -345,7 +364,7 @@ pub(crate) fn title(alloc: Global, topic: &Topic<'_>) -> Result<String, AllocErr
         Topic::TooMany => String::from_str(alloc, "too many modules"),
         Topic::Twice(name) => format!(in alloc; "the module name '{name}' is taken"),
         Topic::Twin(name) => format!(in alloc; "this module has the name '{name}' too"),
-        Topic::Missing(name) => format!(in alloc; "no module '{name}' is given"),
+        Topic::Missing(name, near) => missing_title(alloc, name, *near),
         Topic::Cycle(name) => format!(in alloc; "the imports of module '{name}' lead back to it"),
         Topic::Exhausted(name) => format!(in alloc; "there is no memory to check module '{name}'"),
         Topic::Limit => String::from_str(

@@ -1,6 +1,6 @@
 //! Laws and worked examples: functions with an empty body, whose contracts have the facts.
 ghost use Rattle.hm_messages.specs.Laws.{HasNoForeignRefusal};
-ghost use Rattle.hm_messages.specs.Worked.{CutRow, ForeignRow, FurtherCountRow, FurtherRow, MessageRow, ModuleRow, PlaceRow, PositionRow, TwinRow};
+ghost use Rattle.hm_messages.specs.Worked.{CutRow, ForeignRow, FurtherCountRow, FurtherRow, MessageRow, ModuleRow, NearModuleRow, PlaceRow, PositionRow, TwinRow};
 
 /// The refusal of sources isn't foreign to them.
 #[tactic(auto, using(crate::proofs::OfSources::refusals_are_theirs))]
@@ -48,6 +48,12 @@ pub fn worked_foreign()
 #[tactic(auto, using(crate::proofs::WorkedFaults::worked_twins))]
 pub fn worked_twins()
     ensures { TwinRow }
+{}
+
+/// Near names of modules, and one that no module has.
+#[tactic(auto, using(crate::proofs::NearModules::worked_near_modules))]
+pub fn worked_near_modules()
+    ensures { NearModuleRow }
 {}
 
 /// The module that a place is in, and the module after it.

@@ -1,10 +1,12 @@
 //! The imports of a set that name no module.
-ghost use Rattle.std.specs.Prelude.{◌≡◌, ◌∷◌, ◌++◌, List, ℕ, IfOk, OnOk, filter, map};
+ghost use Rattle.std.specs.Prelude.{◌≡◌, ◌∷◌, ◌++◌, List, ℕ, IfOk, OnOk, filter, map, option_map};
 ghost use Rattle.hm_names.specs.Scope.{prelude_name};
 ghost use Rattle.hm_names.specs.Texts.{is_text_among};
-ghost use Rattle.hm_messages.specs.Missing.{import_of, missing_imports, module_names, names_none, set_import, set_imports};
+ghost use Rattle.hm_run_sources.specs.Origins.{AreLocated};
+ghost use Rattle.hm_messages.specs.Missing.{HasNearModule, import_of, missing_imports, module_names, names_none, set_import, set_imports};
 
 use hm_lex::Place;
+use hm_messages_details::is_near;
 use hm_run_sources::Located;
 use hm_scope_tables::TextSet;
 use std::alloc::{AllocError, Global};
@@ -18,6 +20,44 @@ pub(crate) struct MissingImport<'a> {
     pub place: Place,
     /// The name that it imports.
     pub name: &'a str,
+}
+
+/// The most imports of a set for which a near name is searched.
+const MOST_NEAR: usize = 16;
+
+/// Returns the name of Prelude or of a module that is near to this one.
+fn near_module<'a>(
+    alloc: Global,
+    located: &'a [Located],
+    name: &str,
+) -> Result<Option<&'a str>, AllocError>
+    ensures { IfOk result (λ near. (sources : List (List ℕ)) → AreLocated sources located.entry.now → HasNearModule sources name.now (option_map (λ y. y.now) near)) }
+{
+    if is_near(alloc, name, "Prelude")? {
+        return Ok(Some("Prelude"));
+    }
+    'modules: for here in located {
+        let other = here.header.name.as_str();
+        if is_near(alloc, name, other)? {
+            return Ok(Some(other));
+        }
+    }
+    Ok(None)
+}
+
+/// Returns the near name for the import with this number among those that name no module. None is searched for a late one.
+pub(crate) fn near_for<'a>(
+    alloc: Global,
+    located: &'a [Located],
+    number: usize,
+    name: &str,
+) -> Result<Option<&'a str>, AllocError>
+    ensures { IfOk result (λ near. (sources : List (List ℕ)) → AreLocated sources located.entry.now → HasNearModule sources name.now (option_map (λ y. y.now) near)) }
+{
+    if number >= MOST_NEAR {
+        return Ok(None);
+    }
+    Ok(near_module(alloc, located, name)?)
 }
 
 /// Returns the names that an import may have: Prelude's, and those of these modules.

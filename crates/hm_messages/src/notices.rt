@@ -216,7 +216,7 @@ pub(crate) fn notice_of<'a>(topic: &Topic<'a>) -> Notice<'a>
             "Each module of a set has a name of its own, and `Prelude` is built in.\n",
         ),
         Topic::Twin(name) => note("twice", Some(name)),
-        Topic::Missing(name) => error(
+        Topic::Missing(name, _) => error(
             "missing",
             Some(name),
             "An import names a module of the set or `Prelude`; there is no other library.\n",

@@ -9,12 +9,12 @@ ghost use Rattle.hm_messages.specs.Pages.{files_in, texts_in};
 ghost use Rattle.hm_messages.specs.Messages.{AreEach};
 ghost use Rattle.hm_messages.specs.Missing.{import_of};
 ghost use Rattle.hm_messages.specs.Refused.{Way, AreFurtherStated, AreMessagesOf, AreRefusalMessages, HasTwinStated, IsAdvised, IsMessageAt, IsNamedAt, IsMissingStated, IsPositionOf, IsTwinStated, IsWayStated, MayHint, first_place};
-ghost use Rattle.hm_messages.specs.Subjects.{cycle, missing, subject_of, twice};
+ghost use Rattle.hm_messages.specs.Subjects.{cycle, subject_of, twice};
 ghost use Rattle.hm_messages.specs.Twins.{IsTwinOf};
 
 use crate::cycles::{Step, cycle_of};
 use crate::messages::{MessageFault, heading_at, message};
-use crate::missing::{MissingImport, missing_imports};
+use crate::missing::{MissingImport, missing_imports, near_for};
 use crate::pages::{Page, Pages};
 use crate::topic::{PlacedAdvice, Topic};
 use hm_graph::PlanFault;
@@ -372,13 +372,16 @@ pub struct Messages {
     pub errors: usize,
 }
 
-/// Returns the message of an import that names no module.
+/// Returns the message of an import that names no module, which has this number among such imports.
 fn missing_message(
     alloc: Global,
     pages: &Pages<'_>,
+    located: &[Located],
     import: &MissingImport<'_>,
+    number: usize,
 ) -> Result<Vec<u8>, AllocError>
-    requires { import.now.source < length (texts_in pages.now.items.items) }
+    requires located { AreLocated (texts_in pages.now.items.items) located.now }
+    requires inside { import.now.source < length (texts_in pages.now.items.items) }
     ensures { IfOk result (λ text. IsMissingStated pages.now.paint (files_in pages.now.items.items) (texts_in pages.now.items.items) (import_of import.now)
         text.items) }
 {
@@ -386,22 +389,27 @@ fn missing_message(
         source: import.source,
         place: import.place,
     };
-    Ok(message_at(alloc, pages, spot, &Topic::Missing(import.name))?)
+    let near = near_for(alloc, located, number, import.name)?;
+    Ok(message_at(alloc, pages, spot, &Topic::Missing(import.name, near))?)
 }
 
 /// Returns the messages of imports that name no module.
 fn further_messages(
     alloc: Global,
     pages: &Pages<'_>,
+    located: &[Located],
     imports: &[MissingImport<'_>],
 ) -> Result<Vec<u8>, AllocError>
-    requires { All (λ i. i.source < length (texts_in pages.now.items.items)) imports.now }
+    requires located { AreLocated (texts_in pages.now.items.items) located.now }
+    requires inside { All (λ i. i.source < length (texts_in pages.now.items.items)) imports.now }
     ensures { IfOk result (λ text. AreEach (λ i t. IsMissingStated pages.now.paint (files_in pages.now.items.items) (texts_in pages.now.items.items) (import_of i) t)
         imports.now text.items) }
 {
     let mut text = Vec::new(alloc);
+    let mut number = 0usize;
     for import in imports {
-        let message = missing_message(alloc, pages, import)?;
+        number = number.saturating_add(1);
+        let message = missing_message(alloc, pages, located, import, number)?;
         text.extend_from_slice(message.as_slice())?;
     }
     Ok(text)
@@ -424,7 +432,7 @@ fn missing_messages(
 ) -> Result<Messages, MessageFault>
     requires { AreLocated (texts_in pages.now.items.items) located.now }
     ensures ok { IfOk result (λ told. (number : ℕ) × (place : Place) × (first : List ℕ) × (behind : List ℕ)
-        × IsMessageAt pages.now.paint (files_in pages.now.items.items) (texts_in pages.now.items.items) number place (missing name.now) first
+        × IsMissingStated pages.now.paint (files_in pages.now.items.items) (texts_in pages.now.items.items) (record { number = number; place = place; name = name.now }) first
         × IsNamedAt (texts_in pages.now.items.items) number place
         × AreFurtherStated pages.now.paint (files_in pages.now.items.items) (texts_in pages.now.items.items) (record { number = number; place = place; name = name.now }) told.errors behind
         × (told.text.items ≡ first ++ behind)) }
@@ -437,8 +445,8 @@ fn missing_messages(
     if !is_named(first, name) {
         return Err(MessageFault::Foreign);
     }
-    let mut text = missing_message(alloc, pages, first)?;
-    let further = further_messages(alloc, pages, more)?;
+    let mut text = missing_message(alloc, pages, located, first, 0)?;
+    let further = further_messages(alloc, pages, located, more)?;
     text.extend_from_slice(further.as_slice())?;
     let errors = imports.len();
     Ok(Messages { text, errors })

@@ -116,8 +116,8 @@ pub enum Topic<'a> {
     Twice(&'a str),
     /// A module has the name of a later one.
     Twin(&'a str),
-    /// An import names no module.
-    Missing(&'a str),
+    /// An import names no module, and perhaps this one has a near name.
+    Missing(&'a str, Option<&'a str>),
     /// A module reaches itself by imports.
     Cycle(&'a str),
     /// Memory ran out in the check of a module.

@@ -16,7 +16,7 @@ fn told(
     sources.push(Vec::from_slice(alloc, source)?)?;
     let pages = pages_of(alloc, paint, sources.as_slice(), names, &[])?;
     let place = Place { line: 1, column };
-    let topic = Topic::Missing("N");
+    let topic = Topic::Missing("N", None);
     Ok(message(alloc, paint, &pages.items[0], place, &topic)?)
 }
 

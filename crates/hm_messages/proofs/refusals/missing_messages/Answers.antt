@@ -3,8 +3,7 @@ use Rattle.std.proofs.lemmas.List.{length-map}
 use Rattle.std.proofs.lemmas.List.Elements.{All-head, All-tail}
 use Rattle.hm_messages.specs.Missing.{import_of, missing_imports}
 use Rattle.hm_messages.specs.Pages.{files_in, texts_in}
-use Rattle.hm_messages.specs.Refused.{IsMessageAt, IsMissingStated}
-use Rattle.hm_messages.specs.Subjects.{missing}
+use Rattle.hm_messages.specs.Refused.{IsMissingStated}
 use Rattle.hm_messages.specs.declared.missing.MissingImport.{MissingImport}
 use Rattle.hm_messages.proofs.InOrder.{each_mapped}
 use Rattle.hm_messages.proofs.Sourced.{first_named, found_inside}
@@ -14,15 +13,15 @@ use Rattle.hm_messages.proofs.refusals.missing_messages.Goals as goal
 abbrev IsInside : List (List ℕ) → MissingImport → Type 0
 IsInside texts i = i.source < length texts
 
-pub missing_message-requires : goal.missing_message-requires
-missing_message-requires c =
+pub missing_message-requires-clause-inside : goal.missing_message-requires-clause-inside
+missing_message-requires-clause-inside c =
     let texts = texts_in c.args.pages.now.items.items in
     let imports : List MissingImport = c.in_ok-imports.imports.items in
     let parts : imports ≡ c.in-Some.first.now ∷ c.in-Some.more.now = search rules in
     All-head (IsInside texts) c.in-Some.first.now c.in-Some.more.now (subst (All (IsInside texts)) parts (found_inside texts c.args.located.now imports c.requires c.in_ok-imports.ensures))
 
-pub further_messages-requires : goal.further_messages-requires
-further_messages-requires c =
+pub further_messages-requires-clause-inside : goal.further_messages-requires-clause-inside
+further_messages-requires-clause-inside c =
     let texts = texts_in c.args.pages.now.items.items in
     let imports : List MissingImport = c.in_ok-imports.imports.items in
     let parts : imports ≡ c.in-Some.first.now ∷ c.in-Some.more.now = search rules in
@@ -47,7 +46,7 @@ returns-clause-ok c =
       first.place,
       c.in_ok-text.text.items,
       c.in_ok-further.further.items,
-      subst (λ (n : List ℕ). IsMessageAt paint files texts first.source first.place (missing n) c.in_ok-text.text.items) called c.in_ok-text.ensures,
+      subst (λ (n : List ℕ). IsMissingStated paint files texts (record { number = first.source; place = first.place; name = n }) c.in_ok-text.text.items) called c.in_ok-text.ensures,
       first_named texts c.args.located.now (import_of first) (map import_of more) c.requires all_of,
       record {
         located = c.args.located.now;
