@@ -31,20 +31,23 @@ LEAST_PLACES = 3000
 LEAST_TRIED = 300
 IMPORT = re.compile(r"\bimport\s+(?:qualified\s+)?([A-Z][\w.']*)")
 HEADER = re.compile(r"\bmodule\s+[A-Z][\w.']*\s*\(")
-BLOCK = re.compile(r"^(module|faulty|skipped) (\S+)$|^  (val|con|syn) \S+ = (\S+) :: (.*)$", re.M)
+BLOCK = re.compile(r"^(module|faulty|skipped) (\S+)$|^  (val|con|syn) \S+ = (\S+) :: (.*)$|^  \d+:\d+ (?!type )([\w-]+) ", re.M)
 KINDS = {"val": "variable", "con": "constructor"}
 PRELUDE = "module Types_of_Prelude ( module Prelude ) where { import Prelude }"
 
 
 class Report:
-    """What a report says: the verdict of each module, the type of each entity that its own module exports, and what its synonyms stand for."""
+    """What a report says: the verdict of each module, the modules with faults of names or declarations, the type of each entity that its own module exports, and what its
+    synonyms stand for."""
 
     def __init__(self, text):
-        self.verdicts, self.types, self.synonyms = {}, {}, {}
-        for verdict, name, word, entity, of_type in BLOCK.findall(text):
+        self.verdicts, self.unread, self.types, self.synonyms = {}, set(), {}, {}
+        for verdict, name, word, entity, of_type, fault in BLOCK.findall(text):
             if name:
                 self.verdicts[name] = verdict
                 home = name
+            elif fault:
+                self.unread.add(home)
             elif word == "syn":
                 self.synonyms[entity] = of_type
             elif entity.rpartition(".")[0] in (home, "Prelude"):
@@ -89,11 +92,14 @@ def without_list(text, start):
 
 
 def type_line(use, report):
-    """The line of the type of a name, if a module declares it. It may be another one in a module that isn't good, and is none then."""
+    """The line of the type of a name, if a module declares it. In a module that isn't good it may be another one, and is none then. Only one with no other faults than
+    types has types."""
     word, _, entity = use.meaning.partition(" ")
     if word != "entity" or use.kind not in KINDS.values():
         return ""
     home = entity.rpartition(".")[0]
+    if home in report.unread:
+        return f"  no type: module {home} isn't good\n"
     found = report.types.get((use.kind, entity))
     if report.verdicts.get(home, "module") != "module":
         return f"  type {found}\n" if found else None
@@ -155,11 +161,10 @@ def difference(lines, names, report, types, must_have):
         del lines[:count]
         is_local = use.meaning.startswith("local ")
         scheme = None if is_local else take(lines, "  type ")
-        if scheme is None and of_type:
+        reason = take(lines, "  no type: ")
+        line = f"  type {scheme}\n" if scheme else f"  no type: {reason}\n" if reason else ""
+        if not is_local and of_type is not None and line != shown(of_type, scheme, expanded(scheme or "", home, report)):
             return f"wanted was {of_type!r}"
-        if not is_local and of_type is not None and (f"  type {scheme}\n" if scheme else "") != shown(of_type, scheme, expanded(scheme or "", home, report)):
-            return f"wanted was {of_type!r}"
-        take(lines, "  no type: ")
         here = take(lines, "  type " if is_local else "  here ")
         if is_local and here is None and (take(lines, "  no type is found") is None or must_have):
             return "a local variable has no type"

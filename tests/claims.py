@@ -6,7 +6,7 @@ of bench/programs. A fault is made by chance: a token left out, given twice, exc
 out of scope; a type or a value of Prelude declared again; a slip in an expression, as bench/slips.py makes them. For each message that a run prints, what can be tried is tried:
 
 - the change of a token: the source without it can't be read up to there, and with it the fault is gone or further on;
-- a near name: with it no name is unbound or ambiguous at this place;
+- a near name: with it no name is unbound or ambiguous at this place, and no module is missing;
 - a name to write for an ambiguous one: the same; without the import in the named line this name isn't in scope;
 - `import Prelude hiding (x)`: with it the name isn't ambiguous there;
 - two types: they have no common instance, if the definition has no signature;
@@ -161,11 +161,11 @@ def try_change(program, source, message):
 
 def try_near(program, source, message):
     found = re.search(r"\(did you mean '(.+)'\?\)$", message["text"])
-    if message["kind"] != "unbound" or not found:
+    if message["kind"] not in ("unbound", "missing") or not found:
         return None
     start, end = offset(source, message["start"]), offset(source, message["end"])
     after = ask(program, with_text(source, start, end, found[1]))[1]
-    if has_fault(after, message["start"]["line"], message["start"]["byte"], ("unbound", "ambiguous")):
+    if has_fault(after, message["start"]["line"], message["start"]["byte"], ("unbound", "ambiguous", "missing")):
         raise Finding("the near name is a fault too")
     return "a near name"
 

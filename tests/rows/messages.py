@@ -2,6 +2,56 @@
 
 # each kind of fault once, and modules that are skipped, with the messages for a file M.hs
 KINDS = [
+    # the letters of a signature, as they are written there
+    (
+        "module M where { data Tree elem = Leaf | Node (Tree elem) ; f :: elem->Tree elem ; f x = x }",
+        1,
+        "M.hs:1:84: error: type error in 'f' [type]\n"
+        "No types fit this definition and those that refer back to it. All others that it refers to have types or signatures.\n"
+        "...ule M where { data Tree elem = Leaf | Node (Tree elem) ; f :: elem->Tree elem ; f x = x }\n"
+        "                                                                                   ^\n"
+        "M.hs:1:90: note: this has type 'elem', but 'Tree elem' is expected (up to 1:90)\n"
+        "...where { data Tree elem = Leaf | Node (Tree elem) ; f :: elem->Tree elem ; f x = x }\n"
+        "                                                                                   ^\n"
+        "M.hs:1:61: note: 'f' has type 'a -> a' without this signature (up to 1:80)\n"
+        "module M where { data Tree elem = Leaf | Node (Tree elem) ; f :: elem->Tree elem ; f x = x }\n"
+        "                                                            ^\n"
+        "errors: 1, skipped modules: 0\n",
+    ),
+    # a variable that isn't in the signature gets another letter than that has
+    (
+        "module M where { pairUp :: b -> c -> [b] ; pairUp x y = map (\\z -> (z, x)) [] }",
+        1,
+        "M.hs:1:44: error: type error in 'pairUp' [type]\n"
+        "No types fit this definition and those that refer back to it. All others that it refers to have types or signatures.\n"
+        "module M where { pairUp :: b -> c -> [b] ; pairUp x y = map (\\z -> (z, x)) [] }\n"
+        "                                           ^^^^^^\n"
+        "M.hs:1:68: note: this has type '(d, b)', but 'b' is expected (up to 1:73)\n"
+        "No type is both: it would contain itself, and so be infinite.\n"
+        "module M where { pairUp :: b -> c -> [b] ; pairUp x y = map (\\z -> (z, x)) [] }\n"
+        "                                                                   ^\n"
+        "M.hs:1:18: note: 'pairUp' has type 'a -> b -> [(c, a)]' without this signature (up to 1:40)\n"
+        "module M where { pairUp :: b -> c -> [b] ; pairUp x y = map (\\z -> (z, x)) [] }\n"
+        "                 ^^^^^^\n"
+        "errors: 1, skipped modules: 0\n",
+    ),
+    # a synonym with a parameter: the letters are those of the alphabet
+    (
+        "module M where { type Pair t = (t, t) ; f :: Pair elem -> elem ; f x = x }",
+        1,
+        "M.hs:1:66: error: type error in 'f' [type]\n"
+        "No types fit this definition and those that refer back to it. All others that it refers to have types or signatures.\n"
+        "module M where { type Pair t = (t, t) ; f :: Pair elem -> elem ; f x = x }\n"
+        "                                                                 ^\n"
+        "M.hs:1:72: note: this has type '(a, a)', but 'a' is expected (up to 1:72)\n"
+        "No type is both: it would contain itself, and so be infinite.\n"
+        "module M where { type Pair t = (t, t) ; f :: Pair elem -> elem ; f x = x }\n"
+        "                                                                       ^\n"
+        "M.hs:1:41: note: 'f' has type 'a -> a' without this signature (up to 1:62)\n"
+        "module M where { type Pair t = (t, t) ; f :: Pair elem -> elem ; f x = x }\n"
+        "                                        ^\n"
+        "errors: 1, skipped modules: 0\n",
+    ),
     (
         "module A where { x = 1 }\n"
         "module B where { import A (y) }",
@@ -1439,6 +1489,21 @@ KINDS = [
 
 # each reason for a refusal once, with the messages
 REASONS = [
+    # a module and Prelude have near names
+    (
+        "module A where { import Lists ; import Prelud }\n"
+        "module List where { }",
+        2,
+        "M.hs:1:25: error: no module 'Lists' is given (did you mean 'List'?) [missing]\n"
+        "An import names a module of the set or `Prelude`; there is no other library.\n"
+        "module A where { import Lists ; import Prelud }\n"
+        "                        ^^^^^\n"
+        "M.hs:1:40: error: no module 'Prelud' is given (did you mean 'Prelude'?) [missing]\n"
+        "An import names a module of the set or `Prelude`; there is no other library.\n"
+        "module A where { import Lists ; import Prelud }\n"
+        "                                       ^^^^^^\n"
+        "errors: 2, skipped modules: 0\n",
+    ),
     # each import that names no module, and no other one
     (
         "module A where { import B ; import Prelude ; import C }\n"
